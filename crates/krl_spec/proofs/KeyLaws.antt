@@ -1,4 +1,4 @@
--- Keys are read where key lines spell them, and refused by their first fault.
+-- Keys are read exactly where key lines spell them, and otherwise the first fault is reported.
 use Rattle.std.proofs.Common.{◌≡◌, ◌↔◌, ℕ, List, Result, Ok, Err, refl, inl, inr}
 use Rattle.ssh_wire.specs.Reading.{in_fault}
 use Rattle.ssh_wire.specs.Wire.{IsBytes}
@@ -15,7 +15,7 @@ use Rattle.krl_spec.specs.Keys.{HasSubjectFault, IsKeyCause, IsSubjectLine}
 use Rattle.key_files.specs.declared.spec_cause.KeyCause.TheVariants as keys
 use Rattle.key_files.specs.declared.spec_cause.SpecCause.{SpecCause}
 
--- the laws of key lines and of what blobs ask
+-- the laws of key lines and of subjects
 pub record KeyLaws : Type 0 where
   pub line_read : (text word blob comment : List ℕ) → IsKeyLine text word blob comment
       → line_at text ≡ Ok (content word blob comment)
@@ -28,7 +28,7 @@ pub record KeyLaws : Type 0 where
   pub not_asked : (blob : List ℕ) (fault : SubjectFault) → IsBytes blob
       → (subject_of blob ≡ Err fault) ↔ IsSubjectFault blob fault
 
--- what the blob of a line asks
+-- the subject of the blob of a line
 abbrev asked_in : Content → Result Subject SpecCause
 asked_in line = in_fault subject_cause (subject_of line.blob)
 

@@ -1,4 +1,4 @@
--- How many bytes keys have at least.
+-- The least length of keys in bytes.
 use Rattle.std.proofs.Common.{ℕ, ◌+◌, ◌*◌, ◌≤◌, List, [], ◌∷◌, length, ap, arith}
 use Rattle.std.proofs.lemmas.List.{length-append}
 use Rattle.ssh_wire.specs.Wire.{complement, mpint, string}

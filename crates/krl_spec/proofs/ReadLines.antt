@@ -1,4 +1,4 @@
--- Lines of a specification file, read one after the other.
+-- Lines of a specification file, read one after another.
 use Rattle.std.proofs.Common.{◌≡◌, ℕ, ◌+◌, ◌≤◌, List, [], ◌∷◌, ◌++◌, length, Option, Some, None, Result, Ok, Err, refl, sym, ap, ◌∙◌, arith, append_assoc}
 use Rattle.std.proofs.lemmas.List.{length-append, append-nil}
 use Rattle.std.specs.List.{slice_split}
@@ -12,7 +12,7 @@ use Rattle.key_text.specs.Lines.{is_newline}
 use Rattle.key_files.specs.declared.spec_cause.SpecCause.{SpecCause}
 use Rattle.key_files.specs.declared.spec_cause.SpecCause.TheVariants as causes
 
--- entries before what later lines name
+-- entries, followed by those of later lines
 abbrev pub with_entries : List Entry → LineEntries → LineEntries
 with_entries entries later =
     record { entries = entries ++ later.entries; fault = later.fault }
@@ -25,7 +25,7 @@ later_line number None front all back none step = step none
 later_line number (Some (Ok entry)) front all back none step = rw (step none) refl
 later_line number (Some (Err cause)) front all back none step = absurd (cc)
 
--- What lines name whose front has no fault is what the front names, and then the rest.
+-- If the first lines have no fault, the entries are theirs, followed by those of the rest.
 pub named_parts : (authority : Option (List ℕ)) (number : ℕ) (front back : List (List ℕ))
     → (lines_from authority number front).fault ≡ None
     → lines_from authority number (front ++ back)
@@ -38,7 +38,7 @@ named_parts authority number (line ∷ front) back none =
     later_line number (line_entry authority line) _ _ _ none
     (λ later. named_parts authority (number + 1) front back later ∙ ap (λ (n : ℕ). with_entries (lines_from authority (number + 1) front).entries (lines_from authority n back)) same)
 
--- The lines before are read: they have no fault, and what they name was added.
+-- The lines before were read: they have no fault, and their entries were added.
 pub record IsAt (authority : Option (List ℕ)) (lines : List (List ℕ)) (passed : ℕ) (rest : List (List ℕ)) (old new : Revocations) : Type 0 where
   pub before : List (List ℕ)
   pub parts : lines ≡ before ++ rest
@@ -57,7 +57,7 @@ none_read authority lines r = record {
   few = omega arith;
 }
 
--- A line has no fault, and what it names, if anything, was added.
+-- A line has no fault, and its entry, if it has one, was added.
 record LineAdds (authority : Option (List ℕ)) (number : ℕ) (line : List ℕ) (old new : Revocations) : Type 0 where
   named : List Entry
   is : lines_from authority number (line ∷ []) ≡ record { entries = named; fault = None }
@@ -96,7 +96,7 @@ line_read authority lines passed line rest old mid new (Some (Ok entry)) is at (
     next_line authority lines passed line rest old mid new at (record { named = other ∷ []; is = rw (is, one) refl; adds = adds; few = few })
 line_read authority lines passed line rest old mid new (Some (Err cause)) is at (other, same, adds, few) = absurd (cc)
 
--- All lines are read.
+-- All lines were read.
 pub all_read : (authority : Option (List ℕ)) (text : List ℕ) (passed : ℕ) (old new : Revocations)
     → IsAt authority (slice_split is_newline text) passed [] old new
     → ReadsSpec authority text (Ok (tt {0})) old new × (held new ≤ held old + length (lines_of authority text).entries)
@@ -105,7 +105,7 @@ all_read authority text passed old new at =
     let whole : slice_split is_newline text ≡ at.before = at.parts ∙ append-nil at.before in
     rw whole ((at.faultless, at.adds), at.few)
 
--- What the front of the lines names comes first.
+-- There are at least as many entries as were added for the lines read so far.
 front_is_few : (authority : Option (List ℕ)) (lines : List (List ℕ)) (passed : ℕ) (rest : List (List ℕ)) (old new : Revocations)
     → IsAt authority lines passed rest old new → held new ≤ held old + length (lines_from authority 1 lines).entries
 front_is_few authority lines passed rest old new at =
@@ -146,7 +146,7 @@ stops : (authority : Option (List ℕ)) (text : List ℕ) (passed : ℕ) (line :
 stops authority text passed line rest old new read causes.NoMemory at is reports = lacking authority _ passed line rest old new at
 stops authority text passed line rest old new read cause at is reports = reported authority text passed line rest old new cause at (is ∙ ap Some reports)
 
--- A line stops the reading, or memory runs out there.
+-- Reading stops at a line, with its fault or because an allocation failed.
 pub line_stops : (authority : Option (List ℕ)) (text : List ℕ) (passed : ℕ) (line : List ℕ) (rest : List (List ℕ)) (old mid new : Revocations) (cause : SpecCause)
     (read : Option (Result Entry SpecCause)) → line_entry authority line ≡ read → IsAt authority (slice_split is_newline text) passed (line ∷ rest) old mid
     → AddsLine {A = Unit {0}} read (Err cause) mid new

@@ -1,4 +1,4 @@
--- What counts of a line.
+-- The content of a line.
 use Rattle.std.specs.Prelude.{ℕ, ◌-◌, ◌==◌, Bool, List, length, take, drop}
 use Rattle.std.specs.List.{before_first, prefix_len, suffix_len}
 use Rattle.key_text.specs.Blanks.{before_ending, is_blank, is_ending}
@@ -14,7 +14,7 @@ before_blanks text = take (length text - suffix_len is_blank text) text
 abbrev pub is_hash : ℕ → Bool
 is_hash byte = byte == 35
 
--- What counts of a line: neither a `#` nor what is after it, nor the blanks and carriage
+-- The content of a line: without a `#` and what follows it, and without the blanks and carriage
 -- returns at both ends.
 unfoldable pub bare_line : List ℕ → List ℕ
 bare_line line = before_ending (after_endings (before_first is_hash line))

@@ -23,14 +23,14 @@ name_of Hash = codes "hash"
 abbrev pub directives : List Directive
 directives = Serial ∷ Id ∷ Key ∷ Sha1 ∷ Sha256 ∷ Hash ∷ []
 
--- the name is that of the directive, in either case of letters
+-- the name is that of the directive, in upper or lower case
 abbrev pub is_named : Directive → List ℕ → Bool
 is_named directive name = str_eq_ignore_ascii_case name (name_of directive)
 
 unfoldable pub directive_named : List ℕ → Option Directive
 directive_named name = find (λ directive. is_named directive name) directives
 
--- a directive, and what it is given
+-- a directive and its argument
 pub record Order : Type 0 where
   pub directive : Directive
   pub given : List ℕ
@@ -38,7 +38,7 @@ pub record Order : Type 0 where
 abbrev pub order : List ℕ → Directive → Order
 order given directive = record { directive = directive; given = given }
 
--- The directive whose name stands before the first colon, and what is after the colon and
+-- The directive whose name is before the first colon, and its argument: what is after the colon and
 -- blanks.
 unfoldable pub order_in : List ℕ → Option Order
 order_in line =

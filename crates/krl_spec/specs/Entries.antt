@@ -1,4 +1,4 @@
--- What the lines of specification files name (ssh-keygen(1), KEY REVOCATION LISTS).
+-- The entries of the lines of specification files (ssh-keygen(1), KEY REVOCATION LISTS).
 use Rattle.std.specs.Prelude.{ℕ, ◌<◌, ◌≤◌, ◌==◌, if◌then◌else◌, List, [], ◌∷◌, length, Option, Some}
 use Rattle.std.specs.Prelude.{None, Result, Ok, Err, ⊤}
 use Rattle.sha1.specs.Sha1.{sha1}
@@ -20,7 +20,7 @@ use Rattle.key_files.specs.declared.spec_cause.SpecCause.TheVariants as causes
 use Rattle.krl_spec.specs.declared.entries.LineEntry.{LineEntry}
 use Rattle.krl_spec.specs.declared.entries.LineEntry.TheVariants as entries
 
--- ---- serials and key IDs, under the authority at hand
+-- ---- serials and key IDs, under the current authority
 
 abbrev pub serial_order : Option (List ℕ) → List ℕ → Result Entry SpecCause
 serial_order None text = Err causes.NoAuthority
@@ -55,12 +55,12 @@ hash_order text = do
   digest ← in_fault causes.Fingerprint (fingerprint_at text)
   Ok (Sha256Entry digest)
 
--- the authority of a certificate has some bytes
+-- the authority of a certificate is not empty
 abbrev pub HasAuthority : Option CertNames → Type 0
 HasAuthority None = ⊤
 HasAuthority (Some names) = 0 < length names.authority
 
--- A certificate is named by its serial, or by its key ID where the serial is 0.
+-- The entry of a certificate is its serial, or its key ID if the serial is 0.
 abbrev pub certificate_entry : CertNames → Entry
 certificate_entry names =
     if names.serial == 0 then IdEntry names.authority names.key_id
@@ -90,19 +90,20 @@ abbrev pub text_entry : Option (List ℕ) → List ℕ → Option Order → Resu
 text_entry authority text None = bare_entry text
 text_entry authority text (Some order) = order_entry authority order.directive order.given
 
--- what a line names, if anything counts of it
+-- the entry of a line, if the line has content
 abbrev pub counted_entry : Option (List ℕ) → List ℕ → Option (Result Entry SpecCause)
 counted_entry authority [] = None
 counted_entry authority (byte ∷ bytes) =
     Some (text_entry authority (byte ∷ bytes) (order_in (byte ∷ bytes)))
 
--- The authority at hand is not given, or stands here by its bytes. All authorities have none.
+-- The current authority is None if it is not given, and otherwise its bytes. All authorities are
+-- empty bytes.
 unfoldable pub line_entry : Option (List ℕ) → List ℕ → Option (Result Entry SpecCause)
 line_entry authority line = counted_entry authority (bare_line line)
 
--- ---- what a line was read as
+-- ---- how a line was read
 
--- the entry that it is
+-- the entry that it represents
 abbrev pub entry_of : LineEntry → Entry
 entry_of (entries.Serials authority serials) =
     RangeEntry (authority_bytes authority) serials.lo serials.hi
@@ -111,7 +112,7 @@ entry_of (entries.Key blob) = KeyEntry blob
 entry_of (entries.Sha1 hash) = Sha1Entry hash
 entry_of (entries.Sha256 hash) = Sha256Entry hash
 
--- An authority that is named has some bytes, and serials are a range above 0.
+-- An authority that is named is not empty, and serials are a range above 0.
 abbrev pub IsSound : LineEntry → Type 0
 IsSound (entries.Serials authority serials) =
     IsAuthority authority × (0 < serials.lo) × (serials.lo ≤ serials.hi)

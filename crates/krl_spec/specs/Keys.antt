@@ -1,4 +1,4 @@
--- What the keys of lines ask.
+-- The subjects of the keys of lines.
 use Rattle.std.specs.Prelude.{◌≡◌, ℕ, List, Result, Ok}
 use Rattle.ssh_wire.specs.Reading.{◌>>=◌, in_fault}
 use Rattle.key_text.specs.KeyLine.{IsKeyLine}
@@ -13,14 +13,14 @@ use Rattle.key_files.specs.declared.spec_cause.KeyCause.TheVariants as keys
 use Rattle.key_files.specs.declared.spec_cause.SpecCause.{SpecCause}
 use Rattle.key_files.specs.declared.spec_cause.SpecCause.TheVariants as causes
 
--- the faults of a key line and of what its blob asks, as causes
+-- the faults of a key line and of the subject of its blob, as causes
 abbrev pub line_cause : LineFault → SpecCause
 line_cause fault = causes.Key (keys.Line fault)
 
 abbrev pub subject_cause : SubjectFault → SpecCause
 subject_cause fault = causes.Key (keys.Subject fault)
 
--- what the key of a key line asks
+-- the subject of the key of a key line
 unfoldable pub subject_in : List ℕ → Result Subject SpecCause
 subject_in text = do
   content ← in_fault line_cause (line_at text)
@@ -34,7 +34,7 @@ plain_in text = do
 
 -- ---- what key lines spell
 
--- a key line with the blob of a plain key or of a certificate, of which this is asked
+-- a key line with the blob of a plain key or of a certificate, which has this subject
 pub record IsSubjectLine (text : List ℕ) (asked : Subject) : Type 0 where
   pub word : List ℕ
   pub blob : List ℕ
@@ -50,7 +50,7 @@ pub record HasSubjectFault (text : List ℕ) (fault : SubjectFault) : Type 0 whe
   pub line : IsKeyLine text word blob comment
   pub is : IsSubjectFault blob fault
 
--- why a text gives no key: its first fault as a key line, or that of the blob of one
+-- why a text is not a key line with a subject: its first fault as a key line, or that of its blob
 abbrev pub IsKeyFault : List ℕ → KeyCause → Type 0
 IsKeyFault text (keys.Line fault) = IsFirstLineFault text fault
 IsKeyFault text (keys.Subject fault) = HasSubjectFault text fault

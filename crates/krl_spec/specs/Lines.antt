@@ -1,4 +1,5 @@
--- What specification files name, and what reading one adds (ssh-keygen(1), KEY REVOCATION LISTS).
+-- The entries of specification files, and the effect of reading one (ssh-keygen(1), KEY REVOCATION
+-- LISTS).
 use Rattle.std.specs.Prelude.{◌≡◌, ℕ, ◌+◌, List, [], ◌∷◌, ◌++◌, length, Option, Some, None, Result}
 use Rattle.std.specs.Prelude.{Ok, Err}
 use Rattle.std.specs.List.{slice_split}
@@ -16,7 +17,7 @@ pub record LineEntries : Type 0 where
   pub entries : List Entry
   pub fault : Option SpecFault
 
--- a line by its number, before what later lines name
+-- a line with this number, followed by later lines
 abbrev pub before_later : ℕ → Option (Result Entry SpecCause) → LineEntries → LineEntries
 before_later number None later = later
 before_later number (Some (Ok entry)) later =
@@ -24,17 +25,17 @@ before_later number (Some (Ok entry)) later =
 before_later number (Some (Err cause)) later =
     record { entries = []; fault = Some (record { line = number; cause = cause }) }
 
--- what lines name, of which the first has this number
+-- the entries of lines, of which the first has this number
 abbrev pub lines_from : Option (List ℕ) → ℕ → List (List ℕ) → LineEntries
 lines_from authority number [] = record { entries = []; fault = None }
 lines_from authority number (line ∷ lines) =
     before_later number (line_entry authority line) (lines_from authority (number + 1) lines)
 
--- what the lines of a file name
+-- the entries of the lines of a file
 unfoldable pub lines_of : Option (List ℕ) → List ℕ → LineEntries
 lines_of authority text = lines_from authority 1 (slice_split is_newline text)
 
--- Memory ran out at a line: those before it have no fault, and what they name was added.
+-- An allocation failed at a line: those before it have no fault, and their entries were added.
 pub record LacksMemoryAt (authority : Option (List ℕ)) (lines : List (List ℕ)) (number : ℕ)
     (old new : Revocations) : Type 0 where
   pub before : List (List ℕ)
@@ -45,7 +46,7 @@ pub record LacksMemoryAt (authority : Option (List ℕ)) (lines : List (List ℕ
   pub faultless : (lines_from authority 1 before).fault ≡ None
   pub adds : MeansMore old new (lines_from authority 1 before).entries
 
--- What the lines name up to the first fault was added, and the fault is reported.
+-- The entries up to the first fault were added, and the fault is reported.
 abbrev pub StopsAt : Option (List ℕ) → List ℕ → ℕ → SpecCause → Revocations → Revocations → Type 0
 StopsAt authority text number NoMemory old new =
     LacksMemoryAt authority (slice_split is_newline text) number old new
@@ -53,7 +54,7 @@ StopsAt authority text number cause old new =
     ((lines_of authority text).fault ≡ Some (record { line = number; cause = cause }))
     × MeansMore old new (lines_of authority text).entries
 
--- All that the lines name was added, and they have no fault; or reading stopped at one.
+-- All entries of the lines were added, and no line has a fault; or reading stopped at a line.
 abbrev pub ReadsSpec : {A : Type 0} → Option (List ℕ) → List ℕ → Result A SpecFault
     → Revocations → Revocations → Type 0
 ReadsSpec authority text (Ok done) old new =

@@ -1,5 +1,5 @@
 -- Numbers in specification files (ssh-keygen(1), KEY REVOCATION LISTS): hexadecimal after `0x`,
--- octal after another `0`, else decimal.
+-- octal after another `0`, otherwise decimal.
 use Rattle.std.specs.Prelude.{ℕ, Bool, ◌+◌, ◌^◌, ◌==◌, ◌&&◌, ◌||◌, nat_lt, if◌then◌else◌, List, []}
 use Rattle.std.specs.Prelude.{◌∷◌, length, drop, Option, Some, None, Result, Ok, Err}
 use Rattle.std.specs.Char.{is_digit}
@@ -16,7 +16,7 @@ pub record Spelling : Type 0 where
   pub base : ℕ
   pub digits : List ℕ
 
--- no `x` stands after the first byte, `0` or not
+-- the second byte is not `x`, or the first is not `0`
 abbrev pub plain_spelling : ℕ → List ℕ → Spelling
 plain_spelling first rest = record { base = if first == 48 then 8 else 10; digits = first ∷ rest }
 
@@ -27,7 +27,7 @@ spelling (first ∷ second ∷ rest) =
     if first == 48 && (second == 120 || second == 88) then record { base = 16; digits = rest }
     else plain_spelling first (second ∷ rest)
 
--- one digit or more, each of the base, and the number is below 2^64
+-- at least one digit, each of the base, and the number is below 2^64
 abbrev pub spells_number : ℕ → List ℕ → Bool
 spells_number base digits =
     nat_lt 0 (length digits) && list_all (λ c. is_digit c base) digits
@@ -49,7 +49,7 @@ both (Some lo) (Some hi) = Some (record { lo = lo; hi = hi })
 abbrev pub is_hyphen : ℕ → Bool
 is_hyphen byte = byte == 45
 
--- a number, or two round a hyphen and blanks
+-- a number, or two around a hyphen and blanks
 unfoldable pub bounds_of_text : List ℕ → Option Bounds
 bounds_of_text text =
     if nat_lt (position_or_len is_hyphen text) (length text)

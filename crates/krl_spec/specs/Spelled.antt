@@ -1,4 +1,4 @@
--- What the lines of specification files spell (ssh-keygen(1), KEY REVOCATION LISTS).
+-- The spelling of lines of specification files (ssh-keygen(1), KEY REVOCATION LISTS).
 use Rattle.std.specs.Prelude.{◌≡◌, ◌≢◌, ℕ, ◌^◌, ◌<◌, ◌⊎◌, not, List, [], ◌∷◌, ◌++◌}
 use Rattle.std.specs.Prelude.{codes, slice_index, ⊤}
 use Rattle.std.specs.List.{AllPass, prefix_len, suffix_len}
@@ -11,21 +11,21 @@ use Rattle.krl_spec.specs.declared.directive.Directive.{Directive}
 
 -- ---- numbers
 
--- one digit or more of the base, and the number below 2^64 that they write
+-- at least one digit of the base, and the number below 2^64 that the digits write
 pub record AreDigits (base : ℕ) (digits : List ℕ) (n : ℕ) : Type 0 where
   pub numeral : IsNumeral base digits
   pub value : n ≡ digits_value base digits
   pub fits : n < 2 ^ 64
 
--- `0x` or `0X` and hexadecimal digits, octal digits of which the first is 0, or decimal digits of
--- which it is another
+-- `0x` or `0X` and hexadecimal digits; octal digits of which the first is 0; or decimal digits of
+-- which the first is not 0
 pub data IsNumber (text : List ℕ) (n : ℕ) : Type 0 where
   hexadecimal : (digits : List ℕ) → (text ≡ codes "0x" ++ digits) ⊎ (text ≡ codes "0X" ++ digits)
       → AreDigits 16 digits n → IsNumber text n
   octal : slice_index text 0 ≡ byte "0" → AreDigits 8 text n → IsNumber text n
   decimal : slice_index text 0 ≢ byte "0" → AreDigits 10 text n → IsNumber text n
 
--- a number, or two round a hyphen, which may stand between blanks
+-- a number, or two around a hyphen, which may be between blanks
 pub data AreBounds (text : List ℕ) (lo hi : ℕ) : Type 0 where
   one_number : IsNumber text lo → lo ≡ hi → AreBounds text lo hi
   two_numbers : (first before after last : List ℕ)
@@ -35,7 +35,7 @@ pub data AreBounds (text : List ℕ) (lo hi : ℕ) : Type 0 where
 
 -- ---- directives
 
--- A directive's name in either case of letters, a colon, blanks or none, and what it is given.
+-- The name of a directive in upper or lower case, a colon, any number of blanks, and an argument.
 pub record IsOrder (text : List ℕ) (directive : Directive) (given : List ℕ) : Type 0 where
   pub name : List ℕ
   pub blanks : List ℕ
@@ -51,8 +51,8 @@ abbrev pub IsRemark : List ℕ → Type 0
 IsRemark [] = ⊤
 IsRemark (byte ∷ bytes) = byte ≡ 35
 
--- What counts of a line: it has no `#` and stands before the first, and neither of its ends is a
--- blank or a carriage return.
+-- The content of a line: it is before the first `#`, and neither of its ends is a blank or a
+-- carriage return.
 pub record Counts (line text : List ℕ) : Type 0 where
   pub front : List ℕ
   pub back : List ℕ

@@ -1,4 +1,4 @@
--- How much more is stored by reading what a specification file names.
+-- By how much the stored bytes grow by reading a specification file.
 use Rattle.std.specs.Prelude.{◌≡◌, ℕ, ◌+◌, ◌≤◌, ◌⊎◌, List, length, Option, Some, None}
 use Rattle.krl_types.specs.Subject.{CertNames, Subject}
 use Rattle.krl_held.specs.Revocations.{Revocations, IsStoredWithin}
@@ -6,22 +6,22 @@ use Rattle.krl_spec.specs.Under.{bytes_under}
 use Rattle.krl_held.specs.Entry.{Entry, RangeEntry, IdEntry, KeyEntry, Sha1Entry}
 use Rattle.krl_held.specs.Entry.{Sha256Entry}
 
--- At most this many bytes more are stored, the authority at hand counted once.
+-- At most `size` more bytes are stored, with the current authority counted once.
 abbrev pub GrowsUnder : List ℕ → ℕ → Revocations → Revocations → Type 0
 GrowsUnder authority size old new =
     (n : ℕ) → IsStoredWithin authority old n → IsStoredWithin authority new (n + size)
 
--- The same for the bytes of a text, where some authority is at hand or none.
+-- The same for the bytes of a text, with a current authority or none.
 abbrev pub GrowsBy : Option (List ℕ) → List ℕ → Revocations → Revocations → Type 0
 GrowsBy authority text = GrowsUnder (bytes_under authority) (length text)
 
--- The same number of bytes is enough for what stands under another authority, whose bytes are
--- counted too.
+-- `size` bytes suffice for an entry of this length, also if it is under another authority, whose
+-- bytes are counted too.
 abbrev pub HasRoom : List ℕ → ℕ → List ℕ → ℕ → Type 0
 HasRoom at_hand size authority bytes =
     ((authority ≡ at_hand) × (bytes ≤ size)) ⊎ (length authority + bytes ≤ size)
 
--- An entry stores at most this many bytes more, where the bytes of one authority are not counted.
+-- An entry stores at most `size` more bytes, if the bytes of one authority are not counted.
 abbrev pub Fits : List ℕ → ℕ → Entry → Type 0
 Fits at_hand size (RangeEntry authority lo hi) = HasRoom at_hand size authority 0
 Fits at_hand size (IdEntry authority text) = HasRoom at_hand size authority (length text)
@@ -30,13 +30,12 @@ Fits at_hand size (Sha1Entry hash) = 20 ≤ size
 Fits at_hand size (Sha256Entry hash) = 32 ≤ size
 Fits at_hand size entry = ⊥
 
--- how many bytes what is asked can store: those of a plain key, or of what names a certificate
+-- how many bytes a subject can store: those of a plain key, or of the names of a certificate
 abbrev pub asked_size : List ℕ → Option CertNames → ℕ
 asked_size plain None = length plain
 asked_size plain (Some names) = length names.authority + length names.key_id
 
--- What is asked has no more bytes than the blob of which it is asked, and no blob is shorter than
--- that of the shortest key.
+-- A subject has no more bytes than its blob, and no blob is shorter than that of the shortest key.
 pub record IsWithinBlob (blob : List ℕ) (asked : Subject) : Type 0 where
   pub asked_is : asked_size asked.plain asked.cert ≤ length blob
   pub plain_is : length asked.plain ≤ length blob

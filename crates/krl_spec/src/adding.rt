@@ -1,4 +1,4 @@
-//! Adding what a line of a specification file names.
+//! Adding the entry of a line of a specification file.
 
 ghost use Rattle.std.specs.Prelude.{◌≡◌, ◌+◌, ◌≤◌, ℕ, List, [], ◌∷◌, OnErr, OnOk, length};
 ghost use Rattle.krl_held.specs.Changes.{MeansMore};
@@ -41,7 +41,7 @@ fn add<S: Spans>(revocations: &mut Revocations<S>, entry: LineEntry) -> Result<(
     }
 }
 
-// Adds what a line without a directive names.
+// Adds the entry of a line without a directive.
 #[tactic(auto, unfolding(crate::specs::Keys::subject_in))]
 fn add_bare<S: Spans>(
     alloc: Global,
@@ -58,7 +58,7 @@ fn add_bare<S: Spans>(
     Ok(())
 }
 
-// Adds what a text that counts names.
+// Adds the entry of the content of a line.
 fn add_text<S: Spans>(
     alloc: Global,
     revocations: &mut Revocations<S>,
@@ -79,7 +79,7 @@ fn add_text<S: Spans>(
     Ok(())
 }
 
-/// Adds what a line names, if anything counts of it.
+/// Adds the entry of a line, if the line has content.
 #[tactic(auto, unfolding(crate::specs::Entries::line_entry))]
 pub fn add_line<S: Spans>(
     alloc: Global,

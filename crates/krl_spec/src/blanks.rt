@@ -1,4 +1,4 @@
-//! What counts of a line.
+//! The content of a line.
 
 ghost use Rattle.std.specs.Prelude.{◌≡◌, ◌==◌, ◌≤◌, length};
 ghost use Rattle.std.specs.List.{position_or_len};
@@ -8,7 +8,7 @@ ghost use Rattle.krl_spec.specs.Blanks.{bare_line};
 
 use key_text::{before_ending, is_blank, is_ending};
 
-/// What counts of a line: neither a `#` nor what is after it, nor the blanks and carriage
+/// The content of a line: without a `#` and what follows it, and without the blanks and carriage
 /// returns at both ends.
 #[tactic(auto, unfolding(crate::specs::Blanks::bare_line))]
 pub fn bare_line(line: &[u8]) -> &[u8]
@@ -17,7 +17,7 @@ pub fn bare_line(line: &[u8]) -> &[u8]
     before_ending(after_endings(&line[..position_of(line, b'#')]))
 }
 
-/// The place of the first such byte, or the length where there is none.
+/// The position of the first such byte, or the length if there is none.
 pub fn position_of(text: &[u8], sought: u8) -> usize
     ensures place { result ≡ position_or_len (λ byte. byte == sought) text.now }
     ensures within { result ≤ length text.now }
@@ -30,7 +30,7 @@ pub fn position_of(text: &[u8], sought: u8) -> usize
     text.len()
 }
 
-// What comes after the blanks and carriage returns at the front.
+// The part after the blanks and carriage returns at the front.
 fn after_endings(text: &[u8]) -> &[u8]
     ensures { result.now ≡ after_endings text.now }
 {
@@ -42,7 +42,7 @@ fn after_endings(text: &[u8]) -> &[u8]
     &[]
 }
 
-/// What is before the blanks at the end.
+/// The part before the blanks at the end.
 #[tactic(auto, unfolding(crate::specs::Blanks::before_blanks))]
 pub fn before_blanks(text: &[u8]) -> &[u8]
     ensures { result.now ≡ before_blanks text.now }

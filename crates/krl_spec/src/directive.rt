@@ -15,20 +15,20 @@ const DIRECTIVES: [Directive; 6] = [
     Directive::Hash,
 ];
 
-/// What a line begins with, before a colon.
+/// The word at the beginning of a line, before a colon.
 #[derive(Clone, Copy)]
 pub enum Directive {
-    /// A serial, or a range of them, under the authority at hand.
+    /// A serial, or a range of them, under the current authority.
     Serial,
-    /// A key ID under the authority at hand.
+    /// A key ID under the current authority.
     Id,
-    /// A key by its line.
+    /// A key, given by its line.
     Key,
-    /// A key by its line, revoked by its SHA-1.
+    /// A key, given by its line and revoked by its SHA-1.
     Sha1,
-    /// A key by its line, revoked by its SHA-256.
+    /// A key, given by its line and revoked by its SHA-256.
     Sha256,
-    /// A key by its SHA-256 fingerprint.
+    /// A key, given by its SHA-256 fingerprint.
     Hash,
 }
 
@@ -47,7 +47,7 @@ impl Directive {
         }
     }
 
-    /// The directive of a name, in either case of letters.
+    /// The directive with this name, in upper or lower case.
     #[tactic(auto, unfolding(crate::specs::Directive::directive_named))]
     pub fn named(name: &[u8]) -> Option<Directive>
         ensures { result ≡ directive_named name.now }
@@ -58,7 +58,7 @@ impl Directive {
             .find(|directive| directive.is_named(name))
     }
 
-    // Whether the directive has this name, in either case.
+    // Whether the directive has this name, in upper or lower case.
     fn is_named(self, name: &[u8]) -> bool
         ensures { result ≡ is_named self name.now }
     {
@@ -66,8 +66,8 @@ impl Directive {
     }
 }
 
-/// The directive whose name stands before the line's first colon, and what it is given: what is
-/// after the colon and blanks.
+/// The directive whose name is before the line's first colon, and its argument: what is after the
+/// colon and blanks.
 #[tactic(auto, unfolding(crate::specs::Directive::order_in))]
 pub fn order_in(line: &[u8]) -> Option<(Directive, &[u8])>
     ensures { MatchOption result (order_in line.now ≡ None)

@@ -21,22 +21,22 @@ use ssh_cert::Subject;
 use ssh_wire::Bytes;
 use std::alloc::Global;
 
-/// What a line names. An authority that is None stands for all authorities.
+/// The entry of a line. An authority that is None means all authorities.
 #[derive(Drop)]
 pub enum LineEntry<'a> {
-    /// Certificates of an authority, by their serials.
+    /// Certificates of an authority, given by their serials.
     Serials(Option<&'a [u8]>, Bounds),
-    /// Certificates of an authority, by their key ID.
+    /// Certificates of an authority, given by their key ID.
     Id(Option<&'a [u8]>, &'a [u8]),
-    /// A key, by its blob.
+    /// A key, given by its blob.
     Key(Bytes),
-    /// A key, by the SHA-1 of its blob.
+    /// A key, given by the SHA-1 of its blob.
     Sha1([u8; 20]),
-    /// A key, by the SHA-256 of its blob.
+    /// A key, given by the SHA-256 of its blob.
     Sha256([u8; 32]),
 }
 
-/// What a directive names by what it is given.
+/// The entry of a directive with its argument.
 pub fn read_order<'a>(
     alloc: Global,
     under: Under<'a>,
@@ -66,7 +66,7 @@ pub fn read_order<'a>(
     }
 }
 
-// The serials of a directive.
+// The serials that a directive names.
 fn read_serial_order<'a>(under: Under<'a>, given: &[u8]) -> Result<LineEntry<'a>, SpecCause>
     requires { IsUnder under }
     ensures read { Answers Reports entry_of result
@@ -80,7 +80,7 @@ fn read_serial_order<'a>(under: Under<'a>, given: &[u8]) -> Result<LineEntry<'a>
     Ok(LineEntry::Serials(authority, serials))
 }
 
-// The key ID of a directive.
+// The key ID that a directive names.
 fn read_id_order<'a>(under: Under<'a>, given: &'a [u8]) -> Result<LineEntry<'a>, SpecCause>
     requires { IsUnder under }
     ensures read { Answers Reports entry_of result
@@ -111,8 +111,8 @@ fn authority_at_hand<'a>(under: Under<'a>) -> Result<Option<&'a [u8]>, SpecCause
     }
 }
 
-/// What names a key: a plain key its blob, and a certificate its serial, or its key ID where the
-/// serial is 0.
+/// The entry for a subject: for a plain key its blob, and for a certificate its serial, or its key
+/// ID if the serial is 0.
 pub fn subject_entry<'a>(asked: Subject<'a>) -> LineEntry<'a>
     requires { HasAuthority asked.cert }
     ensures named { entry_of result ≡ names_entry asked.entry.plain asked.entry.cert }

@@ -1,4 +1,4 @@
-//! Keys, certificates and fingerprints that lines of specification files name.
+//! The keys, certificates and fingerprints in lines of specification files.
 
 ghost use Rattle.std.specs.Prelude.{◌+◌, ◌*◌, ◌≤◌, IfOk, length};
 ghost use Rattle.ssh_wire.specs.Reading.{Answers, in_fault};
@@ -18,7 +18,7 @@ use ssh_cert::{Subject, SubjectFault, subject};
 use ssh_wire::Bytes;
 use std::alloc::Global;
 
-/// What a key line holds.
+/// The content of a key line.
 pub fn key_line<'a>(alloc: Global, text: &'a [u8]) -> Result<Line<'a>, SpecCause>
     ensures read { Answers Reports content_of result (in_fault line_cause (line_at text.now)) }
     ensures room { IfOk result (λ line. 4 * length line.blob + 24 ≤ 3 * length text.now) }
@@ -30,7 +30,7 @@ pub fn key_line<'a>(alloc: Global, text: &'a [u8]) -> Result<Line<'a>, SpecCause
     }
 }
 
-/// What a key's blob asks.
+/// The subject of a key's blob.
 pub fn ask<'a>(alloc: Global, blob: &'a [u8]) -> Result<Subject<'a>, SpecCause>
     ensures asked { Answers Reports (λ asked. asked) result
         (in_fault subject_cause (subject_of blob.now)) }
@@ -56,7 +56,7 @@ pub fn plain_key(alloc: Global, text: &[u8]) -> Result<Bytes, SpecCause>
     Ok(plain)
 }
 
-/// The digest that a fingerprint names.
+/// The digest of a fingerprint.
 pub fn read_hash(alloc: Global, text: &[u8]) -> Result<[u8; 32], SpecCause>
     ensures read { Answers Reports (λ digest. digest) result
         (in_fault Fingerprint (fingerprint_at text.now)) }

@@ -1,4 +1,4 @@
-//! What holds for every line of a specification file, each as the contract of a function that does
+//! Laws about every line of a specification file, each as the contract of a function that does
 //! nothing.
 
 ghost use Rattle.std.specs.Prelude.{◌≡◌, ◌↔◌, ℕ, List, Err, Ok, Some};
@@ -17,7 +17,7 @@ ghost use Rattle.key_files.specs.declared.spec_cause.SpecCause.{SpecCause};
 use key_text::laws::{line_read_where_spelled, line_refused_by_first_fault};
 use ssh_cert::laws::{asked_where_spelled, not_asked_by_first_fault};
 
-/// What is read of a line is what counts of it.
+/// The content of a line is read exactly as it is spelled.
 pub fn counted_where_spelled()
     ensures { (line text : List ℕ) → (bare_line line ≡ text) ↔ Counts line text }
 {}
@@ -33,14 +33,15 @@ pub fn bounds_where_spelled()
         → (bounds_of_text text ≡ Some bounds) ↔ AreBounds text bounds.lo bounds.hi }
 {}
 
-/// A directive and what it is given are read exactly where the text spells them.
+/// A directive and its argument are read exactly where the text spells them.
 pub fn order_where_spelled()
     ensures { (text : List ℕ) (directive : Directive) (given : List ℕ)
         → (order_in text ≡ Some (order given directive)) ↔ IsOrder text directive given }
 {}
 
-/// What a key line asks is read exactly where the text is one with the blob of a plain key or of a
-/// certificate, and a text is refused exactly by its first fault, or by that of its blob.
+/// The subject of a key line is read exactly where the text is a key line with the blob of a plain
+/// key or of a certificate. A text gives a fault exactly if it is its first one, or that of its
+/// blob.
 pub fn key_where_spelled()
     ensures read { (text : List ℕ) (asked : Subject) → IsBytes text
         → (subject_in text ≡ Ok asked) ↔ IsSubjectLine text asked }

@@ -14,10 +14,10 @@ use krl_held::Revocations;
 use serial_set::Spans;
 use std::alloc::Global;
 
-/// Adds what the lines of a specification file name, up to the first line that is refused or at
-/// which memory runs out. What the lines before it name stays added.
+/// Adds the entries of the lines of a specification file, up to the first line that has a fault or
+/// at which an allocation fails. The entries of the lines before it stay added.
 ///
-/// A line names at most one entry. A `#` and what follows it do not count, nor do blanks and
+/// A line names at most one entry. A `#` and what follows it are ignored, and so are blanks and
 /// carriage returns at both ends.
 pub fn read_spec<S: Spans>(
     alloc: Global,

@@ -36,7 +36,7 @@ pub fn read_serials(text: &[u8]) -> Result<Bounds, SpecCause>
     Ok(bounds)
 }
 
-/// One number, or two round a hyphen and blanks.
+/// One number, or two around a hyphen and blanks.
 #[tactic(auto, unfolding(crate::specs::Number::bounds_of_text))]
 pub fn read_bounds(text: &[u8]) -> Option<Bounds>
     ensures { result ≡ bounds_of_text text.now }
@@ -54,8 +54,8 @@ pub fn read_bounds(text: &[u8]) -> Option<Bounds>
     Some(Bounds { lo, hi })
 }
 
-/// A number below 2^64: hexadecimal digits after `0x` or `0X`, octal digits after another `0`, else
-/// decimal digits. `0` alone is zero. None where the text is no such number.
+/// A number below 2^64: hexadecimal digits after `0x` or `0X`, octal digits after another `0`,
+/// otherwise decimal digits. `0` alone is zero. None if the text is not such a number.
 #[tactic(auto, unfolding(crate::specs::Number::number_of_text))]
 pub fn read_number(text: &[u8]) -> Option<u64>
     ensures { result ≡ number_of_text text.now }
@@ -67,7 +67,7 @@ pub fn read_number(text: &[u8]) -> Option<u64>
     }
 }
 
-// A number below 2^64, by its digits in a base.
+// A number below 2^64, given by its digits in a base.
 #[tactic(auto, using(crate::proofs::Digits::number_is_read))]
 fn number_in(base: u32, digits: &[u8]) -> Option<u64>
     requires low { 2 ≤ base }
@@ -77,7 +77,7 @@ fn number_in(base: u32, digits: &[u8]) -> Option<u64>
     parsed(base, digits)
 }
 
-// What the standard library reads of digits in a base.
+// The number that the standard library reads from digits in a base.
 #[tactic(auto, using(crate::proofs::Digits::digits_are_text))]
 fn parsed(base: u32, digits: &[u8]) -> Option<u64>
     requires low { 2 ≤ base }
@@ -85,7 +85,7 @@ fn parsed(base: u32, digits: &[u8]) -> Option<u64>
     ensures { SomeIff result (IsNumeral base digits.now × (digits_value base digits.now < 2 ^ 64))
         (digits_value base digits.now) }
 {
-    // It takes a plus before the digits.
+    // The standard library accepts a plus before the digits.
     if digits.first() == Some(&b'+') {
         return None;
     }

@@ -1,12 +1,12 @@
 //! The authority of serials and key IDs.
 
-/// Under which authority serials and key IDs stand that name none themselves.
+/// The authority of serials and key IDs that name none themselves.
 #[derive(Clone, Copy, Debug)]
 pub enum Under<'a> {
-    /// Under none: a serial or a key ID is refused.
+    /// None: a serial or a key ID is an error.
     NotGiven,
-    /// Under all authorities.
+    /// All authorities.
     All,
-    /// Under the authority of this key, by its blob.
+    /// The authority with this key, given by its blob.
     Of(&'a [u8]),
 }

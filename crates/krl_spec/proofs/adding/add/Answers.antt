@@ -1,4 +1,4 @@
--- The entry is added, and only an authority that was not named has bytes of its own.
+-- The entry is added, and only an authority that was not named takes bytes of its own.
 use Rattle.std.proofs.Common.{arith}
 use Rattle.krl_spec.proofs.Growth.{under_grows}
 use Rattle.krl_spec.proofs.adding.add.Goals as goal

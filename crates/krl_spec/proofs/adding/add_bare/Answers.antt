@@ -1,4 +1,4 @@
--- What the key of the line asks has no more bytes than the line.
+-- The subject of the line's key has no more bytes than the line.
 use Rattle.std.proofs.Common.{length, refl}
 use Rattle.krl_spec.specs.Entries.{entry_of}
 use Rattle.krl_spec.specs.Keys.{subject_in}

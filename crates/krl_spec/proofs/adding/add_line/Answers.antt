@@ -1,4 +1,4 @@
--- What counts of a line has no more bytes than the line.
+-- The content of a line has no more bytes than the line.
 use Rattle.std.proofs.Common.{ap, length, arith}
 use Rattle.krl_spec.proofs.Growth.{grows_more}
 use Rattle.krl_spec.proofs.Sizes.{length-bare_line}

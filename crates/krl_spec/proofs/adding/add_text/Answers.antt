@@ -1,4 +1,4 @@
--- What a directive is given has no more bytes than the text.
+-- The argument of a directive has no more bytes than the text.
 use Rattle.krl_spec.specs.Entries.{entry_of}
 use Rattle.krl_spec.proofs.Growth.{grows_more}
 use Rattle.krl_spec.proofs.Sizes.{order_room}

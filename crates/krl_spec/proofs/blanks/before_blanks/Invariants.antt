@@ -2,7 +2,7 @@ use Rattle.std.proofs.Common.{◌≡◌, ℕ, ◌<◌, ◌≤◌, true, length, 
 use Rattle.key_text.specs.Blanks.{is_blank}
 use Rattle.krl_spec.proofs.blanks.before_blanks.Given as goal
 
--- what is left out so far are blanks
+-- the bytes omitted so far are blanks
 abbrev pub invariant-loop-end : goal.invariant-loop-end
 invariant-loop-end l = (l.end ≤ length l.text) × ((k : ℕ) → l.end ≤ k → k < length l.text → is_blank (get_or l.text k 0) ≡ true)
 

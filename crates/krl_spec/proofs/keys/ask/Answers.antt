@@ -1,4 +1,4 @@
--- What is asked is that of a key or of a certificate.
+-- The subject is that of a key or of a certificate.
 use Rattle.krl_spec.proofs.Sizes.{asked_room, has_authority}
 use Rattle.krl_spec.proofs.keys.ask.Goals as goal
 

@@ -1,4 +1,4 @@
--- Each line carries the reading on, or stops it.
+-- Each line continues the reading, or stops it.
 use Rattle.std.proofs.Common.{rules, refl, arith}
 use Rattle.krl_spec.proofs.Growth.{line_stored, next_stored, none_grows}
 use Rattle.krl_spec.proofs.ReadLines.{all_read, line_read, line_stops, none_read}

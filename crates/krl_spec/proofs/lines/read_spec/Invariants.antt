@@ -1,4 +1,4 @@
--- The lines so far are read, and the others are left.
+-- The lines so far were read, and the others are left.
 use Rattle.std.proofs.Common.{◌+◌, ◌-◌, ◌≤◌, length}
 use Rattle.std.specs.List.{slice_split}
 use Rattle.key_text.specs.Lines.{is_newline}
