@@ -1,4 +1,4 @@
--- The first key of a file is read where the file spells it, and refused by its first fault.
+-- The first key of a file is read exactly where the file spells it; otherwise its first fault is reported.
 use Rattle.std.proofs.Common.{◌≡◌, ◌↔◌, ℕ, ◌+◌, ◌^◌, ◌<◌, true, false, List, [], ◌∷◌, ◌++◌, length, Ok, Err, Result, is_some, refl, sym, ap, subst, ◌∙◌, arith, inl, inr, ◌⊎◌}
 use Rattle.std.specs.List.{All, slice_split}
 use Rattle.std.proofs.lemmas.Bool.{cases_Bool}
@@ -54,7 +54,7 @@ pub record KeyLaws : Type 0 where
 abbrev line_key : List ℕ → ℕ → List ℕ → Result (List ℕ) RunFault
 line_key name number line = key_of_line name number (line_at line) >>= key_blob
 
--- what is read of a line, here and of a line of a specification file
+-- reading a line here, and as a line of a specification file
 data ReadLine (name : List ℕ) (number : ℕ) (line : List ℕ) : Type 0 where
   asks : (asked : Subject) → subject_in line ≡ Ok asked → line_key name number line ≡ Ok asked.plain → ReadLine name number line
   asks_nothing : (fault : KeyCause) → subject_in line ≡ Err (specs.Key fault) → line_key name number line ≡ Err (key_run_fault name number fault) → ReadLine name number line
@@ -93,7 +93,7 @@ line_fault_met laws name number line fault fits first =
 abbrev inside_key : List ℕ → List ℕ → Result (List ℕ) RunFault
 inside_key name text = key_of_container name (private_at text) >>= key_blob
 
--- the type name of a plain key is short, and none of a certificate
+-- the type name of a plain key is short, and not that of a certificate
 plain_name : (kind : Kind) → (length (type_name kind) < 2 ^ 32) × (is_some (kind_certified (type_name kind)) ≡ false)
 unfolding kind_certified
 plain_name Rsa = (omega arith, refl)
@@ -105,7 +105,7 @@ plain_name Ed25519 = (omega arith, refl)
 plain_name EcdsaSk = (omega arith, refl)
 plain_name Ed25519Sk = (omega arith, refl)
 
--- the blob of a plain key is asked about itself
+-- the subject of a plain key's blob is the blob itself
 plain_asked : KeyLaws → (blob : List ℕ) (key : PublicKey) → IsKey blob key → subject_of blob ≡ Ok (of_key blob)
 unfolding subject_of is_certificate
 plain_asked laws blob key is =
@@ -123,7 +123,7 @@ inside_fault_met laws name text fault fits is = rw ((laws.not_opened text fault 
 
 -- ---- the first line with a key
 
--- the same of lines of which the first has a number
+-- the first of the lines that has a key
 record IsFirstFrom (lines : List (List ℕ)) : Type 0 where
   before : List (List ℕ)
   line : List ℕ
@@ -149,7 +149,7 @@ none_or_first (line ∷ lines) = elim (cases_Bool (has_key line)) [
   ]
 ]
 
--- the first of the keys of lines
+-- the first key of lines
 abbrev first_key_from : List ℕ → ℕ → List (List ℕ) → Result (List ℕ) RunFault
 first_key_from name number lines = first_blob name (keys_from name number lines)
 
@@ -193,7 +193,7 @@ by_lines : (name text : List ℕ) → begins_container text ≡ false → first_
 unfolding first_key_of
 by_lines name text none = rw none refl
 
--- what is read of a file's text
+-- reading a file's text
 data ReadKey (name text : List ℕ) : Type 0 where
   gives : (blob : List ℕ) → IsFirstKey text blob → first_key_of name text ≡ Ok blob → ReadKey name text
   stops_at : (stop : RunFault) → IsFirstKeyFault name text stop → first_key_of name text ≡ Err stop → ReadKey name text

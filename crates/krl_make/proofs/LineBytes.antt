@@ -1,4 +1,4 @@
--- The lines of bytes are bytes.
+-- If a text consists of bytes, so do its lines.
 use Rattle.std.proofs.Common.{ℕ, ◌<◌, List, [], ◌∷◌, inl, inr}
 use Rattle.std.specs.List.{All, onto_first, slice_split}
 use Rattle.std.proofs.lemmas.Bool.{cases_Bool}

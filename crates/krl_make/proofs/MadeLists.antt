@@ -1,4 +1,4 @@
--- Making a list: what is read of the old one, of the authority's file and of the files.
+-- Making a list: reading the old one, the authority's file and the files.
 use Rattle.std.proofs.Common.{◌≡◌, ℕ, ◌+◌, ◌<◌, ◌≤◌, List, [], ◌∷◌, ◌++◌, length, take, drop, get_or, Option, Some, None, Result, Ok, Err, inl, inr, refl, sym, ap, subst, ◌∙◌, arith, append_assoc, length-append}
 use Rattle.std.proofs.lemmas.List.{append-nil, take_more, take-append-drop}
 use Rattle.std.proofs.Math.Logic.Iff as Iff
@@ -57,7 +57,7 @@ old_read text header contents list none = record {
 
 -- ---- the authority
 
--- the plain key of what is read has some bytes
+-- the plain key that was read is not empty
 pub plain_has_bytes : (blob : List ℕ) (any : AnyKey) → Spells blob any → 0 < length (blob_of (plain_of any))
 plain_has_bytes blob (Plain key) is = omega (arith, key_room blob key is, ap length is.spelled)
 plain_has_bytes blob (Certified certificate) is = omega (arith, key_room (blob_of certificate.key) certificate.key is.key)
@@ -83,7 +83,7 @@ container_named : (name : List ℕ) (read : Result Opened PrivateFault) → file
 container_named name (Ok opened) = refl
 container_named name (Err fault) = refl
 
--- the first of keys is one of the file of this name
+-- the first key is one of the file with this name
 abbrev FirstNamed : List ℕ → List (Result FileKey RunFault) → Type 0
 FirstNamed name [] = Unit {0}
 FirstNamed name (next ∷ later) = file_name next ≡ name
@@ -103,18 +103,18 @@ content_named name (Ok text) = elim (cases_Bool (begins_container text)) [
   | inr plain ↦ rw plain (lines_named name 1 (slice_split is_newline text))
 ]
 
--- the first key of a file is about the file
+-- the file name in the first key, or in its fault, is that of the file
 first_named : (file : Named) (next : Result FileKey RunFault) (later : List (Result FileKey RunFault)) → keys_of file ≡ next ∷ later → file_name next ≡ file.name
 unfolding keys_of
 first_named file next later is = subst (FirstNamed file.name) is (content_named file.name file.content)
 
--- The first key was given, and its plain key is what is made of it.
+-- The first key was returned, and its plain key determines the result.
 pub first_given : {X : Type 0} (view : X → List ℕ) (file : Named) (key : FileKey) (later : List (Result FileKey RunFault)) (result : Result X RunFault) → keys_of file ≡ Ok key ∷ later
     → Returns view (λ at. key.name ≡ at) (key_blob key) result → Returns view (λ at. file.name ≡ at) (file_key file) result
 first_given view file key later result is returned =
     rw (file_first file (Ok key ∷ later) is, ← first_named file (Ok key) later is) returned
 
--- or the file stopped the run, or memory ran out
+-- or the file stopped the run, or an allocation failed
 pub first_refused : (file : Named) (next : Result FileKey RunFault) (later : List (Result FileKey RunFault)) (stop : RunFault) → keys_of file ≡ next ∷ later → GivesKey next (Err stop)
     → IsRunFault (ended_by stop.cause) (λ at. file.name ≡ at) (file_key file) stop
 first_refused file next later stop is refused = rw (file_first file (next ∷ later) is, ← first_named file next later is) (key_stops (ended_by stop.cause) file.name next later stop refused)
@@ -133,7 +133,7 @@ pub text_added : (authority : Option (List ℕ)) (name text : List ℕ) (old new
 text_added authority name text old new reads more =
     ((lines_of authority text).entries, (rw reads.0 refl, record { means = reads.1; held_is = more }))
 
--- Where the lines of a text stop, the run stops.
+-- If the lines of a text stop, the run stops.
 pub text_stops : (authority : Option (List ℕ)) (name text : List ℕ) (number : ℕ) (cause : SpecCause) (old new : Revocations)
     → StopsAt authority text number cause old new
     → IsRunFault (ended_by (cause_run_fault name number cause).cause) (λ at. name ≡ at) (text_entries authority name text) (cause_run_fault name number cause)
@@ -186,9 +186,9 @@ file_added authority files i file old mid new lt item (front, (read, adds)) (nam
   ),
 )
 
--- ---- what stopped the run
+-- ---- the fault that stopped the run
 
--- A stop of a part is one of the whole, where what the part has at hand the whole has.
+-- A stop in a part is a stop of the whole, if the current file of the part is the current file of the whole.
 pub run_fault_of_part : {X Y : Type 0} (ended : EndedBy) (Part Whole : List ℕ → Type 0) (read : Result X RunFault) (whole : Result Y RunFault) (stop : RunFault)
     → ((at : List ℕ) → Part at → Whole at)
     → (read ≡ Err stop → whole ≡ Err stop) → IsRunFault ended Part read stop → IsRunFault ended Whole whole stop
@@ -253,7 +253,7 @@ made_written view name made contents (Err stop) adds (inr (reported, long)) =
 
 -- ---- the run
 
--- what the run has at hand, by what reading gives
+-- the current file or list of the run, given what was read
 abbrev AtHand : List ℕ → Base → Authority Named → Option ℕ → List Named → Result Made RunFault → List ℕ → Type 0
 AtHand name base authority given files read = IsAtHand name (Ok base) authority given files read
 
@@ -276,7 +276,7 @@ key_stops name given authority file moment base files version stop is names stop
     (λ same. rw (is, same) refl)
     stops)
 
--- the authority that the first key of a file names
+-- the authority of the first key of a file
 pub named_by : (authority : Authority Named) (file : Named) (blob : List ℕ) → authority ≡ FileOf file → file_key file ≡ Ok blob → named_blob authority ≡ Ok (Some blob)
 named_by authority file blob names read = rw (names, read) refl
 
@@ -292,7 +292,7 @@ files_stop name given authority moment base files version signer stop is signed 
     (λ same. rw (is, signed, same) refl)
     stops
 
--- What is read gives the list that is made, or its text stops the run.
+-- If reading succeeds, the list is made, or its text stops the run.
 made_read : {X : Type 0} (view : X → List ℕ) (name : List ℕ) (given : Option ℕ) (authority : Authority Named) (base : Base) (files : List Named) (read : Result Made RunFault) (made : Made) (result : Result X RunFault)
     → read ≡ Ok made → WritesMade view name made result → Makes view name (Ok base) authority given files read result
 made_read view name given authority base files read made (Ok text) whole is = (made, (whole, is))
@@ -301,7 +301,7 @@ made_read view name given authority base files read made (Err stop) whole (inl r
 made_read view name given authority base files read made (Err stop) whole (inr (reported, long)) =
     inr (record { made = made; read_as = whole; long = long; stop_is = reported })
 
--- The list is written of what was held and of the files, or the run stops there.
+-- The list is written from the old revocations and the files, or the run stops there.
 pub list_written : {X : Type 0} (view : X → List ℕ) (name : List ℕ) (given : Option ℕ) (authority : Authority Named) (moment : ℕ) (base : Base) (files : List Named) (version : ℕ) (signer : Option (List ℕ)) (result : Result X RunFault)
     → version_of given base.version ≡ Some version → named_blob authority ≡ Ok signer
     → WritesMore view name (header_of version moment base) base.revocations (IsFileAtHand signer files) (files_entries signer files) result
@@ -312,9 +312,9 @@ list_written view name given authority moment base files version signer result i
 list_written view name given authority moment base files version signer result is signed (inr (stop, (stopped, stops))) =
     rw stopped (inl (files_stop name given authority moment base files version signer stop is signed stops))
 
--- ---- what is held of it
+-- ---- the revocations in it
 
--- what the list is made of has what the old list held
+-- the old revocations of the new list are those of the old list
 old_of : (version : Result ℕ RunFault) (signer : Result (Option (List ℕ)) RunFault) (entries : Option (List ℕ) → Result (List Entry) RunFault) (header : ℕ → Header) (old : Revocations) (made : Made)
     → (version >>= (λ v. signer >>= (λ s. entries s >>= (λ e. Ok (made_of (header v) old e))))) ≡ Ok made → made.old ≡ old
 old_of (Err fault) signer entries header old made is = absurd (cc)

@@ -19,7 +19,7 @@ use Rattle.key_files.specs.declared.cause.Cause.TheVariants as causes
 abbrev pub HaveNoKey : List (List ℕ) → Type 0
 HaveNoKey lines = All (λ line. has_key line ≡ false) lines
 
--- A line of a text has a key, those before it have none, and its number counts from 1.
+-- A line of a text has a key, the lines before it have none, and the number counts from 1.
 pub record IsFirstKeyLine (text : List ℕ) (number : ℕ) (line : List ℕ) : Type 0 where
   pub before : List (List ℕ)
   pub after : List (List ℕ)
@@ -36,13 +36,13 @@ pub data IsFirstKey (text blob : List ℕ) : Type 0 where
       → IsFirstKeyLine text number line → IsSubjectLine line asked → blob ≡ asked.plain
       → IsFirstKey text blob
 
--- the stop of a run by a line that gives no key
+-- the stop of a run at a line that gives no key
 abbrev pub key_run_fault : List ℕ → ℕ → KeyCause → RunFault
 key_run_fault name number (keys.Line fault) = run_fault_at name number (causes.Line fault)
 key_run_fault name number (keys.Subject fault) = run_fault_at name number (causes.Subject fault)
 
--- Why a file of this name has no first key: the fault of a container, which has no line, no line
--- with a key, or the fault of the first line that has one.
+-- Why a file of this name has no first key: the fault of a container, reported without a line; no
+-- line with a key; or the fault of the first line that has one.
 pub data IsFirstKeyFault (name text : List ℕ) (stop : RunFault) : Type 0 where
   in_container : (fault : PrivateFault) → begins_container text ≡ true → IsPrivateFault text fault
       → stop ≡ run_fault_of name (causes.Private fault) → IsFirstKeyFault name text stop

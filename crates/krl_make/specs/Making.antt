@@ -1,4 +1,4 @@
--- A list that is made or updated (ssh-keygen(1), options -k and -u).
+-- Making or updating a list (ssh-keygen(1), options -k and -u).
 use Rattle.std.specs.Prelude.{◌≡◌, ◌↔◌, ℕ, ◌+◌, ◌-◌, ◌*◌, ◌^◌, ◌<◌, ◌≤◌, ◌==◌, ◌⊎◌, Bool}
 use Rattle.std.specs.Prelude.{if◌then◌else◌, List, [], ◌∷◌, ◌++◌, length, Option, Some, None}
 use Rattle.std.specs.Prelude.{Result, Ok, Err}
@@ -40,7 +40,7 @@ list_run_fault name fault = run_fault_of name (krl_cause fault)
 abbrev pub file_run_fault : List ℕ → FileFault → RunFault
 file_run_fault name fault = run_fault_of name (causes.File fault)
 
--- a fault of a line; memory runs out for the run itself, and at no line
+-- a fault of a line; a failed allocation is a fault of the run itself, without a line
 abbrev pub cause_run_fault : List ℕ → ℕ → SpecCause → RunFault
 cause_run_fault name number specs.NoMemory = run_fault_of name causes.NoMemory
 cause_run_fault name number cause = run_fault_at name number (causes.Spec cause)
@@ -56,7 +56,7 @@ key_blob key = do
   asked ← in_fault (run_fault_in key) (subject_of key.line.blob)
   Ok asked.plain
 
--- the first of the keys of a file of this name
+-- the first key of a file with this name
 abbrev pub first_blob : List ℕ → List (Result FileKey RunFault) → Result (List ℕ) RunFault
 first_blob name [] = Err (file_run_fault name files.NoKeys)
 first_blob name (next ∷ later) = do
@@ -73,8 +73,8 @@ file_key file = do
   text ← in_fault (file_run_fault file.name) file.content
   first_key_of file.name text
 
--- Where one is given, all authorities have no bytes, and a file names the authority by its first
--- key.
+-- The authority, if one is given: empty bytes for all authorities, otherwise the first key of a
+-- file.
 abbrev pub named_blob : Authority Named → Result (Option (List ℕ)) RunFault
 named_blob NotGiven = Ok None
 named_blob All = Ok (Some [])
@@ -92,7 +92,7 @@ abbrev pub text_entries : Option (List ℕ) → List ℕ → List ℕ → Result
 text_entries authority name text =
     unless_fault name (lines_of authority text).entries (lines_of authority text).fault
 
--- what the lines of a file name, or where it stops the run
+-- the entries of a file's lines, or the fault that stops the run
 unfoldable pub file_entries : Option (List ℕ) → Named → Result (List Entry) RunFault
 file_entries authority file = do
   text ← in_fault (file_run_fault file.name) file.content
@@ -105,7 +105,7 @@ then_entries first second = do
   later ← second
   Ok (entries ++ later)
 
--- what the lines of all files name, or the first fault
+-- the entries of the lines of all files, or the first fault
 abbrev pub files_entries : Option (List ℕ) → List Named → Result (List Entry) RunFault
 files_entries authority [] = Ok []
 files_entries authority (file ∷ files) =
@@ -113,23 +113,23 @@ files_entries authority (file ∷ files) =
 
 -- ---- the run
 
--- The version that is given, else one more than the old one, which is not there where that is the
--- greatest, else 0.
+-- The version that is given, otherwise one more than the old one, otherwise 0. There is none if the
+-- old one is the largest.
 abbrev pub version_of : Option ℕ → Option ℕ → Option ℕ
 version_of (Some given) old = Some given
 version_of None None = Some 0
 version_of None (Some old) = if old == 2 ^ 64 - 1 then None else Some (old + 1)
 
--- What entries of lines name is held too, with at most an interval of serials more for each.
+-- The entries of lines were added, with at most one more interval of serials for each.
 pub record HoldsMore (old new : Revocations) (entries : List Entry) : Type 0 where
   pub means : MeansMore old new entries
   pub held_is : held new ≤ held old + length entries
 
--- how many intervals the bytes of an old list and the lines that gave an entry pay for
+-- the maximum number of intervals for the bytes of an old list and the lines that gave an entry
 abbrev pub paid : (bytes lines : ℕ) → ℕ
 paid bytes lines = 4 * bytes + lines
 
--- what a list is made of: its header, what the old list holds, and what the lines name
+-- the parts of a list: its header, the revocations of the old list, and the entries of the lines
 pub record Made : Type 0 where
   pub header : Header
   pub old : Revocations
@@ -147,8 +147,8 @@ header_of version moment base =
 abbrev pub HasNumbers : Header → Type 0
 HasNumbers header = (header.version < 2 ^ 64) × (header.date < 2 ^ 64)
 
--- What a list of this name is made of after an old one: that its version is the greatest, then the
--- fault of the authority's file, then those of the files and lines in order stop the run.
+-- The parts of a list with this name, given the old list. The run is stopped by the first of these
+-- faults: the largest version, that of the authority's file, those of the files and lines in order.
 abbrev pub after_old : List ℕ → Authority Named → Option ℕ → ℕ → List Named → Base
     → Result Made RunFault
 after_old name authority given moment files base = do
@@ -157,22 +157,22 @@ after_old name authority given moment files base = do
   entries ← files_entries signer files
   Ok (made_of (header_of version moment base) base.revocations entries)
 
--- The same by what reading the old list gave, whose fault is the first.
+-- The same, given the result of reading the old list, whose fault is the first.
 unfoldable pub make_run_of : List ℕ → Result Base KrlFault → Authority Named → Option ℕ
     → List Named → ℕ → Result Made RunFault
 make_run_of name reading authority version files moment = do
   base ← in_fault (list_run_fault name) reading
   after_old name authority version moment files base
 
--- ---- what the run gives
+-- ---- the result of the run
 
--- The authority's file is at hand, where one is given.
+-- The authority's file is current, if one is given.
 abbrev pub IsAuthorityAtHand : Authority Named → List ℕ → Type 0
 IsAuthorityAtHand NotGiven at = ⊥
 IsAuthorityAtHand All at = ⊥
 IsAuthorityAtHand (FileOf file) at = file.name ≡ at
 
--- A file is at hand whose lines are read: the files before it have no fault.
+-- A file is current whose lines are read: the files before it have no fault.
 pub record IsFileAtHand (authority : Option (List ℕ)) (files : List Named) (at : List ℕ)
     : Type 0 where
   pub front : List Named
@@ -183,8 +183,8 @@ pub record IsFileAtHand (authority : Option (List ℕ)) (files : List Named) (at
   pub faultless : files_entries authority front ≡ Ok entries
   pub named : file.name ≡ at
 
--- What a run that makes a list has at hand, by its name: the list while the old one is read, then
--- the authority's file, then the files in order, and the list again while it is written.
+-- The name that is current in a run that makes a list: the list while the old one is read, then the
+-- authority's file, then the files in order, and the list again while it is written.
 pub data IsAtHand (name : List ℕ) (reading : Result Base KrlFault) (authority : Authority Named)
     (given : Option ℕ) (files : List Named) (read : Result Made RunFault) (at : List ℕ)
     : Type 0 where
@@ -199,7 +199,8 @@ pub data IsAtHand (name : List ℕ) (reading : Result Base KrlFault) (authority 
   new_list : (made : Made) → read ≡ Ok made → name ≡ at
       → IsAtHand name reading authority given files read at
 
--- What stopped a run is what reading gives, or memory ran out, and what was at hand is named.
+-- The fault that stopped a run is the one that reading gives, or an allocation failed, and the
+-- fault has the current name.
 abbrev pub IsRunFault : {X : Type 0} → EndedBy → (List ℕ → Type 0) → Result X RunFault → RunFault
     → Type 0
 IsRunFault ByInput AtHand read stop = read ≡ Err stop
@@ -207,32 +208,32 @@ IsRunFault ByMemory AtHand read stop =
     (at : List ℕ) × (AtHand at × (stop ≡ run_fault_of at causes.NoMemory))
 IsRunFault (ByOutput count) AtHand read stop = ⊥
 
--- A function returned what reading gives, seen by a view, or memory ran out.
+-- A function returned what reading gives, seen by a view, or an allocation failed.
 abbrev pub Returns : {X Y : Type 0} → (X → Y) → (List ℕ → Type 0) → Result Y RunFault
     → Result X RunFault
     → Type 0
 Returns view AtHand read (Ok x) = read ≡ Ok (view x)
 Returns view AtHand read (Err stop) = IsRunFault (ended_by stop.cause) AtHand read stop
 
--- what was read of files was added
+-- the entries that were read from files were added
 abbrev pub Added : Result (List Entry) RunFault → Revocations → Revocations → Type 0
 Added read old new = (entries : List Entry) × ((read ≡ Ok entries) × HoldsMore old new entries)
 
--- What the files name was added, or the run stopped.
+-- The entries of the files were added, or the run stopped.
 abbrev pub AddsFiles : {A : Type 0} → (List ℕ → Type 0) → Result (List Entry) RunFault
     → Result A RunFault
     → Revocations → Revocations → Type 0
 AddsFiles AtHand read (Ok done) old new = Added read old new
 AddsFiles AtHand read (Err stop) old new = IsRunFault (ended_by stop.cause) AtHand read stop
 
--- The text is a list that names just what some entries name.
+-- The text is a list that revokes exactly what the entries revoke.
 pub record NamesSame (header : Header) (text : List ℕ) (entries : List Entry) : Type 0 where
   pub sections : List SpelledSection
   pub spelled : Spells text header sections
   pub same : (asked : Subject) → Revoked (entries_of sections) asked ↔ Revoked entries asked
 
--- The text is the list that is written of what the old list holds and the lines name. It revokes
--- just what any entries that the old list means and those of the lines revoke.
+-- The text is the list that is written from the old revocations and the lines. It revokes exactly
+-- what any entries with the meaning of the old list and those of the lines revoke.
 pub record IsMade (made : Made) (text : List ℕ) : Type 0 where
   pub contents : Revocations
   pub adds : HoldsMore made.old contents made.entries
@@ -241,7 +242,7 @@ pub record IsMade (made : Made) (text : List ℕ) : Type 0 where
   pub names : (olds : List Entry) → Means made.old olds
       → NamesSame made.header text (olds ++ made.entries)
 
--- The list that would be written is longer than one that can be read.
+-- The list that would be written is longer than a list that can be read.
 pub record IsTooLong (made : Made) : Type 0 where
   pub contents : Revocations
   pub adds : HoldsMore made.old contents made.entries
@@ -255,7 +256,7 @@ pub record StopsAtText (name : List ℕ) (read : Result Made RunFault) (stop : R
   pub long : IsTooLong made
   pub stop_is : stop ≡ run_fault_of name causes.TextTooLong
 
--- The run gives the list, or what stopped it.
+-- The run returns the list, or the fault that stopped it.
 abbrev pub Makes : {X : Type 0} → (X → List ℕ) → List ℕ → Result Base KrlFault → Authority Named
     → Option ℕ → List Named → Result Made RunFault → Result X RunFault → Type 0
 Makes view name reading authority given files read (Ok text) =
@@ -264,8 +265,8 @@ Makes view name reading authority given files read (Err stop) =
     IsRunFault (ended_by stop.cause) (IsAtHand name reading authority given files read) read stop
     ⊎ StopsAtText name read stop
 
--- The text is that of the header and of what is held, and names just what that means. Else it is
--- too long, or memory ran out.
+-- The text is that of the header and the revocations, and names exactly what these mean. Otherwise
+-- it is too long, or an allocation failed.
 abbrev pub WritesList : {X : Type 0} → (X → List ℕ) → List ℕ → Header → Revocations
     → Result X RunFault
     → Type 0
@@ -277,14 +278,14 @@ WritesList view name header contents (Err stop) =
     ⊎ ((stop ≡ run_fault_of name causes.TextTooLong)
     × ((text : List ℕ) → IsKrlText header contents text → limit < length text))
 
--- The list is made. Else its text is too long, or memory ran out.
+-- The list is made. Otherwise its text is too long, or an allocation failed.
 abbrev pub WritesMade : {X : Type 0} → (X → List ℕ) → List ℕ → Made → Result X RunFault → Type 0
 WritesMade view name made (Ok text) = IsMade made (view text)
 WritesMade view name made (Err stop) =
     (stop ≡ run_fault_of name causes.NoMemory)
     ⊎ ((stop ≡ run_fault_of name causes.TextTooLong) × IsTooLong made)
 
--- The list is made of what was held and of what is read of the files, or these stop the run.
+-- The list is made from the old revocations and those of the files, or the files stop the run.
 abbrev pub WritesMore : {X : Type 0} → (X → List ℕ) → List ℕ → Header → Revocations
     → (List ℕ → Type 0) → Result (List Entry) RunFault → Result X RunFault → Type 0
 WritesMore view name header old AtHand read result =
@@ -295,16 +296,16 @@ WritesMore view name header old AtHand read result =
 
 -- ---- the old list
 
--- nothing is there before the run
+-- the base of a new list
 abbrev pub new_base : Base
 new_base = record { version = None; comment = []; revocations = nothing }
 
--- what is held of a list
+-- the base that a list gives
 abbrev pub base_of : Header → Revocations → Base
 base_of header contents =
     record { version = Some header.version; comment = header.comment; revocations = contents }
 
--- The text is a list without a fault, and this is held of it.
+-- The text is a list without a fault, and this is its base.
 pub record IsOldList (text : List ℕ) (base : Base) : Type 0 where
   pub header : Header
   pub list : IsList text header base.revocations
@@ -312,7 +313,7 @@ pub record IsOldList (text : List ℕ) (base : Base) : Type 0 where
   pub version_is : base.version ≡ Some header.version
   pub comment_is : base.comment ≡ header.comment
 
--- This is what reading the old list gave, where there is one, by its reader before and after it.
+-- The result of reading the old list, if there is one, given its reader before and after it.
 abbrev pub IsBaseRead : {R : Type 0} → (R → Option (List ℕ)) → (R → Bool) → Option R
     → Result Base KrlFault → Option R → Type 0
 IsBaseRead left has_failed None reading back =

@@ -8,7 +8,7 @@ use ssh_key::plain_blob;
 use ssh_wire::Bytes;
 use std::alloc::Global;
 
-/// What `-s` gives: the file is at hand whose first key is that of the authority.
+/// The value of `-s`, with the file whose first key is that of the authority.
 pub type Authority<'a> = krl_job::Authority<Named<'a>>;
 
 /// The blob of the first key of a file. Only that key is read.
@@ -23,7 +23,7 @@ pub fn first_key<'a>(alloc: Global, file: &'a Named<'a>) -> Result<Bytes, RunFau
     }
 }
 
-// The blob of a key, or of the plain key of a certificate.
+// The blob of a plain key, or of the plain key of a certificate.
 fn key_blob<'a>(alloc: Global, key: &FileKey<'a>) -> Result<Bytes, RunFault<'a>>
     ensures read { Returns (λ blob. blob) (λ at. key.now.name ≡ at) (key_blob key.now) result }
     ensures some { IfOk result (λ blob. 0 < length blob) }

@@ -1,4 +1,4 @@
-//! What a list is made of before the lines.
+//! The content of the old list, before the lines are added.
 
 ghost use Rattle.std.specs.Prelude.{◌≡◌, ◌<◌, ◌^◌, [], Err, IfSome, MatchResult, Ok, Result, false};
 ghost use Rattle.std.specs.Option.{ForSome};
@@ -16,18 +16,18 @@ use span_sets::Held;
 use ssh_wire::Bytes;
 use std::alloc::Global;
 
-/// What an old list holds, or nothing where there is none.
+/// The content of an old list. It is empty if there is none.
 #[derive(Drop)]
 pub struct Base {
-    /// The version of the old list.
+    /// The version of the old list, if there is one.
     pub version: Option<u64>,
-    /// The comment of the old list, or none.
+    /// The comment of the old list. It is empty if there is none.
     pub comment: Bytes,
-    /// What the old list revokes, or nothing.
+    /// The revocations of the old list, if there is one.
     pub revocations: Revocations<Held>,
 }
 
-/// Reads the old list, where there is one, and gives its reader back.
+/// Reads the old list, if there is one, and returns its reader.
 pub fn read_base<'a, R: Source + Drop>(
     alloc: Global,
     name: &'a str,
@@ -50,7 +50,7 @@ pub fn read_base<'a, R: Source + Drop>(
     }
 }
 
-// What is there before a list that is new.
+// The base of a new list.
 fn new_base(alloc: Global) -> Base
     ensures base { result ≡ new_base }
     ensures nothing { Means nothing [] }
@@ -62,7 +62,7 @@ fn new_base(alloc: Global) -> Base
     }
 }
 
-// What a list holds that was read.
+// The base that a list gives.
 fn base_of(header: Header, revocations: Revocations<Held>) -> Base
     ensures { result ≡ base_of header revocations }
 {
@@ -73,8 +73,8 @@ fn base_of(header: Header, revocations: Revocations<Held>) -> Base
     }
 }
 
-/// The version of the list that is made: the one that is given, else one more than the old one,
-/// else 0. None where the old one is 2^64-1.
+/// The version of the list that is made: the given one, otherwise one more than the old one,
+/// otherwise 0. None if the old one is 2^64-1.
 pub fn next_version(given: Option<u64>, old: Option<u64>) -> Option<u64>
     ensures value { result ≡ version_of given old }
     ensures fits { IfSome result (λ version. version < 2 ^ 64) }

@@ -1,4 +1,4 @@
-//! What specification files add to a list.
+//! Adding specification files to a list.
 
 ghost use Rattle.std.specs.Prelude.{◌≡◌, Ok};
 ghost use Rattle.krl_make.specs.Making.{AddsFiles, IsFileAtHand, cause_run_fault, file_entries, files_entries, text_entries};
@@ -10,7 +10,7 @@ use krl_spec::{SpecCause, SpecFault, Under, read_spec};
 use serial_set::Spans;
 use std::alloc::Global;
 
-/// Adds what the lines of each file name, up to the first fault.
+/// Adds the entries of the lines of each file, up to the first fault.
 pub fn add_files<'a, S: Spans>(
     alloc: Global,
     revocations: &mut Revocations<S>,
@@ -28,7 +28,7 @@ pub fn add_files<'a, S: Spans>(
     Ok(())
 }
 
-// Adds what the lines of a file name.
+// Adds the entries of a file's lines.
 #[tactic(auto, unfolding(crate::specs::Making::file_entries))]
 fn add_file<'a, S: Spans>(
     alloc: Global,
@@ -47,7 +47,7 @@ fn add_file<'a, S: Spans>(
     }
 }
 
-// Adds what the lines of a file's text name.
+// Adds the entries of the lines of a file's text.
 fn add_text<'a, S: Spans>(
     alloc: Global,
     revocations: &mut Revocations<S>,
@@ -66,7 +66,7 @@ fn add_text<'a, S: Spans>(
     }
 }
 
-// Where memory runs out, it is for the run itself, and no line is named.
+// A failed allocation is a fault of the run itself, so no line is reported.
 fn cause_run_fault<'a>(name: &'a str, fault: SpecFault) -> RunFault<'a>
     ensures { result ≡ cause_run_fault name.now fault.line fault.cause }
 {

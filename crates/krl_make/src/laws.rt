@@ -1,5 +1,5 @@
-//! What holds for every file that names an authority, and for every list that is made. Each function
-//! does nothing: its contract is the law.
+//! Laws about every file that names an authority, and every list that is made. Each function does
+//! nothing: its contract is the law.
 
 ghost use Rattle.std.specs.Prelude.{◌≡◌, ◌≤◌, ◌↔◌, ℕ, List, Err, Ok, Option, length};
 ghost use Rattle.krl_held.specs.Revocations.{Revocations, held};
@@ -16,8 +16,8 @@ use key_text::laws::{private_read_where_spelled, private_refused_by_first_fault}
 use krl_spec::laws::key_where_spelled;
 use ssh_key::laws::blob_read_back;
 
-/// A key is read of a file exactly where it is the file's first, and the file stops the run exactly
-/// by its first fault.
+/// Reading a file gives a key exactly if it is the file's first key, and a fault exactly if it is
+/// the file's first fault.
 pub fn first_key_where_spelled()
     ensures read { (name text blob : List ℕ) → IsBytes text
         → (first_key_of name text ≡ Ok blob) ↔ IsFirstKey text blob }
@@ -30,8 +30,8 @@ pub fn first_key_where_spelled()
     blob_read_back();
 }
 
-/// While a list is made, at most four intervals of serial numbers are held for each byte of the old
-/// list, and one for each line that gave an entry.
+/// While a list is made, at most four intervals of serial numbers are stored for each byte of the
+/// old list, and one for each line that gave an entry.
 pub fn held_is_paid()
     ensures { (name text : List ℕ) (base : Base) (authority : Authority Named)
         (version : Option ℕ) (files : List Named) (moment : ℕ) (made : Made)

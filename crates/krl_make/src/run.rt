@@ -1,4 +1,4 @@
-//! Making a list of an old one and of specification files.
+//! Making a list from an old one and from specification files.
 
 ghost use Rattle.std.specs.Prelude.{◌≡◌, Ok, Result, false};
 ghost use Rattle.std.specs.Option.{ForSome};
@@ -18,22 +18,22 @@ use krl_writer::{TextFault, krl_text};
 use span_sets::Held;
 use std::alloc::Global;
 
-/// The list that is made: its name, and where it is updated the reader of the old one.
+/// The list that is made: its name, and the reader of the old one if that is updated.
 #[derive(Drop)]
 pub struct Old<'a, R: Source + Drop> {
     /// The name of the list.
     pub name: &'a str,
-    /// The reader of the old list, where it is updated.
+    /// The reader of the old list, if it is updated.
     pub list: Option<R>,
 }
 
-/// The bytes of a list that holds what the old one held and what the lines of the files name. Its
-/// version is the one that is given, else one more than that of the old list, else 0; its date is
-/// the moment in seconds since 1970, and its comment that of the old list. The old list's reader is
-/// given back.
+/// The bytes of a list that revokes what the old one revoked and what the lines of the files name.
+/// Its version is the given one, otherwise one more than that of the old list, otherwise 0; its
+/// date is the moment in seconds since 1970, and its comment that of the old list. The old list's
+/// reader is returned.
 ///
-/// The first fault stops the run: that of the old list, that its version is the greatest, that of
-/// the authority's file, those of the files and lines in order, that the list would be too long to
+/// The first fault stops the run: that of the old list; that its version is the largest; that of
+/// the authority's file; those of the files and lines in order; that the list would be too long to
 /// be read.
 pub fn make_run<'a, R: Source + Drop>(
     alloc: Global,
@@ -66,7 +66,7 @@ pub fn make_run<'a, R: Source + Drop>(
     (made, reader)
 }
 
-// The list that is wanted, beside what the old one held.
+// The list that is wanted, apart from the content of the old one.
 #[derive(Drop)]
 struct Wanted<'a> {
     name: &'a str,
@@ -77,7 +77,7 @@ struct Wanted<'a> {
 }
 
 impl<'a> Wanted<'a> {
-    // The bytes of a list that holds what was held before and what the lines of the files name.
+    // The bytes of a list with the old revocations and those that the lines of the files name.
     fn make_over(&self, alloc: Global, base: Base) -> Result<Vec<u8>, RunFault<'a>>
         ensures { Makes (λ made. made.items) self.now.name.now (Ok base) self.now.authority.now
             self.now.version self.now.files.now
@@ -103,7 +103,7 @@ impl<'a> Wanted<'a> {
         }
     }
 
-    // Adds what the lines of the files name to what is held, and writes the list.
+    // Adds the entries of the files' lines to the revocations, and writes the list.
     fn add_and_write(
         &self,
         alloc: Global,

@@ -1,4 +1,4 @@
--- The first key is given or not, or there is none.
+-- There is a first key, which is returned or faulty, or there is none.
 use Rattle.std.proofs.Common.{ap, sym, ◌∙◌}
 use Rattle.std.proofs.lemmas.Result.{err_from_is_err_and}
 use Rattle.key_files.specs.Keys.{Named}

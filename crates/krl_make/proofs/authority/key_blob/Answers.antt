@@ -1,4 +1,4 @@
--- The plain key has some bytes.
+-- The plain key is not empty.
 use Rattle.krl_make.proofs.MadeLists.{plain_has_bytes}
 use Rattle.krl_make.proofs.authority.key_blob.Goals as goal
 

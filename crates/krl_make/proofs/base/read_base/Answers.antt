@@ -1,4 +1,4 @@
--- The old list is read, or refused.
+-- The old list is read, or its fault reported.
 use Rattle.std.proofs.Common.{Ok, Err, refl, ap, ◌∙◌}
 use Rattle.key_files.specs.RunFault.{run_fault_of}
 use Rattle.krl_make.proofs.MadeLists.{old_read}

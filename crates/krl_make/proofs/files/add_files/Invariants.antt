@@ -1,4 +1,4 @@
--- What the files so far name is added.
+-- The entries of the files so far were added.
 use Rattle.std.proofs.Common.{Ok, take}
 use Rattle.krl_make.specs.Making.{AddsFiles, IsFileAtHand, files_entries}
 use Rattle.krl_spec.specs.Under.{authority_under}

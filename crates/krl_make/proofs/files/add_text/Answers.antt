@@ -1,4 +1,4 @@
--- What the lines name is added, or they stop the run.
+-- The entries of the lines are added, or a line stops the run.
 use Rattle.krl_make.proofs.MadeLists.{text_added, text_stops}
 use Rattle.krl_make.proofs.files.add_text.Goals as goal
 

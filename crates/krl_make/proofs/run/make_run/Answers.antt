@@ -1,4 +1,4 @@
--- The old list is read, and the run goes on or stops there.
+-- The old list is read, and the run continues or stops there.
 use Rattle.std.proofs.Common.{inl}
 use Rattle.krl_make.specs.Making.{make_run_of}
 use Rattle.krl_make.proofs.MadeLists.{base_refused}

@@ -1,4 +1,4 @@
--- What is written names what is held.
+-- The text that is written names the stored revocations.
 use Rattle.krl_make.proofs.MadeLists.{names_same}
 use Rattle.krl_make.proofs.run.write_list.Goals as goal
 
