@@ -1,4 +1,4 @@
--- What taking all that is left loads.
+-- Loading a file by taking all that is left.
 use Rattle.std.proofs.Common.{◌≡◌, ℕ, Bool, false, List, [], ◌∷◌, ◌++◌, length, Option, None, Some, Ok, Err, refl, subst, IsSome, arith, length-append, rules}
 use Rattle.std.specs.Io.KnownBytes.{Consumes, prepend_known}
 use Rattle.std.proofs.KnownBytes.{Consumes-trans}
@@ -8,7 +8,7 @@ use Rattle.byte_streams.specs.Pull.{Pull, TakesRest, RefusesRest, after_ahead, u
 use Rattle.byte_streams.proofs.Pulling.{Consumes-ahead}
 use Rattle.key_files.specs.Named.{file_limit, IsLoaded, file_fault}
 
--- no byte stands ahead
+-- no byte is ahead
 none_ahead : (before source : Option (List ℕ)) (ahead : Option ℕ) (came : List ℕ) → ahead ≡ None → Consumes before (after_ahead ahead source) came → Consumes before source came
 none_ahead before source ahead came none bytes = subst (λ (a : Option ℕ). Consumes before (after_ahead a source) came) none bytes
 
@@ -20,7 +20,7 @@ loads_all before buffered bytes new takes = record {
   made = (refl, omega (arith, takes.takes.within), takes.ends, takes.takes.working);
 }
 
--- the byte ahead stands past the limit
+-- the byte ahead is past the limit
 passes_limit : (before source : Option (List ℕ)) (ahead : Option ℕ) (came : List ℕ) (failed : Bool) → Consumes before (after_ahead ahead source) came → IsSome ahead → length came ≡ file_limit → failed ≡ false → IsLoaded before source failed (Err (file_fault TooLong))
 passes_limit before source None came failed bytes some full working = search (rules, some)
 passes_limit before source (Some byte) came failed bytes some full working = record {
@@ -29,7 +29,7 @@ passes_limit before source (Some byte) came failed bytes some full working = rec
   made = (omega (arith, full, length-append came (byte ∷ [])), working);
 }
 
--- not all that was left came
+-- not everything that was left came
 pub loads_none : (before : Option (List ℕ)) (buffered : List ℕ) (fault : PullFault) (new : Pull) → RefusesRest (untaken before buffered file_limit) fault new → IsLoaded before new.source new.failed (Err (file_fault fault))
 loads_none before buffered EndsEarly new refuses = absurd refuses.misses.reports
 loads_none before buffered TooLong new refuses =

@@ -1,4 +1,4 @@
--- What is left of the keys of a file while it is read.
+-- The keys of a file that are left while it is read.
 use Rattle.std.specs.Prelude.{◌≡◌, ℕ, ◌+◌, ◌^◌, ◌<◌, List, [], ◌∷◌, length, Option, Some, None}
 use Rattle.std.specs.Prelude.{Result, Err}
 use Rattle.std.specs.Borrow.{Bor}
@@ -14,7 +14,7 @@ use Rattle.key_files.specs.declared.cause.Cause.TheVariants.{File}
 use Rattle.key_files.specs.Keys.{FileKey, key_of_container, held_by, keys_from, key_of_line}
 use Rattle.key_files.specs.RunFault.{RunFault, run_fault_of}
 
--- what the line or the container of a key holds
+-- the content of the line or the container of a key
 abbrev pub content_in : KeyText → Content
 content_in (Line line) = content_of line
 content_in (Container private) = held_by (record { blob = private.blob; comment = private.comment })
@@ -27,7 +27,7 @@ keys_left name (lefts.Fault fault) = Err (run_fault_of name (File fault)) ∷ []
 keys_left name (lefts.Container text) = key_of_container name (private_at text.now) ∷ []
 keys_left name (lefts.Lines lines) = lines_keys name lines
 
--- how many lines may be left, at most
+-- the maximum number of lines left
 abbrev pub line_room : Option (Bor (List ℕ)) → ℕ
 line_room None = 0
 line_room (Some text) = length text.now + 1
@@ -37,7 +37,7 @@ abbrev pub HasRoom : Left → Type 0
 HasRoom (lefts.Lines lines) = lines.passed + line_room lines.rest < 2 ^ 64
 HasRoom other = Unit {0}
 
--- This is the next line that has a key, or none has one.
+-- The result is the next line that has a key, or no line has one.
 abbrev pub IsNextLine : Lines → Lines → Option (Bor (List ℕ)) → Type 0
 IsNextLine old new None =
     (name : List ℕ) → (lines_keys name old ≡ []) × (lines_keys name new ≡ [])

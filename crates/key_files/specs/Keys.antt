@@ -25,8 +25,8 @@ pub record Named : Type 0 where
 abbrev pub run_fault_at : List ℕ → ℕ → Cause → RunFault
 run_fault_at name number cause = record { name = name; line = Some number; cause = cause }
 
--- A key that a file has: the file's name, the number of the line (a container has none), and what
--- the line or the container holds.
+-- A key in a file: the file's name, the number of the line (a container has none), and the content
+-- of the line or the container.
 pub record FileKey : Type 0 where
   pub name : List ℕ
   pub number : Option ℕ
@@ -35,7 +35,7 @@ pub record FileKey : Type 0 where
 abbrev pub file_key_of : List ℕ → Option ℕ → Content → FileKey
 file_key_of name number line = record { name = name; number = number; line = line }
 
--- what a container holds, as a line would: there is no type word
+-- the content of a container, like that of a line without a type word
 abbrev pub held_by : Opened → Content
 held_by opened = content [] opened.blob opened.comment
 
@@ -48,7 +48,7 @@ abbrev pub key_of_container : List ℕ → Result Opened PrivateFault → Result
 key_of_container name (Err fault) = Err (run_fault_of name (causes.Private fault))
 key_of_container name (Ok opened) = Ok (file_key_of name None (held_by opened))
 
--- the key of a line by its number, where the line has one
+-- the key of a line with its number, if the line has one
 unfoldable pub key_in : List ℕ → ℕ → List ℕ → Option (Result FileKey RunFault)
 key_in name number line =
     if has_key line then Some (key_of_line name number (line_at line)) else None
@@ -69,7 +69,7 @@ abbrev pub content_keys : List ℕ → Result (List ℕ) FileFault → List (Res
 content_keys name (Err fault) = Err (run_fault_of name (causes.File fault)) ∷ []
 content_keys name (Ok text) = text_keys name text
 
--- The keys of a file in order. What is after a fault does not count.
+-- The keys of a file in order. Whatever follows a fault is ignored.
 unfoldable pub keys_of : Named → List (Result FileKey RunFault)
 keys_of file = content_keys file.name file.content
 
@@ -78,7 +78,7 @@ abbrev pub file_name : Result FileKey RunFault → List ℕ
 file_name (Ok key) = key.name
 file_name (Err stop) = stop.name
 
--- The next key was not given: a fault stops the file there, or memory ran out.
+-- The next key was not returned: a fault stops the file there, or an allocation failed.
 abbrev pub IsRefused : EndedBy → Result FileKey RunFault → RunFault → Type 0
 IsRefused ByInput next stop = next ≡ Err stop
 IsRefused ByMemory next stop = stop ≡ run_fault_of (file_name next) causes.NoMemory
@@ -88,7 +88,7 @@ abbrev pub GivesKey : Result FileKey RunFault → Result FileKey RunFault → Ty
 GivesKey next (Ok key) = next ≡ Ok key
 GivesKey next (Err stop) = IsRefused (ended_by stop.cause) next stop
 
--- Of the keys that were left the next one was given or refused, or none was left.
+-- The next of the keys left was returned or is faulty, or no key was left.
 abbrev pub GivesNext : List (Result FileKey RunFault) → Option (Result FileKey RunFault)
     → List (Result FileKey RunFault) → Type 0
 GivesNext left None later = (left ≡ []) × (later ≡ [])

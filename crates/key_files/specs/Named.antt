@@ -1,4 +1,4 @@
--- What loading a file gives.
+-- The result of loading a file.
 use Rattle.std.specs.Prelude.{◌≡◌, ℕ, ◌≤◌, ◌<◌, Bool, true, false, List, length, Option, Result, Ok}
 use Rattle.std.specs.Prelude.{Err}
 use Rattle.std.specs.Io.KnownBytes.{Consumes, IsAtEnd}
@@ -9,19 +9,19 @@ use Rattle.key_files.specs.declared.file_fault.FileFault.TheVariants.{Open, Read
 use Rattle.key_files.specs.declared.file_fault.FileFault.TheVariants.{NoMemory, NoKeys}
 use Rattle.key_files.specs.declared.file_fault.FileFault.TheVariants.{NoCertificate, Locked}
 
--- how many bytes a file may have
+-- the maximum length of a file in bytes
 abbrev pub file_limit : ℕ
 file_limit = 16777216
 
--- what is reported of a file that could not be taken whole
+-- the reported fault of a file that could not be read to its end
 abbrev pub file_fault : PullFault → FileFault
 file_fault pulls.EndsEarly = Read
 file_fault pulls.TooLong = TooLong
 file_fault pulls.Read = Read
 file_fault pulls.NoMemory = NoMemory
 
--- What was made of the bytes taken, of the bytes left after them and of whether the reader failed.
--- Memory does not run out before a byte was read.
+-- The content, given the bytes taken, the bytes left after them and whether the reader failed. An
+-- allocation fails only after a byte was read.
 abbrev pub IsContent : List ℕ → Option (List ℕ) → Bool → Result (List ℕ) FileFault → Type 0
 IsContent taken left failed (Ok bytes) =
     (bytes ≡ taken) × (length taken ≤ file_limit) × IsAtEnd left × (failed ≡ false)
@@ -34,7 +34,8 @@ IsContent taken left failed (Err NoKeys) = ⊥
 IsContent taken left failed (Err NoCertificate) = ⊥
 IsContent taken left failed (Err Locked) = ⊥
 
--- A reader had these bytes left, then those, and failed or not; this was made of the bytes between.
+-- A reader had these bytes left, then those, and failed or not; the content is that of the bytes
+-- between.
 pub record IsLoaded (before after : Option (List ℕ)) (failed : Bool)
     (content : Result (List ℕ) FileFault) : Type 0 where
   pub taken : List ℕ

@@ -1,4 +1,4 @@
-//! Why a file is refused as a whole.
+//! Why a file cannot be used as a whole.
 
 ghost use Rattle.std.specs.Prelude.{◌≡◌, Some};
 ghost use Rattle.key_files.specs.FileFault.{file_fault_number, file_fault_text};
@@ -15,13 +15,13 @@ pub enum FileFault {
     Read,
     /// It has more than 16,777,216 bytes.
     TooLong,
-    /// No memory is left to hold it.
+    /// The allocation for its bytes failed.
     NoMemory,
     /// It has no key.
     NoKeys,
     /// It has no certificate.
     NoCertificate,
-    /// Another update of the list did not end.
+    /// Another update of the list does not end.
     Locked,
 }
 

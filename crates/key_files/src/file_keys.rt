@@ -1,4 +1,4 @@
-//! The keys of a file, one after the other.
+//! The keys of a file, one after another.
 
 ghost use Rattle.std.specs.Prelude.{◌≡◌, ◌<◌, ◌+◌, ◌^◌, ℕ, Err, IfErr, IfOk, List};
 ghost use Rattle.ssh_cert.specs.AnyKey.{IsReadAs};
@@ -21,7 +21,7 @@ use ssh_cert::{AnyKey, read_any};
 use std::alloc::Global;
 use std::marker::Model;
 
-/// Where a key stands.
+/// Where a key is.
 #[derive(Drop)]
 pub enum KeyText<'a> {
     /// The key of a line.
@@ -64,7 +64,7 @@ impl<'a> FileKey<'a> {
         }
     }
 
-    /// What is after the key, or is said of it in its container. It may be empty.
+    /// The comment after the key, or in its container. It may be empty.
     pub fn comment(&self) -> &[u8]
         ensures { result.now ≡ self.now.line.comment }
     {
@@ -74,7 +74,7 @@ impl<'a> FileKey<'a> {
         }
     }
 
-    /// The plain key or the certificate whose bytes these are.
+    /// The plain key or the certificate of these bytes.
     pub fn read(&self) -> Result<AnyKey<'_>, RunFault<'a>>
         ensures found { IfOk result (λ any. IsReadAs self.now.line.blob any) }
         ensures fault { IfErr result (λ stop. (fault : FaultOf)
@@ -92,7 +92,7 @@ impl<'a> FileKey<'a> {
     }
 }
 
-/// Lines that are left of a text, and how many were passed.
+/// The lines left of a text, and how many were read.
 #[derive(Clone, Copy)]
 pub struct Lines<'a> {
     passed: u64,
@@ -100,7 +100,7 @@ pub struct Lines<'a> {
 }
 
 impl<'a> Lines<'a> {
-    // Passes over the lines up to the next one that has a key.
+    // Skips the lines up to the next one that has a key.
     fn next_with_key(&mut self) -> Option<&'a [u8]>
         requires { self.old.passed + line_room self.old.rest < 2 ^ 64 }
         ensures next { IsNextLine self.old self.new result }
@@ -118,7 +118,7 @@ impl<'a> Lines<'a> {
     }
 }
 
-/// What is left of a file.
+/// The part of a file that is left.
 #[derive(Clone, Copy)]
 pub enum Left<'a> {
     /// Why the file could not be used.
@@ -132,8 +132,8 @@ const NOTHING: Left = Left::Lines(Lines {
     rest: None,
 });
 
-/// The keys of a file in order: an iterator. A key of a line is a fault where the line cannot be
-/// read. A file that is a container has one key. A file that could not be used has a fault.
+/// The keys of a file in order: an iterator. A line that has a key but cannot be read gives a
+/// fault. A file that is a container has one key. A file that could not be used gives a fault.
 #[derive(Drop)]
 pub struct FileKeys<'a> {
     alloc: Global,

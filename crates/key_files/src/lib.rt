@@ -1,4 +1,4 @@
-//! The keys of files that are handed in, and why a run over them stops (ssh-keygen(1)).
+//! The keys of files that a caller passes, and why a run over them stops (ssh-keygen(1)).
 #![tactic(auto)]
 
 mod cause;

@@ -1,4 +1,4 @@
-//! Files by name, with what they hold.
+//! Files by name, with their content.
 
 ghost use Rattle.std.specs.Prelude.{◌≡◌, false};
 ghost use Rattle.key_files.specs.Named.{IsLoaded, file_fault};
@@ -9,13 +9,13 @@ use ssh_wire::{Bytes, PullFault};
 use std::alloc::Global;
 use std::marker::Model;
 
-/// How many bytes a file may have.
+/// The maximum length of a file in bytes.
 pub const LIMIT: u64 = 16_777_216;
 
 /// A file's name, and its bytes or why there are none.
 #[derive(Drop)]
 pub struct Named<'a> {
-    /// The name, as the command gives it.
+    /// The name, as it is given on the command line.
     pub name: &'a str,
     /// The bytes of the whole file, or why there are none.
     pub content: Result<Bytes, FileFault>,
@@ -29,9 +29,9 @@ impl<'a> Model for Named<'a> {
     ghost view = { λ file. record { name = file.name.now; content = file.content } };
 }
 
-/// Reads a file to its end, and gives the reader back. It is `TooLong` where the reader gives a
-/// byte past 16,777,216, `Read` where it fails before that, and `NoMemory` where memory for bytes
-/// that were read is refused.
+/// Reads a file to its end, and returns the reader. The content is `TooLong` if the reader gives
+/// more than 16,777,216 bytes, `Read` if it fails before that, and `NoMemory` if an allocation for
+/// bytes that were read fails.
 pub fn load<'a, R: Source + Drop>(alloc: Global, name: &'a str, reader: R) -> (Named<'a>, R)
     requires { R.has_failed reader ≡ false }
     ensures name { result.0.name ≡ name.now }
@@ -46,7 +46,7 @@ pub fn load<'a, R: Source + Drop>(alloc: Global, name: &'a str, reader: R) -> (N
     (Named { name, content }, pull.into_inner())
 }
 
-// Why a file is refused whose bytes could not be read.
+// Why a file cannot be used, given why its bytes could not be read.
 fn file_fault(fault: PullFault) -> FileFault
     ensures { result ≡ file_fault fault }
 {

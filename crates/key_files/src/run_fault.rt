@@ -9,7 +9,7 @@ use ssh_cert::push_escaped;
 use std::alloc::{AllocError, Global};
 use std::marker::Model;
 
-/// What a run was working on, and why it stopped there.
+/// The name of the current file or list, and why the run stopped there.
 #[derive(Debug, Drop)]
 pub struct RunFault<'a> {
     /// The name of the file, or `output`.
@@ -33,7 +33,7 @@ impl<'a> Model for RunFault<'a> {
 }
 
 impl<'a> RunFault<'a> {
-    /// Of a file as a whole, or of the output.
+    /// The fault of a file as a whole, or of the output.
     pub fn whole(name: &'a str, cause: Cause) -> RunFault<'a>
         ensures { result ≡ run_fault_of name.now cause }
     {
@@ -44,7 +44,7 @@ impl<'a> RunFault<'a> {
         }
     }
 
-    /// Of a line of a file.
+    /// The fault of a line of a file.
     pub fn at_line(name: &'a str, number: u64, cause: Cause) -> RunFault<'a>
         ensures { result ≡ run_fault_at name.now number cause }
     {
@@ -57,7 +57,7 @@ impl<'a> RunFault<'a> {
 }
 
 /// The line for standard error, without its line feed: the program, the name with its control bytes
-/// escaped, the line of the file, and the fault. Fails only where memory runs out.
+/// escaped, the line of the file, and the fault. Fails only if an allocation fails.
 #[tactic(auto, unfolding(crate::specs::RunFault::fault_text))]
 pub fn fault_text(alloc: Global, fault: &RunFault) -> Result<Vec<u8>, AllocError>
     ensures { IfOk result (λ text. text.items ≡ fault_text fault.now) }
@@ -71,7 +71,7 @@ pub fn fault_text(alloc: Global, fault: &RunFault) -> Result<Vec<u8>, AllocError
     Ok(text)
 }
 
-// Appends the number of the line, where there is one.
+// Appends the number of the line, if there is one.
 fn push_line(alloc: Global, text: &mut Vec<u8>, line: Option<u64>) -> Result<(), AllocError>
     ensures { OnOk result (text.new.items ≡ text.old.items ++ line_part line) }
 {

@@ -1,4 +1,4 @@
-//! Why a line of a specification file is refused.
+//! Why a line of a specification file is faulty.
 
 ghost use Rattle.std.specs.Prelude.{◌≡◌, Some};
 ghost use Rattle.key_files.specs.SpecCause.{key_cause_text, spec_cause_number, spec_cause_text};
@@ -13,9 +13,9 @@ use std::fmt;
 /// Why a key line names no key.
 #[derive(Clone, Copy, Debug, PartialEq, Eq)]
 pub enum KeyCause {
-    /// It is no key line.
+    /// It is not a key line.
     Line(LineFault),
-    /// Its blob is neither a plain key nor a certificate.
+    /// Its blob is neither that of a plain key nor of a certificate.
     Subject(SubjectFault),
 }
 
@@ -30,25 +30,25 @@ impl fmt::Display for KeyCause {
     }
 }
 
-/// Why a line of a specification file is refused. It prints as `spec`, its number and its name;
+/// Why a line of a specification file is faulty. It prints as `spec`, its number and its name;
 /// after `Key` and `Fingerprint` comes the fault of the key or of the fingerprint.
 #[derive(Clone, Copy, Debug, PartialEq, Eq)]
 pub enum SpecCause {
-    /// A serial is no number below 2^64.
+    /// A serial is not a number below 2^64.
     Number,
     /// A serial is 0, which names no certificate.
     Zero,
     /// The last serial of a range is below the first.
     Reversed,
-    /// A serial or a key ID where no authority is given.
+    /// A serial or a key ID, but no authority is given.
     NoAuthority,
-    /// A key ID without bytes.
+    /// A key ID is empty.
     EmptyId,
-    /// A key line that names no key.
+    /// A key line names no key.
     Key(KeyCause),
-    /// A fingerprint that names no digest.
+    /// A fingerprint names no digest.
     Fingerprint(FingerprintFault),
-    /// No memory was left.
+    /// An allocation failed.
     NoMemory,
 }
 

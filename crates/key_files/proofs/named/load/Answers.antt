@@ -1,4 +1,4 @@
--- All that was left came, or not.
+-- Everything that was left came, or not.
 use Rattle.std.proofs.Common.{ap, subst}
 use Rattle.byte_streams.specs.Pull.{Pull, TakesRest, RefusesRest}
 use Rattle.key_files.proofs.Loading.{loads_all, loads_none}

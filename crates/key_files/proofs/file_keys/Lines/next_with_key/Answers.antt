@@ -1,4 +1,4 @@
--- The next line has a key, or is passed over.
+-- The next line has a key, or is skipped.
 use Rattle.std.proofs.Common.{◌≡◌, ℕ, ◌+◌, ◌^◌, ◌<◌, ◌≤◌, true, false, List, ◌∷◌, length, Option, None, Some, refl, sym, ◌∙◌, arith}
 use Rattle.std.specs.Borrow.{Bor}
 use Rattle.std.specs.List.{slice_split}

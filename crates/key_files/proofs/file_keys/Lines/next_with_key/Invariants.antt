@@ -1,4 +1,4 @@
--- No line that was passed has a key.
+-- No line that was skipped has a key.
 use Rattle.std.proofs.Common.{◌≡◌, ℕ, ◌+◌, ◌^◌, ◌<◌, List}
 use Rattle.key_files.specs.FileKeys.{line_room, lines_keys}
 use Rattle.key_files.proofs.file_keys.Lines.next_with_key.Given as goal
