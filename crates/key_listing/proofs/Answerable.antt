@@ -1,4 +1,4 @@
--- Keys that are expected where they are answered for: one after the other.
+-- Keys that are expected when they are answered, one after another.
 use Rattle.std.proofs.Common.{List, [], ◌∷◌, Result, Ok, Err}
 use Rattle.std.specs.Prelude.{IfOk}
 use Rattle.std.specs.Result.{IsOk}
@@ -10,7 +10,7 @@ use Rattle.key_files.specs.RunFault.{RunFault}
 use Rattle.key_files.specs.declared.cause.Cause.TheVariants as causes
 use Rattle.key_listing.specs.Expected.{AreExpected}
 
--- where everything is expected, each key is
+-- if everything is expected, each key is
 pub all_expected : (Expected : Subject → Type 0) → ((asked : Subject) → Expected asked) → (keys : List (Result FileKey RunFault)) → AreExpected Expected keys
 all_expected Expected all [] = tt
 all_expected Expected all (Err stop ∷ keys) = tt
@@ -28,7 +28,7 @@ first_expected Expected key keys h = by (subject_of key.line.blob) h
     by (Ok asked) h = h.0
     by (Err fault) h = tt
 
--- and where it can be read, the others are
+-- and if it can be read, the others are
 pub rest_expected : (Expected : Subject → Type 0) (key : FileKey) (keys : List (Result FileKey RunFault)) → IsOk (subject_of key.line.blob) → AreExpected Expected (Ok key ∷ keys) → AreExpected Expected keys
 rest_expected Expected key keys ok h = by (subject_of key.line.blob) ok h
   where

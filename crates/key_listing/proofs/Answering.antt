@@ -1,4 +1,4 @@
--- Answering for the keys of a file, and for files, one after the other.
+-- Answering the keys of a file, and files, one after another.
 use Rattle.std.proofs.Common.{◌≡◌, ℕ, ◌+◌, ◌<◌, ◌||◌, Bool, true, false, List, [], ◌∷◌, ◌++◌, length, map, take, drop, get_or, Option, None, Some, Result, Ok, Err, refl, sym, ap, subst, ◌∙◌, append_assoc}
 use Rattle.std.proofs.lemmas.List.{append-nil, take_more, take-append-drop}
 use Rattle.std.proofs.lemmas.List.Concat.{flat_map-append}
@@ -31,12 +31,12 @@ subject_item-name : (answer : Answering) (key : FileKey) (read : Result Subject 
 subject_item-name answer key (Ok asked) = key_item-name answer key asked (key_at asked.plain)
 subject_item-name answer key (Err fault) = refl
 
--- what is said of a key is about its file
+-- the item of a key has the name of its file
 file_key_item-name : (answer : Answering) (next : Result FileKey RunFault) → name_of (file_key_item answer next) ≡ file_name next
 file_key_item-name answer (Ok key) = subject_item-name answer key (subject_of key.line.blob)
 file_key_item-name answer (Err stop) = refl
 
--- memory ran out before a key was answered
+-- an allocation failed before a key was answered
 pub ran_out : (answer : Answering) (key : FileKey) → IsWithheld ByMemory (file_key_item answer (Ok key)) (run_fault_of key.name NoMemory)
 ran_out answer key = ap (λ (name : List ℕ). run_fault_of name NoMemory) (sym (file_key_item-name answer (Ok key)))
 
@@ -57,21 +57,21 @@ is_answered-append (Answered name answer ∷ items) more = refl
 is_answered-append (Passed name ∷ items) more = is_answered-append items more
 is_answered-append (Stopped stop ∷ items) more = refl
 
--- All the items are those that were said so far and those of the keys that are left.
+-- The items are those that were printed so far, followed by those of the keys that are left.
 pub record IsReached (answer : Answering) (items : List Item) (left : List (Result FileKey RunFault)) (reported : Bool) (old now : Printer) : Type 0 where
   pub done : List Item
   pub parts : items ≡ done ++ map (file_key_item answer) left
   pub carried : Carries done (Ok (tt {0})) old now
   pub any : reported ≡ is_answered done
 
--- the items of a file are those of its keys, and its end
+-- the items of the keys of a file
 abbrev pub key_items : Answering → NamedOf → List Item
 key_items answer file = map (file_key_item answer) (keys_of file)
 
 pub none_reached : (answer : Answering) (file : NamedOf) (now : Printer) → IsReached answer (key_items answer file) (keys_of file) false now now
 none_reached answer file now = record { done = []; parts = refl; carried = carries_none tt now; any = refl }
 
--- the item of the next key is said
+-- the item of the next key is printed
 pub key_said : {A : Type 0} (answer : Answering) (items : List Item) (next : Result FileKey RunFault) (left : List (Result FileKey RunFault)) (reported : Bool) (value : A) (old now new : Printer)
     → IsReached answer items (next ∷ left) reported old now → Carries (file_key_item answer next ∷ []) (Ok value) now new
     → IsReached answer items left (reported || is_answered (file_key_item answer next ∷ [])) old new
@@ -94,7 +94,7 @@ key_stops {A} {B} answer items next left reported stop old now new reached carri
     let front = carries_then {B = A} reached.done (item ∷ []) tt (Err stop) old now new reached.carried carries in
     subst (λ (xs : List Item). Carries {A = B} xs (Err stop) old new) (append_assoc reached.done (item ∷ []) later ∙ sym reached.parts) (carries_more {A = A} {B = B} (reached.done ++ item ∷ []) later stop old new front)
 
--- a key that was not given has no item
+-- a key that was not returned has no item
 refused_item : (answer : Answering) (ended : EndedBy) (next : Result FileKey RunFault) (stop : RunFault) → IsRefused ended next stop → IsWithheld ended (file_key_item answer next) stop
 refused_item answer ByInput next stop is = ap (file_key_item answer) is
 refused_item answer ByMemory next stop is = is ∙ ap (λ (name : List ℕ). run_fault_of name NoMemory) (sym (file_key_item-name answer next))
@@ -115,13 +115,13 @@ unfolding file_items
 file_stopped {A} answer file stop old new carries =
     carries_more {A = A} {B = A} (key_items answer file) (unanswered_of answer file.name (is_answered (key_items answer file))) stop old new carries
 
--- all keys are answered
+-- all keys were answered
 all_said : (answer : Answering) (items : List Item) (reported : Bool) (old now : Printer) → IsReached answer items [] reported old now → Carries items (Ok (tt {0})) old now × (reported ≡ is_answered items)
 all_said answer items reported old now reached =
     let same : items ≡ reached.done = reached.parts ∙ append-nil reached.done in
     (subst (λ (xs : List Item). Carries xs (Ok (tt {0})) old now) (sym same) reached.carried, reached.any ∙ ap is_answered (sym same))
 
--- and something is said of the file
+-- and the file has an answer
 pub file_ends : (answer : Answering) (file : NamedOf) (old now : Printer) → IsReached answer (key_items answer file) [] true old now → Carries (file_items answer file) (Ok (tt {0})) old now
 unfolding file_items
 file_ends answer file old now reached =
@@ -130,7 +130,7 @@ file_ends answer file old now reached =
     let unanswered : Carries (unanswered_of answer file.name (is_answered items)) (Ok (tt {0})) now now = rw (sym whole.1) (carries_none tt now) in
     carries_then items (unanswered_of answer file.name (is_answered items)) tt (Ok tt) old now now whole.0 unanswered
 
--- or nothing
+-- or none
 pub file_is_unanswered : {A : Type 0} (answer : Answering) (file : NamedOf) (old now : Printer) → IsReached answer (key_items answer file) [] false old now
     → Carries {A = A} (file_items answer file) (Err (run_fault_of file.name (File answer.unanswered))) old now
 unfolding file_items

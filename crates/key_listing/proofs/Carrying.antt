@@ -1,4 +1,4 @@
--- Parts of a run, one after the other.
+-- Parts of a run, one after another.
 use Rattle.std.proofs.Common.{◌≡◌, ℕ, ◌<◌, false, true, List, [], ◌∷◌, ◌++◌, length, Option, Result, Ok, Err, refl, sym, ap, subst, ◌∙◌, append_assoc, lit<}
 use Rattle.std.specs.Result.{result_err}
 use Rattle.std.proofs.KnownBytes.{Appends-nil}
@@ -10,7 +10,7 @@ use Rattle.key_listing.specs.Run.{Item, Answered, Passed, Stopped, IsWithheld}
 use Rattle.key_files.specs.RunFault.{RunFault, EndedBy, ByOutput, ByMemory, ByInput, ended_by}
 use Rattle.key_listing.proofs.Saying.{added, passed, sent_all, sent_part}
 
--- nothing was said yet
+-- nothing was printed yet
 pub begun : (taken : Option (List ℕ)) (writer : ℕ) → HasSaid taken [] (nothing_printed taken false writer)
 begun taken writer =
     record {
@@ -30,7 +30,7 @@ carries_then xs ys value result old mid new first second = record {
   writer = second.writer ∙ first.writer;
 }
 
--- What is after an end does not count.
+-- The items after an end are ignored.
 ended_more : (ended : EndedBy) (before : Option (List ℕ)) (items more : List Item) (stop : RunFault) (now : Printer) → IsEnded ended before items stop now → IsEnded ended before (items ++ more) stop now
 ended_more (ByOutput count) before items more stop now p =
     record { said = p.said; later = p.later ++ more; parts = ap (λ (xs : List Item). xs ++ more) p.parts ∙ append_assoc p.said p.later more; unstopped = p.unstopped; cut_off = p.cut_off }
@@ -48,7 +48,7 @@ carries_more xs ys stop old new first = record {
   writer = first.writer;
 }
 
--- the item at hand ends the run
+-- the current item ends the run
 ends_here : (ended : EndedBy) (item : Item) (stop : RunFault) (now : Printer) (before : Option (List ℕ)) (said : List Item) → IsWithheld ended item stop → HasSaid before said now → IsEnded ended before (said ++ item ∷ []) stop now
 ends_here (ByOutput count) item stop now before said withheld has = absurd withheld
 ends_here ByMemory item stop now before said withheld has = record { said = said; runs_out = record { next = item; later = []; parts = refl; named = withheld }; has_said = has }
@@ -58,18 +58,18 @@ ends_here ByInput item stop now before said withheld has = record { said = said;
 pub carries_withheld : {A : Type 0} (item : Item) (stop : RunFault) (now : Printer) → IsWithheld (ended_by stop.cause) item stop → Carries {A = A} (item ∷ []) (Err stop) now now
 carries_withheld item stop now withheld = record { says = λ before said has. ends_here (ended_by stop.cause) item stop now before said withheld has; writer = refl }
 
--- something of which nothing is said
+-- an item without an answer
 pub carries_passed : {A : Type 0} (value : A) (name : List ℕ) (now : Printer) → Carries (Passed name ∷ []) (Ok value) now now
 carries_passed value name now = record { says = λ before said has. record { added = passed before said name now has.added; short = has.short }; writer = refl }
 
--- What a part gives beside its end does not count.
+-- The value that a part returns is irrelevant, only its end counts.
 pub carries_as : {A B : Type 0} (items : List Item) (first : Result A RunFault) (second : Result B RunFault) (old new : Printer) → result_err first ≡ result_err second → Carries items first old new → Carries items second old new
 carries_as items first second old new same carries = record {
   says = λ before said has. subst (λ (stop : Option RunFault). Reaches before (said ++ items) stop new) same (carries.says before said has);
   writer = carries.writer;
 }
 
--- a printer that has failed says nothing
+-- a printer that has failed prints nothing
 pub carries_lost : {A : Type 0} (items : List Item) (result : Result A RunFault) (now : Printer) → now.failed ≡ true → Carries items result now now
 carries_lost items result now failed = record { says = λ before said has. let working = has.added.working in absurd cc; writer = refl }
 

@@ -1,4 +1,4 @@
--- The end of a run, by how far it came and what was sent.
+-- The end of a run, by how far it came and what was written.
 use Rattle.std.proofs.Common.{◌≡◌, ℕ, Bool, true, false, List, [], ◌∷◌, ◌++◌, Option, Some, None, Result, Ok, Err, refl, sym, ap, subst, ◌∙◌}
 use Rattle.std.specs.Prelude.{is_some}
 use Rattle.std.specs.Option.{option_or}
@@ -25,7 +25,7 @@ pub ends_lost : (run : List Item) (before : Option (List ℕ)) (stop : Option Ru
 ends_lost run before None now lost reaches = absurd cc
 ends_lost run before (Some stop) now lost reaches = (lost_by (ended_by stop.cause) run before stop now lost reaches, refl)
 
--- the run has said a front of its items
+-- the run has printed the first of its items
 record IsFront (before : Option (List ℕ)) (run : List Item) (now : Printer) : Type 0 where
   said : List Item
   later : List Item
@@ -47,7 +47,7 @@ ends_cut run before fault old new front part =
     let cut = sent_part before front.said fault old new front.has_said.added part in
     rw part.named (record { named = refl; cut = cut_of_front run front.said front.later before new.taken new.sent front.parts front.has_said.added.unstopped cut; broken = part.broken }, refl)
 
--- the rest was sent
+-- the rest was written
 whole_by : (ended : EndedBy) (run : List Item) (before : Option (List ℕ)) (stop : RunFault) (old new : Printer) → is_by_output ended ≡ false → IsEnded ended before run stop old → IsSent old new → EndsBy ended run before new.taken new.failed stop
 whole_by (ByOutput count) run before stop old new kept p sent = absurd cc
 whole_by ByMemory run before stop old new kept p sent =
@@ -71,14 +71,14 @@ ends_whole run before (Some stop) old new kept p sent = (whole_by (ended_by stop
 works : (before : Option (List ℕ)) (run : List Item) (stop : Option RunFault) (now : Printer) → is_lost stop ≡ false → Reaches before run stop now → now.failed ≡ false
 works before run stop now kept reaches = (front_of before run stop now kept reaches).has_said.added.working
 
--- the rest of what was said was sent, or the output failed
+-- the rest of the answers was written, or the output failed
 pub ends_sent : {A : Type 0} (result : Result A RunFault) (run : List Item) (before : Option (List ℕ)) (stop : Option RunFault) (old new : Printer) (revoked : Bool)
     → is_lost stop ≡ false → Reaches before run stop old → (old.failed ≡ false → Sends result old new) → revoked ≡ new.revoked
     → let fault = option_or (result_err result) stop in Ends run before new.taken new.failed (status_of (is_some fault) revoked) fault
 ends_sent (Ok value) run before stop old new revoked kept reaches sends same = rw same (ends_whole run before stop old new kept reaches (sends (works before run stop old kept reaches)))
 ends_sent (Err fault) run before stop old new revoked kept reaches sends same = ends_cut run before fault old new (front_of before run stop old kept reaches) (sends (works before run stop old kept reaches))
 
--- A run ended as its printer says: what is known of the printer's writer at last is known of the writer.
+-- A run ended as its printer reports: the final state of the printer's writer is that of the writer.
 pub ends_known : {A : Type 0} (run : List Item) (result : Result A RunFault) (before taken taken' : Option (List ℕ)) (writer : ℕ) (failed failed' : Bool) (mid : Printer) (stop : Option RunFault) (status : ℕ) (fault : Option RunFault)
     → Carries run result (nothing_printed before false writer) mid → stop ≡ result_err result
     → ((before : Option (List ℕ)) (run : List Item) → Reaches before run stop mid → Ends run before taken failed status fault)

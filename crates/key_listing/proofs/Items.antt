@@ -1,4 +1,4 @@
--- What is said of a line, by what reading the line and its blob gives.
+-- The item of a line, by what reading the line and its blob gives.
 use Rattle.std.proofs.Common.{◌≡◌, ℕ, true, false, List, Option, None, Some, Result, Ok, Err, refl, sym, ap, subst, ◌∙◌, inl, inr}
 use Rattle.std.specs.Result.{result_ok}
 use Rattle.std.proofs.lemmas.Bool.{cases_Bool}
@@ -43,7 +43,7 @@ pub line_item : (answer : Answering) (name : List ℕ) (number : ℕ) (text : Li
     → item_of answer name number text ≡ Some (file_key_item answer (Ok (file_key_of name (Some number) line)))
 line_item answer name number text line has is_line = line_read answer name number text (Ok line) has is_line
 
--- an answer has been read off a key line
+-- an answer came from a key line
 pub record FromLine (answer : Answering) (name : List ℕ) (number : ℕ) (text : List ℕ) (reply : Answer) : Type 0 where
   pub line : Content
   pub asked : Subject
@@ -79,7 +79,7 @@ answered_line answer name number text other reply item = elim (cases_Bool (has_k
   | inr none ↦ let e = sym (no_item_of answer name number text none) ∙ item in absurd cc
 ]
 
--- and so the line spells it
+-- and so the line spells the key
 pub spelled_line : (answer : Answering) (name : List ℕ) (number : ℕ) (text : List ℕ) (reply : Answer) → (from : FromLine answer name number text reply) → IsKeyLine text from.line.word from.line.blob from.line.comment → IsSubject from.line.blob from.asked
     → ((key : PublicKey) → IsKey from.asked.plain key → key_at from.asked.plain ≡ Ok key) → (line : Content) × (asked : Subject) × (key : PublicKey) × SpellsKey text line asked key × (Some reply ≡ answer.say name (Some number) line asked key)
 spelled_line answer name number text reply from is_line is_asked reads =
@@ -87,7 +87,7 @@ spelled_line answer name number text reply from is_line is_asked reads =
     let same : plain.0 ≡ from.key = ok_is plain.0 from.key (key_at from.asked.plain) (reads plain.0 plain.1) from.is_key in
     (from.line, from.asked, from.key, record { is_line = is_line; is_asked = is_asked; is_key = subst (λ (key : PublicKey). IsKey from.asked.plain key) same plain.1 }, from.is_reply)
 
--- what is answered in a run over certificates lists one
+-- each answer of a run over certificates lists a certificate
 pub certificate_answered : (hash : Hash) (moment : ℕ) (name : List ℕ) (number : ℕ) (reply : Answer) (read : Result Cert CertFault) → Some reply ≡ certificate_answer hash moment name (Some number) (result_ok read)
     → (certificate : Cert) × (read ≡ Ok certificate) × (reply ≡ listed_certificate hash moment name number certificate)
 certificate_answered hash moment name number reply (Ok certificate) e = (certificate, refl, same_Some reply (listed_certificate hash moment name number certificate) e)

@@ -1,4 +1,4 @@
--- What items say one after the other, and what a printer has said after an answer and after a send.
+-- The text of consecutive items, and the state of a printer after an answer and after a write.
 use Rattle.std.proofs.Common.{◌≡◌, ℕ, ◌+◌, ◌||◌, Bool, List, [], ◌∷◌, ◌++◌, length, take, Option, None, refl, sym, ap, subst, ◌∙◌, append_assoc, arith, length-append}
 use Rattle.std.proofs.lemmas.List.{append-nil, take-append-le}
 use Rattle.std.proofs.KnownBytes.{Appends-trans}
@@ -10,7 +10,7 @@ use Rattle.key_listing.specs.Printer.{Printer, HasAdded, HasSaid, IsCut, IsSent,
 use Rattle.key_listing.specs.Run.{Item, Outcome, Answered, Passed, Stopped, before, outcome_of}
 use Rattle.key_files.specs.RunFault.{RunFault}
 
--- two parts, of which the first did not stop
+-- two parts, the first of which did not stop
 abbrev pub followed_by : Outcome → Outcome → Outcome
 followed_by first second =
     record { text = first.text ++ second.text; revoked = first.revoked || second.revoked; stop = second.stop }
@@ -27,7 +27,7 @@ outcome_of-append (Answered name answer ∷ xs) ys unstopped =
     let revoked = sym (or_assoc answer.revoked (outcome_of xs).revoked (outcome_of ys).revoked) in
     ap (before answer) later ∙ rw (text, revoked) refl
 
--- what a front of the run says is a front of what the run says
+-- a part of the text of the first items is a part of the run's text
 pub cut_of_front : (run said later : List Item) (before after : Option (List ℕ)) (count : ℕ) → run ≡ said ++ later
     → (outcome_of said).stop ≡ None → IsCut (outcome_of said).text before after count → IsCut (outcome_of run).text before after count
 cut_of_front run said later before after count parts unstopped cut =
@@ -44,7 +44,7 @@ cut_of_front run said later before after count parts unstopped cut =
 reported_count-more : (a b : ℕ) → reported_count (reported_count a + b) ≡ reported_count (a + b)
 reported_count-more a b = omega arith
 
--- An answer waits after what was said.
+-- An answer waits after the earlier ones.
 pub added : (before : Option (List ℕ)) (said : List Item) (name : List ℕ) (answer : Answer) (old : Printer)
     → HasAdded before said old → HasAdded before (said ++ Answered name answer ∷ []) (and_answer old answer)
 added before said name answer old has =
@@ -61,7 +61,7 @@ added before said name answer old has =
       working = has.working;
     }
 
--- nothing is said of what was read
+-- an item without an answer changes nothing
 pub passed : (before : Option (List ℕ)) (said : List Item) (name : List ℕ) (now : Printer) → HasAdded before said now → HasAdded before (said ++ Passed name ∷ []) now
 passed before said name now has =
     let whole = outcome_of-append said (Passed name ∷ []) has.unstopped in
@@ -75,7 +75,7 @@ passed before said name now has =
       working = has.working;
     }
 
--- all was sent
+-- all was written
 pub sent_all : (before : Option (List ℕ)) (items : List Item) (old new : Printer) → HasAdded before items old → IsSent old new → HasSaid before items new
 sent_all before items old new has sent =
     let none = sent.none_waits in
@@ -92,12 +92,12 @@ sent_all before items old new has sent =
       short = omega (arith, ap (λ (xs : List ℕ). length xs) none);
     }
 
--- what was said was all taken
+-- the writer took all of the text
 pub taken_all : (before : Option (List ℕ)) (items : List Item) (old new : Printer) → HasAdded before items old → IsSent old new → Appends before new.taken (outcome_of items).text
 taken_all before items old new has sent =
     subst (λ (t : List ℕ). Appends before new.taken t) (sym has.parts) (Appends-trans before old.taken new.taken has.gone old.waiting has.taken sent.taken)
 
--- a part was sent
+-- a part was written
 pub sent_part : (before : Option (List ℕ)) (items : List Item) (stop : RunFault) (old new : Printer) → HasAdded before items old → (part : IsPartSent stop old new)
     → IsCut (outcome_of items).text before new.taken new.sent
 sent_part before items stop old new has part =

@@ -1,4 +1,4 @@
--- What a part of a run does: it says all of its items, or it ends the run.
+-- The effect of a part of a run: it prints all of its items, or ends the run.
 use Rattle.std.specs.Prelude.{◌≡◌, ℕ, List, ◌∷◌, ◌++◌, Option, None, Some, Result}
 use Rattle.std.specs.Result.{result_err}
 use Rattle.key_listing.specs.Done.{IsCutOff, RunsOutAfter}
@@ -6,7 +6,7 @@ use Rattle.key_listing.specs.Printer.{Printer, HasSaid}
 use Rattle.key_listing.specs.Run.{Item, Stopped, outcome_of}
 use Rattle.key_files.specs.RunFault.{RunFault, EndedBy, ByOutput, ByMemory, ByInput, ended_by}
 
--- The next item ends the run: all before it was said.
+-- The next item ends the run: all before it was printed.
 pub record IsStopped (before : Option (List ℕ)) (items : List Item) (stop : RunFault)
     (now : Printer) : Type 0 where
   pub said : List Item
@@ -14,14 +14,14 @@ pub record IsStopped (before : Option (List ℕ)) (items : List Item) (stop : Ru
   pub parts : items ≡ said ++ Stopped stop ∷ later
   pub has_said : HasSaid before said now
 
--- Memory ran out at the next item: all before it was said.
+-- An allocation failed at the next item: all before it was printed.
 pub record IsOutOfMemory (before : Option (List ℕ)) (items : List Item) (stop : RunFault)
     (now : Printer) : Type 0 where
   pub said : List Item
   pub runs_out : RunsOutAfter said items stop
   pub has_said : HasSaid before said now
 
--- The output failed within what the first items say.
+-- The output failed within the text of the first items.
 pub record IsLost (before : Option (List ℕ)) (items : List Item) (count : ℕ) (stop : RunFault)
     (now : Printer) : Type 0 where
   pub said : List Item
@@ -35,12 +35,12 @@ IsEnded (ByOutput count) before items stop now = IsLost before items count stop 
 IsEnded ByMemory before items stop now = IsOutOfMemory before items stop now
 IsEnded ByInput before items stop now = IsStopped before items stop now
 
--- How far a run came: it has said all of these items, or stopped within them.
+-- How far a run came: it has printed all of these items, or stopped within them.
 abbrev pub Reaches : Option (List ℕ) → List Item → Option RunFault → Printer → Type 0
 Reaches before items None now = HasSaid before items now
 Reaches before items (Some stop) now = IsEnded (ended_by stop.cause) before items stop now
 
--- A part of a run says its items after whatever was said before, or stops within them.
+-- A part of a run prints its items after whatever was printed before, or stops within them.
 pub record Carries {A : Type 0} (items : List Item) (result : Result A RunFault)
     (old new : Printer) : Type 0 where
   pub says : (before : Option (List ℕ)) (said : List Item) → HasSaid before said old

@@ -1,4 +1,4 @@
--- How a run ends: what a writer has taken of its text, its status and its fault.
+-- The end of a run: the text that its writer has taken, its status and its fault.
 use Rattle.std.specs.Prelude.{◌≡◌, ℕ, Bool, true, false, List, ◌∷◌, ◌++◌, Option, Some, None}
 use Rattle.std.specs.Io.KnownBytes.{Appends}
 use Rattle.key_files.specs.declared.cause.Cause.TheVariants.{NoMemory}
@@ -21,14 +21,15 @@ pub record IsCutOff (run : List Item) (before after : Option (List ℕ)) (failed
   pub cut : IsCut (outcome_of run).text before after count
   pub broken : failed ≡ true
 
--- Memory ran out at the next item of a run after these. What is at hand is named, and no line.
+-- An allocation failed at the next item of a run after these. The fault has the name of that item,
+-- and no line.
 pub record RunsOutAfter (said run : List Item) (stop : RunFault) : Type 0 where
   pub next : Item
   pub later : List Item
   pub parts : run ≡ said ++ next ∷ later
   pub named : stop ≡ run_fault_of (name_of next) NoMemory
 
--- Memory ran out. The whole lines of the run's first answers were taken.
+-- An allocation failed. The complete lines of the run's first answers were taken.
 pub record IsBrokenOff (run : List Item) (before after : Option (List ℕ)) (failed : Bool)
     (stop : RunFault) : Type 0 where
   pub done : List Item
@@ -43,8 +44,8 @@ EndsBy (ByOutput count) run before after failed stop = IsCutOff run before after
 EndsBy ByMemory run before after failed stop = IsBrokenOff run before after failed stop
 EndsBy ByInput run before after failed stop = IsWhole run before after failed (Some stop)
 
--- A run ended with a status and a fault. Its writer had taken some bytes before, then others, and
--- failed or not.
+-- A run ended with a status and a fault. Its writer had taken some bytes before, and more
+-- afterwards, and failed or not.
 abbrev pub Ends : List Item → Option (List ℕ) → Option (List ℕ) → Bool → ℕ → Option RunFault
     → Type 0
 Ends run before after failed status None =

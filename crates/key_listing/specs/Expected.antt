@@ -1,4 +1,4 @@
--- Keys of files that are expected where they are answered for.
+-- Keys of files that are expected when they are answered.
 use Rattle.std.specs.Prelude.{List, [], ◌∷◌, Result, Ok, Err, IfOk, All, ⊤}
 use Rattle.ssh_cert.specs.SubjectReading.{subject_of}
 use Rattle.krl_types.specs.Subject.{Subject}
@@ -12,6 +12,6 @@ AreExpected Expected (Err stop ∷ keys) = ⊤
 AreExpected Expected (Ok key ∷ keys) =
     IfOk (subject_of key.line.blob) (λ asked. Expected asked × AreExpected Expected keys)
 
--- so it is in each file
+-- the same in each file
 abbrev pub AllExpected : (Subject → Type 0) → List Named → Type 0
 AllExpected Expected files = All (λ file. AreExpected Expected (keys_of file)) files

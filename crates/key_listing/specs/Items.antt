@@ -6,8 +6,8 @@ use Rattle.key_text.specs.LineReading.{Content}
 use Rattle.krl_types.specs.Subject.{Subject}
 use Rattle.ssh_cert.specs.SubjectReading.{IsSubject}
 
--- The line of a key file is a key line with the blob of a plain key or of a certificate, this is
--- asked of it, and this is its plain key.
+-- The line of a key file is a key line with the blob of a plain key or of a certificate, which has
+-- this subject and this plain key.
 pub record SpellsKey (text : List ℕ) (line : Content) (asked : Subject) (key : PublicKey)
     : Type 0 where
   pub is_line : IsKeyLine text line.word line.blob line.comment

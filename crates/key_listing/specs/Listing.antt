@@ -33,7 +33,7 @@ list_line bits print comment kind =
     decimal bits
     ++ (codes " " ++ (print ++ (codes " " ++ (comment_or_none comment ++ kind_part kind))))
 
--- what is after the kind of a certificate
+-- the suffix of the kind for a certificate
 abbrev pub certificate_mark : Option CertNames → List ℕ
 certificate_mark None = []
 certificate_mark (Some names) = codes "-CERT"
@@ -66,8 +66,7 @@ abbrev pub listed_certificate : Hash → ℕ → List ℕ → ℕ → Cert → A
 listed_certificate hash moment name number certificate =
     record { text = certificate_text hash moment name number certificate; revoked = false }
 
--- the answer for the certificate of a line; what holds no certificate is passed over, and so is a
--- container
+-- the answer for the certificate of a line; other keys have none, nor has a container
 abbrev pub certificate_answer : Hash → ℕ → List ℕ → Option ℕ → Option Cert → Option Answer
 certificate_answer hash moment name (Some number) (Some certificate) =
     Some (listed_certificate hash moment name number certificate)

@@ -1,4 +1,4 @@
--- What a printer has at hand, and what it has printed in all.
+-- The state of a printer, and what it has printed in all.
 use Rattle.std.specs.Prelude.{◌≡◌, ℕ, ◌+◌, ◌-◌, ◌^◌, ◌<◌, ◌||◌, Bool, true, false, List, [], ◌++◌}
 use Rattle.std.specs.Prelude.{Option, Some, None, Result, Ok, Err, length, min, take}
 use Rattle.std.specs.Io.KnownBytes.{Appends}
@@ -7,8 +7,9 @@ use Rattle.key_listing.specs.declared.answer.Answer.{Answer}
 use Rattle.key_listing.specs.Run.{Item, outcome_of}
 use Rattle.key_files.specs.RunFault.{RunFault, output_run_fault}
 
--- The end of the text, which waits to be sent; the count of the bytes that were sent; whether some
--- line says REVOKED; and of the writer what it has taken, whether it has failed, and which it is.
+-- The end of the text, which waits to be written; the number of bytes written; whether some line
+-- reports REVOKED; and the state of the writer: what it has taken, whether it has failed, and which
+-- writer it is.
 pub record Printer : Type 0 where
   pub waiting : List ℕ
   pub sent : ℕ
@@ -32,15 +33,15 @@ abbrev pub and_answer : Printer → Answer → Printer
 and_answer old answer =
     record old { waiting = old.waiting ++ answer.text; revoked = old.revoked || answer.revoked }
 
--- as many bytes of whole lines are sent together, but for the last ones
+-- the number of bytes of complete lines that are written together, except the last ones
 abbrev pub chunk : ℕ
 chunk = 65536
 
--- a count of bytes as it is reported: one past 2^64-1 as that number
+-- a count of bytes as it is reported: at most 2^64-1
 abbrev pub reported_count : ℕ → ℕ
 reported_count count = min count (2 ^ 64 - 1)
 
--- All that waited was sent.
+-- All waiting bytes were written.
 pub record IsSent (old new : Printer) : Type 0 where
   pub none_waits : new.waiting ≡ []
   pub counted : new.sent ≡ reported_count (old.sent + length old.waiting)
@@ -48,7 +49,7 @@ pub record IsSent (old new : Printer) : Type 0 where
   pub taken : Appends old.taken new.taken old.waiting
   pub working : new.failed ≡ false
 
--- The writer failed after some of the bytes that waited.
+-- The writer failed after some of the waiting bytes.
 pub record IsPartSent (stop : RunFault) (old new : Printer) : Type 0 where
   pub count : ℕ
   pub short : count < length old.waiting
@@ -61,13 +62,13 @@ abbrev pub Sends : {A : Type 0} → Result A RunFault → Printer → Printer �
 Sends (Ok value) old new = IsSent old new
 Sends (Err stop) old new = IsPartSent stop old new
 
--- What has failed answers its fault again, and nothing changes.
+-- A printer that has failed reports the same fault again, and nothing changes.
 abbrev pub FailsAgain : {A : Type 0} → Result A RunFault → Printer → Printer → Type 0
 FailsAgain result old new = old.failed ≡ true
     → (result_err result ≡ Some (output_run_fault old.sent)) × (new ≡ old)
 
--- A printer was given just these items, over a writer that had taken some bytes before: the writer
--- has taken the front of their text, and the rest waits.
+-- A printer was given exactly these items, with a writer that had taken some bytes before: the
+-- writer has taken the front of their text, and the rest waits.
 pub record HasAdded (before : Option (List ℕ)) (items : List Item) (now : Printer) : Type 0 where
   pub unstopped : (outcome_of items).stop ≡ None
   pub gone : List ℕ
@@ -77,12 +78,12 @@ pub record HasAdded (before : Option (List ℕ)) (items : List Item) (now : Prin
   pub revoked : now.revoked ≡ (outcome_of items).revoked
   pub working : now.failed ≡ false
 
--- It has said them: less than a chunk waits.
+-- It has printed them: less than a chunk waits.
 pub record HasSaid (before : Option (List ℕ)) (items : List Item) (now : Printer) : Type 0 where
   pub added : HasAdded before items now
   pub short : length now.waiting < chunk
 
--- A writer had taken some bytes before, and then the beginning of a text, but not all of it.
+-- A writer had taken some bytes before, and then a proper prefix of a text.
 pub record IsCut (text : List ℕ) (before after : Option (List ℕ)) (count : ℕ) : Type 0 where
   pub gone : ℕ
   pub counted : count ≡ reported_count gone

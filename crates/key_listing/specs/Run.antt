@@ -1,4 +1,4 @@
--- A run over key files: what it says of each key, and where it stops.
+-- A run over key files: its answer for each key, and where it stops.
 use Rattle.std.specs.Prelude.{◌≡◌, ℕ, ◌||◌, Bool, true, false, List, [], ◌∷◌, ◌++◌, Option, Some}
 use Rattle.std.specs.Prelude.{None, Result, Ok, Err, map, option_map}
 use Rattle.std.specs.List.{flat_map}
@@ -19,16 +19,16 @@ use Rattle.key_files.specs.Keys.{Named, FileKey, key_of_container, key_in, keys_
 use Rattle.key_files.specs.RunFault.{RunFault, EndedBy, ByOutput, ByMemory, ByInput, ended_by}
 use Rattle.key_files.specs.RunFault.{run_fault_of}
 
--- A step of a run. What it is about has a name: that of a file, or of the list.
+-- A step of a run. It has the name of the file or of the list that it is about.
 pub data Item : Type 0 where
-  -- an answer is said
+  -- an answer is printed
   Answered : List ℕ → Answer → Item
-  -- this was read, and nothing is said of it
+  -- this was read, and has no answer
   Passed : List ℕ → Item
   -- the run ends here
   Stopped : RunFault → Item
 
--- the name of what is at hand
+-- the name of the file or list of the item
 abbrev pub name_of : Item → List ℕ
 name_of (Answered name answer) = name
 name_of (Passed name) = name
@@ -36,17 +36,17 @@ name_of (Stopped stop) = stop.name
 
 -- How a run answers.
 pub record Answering : Type 0 where
-  -- What is said of a key, or nothing: by the name of the file, the number of the line (a container
-  -- has none), what the line holds, what its blob asks of a list, and the plain key.
+  -- The answer for a key, or none, given the name of the file, the number of the line (a container
+  -- has none), the content of the line, the subject of its blob, and the plain key.
   pub say : List ℕ → Option ℕ → Content → Subject → PublicKey → Option Answer
-  -- the fault of a file of which nothing is said
+  -- the fault of a file that has no answer
   pub unanswered : FileFault
 
 abbrev pub said : List ℕ → Option Answer → Item
 said name None = Passed name
 said name (Some answer) = Answered name answer
 
--- The plain key of what is asked is always read.
+-- The plain key of a subject can always be read.
 abbrev pub key_item : Answering → FileKey → Subject → Result PublicKey KeyFault → Item
 key_item answer key asked (Err fault) = Stopped (run_fault_in key (subjects.Key fault))
 key_item answer key asked (Ok plain) =
@@ -60,22 +60,22 @@ abbrev pub file_key_item : Answering → Result FileKey RunFault → Item
 file_key_item answer (Err stop) = Stopped stop
 file_key_item answer (Ok key) = subject_item answer key (subject_of key.line.blob)
 
--- what a run says of a line by its number: nothing where the line has no key
+-- the item of a line with its number: none if the line has no key
 unfoldable pub item_of : Answering → List ℕ → ℕ → List ℕ → Option Item
 item_of answer name number line = option_map (file_key_item answer) (key_in name number line)
 
--- what it says of a container
+-- the item of a container
 abbrev pub container_item : Answering → List ℕ → Result Opened PrivateFault → Item
 container_item answer name read = file_key_item answer (key_of_container name read)
 
--- something is said, or a fault ends the run
+-- there is an answer, or a fault ends the run
 abbrev pub is_answered : List Item → Bool
 is_answered [] = false
 is_answered (Answered name answer ∷ items) = true
 is_answered (Passed name ∷ items) = is_answered items
 is_answered (Stopped stop ∷ items) = true
 
--- a file of which nothing is said ends the run
+-- a file without an answer ends the run
 abbrev pub unanswered_of : Answering → List ℕ → Bool → List Item
 unanswered_of answer name true = []
 unanswered_of answer name false = Stopped (run_fault_of name (causes.File answer.unanswered)) ∷ []
@@ -90,14 +90,13 @@ file_items answer file = or_unanswered answer file.name (map (file_key_item answ
 unfoldable pub files_items : Answering → List Named → List Item
 files_items answer files = flat_map (file_items answer) files
 
--- What a run says in all: its text, whether some line says REVOKED, and why it stopped before its
--- end.
+-- The outcome of a run: its text, whether some line reports REVOKED, and why it stopped early.
 pub record Outcome : Type 0 where
   pub text : List ℕ
   pub revoked : Bool
   pub stop : Option RunFault
 
--- an answer before the rest of a run
+-- an answer, followed by the rest of a run
 abbrev pub before : Answer → Outcome → Outcome
 before answer rest =
     record {
@@ -113,23 +112,23 @@ outcome_of (Answered name answer ∷ items) = before answer (outcome_of items)
 outcome_of (Passed name ∷ items) = outcome_of items
 outcome_of (Stopped stop ∷ items) = record { text = []; revoked = false; stop = Some stop }
 
--- the status that a run ends with
+-- the exit status of a run
 abbrev pub status_of : Bool → Bool → ℕ
 status_of true revoked = 255
 status_of false true = 1
 status_of false false = 0
 
--- The item of a key was not given: it stops the run, or memory ran out.
+-- The item of a key was not given: it stops the run, or an allocation failed.
 abbrev pub IsWithheld : EndedBy → Item → RunFault → Type 0
 IsWithheld ByInput item stop = item ≡ Stopped stop
 IsWithheld ByMemory item stop = stop ≡ run_fault_of (name_of item) causes.NoMemory
 IsWithheld (ByOutput count) item stop = ⊥
 
--- What was found out of a key of a file of this name is its item, unless memory ran out.
+-- The answer for a key of a file with this name is its item, unless an allocation failed.
 abbrev pub GivesAnswer : Item → List ℕ → Result (Option Answer) RunFault → Type 0
 GivesAnswer item name (Ok answer) = item ≡ said name answer
 GivesAnswer item name (Err stop) = IsWithheld (ended_by stop.cause) item stop
 
--- a line is said of the file or the list of this name
+-- a line is printed about the file or the list with this name
 abbrev pub said_of : List ℕ → List ℕ → Item
 said_of name text = Answered name (record { text = text; revoked = false })

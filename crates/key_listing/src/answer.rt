@@ -1,12 +1,12 @@
-//! What a run says of a key, or of a list.
+//! The answer of a run for a key or a list.
 
 use ssh_wire::Bytes;
 
-/// What a run says of a key, or of a list.
+/// The answer of a run for a key or a list.
 #[derive(Drop)]
 pub struct Answer {
-    /// Whole lines of the output, each with its line feed.
+    /// Complete lines of the output, each with its line feed.
     pub text: Bytes,
-    /// Whether they say that a key is revoked.
+    /// Whether they report that a key is revoked.
     pub revoked: bool,
 }

@@ -13,13 +13,13 @@ pub trait Answers {
     ghost use Rattle.key_listing.specs.Run.{Answering};
     ghost use Rattle.krl_types.specs.Subject.{Subject};
 
-    // It answers as such a run does.
+    // the run whose answers it gives
     ghost answers_as: { Self → Answering → Type 0 };
 
-    // what it can be asked
+    // the subjects for which it can be called
     ghost expects: { Self → Subject → Type 0 };
 
-    /// What the run says of a key, by what its blob was read as, or nothing.
+    /// The answer for a key, given what its blob was read as. None if the run prints nothing.
     fn answer(
         &self,
         alloc: Global,
@@ -32,7 +32,7 @@ pub trait Answers {
             → IfOk result (λ answer. answer ≡ answering.say key.now.name key.now.number
             key.now.line (asked_of any.now) (plain_of any.now)) };
 
-    /// The fault of a file of which nothing is said.
+    /// The fault of a file that has no answer.
     fn unanswered(&self) -> FileFault
         ensures { (answering : Answering) → answers_as self.now answering
             → result ≡ answering.unanswered };

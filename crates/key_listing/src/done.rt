@@ -8,8 +8,8 @@ pub const FAILED: u8 = 255;
 /// The end of a run.
 #[derive(Drop)]
 pub struct Done<'a> {
-    /// The status that the program ends with.
+    /// The exit status of the program.
     pub status: u8,
-    /// Why the run stopped before its end.
+    /// Why the run stopped early.
     pub fault: Option<RunFault<'a>>,
 }

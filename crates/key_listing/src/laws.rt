@@ -1,4 +1,4 @@
-//! Laws of what runs say. Each function does nothing: its contract is the law.
+//! Laws about what runs print. Each function does nothing: its contract is the law.
 
 ghost use Rattle.std.specs.Prelude.{◌≡◌, ℕ, [], true, false, List, Some, None};
 ghost use Rattle.ssh_wire.specs.Wire.{IsBytes};
@@ -31,9 +31,9 @@ use key_text::laws::{
 use ssh_cert::laws::{asked_where_spelled, not_asked_by_first_fault, read_where_spelled};
 use ssh_key::laws::blob_read_back;
 
-/// Nothing is said of a line without a key. A line with a key is answered, or passed over by the
-/// run, exactly where it spells the key of a plain key or of a certificate; else its first fault,
-/// or that of its blob, ends the run.
+/// A line without a key has no item. A line with a key is answered, or skipped by the run, exactly
+/// where it spells the key of a plain key or of a certificate; otherwise its first fault, or that
+/// of its blob, ends the run.
 pub fn items_by_what_is_spelled()
     ensures none { (answer : Answering) (name : List ℕ) (number : ℕ) (text : List ℕ)
         → has_key text ≡ false → item_of answer name number text ≡ None }
@@ -63,7 +63,8 @@ pub fn items_by_what_is_spelled()
     not_asked_by_first_fault();
 }
 
-/// A container is answered by its public key and its comment; else its first fault ends the run.
+/// A container is answered by its public key and its comment; otherwise its first fault ends the
+/// run.
 pub fn containers_by_what_is_spelled()
     ensures answered { (answer : Answering) (name text blob comment : List ℕ) (asked : Subject)
         (key : PublicKey) → IsBytes text → IsBytes blob → IsContainer text blob comment

@@ -1,5 +1,5 @@
-//! What runs say of the keys of files and how it goes out, and the run that lists keys, as
-//! ssh-keygen(1) does.
+//! The answers of runs for the keys of files and how they are printed, and the run that lists keys,
+//! as ssh-keygen(1) does.
 #![tactic(auto)]
 
 mod answer;

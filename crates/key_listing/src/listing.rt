@@ -22,16 +22,16 @@ use ssh_key::{PublicKey, plain_blob};
 use ssh_wire::Bytes;
 use std::alloc::{AllocError, Global};
 
-/// What is listed of a file.
+/// Which keys of a file are listed.
 #[derive(Clone, Copy)]
 pub enum ListMode {
-    /// Each key in a line. Of a certificate, its plain key is described.
+    /// Each key in a line. For a certificate, its plain key is described.
     Keys,
-    /// Each certificate in several lines. Other keys are read and passed over.
+    /// Each certificate in several lines. Other keys are read and skipped.
     Certs,
 }
 
-// Lists keys or certificates, with fingerprints by a hash. The moment is in seconds from 1970 on.
+// Lists keys or certificates, with fingerprints by a hash. The moment is in seconds since 1970.
 #[derive(Clone, Copy)]
 struct Listing {
     mode: ListMode,
@@ -136,7 +136,7 @@ fn push_location(text: &mut Vec<u8>, name: &str, number: u64) -> Result<(), Allo
     text.extend_from_slice(b":\n")
 }
 
-// What is after the kind: a mark of certificates.
+// The suffix of the kind for a certificate.
 fn certificate_mark(any: &AnyKey) -> &'static [u8]
     ensures { result.now ≡ certificate_mark (asked_of any.now).cert }
 {
@@ -186,8 +186,8 @@ fn push_comment(text: &mut Vec<u8>, comment: &[u8]) -> Result<(), AllocError>
 }
 
 /// Lists each key or each certificate of a file on a writer that has not failed before, with
-/// fingerprints by a hash (ssh-keygen(1), options -l and -L). The moment is in seconds from 1970
-/// on: of a certificate it is said whether it is valid then. The status is 0, or 255 where a fault
+/// fingerprints by a hash (ssh-keygen(1), options -l and -L). The moment, in seconds since 1970, is
+/// the one for which a certificate is reported as valid or not. The status is 0, or 255 if a fault
 /// stops the run.
 pub fn list_run<'a, W: Sink>(
     alloc: Global,

@@ -1,4 +1,4 @@
-//! What prints: lines are gathered to chunks, and what the writer took is counted.
+//! The printer: it collects lines into chunks, and counts what the writer took.
 
 ghost use Rattle.std.specs.Prelude.{◌≡◌, ◌<◌, ◌↔◌, ℕ, IsTrue, List, [], ◌∷◌, MatchResult, Option, false, true, length, OnErr, OnOk};
 ghost use Rattle.key_listing.specs.Carries.{Carries, Reaches};
@@ -13,15 +13,16 @@ use key_files::{Cause, RunFault};
 use std::alloc::AllocError;
 use std::marker::Model;
 
-// How many bytes of lines are sent together, but for the last ones.
+// How many bytes of lines are written together, except the last ones.
 const CHUNK: usize = 65_536;
 
-/// What prints, over a writer. Whole lines wait in a buffer until they fill a chunk. Once the
-/// writer has failed, each call answers that fault again.
+/// A printer with its writer. Complete lines wait in a buffer until they fill a chunk. Once the
+/// writer has failed, each call reports that fault again.
 #[derive(Drop)]
 pub struct Printer<'w, W: Sink> {
-    // A run takes the printer apart at its end, so that what it left of its writer is known.
-    /// Where it prints.
+    // A run takes the printer apart at its end, so that its contract knows the final state of the
+    // writer.
+    /// The writer.
     pub out: &'w mut W,
     buffer: &'w mut Vec<u8>,
     sent: u64,
@@ -44,7 +45,7 @@ impl<'w, W: Sink> Model for Printer<'w, W> {
 }
 
 impl<'w, W: Sink> Printer<'w, W> {
-    /// A printer that has printed nothing. What is in the buffer is thrown away.
+    /// A printer that has printed nothing. The content of the buffer is discarded.
     pub fn new(buffer: &'w mut Vec<u8>, out: &'w mut W) -> Self
         ensures { result ≡ nothing_printed (W.taken out.old) (W.has_failed out.old)
             out.entry.ghost_name }
@@ -58,8 +59,8 @@ impl<'w, W: Sink> Printer<'w, W> {
         }
     }
 
-    /// Prints whole lines about the file or the list of this name, and keeps account of whether
-    /// they say of a key that it is revoked. An output that has failed answers that fault again.
+    /// Prints complete lines about the file or the list with this name, and records whether they
+    /// report a revoked key. An output that has failed reports that fault again.
     pub fn say<'a>(
         &mut self,
         name: &'a str,
@@ -105,7 +106,7 @@ impl<'w, W: Sink> Printer<'w, W> {
         self.buffer.len() < CHUNK
     }
 
-    // Adds lines to what waits. A refusal changes nothing.
+    // Adds lines to those that wait. An error changes nothing.
     fn add(&mut self, lines: &[u8], revoked: bool) -> Result<(), AllocError>
         ensures ok { OnOk result (self.new
             ≡ and_answer self.old (record { text = lines.now; revoked = revoked })) }
@@ -116,7 +117,7 @@ impl<'w, W: Sink> Printer<'w, W> {
         Ok(())
     }
 
-    // Sends all that waits.
+    // Writes all waiting lines.
     fn send<'a>(&mut self) -> Result<(), RunFault<'a>>
         ensures sends { self.old.failed ≡ false → Sends result self.old self.new }
         ensures writer { self.new.writer ≡ self.old.writer }
@@ -132,8 +133,8 @@ impl<'w, W: Sink> Printer<'w, W> {
         Ok(())
     }
 
-    /// Ends a run: sends what waits, unless the output has failed. The status is 255 where the run
-    /// stopped, else 1 where it said of a key that it is revoked, else 0.
+    /// Ends a run: writes the waiting lines, unless the output has failed. The status is 255 if the
+    /// run stopped early, otherwise 1 if it reported a revoked key, otherwise 0.
     pub fn finish<'a>(&mut self, stop: Option<RunFault<'a>>) -> Done<'a>
         ensures ends { (before : Option (List ℕ)) (run : List Item)
             → Reaches before run stop.entry self.old
@@ -154,7 +155,7 @@ impl<'w, W: Sink> Printer<'w, W> {
     }
 }
 
-// Whether it is the output that stopped a run.
+// Whether the output stopped a run.
 fn is_lost(stop: &Option<RunFault>) -> bool
     ensures { result ≡ is_lost stop.now }
 {

@@ -1,4 +1,4 @@
-//! What the parts of a run share.
+//! The state that the parts of a run share.
 
 ghost use Rattle.std.specs.Prelude.{◌≡◌, ◌∷◌, [], ℕ, List, OnOk};
 ghost use Rattle.key_listing.specs.Carries.{Carries};
@@ -9,7 +9,8 @@ use byte_streams::Sink;
 use key_files::{Cause, RunFault};
 use std::alloc::{AllocError, Global};
 
-/// What the parts of a run share: memory, what prints, and a line that is made.
+/// The state that the parts of a run share: the allocator, the printer, and a line that is being
+/// made.
 #[derive(Drop)]
 pub struct Run<'w, W: Sink> {
     pub alloc: Global,
@@ -18,7 +19,7 @@ pub struct Run<'w, W: Sink> {
 }
 
 impl<'w, W: Sink> Run<'w, W> {
-    /// Says the line that was made, unless no memory was left for it.
+    /// Prints the line that was made, unless an allocation for it failed.
     pub fn say_line<'a>(
         &mut self,
         name: &'a str,

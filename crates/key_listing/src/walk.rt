@@ -1,4 +1,4 @@
-//! Going over the keys of files.
+//! The walk over the keys of files.
 
 ghost use Rattle.std.specs.Prelude.{◌≡◌, ◌∷◌, [], IfOk, Ok, OnOk};
 ghost use Rattle.std.specs.Result.{IsOk};
@@ -31,7 +31,7 @@ pub fn print_files<'a, A: Answers, W: Sink>(
     Ok(())
 }
 
-/// Prints the answers for each key of a file. Something must be said of it.
+/// Prints the answers for each key of a file. A file without an answer is a fault.
 pub fn print_file<'a, A: Answers, W: Sink>(
     run: &mut Run<W>,
     answers: &A,
@@ -52,7 +52,7 @@ pub fn print_file<'a, A: Answers, W: Sink>(
     Ok(())
 }
 
-// Prints the answer for a key, and reports whether something is said of it.
+// Prints the answer for a key, and returns whether there is one.
 fn print_key<'a, A: Answers, W: Sink>(
     run: &mut Run<W>,
     answers: &A,
@@ -74,7 +74,7 @@ fn print_key<'a, A: Answers, W: Sink>(
     Ok(true)
 }
 
-// What a run says of a key.
+// The answer of a run for a key.
 fn answer_key<'a, A: Answers>(
     alloc: Global,
     answers: &A,

@@ -1,4 +1,4 @@
--- What is said of lines, with the certificate that is read.
+-- The items of lines, with the certificate that is read.
 use Rattle.std.proofs.Common.{Some, Result, ap, refl, ◌∙◌}
 use Rattle.std.specs.Result.{result_ok}
 use Rattle.ssh_cert.specs.Cert.{Cert}

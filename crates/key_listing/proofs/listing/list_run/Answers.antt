@@ -1,4 +1,4 @@
--- What was said is sent, and the end of the run reported.
+-- The answers are written, and the end of the run reported.
 use Rattle.std.proofs.Common.{refl, rules}
 use Rattle.key_files.specs.Keys.{keys_of}
 use Rattle.key_listing.specs.Listing.{list_run_of}

@@ -1,4 +1,4 @@
--- Each key carries the run on, or stops it.
+-- Each key continues the run, or stops it.
 use Rattle.std.proofs.Common.{◌∷◌, Ok, Result, ap, ◌∙◌}
 use Rattle.std.proofs.lemmas.Result.{err_from_is_err_and}
 use Rattle.key_files.specs.Keys.{Named, FileKey}

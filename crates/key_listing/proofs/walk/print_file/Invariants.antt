@@ -1,4 +1,4 @@
--- The keys so far are answered, and the others are left, which are expected too.
+-- The keys so far were answered, and the others are left, and are expected too.
 use Rattle.key_listing.specs.Expected.{AreExpected}
 use Rattle.key_listing.specs.Run.{Answering}
 use Rattle.key_listing.proofs.Answering.{IsReached, key_items}

@@ -1,4 +1,4 @@
--- Each file carries the run on, or stops it.
+-- Each file continues the run, or stops it.
 use Rattle.std.proofs.lemmas.Result.{err_from_is_err_and}
 use Rattle.key_listing.proofs.Answering.{none_answered, file_carried, file_stops}
 use Rattle.key_listing.proofs.walk.print_files.Goals as goal

@@ -1,4 +1,4 @@
--- The files so far are answered for.
+-- The files so far were answered.
 use Rattle.std.proofs.Common.{Ok, take}
 use Rattle.key_listing.specs.Carries.{Carries}
 use Rattle.key_listing.specs.Run.{Answering, files_items}

@@ -1,4 +1,4 @@
--- Nothing is said of the key, or its answer.
+-- The key has no answer, or its answer is printed.
 use Rattle.std.proofs.Common.{Bool, true, false, [], ◌∷◌, Ok, ap, refl, subst, sym}
 use Rattle.key_listing.specs.Carries.{Carries}
 use Rattle.key_files.specs.Keys.{FileKey}

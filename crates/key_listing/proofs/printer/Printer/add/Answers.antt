@@ -1,4 +1,4 @@
--- The lines wait, and an earlier answer stands.
+-- The lines wait, and an earlier answer is kept.
 use Rattle.std.proofs.Common.{rules}
 use Rattle.key_listing.proofs.printer.Printer.add.Goals as goal
 

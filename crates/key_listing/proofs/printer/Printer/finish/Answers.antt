@@ -1,4 +1,4 @@
--- What waits is sent, unless the output has failed.
+-- The waiting lines are written, unless the output has failed.
 use Rattle.std.proofs.Common.{sym, ap, ◌∙◌}
 use Rattle.key_listing.specs.Printer.{Printer}
 use Rattle.key_listing.proofs.Ending.{ends_lost, ends_sent}

@@ -1,4 +1,4 @@
--- The answer waits, or is sent.
+-- The answer waits, or is written.
 use Rattle.std.proofs.Common.{ap, ◌∙◌}
 use Rattle.key_listing.specs.Printer.{Printer}
 use Rattle.key_listing.proofs.Carrying.{carries_added, carries_lost, carries_sent}

@@ -1,4 +1,4 @@
--- A part of what waited was sent.
+-- A part of the waiting lines was written.
 use Rattle.key_listing.proofs.printer.Printer.send.Goals as goal
 
 pub returns-in-Err-clause-sends : goal.returns-in-Err-clause-sends
