@@ -5,10 +5,10 @@ use krl_job::number_of;
 use std::env::{self, VarError};
 use std::time::{SystemTime, UNIX_EPOCH};
 
-// What names the date of what is made, so that it can be made again with the same bytes.
+// The variable with the date of the output, so that it can be made again with the same bytes.
 const DATE: &str = "SOURCE_DATE_EPOCH";
 
-/// The date of a list that is made now: what the environment says, where that is a number, else the
+/// The date of a list that is made now: that of the environment if it is a number, otherwise the
 /// present moment.
 pub fn date(rt: &HostRuntime) -> Result<u64, Cause> {
     match env::var(rt, DATE) {

@@ -1,4 +1,4 @@
-//! The files that the command names.
+//! The files that the command line names.
 
 use byte_streams::FromRead;
 use key_files::{Cause, FileFault, Named, RunFault, load};
@@ -9,7 +9,7 @@ use std::io::BufReader;
 // How many bytes of a list are read ahead.
 const BUFFER: usize = 65_536;
 
-/// The list of this name, with a buffer.
+/// The list with this name, with a buffer.
 pub fn open_list(rt: &HostRuntime, name: &str) -> Result<BufReader<File>, Cause> {
     match fs::open(rt, name) {
         Ok(file) => buffered(rt, file),
@@ -25,7 +25,7 @@ pub fn buffered(rt: &HostRuntime, file: File) -> Result<BufReader<File>, Cause> 
     }
 }
 
-/// The file of this name.
+/// The file with this name.
 pub fn open<'a>(rt: &HostRuntime, name: &'a str) -> Named<'a> {
     match fs::open(rt, name) {
         Ok(file) => load(rt.alloc(), name, FromRead::new(file)).0,
@@ -36,7 +36,7 @@ pub fn open<'a>(rt: &HostRuntime, name: &'a str) -> Named<'a> {
     }
 }
 
-/// The file of this name, or standard input where the name is `-`.
+/// The file with this name, or standard input if the name is `-`.
 pub fn open_or_input<'a>(rt: &HostRuntime, name: &'a str) -> Named<'a> {
     if name == "-" {
         load(rt.alloc(), name, FromRead::new(rt.stdin())).0
@@ -45,7 +45,7 @@ pub fn open_or_input<'a>(rt: &HostRuntime, name: &'a str) -> Named<'a> {
     }
 }
 
-/// The files of these names, each `-` standard input.
+/// The files with these names; each `-` is standard input.
 pub fn open_inputs<'a>(
     rt: &HostRuntime,
     names: &[&'a str],
@@ -60,7 +60,7 @@ pub fn open_inputs<'a>(
     Ok(files)
 }
 
-/// What `-s` gives: its file is read.
+/// The authority of `-s`, with its file read.
 pub fn open_authority<'a>(rt: &HostRuntime, name: &Authority<&'a str>) -> Authority<Named<'a>> {
     match name {
         Authority::NotGiven => Authority::NotGiven,

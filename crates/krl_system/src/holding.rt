@@ -1,4 +1,4 @@
-//! Where a list is written, held against other updates of it.
+//! Where a list is written, locked against other updates of it.
 
 use crate::locking::{Lock, lock_beside, lock_from_writers, lock_list, unlock};
 use crate::names::followed;
@@ -8,49 +8,49 @@ use std::fs::{self, File, Metadata, OpenOptions};
 use std::io::{self, ErrorKind};
 use std::os::unix::fs::MetadataExt;
 
-/// What the bytes of a list are made of, beside its lines.
+/// The source of the new list, besides its lines.
 #[derive(Clone, Copy, PartialEq, Eq)]
 pub enum MadeOf {
-    /// Nothing: the list is made anew.
+    /// Nothing: it is a new list.
     Lines,
-    /// The list that has the name, which is read once it is held.
+    /// The list with this name, which is read once it is held.
     List,
-    /// What a pipe or a device gave.
+    /// The bytes from a pipe or a device.
     Stream,
 }
 
 /// Where a list is written.
 #[derive(Drop)]
 pub enum Target {
-    /// Over a list.
+    /// Over an existing list.
     List(OldList),
-    /// At this path, where nothing stands.
+    /// At this path, where no file exists.
     Free(String),
     /// Into a pipe or a device.
     Stream(File),
 }
 
-/// A regular file that a list takes the place of.
+/// A regular file that a list replaces.
 #[derive(Drop)]
 pub struct OldList {
     /// The file, open for writing.
     pub file: File,
-    /// What the system says of it.
+    /// Its metadata when it was opened.
     pub found: Metadata,
-    /// The path at which it stands, over links.
+    /// Its path, with links followed.
     pub path: String,
 }
 
-/// Where a list is written, which no other update reads or writes as long as this is held.
+/// Where a list is written. No other update reads or writes it while this is held.
 #[derive(Drop)]
 pub struct Held {
-    /// Where that is.
+    /// The place.
     pub target: Target,
-    // None where a list is written in place, which is locked itself, and for a stream.
+    // None if a list is written in place, since it is locked itself, and for a stream.
     pub(crate) lock: Option<Lock>,
 }
 
-// What has a name.
+// The file to which a name refers.
 #[derive(Drop)]
 enum Opened {
     List(File, Metadata),
@@ -58,17 +58,18 @@ enum Opened {
     Stream(File),
 }
 
-/// Where the list of this name is to be written, once no other update holds it; none where the name
-/// leads to another file by then. It is opened as one that is to be written, and read too where the
-/// list is made of it, so who may not do that, or may not follow the link to it, is refused. What
-/// was read of a stream goes into a stream alone, and what is read of a list into none.
+/// Where to write the list with this name, once no other update holds it; none if the name leads to
+/// another file by then. It is opened for writing, and also for reading if the list is made from
+/// it, so a user who may not do that, or may not follow the link to it, gets an error. A list that
+/// is made from a stream is written only to a stream, and a list that is made from a list never to
+/// a stream.
 pub fn hold(
     rt: &HostRuntime,
     name: &str,
     made_of: MadeOf,
     waiting: &mut Waiting,
 ) -> Result<Option<Held>, Cause> {
-    // A link that is made after this is not followed.
+    // A link that is created later is not followed.
     let path = path_of(rt, name)?;
     let list = match (named(rt, name, made_of)?, made_of) {
         (Opened::Stream(file), MadeOf::Lines | MadeOf::Stream) => {
@@ -99,7 +100,7 @@ pub fn hold(
     }
 }
 
-/// Lets other updates go on.
+/// Lets other updates continue.
 pub fn release(rt: &HostRuntime, held: Held) {
     unlock_all(rt, held.lock);
 }
@@ -110,7 +111,7 @@ fn unlock_all(rt: &HostRuntime, lock: Option<Lock>) {
     }
 }
 
-// What has the name once the lock beside it is there, where that is still at the path.
+// The file to which the name refers once the lock beside it is taken, if that is still at the path.
 fn beside_lock(
     rt: &HostRuntime,
     name: &str,
@@ -132,7 +133,7 @@ fn beside_lock(
     }
 }
 
-// The list that is written in place, with a lock on it.
+// The list to be written in place, locked.
 fn in_place(
     rt: &HostRuntime,
     name: &str,
@@ -157,7 +158,7 @@ fn in_place(
     }
 }
 
-// Opens what has the name.
+// Opens what the name refers to.
 fn named(rt: &HostRuntime, name: &str, made_of: MadeOf) -> Result<Opened, Cause> {
     let mut options = OpenOptions::new();
     options.read(made_of == MadeOf::List).write(true);
@@ -175,13 +176,13 @@ fn named(rt: &HostRuntime, name: &str, made_of: MadeOf) -> Result<Opened, Cause>
     }
 }
 
-// The path of the file that the name leads to.
+// The path of the file to which the name leads.
 fn path_of(rt: &HostRuntime, name: &str) -> Result<String, Cause> {
     followed(rt, name).map_err(|error| unopened(&error))
 }
 
-// Whether the name still leads to the path, and the old list stands there, or nothing where there is
-// none.
+// Whether the name still leads to the path, and the old list is there, or no file if there is no
+// old list.
 fn leads_to_path(
     rt: &HostRuntime,
     name: &str,
@@ -191,8 +192,8 @@ fn leads_to_path(
     Ok(path_of(rt, name)?.as_str() == path && is_at(rt, path, old))
 }
 
-// Whether the old list stands at this path, or nothing where there is none. Its name may have led
-// to it in another way, as one of `/proc` does, or may have got another file meanwhile.
+// Whether the old list is at this path, or no file if there is no old list. Its name may have led
+// to it in another way, like a link in `/proc`, or may refer to another file by now.
 pub(crate) fn is_at(rt: &HostRuntime, path: &str, old: Option<&Metadata>) -> bool {
     match (fs::symlink_metadata(rt, path), old) {
         (Ok(found), Some(old)) => is_same(&found, old),
@@ -201,7 +202,7 @@ pub(crate) fn is_at(rt: &HostRuntime, path: &str, old: Option<&Metadata>) -> boo
     }
 }
 
-// Whether both are of one file.
+// Whether both are metadata of the same file.
 pub(crate) fn is_same(left: &Metadata, right: &Metadata) -> bool {
     left.dev() == right.dev() && left.ino() == right.ino()
 }

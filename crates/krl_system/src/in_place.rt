@@ -1,4 +1,4 @@
-//! A list that is written in place, where its folder takes no new file.
+//! Writing a list in place, if its folder takes no new file.
 
 ghost use Rattle.std.specs.Prelude.{◌<◌, ◌≤◌, IfErr, length};
 
@@ -6,17 +6,16 @@ use byte_streams::{ToWrite, send};
 use std::fs::File;
 use std::io::{Seek, SeekFrom};
 
-// Where the format version of a list stands, after its magic, and where it ends.
+// The offset of the format version, after the magic of a list, and the offset of its end.
 const VERSION: usize = 8;
 
 const FRONT: usize = 12;
-// Each byte of a format version that no reader of lists takes.
+// Each byte of a format version that no reader of lists accepts.
 const NO_VERSION: u8 = 0xff;
 
-// Writes a list over another file. Until all of it is written and synced, its format version is
-// one that every reader refuses: so none takes a part of the list for the whole, nor finds it
-// empty, also where the writing fails or the machine stops. A fault is the count of bytes that
-// went out.
+// Writes a list over another file. Until all of it is written and synced, its format version is one
+// that every reader rejects. So no reader takes a part of the list for the whole, or finds it
+// empty, even if writing fails or the machine stops. The error is the number of bytes written.
 pub(crate) fn write_in_place(file: &File, text: &[u8]) -> Result<(), u64>
     ensures bound { IfErr result (λ count. count ≤ length text.now) }
 {
@@ -34,7 +33,7 @@ pub(crate) fn write_in_place(file: &File, text: &[u8]) -> Result<(), u64>
     }
 }
 
-// Writes the front of the list, with a version that no reader takes. It is synced before anything
+// Writes the front of the list, with a version that no reader accepts. It is synced before anything
 // else changes.
 fn begin(file: &File, front: &[u8; FRONT]) -> Result<(), u64>
     ensures bound { IfErr result (λ count. count ≤ 12) }
@@ -48,8 +47,8 @@ fn begin(file: &File, front: &[u8; FRONT]) -> Result<(), u64>
     }
 }
 
-// Cuts the file to the length of the list, and gives it the true version once the rest is synced.
-// Says whether that was done.
+// Truncates the file to the length of the list, and writes the true version once the rest is
+// synced. Returns whether that succeeded.
 fn end(file: &File, version: &[u8], length: u64) -> bool {
     file.set_len(length).is_ok()
         && file.sync_all().is_ok()
@@ -57,7 +56,7 @@ fn end(file: &File, version: &[u8], length: u64) -> bool {
         && file.sync_all().is_ok()
 }
 
-// Writes the bytes from this one of the file on. A fault is the count of those that went out.
+// Writes the bytes at this offset. The error is the number of bytes written.
 fn send_at(file: &File, at: u64, text: &[u8]) -> Result<(), u64>
     ensures short { IfErr result (λ count. count ≤ length text.now) }
 {
@@ -68,7 +67,7 @@ fn send_at(file: &File, at: u64, text: &[u8]) -> Result<(), u64>
     send_all(file, text)
 }
 
-// Writes the bytes. A fault is the count of those that went out.
+// Writes the bytes. The error is the number of bytes written.
 pub(crate) fn send_all(file: &File, text: &[u8]) -> Result<(), u64>
     ensures short { IfErr result (λ count. count < length text.now) }
 {

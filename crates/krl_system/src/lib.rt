@@ -1,5 +1,5 @@
-//! What the program asks of the system: files are opened, a list is held and replaced, a fault is
-//! printed, and the clock is read.
+//! The program's calls of the operating system: opening files, holding and replacing a list,
+//! printing a fault, and reading the clock.
 #![tactic(auto)]
 
 mod clock;

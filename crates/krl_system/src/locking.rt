@@ -1,4 +1,4 @@
-//! The lock of an update: a file beside the list, as long as the update is at work.
+//! The lock of an update: a file beside the list that exists while the update is at work.
 
 ghost use Rattle.std.specs.Prelude.{◌≡◌, ◌↔◌, ◌⊎◌, IsTrue};
 
@@ -11,14 +11,14 @@ use std::fs::{self, File, Metadata, OpenOptions, TryLockError};
 use std::io::{self, ErrorKind};
 use std::os::unix::fs::{FileExt, MetadataExt, OpenOptionsExt};
 
-// Linux's number of the error that there are no locks, ENOLCK.
+// The number of the error ENOLCK on Linux: there are no locks.
 const NO_LOCKS: i32 = 37;
-// Where the format version of a list stands, and the one of a list that is being written in place.
+// The offset of a list's format version, and the version of a list that is being written in place.
 const VERSION_AT: u64 = 8;
 
 const NO_VERSION: [u8; 4] = [0xff; 4];
 
-/// The file of a lock, with the lock on it.
+/// The file of a lock, locked.
 #[derive(Drop)]
 pub struct Lock {
     file: File,
@@ -26,10 +26,10 @@ pub struct Lock {
     path: String,
 }
 
-// What came of asking for the lock once.
+// The result of one attempt to take the lock.
 #[derive(Drop)]
 enum Asked {
-    // It is there.
+    // It is taken.
     Locked(File, Metadata),
     // Another update has it, or nobody may take it.
     Busy,
@@ -39,8 +39,8 @@ enum Asked {
     NoFile,
 }
 
-// The lock beside the path of a list; none where its folder takes no new file. Who may write the
-// list can open the file of the lock, and who may only read the list cannot.
+// The lock beside the path of a list; none if its folder takes no new file. Users who may write the
+// list can open the file of the lock; users who may only read the list cannot.
 pub(crate) fn lock_beside(
     rt: &HostRuntime,
     path: &str,
@@ -76,7 +76,8 @@ pub(crate) fn lock_beside(
     Err(Cause::File(FileFault::Locked))
 }
 
-// Asks for the lock once. Nothing of that name is followed or written to.
+// Tries to take the lock once. If the name is a link or another file, it is neither followed nor
+// written to.
 fn ask(rt: &HostRuntime, name: &str, path: &str, list: Option<&Metadata>) -> io::Result<Asked> {
     let mut options = OpenOptions::new();
     options.read(true).write(true).create_new(true).mode(CLOSED);
@@ -88,7 +89,7 @@ fn ask(rt: &HostRuntime, name: &str, path: &str, list: Option<&Metadata>) -> io:
     }
 }
 
-// Asks for a lock whose file was made for that.
+// Takes the lock with a file that was created for it.
 fn ask_new(rt: &HostRuntime, name: &str, file: File, list: Option<&Metadata>) -> io::Result<Asked> {
     let asked = lock_named(rt, name, file);
     match (&asked, list) {
@@ -101,7 +102,7 @@ fn ask_new(rt: &HostRuntime, name: &str, file: File, list: Option<&Metadata>) ->
     asked
 }
 
-// Asks for a lock whose file is there already, of an update that is at work or was killed.
+// Takes the lock with a file that exists already, of an update that is at work or was killed.
 fn ask_other(
     rt: &HostRuntime,
     name: &str,
@@ -129,7 +130,7 @@ fn ask_other(
     }
 }
 
-// Locks the file, which still has its name then.
+// Locks the file, if it still has its name then.
 fn lock_named(rt: &HostRuntime, name: &str, file: File) -> io::Result<Asked> {
     if !takes_lock(&file)? {
         return Ok(Asked::Busy);
@@ -142,7 +143,7 @@ fn lock_named(rt: &HostRuntime, name: &str, file: File) -> io::Result<Asked> {
     }
 }
 
-// What has the name itself, which may be a link; none where it is free.
+// The metadata of the name itself, which may be a link; none if no file has it.
 fn seen(rt: &HostRuntime, name: &str) -> io::Result<Option<Metadata>> {
     match fs::symlink_metadata(rt, name) {
         Ok(found) => Ok(Some(found)),
@@ -151,8 +152,8 @@ fn seen(rt: &HostRuntime, name: &str) -> io::Result<Option<Metadata>> {
     }
 }
 
-// Whether the file is locked now, and not by another update. Where there are no locks, it is used
-// without.
+// Tries to lock the file. Returns false if another update has it locked, and true also if there are
+// no locks: the file is used without one then.
 fn takes_lock(file: &File) -> io::Result<bool> {
     match file.try_lock() {
         Ok(()) => Ok(true),
@@ -163,7 +164,7 @@ fn takes_lock(file: &File) -> io::Result<bool> {
     }
 }
 
-// The user as whom files are made in the folder of the path; none where it takes no new file.
+// The user who owns new files in the folder of the path; none if the folder takes no new file.
 fn maker(rt: &HostRuntime, path: &str) -> io::Result<Option<u32>> {
     let name = new_name(rt, path)?;
     let mut options = OpenOptions::new();
@@ -179,7 +180,7 @@ fn maker(rt: &HostRuntime, path: &str) -> io::Result<Option<u32>> {
     }
 }
 
-// Whether this says that a folder takes no new file, or none with so long a name.
+// Whether the error says that a folder takes no new file, or none with so long a name.
 pub(crate) fn takes_no_file(reason: ErrorKind) -> bool
     ensures { IsTrue result ↔ ((reason ≡ ErrorKind.PermissionDenied)
         ⊎ ((reason ≡ ErrorKind.ReadOnlyFilesystem) ⊎ (reason ≡ ErrorKind.InvalidFilename))) }
@@ -190,8 +191,8 @@ pub(crate) fn takes_no_file(reason: ErrorKind) -> bool
     )
 }
 
-// Takes the file of a lock away, unless the name has another one, and then the lock. Who waited
-// makes a new one.
+// Removes the file of a lock, unless the name refers to another file, and then releases the lock.
+// An update that was waiting creates a new file.
 pub(crate) fn unlock(rt: &HostRuntime, lock: Lock) {
     match fs::symlink_metadata(rt, lock.path.as_str()) {
         Ok(now) if !is_same(&now, &lock.found) => {}
@@ -202,7 +203,7 @@ pub(crate) fn unlock(rt: &HostRuntime, lock: Lock) {
     drop(lock);
 }
 
-// Locks a list that is written in place.
+// Locks a list that is to be written in place.
 pub(crate) fn lock_list(rt: &HostRuntime, list: &File, waiting: &mut Waiting) -> Result<(), Cause> {
     for _ in 0..=TURNS {
         match takes_lock(list) {
@@ -214,8 +215,9 @@ pub(crate) fn lock_list(rt: &HostRuntime, list: &File, waiting: &mut Waiting) ->
     Err(Cause::File(FileFault::Locked))
 }
 
-// Locks a list that is replaced, against those who write it in place. Who may only read it can lock
-// it too, so it is used without the lock after a second, unless it is being written.
+// Locks a list that is to be replaced, against updates that write it in place. A user who may only
+// read it can lock it too, so after a second it is used without the lock, unless it is being
+// written.
 pub(crate) fn lock_from_writers(
     rt: &HostRuntime,
     list: &File,
@@ -232,7 +234,7 @@ pub(crate) fn lock_from_writers(
     Err(Cause::File(FileFault::Locked))
 }
 
-// Whether the list has the format version that it has while it is written in place.
+// Whether the list has the format version of a list that is being written in place.
 fn is_being_written(list: &File) -> bool {
     let mut version = [0; 4];
     list.read_exact_at(&mut version, VERSION_AT).is_ok() && version == NO_VERSION

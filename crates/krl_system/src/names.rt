@@ -5,16 +5,16 @@ use std::fs;
 use std::io::{self, ErrorKind};
 use std::random::RandomSource;
 
-// How many links are followed to a file, as Linux does.
+// How many links are followed to a file, as on Linux.
 const LINKS: usize = 40;
-// How many bytes of the list's name are in those of the files beside it. So these are short enough
-// for file systems that take only 143 bytes.
+// How many bytes of the list's name are in the names of the files beside it. These are then short
+// enough for file systems that allow only 143 bytes.
 const FRONT: usize = 100;
 
-// The path of the file that the name leads to, over links. There need be none.
+// The path of the file to which the name leads, with links followed. The file need not exist.
 pub(crate) fn followed(rt: &HostRuntime, name: &str) -> io::Result<String> {
     let mut path = String::from_str(rt.alloc(), name)?;
-    // After the last link the file itself is looked at.
+    // The last iteration looks at the file after the last link.
     for _ in 0..=LINKS {
         let link = match fs::read_link(rt, path.as_str()) {
             Ok(link) => link,
@@ -28,7 +28,7 @@ pub(crate) fn followed(rt: &HostRuntime, name: &str) -> io::Result<String> {
     Err(io::Error::from(ErrorKind::FilesystemLoop))
 }
 
-// The path of a name as it is in the folder of another path.
+// The path of a name, relative to the folder of another path.
 pub(crate) fn beside(alloc: Global, path: &str, name: &str) -> io::Result<String> {
     match path.rsplit_once('/') {
         Some((folder, _)) if !name.starts_with('/') => Ok(format!(in alloc; "{folder}/{name}")?),
@@ -43,7 +43,7 @@ pub(crate) fn lock_name(alloc: Global, path: &str) -> io::Result<String> {
     beside(alloc, path, name.as_str())
 }
 
-// A path in the same folder, of a file that is most likely not there.
+// A path in the same folder, of a file that most likely does not exist.
 pub(crate) fn new_name(rt: &HostRuntime, path: &str) -> io::Result<String> {
     let front = front_of(path);
     let mut bytes = [0u8; 8];
@@ -53,7 +53,7 @@ pub(crate) fn new_name(rt: &HostRuntime, path: &str) -> io::Result<String> {
     beside(rt.alloc(), path, name.as_str())
 }
 
-// The front of the name that a path has in its folder.
+// The front of the last component of a path.
 fn front_of(path: &str) -> &str {
     let last = match path.rsplit_once('/') {
         Some((_, last)) => last,

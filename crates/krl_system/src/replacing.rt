@@ -1,5 +1,5 @@
-//! A list is replaced whole or not at all: its bytes go to a new file beside it, which then takes
-//! its name.
+//! Replacing a list whole or not at all: its bytes are written to a new file beside it, which is
+//! then renamed.
 
 use crate::holding::{Held, OldList, Target, is_at, is_same, unopened};
 use crate::in_place::{send_all, write_in_place};
@@ -12,29 +12,29 @@ use std::os::unix::fs::{MetadataExt, OpenOptionsExt};
 
 // How many names are tried for the new file.
 const TRIES: usize = 16;
-// Of a new file that does not take the name of the list no byte stands.
+// The fault of a new file that does not replace the list: no byte of it counts as written.
 const UNWRITTEN: Cause = Cause::Output { count: 0 };
 
-/// What came of writing a list.
+/// The result of writing a list.
 #[derive(Clone, Copy)]
 pub enum Written {
-    /// All of it stands under its name.
+    /// All of it is written under its name.
     Whole,
-    /// Its name leads to another file by now, or that was changed, and is to be written anew.
+    /// Its name leads to another file by now, or that file was changed. The list must be made anew.
     Elsewhere,
 }
 
-// Where a list gets its name.
+// The name and the path of a list.
 #[derive(Clone, Copy)]
 struct Place<'a> {
-    // As the user gave it.
+    // The name, as the user gave it.
     name: &'a str,
-    // Over links.
+    // The path, with links followed.
     path: &'a str,
     old: Option<&'a OldList>,
 }
 
-/// Writes a list under its name. On a fault an old list stands as it was, unless its folder takes no
+/// Writes a list under its name. On a fault an old list is unchanged, unless its folder takes no
 /// new file.
 pub fn write_list<'a>(
     rt: &HostRuntime,
@@ -68,7 +68,7 @@ pub fn write_list<'a>(
     }
 }
 
-// Writes the list in place. What was written there counts only if the name still leads to it then.
+// Writes the list in place. This counts only if the name still leads to the file afterwards.
 fn overwrite(rt: &HostRuntime, name: &str, old: &OldList, text: &[u8]) -> Result<Written, Cause> {
     if !is_as_opened(rt, old) {
         return Ok(Written::Elsewhere);
@@ -79,7 +79,7 @@ fn overwrite(rt: &HostRuntime, name: &str, old: &OldList, text: &[u8]) -> Result
     }
 }
 
-// Writes the list to a new file, which takes the place of the old one.
+// Writes the list to a new file, which replaces the old one.
 fn replace(rt: &HostRuntime, place: Place<'_>, text: &[u8]) -> Result<Written, Cause> {
     let new = match create_beside(rt, place) {
         Ok(new) => new,
@@ -106,7 +106,7 @@ struct NewFile {
     path: String,
 }
 
-// A file that was not there before, in the folder of the list.
+// A new file in the folder of the list.
 fn create_beside(rt: &HostRuntime, place: Place<'_>) -> io::Result<NewFile> {
     let mut options = OpenOptions::new();
     options.write(true).create_new(true);
@@ -122,8 +122,8 @@ fn create_beside(rt: &HostRuntime, place: Place<'_>) -> io::Result<NewFile> {
     Err(io::Error::from(ErrorKind::AlreadyExists))
 }
 
-// All of a new file until it takes the name of the list, and what the system says of it. It is
-// synced, so that what happens when it is closed loses no byte.
+// Writes and syncs a new file before it gets the name of the list, and returns its metadata.
+// Synced, it loses no byte if closing it fails.
 fn finish(file: &File, old: Option<&OldList>, text: &[u8]) -> Result<Metadata, Cause> {
     if let Some(old) = old
         && keep_rights(file, &old.found).is_err()
@@ -136,9 +136,10 @@ fn finish(file: &File, old: Option<&OldList>, text: &[u8]) -> Result<Metadata, C
     file.metadata().map_err(|_| UNWRITTEN)
 }
 
-// Gives the new file the name of the list. Where none had the name, no file is replaced that got it
-// meanwhile: a link is only made to a name that is free. Where there are no links, as on some file
-// systems, and else, the name is looked at right before.
+// Gives the new file the name of the list. If no file had the name, a link is made, which succeeds
+// only if the name is still free, so that no file is replaced that was created meanwhile. If no
+// link can be made, as on some file systems, and if there is an old list, the name is checked
+// directly before the new file is renamed.
 fn give_name(rt: &HostRuntime, new: &str, place: Place<'_>) -> Result<Written, Cause> {
     if place.old.is_none() && fs::hard_link(rt, new, place.path).is_ok() {
         let _ = fs::remove_file(rt, new);
@@ -157,7 +158,7 @@ fn give_name(rt: &HostRuntime, new: &str, place: Place<'_>) -> Result<Written, C
     }
 }
 
-// Whether the old list still stands at its path, and was not written to since it was opened.
+// Whether the old list is still at its path, and was not written to since it was opened.
 fn is_as_opened(rt: &HostRuntime, old: &OldList) -> bool {
     match old.file.metadata() {
         Ok(now) => {
@@ -169,8 +170,9 @@ fn is_as_opened(rt: &HostRuntime, old: &OldList) -> bool {
     }
 }
 
-// Follows the name once more, to the list that was put there. One that leads to another file was
-// turned meanwhile. One that leads to the old list, which has no name any more, is of `/proc`.
+// Follows the name once more, to the list that was written. If it leads to another file, it was
+// changed meanwhile. If it leads to the old list, which has no name any more, it is a link in
+// `/proc`.
 fn looked_at(
     rt: &HostRuntime,
     name: &str,
@@ -188,8 +190,8 @@ fn looked_at(
     }
 }
 
-// The new name outlasts a machine that stops, where the folder can be synced. The list has its
-// name by now, so a folder that cannot be synced is no fault of it.
+// Syncs the folder if possible, so that the new name survives if the machine stops. The list has
+// its name already, so it is no fault if the folder cannot be synced.
 fn sync_folder(rt: &HostRuntime, path: &str) {
     if let Ok(folder) = beside(rt.alloc(), path, ".")
         && let Ok(folder) = fs::open(rt, folder.as_str())

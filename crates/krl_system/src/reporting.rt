@@ -3,8 +3,7 @@
 use byte_streams::{ToWrite, send};
 use key_files::{RunFault, fault_text};
 
-/// Prints on standard error why a run stopped. Where there is no memory for the line, nothing is
-/// printed.
+/// Prints on standard error why a run stopped. If the line cannot be allocated, nothing is printed.
 pub fn report(rt: &HostRuntime, fault: &RunFault) {
     if let Ok(line) = fault_text(rt.alloc(), fault) {
         print_line(rt, line.as_slice());

@@ -9,11 +9,11 @@ use std::alloc::{AllocError, Global};
 use std::thread::sleep;
 use std::time::Duration;
 
-// How many milliseconds a turn of waiting takes: few, since an update takes one or so.
+// The length of a turn of waiting in milliseconds: short, since an update takes one or so.
 const TURN: u64 = 10;
-// How many turns there are: a minute, which is far longer than an update takes.
+// The number of turns: a minute, which is far longer than an update takes.
 pub(crate) const TURNS: u32 = 6_000;
-// How many turns are a second.
+// The number of turns in a second.
 pub(crate) const SECOND: u32 = 100;
 
 /// How long an update has waited for others.
@@ -24,14 +24,15 @@ pub struct Waiting<'a> {
 }
 
 impl<'a> Waiting<'a> {
-    /// An update of the list of this name, which has not waited yet.
+    /// An update of the list with this name, which has not waited yet.
     pub fn new(name: &'a str) -> Waiting<'a>
         ensures { result.turns ≡ 0 }
     {
         Waiting { name, turns: 0 }
     }
 
-    // Waits for a turn. After a second a line on standard error says so, once. There is a last turn.
+    // Waits for a turn. After a second it prints a line on standard error, once. Fails after the
+    // last turn.
     pub(crate) fn wait(&mut self, rt: &HostRuntime) -> Result<(), Cause>
         ensures ends { IsErr result ↔ (TURNS ≤ self.old.turns) }
     {
@@ -47,7 +48,7 @@ impl<'a> Waiting<'a> {
     }
 }
 
-// Says on standard error that an update waits. Where there is no memory for the line, nothing is
+// Prints on standard error that an update waits. If the line cannot be allocated, nothing is
 // printed, and a fault of standard error cannot be reported.
 fn announce(rt: &HostRuntime, name: &str) {
     if let Ok(line) = waiting_text(rt.alloc(), name) {
@@ -55,7 +56,7 @@ fn announce(rt: &HostRuntime, name: &str) {
     }
 }
 
-// The line that says so.
+// The line that is printed.
 fn waiting_text(alloc: Global, name: &str) -> Result<Vec<u8>, AllocError> {
     let mut text = Vec::from_slice(alloc, b"ssh-keygen: waiting for another update of ")?;
     push_escaped(&mut text, name.as_bytes())?;
