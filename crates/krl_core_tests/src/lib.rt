@@ -1,4 +1,4 @@
-//! The tests of `krl_core`, through what it makes public.
+//! The tests of `krl_core`, through its public items.
 #![tactic(auto)]
 
 #[cfg(test)]

@@ -1,4 +1,4 @@
-//! What no contract says: worked lists, calls with ample memory, devices that fail.
+//! Facts that no contract states: worked lists, calls with ample memory, devices that fail.
 
 mod asking;
 mod full;

@@ -1,4 +1,4 @@
-//! What each entry revokes, over each set of serials.
+//! The effect of each entry, for each representation of a set of serials.
 
 use crate::tests::said::{A, ALL, About, B, G, Said, held_of, revokes};
 use key_text::{sha1_of, sha256_of};
@@ -7,7 +7,7 @@ use span_sets::{Held, SpanVec};
 use std::alloc::Global;
 use std::process::Abort;
 
-// Of what was said, each of what is asked about is revoked, or is not.
+// With this one entry, each subject is revoked or not, as its row says.
 fn says<S: Spans>(rt: &impl Abort, alloc: Global, said: Said<'_>, rows: &[(About<'_>, bool)]) {
     let held = held_of::<S>(rt, alloc, &[said]);
     for (i, (about, expected)) in rows.iter().enumerate() {
@@ -16,7 +16,7 @@ fn says<S: Spans>(rt: &impl Abort, alloc: Global, said: Said<'_>, rows: &[(About
     }
 }
 
-// What is said, and of each of what is asked about then whether it is revoked.
+// An entry, and subjects with whether the entry revokes them.
 type Case = (Said<'static>, &'static [(About<'static>, bool)]);
 
 const CASES: [Case; 5] = [
@@ -56,8 +56,8 @@ const CASES: [Case; 5] = [
     ),
 ];
 
-// The authority's key revokes the certificates that it signed, and not their keys; the key revokes
-// its certificates.
+// The certificate authority's key revokes the certificates that it signed, but not their keys. The
+// key revokes its certificates.
 const OF_THE_AUTHORITY: [(About<'static>, bool); 3] = [
     (Some((A, 7, b"a")), true),
     (Some((B, 7, b"a")), false),
@@ -66,7 +66,7 @@ const OF_THE_AUTHORITY: [(About<'static>, bool); 3] = [
 
 const OF_THE_KEY: [(About<'static>, bool); 2] = [(Some((A, 7, b"a")), true), (None, true)];
 
-// What each entry revokes, over one sort of set.
+// The effect of each entry, for one representation.
 fn entries_revoke<S: Spans>(rt: &impl Abort, alloc: Global) {
     for (said, rows) in &CASES {
         says::<S>(rt, alloc, *said, *rows);

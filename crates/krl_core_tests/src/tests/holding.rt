@@ -1,4 +1,4 @@
-//! What is held after additions, counted and in its order.
+//! The stored entries after additions: their number and their order.
 
 use crate::tests::said::{A, ALL, B, Said, held_of, hold};
 use krl_core::Revocations;
@@ -7,7 +7,7 @@ use span_sets::{Held, SpanVec};
 use std::alloc::Global;
 use std::process::Abort;
 
-// What is said, and how many spans are held then, under how many authorities.
+// An entry, the number of spans after it was added, and the number of authorities.
 const COUNTED: [(Said<'static>, u128, usize); 5] = [
     (Said::Serials(ALL, 5, 5), 1, 1),
     (Said::Serials(ALL, 7, 7), 2, 1),
@@ -17,7 +17,7 @@ const COUNTED: [(Said<'static>, u128, usize); 5] = [
     (Said::Serials(A, 1, u64::MAX), 2, 2),
 ];
 
-// Spans are counted after each addition.
+// The spans are counted after each addition.
 fn spans_are_counted<S: Spans>(rt: &impl Abort, alloc: Global) {
     let mut r: Revocations<S> = Revocations::new(alloc);
     for (i, (said, spans, authorities)) in COUNTED.iter().enumerate() {
@@ -36,7 +36,8 @@ const OF_TWO: [Said<'static>; 4] = [
     Said::Serials(B, 3, 3),
 ];
 
-// The authorities come in the order of their bytes, all authorities first, by a walk and by index.
+// The authorities are in the order of their bytes, all authorities first, both in a walk and by
+// index.
 fn stand_in_order<S: Spans>(rt: &impl Abort, alloc: Global) {
     let r = held_of::<S>(rt, alloc, &OF_TWO);
     assert!(rt; r.authorities() == 3);
@@ -61,7 +62,7 @@ fn spans_and_authorities_over_each_set(rt: HostRuntime) {
     stand_in_order::<SpanVec>(&rt, rt.alloc());
 }
 
-// Keys and hashes in an order that is not theirs, each twice.
+// Keys and hashes in random order, each twice.
 const IN_NO_ORDER: [Said<'static>; 8] = [
     Said::Key(B),
     Said::Key(A),

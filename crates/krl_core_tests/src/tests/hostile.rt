@@ -1,4 +1,4 @@
-//! Lists that would take much where they were not read a field at a time, into sets of their own.
+//! Lists that would take much memory if they were not read a field at a time into sets.
 
 use crate::tests::full::Full;
 use crate::tests::lists::{list_of, read_from, spans_from};
@@ -12,11 +12,11 @@ use std::process::Abort;
 const RANGE: &[u8] = b"\x01\0\0\0\x1d\0\0\0\0\0\0\0\0\x21\0\0\0\x10\0\0\0\0\0\0\0\x01\
 \xff\xff\xff\xff\xff\xff\xff\xff";
 
-// A bitmap of 1,000 bytes: 1,003 bytes of it are after these.
+// A bitmap of 1,000 bytes: 1,003 bytes of the list follow these.
 const LONG_BITMAP: &[u8] = b"\x01\0\0\x04\x01\0\0\0\0\0\0\0\0\x22\0\0\x03\xf4\0\0\0\0\0\0\0\x01\
 \0\0\x03\xe8";
 
-// A set that takes no more spans than the list has serves.
+// A set that allows only as many spans as the list has is large enough.
 fn is_its_runs(rt: &impl Abort, alloc: Global) {
     let range = list_of(rt, alloc, RANGE);
     let spans = spans_from::<Full<SpanVec, 1>, &[u8]>(alloc, range.as_slice());
@@ -26,13 +26,13 @@ fn is_its_runs(rt: &impl Abort, alloc: Global) {
     assert!(rt; spans == Ok(4));
 }
 
-// How often the set of the first authority was added to.
+// The number of additions to the set of the first authority.
 fn additions_of(held: &Revocations<Full<SpanVec, 1000>>) -> Option<u64> {
     let listed = held.walk_authorities().next()?;
     Some(listed.spans().additions)
 }
 
-// How often the set of the one authority of a list was added to.
+// The number of additions to the set of a list's only authority.
 fn additions_from(alloc: Global, text: &[u8]) -> Result<Option<u64>, KrlFault> {
     match read_from::<Full<SpanVec, 1000>, &[u8]>(alloc, text) {
         Ok((_, held)) => Ok(additions_of(&held)),
@@ -40,13 +40,13 @@ fn additions_from(alloc: Global, text: &[u8]) -> Result<Option<u64>, KrlFault> {
     }
 }
 
-// That set was added to so often.
+// That set had this number of additions.
 fn is_added(rt: &impl Abort, alloc: Global, sections: &[u8], expected: u64) {
     let text = list_of(rt, alloc, sections);
     assert!(rt; additions_from(alloc, &text) == Ok(Some(expected)));
 }
 
-// No range is expanded, and of a bitmap only its runs are added.
+// A range is not expanded, and only the runs of a bitmap are added.
 fn is_added_once(rt: &impl Abort, alloc: Global) {
     is_added(rt, alloc, RANGE, 1);
     is_added(rt, alloc, BITMAP, 4);
@@ -69,7 +69,7 @@ fn keys_from(alloc: Global, reader: Giver<'_>) -> Result<usize, KrlFault> {
     }
 }
 
-// A list that goes on with zero bytes has this fault, or this many keys.
+// A list that continues with zero bytes has this fault, or this number of keys.
 fn is_reported(
     rt: &impl Abort,
     alloc: Global,
@@ -83,10 +83,10 @@ fn is_reported(
     assert!(rt; keys_from(alloc, reader) == expected);
 }
 
-// A key that is said to be as long as can be.
+// A key with the largest possible length.
 const LONGEST: &[u8] = b"\x02\xff\xff\xff\xff\xff\xff\xff\xfb";
 
-// What a list begins with, how many zero bytes it goes on with, and what comes of it.
+// The beginning of a list, the number of zero bytes after it, and the result.
 type Row = (&'static [u8], usize, Result<usize, KrlFault>);
 
 const LONG: [Row; 4] = [
@@ -98,7 +98,7 @@ const LONG: [Row; 4] = [
     (b"\x02\x03\xff\xff\xcf\x03\xff\xff\xcb", 67_108_811, Ok(1)),
 ];
 
-// A reader without end meets the limit, and a list is read up to it.
+// An endless reader reaches the limit, and a list is read up to it.
 #[test]
 fn reads_up_to_the_limit(rt: HostRuntime) {
     for (sections, zeros, expected) in &LONG {

@@ -1,5 +1,5 @@
-//! The making, reading and writing of lists. What the contracts of these calls say ends here, since
-//! a test only compares values, and its proof is the cheaper for each fact that it does not carry.
+//! Making, reading and writing lists. These functions have no contracts on purpose: a test only
+//! compares values, and each known fact makes its proof more expensive.
 
 use byte_streams::FromRead;
 use krl_core::{Header, KrlFault, Revocations, read_krl};
@@ -16,7 +16,7 @@ pub fn list_of(rt: &impl Abort, alloc: Global, sections: &[u8]) -> Vec<u8> {
     parts_for_tests::list_of(alloc, sections).expect(rt, "there is memory")
 }
 
-/// What is read of a list.
+/// The result of reading a list.
 pub fn read_from<S: Spans, R: Read + Drop>(
     alloc: Global,
     reader: R,
@@ -25,7 +25,7 @@ pub fn read_from<S: Spans, R: Read + Drop>(
     read
 }
 
-/// How many spans are held of a list.
+/// The number of spans of a list.
 pub fn spans_from<S: Spans, R: Read + Drop>(alloc: Global, reader: R) -> Result<u128, KrlFault> {
     match read_from::<S, R>(alloc, reader) {
         Ok((_, held)) => Ok(held.held()),
@@ -42,7 +42,7 @@ pub fn header(alloc: Global) -> Header {
     }
 }
 
-/// The text of what is held, with that header.
+/// The text of the stored revocations, with that header.
 pub fn text_of(rt: &impl Abort, alloc: Global, held: &Revocations<Held>) -> Vec<u8> {
     krl_text(alloc, &header(alloc), held).expect(rt, "what is held has a text")
 }

@@ -1,4 +1,4 @@
-//! What is held, written and read in great numbers, with memory enough.
+//! Large numbers of entries, stored, written and read with ample memory.
 
 ghost use Rattle.std.specs.Prelude.{◌≤◌};
 
@@ -11,21 +11,21 @@ use span_sets::Held;
 use std::alloc::{AllocError, Global};
 use std::process::Abort;
 
-// How many of each sort: enough for a tree of five levels.
+// The number of entries of each kind: enough for a tree of five levels.
 const COUNT: usize = 40_000;
 
-// How many bytes a name has, one with another.
+// The average length of a name in bytes.
 const NAME: usize = 44;
 
-// Short and long in turn.
+// Short and long by turns.
 fn size_of_name(number: u64) -> usize
     ensures { result ≤ 80 }
 {
     if number & 1 == 0 { 8 } else { 80 }
 }
 
-// Holds a key, its hashes, an authority with a serial and a key ID, and a key ID of all
-// authorities, all by one number.
+// Adds a key, its hashes, an authority with a serial and a key ID, and a key ID of all authorities,
+// all made from one number.
 fn hold_each(rt: &impl Abort, held: &mut Revocations<Held>, number: u64) {
     let mut hash = [0; 80];
     hash[..8].copy_from_slice(&number.to_be_bytes());
@@ -38,7 +38,7 @@ fn hold_each(rt: &impl Abort, held: &mut Revocations<Held>, number: u64) {
     hold(rt, held, Said::Id(ALL, name));
 }
 
-// What is held by `COUNT` numbers, in an order that is not theirs.
+// The entries of `COUNT` numbers, in random order.
 fn held_by_many(rt: &impl Abort, alloc: Global) -> Revocations<Held> {
     let mut held: Revocations<Held> = Revocations::new(alloc);
     for number in 0..COUNT as u64 {
@@ -47,23 +47,23 @@ fn held_by_many(rt: &impl Abort, alloc: Global) -> Revocations<Held> {
     held
 }
 
-// How many keys and hashes are held.
+// The number of keys and hashes.
 fn counts(held: &Revocations<Held>) -> [usize; 3] {
     [held.keys(), held.sha1s(), held.sha256s()]
 }
 
-// How many key IDs and spans are held under an authority.
+// The number of key IDs and spans of an authority.
 fn of_authority(listed: &Listed<'_, Held>) -> (usize, usize) {
     (listed.ids(), listed.spans().len())
 }
 
-// How many key IDs and spans the next authority of a walk has.
+// The number of key IDs and spans of the next authority of a walk.
 fn next(walk: &mut Authorities<'_, Held>) -> Option<(usize, usize)> {
     let listed = walk.next()?;
     Some(of_authority(&listed))
 }
 
-// All authorities have the key IDs, and each other one has a key ID and a serial.
+// All authorities have the key IDs, and each other authority has a key ID and a serial.
 fn are_listed(rt: &impl Abort, held: &Revocations<Held>) {
     let mut walk = held.walk_authorities();
     assert!(rt; next(&mut walk) == Some((COUNT, 0)));
@@ -73,7 +73,7 @@ fn are_listed(rt: &impl Abort, held: &Revocations<Held>) {
     assert!(rt; next(&mut walk).is_none());
 }
 
-// What is held has a text of this many bytes, which is read back.
+// The text of the stored entries has this number of bytes, and is read back.
 fn has_length(rt: &impl Abort, alloc: Global, held: &Revocations<Held>, length: usize) {
     let text = text_of(rt, alloc, held);
     assert!(rt; text.len() == length);
@@ -88,18 +88,18 @@ fn many_of_each_sort(rt: HostRuntime) {
     assert!(rt; counts(&held) == [COUNT; 3]);
     are_listed(&rt, &held);
     // the header, the key IDs of all authorities and the sections of the others, and the keys, the
-    // SHA-1s and the SHA-256s; a name has 44 bytes, one with another
+    // SHA-1s and the SHA-256s; a name has 44 bytes on average
     let others = 5 + (4 + NAME) + 4 + 13 + (5 + 4 + NAME);
     let keys_and_hashes = 15 + (4 + NAME + 24 + 36) * COUNT;
     let length = 44 + (18 + (4 + NAME) * COUNT) + others * COUNT + keys_and_hashes;
     has_length(&rt, rt.alloc(), &held, length);
 }
 
-// The section of all authorities with this many odd serials, in no order.
+// The section of all authorities with `count` odd serials, in random order.
 fn in_no_order(alloc: Global, count: u64) -> Result<Vec<u8>, AllocError> {
     let mut serials = Vec::new(alloc);
     for number in 0..count {
-        // the multiplier has no divisor in common with the count, so each serial comes once
+        // the multiplier has no divisor in common with the count, so each serial occurs once
         let place = number.wrapping_mul(7_919).checked_rem(count).unwrap_or(0);
         let serial = place.wrapping_mul(2).wrapping_add(1);
         serials.extend_from_slice(&serial.to_be_bytes())?;

@@ -67,7 +67,7 @@ fn can_be_asked(alloc: Global, list: &[u8]) -> bool {
     read.is_ok() && authorities_are_keys(list)
 }
 
-// Whether a list with one section, under this authority, can be asked.
+// Whether a list with one section, under this authority, can be queried.
 fn can_be_asked_under(rt: &impl Abort, alloc: Global, authority: &[u8]) -> bool {
     let content = strings(alloc, &[authority, b""]).expect(rt, "there is memory");
     let section = strings(alloc, &[&content]).expect(rt, "there is memory");

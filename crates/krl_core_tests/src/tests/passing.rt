@@ -1,4 +1,4 @@
-//! Lists that are held up to some byte, and pass from there on with what is asked.
+//! Lists that are stored up to some byte, and streamed past the subjects from there on.
 
 ghost use Rattle.std.specs.Prelude.{◌≡◌, false};
 
@@ -23,7 +23,7 @@ const D: &[u8] = b"D, by a SHA-1";
 
 const E: &[u8] = b"E, by a SHA-256";
 
-// What is asked about, and the one way in which the list revokes it.
+// Subjects, and the only reason why the list revokes each.
 const ASKED: [(About<'static>, Option<Reason>); 15] = [
     (None, None),
     (Some((A, 70, b"x")), Some(Reason::Serial)),
@@ -60,7 +60,7 @@ fn text(rt: &impl Abort, alloc: Global) -> Vec<u8> {
     text_of(rt, alloc, &held_of::<Held>(rt, alloc, &all))
 }
 
-// A buffer of this size in front of a giver.
+// A buffer of this size in front of a `Giver`.
 type Buffered<'a> = FromBuffer<Giver<'a>>;
 
 fn buffered<'a>(rt: &impl Abort, alloc: Global, size: usize, giver: Giver<'a>) -> Buffered<'a>
@@ -69,7 +69,7 @@ fn buffered<'a>(rt: &impl Abort, alloc: Global, size: usize, giver: Giver<'a>) -
     FromBuffer::new(BufReader::with_capacity(alloc, size, giver).expect(rt, "there is memory"))
 }
 
-// Whether a list revokes what is asked, and why, where no more of it than `most` bytes is held.
+// Whether a list revokes the subject, and why, if at most `most` bytes of it are stored.
 fn passes<R: Source + Drop>(
     rt: &impl Abort,
     alloc: Global,
@@ -112,7 +112,7 @@ fn from_each_byte_on(rt: HostRuntime) {
     }
 }
 
-// What ended a walk, and how many bytes it took.
+// How a walk ended, and how many bytes it took.
 type End = (Result<(), KrlFault>, u64);
 
 // Reads to the end, a field at a time.
@@ -139,7 +139,7 @@ fn stride_on<T: Store, R: Source + Drop>(mut walk: Walk<T, R>) -> End {
     (Ok(()), 0)
 }
 
-// Reads on from the byte that the front ends with, with what is asked alone.
+// Continues after the byte with which the front ends, with the subject alone.
 fn pass_on<R: Source + Drop>(rt: &impl Abort, alloc: Global, reader: R, most: u64) -> End
     requires { R.has_failed reader ≡ false }
 {
@@ -157,7 +157,8 @@ fn pass_on<R: Source + Drop>(rt: &impl Abort, alloc: Global, reader: R, most: u6
     stride_on(front.ask(Findings::of(alloc, questions)))
 }
 
-// A giver of a text's first bytes, some at a call, which fails from a call on or where they end.
+// A giver of a text's first bytes, a number of them at a call, which fails from a call on or where
+// they end.
 type Given = (usize, usize, usize, Then);
 
 fn giver<'a>(text: &'a [u8], given: Given) -> Giver<'a> {
@@ -168,7 +169,7 @@ fn giver<'a>(text: &'a [u8], given: Given) -> Giver<'a> {
     giver
 }
 
-// A list that passes ends as one that is held a field at a time, from whichever byte on.
+// A list that is streamed from any byte on ends like one that is stored a field at a time.
 fn ends_alike(rt: &impl Abort, alloc: Global, text: &[u8], given: Given) {
     let (count, per_call, calls, _) = given;
     let reader = buffered(rt, alloc, 32, giver(text, given));

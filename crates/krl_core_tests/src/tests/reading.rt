@@ -10,12 +10,12 @@ use span_sets::{Held, SpanVec};
 use std::alloc::Global;
 use std::process::Abort;
 
-// The fault of a list, or how many spans it holds.
+// The fault of a list, or the number of its spans.
 fn reported(alloc: Global, giver: Giver<'_>) -> Result<u128, KrlFault> {
     spans_from::<Held, Giver<'_>>(alloc, giver)
 }
 
-// The list of a row gives what the row has, in pieces of each size.
+// The list of a row gives the result of the row, in pieces of each size.
 fn is_reported_in_pieces<S: Spans>(rt: &impl Abort, alloc: Global, text: &[u8], row: &Row) {
     for per_call in [1, 3, 7, 1000] {
         let found = spans_from::<S, Giver<'_>>(alloc, Giver::new(text, per_call));
@@ -39,7 +39,7 @@ fn failing(bytes: &[u8]) -> Giver<'_> {
     giver
 }
 
-// A front of a list has its fault, and that of the reader where it fails.
+// A truncated list has its fault, or that of the reader if the reader fails.
 fn front_is_reported(rt: &impl Abort, alloc: Global, front: &[u8], whole: usize) {
     let ends = front.len() == 44 || front.len() == whole;
     let fault = if ends {
@@ -64,7 +64,7 @@ fn each_front_of_a_list(rt: HostRuntime) {
     }
 }
 
-// What the giver gives has this fault.
+// Reading from the giver has this fault.
 fn is_refused(rt: &impl Abort, alloc: Global, giver: Giver<'_>, fault: KrlFault) {
     assert!(rt; reported(alloc, giver).err() == Some(fault));
 }
@@ -75,7 +75,7 @@ const FRONTS: [(&[u8], KrlFault); 3] = [
     (b"\0\0\0\0\0\0\0\0", KrlFault::Magic),
 ];
 
-// A byte of the header that is set.
+// The offset of a header byte, its new value, and the fault.
 const CHANGES: [(usize, u8, KrlFault); 4] = [
     (0, 0x54, KrlFault::Magic),
     (11, 2, KrlFault::FormatVersion),
@@ -117,22 +117,22 @@ fn interruptions_are_passed_over(rt: HostRuntime) {
 // A list that is read from a slice.
 type OfSlice<'a> = Reading<Held, FromRead<&'a [u8]>>;
 
-// Reads one field more, or answers that the list has ended.
+// Reads one more field, or reports the end of the list.
 fn step(reading: &mut OfSlice<'_>) -> Result<bool, KrlFault> {
     reading.step()
 }
 
-// How many bytes are taken.
+// The number of bytes taken.
 fn taken(reading: &OfSlice<'_>) -> u64 {
     reading.taken()
 }
 
-// How many spans are held.
+// The number of spans stored.
 fn held(reading: &OfSlice<'_>) -> u128 {
     reading.held()
 }
 
-// The spans of the list are held from its last byte on.
+// The spans of the list are stored once its last byte was read.
 fn hold_at_each_moment(rt: &impl Abort, reading: &mut OfSlice<'_>) {
     for at in 0..100 {
         if step(reading) != Ok(true) {
@@ -143,7 +143,7 @@ fn hold_at_each_moment(rt: &impl Abort, reading: &mut OfSlice<'_>) {
     }
 }
 
-// The list has ended, and goes on to say so.
+// The list has ended, and every later step reports that too.
 fn stays_at_the_end(rt: &impl Abort, reading: &mut OfSlice<'_>) {
     assert!(rt; taken(reading) == 75);
     for _ in 0..2 {
@@ -151,7 +151,7 @@ fn stays_at_the_end(rt: &impl Abort, reading: &mut OfSlice<'_>) {
     }
 }
 
-// The version of what was read to its end, and how many spans are held of it.
+// The version of a list that was read to its end, and the number of its spans.
 fn done(mut reading: OfSlice<'_>) -> Result<(u64, u128), KrlFault> {
     if reading.step()? {
         return Ok((0, 0));
@@ -169,7 +169,7 @@ fn held_at_each_moment(rt: HostRuntime) {
     assert!(rt; done(reading) == Ok((1, 4)));
 }
 
-// The list with each of its bytes set in turn answers alike in one piece and byte by byte.
+// With each byte of the list changed in turn, reading it whole and byte by byte gives the same.
 fn each_byte_is_set(rt: &impl Abort, alloc: Global, text: &mut Vec<u8>) {
     for at in 0..text.len() {
         let kept = text.get(at).copied().unwrap_or(0);
@@ -189,7 +189,7 @@ fn each_byte_is_set(rt: &impl Abort, alloc: Global, text: &mut Vec<u8>) {
 
 #[test]
 fn any_byte_changed(rt: HostRuntime) {
-    // of a key, of a bitmap, and of a serial of an authority
+    // the lists of a key, of a bitmap, and of a serial of an authority
     for row in [&ROWS[3], &ROWS[5], &ROWS[12]] {
         let mut text = list_of(&rt, rt.alloc(), row.0);
         each_byte_is_set(&rt, rt.alloc(), &mut text);

@@ -20,7 +20,7 @@ const ALL_REASONS: [Reason; 10] = [
     Reason::KeyIdOfAll,
 ];
 
-// The certificate that is asked about.
+// The certificate of the query.
 const CERTIFICATE: About<'static> = Some((A, 7, b"id"));
 
 // The hashes of a key and of the certificate's authority.
@@ -41,7 +41,7 @@ fn make_hashes() -> Hashes {
     }
 }
 
-// What revokes the certificate in this way alone.
+// The entry that revokes the certificate for this reason alone.
 fn said_for<'a>(reason: Reason, hashes: &'a Hashes) -> Said<'a> {
     match reason {
         Reason::Key => Said::Key(G),
@@ -57,7 +57,7 @@ fn said_for<'a>(reason: Reason, hashes: &'a Hashes) -> Said<'a> {
     }
 }
 
-/// The reasons are this one, or none.
+/// The only reason is this one, or there is none.
 pub fn says_only(rt: &impl Abort, found: Reasons, only: Option<Reason>, place: (usize, usize)) {
     assert_eq!(rt; found.any(), only.is_some(), "any reason: {place:?}");
     for (i, reason) in ALL_REASONS.iter().enumerate() {
@@ -69,7 +69,7 @@ pub fn says_only(rt: &impl Abort, found: Reasons, only: Option<Reason>, place: (
     }
 }
 
-// Why what is said revokes what is asked about.
+// The reasons why the entries revoke the subject.
 fn reasons_of(rt: &impl Abort, alloc: Global, said: &[Said<'_>], about: About<'_>) -> Reasons {
     held_of::<Held>(rt, alloc, said).reasons(&subject_of(rt, alloc, about))
 }

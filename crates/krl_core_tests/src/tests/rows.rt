@@ -1,8 +1,8 @@
-//! Worked lists: the parts that follow the header, and how many spans are held or the first fault.
+//! Worked lists: the bytes after the header, and the number of spans or the first fault.
 
 use krl_core::KrlFault;
 
-/// A list by the bytes after its header.
+/// A list, given by the bytes after its header, and the result.
 pub type Row = (&'static [u8], Result<u128, KrlFault>);
 
 /// The worked lists.

@@ -1,4 +1,4 @@
-//! What is said to be revoked, and what is asked about then.
+//! Entries of a list, and subjects of queries.
 
 ghost use Rattle.std.specs.Prelude.{◌≡◌, ◌<◌, ◌≤◌};
 ghost use Rattle.krl_held.specs.Authority.{IsAuthority};
@@ -11,7 +11,7 @@ use ssh_wire::Bytes;
 use std::alloc::{AllocError, Global};
 use std::process::Abort;
 
-/// The blob of a key. It need not be that of a real one, since blobs are only compared and hashed.
+/// The blob of a key. It need not be that of a real key, since blobs are only compared and hashed.
 pub const G: &[u8] = b"G, the key of a certificate";
 
 /// The blob of an authority's key.
@@ -20,10 +20,10 @@ pub const A: &[u8] = b"A, an authority";
 /// The blob of another authority's key.
 pub const B: &[u8] = b"B, another authority";
 
-/// No bytes stand for all authorities.
+/// Empty bytes mean all authorities.
 pub const ALL: &[u8] = b"";
 
-/// One thing that is said to be revoked. No bytes stand for all authorities.
+/// An entry. An empty authority means all authorities.
 #[derive(Clone, Copy)]
 pub enum Said<'a> {
     Serials(&'a [u8], u64, u64),
@@ -33,7 +33,7 @@ pub enum Said<'a> {
     Sha256(&'a [u8]),
 }
 
-// The authority that some bytes name.
+// The authority with these bytes.
 fn authority_of(authority: &[u8]) -> Option<&[u8]>
     ensures { IsAuthority result }
 {
@@ -44,7 +44,7 @@ fn authority_of(authority: &[u8]) -> Option<&[u8]>
     }
 }
 
-// The bytes as an array, or zeros where they are not as many.
+// The bytes as an array, or zeros if the length differs.
 fn array_of<const N: usize>(bytes: &[u8]) -> [u8; N] {
     let mut array = [0; N];
     if bytes.len() == N {
@@ -53,7 +53,7 @@ fn array_of<const N: usize>(bytes: &[u8]) -> [u8; N] {
     array
 }
 
-// Adds what is said. Serials are from 1 on, and in order.
+// Adds an entry. Serials are at least 1, and in order.
 fn add<S: Spans>(r: &mut Revocations<S>, said: Said<'_>) -> Result<(), AllocError> {
     match said {
         Said::Serials(authority, lo, hi) => {
@@ -70,12 +70,12 @@ fn add<S: Spans>(r: &mut Revocations<S>, said: Said<'_>) -> Result<(), AllocErro
     }
 }
 
-/// Holds what is said.
+/// Adds an entry, with ample memory.
 pub fn hold<S: Spans>(rt: &impl Abort, r: &mut Revocations<S>, said: Said<'_>) {
     add(r, said).expect(rt, "there is memory");
 }
 
-/// What is held of all that was said.
+/// The revocations with all these entries.
 pub fn held_of<S: Spans>(rt: &impl Abort, alloc: Global, all: &[Said<'_>]) -> Revocations<S> {
     let mut held: Revocations<S> = Revocations::new(alloc);
     for said in all {
@@ -84,7 +84,7 @@ pub fn held_of<S: Spans>(rt: &impl Abort, alloc: Global, all: &[Said<'_>]) -> Re
     held
 }
 
-/// What is held of the serials of all authorities from each number to the one beside it.
+/// The revocations with runs of serials of all authorities.
 pub fn held_of_runs(rt: &impl Abort, alloc: Global, runs: &[(u64, u64)]) -> Revocations<Held> {
     let mut held: Revocations<Held> = Revocations::new(alloc);
     for (lo, hi) in runs {
@@ -93,10 +93,10 @@ pub fn held_of_runs(rt: &impl Abort, alloc: Global, runs: &[(u64, u64)]) -> Revo
     held
 }
 
-/// The authority, the serial and the key ID of a certificate of `G`; none stands for `G` itself.
+/// The authority, the serial and the key ID of a certificate of `G`; none means `G` itself.
 pub type About<'a> = Option<(&'a [u8], u64, &'a [u8])>;
 
-/// What is asked about it.
+/// The subject of a query.
 pub fn subject_of<'a>(rt: &impl Abort, alloc: Global, about: About<'a>) -> Subject<'a> {
     let blob = Vec::from_slice(alloc, G).expect(rt, "there is memory");
     let mut subject = Subject {
@@ -113,7 +113,7 @@ pub fn subject_of<'a>(rt: &impl Abort, alloc: Global, about: About<'a>) -> Subje
     subject
 }
 
-/// Whether what is held revokes it.
+/// Whether the revocations revoke it.
 pub fn revokes<S: Spans>(
     rt: &impl Abort,
     alloc: Global,

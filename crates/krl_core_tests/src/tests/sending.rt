@@ -1,4 +1,4 @@
-//! Lists that go out to a writer, which may fail.
+//! Lists that are written to a device that may fail.
 
 use crate::tests::lists::{header, list_of};
 use crate::tests::said::held_of_runs;
@@ -9,14 +9,15 @@ use parts_for_tests::{FIVE, Taker};
 use span_sets::Held;
 use std::alloc::Global;
 
-// What comes of a list at a device.
+// The result of writing a list to a device.
 fn send(alloc: Global, held: &Revocations<Held>, device: &mut Taker) -> Result<(), WriteFault> {
     let mut writer = ToWrite::new(device);
     write_krl(alloc, &header(alloc), held, &mut writer)
 }
 
-// How much is taken at a call, after how many calls the device fails, how much it took, and what
-// comes of the list: what went out is counted, and a device that takes nothing fails.
+// The number of bytes taken at a call, the number of calls before the device fails, the number of
+// bytes that it took, and the result. The bytes written are counted, and a device that takes
+// nothing fails.
 const ROWS: [(usize, usize, usize, Result<(), WriteFault>); 3] = [
     (3, 3, 9, Err(WriteFault::Write { count: 9 })),
     (0, 1, 0, Err(WriteFault::Write { count: 0 })),

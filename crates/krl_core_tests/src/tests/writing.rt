@@ -8,7 +8,8 @@ use span_sets::Held;
 use std::alloc::Global;
 use std::process::Abort;
 
-// What is held has this text, the header and these bytes, and what is read of it has it too.
+// The revocations are written as the header and these bytes, and reading these gives the same text
+// again.
 fn is_written(rt: &impl Abort, alloc: Global, held: &Revocations<Held>, sections: &[u8]) {
     let text = text_of(rt, alloc, held);
     assert!(rt; text.as_slice() == list_of(rt, alloc, sections).as_slice());
@@ -16,7 +17,7 @@ fn is_written(rt: &impl Abort, alloc: Global, held: &Revocations<Held>, sections
     assert!(rt; text_of(rt, alloc, &held).as_slice() == text.as_slice());
 }
 
-// The serials of all authorities are written by these subsections.
+// Serials of all authorities are written as these subsections.
 fn serials(rt: &impl Abort, alloc: Global, runs: &[(u64, u64)], subsections: &[u8]) {
     let [.., a, b, c, d] = subsections.len().saturating_add(8).to_be_bytes();
     let front = [1, a, b, c, d, 0, 0, 0, 0, 0, 0, 0, 0];
@@ -24,7 +25,7 @@ fn serials(rt: &impl Abort, alloc: Global, runs: &[(u64, u64)], subsections: &[u
     is_written(rt, alloc, &held_of_runs(rt, alloc, runs), &section)
 }
 
-// The ends of runs of serials, and the subsections that these are written by.
+// The ends of runs of serials, and the subsections that name them.
 type Row = (&'static [(u64, u64)], &'static [u8]);
 
 const SERIALS: [Row; 11] = [
@@ -57,7 +58,7 @@ const SERIALS: [Row; 11] = [
         &[(1, 10_000)],
         b"\x21\0\0\0\x10\0\0\0\0\0\0\0\x01\0\0\0\0\0\0\x27\x10",
     ),
-    // A range costs as much as the bitmap, and comes before it.
+    // A range costs as much as the bitmap, and is preferred.
     (
         &[(1, 24)],
         b"\x21\0\0\0\x10\0\0\0\0\0\0\0\x01\0\0\0\0\0\0\0\x18",
@@ -101,7 +102,7 @@ const J: &[u8] = b"\x5c\x2d\xd9\x44\xdd\xe9\xe0\x88\x81\xbe\xf0\x89\x4f\xe7\xb2\
 const K: &[u8] = b"\x82\x54\xc3\x29\xa9\x28\x50\xf6\xd5\x39\xdd\x37\x6f\x48\x16\xee\x27\x64\x51\
 \x7d\xa5\xe0\x23\x55\x14\xaf\x43\x31\x64\x48\x0d\x7a";
 
-// What is said, and the sections that it is written by: all in order and once.
+// Entries, and the sections that are written: in order and without duplicates.
 const SAID: [(&[Said<'static>], &[u8]); 5] = [
     (&[], b""),
     (
