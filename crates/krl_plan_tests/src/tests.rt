@@ -1,4 +1,4 @@
-//! What no contract says: worked plans, and their cost beside that of every other plan.
+//! Facts that no contract states: worked plans, and their cost beside that of every other plan.
 
 mod page;
 mod planning;

@@ -10,7 +10,7 @@ use std::process::Abort;
 // The ends of a run of serials.
 type Run = (u64, u64);
 
-// The bytes of a subsection, as PROTOCOL.krl lays it out, or none where it may not stand.
+// The length of a subsection, as PROTOCOL.krl lays it out, or none if it is not allowed.
 fn bytes_of(sort: Sort, runs: &[Run]) -> Option<u64> {
     let (first, _) = runs.first()?;
     let (_, last) = runs.last()?;
@@ -36,7 +36,7 @@ fn bytes_of(sort: Sort, runs: &[Run]) -> Option<u64> {
     }
 }
 
-// The least of the costs of all plans, found by trying every one.
+// The lowest cost of all plans, found by trying every one.
 fn least_cost(runs: &[Run]) -> Option<u64> {
     if runs.is_empty() {
         return Some(0);
@@ -56,7 +56,7 @@ fn least_cost(runs: &[Run]) -> Option<u64> {
     least
 }
 
-// What a plan of the runs costs.
+// The cost of a plan of the runs.
 fn cost_of(plan: &[Group], runs: &[Run]) -> Option<u64> {
     let mut at: usize = 0;
     let mut cost: u64 = 0;
@@ -133,7 +133,7 @@ fn plans_worked_lists(rt: HostRuntime) {
     }
 }
 
-// The least plan of the runs costs what the cheapest of all plans costs, which is the answer.
+// The least plan of the runs costs the same as the cheapest of all plans. Returns that cost.
 fn least_of(rt: &impl Abort, alloc: Global, runs: &[Run]) -> Result<u64, AllocError> {
     let plan = plan_of(alloc, runs)?;
     let cost = cost_of(&plan, runs);
@@ -143,7 +143,7 @@ fn least_of(rt: &impl Abort, alloc: Global, runs: &[Run]) -> Result<u64, AllocEr
     Ok(least.unwrap_or(0))
 }
 
-// How many bytes the subsections of the least plan of the runs take.
+// The length of the subsections of the least plan of the runs.
 fn bytes_put(alloc: Global, runs: &[Run]) -> Result<u64, AllocError> {
     let set = set_of(alloc, runs)?;
     let mut out = Vec::new(alloc);
@@ -151,8 +151,8 @@ fn bytes_put(alloc: Global, runs: &[Run]) -> Result<u64, AllocError> {
     Ok(out.len() as u64)
 }
 
-// What a set's least plan costs is what the cheapest of all plans costs, and its subsections have
-// just that many bytes.
+// The least plan of a set costs the same as the cheapest of all plans, and its subsections have
+// exactly that length.
 fn costs_least(rt: &impl Abort, alloc: Global, runs: &[Run]) -> Result<(), AllocError> {
     let least = least_of(rt, alloc, runs)?;
     let bytes = bytes_put(alloc, runs)?;
@@ -160,7 +160,7 @@ fn costs_least(rt: &impl Abort, alloc: Global, runs: &[Run]) -> Result<(), Alloc
     Ok(())
 }
 
-// The runs of which the number has the bit.
+// The runs whose bit is set in the number.
 fn chosen_runs(alloc: Global, chosen: u32) -> Result<Vec<Run>, AllocError> {
     let all = [
         (1, 1),
@@ -189,7 +189,7 @@ fn no_plan_of_a_short_list_costs_less(rt: HostRuntime) {
     }
 }
 
-// This many serials, each this far above the one before it.
+// `count` serials, each `apart` above the one before.
 fn serials_apart(alloc: Global, apart: u64, count: u64) -> Result<Vec<Run>, AllocError> {
     let mut runs = Vec::new(alloc);
     let mut serial: u64 = 1;
@@ -200,8 +200,8 @@ fn serials_apart(alloc: Global, apart: u64, count: u64) -> Result<Vec<Run>, Allo
     Ok(runs)
 }
 
-// Many serials, this far apart, the plan of the longest groups of a sort, and how many bytes
-// their subsections take: 5 and 8 a serial, or 18 and an eighth of the reach.
+// Many serials with this distance, the plan of the longest groups of a sort, and the length of
+// their subsections: 5 and 8 for each serial, or 18 and an eighth of the reach.
 #[test]
 fn plans_long_lists(rt: HostRuntime) {
     for (apart, sort, bytes) in [
