@@ -1,4 +1,4 @@
-//! The tests of `krl_audit`, through what it makes public.
+//! The tests of `krl_audit`, through its public items.
 #![tactic(auto)]
 
 #[cfg(test)]

@@ -1,4 +1,4 @@
-//! What no contract says: lines as people read them, and calls with ample memory.
+//! Facts that no contract states: lines as people read them, and calls with ample memory.
 
 mod files;
 mod keys;

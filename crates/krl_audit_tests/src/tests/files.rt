@@ -1,4 +1,4 @@
-//! Whole files: numbers of lines, files without a key, private key files, and files that are not
+//! Whole files: line numbers, files without a key, private key files, and files that cannot be
 //! read.
 
 use crate::tests::keys::{ALICE, ALICE_PRINT, AUTHORITY_PRINT, BOB, BOB_PRINT};
@@ -33,7 +33,7 @@ pipe: unread: no regular file\n"
     assert!(rt; found.status == 1);
 }
 
-// Files without a key, and what is said of them.
+// Files without a key, and what is printed for them.
 const KEYLESS: [(&str, &str); 5] = [
     ("", ""),
     ("# nothing\n\n", ""),

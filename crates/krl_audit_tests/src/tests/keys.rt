@@ -25,5 +25,5 @@ pub const BOB_PRINT: &str = "SHA256:z3enkvIf3mPm2ECH8lxkCDColMjYcA0vCfL7sKS4GBw"
 pub const AUTHORITY: &str =
     "ssh-ed25519 AAAAC3NzaC1lZDI1NTE5AAAAIBBhLkwrtilMResasRkGEzpi3JUXZ1MhjMGumDBFgcIK";
 
-/// The fingerprint of that.
+/// The fingerprint of that key.
 pub const AUTHORITY_PRINT: &str = "SHA256:hjYP5qrwcNMfU0dMK+c5Yaqnh60atUwtNlHqX4lNNtg";

@@ -13,7 +13,7 @@ fn line_of(rt: &impl Abort, alloc: Global, before: &str, key: &str, after: &str)
     format!(in alloc; "{before}{key}{after}").expect(rt, "there is memory")
 }
 
-// What is before a key, what is after it, and what is said of Alice's key after its place.
+// The text before a key, the text after it, and what is printed for Alice's key after its place.
 const LINES: [(&str, &str, &str); 13] = [
     ("", "", ""),
     ("", " alice@laptop", ": alice@laptop"),
@@ -51,7 +51,8 @@ fn a_revoked_key_is_found_on_each_kind_of_line(rt: HostRuntime) {
     }
 }
 
-// Lines of which nothing is said, whatever their keys: blank, comments, or distrusted already.
+// Lines for which nothing is printed, whatever their keys: blank lines, comments, and keys that are
+// distrusted already.
 const SILENT: [&str; 6] = ["", " \t\r", "# ", "#", " \t#", "@revoked * "];
 
 #[test]
@@ -66,7 +67,7 @@ fn nothing_is_said_of_other_lines(rt: HostRuntime) {
     }
 }
 
-// Lines that are not read, and why.
+// Lines that cannot be read, and why.
 const UNREAD: [(&str, &str); 8] = [
     ("garbage", "no key type stands there"),
     ("host 1024 35 12345", "no key type stands there"),

@@ -1,4 +1,4 @@
-//! What is revoked, and what is said of files.
+//! Lists of revocations, and what is printed for files.
 
 ghost use Rattle.krl_held.specs.Authority.{IsAuthority};
 
@@ -14,19 +14,19 @@ use ssh_wire::Bytes;
 use std::alloc::Global;
 use std::process::Abort;
 
-/// Revoked keys and what is not read are named.
+/// Revoked keys and unread lines are printed.
 pub const FINDINGS: Shown = Shown {
     findings: true,
     fine: false,
 };
 
-/// All keys are named.
+/// All keys are printed.
 pub const ALL: Shown = Shown {
     findings: true,
     fine: true,
 };
 
-/// Nothing is named.
+/// Nothing is printed.
 pub const NOTHING: Shown = Shown {
     findings: false,
     fine: false,
@@ -39,10 +39,10 @@ pub fn blob_of(rt: &impl Abort, alloc: Global, line: &str) -> Bytes {
         .blob
 }
 
-/// What a list revokes.
+/// The revocations of a list.
 pub type Listed = Revocations<Held>;
 
-/// The authority of this key; none stands for all.
+/// The authority with this key; none means all authorities.
 pub fn authority_of(key: &[u8]) -> Option<&[u8]>
     ensures { IsAuthority result }
 {
@@ -65,7 +65,7 @@ pub fn alice_and_bob(rt: &impl Abort, alloc: Global) -> Listed {
     list
 }
 
-/// What is said of a file, and counted.
+/// The text printed for a file, and the counts.
 #[derive(Drop)]
 pub struct Said {
     pub text: Vec<u8>,
@@ -73,7 +73,7 @@ pub struct Said {
     pub status: u8,
 }
 
-/// What an audit of these files by a list says, and counts.
+/// The text that an audit of these files by a list prints, and its counts.
 pub fn said_of(
     rt: &impl Abort,
     alloc: Global,
@@ -91,7 +91,7 @@ pub fn said_of(
     }
 }
 
-// Audits files, and gives what was counted and the status.
+// Audits files, and returns the counts and the status.
 fn audit_into<W: Sink>(
     rt: &impl Abort,
     alloc: Global,
