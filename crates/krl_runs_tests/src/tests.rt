@@ -1,4 +1,4 @@
-//! What no contract says: worked runs, printed faults, devices that fail.
+//! Facts that no contract states: worked runs, printed faults, devices that fail.
 
 mod asking;
 mod devices;

@@ -1,4 +1,4 @@
-//! Asking lists about the keys of files.
+//! Querying lists for the keys of files.
 
 use crate::tests::runs::{CLOSED, File, KEY, LONG, ONE, Said, asks, joined, repeated};
 use parts_for_tests::{CERT_LINE, CONTAINER, HEADER, ID_A, KEY_SECTION, OTHER_LINE};
@@ -9,7 +9,7 @@ const OTHER: File<'static> = ("a", Some(&[OTHER_LINE, b" x y\n"]));
 
 const EARLY: &str = "ssh-keygen: r.krl: krl 3 EndsEarly";
 
-// The parts of a list, the files, and what is said of them.
+// The parts of a list, the files, and the output of the run.
 type Row<'a> = (&'a [&'a [u8]], &'a [File<'a>], Said<'a>);
 
 const ROWS: [Row<'static>; 8] = [
@@ -25,7 +25,7 @@ const ROWS: [Row<'static>; 8] = [
         &[("c", Some(&[CERT_LINE])), ("id", Some(&[CONTAINER]))],
         (b"c: REVOKED\nid (a): REVOKED\n", 1, ""),
     ),
-    // stopped at a fault
+    // stops at a fault
     (
         ONE,
         &[KEY, CLOSED, KEY],
@@ -45,7 +45,7 @@ const ROWS: [Row<'static>; 8] = [
     ),
 ];
 
-// A body that is always out of memory meets the contracts. It fails here.
+// A body that always reports a failed allocation meets the contracts. It fails here.
 #[test]
 fn reports_each_key_or_stops_at_a_fault(rt: HostRuntime) {
     for (i, (parts, files, said)) in ROWS.iter().enumerate() {
@@ -53,7 +53,7 @@ fn reports_each_key_or_stops_at_a_fault(rt: HostRuntime) {
     }
 }
 
-// A list that is longer than the files passes, and the key is named before or after most of it.
+// A list longer than the files is streamed; the key is named before or after most of it.
 #[test]
 fn reports_each_key_of_a_list_that_passes(rt: HostRuntime) {
     let fill = repeated(&rt, rt.alloc(), ID_A, 200);
@@ -66,7 +66,7 @@ fn reports_each_key_of_a_list_that_passes(rt: HostRuntime) {
     let said: &[u8] = b"g.pub: REVOKED\na (x y): ok\nc: REVOKED\nid (a): REVOKED\n";
     for parts in [[&HEADER, KEY_SECTION, &fill], [&HEADER, &fill, KEY_SECTION]] {
         asks(&rt, rt.alloc(), 0, &parts, &files, (said, 1, ""));
-        // the list's fault is first
+        // the fault of the list comes first
         let faulty = joined(&rt, rt.alloc(), &parts);
         let unknown = "ssh-keygen: r.krl: krl 4 UnknownSection";
         asks(
@@ -83,7 +83,7 @@ fn reports_each_key_of_a_list_that_passes(rt: HostRuntime) {
     }
 }
 
-// This is said of the file of this name and these parts, and nothing is revoked.
+// The run prints this text for the file with this name and these parts, and reports no revoked key.
 fn is_ok<'a>(
     rt: &impl Abort,
     alloc: Global,
@@ -96,7 +96,7 @@ fn is_ok<'a>(
     asks(rt, alloc, number, ONE, &[file], (text, 0, ""))
 }
 
-// A file of a long name has a key with a comment that is as long.
+// A file with a long name has a key with a comment of the same length.
 fn reports_long(rt: &impl Abort, alloc: Global, size: usize) {
     let shown = repeated(rt, alloc, b"a\\x7f", size);
     let mut name = String::new(alloc);

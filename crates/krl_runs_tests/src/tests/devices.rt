@@ -12,7 +12,7 @@ use ssh_wire::Bytes;
 use std::alloc::Global;
 use std::process::Abort;
 
-// Asks the list that names the published key about the files, with a device as the output.
+// Queries the list that names the published key for the files, with a device as the output.
 fn asked_of_key(rt: &impl Abort, alloc: Global, files: &[File], device: Taker) -> Ran {
     let list = joined(rt, alloc, ONE);
     let files = all_named(rt, alloc, files);
@@ -26,14 +26,15 @@ fn asked_of_key(rt: &impl Abort, alloc: Global, files: &[File], device: Taker) -
     )
 }
 
-// What is loaded of the file `a` that a device gives.
+// The content of the file `a` that is loaded from a device.
 fn loaded(rt: &impl Abort, alloc: Global, device: Giver<'_>) -> Result<Bytes, FileFault> {
     let (file, _) = load(alloc, "a", FromRead::new(device));
     assert!(rt; file.name == "a");
     file.content
 }
 
-// In pieces of this many bytes the line of the key takes this many calls, all of which are made.
+// In pieces of this length, loading the line of the key takes this number of calls, all of which
+// are made.
 fn takes(rt: &impl Abort, alloc: Global, per_call: usize, calls: usize) {
     for calls_before_failure in 0..90 {
         let mut device = Giver::new(GITHUB_LINE, per_call);
@@ -48,13 +49,13 @@ fn takes(rt: &impl Abort, alloc: Global, per_call: usize, calls: usize) {
 
 #[test]
 fn loaded_in_pieces(rt: HostRuntime) {
-    // the last call gives none: it reports the end
+    // the last call gives no byte: it reports the end
     for (per_call, calls) in [(1, 81), (3, 28), (7, 13), (100, 2)] {
         takes(&rt, rt.alloc(), per_call, calls);
     }
 }
 
-// What comes of a file of this many zero bytes: how many are loaded.
+// The result of loading a file of this many zero bytes: the number of bytes loaded.
 fn zeros(rt: &impl Abort, alloc: Global, count: usize) -> Result<usize, FileFault> {
     let mut device = Giver::whole(b"");
     device.then = Then::Zeros(count);
@@ -68,7 +69,7 @@ fn loaded_up_to_the_limit(rt: HostRuntime) {
         (0, Ok(0)),
         (16_777_216, Ok(16_777_216)),
         (16_777_217, Err(FileFault::TooLong)),
-        // without end
+        // an endless reader
         (usize::MAX, Err(FileFault::TooLong)),
     ] {
         assert!(rt;
@@ -81,8 +82,8 @@ fn loaded_up_to_the_limit(rt: HostRuntime) {
 // A file of the published key.
 const KEY: File<'static> = ("g.pub", Some(&[GITHUB_LINE]));
 
-// Asks the list that names the key, with a zero byte at a place of it; each call gives one byte,
-// until one fails.
+// Queries the list that names the key, with the byte at a position set to zero. Each call gives one
+// byte, until one fails.
 fn asked_in_part(rt: &impl Abort, alloc: Global, place: usize, calls: usize) -> Ran {
     let mut bytes = joined(rt, alloc, ONE);
     if let Some(byte) = bytes.get_mut(place) {
@@ -99,8 +100,8 @@ fn asked_in_part(rt: &impl Abort, alloc: Global, place: usize, calls: usize) -> 
 fn the_list_fails(rt: HostRuntime) {
     let read = "ssh-keygen: r.krl: krl 13 Read";
     let magic = "ssh-keygen: r.krl: krl 1 Magic";
-    // where a byte is zero, how many calls come before the failure, and what is said: the last call
-    // gives no byte, since the list is at its end
+    // the position of the zero byte, the number of calls before the failure, and the output; the
+    // last call gives no byte, since the list is at its end
     let rows: [(usize, usize, Said); 6] = [
         (200, 0, (b"", 255, read)),
         (200, 44, (b"", 255, read)),
@@ -119,7 +120,7 @@ const NINE: &str = "ssh-keygen: output: output 1 Write after 9 bytes";
 
 const TWELVE: &str = "ssh-keygen: output: output 1 Write after 12 bytes";
 
-// How many calls come before the failure, the files, and what is said of them.
+// The number of calls before the failure, the files, and the output of the run.
 const SAID: [(usize, &[File<'static>], Said<'static>); 5] = [
     (
         0,
@@ -145,7 +146,7 @@ fn the_output_fails(rt: HostRuntime) {
     }
 }
 
-// Lists the keys of a file; each call takes three bytes, until one fails.
+// Lists the keys of a file. Each call takes three bytes, until one fails.
 fn listed_in_part(rt: &impl Abort, alloc: Global, calls: usize, file: &File) -> Ran {
     let file = named(rt, alloc, file);
     let device = Taker::new(alloc, 3, calls);
@@ -161,7 +162,7 @@ fn the_output_of_a_listing_fails(rt: HostRuntime) {
         &listed_in_part(&rt, rt.alloc(), 2, &KEY),
         (b"256 SH", 255, six),
     );
-    // where nothing is to be written, nothing fails
+    // if nothing is written, nothing fails
     let empty = ("k", Some([].as_slice()));
     let none = "ssh-keygen: k: file 5 NoKeys";
     says(

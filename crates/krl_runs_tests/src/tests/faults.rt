@@ -117,7 +117,7 @@ fn lines(rt: HostRuntime) {
     }
 }
 
-// A body that is out of memory above some size meets the contract. It fails here.
+// A body that reports a failed allocation above some size meets the contract. It fails here.
 #[test]
 fn a_long_name(rt: HostRuntime) {
     let mut name = String::new(rt.alloc());

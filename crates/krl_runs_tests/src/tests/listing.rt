@@ -7,7 +7,7 @@ use parts_for_tests::{CERT_LINE, CONTAINER, GITHUB_LINE, OTHER_LINE, Taker};
 use std::alloc::Global;
 use std::process::Abort;
 
-// A file is listed so at the moment 0.
+// The run prints this listing of a file at the moment 0.
 fn lists(
     rt: &impl Abort,
     alloc: Global,
@@ -21,7 +21,7 @@ fn lists(
     says(rt, number, &ran, said);
 }
 
-// A hash, the parts of a file, and what is listed of its keys. The fingerprints are from other
+// A hash, the parts of a file, and the listing of its keys. The fingerprints are from other
 // programs.
 type Listed<'a> = (Hash, &'a [&'a [u8]], Said<'a>);
 

@@ -1,4 +1,4 @@
-//! Lists that are made and updated.
+//! Making and updating lists.
 
 use crate::tests::runs::{CLOSED, File, LONG, all_named, holding, joined, named, repeated, same};
 use byte_streams::FromRead;
@@ -11,8 +11,8 @@ use parts_for_tests::{
 use std::alloc::Global;
 use std::process::Abort;
 
-// Makes the list `r.krl` of the old one, of the authority and of the files, at the moment 0: the
-// list, or the line of the fault.
+// Makes the list `r.krl` from the old one, the authority and the files, at the moment 0. Returns
+// the list, or the line of the fault.
 fn made(
     rt: &impl Abort,
     alloc: Global,
@@ -36,7 +36,7 @@ fn made(
     }
 }
 
-// The list of this version with these sections.
+// The list with this version and these sections.
 fn list(rt: &impl Abort, alloc: Global, version: u64, sections: &[&[u8]]) -> Vec<u8> {
     let sections = joined(rt, alloc, sections);
     let number = version.to_be_bytes();
@@ -95,7 +95,7 @@ fn of_lines(rt: HostRuntime) {
     }
 }
 
-// Where the line of the certificate has the last digit of its serial.
+// The position of the last digit of the certificate's serial in its line.
 const SERIAL: usize = 144;
 
 // The certificate with serial 0 is named by its key ID, under its own authority.
@@ -117,14 +117,14 @@ fn of_a_certificate_without_a_serial(rt: HostRuntime) {
     );
 }
 
-// A list's version and sections, the lines that are added under all authorities, and the sections
-// of the new list.
+// The version and the sections of a list, the lines that are added under all authorities, and the
+// sections of the new list.
 type Update<'a> = (u64, &'a [&'a [u8]], &'a [u8], &'a [&'a [u8]]);
 
 const UPDATES: [Update<'static>; 3] = [
     (1, &[FIVE], b"serial: 6", &[FIVE_AND_SIX]),
     (1, &[SHA256_SECTION], b"id: a", &[ID_A, SHA256_SECTION]),
-    // a signature, which is dropped
+    // a signature, which is not kept
     (
         7,
         &[KEY_SECTION, b"\x04\0\0\0\0\0\0\0\0"],
@@ -133,7 +133,7 @@ const UPDATES: [Update<'static>; 3] = [
     ),
 ];
 
-// The old list, with these lines under all authorities, makes the new one.
+// Updating the old list with these lines, under all authorities, gives the new one.
 fn updates(rt: &impl Abort, alloc: Global, number: usize, row: &Update) {
     let (version, old, lines, new) = *row;
     let old = list(rt, alloc, version, old);
@@ -150,7 +150,7 @@ fn what_an_old_list_holds_stays(rt: HostRuntime) {
     }
 }
 
-// The authority of the first key of a file, which cannot be opened where it has no text.
+// The authority of the first key of a file. The file cannot be opened if it has no text.
 fn authority<'a>(rt: &impl Abort, alloc: Global, text: Option<&[u8]>) -> Authority<'a> {
     let file = match text {
         Some(text) => holding("ca", joined(rt, alloc, &[text])),
@@ -159,19 +159,19 @@ fn authority<'a>(rt: &impl Abort, alloc: Global, text: Option<&[u8]>) -> Authori
     Authority::File(file)
 }
 
-// The sections of serial 5 of the authority of a key, but for the key.
+// The section of serial 5 of a key's authority, up to the key.
 const UNDER_A_KEY: &[u8] = b"\x01\0\0\0\x48\0\0\0\x33";
 
 const FIVE_OF_IT: &[u8] = b"\0\0\0\0\x20\0\0\0\x08\0\0\0\0\0\0\0\x05";
 
-// The first key of a file of this text, the one of this blob, is the authority of serial 5.
+// The first key in a file with this text, which has this blob, is the authority of serial 5.
 fn is_authority(rt: &impl Abort, alloc: Global, number: usize, text: &[u8], key: &[u8]) {
     let authority = authority(rt, alloc, Some(text));
     let sections = [UNDER_A_KEY, key, FIVE_OF_IT];
     makes(rt, alloc, number, (&authority, &[b"serial: 5"]), &sections)
 }
 
-// The first line of a key, or the key of a container.
+// The key of the first line with one, or the key of a container.
 #[test]
 fn the_first_key_of_the_file_is_the_authority(rt: HostRuntime) {
     let lines: [&[u8]; 5] = [b"\n# ca\n", OTHER_LINE, b" x\n", GITHUB_LINE, b"\nx\n"];
@@ -180,8 +180,8 @@ fn the_first_key_of_the_file_is_the_authority(rt: HostRuntime) {
     is_authority(&rt, rt.alloc(), 1, CONTAINER, GITHUB);
 }
 
-// Lines with comments of this many letters, and as many lines that name nothing. The first key of
-// such a file is an authority too.
+// Lines with comments of this length, and as many lines without an entry. The first key of such a
+// file is an authority too.
 fn takes_long(rt: &impl Abort, alloc: Global, size: usize) {
     let letters = repeated(rt, alloc, b"a", size);
     let lines = repeated(rt, alloc, b"# a\n", size);
@@ -198,7 +198,8 @@ fn long_files_are_read(rt: HostRuntime) {
     }
 }
 
-// The lines of a file, and where and why nothing is made under all authorities.
+// The lines of a file, and the place and the cause of the fault if they are used under all
+// authorities.
 const REFUSED: [(&[u8], &str); 6] = [
     (b"serial: 5-4", "s: line 1: spec 3 Reversed"),
     (b"serial: 0", "s: line 1: spec 2 Zero"),
@@ -208,7 +209,7 @@ const REFUSED: [(&[u8], &str); 6] = [
     (b"x", "s: line 1: spec 6 Key, line 1 NoKey"),
 ];
 
-// Nothing is made of the old list, the authority and the lines, for this fault.
+// The old list, the authority and the lines give no list, but this fault.
 fn refuses(
     rt: &impl Abort,
     alloc: Global,
@@ -267,7 +268,7 @@ fn refused(rt: HostRuntime) {
     );
 }
 
-// The length of the list of a key ID of this many bytes, or of the line of its fault.
+// The length of the list of a key ID of this length, or of the line of its fault.
 fn length(rt: &impl Abort, alloc: Global, id: usize) -> usize {
     let id = vec![in alloc; b'a'; id].expect(rt, "there is memory");
     let files: [File; 1] = [("s", Some(&[b"id: ", &id]))];

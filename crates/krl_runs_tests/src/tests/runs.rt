@@ -1,4 +1,4 @@
-//! Runs over files that the tests make, and what they answer.
+//! Runs over files that the tests make, and their output.
 
 use byte_streams::{FromRead, ToWrite};
 use key_files::{FileFault, Named, fault_text};
@@ -13,25 +13,25 @@ use std::process::Abort;
 /// The list that names the published key.
 pub const ONE: &[&[u8]] = &[&HEADER, KEY_SECTION];
 
-/// How many bytes a text has, or how many lines a file, that is longer than blocks of memory.
+/// Numbers of bytes of a text, or of lines of a file, that exceed blocks of memory.
 pub const LONG: [usize; 3] = [1_025, 4_097, 70_001];
 
-/// The parts one after the other.
+/// The parts one after another.
 pub fn joined(rt: &impl Abort, alloc: Global, parts: &[&[u8]]) -> Vec<u8> {
     parts_for_tests::joined(alloc, parts).expect(rt, "there is memory")
 }
 
-/// The bytes, this many times.
+/// The bytes, repeated.
 pub fn repeated(rt: &impl Abort, alloc: Global, bytes: &[u8], times: usize) -> Vec<u8> {
     parts_for_tests::repeated(alloc, bytes, times).expect(rt, "there is memory")
 }
 
-/// The bytes that were found are these; a number distinguishes the case from the others of a test.
+/// The bytes found are the expected ones. The number identifies the case within a test.
 pub fn same(rt: &impl Abort, number: usize, found: &[u8], wanted: &[u8]) {
     assert_eq!(rt; found, wanted, "in case {number}");
 }
 
-/// A file's name and the parts of its text; none where it cannot be opened.
+/// A file's name and the parts of its text; none if it cannot be opened.
 pub type File<'a> = (&'a str, Option<&'a [&'a [u8]]>);
 
 /// A file of the published key.
@@ -40,10 +40,12 @@ pub const KEY: File<'static> = ("g.pub", Some(&[GITHUB_LINE, b"\n"]));
 /// A file that cannot be opened.
 pub const CLOSED: File<'static> = ("none", None);
 
-/// What a run is to print, its status, and the line of its fault, which is empty where it has none.
+/// The expected text of a run, its status, and the line of its fault, which is empty if there is
+/// none.
 pub type Said<'a> = (&'a [u8], u8, &'a str);
 
-/// What a run printed, its status, and the line of its fault, which is empty where it has none.
+/// The text that a run printed, its status, and the line of its fault, which is empty if there is
+/// none.
 #[derive(Debug, Drop)]
 pub struct Ran {
     pub text: Vec<u8>,
@@ -51,7 +53,7 @@ pub struct Ran {
     pub fault: Vec<u8>,
 }
 
-/// This is what the run said; a number distinguishes it from the other runs of a test.
+/// The run printed this. The number identifies the run within a test.
 pub fn says(rt: &impl Abort, number: usize, ran: &Ran, said: Said) {
     let (text, status, fault) = said;
     same(rt, number, &ran.text, text);
@@ -67,7 +69,7 @@ pub fn holding<'a>(name: &'a str, bytes: Vec<u8>) -> Named<'a> {
     }
 }
 
-/// The file with what it holds.
+/// The file with its content.
 pub fn named<'a>(rt: &impl Abort, alloc: Global, file: &File<'a>) -> Named<'a> {
     let (name, parts) = *file;
     match parts {
@@ -79,7 +81,7 @@ pub fn named<'a>(rt: &impl Abort, alloc: Global, file: &File<'a>) -> Named<'a> {
     }
 }
 
-/// The files with what they hold.
+/// The files with their contents.
 pub fn all_named<'a>(rt: &impl Abort, alloc: Global, files: &[File<'a>]) -> Vec<Named<'a>> {
     let mut all = Vec::new(alloc);
     for file in files {
@@ -89,7 +91,7 @@ pub fn all_named<'a>(rt: &impl Abort, alloc: Global, files: &[File<'a>]) -> Vec<
     all
 }
 
-/// What is said of a run's end.
+/// The output and the end of a run.
 pub fn reported(rt: &impl Abort, alloc: Global, text: Vec<u8>, done: &Done) -> Ran {
     let fault = match &done.fault {
         Some(fault) => fault_text(alloc, fault).expect(rt, "there is memory"),
@@ -102,8 +104,7 @@ pub fn reported(rt: &impl Abort, alloc: Global, text: Vec<u8>, done: &Done) -> R
     }
 }
 
-/// Asks the list `r.krl` about the files; what it holds is printed before that where `dump` is
-/// true.
+/// Queries the list `r.krl` for the files. If `dump` is true, the list is printed first.
 pub fn asked<'a>(
     rt: &impl Abort,
     alloc: Global,
@@ -118,7 +119,7 @@ pub fn asked<'a>(
     reported(rt, alloc, device.taken, &done)
 }
 
-/// The list `r.krl` of these parts is asked about the files, and this is said.
+/// Querying the list `r.krl` with these parts for the files prints this.
 pub fn asks(
     rt: &impl Abort,
     alloc: Global,
