@@ -1,4 +1,4 @@
-//! The tests of `krl_words`, through what it makes public.
+//! The tests of `krl_words`, through its public items.
 #![tactic(auto)]
 
 #[cfg(test)]

@@ -1,4 +1,4 @@
-//! Which words give which command.
+//! Command lines and the jobs that they give.
 
 mod page;
 mod words;

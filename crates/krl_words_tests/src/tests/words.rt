@@ -6,7 +6,7 @@ use krl_words::{CommandFault, command_of};
 use std::alloc::{AllocError, Global};
 use std::test::Fail;
 
-// The job that the words ask for, the program's name before them.
+// The job that the words ask for, after the name of the program.
 fn job_by<'a>(alloc: Global, words: &'a [&'a str]) -> Result<Job<'a>, &'static str> {
     match command_of(alloc, words) {
         Ok(job) => Ok(job),
@@ -14,7 +14,7 @@ fn job_by<'a>(alloc: Global, words: &'a [&'a str]) -> Result<Job<'a>, &'static s
     }
 }
 
-// Why the words ask for none.
+// Why the words ask for no job.
 fn fault_by(alloc: Global, words: &[&str]) -> Result<CommandFault, &'static str> {
     match command_of(alloc, words) {
         Ok(_) => Err("the words ask for nothing"),
@@ -55,7 +55,7 @@ const JOBS: [Asked<'static>; 7] = [
         Hash::Md5,
         &[],
     ),
-    // of options that are given twice the last value counts
+    // if an option is given twice, the last value counts
     (
         &["ssh-keygen", "-Q", "-Q", "-f", "k", "a", "-f", "m", "b"],
         Mode::Query,
@@ -99,7 +99,7 @@ fn contents_are_asked_for(rt: HostRuntime) -> Result<(), Fail> {
     Ok(())
 }
 
-// Words of `-k`, whether it updates, the authority, the version and the files.
+// Words with `-k`, whether they update, the authority, the version and the files.
 type Making<'a> = (&'a [&'a str], bool, &'a str, Option<u64>, &'a [&'a str]);
 
 const MAKING: [Making<'static>; 5] = [
@@ -191,7 +191,7 @@ const MISUSED: [&[&str]; 10] = [
     &["ssh-keygen", "-k", "-f", "k", "-z", "\u{661}"],
 ];
 
-// Whether the fault is that of a misuse, and says so.
+// Whether the fault is a misuse, and says so.
 fn is_misuse(alloc: Global, fault: &CommandFault) -> Result<bool, AllocError> {
     let text = format!(in alloc; "{fault}")?;
     Ok(fault.number() == 1 && text.as_str() == "usage 1 Usage")
@@ -206,7 +206,8 @@ fn misused(rt: HostRuntime) -> Result<(), Fail> {
     Ok(())
 }
 
-// Whether the fault is of words that are not read, or that ask for help, with something to print.
+// Whether the fault is that the words cannot be parsed, or that they ask for help, and has a text
+// to print.
 fn reports(fault: &CommandFault, of_help: bool) -> bool {
     match fault {
         CommandFault::Words { help, text } => *help == of_help && !text.is_empty(),
@@ -232,7 +233,7 @@ fn answered_in_words(rt: HostRuntime) -> Result<(), Fail> {
     Ok(())
 }
 
-// The first words, and this many names of files after them.
+// The first words, followed by this number of file names.
 fn with_files(
     alloc: Global,
     first: &[&'static str],
@@ -245,7 +246,7 @@ fn with_files(
     Ok(words)
 }
 
-// Whether the words with this many files after them ask for these files.
+// Whether the words, followed by this number of file names, ask for these files.
 fn asks_for_files(alloc: Global, first: &[&'static str], count: usize) -> Result<bool, Fail> {
     let words = with_files(alloc, first, count)?;
     let job = job_by(alloc, &words)?;
@@ -262,7 +263,7 @@ fn many_files(rt: HostRuntime) -> Result<(), Fail> {
     Ok(())
 }
 
-// This many letters.
+// A word of this length.
 fn letters(alloc: Global, size: usize) -> Result<String, AllocError> {
     let mut text = String::new(alloc);
     for _ in 0..size {
@@ -271,7 +272,7 @@ fn letters(alloc: Global, size: usize) -> Result<String, AllocError> {
     Ok(text)
 }
 
-// Whether a long name of the list and of a file is taken.
+// Whether long names of the list and of a file are accepted.
 fn takes_names(alloc: Global, size: usize) -> Result<bool, Fail> {
     let name = letters(alloc, size)?;
     let words = ["ssh-keygen", "-Q", "-f", name.as_str(), name.as_str()];
@@ -279,7 +280,7 @@ fn takes_names(alloc: Global, size: usize) -> Result<bool, Fail> {
     Ok(job.file == name.as_str() && job.files.as_slice() == &words[4..])
 }
 
-// Whether a long word that is no option is reported.
+// Whether a long word that is not an option is reported.
 fn reports_word(alloc: Global, size: usize) -> Result<bool, Fail> {
     let name = letters(alloc, size)?;
     let word = format!(in alloc; "--{}", name.as_str())?;
