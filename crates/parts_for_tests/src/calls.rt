@@ -1,9 +1,9 @@
-//! How a call of a device begins.
+//! The beginning of a call of a device.
 
 use std::io::{self, ErrorKind};
 
-/// Begins a call, which is interrupted where interruptions are left, and fails where no call is
-/// left before the failure.
+/// Begins a call. It is interrupted if interruptions are left, and fails if no call is left before
+/// the failure.
 pub fn begin(interruptions: &mut usize, calls_before_failure: &mut usize) -> io::Result<()> {
     if *interruptions > 0 {
         *interruptions -= 1;

@@ -6,19 +6,19 @@ ghost use Rattle.std.specs.Counts.{IsPrefixLen};
 use crate::calls::begin;
 use std::io::{self, ErrorKind, Read};
 
-/// What a reader does once its bytes are given.
+/// The behaviour of a reader after its bytes.
 #[derive(Clone, Copy)]
 pub enum Then {
     Ends,
     Fails,
-    /// Ends, and fails where it is asked again.
+    /// Ends, and fails on the next call.
     EndsOnce,
-    /// Gives this many zero bytes, and ends then.
+    /// Gives this number of zero bytes, and then ends.
     Zeros(usize),
 }
 
-/// Gives its bytes, at most `per_call` at a call, once it was interrupted `interruptions` times. It
-/// fails from the call on that is to fail.
+/// Gives its bytes, at most `per_call` at a call, after `interruptions` interruptions. It fails
+/// after `calls_before_failure` calls.
 #[derive(Drop)]
 pub struct Giver<'a> {
     pub bytes: &'a [u8],
@@ -45,7 +45,7 @@ impl<'a> Giver<'a> {
         Giver::new(bytes, usize::MAX)
     }
 
-    // What a call gives once the bytes are given.
+    // The result of a call after the bytes.
     fn read_then(&mut self, into: &mut [u8]) -> io::Result<usize>
         ensures { IfOk result (λ count. IsPrefixLen count into.new) }
     {

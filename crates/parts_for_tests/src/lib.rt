@@ -1,6 +1,6 @@
-//! What the tests of several crates are made of: strings and points as the formats spell them, keys
-//! as their files have them, lists and runs of serials, texts as they print, and readers and
-//! writers that give and take few bytes at a call, are interrupted, and fail.
+//! Parts of the tests of several crates: strings and points as the formats spell them, keys as
+//! files contain them, lists and runs of serials, printed texts, and readers and writers that give
+//! and take few bytes at a call, are interrupted, and fail.
 #![tactic(auto)]
 
 mod calls;

@@ -1,9 +1,9 @@
-//! Texts as they print.
+//! Texts as they are printed.
 
 use std::alloc::{AllocError, Global};
 use std::fmt::Display;
 
-/// The first of some rows whose value does not print as the text beside it.
+/// The first row whose value does not print as the text beside it.
 pub fn misprinted<V: Display>(
     alloc: Global,
     rows: &[(V, &'static str)],

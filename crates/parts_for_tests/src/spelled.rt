@@ -2,8 +2,8 @@
 
 use std::alloc::{AllocError, Global};
 
-/// Strings, one after the other (RFC 4251 section 5): four bytes of length and the bytes of each. A
-/// number stands here by the bytes of its string.
+/// Strings, one after another (RFC 4251 section 5): four bytes of length and the bytes of each. A
+/// number is given as the bytes of its string.
 pub fn strings(alloc: Global, list: &[&[u8]]) -> Result<Vec<u8>, AllocError> {
     let mut all = Vec::new(alloc);
     for bytes in list {
@@ -14,7 +14,7 @@ pub fn strings(alloc: Global, list: &[&[u8]]) -> Result<Vec<u8>, AllocError> {
     Ok(all)
 }
 
-/// The parts, one after the other.
+/// The parts, one after another.
 pub fn joined(alloc: Global, parts: &[&[u8]]) -> Result<Vec<u8>, AllocError> {
     let mut all = Vec::new(alloc);
     for part in parts {
@@ -23,7 +23,7 @@ pub fn joined(alloc: Global, parts: &[&[u8]]) -> Result<Vec<u8>, AllocError> {
     Ok(all)
 }
 
-/// The bytes, this many times.
+/// The bytes, repeated.
 pub fn repeated(alloc: Global, bytes: &[u8], times: usize) -> Result<Vec<u8>, AllocError> {
     let mut all = Vec::new(alloc);
     for _ in 0..times {
@@ -32,7 +32,7 @@ pub fn repeated(alloc: Global, bytes: &[u8], times: usize) -> Result<Vec<u8>, Al
     Ok(all)
 }
 
-/// A point of a curve in this many bytes: the first, which says how it is spelled, and the others.
+/// A point of a curve with this number of bytes: the first, which gives the format, and the others.
 pub fn point(alloc: Global, size: usize, first: u8) -> Result<Vec<u8>, AllocError> {
     let mut bytes = vec![in alloc; 0x55; size]?;
     if let Some(front) = bytes.first_mut() {

@@ -4,8 +4,8 @@ use crate::calls::begin;
 use std::alloc::Global;
 use std::io::{self, Write};
 
-/// Takes at most `per_call` bytes at a call, once it was interrupted `interruptions` times. It
-/// fails from the call on that is to fail.
+/// Takes at most `per_call` bytes at a call, after `interruptions` interruptions. It fails after
+/// `calls_before_failure` calls.
 #[derive(Drop)]
 pub struct Taker {
     pub taken: Vec<u8>,
@@ -25,7 +25,7 @@ impl Taker {
         }
     }
 
-    /// A writer that takes all that it is given.
+    /// A writer that takes everything.
     pub fn whole(alloc: Global) -> Taker {
         Taker::new(alloc, usize::MAX, usize::MAX)
     }
