@@ -1,6 +1,6 @@
-//! Calls whose memory is refused. `tests/inject_faults` runs each test once for each of its
-//! allocations, and refuses that one, until a run meets no refusal: the call answers as with ample
-//! memory, or that memory ran out, which it never does where nothing is refused.
+//! Calls whose allocations fail. `tests/inject_faults` runs each test once for each of its
+//! allocations, and makes that one fail, until no allocation is left. The call returns the same as
+//! with ample memory, or reports a failed allocation, which it never does if none failed.
 #![tactic(auto)]
 
 #[cfg(test)]

@@ -1,5 +1,5 @@
-//! Each call that allocates, with what it answers where there is memory, and what is left where it
-//! was refused.
+//! Each call that allocates, with its result if there is memory, and the state that is left if an
+//! allocation fails.
 
 mod answered;
 mod audits;

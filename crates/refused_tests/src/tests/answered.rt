@@ -1,15 +1,15 @@
-//! What a call answered where memory may have been refused.
+//! The result of a call in which an allocation may have failed.
 
 use std::process::Abort;
 
-/// Says that memory ran out: `tests/inject_faults` looks for this line, which no test may print
-/// where nothing is refused.
+/// Prints that an allocation failed: `tests/inject_faults` looks for this line, which no test may
+/// print if no allocation failed.
 pub fn ran_out(rt: &(impl AllocGlobal + Abort + Print)) {
     println!(rt; "memory ran out").expect(rt, "standard output takes it");
 }
 
-/// The answer of a call. None where its fault is the one that says that memory ran out; it may have
-/// no other.
+/// The value that a call returned. None if its fault is that an allocation failed; it may have no
+/// other fault.
 pub fn answered<A, E: PartialEq + Drop>(
     rt: &(impl AllocGlobal + Abort + Print),
     reported: Result<A, E>,

@@ -1,4 +1,4 @@
-//! Files that are audited.
+//! Auditing files.
 
 use crate::tests::answered::{answered, ran_out};
 use crate::tests::buffer::Buffer;
@@ -11,7 +11,7 @@ use parts_for_tests::{CERT_LINE, CONTAINER, GITHUB, GITHUB_LINE, joined};
 use span_sets::Held;
 use std::alloc::{AllocError, Global};
 
-// What is said of the lines of `audited`.
+// The text that is printed for the lines of `audited`.
 const SAID: &[u8] = b"f:1: unread: no key type stands there
 f:2: revoked: ssh-ed25519 SHA256:+DiY3wvvV6TuJJhbpZisF/zLDA0zPMSvHdkr4UvCOqU by its key: a
 f:3: revoked: ssh-ed25519-cert-v01@openssh.com SHA256:+DiY3wvvV6TuJJhbpZisF/zLDA0zPMSvHdkr4UvCOqU by its key
@@ -63,7 +63,7 @@ fn files_are_audited(rt: HostRuntime) {
     match stop {
         None => assert!(rt; said.text() == SAID),
         Some(stop) => {
-            // What was said before memory ran out is right.
+            // The text that was printed before the allocation failed is right.
             assert!(rt; stop.cause == Cause::NoMemory && SAID.starts_with(said.text()));
             ran_out(&rt);
         }

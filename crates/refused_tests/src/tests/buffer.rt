@@ -1,11 +1,11 @@
-//! A writer that asks for no memory.
+//! A writer that does not allocate.
 
 use std::io::{self, ErrorKind, Write};
 
-// How many bytes it takes.
+// The number of bytes that it takes.
 const ROOM: usize = 4096;
 
-/// Holds the bytes that it took.
+/// Stores the bytes that it took.
 #[derive(Drop)]
 pub struct Buffer {
     bytes: [u8; ROOM],
@@ -21,7 +21,7 @@ impl Buffer {
         }
     }
 
-    /// What it took.
+    /// The bytes that it took.
     pub fn text(&self) -> &[u8] {
         self.bytes.get(..self.count).unwrap_or(&[])
     }

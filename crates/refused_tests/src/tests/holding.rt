@@ -1,4 +1,4 @@
-//! What is held, which a refused addition leaves as it was.
+//! Stored entries, which are unchanged if an addition fails.
 
 use crate::tests::answered::{answered, ran_out};
 use crate::tests::parts::{SHA256, blob_of};
@@ -27,7 +27,7 @@ impl Write for Counter {
     }
 }
 
-// What is added.
+// The kind of an entry.
 #[derive(Clone, Copy)]
 enum Entry {
     Key,
@@ -45,7 +45,7 @@ const SORTS: [Entry; 5] = [
     Entry::Sha256,
 ];
 
-/// How many spans, key IDs, keys and hashes are held.
+/// The number of spans, key IDs, keys and hashes.
 pub fn size(held: &Revocations<Held>) -> u128 {
     let mut size = held.held();
     for index in 0..held.authorities() {
@@ -57,7 +57,7 @@ pub fn size(held: &Revocations<Held>) -> u128 {
     size
 }
 
-// Adds an entry of a sort.
+// Adds an entry of this kind.
 fn add(held: &mut Revocations<Held>, entry: Entry, byte: u8) -> Result<(), AllocError> {
     match entry {
         Entry::Key => held.add_key(&[byte; 51]),
@@ -68,7 +68,7 @@ fn add(held: &mut Revocations<Held>, entry: Entry, byte: u8) -> Result<(), Alloc
     }
 }
 
-// Adds a new entry, again where it is refused.
+// Adds a new entry, a second time if the first addition fails.
 fn insist(
     rt: &(impl AllocGlobal + Abort + Print),
     held: &mut Revocations<Held>,
@@ -85,7 +85,7 @@ fn insist(
     Ok(())
 }
 
-/// Two hundred of each sort.
+/// Two hundred of each kind.
 pub fn held(rt: &(impl AllocGlobal + Abort + Print)) -> Option<Revocations<Held>> {
     let mut held = Revocations::new(rt.alloc());
     for byte in 0..200 {

@@ -1,4 +1,4 @@
-//! What the calls are given, where memory may be refused.
+//! The arguments of the calls, whose allocations may fail too.
 
 use crate::tests::answered::answered;
 use key_text::{LineFault, read_line};

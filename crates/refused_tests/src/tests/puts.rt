@@ -1,11 +1,11 @@
-//! Vectors, which a refused put leaves as they were.
+//! Vectors, which are unchanged if a put fails.
 
 use crate::tests::answered::ran_out;
 use ssh_wire::{put_byte, put_mpint, put_string, put_u32, put_u64};
 use std::alloc::AllocError;
 use std::test::*;
 
-// Puts one of each sort.
+// Puts one field of each kind.
 #[tactic(auto, using(ssh_wire::proofs::Magnitudes::complement_fits))]
 fn put(out: &mut Vec<u8>, sort: u32) -> Result<(), AllocError> {
     match sort % 5 {

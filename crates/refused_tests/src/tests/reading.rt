@@ -1,4 +1,4 @@
-//! Fields and lists that are read.
+//! Reading fields and lists.
 
 use crate::tests::answered::{answered, ran_out};
 use crate::tests::parts::list_of;
@@ -20,14 +20,14 @@ fn a_field(rt: HostRuntime) {
     let found = pull.bytes(rt.alloc(), 200_000);
     match answered(&rt, found, PullFault::NoMemory) {
         Some(bytes) => assert!(rt; bytes.as_slice().len() == 200_000 && pull.taken() == 200_000),
-        // Nothing of the field is counted, and the refusal stays.
+        // No byte of the field is counted, and the fault is reported again.
         None => {
             assert!(rt; pull.taken() == 0 && pull.byte() == Err(PullFault::NoMemory));
         }
     }
 }
 
-// What is read of a list.
+// The result of reading a list.
 fn read(alloc: Global, text: &[u8]) -> Result<(Header, Revocations<Held>), KrlFault> {
     let (read, _) = read_krl::<Held, FromRead<&[u8]>>(alloc, FromRead::new(text));
     read
@@ -62,12 +62,12 @@ fn whole_lists(rt: HostRuntime) {
 
 type OfSlice<'a> = Reading<Held, FromRead<&'a [u8]>>;
 
-// What is held, and how many bytes are taken.
+// The number of spans stored, and the number of bytes taken.
 fn state(reading: &OfSlice<'_>) -> (u128, u64) {
     (reading.held(), reading.taken())
 }
 
-// A reading that was refused memory is stepped on: it answers so again, and nothing changes.
+// A reading in which an allocation failed continues: it reports that again, and nothing changes.
 fn stays_refused(rt: &(impl AllocGlobal + Abort + Print), reading: &mut OfSlice<'_>) {
     let before = state(reading);
     for _ in 0..3 {
@@ -76,7 +76,7 @@ fn stays_refused(rt: &(impl AllocGlobal + Abort + Print), reading: &mut OfSlice<
     }
 }
 
-// Steps to the end of the list, or to a refusal: then it is stepped on.
+// Reads up to the end of the list, or up to a failed allocation, and then continues.
 fn step_through(rt: &(impl AllocGlobal + Abort + Print), reading: &mut OfSlice<'_>) -> bool {
     for _ in 0..200 {
         match reading.step() {

@@ -1,4 +1,4 @@
-//! The runs, what they load, and the line of their fault.
+//! The runs, loading their files, and the line of their fault.
 
 use crate::tests::answered::{answered, ran_out};
 use crate::tests::buffer::Buffer;
@@ -53,7 +53,8 @@ fn file<'a>(
     })
 }
 
-// The run said all with this status; or memory ran out, and it said whole lines from the beginning.
+// The run printed everything, with this status. Or an allocation failed, and it printed complete
+// lines from the beginning.
 fn is_whole_or_stopped(
     rt: &(impl AllocGlobal + Abort + Print),
     done: &Done,
@@ -72,7 +73,7 @@ fn is_whole_or_stopped(
     }
 }
 
-// Asks a list about the keys of files.
+// Queries a list for the keys of files.
 fn query<'a>(
     alloc: Global,
     krl: &[u8],
@@ -91,7 +92,7 @@ fn query<'a>(
     done
 }
 
-// What a list with the published key says of three files.
+// The output for three files and a list with the published key.
 const ANSWERS: &[u8] = b"a: REVOKED\nb: ok\nid (a): REVOKED\n";
 
 // The same, with the list itself before it.
@@ -99,7 +100,7 @@ const LIST_AND_ANSWERS: &[u8] = b"# KRL version 1\n# Generated at 1970-01-01T00:
 key: AAAAC3NzaC1lZDI1NTE5AAAAIOMqqnkVzrm0SdG6UOoqKLsabgH5C9okWi0dh2l9GKJl\n\
 a: REVOKED\nb: ok\nid (a): REVOKED\n";
 
-// Asks about files of a certificate, of another key and of a private key.
+// Queries for files of a certificate, of another key and of a private key.
 fn ask_three(
     rt: &(impl AllocGlobal + Abort + Print),
     sections: &[u8],
@@ -128,7 +129,7 @@ fn a_question_of_a_short_list(rt: HostRuntime) {
     ask_three(&rt, KEY_SECTION, false, ANSWERS);
 }
 
-// The list is longer than the files, and the key is named at its end.
+// The list is longer than the files, and names the key at its end.
 #[test]
 fn a_question_of_a_list_that_passes(rt: HostRuntime) {
     let mut parts = [ID_A; 100];
@@ -167,7 +168,7 @@ fn a_listing_of_keys(rt: HostRuntime) {
     list_two(&rt);
 }
 
-// The listing of a certificate begins so, or nothing is said.
+// The listing of a certificate has this beginning, or nothing is printed.
 fn list_certificate(rt: &(impl AllocGlobal + Abort + Print)) -> Option<()> {
     let file = file(rt, "c.pub", CERT_LINE)?;
     let mut said = Buffer::new();
@@ -186,7 +187,7 @@ fn a_listing_of_certificates(rt: HostRuntime) {
     list_certificate(&rt);
 }
 
-// Makes a list of an old one and of files, under all authorities.
+// Makes a list from an old one and files, under all authorities.
 fn make(alloc: Global, old: &[u8], files: &[Named]) -> Result<Vec<u8>, Cause> {
     let old = Old {
         name: "r.krl",
@@ -199,7 +200,7 @@ fn make(alloc: Global, old: &[u8], files: &[Named]) -> Result<Vec<u8>, Cause> {
     }
 }
 
-// An update of the list with a hash by a key ID of all authorities: its version is one more.
+// Updates the list of a hash with a key ID of all authorities. Its version is one more.
 fn update(rt: &(impl AllocGlobal + Abort + Print)) -> Option<()> {
     let old = list_of(rt, SHA256_SECTION)?;
     let sections = joined(rt.alloc(), &[ID_A, SHA256_SECTION]);

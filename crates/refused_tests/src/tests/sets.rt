@@ -1,4 +1,4 @@
-//! Sets of spans, which a refused addition leaves as they were.
+//! Sets of spans, which are unchanged if an addition fails.
 ghost use Rattle.std.specs.Prelude.{◌≡◌, ◌*◌, ◌^◌, ◌<◌, ◌≤◌, All};
 ghost use Rattle.serial_set.specs.BitRuns.{IsInterval};
 ghost use Rattle.serial_set.specs.Near.{AreNear};
@@ -10,7 +10,7 @@ use std::alloc::AllocError;
 use std::process::Abort;
 use std::test::Fail;
 
-// A set with no member, tried again where memory ran out.
+// A set with no member, created again if an allocation failed.
 fn empty<S: Spans>(rt: &(impl AllocGlobal + Abort + Print)) -> Result<S, AllocError> {
     match S::empty(rt.alloc()) {
         Ok(set) => Ok(set),
@@ -21,7 +21,7 @@ fn empty<S: Spans>(rt: &(impl AllocGlobal + Abort + Print)) -> Result<S, AllocEr
     }
 }
 
-// In which order 1, 3, 5, .. 2047 are added.
+// The order in which 1, 3, 5, .. 2047 are added.
 #[derive(Clone, Copy)]
 enum Order {
     Rising,
@@ -47,7 +47,7 @@ fn number(order: Order, step: u64) -> u64 {
     }
 }
 
-// The set has just the numbers before a step, each in a span of its own.
+// The set has exactly the numbers before a step, each in a span of its own.
 fn is_before<S: Spans>(rt: &(impl AllocGlobal + Abort + Print), set: &S, order: Order, step: u64) {
     assert!(rt; set.len() as u64 == step);
     for other in 0..COUNT {
@@ -55,7 +55,7 @@ fn is_before<S: Spans>(rt: &(impl AllocGlobal + Abort + Print), set: &S, order: 
     }
 }
 
-// Adds the number of a step, again where it is refused.
+// Adds the number of a step, again if that fails.
 fn add<S: Spans>(
     rt: &(impl AllocGlobal + Abort + Print),
     set: &mut S,
@@ -72,7 +72,7 @@ fn add<S: Spans>(
     Ok(())
 }
 
-// Adds them all, and then one interval that joins them, again where it is refused.
+// Adds all of them, and then one interval that joins them, again if that fails.
 fn fill<S: Spans>(rt: &(impl AllocGlobal + Abort + Print), order: Order) -> Result<(), Fail> {
     let mut set: S = empty(rt)?;
     for step in 0..COUNT {
@@ -102,10 +102,10 @@ fn one_vector(rt: HostRuntime) -> Result<(), Fail> {
     fill::<SpanVec>(&rt, Order::BothEnds)
 }
 
-// What is added, and how many spans there are then.
+// Intervals, and the number of spans after each was added.
 const JOINING: [(u64, u64, usize); 4] = [(5, 5, 1), (7, 7, 2), (6, 6, 1), (8, u64::MAX, 1)];
 
-// Adds what touches and what does not, again where it is refused.
+// Adds intervals that touch and others that do not, again if that fails.
 fn join<S: Spans>(rt: &(impl AllocGlobal + Abort + Print)) -> Result<(), Fail> {
     let mut set: S = empty(rt)?;
     for (lo, hi, expected) in JOINING {
@@ -131,16 +131,16 @@ fn a_joined_vector(rt: HostRuntime) -> Result<(), Fail> {
     join::<SpanVec>(&rt)
 }
 
-// What is added to a set of no entry, and what makes a second one.
+// An addition to an empty set, and one that makes a second entry.
 const SECOND: [((u64, u64), (u64, u64)); 4] = [
     ((9, 9), (1000, 1000)),
     ((1000, 2000), (5, 5)),
     ((1000, 2000), (3000, 4000)),
-    // a word and a run in place of the run
+    // a word and a run replace the run
     ((60, 200), (58, 58)),
 ];
 
-// A set's only entry takes no memory. A second one does, and is added again where it is refused.
+// A set's only entry does not allocate. A second one does, and is added again if that fails.
 #[test]
 fn a_second_entry(rt: HostRuntime) -> Result<(), Fail> {
     for ((lo, hi), (from, to)) in SECOND {
@@ -176,7 +176,7 @@ fn near_in(window: u64) -> [Span; 2]
     ]
 }
 
-// Adds the spans of a window, again where it is refused.
+// Adds the spans of a window, again if that fails.
 fn add_near<S: Spans>(
     rt: &(impl AllocGlobal + Abort + Print),
     set: &mut S,
@@ -195,7 +195,7 @@ fn add_near<S: Spans>(
     Ok(())
 }
 
-// Adds those of many windows, of which a page has a part.
+// Adds the spans of many windows, more than one page has room for.
 fn fill_near<S: Spans>(rt: &(impl AllocGlobal + Abort + Print)) -> Result<(), Fail> {
     let mut set: S = empty(rt)?;
     for window in 0..COUNT {

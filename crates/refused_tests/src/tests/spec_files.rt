@@ -1,4 +1,4 @@
-//! Specification files, of which a refusal leaves just the lines before it.
+//! Specification files. If an allocation fails, exactly the lines before it are added.
 
 use crate::tests::answered::{answered, ran_out};
 use crate::tests::holding::size;
@@ -8,7 +8,7 @@ use parts_for_tests::{CERT_LINE, GITHUB_LINE, GITHUB_PRINT, OTHER_LINE, joined};
 use span_sets::Held;
 use std::alloc::AllocError;
 
-// Eight lines, of which each names one entry more.
+// Eight lines, each of which names one more entry.
 const LINES: [&[u8]; 14] = [
     b"serial: 0x10-020\n",
     b"id: a\n",

@@ -1,4 +1,4 @@
-//! Lists that are written.
+//! Writing lists.
 
 use crate::tests::answered::answered;
 use crate::tests::holding::{Counter, held, one_of_each};

@@ -1,4 +1,4 @@
-//! The words of the command.
+//! The words of the command line.
 
 use crate::tests::answered::ran_out;
 use krl_job::{Job, Mode};
@@ -38,7 +38,7 @@ fn a_command(rt: HostRuntime) {
     }
 }
 
-// Words that are not read, whose fault carries a text.
+// Words that cannot be parsed, whose fault has a text.
 #[test]
 fn words_that_are_refused(rt: HostRuntime) {
     match command_of(rt.alloc(), &["ssh-keygen", "-Y"]) {
