@@ -1,4 +1,4 @@
-//! The tests of `serial_set`, through what it makes public.
+//! The tests of `serial_set`, through its public items.
 #![tactic(auto)]
 
 #[cfg(test)]

@@ -1,4 +1,4 @@
-//! What no contract says: worked sets and bitmaps, over each representation.
+//! Facts that no contract states: worked sets and bitmaps, for each representation.
 mod adding;
 mod bitmaps;
 mod near;

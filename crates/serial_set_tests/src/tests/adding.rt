@@ -1,11 +1,11 @@
-//! Intervals that are added, one after the other.
+//! Adding intervals, one after another.
 use crate::tests::sets::{add, empty, has_just};
 use serial_set::{Span, Spans};
 use span_sets::{SpanPages, SpanVec};
 use std::alloc::Global;
 use std::process::Abort;
 
-// Intervals that are added one after the other, each with the length after it, and the last list.
+// Intervals that are added one after another, each with the length afterwards, and the final list.
 type Row = (&'static [(u64, u64, usize)], &'static [Span]);
 
 const ROWS: [Row; 3] = [
@@ -17,7 +17,7 @@ const ROWS: [Row; 3] = [
         }],
     ),
     (&[(5, 5, 1), (5, 5, 1), (1, 9, 1)], &[Span { lo: 1, hi: 9 }]),
-    // an only chunk, others after and before it, and what joins the first two
+    // an only chunk, others after and before it, and an interval that joins the first two
     (
         &[(1000, 2000, 1), (5, 5, 2), (3000, 3000, 3), (60, 999, 3)],
         &[
@@ -28,7 +28,7 @@ const ROWS: [Row; 3] = [
     ),
 ];
 
-// Each interval leaves the length beside it, and the last the list.
+// Each interval leads to the length beside it, and the last one to the list.
 fn adds<S: Spans>(rt: &impl Abort, alloc: Global, number: usize, row: &Row) {
     let (intervals, last) = *row;
     let mut set: S = empty(rt, alloc);

@@ -1,14 +1,14 @@
-//! Bitmaps, byte for byte, and why they are refused.
+//! Bitmaps, byte by byte, and their faults.
 use crate::tests::sets::{add, empty, has_just};
 use serial_set::{BitFault, BitRuns, Span, Spans};
 use span_sets::Held;
 use std::alloc::Global;
 use std::process::Abort;
 
-// An offset, the bytes of a bitmap, and its runs or why it is refused.
+// An offset, the bytes of a bitmap, and its runs or its fault.
 type Row = (u64, &'static [u8], Result<&'static [Span], BitFault>);
 
-// The runs of a bitmap, or why it is refused.
+// The runs of a bitmap, or its fault.
 fn read(rt: &impl Abort, alloc: Global, offset: u64, bytes: &[u8]) -> Result<Held, BitFault> {
     let mut set: Held = empty(rt, alloc);
     let Ok(len) = u32::try_from(bytes.len()) else {
@@ -28,7 +28,7 @@ fn read(rt: &impl Abort, alloc: Global, offset: u64, bytes: &[u8]) -> Result<Hel
     Ok(set)
 }
 
-// The runs of the bitmap are those that are expected, or why it is refused is.
+// The bitmap has the expected runs or the expected fault.
 fn reads(rt: &impl Abort, alloc: Global, number: usize, row: &Row) {
     let (offset, bytes, expected) = *row;
     match (read(rt, alloc, offset, bytes), expected) {
@@ -74,7 +74,7 @@ fn reads_bitmaps(rt: HostRuntime) {
     }
 }
 
-// A run over a thousand bytes is never cut.
+// A run over a thousand bytes is never split.
 #[test]
 fn goes_on_over_bytes(rt: HostRuntime) {
     let mut bytes = vec![in rt.alloc(); 0xff; 1000].expect(&rt, "there is memory");
@@ -87,7 +87,7 @@ fn goes_on_over_bytes(rt: HostRuntime) {
     assert!(rt; has_just(&set, &[Span { lo: 1, hi: 7999 }]));
 }
 
-// What is finished at a byte comes highest first, and what is open then is pending.
+// The runs that finish at a byte come highest first, and the run that is open then is pending.
 #[test]
 fn the_lowest_run_is_pending(rt: HostRuntime) {
     let mut bits = BitRuns::new(1, 1);

@@ -1,4 +1,4 @@
-//! Spans that are added in one change where they are near each other.
+//! Spans that are added in one change if they are near each other.
 
 ghost use Rattle.std.specs.Prelude.{◌<◌, length, All};
 ghost use Rattle.serial_set.specs.BitRuns.{IsInterval};
@@ -9,7 +9,7 @@ use span_sets::{SpanPages, SpanVec};
 use std::alloc::{AllocError, Global};
 use std::process::Abort;
 
-// Adds as many of the spans as are near the first, and says how many these are.
+// Adds as many of the spans as are near the first, and returns how many.
 fn add_first<S: Spans>(set: &mut S, spans: &[Span]) -> Result<usize, AllocError>
     requires some { 0 < length spans.now }
     requires intervals { All IsInterval spans.now }
@@ -19,7 +19,7 @@ fn add_first<S: Spans>(set: &mut S, spans: &[Span]) -> Result<usize, AllocError>
     Ok(count)
 }
 
-// Of a set of two spans and three more, two of which are in one window.
+// A set of two spans, to which three more are added, two of them in one window.
 fn adds_near<S: Spans>(rt: &impl Abort, alloc: Global) {
     let mut set: S = empty(rt, alloc);
     add(rt, &mut set, 130, 131);

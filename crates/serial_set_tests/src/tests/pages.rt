@@ -1,4 +1,4 @@
-//! Sets that fill many pages, over both representations.
+//! Sets that fill many pages, for both representations.
 ghost use Rattle.std.specs.Prelude.{◌≡◌, ◌+◌, ◌*◌, ◌^◌, ◌<◌, ◌≤◌};
 
 use crate::tests::sets::{add, empty, has_just, has_span};
@@ -7,7 +7,7 @@ use span_sets::{SpanPages, SpanVec};
 use std::alloc::Global;
 use std::process::Abort;
 
-// In which order numbers are added.
+// The order in which numbers are added.
 #[derive(Clone, Copy)]
 enum Order {
     Rising,
@@ -15,7 +15,7 @@ enum Order {
     Alternating,
 }
 
-// Which of `count` numbers is the next.
+// Which of `count` numbers is next.
 fn position(order: Order, index: u64, count: u64) -> u64
     requires { index < count }
     ensures { result < count }

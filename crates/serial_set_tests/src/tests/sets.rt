@@ -1,4 +1,4 @@
-//! Sets that are made and filled, over any representation.
+//! Making and filling sets, for any representation.
 
 ghost use Rattle.std.specs.Prelude.{◌<◌, ◌≤◌};
 
@@ -11,7 +11,7 @@ pub fn empty<S: Spans>(rt: &impl Abort, alloc: Global) -> S {
     S::empty(alloc).expect(rt, "there is memory")
 }
 
-/// Adds an interval, which has a serial and begins above 0.
+/// Adds an interval, which is not empty and begins above 0.
 pub fn add<S: Spans>(rt: &impl Abort, set: &mut S, lo: u64, hi: u64) {
     assert!(rt; 0 < lo && lo <= hi);
     set.add(lo, hi).expect(rt, "there is memory");
@@ -26,7 +26,7 @@ pub fn has_span<S: Spans>(set: &S, at: usize, span: Span) -> bool {
         && !set.has(span.lo.saturating_sub(1))
 }
 
-/// Whether the set has these spans alone.
+/// Whether the set has exactly these spans.
 pub fn has_just<S: Spans>(set: &S, spans: &[Span]) -> bool {
     for (at, span) in spans.iter().enumerate() {
         if !has_span(set, at, *span) {
