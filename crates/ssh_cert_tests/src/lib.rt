@@ -1,4 +1,4 @@
-//! The tests of `ssh_cert` and `cert_listing`, through what they make public.
+//! The tests of `ssh_cert` and `cert_listing`, through their public items.
 #![tactic(auto)]
 
 #[cfg(test)]

@@ -1,4 +1,4 @@
-//! What no contract says: certificates with known answers, and calls with memory enough.
+//! Facts that no contract states: certificates with known results, and calls with ample memory.
 
 mod asking;
 mod cut;

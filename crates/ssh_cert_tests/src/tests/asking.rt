@@ -1,4 +1,4 @@
-//! What a revocation list is asked.
+//! The subjects of blobs.
 
 use crate::tests::parts::{Part, certificate, changed};
 use parts_for_tests::{GITHUB, OTHER, strings};
@@ -7,8 +7,8 @@ use ssh_key::KeyFault;
 use ssh_wire::WireFault;
 use std::alloc::{AllocError, Global};
 
-// Whether this plain key is asked for the blob, and the names of the published certificate by this
-// authority, or where none is given, no names.
+// Whether the subject of the blob has this plain key, and the names of the published certificate by
+// this authority, or no names if none is given.
 fn is_asked(alloc: Global, blob: &[u8], plain: &[u8], authority: Option<&[u8]>) -> bool {
     let Ok(asked) = subject(alloc, blob) else {
         return false;
@@ -30,7 +30,7 @@ fn a_key_is_asked_by_its_blob_and_a_certificate_by_its_key_and_its_authority(rt:
     assert!(rt; is_asked(rt.alloc(), &blob, GITHUB, Some(OTHER)));
 }
 
-// The blob of a key of this many bytes and some more.
+// The blob of a key of at least this many bytes.
 fn long_key(alloc: Global, size: usize) -> Result<Vec<u8>, AllocError> {
     let modulus = vec![in alloc; 0x55; size]?;
     strings(alloc, &[b"ssh-rsa", &[3], &modulus])
@@ -46,7 +46,7 @@ fn long_keys_and_certificates_are_asked(rt: HostRuntime) {
     assert!(rt; is_asked(rt.alloc(), &blob, GITHUB, Some(OTHER)));
 }
 
-// Whether nothing is asked for the blob, for this fault.
+// Whether the blob has no subject, for this fault.
 fn refuses(alloc: Global, blob: &[u8], fault: SubjectFault) -> bool {
     match subject(alloc, blob) {
         Ok(_) => false,
@@ -56,7 +56,7 @@ fn refuses(alloc: Global, blob: &[u8], fault: SubjectFault) -> bool {
 
 const SHORT: KeyFault = KeyFault::Wire(WireFault::Short);
 
-// How many bytes of the certificate there are, and why nothing is asked for them.
+// The number of bytes left of the certificate, and the fault.
 const FRONTS: [(usize, SubjectFault); 4] = [
     (0, SubjectFault::Key(SHORT)),
     (20, SubjectFault::Key(SHORT)),

@@ -1,4 +1,4 @@
-//! Certificates that are cut, and certificates with one byte changed.
+//! Certificates that are truncated, and certificates with one byte changed.
 
 use crate::tests::parts::{certificate, has_fault};
 use ssh_cert::{CertFault, read_cert, subject};
@@ -6,7 +6,7 @@ use ssh_key::KeyFault;
 use ssh_wire::WireFault;
 use std::alloc::Global;
 
-// The cuts before, within and after each field are among them.
+// These include the truncations before, within and after each field.
 #[test]
 fn cut_to_any_length(rt: HostRuntime) {
     let blob = certificate(rt.alloc()).expect(&rt, "there is memory");
@@ -21,7 +21,7 @@ fn cut_to_any_length(rt: HostRuntime) {
     }
 }
 
-// Whether the blob is a certificate where something is asked for it, and only there.
+// Whether the blob is read as a certificate exactly if it has a subject.
 fn is_read_where_asked(alloc: Global, blob: &[u8]) -> bool {
     read_cert(blob).is_ok() == subject(alloc, blob).is_ok()
 }

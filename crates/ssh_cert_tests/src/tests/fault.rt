@@ -1,4 +1,4 @@
-//! Faults as they print.
+//! Faults as they are printed.
 
 use parts_for_tests::misprinted;
 use ssh_cert::{CertFault, SubjectFault};

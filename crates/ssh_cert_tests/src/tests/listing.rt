@@ -37,8 +37,7 @@ fn a_plain_listing(rt: HostRuntime) {
     assert!(rt; text.as_slice() == PLAIN.as_bytes());
 }
 
-// A hash, a field of the certificate and the strings that are in it, and the last lines of the
-// listing.
+// A hash, a field of the certificate and its strings, and the last lines of the listing.
 type Listed<'a> = (Hash, Part, &'a [&'a [u8]], &'a str);
 
 const LISTED: [Listed<'static>; 4] = [
@@ -95,8 +94,8 @@ fn principals_options_and_extensions_are_listed(rt: HostRuntime) {
     }
 }
 
-// Whether a certificate with principals of these many letters and as many principals of one letter,
-// and with extensions of as many letters and data, is listed with all of them.
+// Whether a certificate is listed with all of its principals of `size` letters, `size` principals
+// of one letter, and extensions with names and data of that length.
 fn lists_long(alloc: Global, size: usize) -> Result<bool, AllocError> {
     let long = vec![in alloc; b'a'; size]?;
     let first = strings(alloc, &[&long])?;
@@ -125,7 +124,7 @@ fn long_principals_and_extensions_are_listed(rt: HostRuntime) {
     }
 }
 
-// A time of the certificate, its seconds, and the lines of the time in the listing.
+// A time of the certificate, its seconds, and the lines for it in the listing.
 const TIMES: [(Part, u64, &str); 3] = [
     (
         Part::Before,
@@ -144,7 +143,7 @@ const TIMES: [(Part, u64, &str); 3] = [
     ),
 ];
 
-// What comes after them.
+// The lines after these.
 const NO_LISTS: &[u8] = b"        Principals: (none)\n\
      \x20       Critical Options: (none)\n\
      \x20       Extensions: (none)\n";

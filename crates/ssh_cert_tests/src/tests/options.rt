@@ -3,7 +3,7 @@
 use crate::tests::parts::{Part, with};
 use ssh_cert::{Options, Strings, read_cert};
 
-// Whether these names and data are the options, after which none comes.
+// Whether these names and data are all of the options.
 fn are_options(mut options: Options<'_>, pairs: &[(&[u8], &[u8])]) -> bool {
     for (name, data) in pairs {
         let Some(option) = options.next() else {
@@ -16,7 +16,7 @@ fn are_options(mut options: Options<'_>, pairs: &[(&[u8], &[u8])]) -> bool {
     options.next().is_none()
 }
 
-// Whether these are the principals, after which none comes.
+// Whether these are all of the principals.
 fn are_principals(mut principals: Strings<'_>, names: &[&[u8]]) -> bool {
     for name in names {
         if principals.next() != Some(*name) {
@@ -26,7 +26,7 @@ fn are_principals(mut principals: Strings<'_>, names: &[&[u8]]) -> bool {
     principals.next().is_none() && principals.next().is_none()
 }
 
-// Critical options, which are pairs, and one of empty name and empty data among them.
+// Critical options, which are pairs. One has an empty name and empty data.
 #[test]
 fn options_in_their_order(rt: HostRuntime) {
     let list: [&[u8]; 4] = [b"force-command", b"\0\0\0\x02id", b"", b""];

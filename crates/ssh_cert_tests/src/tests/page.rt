@@ -1,5 +1,4 @@
-//! The callers of the pages of `ssh_cert` and `cert_listing`, and what a certificate is asked
-//! about.
+//! The callers on the pages of `ssh_cert` and `cert_listing`, and the subject of a certificate.
 
 ghost use Rattle.std.specs.Prelude.{◌≡◌, ◌++◌, ◌∷◌, IfOk, IsTrue, codes};
 ghost use Rattle.cert_listing.specs.Listing.{listing_of};
@@ -39,7 +38,7 @@ fn listed(alloc: Global, file: &[u8], cert: &Cert, moment: u64) -> Result<Vec<u8
     Ok(text)
 }
 
-/// The serial number of what is asked about, where it is a certificate.
+/// The serial number of a subject, if it is a certificate.
 fn serial_of(asked: &Subject) -> Option<u64> {
     match &asked.cert {
         Some(names) => Some(names.serial),

@@ -1,4 +1,4 @@
-//! Certificates from their parts.
+//! Certificates made from their parts.
 
 use parts_for_tests::strings;
 use ssh_cert::{CertFault, read_cert};
@@ -24,8 +24,8 @@ pub enum Part {
 }
 
 // The certificate of the published key by the authority, for a user, with the serial number 7 and
-// the key ID `a`, valid for ever, with no principals, options or extensions: how each field stands
-// there.
+// the key ID `a`, valid forever, with no principals, options or extensions: the bytes of each
+// field.
 const FIELDS: [(Part, &[u8]); 14] = [
     (Part::Type, b"\0\0\0\x20ssh-ed25519-cert-v01@openssh.com"),
     (Part::Nonce, b"\0\0\0\0"),
@@ -57,7 +57,7 @@ const FIELDS: [(Part, &[u8]); 14] = [
     ),
 ];
 
-/// That certificate with other bytes in place of a field.
+/// That certificate with a field replaced by other bytes.
 pub fn changed(alloc: Global, part: Part, field: &[u8]) -> Result<Vec<u8>, AllocError> {
     let mut blob = Vec::new(alloc);
     for (other, own) in &FIELDS {
@@ -67,7 +67,7 @@ pub fn changed(alloc: Global, part: Part, field: &[u8]) -> Result<Vec<u8>, Alloc
     Ok(blob)
 }
 
-/// That certificate with a string of these strings in place of a field.
+/// That certificate with a field replaced by a string of these strings.
 pub fn with(alloc: Global, part: Part, list: &[&[u8]]) -> Result<Vec<u8>, AllocError> {
     let content = strings(alloc, list)?;
     let field = strings(alloc, &[&content])?;
@@ -79,7 +79,7 @@ pub fn certificate(alloc: Global) -> Result<Vec<u8>, AllocError> {
     changed(alloc, Part::Nonce, &[0; 4])
 }
 
-/// Whether the blob is no certificate, for this fault.
+/// Whether the blob is not a certificate, for this fault.
 pub fn has_fault(blob: &[u8], fault: CertFault) -> bool {
     match read_cert(blob) {
         Ok(_) => false,

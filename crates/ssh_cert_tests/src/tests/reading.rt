@@ -1,4 +1,4 @@
-//! Certificates read, and the fault of each change of a field.
+//! Reading certificates, and the fault of each change of a field.
 
 use crate::tests::parts::{Part, certificate, changed, has_fault};
 use parts_for_tests::{OTHER, PUBLISHED, strings};
@@ -20,14 +20,14 @@ fn has_texts(cert: &Cert) -> bool {
         && cert.algorithm() == b"ssh-ed25519".as_slice()
 }
 
-// Whether no names, options and extensions are in the certificate.
+// Whether the certificate has no principals, options and extensions.
 fn has_no_lists(cert: &Cert) -> bool {
     cert.principals().next().is_none()
         && cert.critical().next().is_none()
         && cert.extensions().next().is_none()
 }
 
-// Whether the certificate is for a key of these public fields.
+// Whether the certificate is for a key with these public fields.
 fn has_key(cert: &Cert, fields: &[u8]) -> bool {
     cert.kind() == Kind::Ed25519 && cert.key().bits() == 256 && cert.key().public_fields() == fields
 }
@@ -37,7 +37,7 @@ fn has_authority(cert: &Cert, authority: &[u8]) -> bool {
     cert.authority() == authority && cert.authority_key().kind() == Kind::Ed25519
 }
 
-// Whether the blob is the published certificate, for a key of these public fields and by this
+// Whether the blob is the published certificate, for a key with these public fields and by this
 // authority.
 fn is_published(blob: &[u8], fields: &[u8], authority: &[u8]) -> bool {
     match read_cert(blob) {
@@ -60,7 +60,7 @@ fn each_field_is_lent(rt: HostRuntime) {
     assert!(rt; is_published(&blob, &fields, OTHER));
 }
 
-// A field, what is in its place, and the fault of the certificate.
+// A field, its new bytes, and the fault of the certificate.
 const CHANGED: [(Part, &[u8], CertFault); 5] = [
     (Part::Role, &[0, 0, 0, 3], CertFault::CertType),
     (Part::Principals, b"\0\0\0\x01a", CertFault::Principals),

@@ -1,4 +1,4 @@
--- By the law of what is read.
+-- By the law of reading certificates.
 use Rattle.std.proofs.Common.{sym, arith}
 use Rattle.ssh_cert_tests.proofs.tests.page.is_valid_cert.Goals as goal
 
