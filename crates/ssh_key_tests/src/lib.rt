@@ -1,4 +1,4 @@
-//! The tests of `ssh_key` and `key_text`, through what they make public.
+//! The tests of `ssh_key` and `key_text`, through their public items.
 #![tactic(auto)]
 
 #[cfg(test)]

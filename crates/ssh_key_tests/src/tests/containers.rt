@@ -1,4 +1,4 @@
-//! Containers that are read, and containers that are not.
+//! Containers that can be read, and containers that cannot.
 
 use crate::tests::made::{Container, PLAIN, armoured, around, is_read};
 use crate::tests::parts::KEYS;
@@ -18,7 +18,7 @@ fn published(rt: HostRuntime) {
     assert!(rt; !is_container(b"ssh-ed25519 AAAA\n"));
 }
 
-// Whether the text is refused with this fault.
+// Whether the text is reported with this fault.
 fn is_refused(alloc: Global, text: &[u8], fault: PrivateFault) -> bool {
     match read_private(alloc, text) {
         Ok(_) => false,
@@ -26,13 +26,13 @@ fn is_refused(alloc: Global, text: &[u8], fault: PrivateFault) -> bool {
     }
 }
 
-// Whether the bytes, armoured, are refused with this fault.
+// Whether the bytes, armoured, are reported with this fault.
 fn are_refused(alloc: Global, bytes: &[u8], fault: PrivateFault) -> Result<bool, AllocError> {
     let text = armoured(alloc, bytes)?;
     Ok(is_refused(alloc, &text, fault))
 }
 
-// A container, what stands after its end, and its fault.
+// A container, the bytes after its end, and its fault.
 const REFUSED: [(Container<'static>, &[u8], PrivateFault); 6] = [
     (Container { again: 2, ..PLAIN }, b"", PrivateFault::Check),
     (
@@ -89,7 +89,8 @@ fn cut_to_any_length(rt: HostRuntime) {
     }
 }
 
-// Blanks and carriage returns at the ends of lines go, and what follows the end line is not read.
+// Blanks and carriage returns at the ends of lines are ignored, and nothing after the end line is
+// read.
 #[test]
 fn other_lines(rt: HostRuntime) {
     let (front, back) = CONTAINER.split_at(80);
@@ -116,8 +117,8 @@ fn other_texts(rt: HostRuntime) {
     assert!(rt; is_refused(rt.alloc(), endless, PrivateFault::Armour));
 }
 
-// The fields of a key in a private list: those of an RSA key stand in another order, and those of a
-// device's key have a byte of flags, a handle and a reserved string after them.
+// The fields of a key in a private list: those of an RSA key are in another order, and those of a
+// security key are followed by a byte of flags, a handle and a reserved string.
 fn private_fields(alloc: Global, kind: Kind, list: &[&[u8]]) -> Result<Vec<u8>, AllocError> {
     let public = strings(alloc, list)?;
     match (kind, list) {
@@ -136,7 +137,7 @@ fn private_fields(alloc: Global, kind: Kind, list: &[&[u8]]) -> Result<Vec<u8>, 
     }
 }
 
-// Whether the container of a key of this kind and these strings is read.
+// Whether the container of a key of this kind with these strings is read.
 fn reads(alloc: Global, kind: Kind, list: &[&[u8]]) -> Result<bool, AllocError> {
     let blob = strings(alloc, list)?;
     let fields = private_fields(alloc, kind, list)?;
@@ -153,7 +154,7 @@ fn of_each_kind(rt: HostRuntime) {
     }
 }
 
-// What the public half of a container is read as: its blob or its fault.
+// The public half of a container: its blob or its fault.
 fn half_of(alloc: Global, bytes: &[u8]) -> Result<Result<Vec<u8>, PrivateFault>, AllocError> {
     let text = armoured(alloc, bytes)?;
     Ok(match read_public_half(alloc, &text) {
@@ -162,7 +163,7 @@ fn half_of(alloc: Global, bytes: &[u8]) -> Result<Result<Vec<u8>, PrivateFault>,
     })
 }
 
-// Of the containers that are refused, those whose public half is read, and the faults of others.
+// The faulty containers whose public half can be read, and the faults of the others.
 #[test]
 fn public_halves(rt: HostRuntime) {
     for (i, (container, more, fault)) in REFUSED.iter().enumerate() {
@@ -184,7 +185,7 @@ fn public_halves(rt: HostRuntime) {
     }
 }
 
-// A container that is encrypted, cut before the end of the blob, has no public half.
+// An encrypted container that is truncated before the end of the blob has no public half.
 #[test]
 fn a_half_that_is_cut(rt: HostRuntime) {
     let bytes = REFUSED[1]

@@ -1,4 +1,4 @@
-//! The published fingerprint, those of the standards' examples, and fingerprints that are read.
+//! The published fingerprint, those of the standards' examples, and parsing fingerprints.
 
 use crate::tests::parts::{has_digits, has_fingerprint};
 use key_text::{FingerprintFault, Hash, parse_fingerprint, sha1_of, sha256_of};
@@ -60,7 +60,7 @@ const REFUSED: [(&str, FingerprintFault); 6] = [
     ("SHA256:AAAA", FingerprintFault::Length),
 ];
 
-// Whether the text is refused with this fault.
+// Whether the text is reported with this fault.
 fn is_refused(alloc: Global, text: &[u8], fault: FingerprintFault) -> bool {
     match parse_fingerprint(alloc, text) {
         Ok(_) => false,

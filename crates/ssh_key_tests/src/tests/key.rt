@@ -6,7 +6,7 @@ use ssh_key::{KeyFault, Kind, PublicKey, plain_blob, read_fields, read_key};
 use ssh_wire::{Cursor, WireFault};
 use std::alloc::{AllocError, Global};
 
-// Whether the key has this kind and size and these public fields, and makes this blob.
+// Whether the key has this kind and size and these public fields, and gives this blob.
 fn is_that(
     alloc: Global,
     key: &PublicKey<'_>,
@@ -24,7 +24,8 @@ fn is_that(
     )
 }
 
-// Whether the blob of these strings is that key, and its fields alone before more are that key too.
+// Whether the blob of these strings is that key, and so are its fields alone, followed by more
+// bytes.
 fn reads(alloc: Global, kind: Kind, list: &[&[u8]], bits: u32) -> Result<bool, AllocError> {
     let blob = strings(alloc, list)?;
     let fields = strings(alloc, list.get(1..).unwrap_or(&[]))?;

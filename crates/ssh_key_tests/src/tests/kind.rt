@@ -2,7 +2,7 @@
 
 use ssh_key::Kind;
 
-// A kind, its name, its short name and that of its certificates.
+// A kind, its name, its short name and the name of its certificates.
 const NAMES: [(Kind, &str, &str, &str); 8] = [
     (Kind::Rsa, "ssh-rsa", "RSA", "ssh-rsa-cert-v01@openssh.com"),
     (Kind::Dsa, "ssh-dss", "DSA", "ssh-dss-cert-v01@openssh.com"),

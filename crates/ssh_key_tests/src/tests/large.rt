@@ -1,4 +1,4 @@
-//! Inputs past every page and limit, with memory enough: none is refused for its size.
+//! Inputs that exceed every page and limit, with ample memory: none fails because of its size.
 
 use crate::tests::made::{Container, FIELDS, armoured, is_read};
 use base64::engine::general_purpose::STANDARD;
@@ -7,7 +7,7 @@ use parts_for_tests::{GITHUB, PUBLISHED, joined, strings};
 use ssh_key::{plain_blob, read_key};
 use std::alloc::{AllocError, Global};
 
-// A key of a device whose application has this many bytes.
+// A security key whose application has this length.
 fn device_key(alloc: Global, size: usize) -> Result<Vec<u8>, AllocError> {
     let application = vec![in alloc; b'x'; size]?;
     strings(
@@ -39,7 +39,8 @@ fn reads_line(alloc: Global, application: usize, comment: usize) -> Result<bool,
     Ok(gives(alloc, &text, &blob, &comment))
 }
 
-// A line holds a key of any length: it is the key that is too long, and not the line.
+// A line may have a key of any length: if the key is too long, the fault is that of the key, not of
+// the line.
 #[test]
 fn lines(rt: HostRuntime) {
     for size in [1_025, 4_097, 65_466, 300_000] {

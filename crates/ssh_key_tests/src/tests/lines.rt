@@ -1,4 +1,4 @@
-//! Lines that give the key, and lines that give none.
+//! Lines that give a key, and lines that give none.
 
 use key_text::{LineFault, has_key, read_line};
 use parts_for_tests::{GITHUB, GITHUB_LINE, joined};
@@ -17,7 +17,7 @@ fn reads(alloc: Global, before: &[u8], after: &[u8], comment: &[u8]) -> Result<b
     })
 }
 
-// What is before the line of the key, what is after it, and the comment.
+// The text before the line of the key, the text after it, and the comment.
 const READ: [(&[u8], &[u8], &[u8]); 4] = [
     (b"", b"", b""),
     (b" \t", b" \t a \t b \r", b"a \t b"),

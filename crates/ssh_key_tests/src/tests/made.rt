@@ -5,8 +5,8 @@ use key_text::read_private;
 use parts_for_tests::{GITHUB, joined, strings};
 use std::alloc::{AllocError, Global};
 
-/// What a container is made of: its cipher, the number of its keys, the blob, the second of the
-/// check words, of which the first is 1, the fields of the key, the comment and the padding.
+/// The parts of a container: its cipher, the number of its keys, the blob, the second of the check
+/// words, of which the first is 1, the fields of the key, the comment and the padding.
 #[derive(Clone, Copy)]
 pub struct Container<'a> {
     pub cipher: &'a [u8],
@@ -37,7 +37,7 @@ pub const PLAIN: Container<'static> = Container {
 };
 
 impl<'a> Container<'a> {
-    /// That of one key that is not encrypted.
+    /// The container of one key that is not encrypted.
     pub fn of(blob: &'a [u8], fields: &'a [u8], comment: &'a [u8]) -> Self {
         Container {
             cipher: b"none",
@@ -70,7 +70,7 @@ impl<'a> Container<'a> {
     }
 }
 
-/// A container as a file has it, all of its base64 in one line.
+/// A container as it is in a file, with all of its base64 in one line.
 pub fn armoured(alloc: Global, bytes: &[u8]) -> Result<Vec<u8>, AllocError> {
     let base64 = STANDARD.encode(alloc, bytes)?;
     around(alloc, base64.as_bytes())

@@ -1,4 +1,4 @@
-//! Keys of each kind, and the fingerprints and digests that are expected.
+//! Keys of each kind, and the expected fingerprints and digests.
 
 use key_text::{Hash, fingerprint};
 use parts_for_tests::PUBLISHED;
@@ -6,7 +6,7 @@ use ssh_key::{KeyFault, Kind, read_key};
 use std::alloc::{AllocError, Global};
 use std::process::Abort;
 
-/// A kind, the strings of a blob of a key of it, and the size of that key in bits.
+/// A kind, the strings of the blob of one of its keys, and the size of that key in bits.
 pub const KEYS: [(Kind, &[&[u8]], u32); 9] = [
     (Kind::Rsa, &[b"ssh-rsa", &[3], &[0, 0xff]], 8),
     (Kind::Rsa, &[b"ssh-rsa", &[3], &[1, 0]], 9),
