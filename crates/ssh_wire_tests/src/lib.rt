@@ -1,4 +1,4 @@
-//! The tests of `ssh_wire` and `byte_streams`, through what they make public.
+//! The tests of `ssh_wire` and `byte_streams`, through their public items.
 #![tactic(auto)]
 
 #[cfg(test)]

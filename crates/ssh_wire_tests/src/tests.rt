@@ -1,4 +1,5 @@
-//! What no contract says: the standard's own examples, calls with memory enough, devices that fail.
+//! Facts that no contract states: the standard's own examples, calls with ample memory, devices
+//! that fail.
 
 mod buffer;
 mod cursor;

@@ -18,7 +18,7 @@ fn buffered<'a>(
     BufReader::with_capacity(alloc, capacity, giver)
 }
 
-// Whether these fields come one after the other, and then the end.
+// Whether these fields come one after another, and then the end.
 fn gives(alloc: Global, capacity: usize, fields: &[&[u8]]) -> io::Result<bool> {
     let list = buffered(alloc, capacity, b"abcdefghijklmnop", Then::Ends)?;
     let mut pull = Pull::new(FromBuffer::new(list), 100);

@@ -1,8 +1,8 @@
-//! Fields that are read from the front of bytes, and those that are not there.
+//! Fields that are read from the front of bytes, and fields that are missing.
 
 use ssh_wire::{Cursor, WireFault};
 
-// What is asked of a cursor, and what it answers.
+// A call of a cursor, and its result.
 #[derive(Clone, Copy)]
 enum Step<'a> {
     Byte(Result<u8, WireFault>),
@@ -16,7 +16,7 @@ enum Step<'a> {
 
 use Step::{AtEnd, Byte, Long, Magnitude, Number, Rest, Text};
 
-// Whether a call answers as its step says.
+// Whether a call returns the result of its step.
 fn meets(cursor: &mut Cursor<'_>, step: Step<'_>) -> bool {
     match step {
         Byte(answer) => cursor.byte() == answer,
@@ -29,7 +29,7 @@ fn meets(cursor: &mut Cursor<'_>, step: Step<'_>) -> bool {
     }
 }
 
-// How many of the steps over the bytes are answered so, up to the first that is not.
+// How many of the steps over the bytes return their result, up to the first that does not.
 fn met(bytes: &[u8], steps: &[Step<'_>]) -> usize {
     let mut cursor = Cursor::new(bytes);
     for (at, step) in steps.iter().enumerate() {
@@ -56,7 +56,7 @@ fn reads_a_row_of_fields(rt: HostRuntime) {
     assert!(rt; met(bytes, &steps) == steps.len());
 }
 
-// The bytes of a number, and what is read of them.
+// The bytes of a number, and the result of reading it.
 const NUMBERS: [(&[u8], Result<&[u8], WireFault>); 9] = [
     (b"\0\0\0\0", Ok(b"")),
     (b"\0\0\0\x02\0\x80", Ok(b"\x80")),
@@ -72,7 +72,7 @@ const NUMBERS: [(&[u8], Result<&[u8], WireFault>); 9] = [
     (b"\0\0\0\x02\x01", Err(WireFault::Short)),
 ];
 
-// Whether the number is read so, and takes all bytes or none.
+// Whether reading the number has this result, and takes all bytes or none.
 fn reads(bytes: &[u8], read: Result<&[u8], WireFault>) -> bool {
     let left = if read.is_ok() { &[] } else { bytes };
     met(bytes, &[Magnitude(read), Rest(left)]) == 2

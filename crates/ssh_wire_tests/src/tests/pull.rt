@@ -5,7 +5,7 @@ use parts_for_tests::{Giver, Then};
 use ssh_wire::PullFault;
 use std::alloc::{AllocError, Global};
 
-/// What is asked of a reader, and what it answers.
+/// A call of a reader, and its result.
 #[derive(Clone, Copy)]
 pub enum Step<'a> {
     Byte(Result<u8, PullFault>),
@@ -25,7 +25,7 @@ use Step::{Array, AtEnd, Byte, Bytes, BytesInto, Fills, Refuses, Rest, RestRefus
 /// A reader that gives its bytes in pieces, with a limit.
 pub type Reader<'a> = Pull<FromRead<Giver<'a>>>;
 
-/// A reader of some bytes in pieces, and what it does after them.
+/// A reader of bytes in pieces, and its behaviour after them.
 pub fn pull(bytes: &[u8], per_call: usize, then: Then, limit: u64) -> Reader<'_> {
     let mut giver = Giver::new(bytes, per_call);
     giver.then = then;
@@ -43,7 +43,7 @@ fn fills(reader: &mut Reader<'_>, alloc: Global, field: &[u8]) -> Result<bool, A
     Ok(fill(reader, &mut into) && into.as_slice() == field)
 }
 
-// Whether these bytes come in a vector.
+// Whether these bytes are returned in a vector.
 fn gives(reader: &mut Reader<'_>, alloc: Global, field: &[u8]) -> bool {
     match reader.bytes(alloc, field.len()) {
         Ok(bytes) => bytes.as_slice() == field,
@@ -51,14 +51,13 @@ fn gives(reader: &mut Reader<'_>, alloc: Global, field: &[u8]) -> bool {
     }
 }
 
-// Whether a vector that held something else holds these bytes.
+// Whether a vector that had other content has these bytes now.
 fn holds(reader: &mut Reader<'_>, alloc: Global, field: &[u8]) -> Result<bool, AllocError> {
     let mut out = vec![in alloc; 9, 9, 9]?;
     Ok(reader.bytes_into(&mut out, field.len()).is_ok() && out.as_slice() == field)
 }
 
-// Whether a field is refused for this fault, with a vector that is left empty and has taken little
-// memory.
+// Whether taking a field has this fault, and leaves the vector empty and with little memory.
 fn refuses(
     reader: &mut Reader<'_>,
     alloc: Global,
@@ -70,12 +69,12 @@ fn refuses(
     Ok(answer == Err(fault) && out.is_empty() && out.capacity() <= 1000)
 }
 
-// Whether all that is left is these bytes.
+// Whether these bytes are all that is left.
 fn gives_rest(reader: &mut Reader<'_>, alloc: Global, bytes: &[u8]) -> Result<bool, PullFault> {
     Ok(reader.rest(alloc)?.as_slice() == bytes)
 }
 
-// Whether the rest is refused for this fault.
+// Whether taking the rest has this fault.
 fn refuses_rest(reader: &mut Reader<'_>, alloc: Global, fault: PullFault) -> bool {
     match reader.rest(alloc) {
         Ok(_) => false,
@@ -83,7 +82,7 @@ fn refuses_rest(reader: &mut Reader<'_>, alloc: Global, fault: PullFault) -> boo
     }
 }
 
-// Whether a call answers as its step says.
+// Whether a call returns the result of its step.
 fn meets(reader: &mut Reader<'_>, alloc: Global, step: Step<'_>) -> Result<bool, AllocError> {
     Ok(match step {
         Byte(answer) => reader.byte() == answer,
@@ -99,7 +98,7 @@ fn meets(reader: &mut Reader<'_>, alloc: Global, step: Step<'_>) -> Result<bool,
     })
 }
 
-/// Whether each of the steps is answered so.
+/// Whether each of the steps returns its result.
 pub fn meets_all(
     reader: &mut Reader<'_>,
     alloc: Global,
@@ -116,7 +115,7 @@ pub fn meets_all(
 /// The bytes that the readers give.
 pub const TEXT: &[u8] = b"\x01\0\0\0\x02hi0123456789abcdef";
 
-// A row of calls on a reader of the text, with what it does then and its limit.
+// Calls of a reader of the text, with its behaviour after that and its limit.
 struct Row<'a> {
     then: Then,
     limit: u64,
@@ -155,7 +154,7 @@ const ROWS: [Row<'static>; 7] = [
             AtEnd(Err(PullFault::EndsEarly)),
         ],
     },
-    // A field that is cut off, at the limit and far from it; then the same from each call.
+    // A field that is truncated, at the limit and far from it; then the same fault from each call.
     Row {
         then: Then::Ends,
         limit: 23,
@@ -170,7 +169,7 @@ const ROWS: [Row<'static>; 7] = [
             Refuses(0, PullFault::EndsEarly),
         ],
     },
-    // A length that is not true takes no memory, whether it passes the limit or not.
+    // A false length takes no memory, whether it exceeds the limit or not.
     Row {
         then: Then::Ends,
         limit: u64::MAX,
@@ -207,7 +206,7 @@ const ROWS: [Row<'static>; 7] = [
             Taken(1),
         ],
     },
-    // A failure is no end.
+    // A failure is not an end.
     Row {
         then: Then::Fails,
         limit: 100,
@@ -236,7 +235,7 @@ fn answers_do_not_hang_on_the_pieces(rt: HostRuntime) {
     }
 }
 
-/// This many bytes: those from 0 to 250, again and again.
+/// `size` bytes: those from 0 to 250, again and again.
 pub fn text_of(alloc: Global, size: u64) -> Result<Vec<u8>, AllocError> {
     let mut text = Vec::new(alloc);
     let mut byte: u8 = 0;
@@ -247,7 +246,7 @@ pub fn text_of(alloc: Global, size: u64) -> Result<Vec<u8>, AllocError> {
     Ok(text)
 }
 
-// Whether these bytes come whole at this many bytes a call.
+// Whether these bytes come whole, at this number of bytes a call.
 fn comes_whole(
     alloc: Global,
     text: &[u8],

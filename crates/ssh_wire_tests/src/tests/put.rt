@@ -1,9 +1,9 @@
-//! Fields that are put after what is in a vector.
+//! Fields that are appended to the content of a vector.
 
 use ssh_wire::{put_byte, put_mpint, put_string, put_u32, put_u64};
 use std::alloc::AllocError;
 
-// A field that is put.
+// A field to put.
 #[derive(Clone, Copy)]
 enum Field {
     Byte(u8),
@@ -22,7 +22,7 @@ fn put(out: &mut Vec<u8>, field: Field) -> Result<(), AllocError> {
     }
 }
 
-// Fields that are put one after the other, and what is after each.
+// Fields that are put one after another, and the bytes after each.
 const PUTS: [(Field, &[u8]); 4] = [
     (Field::Byte(9), b"\x09"),
     (Field::Number(699_921_578), b"\x09\x29\xb7\xf4\xaa"),
@@ -83,7 +83,7 @@ fn long_vectors_grow(rt: HostRuntime) {
     assert!(rt; out.len() == 310_000);
 }
 
-// Puts a string of this many bytes, and one byte more for a number of as many.
+// Puts a string of these bytes, and a number with this magnitude.
 #[tactic(auto, using(ssh_wire::proofs::Magnitudes::complement_fits))]
 fn put_long(out: &mut Vec<u8>, bytes: &[u8]) -> Result<(), AllocError> {
     let [1..=255, ..] = bytes else {

@@ -3,7 +3,7 @@
 use byte_streams::{Failed, FromRead, Source};
 use parts_for_tests::{Giver, Then};
 
-// A row of reads into four bytes, of a reader that gives two at a call after some interruptions.
+// Reads into four bytes, from a reader that gives two at a call after some interruptions.
 struct Row<'a> {
     bytes: &'a [u8],
     interruptions: usize,
@@ -19,7 +19,7 @@ const ROWS: [Row<'static>; 4] = [
         then: Then::Ends,
         reads: &[Ok(2), Ok(1), Ok(0), Ok(0)],
     },
-    // A thousand interruptions in all are passed over, and one more is a failure for good.
+    // A thousand interruptions in all are ignored; one more is a permanent failure.
     Row {
         bytes: b"abc",
         interruptions: 1000,
@@ -32,7 +32,7 @@ const ROWS: [Row<'static>; 4] = [
         then: Then::Ends,
         reads: &[Err(Failed), Err(Failed), Err(Failed)],
     },
-    // Another error is a failure.
+    // Any other error is a failure.
     Row {
         bytes: b"ab",
         interruptions: 0,
@@ -41,7 +41,7 @@ const ROWS: [Row<'static>; 4] = [
     },
 ];
 
-// Whether each read is answered so, and the reader has failed just where it is an error.
+// Whether each read has its result, and the reader has failed exactly if that is an error.
 fn are_answered(row: &Row<'_>) -> bool {
     let mut giver = Giver::new(row.bytes, 2);
     giver.interruptions = row.interruptions;

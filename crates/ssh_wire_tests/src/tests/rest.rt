@@ -1,4 +1,4 @@
-//! All that is left of readers that give few bytes at a call, fail, or never end.
+//! The rest of readers that give few bytes at a call, fail, or never end.
 
 use crate::tests::pull::Step::{AtEnd, Byte, Rest, RestRefused, Taken};
 use crate::tests::pull::{TEXT, meets_all, pull, text_of};
@@ -6,8 +6,8 @@ use parts_for_tests::Then;
 use ssh_wire::PullFault;
 use std::alloc::{AllocError, Global};
 
-// Whether the rest of a reader of the bytes, so far below the limit, is all of them, and nothing
-// comes after it.
+// Whether the rest of a reader of the bytes, this far below the limit, is all of them, and nothing
+// follows.
 fn comes_whole(
     alloc: Global,
     bytes: &[u8],
@@ -41,13 +41,13 @@ fn the_rest_comes_whole(rt: HostRuntime) {
     }
 }
 
-// What a reader of the text does then, its limit, and the fault of its rest.
+// The reader's behaviour after the text, its limit, and the fault of its rest.
 const REFUSED: [(Then, u64, PullFault); 5] = [
-    // a byte stands past the limit
+    // there is a byte past the limit
     (Then::Ends, 22, PullFault::TooLong),
     (Then::Fails, 22, PullFault::TooLong),
     (Then::Zeros(usize::MAX), 200_000, PullFault::TooLong),
-    // the reader fails within the limit, and where the byte past it would stand
+    // the reader fails within the limit, and where the byte past it would be
     (Then::Fails, 23, PullFault::Read),
     (Then::Fails, 24, PullFault::Read),
 ];

@@ -5,14 +5,14 @@ use parts_for_tests::Taker;
 
 const LINE: &[u8] = b"g.pub: REVOKED\n";
 
-// Whether sending the text is answered so, and makes a failed writer of it by an error.
+// Whether sending the text has this result, and the writer has failed exactly if it is an error.
 fn sends(device: &mut Taker, text: &[u8], answer: Result<(), Sent>) -> bool {
     let mut writer = ToWrite::new(device);
     send(&mut writer, text) == answer && writer.failed() == answer.is_err()
 }
 
-// How many bytes are taken at a call, how many interruptions come first, how many calls there are
-// before a failure, and what comes of the line.
+// The number of bytes taken at a call, of interruptions first, and of calls before a failure, and
+// the result of sending the line.
 const ROWS: [(usize, usize, usize, Result<(), Sent>); 4] = [
     (3, 1000, 255, Ok(())),
     (3, 1001, 255, Err(Sent { count: 0 })),
