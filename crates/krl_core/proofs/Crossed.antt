@@ -1,8 +1,9 @@
 -- Fields that are crossed, one row after another.
-use Rattle.std.proofs.Common.{◌≡◌, ℕ, ◌+◌, ◌-◌, ◌*◌, ◌<◌, ◌≤◌, List, [], ◌∷◌, ◌++◌, length, take, drop, Result, Ok, Err, true, false, refl, sym, ap, subst, ◌∙◌, append_assoc, arith, length-drop}
+use Rattle.std.proofs.Common.{◌≡◌, ℕ, zero, suc, ◌+◌, ◌-◌, ◌*◌, ◌<◌, ◌≤◌, List, [], ◌∷◌, ◌++◌, length, take, drop, nat_lt, Bool, Result, Ok, Err, true, false, refl, sym, ap, subst, ◌∙◌, append_assoc, arith, length-drop}
 use Rattle.std.specs.Prelude.{OnOk, is_err}
 use Rattle.std.specs.List.{concat}
 use Rattle.std.specs.declared.alloc.AllocError.{AllocError}
+use Rattle.std.proofs.lemmas.Bool.{false≢true}
 use Rattle.std.proofs.lemmas.List.{append-nil, length-append, length-take-le, take_rest}
 use Rattle.std.proofs.lemmas.List.Folds.{concat-append}
 use Rattle.std.proofs.lemmas.Result.{on_ok_weaker}
@@ -11,7 +12,7 @@ use Rattle.ssh_wire.specs.Wire.{IsBytes}
 use Rattle.byte_streams.specs.Pull.{Pull, Takes, left_of}
 use Rattle.ssh_wire.proofs.Digits.{IsBytes-append, IsBytes-drop, IsBytes-nil, IsBytes-take}
 use Rattle.krl_core.specs.declared.place.Place.{Place}
-use Rattle.krl_core.specs.Crossing.{Crosses, CrossesSome, HasKept}
+use Rattle.krl_core.specs.Crossing.{Crosses, CrossesField, CrossesSome, HasKept}
 use Rattle.krl_core.specs.Front.{Passes, start, state_after}
 use Rattle.krl_core.specs.Keeper.{GrowsWithin, InStep, IsKept, Keeper, KeepsField, StoresWithin}
 use Rattle.krl_core.specs.Place.{authority_after, header_after, names}
@@ -121,44 +122,37 @@ some_ok bytes n (Err fault) p q a b off h = absurd (cc)
 
 -- ---- one field
 
--- a field of the rest of the bytes
-pub passes_there : (bytes : List ℕ) (at size : ℕ) (p q : Place) → Passes p (take size (take (length bytes - at) (drop at bytes))) q
-    → Passes p (take (at + size - at) (drop at bytes)) q
-passes_there bytes at size p q h =
-    let same : size ≡ at + size - at = omega arith in
-    subst (λ (n : ℕ). Passes p (take n (drop at bytes)) q) same (subst (λ (xs : List ℕ). Passes p (take size xs) q) (take_rest bytes at) h)
+-- the field at the front of the rest of the bytes
+front_of : (bytes : List ℕ) (at : ℕ) (empty : Bool) (size : ℕ) (result : Result Place AllocError) (q : Place) (b c : Keeper)
+    → CrossesField (take (length bytes - at) (drop at bytes)) empty size result q b c → CrossesField (drop at bytes) empty size result q b c
+front_of bytes at empty size result q b c h = subst (λ (xs : List ℕ). CrossesField xs empty size result q b c) (take_rest bytes at) h
 
-pub crossed_nearer : (bytes : List ℕ) (at size : ℕ) (p q : Place) → size ≤ length (take (length bytes - at) (drop at bytes)) → Passes p (take size (take (length bytes - at) (drop at bytes))) q
-    → at + size ≤ length bytes → 2 * (length bytes - (at + size)) + weight q < 2 * (length bytes - at) + weight p
-crossed_nearer bytes at size p q there h within =
-    let near = nearer p q _ h.judged in
-    omega (arith, near, h.whole, length-take-le size _ there, within)
+some_bytes : (at size : ℕ) → (size ≡ 0 → nat_lt 0 at ≡ true) → at + size ≡ 0 → ⊥
+some_bytes zero zero some e = false≢true (some refl)
+some_bytes zero (suc size) some e = absurd (omega (arith, e))
+some_bytes (suc at) size some e = absurd (omega (arith, e))
 
-some_field : (bytes : List ℕ) (at size : ℕ) (result : Result (Unit {0}) AllocError) (p q r : Place) (a b c : Keeper) → CrossesSome bytes at (Ok (tt {0})) p a q b
-    → size ≤ length (take (length bytes - at) (drop at bytes)) → OnOk result (Crosses (take size (drop at bytes)) q b r c)
-    → GrowsWithin (length (take (at + size - at) (drop at bytes))) b c → (at + size ≡ 0 → ⊥) → CrossesSome bytes (at + size) result p a r c
-some_field bytes at size result p q r a b c h there ok grows some =
-    let within : size ≤ length (drop at bytes) = subst (λ (xs : List ℕ). size ≤ length xs) (take_rest bytes at) there in
-    let same : at + size - at ≡ size = omega arith in
-    let long : length (take (at + size - at) (drop at bytes)) ≡ size = ap (λ (n : ℕ). length (take n (drop at bytes))) same ∙ length-take-le size (drop at bytes) within in
-    some_more bytes at size result p q r a b c h within ok (subst (λ (n : ℕ). GrowsWithin n b c) long grows) (λ none. absurd (some none))
+pub field_crossed : (bytes : List ℕ) (at size : ℕ) (p q next : Place) (a b c : Keeper) → IsBytes bytes → CrossesSome bytes at (Ok (tt {0})) p a q b
+    → CrossesField (take (length bytes - at) (drop at bytes)) (nat_lt 0 at) size (Ok next) q b c → CrossesSome bytes (at + size) (Ok (tt {0})) p a next c
+field_crossed bytes at size p q next a b c are h there =
+    let field = front_of bytes at _ size (Ok next) q b c there in
+    some_more bytes at size (Ok (tt {0})) p q next a b c h field.within
+    (crosses_field q next b c (take size (drop at bytes)) field.passes field.keeps (IsBytes-take size (drop at bytes) (IsBytes-drop at bytes are)))
+    field.grows (λ none. absurd (some_bytes at size field.some none))
 
-pub field_crossed : (bytes : List ℕ) (at size : ℕ) (result : Result (Unit {0}) AllocError) (p q next : Place) (a b c : Keeper) → IsBytes bytes → CrossesSome bytes at (Ok (tt {0})) p a q b
-    → size ≤ length (take (length bytes - at) (drop at bytes)) → Passes q (take size (take (length bytes - at) (drop at bytes))) next
-    → OnOk result (KeepsField q (take (at + size - at) (drop at bytes)) next b c)
-    → GrowsWithin (length (take (at + size - at) (drop at bytes))) b c → (at + size ≡ 0 → ⊥) → CrossesSome bytes (at + size) result p a next c
-field_crossed bytes at size result p q next a b c are h there passes kept grows some =
-    let same : at + size - at ≡ size = omega arith in
-    let field : List ℕ = take size (drop at bytes) in
-    let passed : Passes q field next = subst (λ (n : ℕ). Passes q (take n (drop at bytes)) next) same (passes_there bytes at size q next passes) in
-    some_field bytes at size result p q next a b c h there
-    (on_ok_weaker result (λ keeps. crosses_field q next b c field passed (subst (λ (n : ℕ). KeepsField q (take n (drop at bytes)) next b c) same keeps) (IsBytes-take size (drop at bytes) (IsBytes-drop at bytes are))) kept)
-    grows some
+pub field_refused : (bytes : List ℕ) (at size : ℕ) (error : AllocError) (p q : Place) (a b c : Keeper) → CrossesSome bytes at (Ok (tt {0})) p a q b
+    → CrossesField (take (length bytes - at) (drop at bytes)) (nat_lt 0 at) size (Err error) q b c → CrossesSome bytes (at + size) (Err error) p a q c
+field_refused bytes at size error p q a b c h there =
+    let field = front_of bytes at _ size (Err error) q b c there in
+    some_more bytes at size (Err error) p q q a b c h field.within tt field.grows (λ none. absurd (some_bytes at size field.some none))
 
-pub field_refused : (bytes : List ℕ) (at size : ℕ) (result : Result (Unit {0}) AllocError) (p q : Place) (a b c : Keeper) → is_err result ≡ true → CrossesSome bytes at (Ok (tt {0})) p a q b
-    → size ≤ length (take (length bytes - at) (drop at bytes)) → GrowsWithin (length (take (at + size - at) (drop at bytes))) b c → (at + size ≡ 0 → ⊥) → CrossesSome bytes (at + size) result p a q c
-field_refused bytes at size (Ok done) p q a b c on h there grows some = absurd (cc)
-field_refused bytes at size (Err fault) p q a b c on h there grows some = some_field bytes at size (Err fault) p q q a b c h there tt grows some
+pub crossed_nearer : (bytes : List ℕ) (at size : ℕ) (q next : Place) (b c : Keeper) → at + size ≤ length bytes
+    → CrossesField (take (length bytes - at) (drop at bytes)) (nat_lt 0 at) size (Ok next) q b c
+    → 2 * (length bytes - (at + size)) + weight next < 2 * (length bytes - at) + weight q
+crossed_nearer bytes at size q next b c within there =
+    let field = front_of bytes at _ size (Ok next) q b c there in
+    let near = nearer q next _ field.passes.judged in
+    omega (arith, near, field.passes.whole, length-take-le size (drop at bytes) field.within, within)
 
 -- ---- a reading
 

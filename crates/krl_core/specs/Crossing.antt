@@ -1,12 +1,12 @@
 -- Fields that stand in a reader's buffer, and are read without it.
-use Rattle.std.specs.Prelude.{◌≡◌, ℕ, ◌+◌, ◌-◌, ◌*◌, ◌≤◌, ◌<◌, List, ◌++◌, length, take, Result}
-use Rattle.std.specs.Prelude.{OnOk}
+use Rattle.std.specs.Prelude.{◌≡◌, ℕ, ◌+◌, ◌-◌, ◌*◌, ◌≤◌, ◌<◌, Bool, true, List, ◌++◌, length, take, Result}
+use Rattle.std.specs.Prelude.{IfOk, OnOk}
 use Rattle.std.specs.List.{concat}
 use Rattle.std.specs.declared.alloc.AllocError.{AllocError}
 use Rattle.ssh_wire.specs.Wire.{IsBytes, number_of}
 use Rattle.krl_core.specs.declared.place.Place.{Place}
-use Rattle.krl_core.specs.Front.{Leads, State, start}
-use Rattle.krl_core.specs.Keeper.{GrowsWithin, InStep, IsKept, Keeper}
+use Rattle.krl_core.specs.Front.{Leads, Passes, State, start}
+use Rattle.krl_core.specs.Keeper.{GrowsWithin, InStep, IsKept, Keeper, KeepsField}
 use Rattle.krl_held.specs.Naming.{SerialOf}
 use Rattle.krl_held.specs.Scope.{InScope}
 
@@ -35,6 +35,16 @@ pub record CrossesSome (bytes : List ℕ) (count : ℕ) (result : Result (Unit {
   pub ok : OnOk result (Crosses (take count bytes) place old next new)
   pub grows : GrowsWithin count old new
   pub none : count ≡ 0 → (next ≡ place) × (new ≡ old)
+
+-- The field at the front of the bytes passed its judgement and what it names was kept, or memory ran
+-- out at it. It has bytes, unless it may be empty.
+pub record CrossesField (bytes : List ℕ) (empty : Bool) (size : ℕ)
+    (result : Result Place AllocError) (place : Place) (old new : Keeper) : Type 0 where
+  pub within : size ≤ length bytes
+  pub some : size ≡ 0 → empty ≡ true
+  pub passes : IfOk result (λ next. Passes place (take size bytes) next)
+  pub keeps : IfOk result (λ next. KeepsField place (take size bytes) next old new)
+  pub grows : GrowsWithin size old new
 
 -- ---- fields that name nothing in scope
 

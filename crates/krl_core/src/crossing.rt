@@ -1,15 +1,15 @@
 //! Crossing the fields that stand in a reader's buffer, without the reader.
 
-ghost use Rattle.std.specs.Prelude.{◌≡◌, ◌+◌, ◌*◌, ◌%◌, ◌^◌, ◌≤◌, ◌<◌, IsTrue, IfSome, false, length};
+ghost use Rattle.std.specs.Prelude.{◌≡◌, ◌+◌, ◌*◌, ◌%◌, ◌^◌, ◌≤◌, ◌<◌, IsTrue, IfSome, None, false, length};
 ghost use Rattle.std.specs.Prelude.{take};
-ghost use Rattle.krl_core.specs.Crossing.{AreUnasked, CrossesSome, MayPass};
+ghost use Rattle.krl_core.specs.Crossing.{AreUnasked, CrossesField, CrossesSome, MayPass};
 ghost use Rattle.krl_held.specs.Scope.{AreUnwanted};
 ghost use Rattle.krl_core.specs.Front.{Passes};
 ghost use Rattle.krl_core.specs.Keeper.{InStep};
 
 use crate::judging::{next_bits, next_serial};
 use crate::keeper::Keeper;
-use crate::place::{BitmapPlace, Place, SerialsPlace};
+use crate::place::{BitmapPlace, CertificatesPlace, ListPlace, Place, SerialsPlace};
 use krl_held::Store;
 use std::alloc::AllocError;
 
@@ -155,23 +155,188 @@ fn cross_each<T: Store>(
 {
     let mut at = 0;
     'fields: while at < bytes.len() {
-        let Some((size, next)) = passes(*place, &bytes[at..]) else {
+        let Some((size, crossed)) = cross_next(*place, keeper, &bytes[at..], at > 0) else {
             break;
         };
-        if at + size == 0 {
-            break;
-        }
-        let kept = keeper.keep(*place, &bytes[at..at + size], next);
         at += size;
-        if kept.is_err() {
-            return (at, kept);
+        match crossed {
+            Ok(next) => *place = next,
+            Err(error) => return (at, Err(error)),
         }
-        *place = next;
-        if is_one_of_many(next) {
+        if is_one_of_many(*place) {
             break;
         }
     }
     (at, Ok(()))
+}
+
+// Crosses the expected field. Each arm names the kind of its place, so that the compiler makes of
+// each field code of its own, with no further test of the place.
+#[inline(always)]
+fn cross_next<T: Store>(
+    place: Place,
+    keeper: &mut Keeper<T>,
+    bytes: &[u8],
+    empty: bool,
+) -> Option<(usize, Result<Place, AllocError>)>
+    requires { InStep place keeper.old.bitmap }
+    ensures none { result ≡ None → keeper.new ≡ keeper.old }
+    ensures some { IfSome result (λ field. CrossesField bytes.now empty field.0 field.1 place
+        keeper.old keeper.new) }
+{
+    match place {
+        Place::SectionType { signed } => {
+            cross_field(Place::SectionType { signed }, keeper, bytes, empty)
+        }
+        Place::Certificates(at) => match at {
+            CertificatesPlace::SectionLength => cross_field(
+                Place::Certificates(CertificatesPlace::SectionLength),
+                keeper,
+                bytes,
+                empty,
+            ),
+            CertificatesPlace::AuthorityLength { left } => cross_field(
+                Place::Certificates(CertificatesPlace::AuthorityLength { left }),
+                keeper,
+                bytes,
+                empty,
+            ),
+            CertificatesPlace::Authority { size, after } => cross_field(
+                Place::Certificates(CertificatesPlace::Authority { size, after }),
+                keeper,
+                bytes,
+                empty,
+            ),
+            CertificatesPlace::ReservedLength { left } => cross_field(
+                Place::Certificates(CertificatesPlace::ReservedLength { left }),
+                keeper,
+                bytes,
+                empty,
+            ),
+            CertificatesPlace::Reserved { size, after } => cross_field(
+                Place::Certificates(CertificatesPlace::Reserved { size, after }),
+                keeper,
+                bytes,
+                empty,
+            ),
+            CertificatesPlace::SubsectionType { left } => cross_field(
+                Place::Certificates(CertificatesPlace::SubsectionType { left }),
+                keeper,
+                bytes,
+                empty,
+            ),
+        },
+        Place::Serials(at) => match at {
+            SerialsPlace::SerialsLength { left } => cross_field(
+                Place::Serials(SerialsPlace::SerialsLength { left }),
+                keeper,
+                bytes,
+                empty,
+            ),
+            SerialsPlace::Serial { left, after } => cross_field(
+                Place::Serials(SerialsPlace::Serial { left, after }),
+                keeper,
+                bytes,
+                empty,
+            ),
+            SerialsPlace::RangeLength { left } => cross_field(
+                Place::Serials(SerialsPlace::RangeLength { left }),
+                keeper,
+                bytes,
+                empty,
+            ),
+            SerialsPlace::RangeMin { after } => cross_field(
+                Place::Serials(SerialsPlace::RangeMin { after }),
+                keeper,
+                bytes,
+                empty,
+            ),
+            SerialsPlace::RangeMax { min, after } => cross_field(
+                Place::Serials(SerialsPlace::RangeMax { min, after }),
+                keeper,
+                bytes,
+                empty,
+            ),
+        },
+        Place::Bitmap(at) => match at {
+            BitmapPlace::Length { left } => cross_field(
+                Place::Bitmap(BitmapPlace::Length { left }),
+                keeper,
+                bytes,
+                empty,
+            ),
+            BitmapPlace::Offset { left, after } => cross_field(
+                Place::Bitmap(BitmapPlace::Offset { left, after }),
+                keeper,
+                bytes,
+                empty,
+            ),
+            BitmapPlace::Size {
+                offset,
+                left,
+                after,
+            } => cross_field(
+                Place::Bitmap(BitmapPlace::Size {
+                    offset,
+                    left,
+                    after,
+                }),
+                keeper,
+                bytes,
+                empty,
+            ),
+            BitmapPlace::Byte { .. } => cross_field(place, keeper, bytes, empty),
+        },
+        Place::List(at) => match at {
+            ListPlace::ItemLength { kind, left, after } => cross_field(
+                Place::List(ListPlace::ItemLength { kind, left, after }),
+                keeper,
+                bytes,
+                empty,
+            ),
+            ListPlace::Item {
+                kind,
+                size,
+                left,
+                after,
+            } => cross_field(
+                Place::List(ListPlace::Item {
+                    kind,
+                    size,
+                    left,
+                    after,
+                }),
+                keeper,
+                bytes,
+                empty,
+            ),
+            _ => cross_field(place, keeper, bytes, empty),
+        },
+        _ => cross_field(place, keeper, bytes, empty),
+    }
+}
+
+// Crosses the expected field, where it is whole and passes its judgement.
+#[inline(always)]
+fn cross_field<T: Store>(
+    place: Place,
+    keeper: &mut Keeper<T>,
+    bytes: &[u8],
+    empty: bool,
+) -> Option<(usize, Result<Place, AllocError>)>
+    requires { InStep place keeper.old.bitmap }
+    ensures none { result ≡ None → keeper.new ≡ keeper.old }
+    ensures some { IfSome result (λ field. CrossesField bytes.now empty field.0 field.1 place
+        keeper.old keeper.new) }
+{
+    let (size, next) = passes(place, bytes)?;
+    if size == 0 && !empty {
+        return None;
+    }
+    match keeper.keep(place, &bytes[..size], next) {
+        Ok(()) => Some((size, Ok(next))),
+        Err(error) => Some((size, Err(error))),
+    }
 }
 
 // How many bytes the expected field has, and the place after it, where it is whole and passes its
