@@ -1,9 +1,7 @@
 -- The lines of findings.
-use Rattle.std.specs.Prelude.{ℕ, ◌==◌, ◌||◌, Bool, true, false, List, [], ◌∷◌, ◌++◌, codes, decimal, drop, nat_lt, Option, Some, None, Result, Ok, Err, if◌then◌else◌}
-use Rattle.std.specs.List.{flat_map}
+use Rattle.std.specs.Prelude.{ℕ, Bool, true, false, List, [], ◌∷◌, ◌++◌, codes, decimal, drop, nat_lt, Option, Some, None, Result, Ok, Err, if◌then◌else◌}
 use Rattle.ssh_wire.specs.Reading.{string_at}
 use Rattle.ssh_wire.specs.declared.fault.WireFault.{WireFault}
-use Rattle.ssh_cert.specs.Escape.{escaped}
 use Rattle.key_text.specs.Fingerprints.{fingerprint_text}
 use Rattle.key_text.specs.declared.hash.Hash.TheVariants.{Sha256}
 use Rattle.krl_types.specs.Subject.{CertNames, Subject}
@@ -11,13 +9,14 @@ use Rattle.krl_held.specs.Reasons.{any_reason}
 use Rattle.krl_held.specs.declared.reasons.KeyReasons.{KeyReasons}
 use Rattle.krl_held.specs.declared.reasons.NameReasons.{NameReasons}
 use Rattle.krl_held.specs.declared.reasons.Reasons.{Reasons}
+use Rattle.krl_audit.specs.Visible.{visible}
 use Rattle.krl_audit.specs.Why.{why_text}
 use Rattle.krl_audit.specs.declared.why.Why.{Why}
 
 -- the name of a file, and the number of a line of it; 0 stands for the whole file
 abbrev pub place_text : List ℕ → ℕ → List ℕ
 place_text name number =
-    escaped name ++ (if nat_lt 0 number then codes ":" ++ decimal number else [])
+    visible false name ++ (if nat_lt 0 number then codes ":" ++ decimal number else [])
 
 -- ---- reasons
 
@@ -38,19 +37,11 @@ authority_parts key =
     ++ (word_if key.sha1 (codes ", by the SHA-1 of its CA")
     ++ word_if key.sha256 (codes ", by the SHA-256 of its CA"))
 
--- a byte between quotes
-unfoldable pub quoted_byte : ℕ → List ℕ
-quoted_byte byte =
-    if (byte == 34) || (byte == 92) then 92 ∷ byte ∷ [] else escaped (byte ∷ [])
-
-unfoldable pub quoted : List ℕ → List ℕ
-quoted text = flat_map quoted_byte text
-
 abbrev pub serial_words : ℕ → List ℕ
 serial_words serial = codes ", by serial " ++ decimal serial
 
 abbrev pub id_words : List ℕ → List ℕ
-id_words id = codes ", by key ID \"" ++ (quoted id ++ codes "\"")
+id_words id = codes ", by key ID \"" ++ (visible true id ++ codes "\"")
 
 abbrev pub of_authority : List ℕ → List ℕ → List ℕ
 of_authority words print = words ++ (codes " of CA " ++ print)
@@ -101,7 +92,7 @@ key_words blob asked = type_of blob ++ (codes " " ++ fingerprint_text Sha256 ask
 
 abbrev pub comment_words : List ℕ → List ℕ
 comment_words [] = []
-comment_words (byte ∷ bytes) = codes ": " ++ escaped (byte ∷ bytes)
+comment_words (byte ∷ bytes) = codes ": " ++ visible false (byte ∷ bytes)
 
 -- the line of a key, revoked or not
 abbrev pub key_line : List ℕ → ℕ → (blob comment : List ℕ) → Subject → Reasons → List ℕ

@@ -10,6 +10,7 @@ mod outcome;
 mod reasons;
 mod survey;
 mod text;
+mod visible;
 mod why;
 
 pub use auditor::Auditor;

@@ -1,13 +1,13 @@
 //! The words for the reasons why a key is revoked.
 
 ghost use Rattle.std.specs.Prelude.{◌≡◌, ◌++◌, OnOk};
-ghost use Rattle.krl_audit.specs.Text.{authority_parts, cert_parts, id_words, key_parts, name_parts, of_all, of_authority, quoted, quoted_byte, reason_parts, reasons_text, serial_words, word_if};
+ghost use Rattle.krl_audit.specs.Text.{authority_parts, cert_parts, id_words, key_parts, name_parts, of_all, of_authority, reason_parts, reasons_text, serial_words, word_if};
 
+use crate::visible::push_visible;
 use key_listing::push_number;
 use key_text::{Hash, fingerprint};
 use krl_held::{KeyReasons, NameReasons, Reasons};
 use krl_types::{CertNames, Subject};
-use ssh_cert::push_escaped;
 use std::alloc::{AllocError, Global};
 
 /// Appends all reasons, each after a comma but for the first one. Nothing where there is none.
@@ -99,7 +99,7 @@ fn push_id(text: &mut Vec<u8>, id: &[u8]) -> Result<(), AllocError>
     ensures { OnOk result (text.new.items ≡ text.old.items ++ id_words id.now) }
 {
     text.extend_from_slice(b", by key ID \"")?;
-    push_quoted(text, id)?;
+    push_visible(text, id, true)?;
     text.push(b'"')?;
     Ok(())
 }
@@ -143,28 +143,6 @@ fn push_all(text: &mut Vec<u8>, words: &[u8], said: bool) -> Result<(), AllocErr
         text.extend_from_slice(b" of all CAs")?;
     }
     Ok(())
-}
-
-// Appends a text between quotes: escaped, with a backslash before each quote and backslash.
-#[tactic(auto, unfolding(crate::specs::Text::quoted))]
-fn push_quoted(text: &mut Vec<u8>, id: &[u8]) -> Result<(), AllocError>
-    ensures { OnOk result (text.new.items ≡ text.old.items ++ quoted id.now) }
-{
-    for byte in id {
-        push_quoted_byte(text, *byte)?;
-    }
-    Ok(())
-}
-
-// Appends a byte of such a text.
-#[tactic(auto, unfolding(crate::specs::Text::quoted_byte))]
-fn push_quoted_byte(text: &mut Vec<u8>, byte: u8) -> Result<(), AllocError>
-    ensures { OnOk result (text.new.items ≡ text.old.items ++ quoted_byte byte) }
-{
-    if byte == b'"' || byte == b'\\' {
-        return text.extend_from_slice(&[b'\\', byte]);
-    }
-    push_escaped(text, &[byte])
 }
 
 // Appends words, where they are said.

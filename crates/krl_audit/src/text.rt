@@ -6,12 +6,12 @@ ghost use Rattle.krl_audit.specs.Text.{comment_words, key_line, key_words, place
 
 use crate::outcome::Found;
 use crate::reasons::push_reasons;
+use crate::visible::push_visible;
 use crate::why::{Why, push_why};
 use key_listing::push_number;
 use key_text::{Hash, fingerprint};
 use krl_held::Reasons;
 use krl_types::Subject;
-use ssh_cert::push_escaped;
 use ssh_wire::Cursor;
 use std::alloc::{AllocError, Global};
 
@@ -85,7 +85,7 @@ fn push_place(text: &mut Vec<u8>, place: Place<'_>) -> Result<(), AllocError>
     ensures { OnOk result (text.new.items
         ≡ text.old.items ++ place_text place.entry.name.now place.entry.number) }
 {
-    push_escaped(text, place.name.as_bytes())?;
+    push_visible(text, place.name.as_bytes(), false)?;
     if place.number > 0 {
         text.push(b':')?;
         push_number(place.number, text)?;
@@ -119,13 +119,13 @@ fn type_of(blob: &[u8]) -> &[u8]
     }
 }
 
-// Appends a comment, escaped, where there is one.
+// Appends a comment, where there is one.
 fn push_comment(text: &mut Vec<u8>, comment: &[u8]) -> Result<(), AllocError>
     ensures { OnOk result (text.new.items ≡ text.old.items ++ comment_words comment.now) }
 {
     if !comment.is_empty() {
         text.extend_from_slice(b": ")?;
-        push_escaped(text, comment)?;
+        push_visible(text, comment, false)?;
     }
     Ok(())
 }

@@ -1,0 +1,25 @@
+-- Texts as they are shown: a control character is shown by its number, so a terminal does not obey it.
+use Rattle.std.specs.Prelude.{ℕ, ◌/◌, ◌%◌, ◌==◌, ◌||◌, ◌&&◌, Bool, List, [], ◌∷◌, nat_lt, if◌then◌else◌}
+use Rattle.std.specs.Char.{encode_utf8, is_control}
+use Rattle.std.specs.List.{flat_map}
+use Rattle.std.specs.Str.{chars, is_utf8}
+use Rattle.ssh_cert.specs.Escape.{hex_digit}
+
+-- `\x` and two hexadecimal digits
+abbrev pub numbered : ℕ → List ℕ
+numbered code = 92 ∷ 120 ∷ hex_digit (code / 16) ∷ hex_digit (code % 16) ∷ []
+
+-- between quotes, a quote and a backslash have a backslash before them
+unfoldable pub visible_char : Bool → ℕ → List ℕ
+visible_char quoted code =
+    if is_control code then numbered code
+    else if quoted && (code == 34 || code == 92) then 92 ∷ code ∷ [] else encode_utf8 code
+
+-- a byte of what is no UTF-8
+unfoldable pub visible_byte : Bool → ℕ → List ℕ
+visible_byte quoted byte = if nat_lt byte 128 then visible_char quoted byte else numbered byte
+
+unfoldable pub visible : Bool → List ℕ → List ℕ
+visible quoted text =
+    if is_utf8 text then flat_map (visible_char quoted) (chars text)
+    else flat_map (visible_byte quoted) text

@@ -1,0 +1,86 @@
+//! Texts that anybody may have written, as they are shown.
+
+ghost use Rattle.std.specs.Prelude.{◌≡◌, ◌++◌, ◌<◌, OnOk};
+ghost use Rattle.std.specs.List.{flat_map};
+ghost use Rattle.std.specs.Str.{chars};
+ghost use Rattle.krl_audit.specs.Visible.{numbered, visible, visible_byte, visible_char};
+
+use std::alloc::AllocError;
+use std::str;
+
+const DIGITS: &[u8; 16] = b"0123456789abcdef";
+
+/// Appends a text with each control character as `\x` and two hexadecimal digits, also those from
+/// 0x80 to 0x9f, which some terminals obey. In a text that is no UTF-8 each byte from 0x80 on is
+/// shown so. Between quotes a quote and a backslash have a backslash before them.
+#[tactic(auto, unfolding(crate::specs::Visible::visible))]
+pub(crate) fn push_visible(out: &mut Vec<u8>, text: &[u8], quoted: bool) -> Result<(), AllocError>
+    ensures { OnOk result (out.new.items ≡ out.old.items ++ visible quoted text.now) }
+{
+    match str::from_utf8(text) {
+        Ok(text) => push_chars(out, text, quoted),
+        Err(_) => push_bytes(out, text, quoted),
+    }
+}
+
+// Appends the characters.
+fn push_chars(out: &mut Vec<u8>, text: &str, quoted: bool) -> Result<(), AllocError>
+    ensures { OnOk result (out.new.items
+        ≡ out.old.items ++ flat_map (visible_char quoted) (chars text.now)) }
+{
+    for character in text.chars() {
+        push_char(out, character, quoted)?;
+    }
+    Ok(())
+}
+
+// Appends the bytes of what is no UTF-8.
+fn push_bytes(out: &mut Vec<u8>, text: &[u8], quoted: bool) -> Result<(), AllocError>
+    ensures { OnOk result (out.new.items
+        ≡ out.old.items ++ flat_map (visible_byte quoted) text.now) }
+{
+    for byte in text {
+        push_byte(out, *byte, quoted)?;
+    }
+    Ok(())
+}
+
+// Appends a character.
+#[tactic(auto, unfolding(crate::specs::Visible::visible_char))]
+fn push_char(out: &mut Vec<u8>, character: char, quoted: bool) -> Result<(), AllocError>
+    ensures { OnOk result (out.new.items ≡ out.old.items ++ visible_char quoted character) }
+{
+    if character.is_control() {
+        return push_number(out, character as u32 as u8);
+    }
+    if quoted && (character == '"' || character == '\\') {
+        return out.extend_from_slice(&[b'\\', character as u32 as u8]);
+    }
+    let mut bytes = [0; 4];
+    out.extend_from_slice(character.encode_utf8(&mut bytes).as_bytes())
+}
+
+// Appends a byte of what is no UTF-8.
+#[tactic(auto, unfolding(crate::specs::Visible::visible_byte))]
+fn push_byte(out: &mut Vec<u8>, byte: u8, quoted: bool) -> Result<(), AllocError>
+    ensures { OnOk result (out.new.items ≡ out.old.items ++ visible_byte quoted byte) }
+{
+    if byte < 0x80 {
+        push_char(out, char::from(byte), quoted)
+    } else {
+        push_number(out, byte)
+    }
+}
+
+// Appends `\x` and two hexadecimal digits.
+fn push_number(out: &mut Vec<u8>, byte: u8) -> Result<(), AllocError>
+    ensures { OnOk result (out.new.items ≡ out.old.items ++ numbered byte) }
+{
+    let digits = [
+        b'\\',
+        b'x',
+        DIGITS[(byte / 16) as usize],
+        DIGITS[(byte % 16) as usize],
+    ];
+    out.extend_from_slice(&digits)
+}
