@@ -82,7 +82,7 @@ fn pass(alloc: Global, list: &[u8], asked: &Subject) -> Result<Findings<Held>, K
     let Ok(()) = reading.add_question(&mut questions, asked) else {
         return Err(KrlFault::NoMemory);
     };
-    let (read, _list) = reading.ask(Findings::of(alloc, questions)).read_on();
+    let (read, _list) = reading.ask(alloc, questions).read_on();
     match read {
         Ok((_header, findings)) => Ok(findings),
         Err(fault) => Err(fault),
@@ -114,7 +114,7 @@ fn pass_unasked(alloc: Global, list: &[u8]) -> Result<(), KrlFault>
 {
     let reading: Reading<Held, Lent> = Reading::new(alloc, Lent::new(list));
     let none: Questions<Held> = Questions::new(alloc);
-    let (read, _list) = reading.ask(Findings::of(alloc, none)).read_on();
+    let (read, _list) = reading.ask(alloc, none).read_on();
     match read {
         Ok(_) => Ok(()),
         Err(fault) => Err(fault),

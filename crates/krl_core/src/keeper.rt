@@ -23,7 +23,7 @@ use crate::header::Header;
 use crate::place::{
     BitmapPlace, CertificatesPlace, HeaderPlace, ItemKind, ListPlace, Place, SerialsPlace,
 };
-use krl_held::{Findings, Revocations, Store, byte_of, u64_of};
+use krl_held::{Findings, Questions, Revocations, Store, byte_of, u64_of};
 use serial_set::{BitRuns, Span, Spans, count_near};
 use ssh_wire::Bytes;
 use std::alloc::{AllocError, Global};
@@ -337,14 +337,15 @@ impl<S: Spans> Keeper<Revocations<S>> {
     }
 
     /// Goes on with what is asked alone, of which just what is held so far is found.
-    pub fn ask(self, findings: Findings<S>) -> Keeper<Findings<S>>
-        requires { FindsIn self.contents findings }
+    pub fn ask(self, alloc: Global, questions: Questions<S>) -> Keeper<Findings<S>>
+        requires { FindsIn self.contents questions }
         ensures kept { (entries : List Entry) → IsKept self entries → IsKept result entries }
         ensures same { result ≡ record self {
-          contents = findings.found;
-          scope = asked_in findings;
+          contents = questions.found;
+          scope = asked_in questions;
         } }
     {
+        let findings = Findings::of(alloc, &self.store, questions);
         let Keeper {
             version,
             date,

@@ -135,12 +135,13 @@ impl<S: Spans, R: Source + Drop> Walk<Revocations<S>, R> {
         questions.ask(self.keeper.held_so_far(), subject)
     }
 
-    /// Goes on with what is asked alone, of which just what is held so far is found.
-    pub fn ask(self, findings: Findings<S>) -> Walk<Findings<S>, R>
-        requires { FindsIn self.keeper.contents findings }
+    /// Goes on with what is asked alone, of which just what is held so far is found. The answers
+    /// come with the end of the list.
+    pub fn ask(self, alloc: Global, questions: Questions<S>) -> Walk<Findings<S>, R>
+        requires { FindsIn self.keeper.contents questions }
         ensures reads { (text : List ℕ) (fields : List (List ℕ)) → HasRead text fields self
             → HasRead text fields result }
-        ensures scope { result.keeper.scope ≡ asked_in findings }
+        ensures scope { result.keeper.scope ≡ asked_in questions }
         ensures fault { result.fault ≡ self.fault }
         ensures bounds { IsBounded result.pull result.keeper }
     {
@@ -155,7 +156,7 @@ impl<S: Spans, R: Source + Drop> Walk<Revocations<S>, R> {
         Walk {
             pull,
             place,
-            keeper: keeper.ask(findings),
+            keeper: keeper.ask(alloc, questions),
             large,
             ended,
             fault,

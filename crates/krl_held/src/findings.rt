@@ -10,7 +10,7 @@ ghost use Rattle.krl_held.specs.Revocations.{IsOrderly, IsStoredWithin, held};
 ghost use Rattle.krl_held.specs.Entry.{Entry, RangeEntry};
 ghost use Rattle.krl_held.specs.Naming.{Sha1Of, Sha256Of};
 ghost use Rattle.krl_held.specs.Revoked.{Revoked};
-ghost use Rattle.krl_held.specs.Questions.{AreHashed, Asks, HashesOf, asked_in};
+ghost use Rattle.krl_held.specs.Questions.{AreHashed, Asks, FindsIn, HashesOf, asked_in};
 ghost use Rattle.krl_held.specs.Scope.{IsTopic, IsWithin, MeansMoreWithin, MeansWithin};
 ghost use Rattle.krl_held.specs.Reasons.{IsReason, has_reason, held_reasons};
 ghost use Rattle.krl_held.specs.declared.reasons.Reason.{Reason as ReasonOf};
@@ -55,10 +55,13 @@ impl<S: Spans> Model for Findings<S> {
 }
 
 impl<S: Spans> Findings<S> {
-    /// What is asked, of a list that goes on. Takes no memory.
-    pub fn of(alloc: Global, questions: Questions<S>) -> Findings<S>
+    /// What is asked of a list that goes on, and what its front holds of that. The front is passed
+    /// so that nobody without it, as a caller of a walk, gets an answer by it. Takes no memory.
+    pub fn of(alloc: Global, front: &Revocations<S>, questions: Questions<S>) -> Findings<S>
+        requires { FindsIn front.now questions }
         ensures { result ≡ questions }
     {
+        let _front = front;
         let Questions { topics, found } = questions;
         Findings {
             topics,

@@ -118,13 +118,13 @@ fn ask_rest<'a, R: Source + Drop, W: Sink>(
     let mut questions: Questions<Held> = Questions::new(run.alloc);
     match ask_about(run.alloc, &mut questions, &front, files) {
         Ok(()) => {
-            let findings = Findings::of(run.alloc, questions);
-            pass(run, krl_name, front.ask(findings), files)
+            let walk = front.ask(run.alloc, questions);
+            pass(run, krl_name, walk, files)
         }
         Err(_) => {
             let none: Questions<Held> = Questions::new(run.alloc);
-            let findings = Findings::of(run.alloc, none);
-            pass_unasked(run, krl_name, front.ask(findings))
+            let walk = front.ask(run.alloc, none);
+            pass_unasked(run, krl_name, walk)
         }
     }
 }

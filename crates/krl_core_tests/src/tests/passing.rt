@@ -8,7 +8,7 @@ use crate::tests::rows::ROWS;
 use crate::tests::said::{A, ALL, About, B, Said, held_of, subject_of};
 use byte_streams::{FromBuffer, Source};
 use key_text::{sha1_of, sha256_of};
-use krl_core::{Findings, KrlFault, Questions, Reading, Store, Walk};
+use krl_core::{KrlFault, Questions, Reading, Store, Walk};
 use krl_held::{Reason, Reasons};
 use parts_for_tests::{Giver, Then};
 use span_sets::Held;
@@ -89,7 +89,7 @@ fn passes<R: Source + Drop>(
     front
         .add_question(&mut questions, &subject)
         .expect(rt, "there is memory");
-    let (read, _) = front.ask(Findings::of(alloc, questions)).read_on();
+    let (read, _) = front.ask(alloc, questions).read_on();
     let (_, findings) = read?;
     Ok((findings.answer(&subject), findings.reasons(&subject)))
 }
@@ -154,7 +154,7 @@ fn pass_on<R: Source + Drop>(rt: &impl Abort, alloc: Global, reader: R, most: u6
     front
         .add_question(&mut questions, &subject)
         .expect(rt, "there is memory");
-    stride_on(front.ask(Findings::of(alloc, questions)))
+    stride_on(front.ask(alloc, questions))
 }
 
 // A giver of a text's first bytes, a number of them at a call, which fails from a call on or where

@@ -6,7 +6,7 @@ use Rattle.krl_c.proofs.check.pass_unasked.Goals as goal
 use Rattle.krl_c.proofs.check.pass_unasked.Goals.{in-Ok, in-Err}
 
 pub ask-requires : goal.ask-requires
-ask-requires c = rw c.of.ensures (c.new-none.ensures.of_any _)
+ask-requires c = c.new-none.ensures.of_any _
 
 pub returns-clause-list : goal.returns-clause-list
 returns-clause-list c =

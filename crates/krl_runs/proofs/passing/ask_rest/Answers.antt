@@ -3,11 +3,11 @@ use Rattle.krl_runs.proofs.passing.ask_rest.Goals as goal
 
 pub returns-in-Ok : goal.returns-in-Ok
 returns-in-Ok g c = λ before begun.
-    c.pass.ensures before (λ text e. let h = begun text e in (h.0, c.ask.ensures.reads text h.0 h.1))
+    c.pass.ensures before (λ text e. let h = begun text e in (h.0, c.ask-walk.ensures.reads text h.0 h.1))
 
 pub returns : goal.returns
 returns g c = λ before begun.
-    c.pass_unasked.ensures c.args.files.now before (λ text e. let h = begun text e in (h.0, c.ask-in-Err.ensures.reads text h.0 h.1))
+    c.pass_unasked.ensures c.args.files.now before (λ text e. let h = begun text e in (h.0, c.ask-walk-in-Err.ensures.reads text h.0 h.1))
 
-pub ask-requires-in-Err : goal.ask-requires-in-Err
-ask-requires-in-Err g c = rw c.of-findings-in-Err.ensures (c.new-none.ensures.of_any _)
+pub ask-walk-requires-in-Err : goal.ask-walk-requires-in-Err
+ask-walk-requires-in-Err g c = c.new-none.ensures.of_any _

@@ -11,7 +11,7 @@ returns-clause-reads g c =
 
 pub returns-clause-bounds : goal.returns-clause-bounds
 returns-clause-bounds g c =
-    bounded_found c.self.inside.pull c.self.inside.keeper c.ask.result c.args.findings c.self.invariant.bounded
+    bounded_found c.self.inside.pull c.self.inside.keeper c.ask.result c.args.questions c.self.invariant.bounded
     (rw (← c.self.view_is) at c.requires) (ap (λ k. k.contents) c.ask.ensures.same) (ap (λ k. k.scope) c.ask.ensures.same)
 
 pub invariant_of-result : goal.invariant_of-result
@@ -22,6 +22,6 @@ invariant_of-result g c =
       pull_faultless = reached.pull_faultless;
       works = reached.works;
       ends = λ off. let e = reached.ends off in record { may_end = e.may_end; at_end = e.at_end; faultless = e.faultless };
-      bounded = bounded_found c.self.inside.pull c.self.inside.keeper c.ask.result c.args.findings reached.bounded
+      bounded = bounded_found c.self.inside.pull c.self.inside.keeper c.ask.result c.args.questions reached.bounded
           (rw (← c.self.view_is) at c.requires) (ap (λ k. k.contents) c.ask.ensures.same) (ap (λ k. k.scope) c.ask.ensures.same);
     }
