@@ -89,6 +89,11 @@ def under_authority(share):
     return shape
 
 
+def long_comment(size):
+    """A comment, and no entry."""
+    return HEADER[:40] + string(b"c" * size)
+
+
 def merged_ranges(size):
     """Ranges that do not touch, and one at the end that joins them all."""
     count = size // 21 - 1
@@ -149,7 +154,7 @@ BITMAPS = {
 }
 
 # A field that is longer than the reader's buffer is held.
-LONG = {"half of it one authority": under_authority(1 / 2)}
+LONG = {"half of it one authority": under_authority(1 / 2), "all of it one comment": long_comment}
 
 # Lists that are refused at their end.
 LYING = {

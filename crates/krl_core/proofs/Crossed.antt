@@ -15,10 +15,10 @@ use Rattle.krl_core.specs.declared.place.Place.{Place}
 use Rattle.krl_core.specs.Crossing.{Crosses, CrossesField, CrossesSome, HasKept}
 use Rattle.krl_core.specs.Front.{Passes, start, state_after}
 use Rattle.krl_core.specs.Keeper.{GrowsWithin, InStep, IsKept, Keeper, KeepsField, StoresWithin}
-use Rattle.krl_core.specs.Place.{authority_after, header_after, names}
+use Rattle.krl_core.specs.Place.{authority_after, names}
 use Rattle.krl_core.specs.Reading.{HasRead, IsBounded, Leaps, Walk, ReadsMore, working}
 use Rattle.krl_core.proofs.Exists.{nearer, weight}
-use Rattle.krl_core.proofs.Keeping.{grows_then}
+use Rattle.krl_core.proofs.Keeping.{grows_then, header_kept}
 use Rattle.krl_core.proofs.Stepping.{consumes_some}
 use Rattle.krl_held.proofs.HeldWithin.{small_in}
 use Rattle.krl_core.proofs.Walks.{Leads-push}
@@ -60,10 +60,8 @@ crosses_field place next old new field passes keeps bytes = record {
       let pass : Passes h.state.place field next = subst (λ (p : Place). Passes p field next) h.place_is passes in
       let place_is = h.place_is in
       let authority_is = h.authority_is in
-      let header_is = h.header_is in
       let named : names place old.authority field ≡ names h.state.place h.state.authority field = cc in
-      let authority : authority_after place old.authority field ≡ authority_after h.state.place h.state.authority field = cc in
-      let header : header_after place old.header field ≡ header_after h.state.place h.state.header field = cc in (
+      let authority : authority_after place old.authority field ≡ authority_after h.state.place h.state.authority field = cc in (
         field ∷ [],
         (
           record {
@@ -71,7 +69,7 @@ crosses_field place next old new field passes keeps bytes = record {
             leads = Leads-push start h.state fields field next h.leads pass;
             place_is = refl;
             authority_is = keeps.authority_is ∙ authority;
-            header_is = keeps.header_is ∙ header;
+            header_is = header_kept place h.state.place next field old new h.state.header keeps h.place_is h.header_is;
             kept = subst (λ n. IsKept new (h.state.entries ++ n)) named (keeps.kept h.state.entries h.kept);
           },
           append-nil field,

@@ -18,6 +18,7 @@ use Rattle.krl_held.specs.Naming.{Name, SerialOf, SomeNames}
 use Rattle.krl_core.specs.Place.{authority_after, header_after, names, next_serial}
 use Rattle.krl_held.specs.Scope.{AreUnwanted, InScope, Scope, serial_at}
 use Rattle.krl_held.proofs.Elements.{contains_cases, contains_none}
+use Rattle.krl_core.proofs.Keeping.{header_stays}
 use Rattle.krl_core.proofs.Skipping.{skipped_kept}
 use Rattle.krl_core.proofs.Walks.{Leads-append}
 
@@ -130,7 +131,7 @@ crosses_serials count keeper left after bytes pos none are there within unwanted
             leads = Leads-append start h.state more.last fields (eights count bytes) h.leads more.leads;
             place_is = sym more.place_is;
             authority_is = h.authority_is ∙ sym more.authority_is;
-            header_is = h.header_is ∙ sym more.header_is;
+            header_is = header_stays keeper keeper h.state.header more.last.header refl refl more.header_is h.header_is;
             kept = subst (IsKept keeper) (ap (λ (a : List ℕ). h.state.entries ++ serial_entries a count bytes) h.authority_is ∙ sym more.entries_are) kept;
           },
           concat_eights count bytes,

@@ -8,7 +8,14 @@ use Rattle.krl_held.specs.Revocations.{Revocations}
 use Rattle.krl_held.specs.Entry.{Entry, RangeEntry, SerialsEntry}
 use Rattle.krl_held.specs.Naming.{NamesSame}
 use Rattle.krl_held.specs.Changes.{run_entries}
-use Rattle.krl_core.specs.Keeper.{Keeper, IsKept, Adds, KeepsRest, Closes, StaysWithin, GrowsWithin, StoresWithin, held_with_open, open_run}
+use Rattle.krl_core.specs.Front.{start}
+use Rattle.krl_core.specs.Keeper.{Keeper, IsKept, Adds, KeepsField, KeepsRest, Closes, StaysWithin, GrowsWithin}
+use Rattle.krl_core.specs.Keeper.{StoresWithin, held_with_open, kept_header, kept_header_after, open_run}
+use Rattle.krl_core.specs.Place.{header_after}
+use Rattle.krl_core.specs.declared.header.Header.{Header}
+use Rattle.krl_core.specs.declared.place.Place.{Place}
+use Rattle.krl_core.specs.declared.place.Place.TheVariants as places
+use Rattle.krl_core.specs.declared.place.header.HeaderPlace.TheVariants as headers
 use Rattle.krl_held.specs.Scope.{MeansMoreWithin, MeansWithin, Scope}
 use Rattle.krl_held.proofs.Runs.{run_entries-append}
 use Rattle.krl_held.proofs.Same.{same_refl, same_is, same_then, same_append, same_between, same_zero, same_none}
@@ -101,6 +108,37 @@ stored_same old new e a s = record {
 
 pub stored_then : (a b c : Keeper) → StaysWithin a b → StaysWithin b c → StaysWithin a c
 stored_then a b c h k = record { stored_is = λ m s. k.stored_is m (h.stored_is m s); scope_is = λ s. k.scope_is (h.scope_is s); same_scope = k.same_scope ∙ h.same_scope }
+
+-- ---- what is kept of the header
+
+pub kept_start : (scope : Scope) → start.header ≡ kept_header scope start.header
+kept_start None = refl
+kept_start (Some topics) = refl
+
+kept_next : (scope : Scope) (place : Place) (header : Header) (field : List ℕ)
+    → kept_header_after scope place (kept_header scope header) field
+    ≡ kept_header scope (header_after place header field)
+kept_next scope (places.Header headers.Version) header field = refl
+kept_next scope (places.Header headers.Date) header field = refl
+kept_next scope (places.Header (headers.Comment size)) header field = refl
+kept_next scope _ header field = refl
+
+-- after a field
+pub header_kept : (place here next : Place) (field : List ℕ) (old new : Keeper) (header : Header)
+    → KeepsField place field next old new → place ≡ here → old.header ≡ kept_header old.scope header
+    → new.header ≡ kept_header new.scope (header_after here header field)
+header_kept place here next field old new header keeps at was =
+    keeps.header_is ∙ ap (λ (h : Header). kept_header_after old.scope place h field) was
+    ∙ kept_next old.scope place header field
+    ∙ ap (λ (p : Place). kept_header old.scope (header_after p header field)) at
+    ∙ ap (λ (s : Scope). kept_header s (header_after here header field)) (sym keeps.scope_is)
+
+-- where it stays
+pub header_stays : (old new : Keeper) (header last : Header) → new.header ≡ old.header → new.scope ≡ old.scope
+    → last ≡ header → old.header ≡ kept_header old.scope header → new.header ≡ kept_header new.scope last
+header_stays old new header last same scope is was =
+    same ∙ was ∙ ap (λ (s : Scope). kept_header s header) (sym scope)
+    ∙ ap (λ (h : Header). kept_header new.scope h) (sym is)
 
 -- ---- runs
 

@@ -27,7 +27,7 @@ use Rattle.krl_held.specs.Scope.{InScope, MeansWithin, Scope}
 use Rattle.krl_held.proofs.Numbers.{number_of-one}
 use Rattle.krl_held.proofs.Same.{same_append, same_refl}
 use Rattle.krl_held.proofs.MeansMore.{nothing_more_within}
-use Rattle.krl_core.proofs.Keeping.{closes_run, stored_wider}
+use Rattle.krl_core.proofs.Keeping.{closes_run, header_stays, stored_wider}
 use Rattle.krl_core.proofs.Walks.{Leads-append}
 use Rattle.krl_core.specs.Place.{next_subsection, authority_after, base_of, bits_judged, bits_within, header_after, highest_bit, judge, names, next_bits, passes_end}
 
@@ -202,7 +202,7 @@ crosses_bits old new offset size left after bytes step are le within sign_free f
             leads = Leads-append start h.state more.last fields (singles bytes) h.leads more.leads;
             place_is = sym more.place_is;
             authority_is = c.authority_is ∙ h.authority_is ∙ sym more.authority_is;
-            header_is = c.header_is ∙ h.header_is ∙ sym more.header_is;
+            header_is = header_stays old new h.state.header more.last.header c.header_is c.scope_is more.header_is h.header_is;
             kept = subst (IsKept new) (ap (λ (a : List ℕ). h.state.entries ++ bit_entries a offset left bytes) h.authority_is ∙ sym more.entries_are) kept;
           },
           concat_singles bytes,

@@ -17,9 +17,10 @@ use Rattle.krl_types.specs.declared.krl_fault.KrlFault.TheVariants as faults
 use Rattle.krl_core.specs.declared.place.Place.{Place}
 use Rattle.krl_core.specs.Front.{State, start, state_after, Leads, Passes, HasRoom, Reported, no_room, refused, too_long, ends_early, IsFirstFault, limit}
 use Rattle.krl_core.specs.Keeper.{GrowsWithin, IsKept, Keeper, KeepsField, StoresWithin}
-use Rattle.krl_core.specs.Place.{can_end, expected, names, authority_after, header_after}
+use Rattle.krl_core.specs.Place.{can_end, expected, names, authority_after}
 use Rattle.krl_core.specs.Reading.{Walk, working, HasRead, IsBounded, LooksFor, Missed, no_room as room_missed, cut, Says, ran_out, failed_read, first, Refused, is_fixed}
 use Rattle.krl_types.specs.KrlFault.{reported_as}
+use Rattle.krl_core.proofs.Keeping.{header_kept}
 use Rattle.krl_core.proofs.Fronts.{first_fault_is, end_size, end_room}
 use Rattle.krl_held.proofs.HeldWithin.{small_in}
 use Rattle.krl_core.proofs.Walks.{Leads-push}
@@ -219,17 +220,15 @@ one_more old mid new place keeper field faultless looks takes passes bytes keeps
     let joined : concat (fields ++ field ∷ []) ≡ concat fields ++ field = concat-append fields (field ∷ []) ∙ ap (λ (l : List ℕ). concat fields ++ l) (append-nil field) in
     let place_is = h.place_is in
     let authority_is = h.authority_is in
-    let header_is = h.header_is in
     let named : names old.place old.keeper.authority field ≡ names h.state.place h.state.authority field = cc in
-    let authority : authority_after old.place old.keeper.authority field ≡ authority_after h.state.place h.state.authority field = cc in
-    let header : header_after old.place old.keeper.header field ≡ header_after h.state.place h.state.header field = cc in (
+    let authority : authority_after old.place old.keeper.authority field ≡ authority_after h.state.place h.state.authority field = cc in (
       field,
       record {
         state = state_after h.state field place;
         leads = Leads-push start h.state fields field place h.leads pass;
         place_is = refl;
         authority_is = keeps.authority_is ∙ authority;
-        header_is = keeps.header_is ∙ header;
+        header_is = header_kept old.place h.state.place place field old.keeper keeper h.state.header keeps h.place_is h.header_is;
         kept = subst (λ n. IsKept keeper (h.state.entries ++ n)) named (keeps.kept h.state.entries h.kept);
         are_bytes = subst IsBytes (sym joined) (IsBytes-append (concat fields) field h.are_bytes bytes);
         rest = after.0;

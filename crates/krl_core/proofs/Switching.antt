@@ -1,5 +1,5 @@
 -- Where a list is read on with what is asked about alone.
-use Rattle.std.proofs.Common.{◌≡◌, ℕ, ◌∙◌, sym, List, ◌++◌, subst, subst₂}
+use Rattle.std.proofs.Common.{◌≡◌, ℕ, ◌∙◌, sym, ap, List, ◌++◌, subst, subst₂}
 use Rattle.std.proofs.Math.Logic.Iff as Iff
 use Rattle.std.specs.Option.{option_to_list}
 use Rattle.serial_set.specs.BitRuns.{BitRuns}
@@ -11,7 +11,8 @@ use Rattle.krl_held.specs.Questions.{Asked, FindsIn, asked_in}
 use Rattle.krl_held.specs.Scope.{all, MeansWithin, Scope, WithinScope}
 use Rattle.krl_held.proofs.HeldWithin.{small_in}
 use Rattle.byte_streams.specs.Pull.{Pull}
-use Rattle.krl_core.specs.Keeper.{IsKept, Keeper}
+use Rattle.krl_core.specs.declared.header.Header.{Header}
+use Rattle.krl_core.specs.Keeper.{IsKept, Keeper, kept_header}
 use Rattle.krl_core.specs.Reading.{HasRead, IsBounded, Walk}
 
 -- what is found of what is held means the same, of what is asked about
@@ -31,16 +32,16 @@ found_kept old new asked entries every finds contents scope authority bitmap h =
       (subst (λ (a : List ℕ). NamesSame (h.closed ++ run_entries a (option_to_list old.bitmap.pending)) entries) (sym authority) h.same);
 }
 
--- what was read stays read where all that was kept stays kept
-pub found_read : (text : List ℕ) (fields : List (List ℕ)) (old : Walk) (keeper : Keeper) → HasRead text fields old
-    → ((entries : List Entry) → IsKept old.keeper entries → IsKept keeper entries) → keeper.authority ≡ old.keeper.authority → keeper.header ≡ old.keeper.header
-    → HasRead text fields (record old { keeper = keeper })
-found_read text fields old keeper h kept authority header = record {
+-- what was read stays read where all that was kept stays kept, of the header what the scope asks for
+pub found_read : (text : List ℕ) (fields : List (List ℕ)) (old : Walk) (keeper : Keeper) → HasRead text fields old → old.keeper.scope ≡ all
+    → ((entries : List Entry) → IsKept old.keeper entries → IsKept keeper entries) → keeper.authority ≡ old.keeper.authority
+    → keeper.header ≡ kept_header keeper.scope old.keeper.header → HasRead text fields (record old { keeper = keeper })
+found_read text fields old keeper h every kept authority header = record {
   state = h.state;
   leads = h.leads;
   place_is = h.place_is;
   authority_is = authority ∙ h.authority_is;
-  header_is = header ∙ h.header_is;
+  header_is = header ∙ ap (λ (x : Header). kept_header keeper.scope x) (h.header_is ∙ ap (λ (s : Scope). kept_header s h.state.header) every);
   kept = kept h.state.entries h.kept;
   are_bytes = h.are_bytes;
   rest = h.rest;

@@ -18,9 +18,10 @@ use Rattle.krl_held.specs.Changes.{run_entries}
 use Rattle.krl_core.specs.Keeper.{Keeper, InStep, open_run}
 use Rattle.krl_held.specs.Naming.{NamesSame}
 use Rattle.krl_core.specs.Place.{can_end}
-use Rattle.krl_core.specs.Reading.{Ends, EndsAfter, Walk, HasRead, Follows, HoldsWithin, IsBounded, IsReached, IsWholeAs, IsWithinLimit, ReadsMore}
+use Rattle.krl_core.specs.Reading.{Ends, EndsAfter, Walk, HasRead, Follows, HoldsWithin, IsBounded, IsReached, IsWholeAs, IsWithinLimit, OfHeader, ReadsMore}
 use Rattle.krl_core.proofs.Exists.{weight, nearer}
 use Rattle.krl_core.proofs.Fronts.{first_fault_is}
+use Rattle.krl_held.specs.Scope.{all as every_name}
 use Rattle.krl_held.proofs.Scoped.{same_within}
 
 -- some fields more were read, without a fault
@@ -74,7 +75,8 @@ all_read : (text front rest : List ℕ) (left : Option (List ℕ)) → text ≡ 
 all_read text front rest left parts is end = parts ∙ ap (λ (x : List ℕ). front ++ x) (subst IsAtEnd is end) ∙ append-nil front
 
 pub whole_list : (text : List ℕ) (fields : List (List ℕ)) (p : Walk) → IsReached p → p.ended ≡ true → HasRead text fields p
-    → IsWholeAs (HoldsWithin p.keeper.scope) text p.keeper.header p.keeper.contents
+    → OfHeader p.keeper.scope p.keeper.header
+    (λ header. IsWholeAs (HoldsWithin p.keeper.scope) text header p.keeper.contents)
 whole_list text fields p sound off h =
     let may = (sound.ends off).may_end in
     let all = all_read text (concat fields) h.rest (left_of p.pull) h.parts h.left_is (sound.ends off).at_end in
@@ -85,7 +87,7 @@ whole_list text fields p sound off h =
     let open_none : kept.closed ++ run_entries keeper.authority (open_run keeper) ≡ kept.closed =
     ap (λ (o : Option Span). kept.closed ++ run_entries keeper.authority (option_to_list o)) none ∙ append-nil kept.closed in
     let same : NamesSame kept.closed h.state.entries = subst (λ (xs : List Entry). NamesSame xs h.state.entries) open_none kept.same in
-    record {
+    let whole : IsWholeAs (HoldsWithin keeper.scope) text h.state.header keeper.contents = record {
       fields = fields;
       state = h.state;
       leads = h.leads;
@@ -93,13 +95,18 @@ whole_list text fields p sound off h =
       within = omega (arith, size, sound.bounded.within);
       are_bytes = subst IsBytes (sym all) h.are_bytes;
       may_end = subst (λ (q : Place). can_end q ≡ true) h.place_is may;
-      header_is = h.header_is;
+      header_is = refl;
       holds = record {
         means = same_within keeper.scope keeper.contents kept.closed h.state.entries kept.means same;
         within = sound.bounded.scope_is;
         bounds = λ every. let b = sound.bounded.all_is every in (omega (arith, b.0, size), omega (arith, b.1.now, size));
       };
-    }
+    } in
+    (h.state.header, h.header_is, whole)
+
+-- where all names are in scope, all of the header is kept
+pub of_all : (Holds : Header → Type 0) (kept : Header) → OfHeader every_name kept Holds → Holds kept
+of_all Holds kept h = subst Holds (sym h.1) h.2
 
 -- what was read is no more than the limit
 pub within_limit : (pull : Pull) (keeper : Keeper) → IsBounded pull keeper → IsWithinLimit keeper.scope keeper.contents

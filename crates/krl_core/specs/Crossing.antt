@@ -6,7 +6,7 @@ use Rattle.std.specs.declared.alloc.AllocError.{AllocError}
 use Rattle.ssh_wire.specs.Wire.{IsBytes, number_of}
 use Rattle.krl_core.specs.declared.place.Place.{Place}
 use Rattle.krl_core.specs.Front.{Leads, Passes, State, start}
-use Rattle.krl_core.specs.Keeper.{GrowsWithin, InStep, IsKept, Keeper, KeepsField}
+use Rattle.krl_core.specs.Keeper.{GrowsWithin, InStep, IsKept, Keeper, KeepsField, kept_header}
 use Rattle.krl_held.specs.Naming.{SerialOf}
 use Rattle.krl_held.specs.Scope.{InScope}
 
@@ -16,7 +16,7 @@ pub record HasKept (fields : List (List ℕ)) (place : Place) (keeper : Keeper) 
   pub leads : Leads start fields state
   pub place_is : place ≡ state.place
   pub authority_is : keeper.authority ≡ state.authority
-  pub header_is : keeper.header ≡ state.header
+  pub header_is : keeper.header ≡ kept_header keeper.scope state.header
   pub kept : IsKept keeper state.entries
 
 -- The bytes are whole fields, which lead from one place to another, and what they name is kept too.

@@ -9,14 +9,15 @@ use Rattle.krl_core.specs.declared.header.Header.{Header}
 use Rattle.krl_core.specs.declared.place.Place.{Place}
 use Rattle.krl_core.specs.declared.place.Place.TheVariants as places
 use Rattle.krl_core.specs.declared.place.bitmap.BitmapPlace.TheVariants as bitmaps
+use Rattle.krl_core.specs.declared.place.header.HeaderPlace.TheVariants as headers
 use Rattle.krl_held.specs.Changes.{run_entries}
 use Rattle.krl_held.specs.Revocations.{Revocations, IsStoredWithin, held}
 use Rattle.krl_held.specs.Entry.{Entry, BitmapEntry}
 use Rattle.krl_held.specs.Naming.{NamesSame}
 use Rattle.krl_core.specs.Place.{names, authority_after, header_after, base_of}
-use Rattle.krl_held.specs.Scope.{MeansWithin, Scope, WithinScope}
+use Rattle.krl_held.specs.Scope.{MeansWithin, Scope, WithinScope, kept_comment}
 
--- What is known of the header, the authority in force, what is held, which names it answers for,
+-- What is kept of the header, the authority in force, what is held, which names it answers for,
 -- and how far the bitmap at hand is read.
 pub record Keeper : Type 0 where
   pub header : Header
@@ -24,6 +25,16 @@ pub record Keeper : Type 0 where
   pub contents : Revocations
   pub scope : Scope
   pub bitmap : BitRuns
+
+-- What is kept of a header: no comment, where just some topics are in scope.
+abbrev pub kept_header : Scope → Header → Header
+kept_header scope header = record header { comment = kept_comment scope header.comment }
+
+-- what is kept of the header after a field
+abbrev pub kept_header_after : Scope → Place → Header → List ℕ → Header
+kept_header_after scope (places.Header (headers.Comment size)) header field =
+    record header { comment = kept_comment scope field }
+kept_header_after scope place header field = header_after place header field
 
 -- the run of the bitmap at hand with which its next byte may go on
 abbrev pub open_run : Keeper → List Span
@@ -78,7 +89,7 @@ pub record KeepsField (place : Place) (field : List ℕ) (next : Place) (old new
     : Type 0 where
   pub kept : AddsEntries old (names place old.authority field) new
   pub authority_is : new.authority ≡ authority_after place old.authority field
-  pub header_is : new.header ≡ header_after place old.header field
+  pub header_is : new.header ≡ kept_header_after old.scope place old.header field
   pub in_step : InStep next new.bitmap
   pub scope_is : new.scope ≡ old.scope
 

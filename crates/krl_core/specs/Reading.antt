@@ -19,7 +19,7 @@ use Rattle.krl_core.specs.Entries.{entries_of}
 use Rattle.krl_core.specs.Krl.{SpelledSection, Spells}
 use Rattle.krl_core.specs.Front.{State, start, Leads, Passes, HasRoom, IsFirstFault, limit}
 use Rattle.krl_core.specs.Keeper.{InStep, IsKept, Keeper, KeepsWithin, StoresWithin}
-use Rattle.krl_core.specs.Keeper.{held_with_open}
+use Rattle.krl_core.specs.Keeper.{held_with_open, kept_header}
 use Rattle.krl_core.specs.Place.{can_end, expected}
 use Rattle.krl_held.specs.Entry.{Entry}
 use Rattle.krl_held.specs.Scope.{IsSmallIn, MeansWithin, Scope, WithinScope, all}
@@ -45,7 +45,7 @@ pub record HasRead (text : List ℕ) (fields : List (List ℕ)) (reading : Walk)
   pub leads : Leads start fields state
   pub place_is : reading.place ≡ state.place
   pub authority_is : reading.keeper.authority ≡ state.authority
-  pub header_is : reading.keeper.header ≡ state.header
+  pub header_is : reading.keeper.header ≡ kept_header reading.keeper.scope state.header
   pub kept : IsKept reading.keeper state.entries
   pub are_bytes : IsBytes (concat fields)
   pub rest : List ℕ
@@ -189,6 +189,10 @@ pub record IsWithinLimit (scope : Scope) (r : Revocations) : Type 0 where
   pub within : WithinScope scope r
   pub asked_is : IsSmallIn scope r
   pub bounds : scope ≡ all → (held r ≤ 4 * limit) × (stored r ≤ limit)
+
+-- Something holds of a header, of which this is kept.
+abbrev pub OfHeader : Scope → (kept : Header) → (Header → Type 0) → Type 0
+OfHeader scope kept Holds = (header : Header) × (kept ≡ kept_header scope header) × Holds header
 
 -- All that the entries name is held, and no more than the text has room for.
 pub record HoldsAll (text : List ℕ) (r : Revocations) (entries : List Entry) : Type 0 where

@@ -10,12 +10,12 @@ ghost use Rattle.krl_held.specs.Authority.{IsAuthority, authority_bytes};
 ghost use Rattle.krl_held.specs.Entry.{Entry, SerialsEntry, RangeEntry};
 ghost use Rattle.krl_held.specs.Naming.{SerialOf};
 ghost use Rattle.krl_held.specs.Questions.{FindsIn, asked_in};
-ghost use Rattle.krl_held.specs.Scope.{AreUnwanted, InScope, WithinScope, all};
+ghost use Rattle.krl_held.specs.Scope.{AreUnwanted, InScope, WithinScope, all, kept_comment};
 ghost use Rattle.krl_core.specs.Front.{Passes, start};
 ghost use Rattle.krl_core.specs.Keeper.{Adds, Closes, GrowsWithin, InStep, IsKept, StoresWithin};
 ghost use Rattle.krl_core.specs.Keeper.{KeepsBits, KeepsField, KeepsRest, KeepsWithin, Skips, StaysWithin, TakesByte};
 ghost use Rattle.krl_held.specs.Changes.{run_entries};
-ghost use Rattle.krl_core.specs.Keeper.{held_with_open};
+ghost use Rattle.krl_core.specs.Keeper.{held_with_open, kept_header};
 ghost use Rattle.krl_core.specs.Place.{item_entry, item_size};
 ghost use Rattle.krl_core.specs.Reading.{is_fixed};
 
@@ -68,7 +68,8 @@ impl<T: Store> Keeper<T> {
         requires within { WithinScope (T.scope store) nothing }
         ensures scope { result.scope ≡ T.scope store }
         ensures kept { IsKept result [] }
-        ensures start { (result.authority ≡ []) × (result.header ≡ start.header) }
+        ensures start { (result.authority ≡ [])
+            × (result.header ≡ kept_header result.scope start.header) }
         ensures in_step { result.bitmap.pending ≡ None }
         ensures held { held_with_open result ≡ 0 }
         ensures stored { StoresWithin result 0 }
@@ -144,15 +145,16 @@ impl<T: Store> Keeper<T> {
         }
     }
 
-    // Takes the comment of the header.
+    // Takes what is kept of the comment of the header.
     fn set_comment(&mut self, comment: &[u8]) -> Result<(), AllocError>
         ensures set { OnOk result (self.new ≡ record self.old {
-          header = record self.old.header { comment = comment.now };
+          header = record self.old.header { comment = kept_comment self.old.scope comment.now };
         }) }
         ensures grows { (n : ℕ) → GrowsWithin n self.old self.new }
     {
         self.comment.clear();
-        self.comment.extend_from_slice(comment)
+        self.comment
+            .extend_from_slice(self.store.kept_comment(comment))
     }
 
     // Takes the authority of the certificates that follow.
@@ -341,15 +343,17 @@ impl<S: Spans> Keeper<Revocations<S>> {
         requires { FindsIn self.contents questions }
         ensures kept { (entries : List Entry) → IsKept self entries → IsKept result entries }
         ensures same { result ≡ record self {
+          header = kept_header (asked_in questions) self.header;
           contents = questions.found;
           scope = asked_in questions;
         } }
+        ensures all { self.scope ≡ all }
     {
         let findings = Findings::of(alloc, &self.store, questions);
         let Keeper {
             version,
             date,
-            comment,
+            comment: _comment,
             authority,
             store: _store,
             bitmap,
@@ -357,7 +361,7 @@ impl<S: Spans> Keeper<Revocations<S>> {
         Keeper {
             version,
             date,
-            comment,
+            comment: Vec::new(alloc),
             authority,
             store: findings,
             bitmap,

@@ -11,7 +11,8 @@ ghost use Rattle.krl_core.specs.Front.{IsFirstFault, limit};
 ghost use Rattle.krl_core.specs.Krl.{SpelledSection, Spells};
 ghost use Rattle.krl_core.specs.Place.{expected};
 ghost use Rattle.krl_core.specs.Reading.{EndsAfter, HasRead, HoldsWithin, IsBounded, IsList};
-ghost use Rattle.krl_core.specs.Reading.{IsListAs, IsWithinLimit, ReadsMore, Refused, ReportsFailure, Says};
+ghost use Rattle.krl_core.specs.Reading.{IsListAs, IsWithinLimit, OfHeader, ReadsMore, Refused};
+ghost use Rattle.krl_core.specs.Reading.{ReportsFailure, Says};
 
 use crate::header::Header;
 use crate::reading::Walk;
@@ -53,12 +54,14 @@ pub fn read_krl<S: Spans, R: Source + Drop>(
 
 impl<T: Store, R: Source + Drop> Walk<T, R> {
     /// Reads on to the list's end, and gives the reader back. Of the names in scope, what is held
-    /// means just what the list's sections name.
+    /// means just what the list's sections name. The header lacks the comment where just some
+    /// topics are in scope.
     pub fn read_on(self) -> (Result<(Header, T), KrlFault>, R)
         requires { self.fault ≡ None }
         ensures found { IfOk result.0 (λ list. (text : List ℕ) (fields : List (List ℕ))
             → HasRead text fields self
-            → IsListAs (HoldsWithin (T.scope list.1)) text list.0 (T.contents list.1)) }
+            → OfHeader (T.scope list.1) list.0 (λ header.
+            IsListAs (HoldsWithin (T.scope list.1)) text header (T.contents list.1))) }
         ensures scope { IfOk result.0 (λ list. T.scope list.1 ≡ self.keeper.scope) }
         ensures within { IfOk result.0
             (λ list. IsWithinLimit (T.scope list.1) (T.contents list.1)) }

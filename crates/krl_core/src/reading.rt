@@ -13,7 +13,8 @@ ghost use Rattle.krl_core.specs.Place.{can_end, expected};
 ghost use Rattle.krl_held.specs.Questions.{Asks, AsksMore, FindsIn, asked_in, subject_size};
 ghost use Rattle.krl_core.specs.Reading.{Advances, Ends, Follows, HasRead, HoldsWithin, IsBounded, IsReached};
 ghost use Rattle.krl_core.specs.Reading.{ReadsMore};
-ghost use Rattle.krl_core.specs.Reading.{IsList, IsWhole, IsWholeAs, IsWithinLimit, LooksFor, Missed, ReadsOneMore, Refused};
+ghost use Rattle.krl_core.specs.Reading.{IsList, IsWhole, IsWholeAs, IsWithinLimit, LooksFor};
+ghost use Rattle.krl_core.specs.Reading.{Missed, OfHeader, ReadsOneMore, Refused};
 ghost use Rattle.krl_core.specs.Reading.{ReportsFailure, is_fixed, working};
 ghost use Rattle.krl_held.specs.Scope.{WithinScope, all};
 
@@ -136,7 +137,7 @@ impl<S: Spans, R: Source + Drop> Walk<Revocations<S>, R> {
     }
 
     /// Goes on with what is asked alone, of which just what is held so far is found. The answers
-    /// come with the end of the list.
+    /// come with the end of the list. No comment is kept.
     pub fn ask(self, alloc: Global, questions: Questions<S>) -> Walk<Findings<S>, R>
         requires { FindsIn self.keeper.contents questions }
         ensures reads { (text : List ℕ) (fields : List (List ℕ)) → HasRead text fields self
@@ -268,11 +269,13 @@ impl<T: Store, R: Source + Drop> Walk<T, R> {
         }
     }
 
-    /// What was read, after a step that answered false, and the reader.
+    /// What was read, after a step that answered false, and the reader. The header lacks the
+    /// comment where just some topics are in scope.
     pub fn end(self) -> (Header, T, R)
         requires { self.ended ≡ true }
         ensures whole { (text : List ℕ) → (fields : List (List ℕ)) → HasRead text fields self
-            → IsWholeAs (HoldsWithin (T.scope result.1)) text result.0 (T.contents result.1) }
+            → OfHeader (T.scope result.1) result.0 (λ header.
+            IsWholeAs (HoldsWithin (T.scope result.1)) text header (T.contents result.1)) }
         ensures within { IsWithinLimit (T.scope result.1) (T.contents result.1) }
         ensures scope { T.scope result.1 ≡ self.keeper.scope }
         ensures failed { R.has_failed result.2 ≡ self.pull.failed }

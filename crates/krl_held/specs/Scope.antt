@@ -1,6 +1,6 @@
 -- Which names what is held answers for: all, or those that are asked about.
-use Rattle.std.specs.Prelude.{◌≡◌, ℕ, ◌+◌, ◌-◌, ◌*◌, ◌≤◌, ◌↔◌, List, ◌++◌, take, drop, Option, Some, None}
-use Rattle.std.specs.Prelude.{Contains, length, ⊤}
+use Rattle.std.specs.Prelude.{◌≡◌, ℕ, ◌+◌, ◌-◌, ◌*◌, ◌≤◌, ◌↔◌, List, [], ◌++◌, take, drop}
+use Rattle.std.specs.Prelude.{Option, Some, None, Contains, length, ⊤}
 use Rattle.sha1.specs.Sha1.{sha1}
 use Rattle.sha2.specs.Sha256.{sha256}
 use Rattle.ssh_wire.specs.Wire.{number_of}
@@ -38,6 +38,11 @@ pub record MeansWithin (scope : Scope) (r : Revocations) (entries : List Entry) 
 abbrev pub MeansMoreWithin : Scope → (old new : Revocations) (more : List Entry) → Type 0
 MeansMoreWithin scope old new more =
     (entries : List Entry) → MeansWithin scope old entries → MeansWithin scope new (entries ++ more)
+
+-- What is kept of a list's comment: nothing, where just some topics are in scope.
+abbrev pub kept_comment : Scope → List ℕ → List ℕ
+kept_comment None comment = comment
+kept_comment (Some topics) comment = []
 
 -- ---- how much is held
 

@@ -217,6 +217,10 @@ impl<S: Spans> Store for Findings<S> {
 
     fn leave(&mut self) {}
 
+    fn kept_comment<'a>(&self, _comment: &'a [u8]) -> &'a [u8] {
+        &[]
+    }
+
     fn wants(&self, authority: &[u8], lo: u64, hi: u64) -> bool {
         self.topics.may_have(authority, lo, hi)
     }

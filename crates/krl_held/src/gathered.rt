@@ -115,6 +115,10 @@ impl<S: Spans> Store for Gathered<S> {
         settle(&mut self.rest, &mut self.apart);
     }
 
+    fn kept_comment<'a>(&self, comment: &'a [u8]) -> &'a [u8] {
+        comment
+    }
+
     fn put_serials(&mut self, authority: Option<&[u8]>, near: &[Span]) -> Result<(), AllocError> {
         self.put(bytes_or_none(authority), Addition::Serials(near))
     }

@@ -10,6 +10,7 @@ ghost use Rattle.krl_held.specs.Revocations.{IsStoredWithin, held};
 ghost use Rattle.krl_held.specs.Entry.{IdEntry, KeyEntry, Sha1Entry, Sha256Entry};
 ghost use Rattle.krl_held.specs.Naming.{SerialOf};
 ghost use Rattle.krl_held.specs.Scope.{AreUnwanted, InScope, MeansMoreWithin, WithinScope};
+ghost use Rattle.krl_held.specs.Scope.{kept_comment};
 
 use crate::revocations::Revocations;
 use serial_set::{Span, Spans};
@@ -35,6 +36,10 @@ pub trait Store: Drop {
         ensures contents { contents self.new ≡ contents self.old }
         ensures scope { scope self.new ≡ scope self.old }
         ensures any { (authority : List ℕ) → is_at self.new authority };
+
+    /// What is kept of the list's comment: all or nothing of it.
+    fn kept_comment<'a>(&self, comment: &'a [u8]) -> &'a [u8]
+        ensures { result.now ≡ kept_comment (scope self.now) comment.now };
 
     /// Whether some serial from `lo` to `hi` under this authority may be in scope.
     fn wants(&self, authority: &[u8], lo: u64, hi: u64) -> bool
@@ -134,6 +139,10 @@ impl<S: Spans> Store for Revocations<S> {
     ghost is_at = { λ _ _. ⊤ };
 
     fn leave(&mut self) {}
+
+    fn kept_comment<'a>(&self, comment: &'a [u8]) -> &'a [u8] {
+        comment
+    }
 
     fn wants(&self, _authority: &[u8], _lo: u64, _hi: u64) -> bool {
         true

@@ -12,7 +12,7 @@ use Rattle.krl_core.specs.Entries.{entries_of}
 use Rattle.krl_core.specs.Front.{IsFirstFault}
 use Rattle.krl_held.specs.NamingTests.{is_revoked as is_named}
 use Rattle.krl_held.specs.Questions.{Asks}
-use Rattle.krl_core.specs.Reading.{HoldsWithin, IsList, IsListAs}
+use Rattle.krl_core.specs.Reading.{HoldsWithin, IsList, IsListAs, OfHeader}
 use Rattle.krl_held.specs.Tested.{revokes}
 use Rattle.krl_types.specs.Subject.{Subject}
 use Rattle.krl_held.proofs.NamingTests.{found_tested, meant_tested}
@@ -86,13 +86,14 @@ nothing_first name known files = refl
 -- ---- a list that passed
 
 -- the entries that answer for a list: those of its sections, or of what is held of it
-pub list_entries : {Holds : List ℕ → Revocations → List Entry → Type 0} {Agrees : List Entry → Type 0} (left : Option (List ℕ)) (held : Revocations) (header : Header)
-    → ((text : List ℕ) → left ≡ Some text → IsListAs Holds text header held) → ((text : List ℕ) → left ≡ Some text → IsFirstFault text None)
+pub list_entries : {Holds : List ℕ → Revocations → List Entry → Type 0} {Agrees : List Entry → Type 0} (left : Option (List ℕ)) (held : Revocations)
+    → ((text : List ℕ) → left ≡ Some text → (header : Header) × IsListAs Holds text header held) → ((text : List ℕ) → left ≡ Some text → IsFirstFault text None)
     → Agrees (entries_in held) → ((text : List ℕ) (entries : List Entry) → Holds text held entries → Agrees entries)
     → (entries : List Entry) × ((text : List ℕ) → left ≡ Some text → HasEntries text entries) × Agrees entries
-list_entries None held header list none own agree = (entries_in held, λ text e. absurd (cc), own)
-list_entries (Some text) held header list none own agree =
-    let is = list text refl in
+list_entries None held list none own agree = (entries_in held, λ text e. absurd (cc), own)
+list_entries (Some text) held list none own agree =
+    let header = (list text refl).0 in
+    let is = (list text refl).1 in
     let entries = entries_of is.sections in
     let has : HasEntries text entries = record {
       header = header;
@@ -111,7 +112,7 @@ pub held_list : (left : Option (List ℕ)) (held : Revocations) (header : Header
     → ((text : List ℕ) → left ≡ Some text → IsList text header held) → ((text : List ℕ) → left ≡ Some text → IsFirstFault text None)
     → (entries : List Entry) × ((text : List ℕ) → left ≡ Some text → HasEntries text entries) × ((asked : Subject) → revokes held asked ≡ is_named entries asked)
 held_list left held header orderly list none =
-    list_entries left held header list none (meant_tested held (entries_in held) (means_itself held orderly)) (λ text entries holds. meant_tested held entries holds.means)
+    list_entries left held (λ text e. (header, list text e)) none (meant_tested held (entries_in held) (means_itself held orderly)) (λ text entries holds. meant_tested held entries holds.means)
 
 -- and its run is that of the entries
 pub held_run : (name : List ℕ) (files : List Named) (known : Known) (entries : List Entry) → ((asked : Subject) → revokes known.contents asked ≡ is_named entries asked)
@@ -122,11 +123,11 @@ held_run name files known entries same = ap (λ (items : List Item). Passed name
 -- ---- of which what was asked about is found
 
 -- what was found answers for what was asked about
-pub passed_list : (left : Option (List ℕ)) (topics found : Revocations) (header : Header) → IsOrderly found
-    → ((text : List ℕ) → left ≡ Some text → IsListAs (HoldsWithin (Some topics)) text header found) → ((text : List ℕ) → left ≡ Some text → IsFirstFault text None)
+pub passed_list : (left : Option (List ℕ)) (topics found : Revocations) (kept : Header) → IsOrderly found
+    → ((text : List ℕ) → left ≡ Some text → OfHeader (Some topics) kept (λ header. IsListAs (HoldsWithin (Some topics)) text header found)) → ((text : List ℕ) → left ≡ Some text → IsFirstFault text None)
     → (entries : List Entry) × ((text : List ℕ) → left ≡ Some text → HasEntries text entries) × ((asked : Subject) → Asks topics asked → revokes found asked ≡ is_named entries asked)
-passed_list left topics found header orderly list none =
-    list_entries left found header list none
+passed_list left topics found kept orderly list none =
+    list_entries left found (λ text e. ((list text e).0, (list text e).2)) none
     (found_tested topics found (entries_in found) (means_within (Some topics) found (entries_in found) (means_itself found orderly)))
     (λ text entries holds. found_tested topics found entries holds.means)
 

@@ -12,7 +12,7 @@ returns-in-Ok-read-clause-found c =
     let text = c.args.list.now in
     let read = rw c.in-Ok-read.is at c.read_on-read.ensures in
     let h = c.ask.ensures.reads text [] (c.new-reading.ensures.start text c.new.ensures.bytes) in
-    let list = read.found text [] h in
+    let list = (read.found text [] h).2 in
     (entries_of list.sections, of_list text _ _ list, list.holds.means)
 
 pub returns-in-Err-clause-fault : goal.returns-in-Err-clause-fault

@@ -13,7 +13,7 @@ returns-clause-list c =
     let text = c.args.list.now in
     let h = c.ask.ensures.reads text [] (c.new-reading.ensures.start text c.new.ensures.bytes) in
     elim c.match-read.branch [
-      | in-Ok w ↦ (let list = (rw w.in-Ok.is at c.read_on-read.ensures).found text [] h in rw w.result-is (entries_of list.sections, of_list text _ _ list))
+      | in-Ok w ↦ (let list = ((rw w.in-Ok.is at c.read_on-read.ensures).found text [] h).2 in rw w.result-is (entries_of list.sections, of_list text _ _ list))
       | in-Err w ↦ rw w.result-is tt
     ]
 

@@ -1,13 +1,14 @@
 -- A list is read from its first field on.
 use Rattle.std.proofs.Common.{[], refl}
 use Rattle.krl_core.proofs.Lists.{list_of_all}
+use Rattle.krl_core.proofs.Whole.{of_all}
 use Rattle.krl_core.proofs.SpelledLists.{only_ran_out}
 use Rattle.krl_core.proofs.read.read_krl.Goals as goal
 
 pub returns-in-Ok-clause-found : goal.returns-in-Ok-clause-found
 returns-in-Ok-clause-found g c = λ text e.
     let list = (rw c.in-Ok.is at c.read_on-read.ensures.found) text [] (c.over.ensures.start text e) in
-    rw c.into_held.ensures (list_of_all text c.in-Ok.header c.in-Ok.gathered.contents list)
+    rw c.into_held.ensures (list_of_all text c.in-Ok.header c.in-Ok.gathered.contents (of_all _ c.in-Ok.header list))
 
 pub returns-in-Ok-clause-no_fault : goal.returns-in-Ok-clause-no_fault
 returns-in-Ok-clause-no_fault g c = λ text e. (rw c.in-Ok.is at c.read_on-read.ensures.no_fault) text [] (c.over.ensures.start text e)

@@ -9,8 +9,8 @@ returns g c =
     elim c.match-read.branch [
       | in-Ok w ↦ (λ files before begun.
           let read = rw w.in-Ok.is at c.read_on-read.ensures in
-          let passed = list_entries {Agrees = λ _. Unit {0}} before w.in-Ok.field-0.1.found w.in-Ok.field-0.0
-          (λ text e. let h = begun text e in read.found text h.0 h.1) (λ text e. let h = begun text e in read.no_fault text h.0 h.1) tt (λ text entries holds. tt) in (
+          let passed = list_entries {Agrees = λ _. Unit {0}} before w.in-Ok.field-0.1.found
+          (λ text e. let h = begun text e in let list = read.found text h.0 h.1 in (list.0, list.2)) (λ text e. let h = begun text e in read.no_fault text h.0 h.1) tt (λ text entries holds. tt) in (
             Ok passed.0,
             record { failure = read.failure; read = passed.1 },
             rw (c.whole.ensures, w.cause-is) (asked_ran_out c.args.krl_name.now files passed.0 c.args.run.now.printer),

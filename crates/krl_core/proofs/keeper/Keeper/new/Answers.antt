@@ -1,4 +1,4 @@
-use Rattle.std.proofs.Common.{[], sym, subst, ap, ◌∙◌}
+use Rattle.std.proofs.Common.{ℕ, List, [], sym, subst, ap, ◌∙◌}
 use Rattle.std.specs.Option.{option_to_list}
 use Rattle.serial_set.specs.BitRuns.{BitRuns}
 use Rattle.krl_held.specs.Changes.{run_entries}
@@ -6,6 +6,8 @@ use Rattle.krl_held.specs.Revocations.{Revocations}
 use Rattle.krl_held.specs.Scope.{MeansWithin}
 use Rattle.krl_held.proofs.Same.{same_is}
 use Rattle.krl_held.proofs.Scoped.{nothing_within}
+use Rattle.krl_core.specs.Front.{start}
+use Rattle.krl_core.proofs.Keeping.{kept_start}
 use Rattle.krl_core.proofs.keeper.Keeper.new.Goals as goal
 
 pub returns-clause-kept : goal.returns-clause-kept
@@ -15,6 +17,12 @@ returns-clause-kept g c = record {
   same = same_is (run_entries c.new-2.result.items (option_to_list c.new-3.result.pending)) []
       (ap (λ (b : BitRuns). run_entries c.new-2.result.items (option_to_list b.pending)) c.new-3.ensures);
 }
+
+pub returns-clause-start : goal.returns-clause-start
+returns-clause-start g c = (
+  c.new-2.ensures.items,
+  ap (λ (comment : List ℕ). record start.header { comment = comment }) c.new.ensures.items ∙ kept_start (g.T.Store.scope c.leave.new.self),
+)
 
 pub returns-clause-within : goal.returns-clause-within
 returns-clause-within g c = rw (c.leave.ensures.scope, c.leave.ensures.contents, c.requires.empty) c.requires.within

@@ -1,13 +1,17 @@
-use Rattle.std.proofs.Common.{ap, subst, sym}
+use Rattle.std.proofs.Common.{◌≡◌, ◌∙◌, ap, subst, sym}
 use Rattle.serial_set.specs.BitRuns.{BitRuns}
-use Rattle.krl_core.specs.Keeper.{InStep}
+use Rattle.krl_held.specs.Questions.{asked_in}
+use Rattle.krl_held.specs.Scope.{Scope}
+use Rattle.krl_core.specs.Keeper.{InStep, kept_header}
 use Rattle.krl_core.proofs.Switching.{bounded_found, found_read}
 use Rattle.krl_core.proofs.reading.Walk+Revocations+S+R.ask.Goals as goal
 
 pub returns-clause-reads : goal.returns-clause-reads
 returns-clause-reads g c =
-    rw (← c.self.view_is) (λ text fields h. found_read text fields _ _ h c.ask.ensures.kept
-    (ap (λ k. k.authority) c.ask.ensures.same) (ap (λ k. k.header) c.ask.ensures.same))
+    let same = c.ask.ensures.same in
+    let scope : c.ask.result.scope ≡ asked_in c.args.questions = ap (λ k. k.scope) same in
+    rw (← c.self.view_is) (λ text fields h. found_read text fields _ _ h c.ask.ensures.all c.ask.ensures.kept
+    (ap (λ k. k.authority) same) (ap (λ k. k.header) same ∙ ap (λ (s : Scope). kept_header s c.self.inside.keeper.header) (sym scope)))
 
 pub returns-clause-bounds : goal.returns-clause-bounds
 returns-clause-bounds g c =

@@ -20,7 +20,8 @@ pub returns-in-Ok-false-clause-found : goal.returns-in-Ok-false-clause-found
 returns-in-Ok-false-clause-found g c = λ text fields h.
     let ends = ends_after _ _ _ c.fields.invariant (c.in-Ok-false.ensures.ends c.in-Ok-false.field-0-test) in
     let whole = ends.whole text fields h in
-    list_of_whole _ text _ _ (same_holds_within _ text _) (c.end-header.ensures.whole text _ whole.1)
+    let list = c.end-header.ensures.whole text _ whole.1 in
+    (list.0, list.1, list_of_whole _ text _ _ (same_holds_within _ text _) list.2)
 
 pub returns-in-Ok-false-clause-scope : goal.returns-in-Ok-false-clause-scope
 returns-in-Ok-false-clause-scope g c =
@@ -30,7 +31,7 @@ pub returns-in-Ok-false-clause-no_fault : goal.returns-in-Ok-false-clause-no_fau
 returns-in-Ok-false-clause-no_fault g c = λ text fields h.
     let ends = ends_after _ _ _ c.fields.invariant (c.in-Ok-false.ensures.ends c.in-Ok-false.field-0-test) in
     let whole = ends.whole text fields h in
-    whole_unfaulted _ text _ _ (c.end-header.ensures.whole text _ whole.1)
+    whole_unfaulted _ text _ _ (c.end-header.ensures.whole text _ whole.1).2
 
 pub returns-in-Err-clause-fault : goal.returns-in-Err-clause-fault
 returns-in-Err-clause-fault g c = λ text fields h.
