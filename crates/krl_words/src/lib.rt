@@ -9,3 +9,5 @@ mod usage;
 mod version;
 
 pub use command::{CommandFault, command_of};
+pub use shown::shown_words;
+pub use version::VERSION;

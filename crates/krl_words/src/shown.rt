@@ -13,11 +13,17 @@ const REFUSED: &str = "ssh-keygen: usage 2 Words\n";
 /// so it is given them with their control characters escaped: no word moves the terminal or begins
 /// a line.
 pub fn text_for<S: AsStr>(alloc: Global, words: &[S]) -> Result<String, AllocError> {
+    let shown = shown_words(alloc, words)?;
+    said_of(alloc, shown.as_slice())
+}
+
+/// The words with their control characters escaped.
+pub fn shown_words<S: AsStr>(alloc: Global, words: &[S]) -> Result<Vec<String>, AllocError> {
     let mut shown = Vec::new(alloc);
     for word in words {
         shown.push(shown_word(alloc, word.as_str())?)?;
     }
-    said_of(alloc, shown.as_slice())
+    Ok(shown)
 }
 
 // The library's text for words without control characters.

@@ -1,0 +1,14 @@
+-- The words are read and ask for a task, or are not read.
+use Rattle.std.proofs.Common.{map}
+use Rattle.krl_arguments.proofs.Reading.{asked_for, fails_by, free_by, held_by, not_read}
+use Rattle.krl_arguments.proofs.command.task_of.Goals as goal
+
+pub returns-in-Ok : goal.returns-in-Ok
+returns-in-Ok g c =
+    let words = map g.S.AsStr.text c.args.words.now in
+    asked_for words _ c.asked_for.result (free_by _ words c.in_ok-program.ensures c.in-Ok.ensures.kinds) (held_by _ words c.in-Ok.matches c.in_ok-program.ensures c.in-Ok.ensures.matches) c.asked_for.ensures
+
+pub returns-in-Err : goal.returns-in-Err
+returns-in-Err g c =
+    let words = map g.S.AsStr.text c.args.words.now in
+    not_read words c.in-Err.error c.words_fault.result (fails_by _ words c.in-Err.error c.in_ok-program.ensures c.in-Err.ensures.kinds) c.words_fault.ensures

@@ -1,0 +1,12 @@
+-- Each field is what was found.
+use Rattle.std.proofs.Common.{refl, codes}
+use Rattle.clap.specs.Matches.{found_of}
+use Rattle.krl_arguments.proofs.Reading.{value_by}
+use Rattle.krl_arguments.proofs.tasks.check_with.Goals as goal
+
+pub returns : goal.returns
+returns c =
+    let f = found_of c.args.found.now in
+    let newer_than = value_by f (codes "newer-than") _ c.get_str.ensures in
+    let canary = value_by f (codes "canary") _ c.get_str-2.ensures in
+    rw (c.is_set.ensures, newer_than, canary, c.in_ok-keep.ensures) refl

@@ -1,0 +1,45 @@
+-- Which words ask for which task (krl(1), SYNOPSIS), and the statuses that they end with otherwise.
+use Rattle.std.specs.Prelude.{◌≡◌, ◌≢◌, ◌⊎◌, ℕ, ⊤, Bool, false, List, [], None, Some, Option, Result, Ok, Err}
+use Rattle.clap.specs.Faults.{fault_of}
+use Rattle.clap.specs.Kinds.{IsAmong}
+use Rattle.clap.specs.Values.{kind_of}
+use Rattle.clap.specs.declared.error.Error.{Error}
+use Rattle.clap.specs.declared.error.kind.ErrorKind.{ErrorKind}
+use Rattle.clap.specs.declared.error.kind.ErrorKind.TheVariants.{OutOfMemory}
+use Rattle.krl_words.specs.Command.{is_help, words_status}
+use Rattle.krl_arguments.specs.Options.{program}
+use Rattle.krl_arguments.specs.Task.{Task, task_by, task_of}
+use Rattle.krl_arguments.specs.declared.command.CommandFault.{CommandFault}
+use Rattle.krl_arguments.specs.declared.command.CommandFault.TheVariants.{Words, NoMemory}
+use Rattle.krl_arguments.specs.declared.task.Task.{Task as TaskOf}
+
+abbrev pub command_fault_status : CommandFault → ℕ
+command_fault_status (Words help text) = words_status help
+command_fault_status NoMemory = 255
+
+-- What words that are read ask for: this task, or none, since the options do not go together.
+abbrev pub AsksFor : Option Task → Result TaskOf CommandFault → Type 0
+AsksFor asked (Ok task) = asked ≡ Some (task_by task)
+AsksFor asked (Err (Words help text)) = (asked ≡ None) × (help ≡ false)
+AsksFor asked (Err NoMemory) = ⊤
+
+-- why words are not read
+abbrev pub ReportsError : Error → CommandFault → Type 0
+ReportsError error (Words help text) =
+    (kind_of error ≢ OutOfMemory) × (help ≡ is_help (kind_of error))
+ReportsError error NoMemory = ⊤
+
+-- The words are not read, for a fault of this kind.
+abbrev pub IsRefused : List (List ℕ) → Bool → Type 0
+IsRefused words help =
+    (kind : ErrorKind) × IsAmong kind (fault_of program words) × (help ≡ is_help kind)
+
+-- What comes of the words, the program's name before them: where they are read, the task that they
+-- ask for; otherwise help, or why they are refused.
+abbrev pub IsCommand : List (List ℕ) → Result TaskOf CommandFault → Type 0
+IsCommand words (Ok task) =
+    (fault_of program words ≡ []) × (task_of words ≡ Some (task_by task))
+IsCommand words (Err (Words help text)) =
+    ((fault_of program words ≡ []) × ((task_of words ≡ None) × (help ≡ false)))
+    ⊎ IsRefused words help
+IsCommand words (Err NoMemory) = ⊤

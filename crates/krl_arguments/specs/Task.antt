@@ -1,0 +1,122 @@
+-- What words ask for (krl(1), SYNOPSIS).
+use Rattle.std.specs.Prelude.{ℕ, ◌&&◌, Bool, false, not, List, [], codes, is_some, map, Option, Some, None, option_and_then, option_map, unwrap_or, if◌then◌else◌}
+use Rattle.std.specs.Option.{option_map_or}
+use Rattle.std.specs.Str.{bytes_eq}
+use Rattle.clap.specs.Simple.{subcommand_of}
+use Rattle.clap.specs.Walk.{Row, all_of, first_of, is_empty}
+use Rattle.krl_arguments.specs.Options.{program}
+use Rattle.krl_arguments.specs.declared.task.Audit.{Audit as AuditOf}
+use Rattle.krl_arguments.specs.declared.task.Check.{Check as CheckOf}
+use Rattle.krl_arguments.specs.declared.task.Task.{Task as TaskOf}
+use Rattle.krl_arguments.specs.declared.task.Task.TheVariants as tasks
+
+-- an audit: the list, whether -a, -q and --json are given, the file of names, and the files
+pub record Audit : Type 0 where
+  pub list : List ℕ
+  pub all : Bool
+  pub quiet : Bool
+  pub json : Bool
+  pub names_from : Option (List ℕ)
+  pub files : List (List ℕ)
+
+-- a check: the list, what it must meet, and whether its version alone is printed
+pub record Check : Type 0 where
+  pub list : List ℕ
+  pub newer_than : Option (List ℕ)
+  pub keep : List (List ℕ)
+  pub canary : Option (List ℕ)
+  pub print_version : Bool
+
+pub data Task : Type 0 where
+  AuditTask : Audit → Task
+  CheckTask : Check → Task
+
+-- ---- what words hold
+
+abbrev pub is_set : List ℕ → List Row → Bool
+is_set id rows = option_map_or (λ text. bytes_eq text (codes "true")) (first_of id rows) false
+
+abbrev pub values_of : List ℕ → List Row → List (List ℕ)
+values_of id rows = unwrap_or (all_of id rows) []
+
+abbrev pub audit_with : List Row → List ℕ → Audit
+audit_with rows list = record {
+  list = list;
+  all = is_set (codes "all") rows;
+  quiet = is_set (codes "quiet") rows;
+  json = is_set (codes "json") rows;
+  names_from = first_of (codes "files0-from") rows;
+  files = values_of (codes "files") rows;
+}
+
+-- The audit, where a file, a directory or a file of names is given.
+abbrev pub if_any : Audit → Option Audit
+if_any audit =
+    if not (is_some audit.names_from) && is_empty audit.files then None else Some audit
+
+abbrev pub audit_of : List Row → Option Audit
+audit_of rows =
+    option_and_then (λ list. if_any (audit_with rows list)) (first_of (codes "list") rows)
+
+abbrev pub check_with : List Row → List ℕ → Check
+check_with rows list = record {
+  list = list;
+  newer_than = first_of (codes "newer-than") rows;
+  keep = values_of (codes "keep") rows;
+  canary = first_of (codes "canary") rows;
+  print_version = is_set (codes "print-version") rows;
+}
+
+-- nothing is to be met
+abbrev pub has_only_version : Check → Bool
+has_only_version check =
+    not (is_some check.newer_than) && (is_empty check.keep && not (is_some check.canary))
+
+-- The check, where the version is not asked for together with what the list must meet.
+abbrev pub if_alone : Check → Option Check
+if_alone check =
+    if check.print_version && not (has_only_version check) then None else Some check
+
+abbrev pub check_of : List Row → Option Check
+check_of rows =
+    option_and_then (λ list. if_alone (check_with rows list)) (first_of (codes "list") rows)
+
+-- the task of the subcommand of this name
+abbrev pub named_task : List ℕ → List Row → Option Task
+named_task name rows =
+    if bytes_eq name (codes "audit") then option_map AuditTask (audit_of rows)
+    else if bytes_eq name (codes "check") then option_map CheckTask (check_of rows)
+    else None
+
+abbrev pub task_in : Option (List ℕ × List Row) → Option Task
+task_in None = None
+task_in (Some (name, rows)) = named_task name rows
+
+-- what these words ask for, the program's name before them
+unfoldable pub task_of : List (List ℕ) → Option Task
+task_of words = task_in (subcommand_of program words)
+
+-- ---- the same, as the program keeps it
+
+abbrev pub audit_by : AuditOf → Audit
+audit_by audit = record {
+  list = audit.list.now;
+  all = audit.all;
+  quiet = audit.quiet;
+  json = audit.json;
+  names_from = option_map (λ text. text.now) audit.names_from;
+  files = map (λ name. name.now) audit.files.items;
+}
+
+abbrev pub check_by : CheckOf → Check
+check_by check = record {
+  list = check.list.now;
+  newer_than = option_map (λ text. text.now) check.newer_than;
+  keep = map (λ name. name.now) check.keep.items;
+  canary = option_map (λ text. text.now) check.canary;
+  print_version = check.print_version;
+}
+
+abbrev pub task_by : TaskOf → Task
+task_by (tasks.Audit audit) = AuditTask (audit_by audit)
+task_by (tasks.Check check) = CheckTask (check_by check)

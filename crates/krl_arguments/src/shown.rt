@@ -1,0 +1,46 @@
+//! What is said of words that are refused.
+
+use crate::options::program;
+use clap::ArgMatches;
+use clap::error::ErrorKind;
+use krl_words::shown_words;
+use std::alloc::{AllocError, Global};
+use std::convert::AsStr;
+
+// What is said of words that are read once they are escaped.
+const REFUSED: &str = "krl: words that are read once they are escaped\n";
+// What is said of options of `krl audit` that do not go together.
+const NOTHING_TO_AUDIT: &str = "error: a file, a directory or --files0-from is needed
+
+Usage: krl audit -f <krl> [-aq] [--json] [--files0-from <file>] [file|directory]...
+
+For more information, try '--help'.
+";
+// What is said of options of `krl check` that do not go together.
+const VERSION_ALONE: &str = "error: --print-version goes with no other option
+
+Usage: krl check --print-version <krl>
+
+For more information, try '--help'.
+";
+
+/// The library's text for these words, its help or the version. It repeats words as they are given,
+/// so it is given them with their control characters escaped: no word moves the terminal or begins
+/// a line.
+pub fn text_for<S: AsStr>(alloc: Global, words: &[S]) -> Result<String, AllocError> {
+    let shown = shown_words(alloc, words)?;
+    match program(alloc)?.try_get_matches_from(shown.as_slice()) {
+        Ok(_matches) => String::from_str(alloc, REFUSED),
+        Err(error) if error.kind() == ErrorKind::OutOfMemory => Err(AllocError),
+        Err(error) => error.to_string(alloc),
+    }
+}
+
+/// What is said of options that do not go together.
+pub fn text_of_misuse(alloc: Global, matches: &ArgMatches<'_>) -> Result<String, AllocError> {
+    let text = match matches.subcommand_name() {
+        Some("check") => VERSION_ALONE,
+        _ => NOTHING_TO_AUDIT,
+    };
+    String::from_str(alloc, text)
+}

@@ -1,0 +1,155 @@
+//! The task of words that are read.
+
+ghost use Rattle.std.specs.Prelude.{◌≡◌, IfOk, [], map, option_map, unwrap_or};
+ghost use Rattle.clap.specs.Matches.{found_of};
+ghost use Rattle.clap.specs.Simple.{subcommand_rows_of};
+ghost use Rattle.clap.specs.Walk.{all_of, rows_of};
+ghost use Rattle.krl_arguments.specs.Task.{audit_by, audit_of, audit_with, check_by, check_of, check_with, has_only_version, if_alone, if_any, is_set, named_task, task_by, task_in};
+
+use crate::task::{Audit, Check, Task};
+use clap::ArgMatches;
+use std::alloc::{AllocError, Global};
+
+/// The task of these matches, or `None` where the options do not go together.
+pub fn task_in<'a>(alloc: Global, matches: &ArgMatches<'a>) -> Result<Option<Task<'a>>, AllocError>
+    ensures { IfOk result (λ task.
+        option_map task_by task ≡ task_in (subcommand_rows_of matches.now)) }
+{
+    match matches.subcommand() {
+        Some((name, found)) => named_task(alloc, name, found),
+        None => Ok(None),
+    }
+}
+
+// The task of a subcommand of this name.
+fn named_task<'a>(
+    alloc: Global,
+    name: &str,
+    found: &ArgMatches<'a>,
+) -> Result<Option<Task<'a>>, AllocError>
+    ensures { IfOk result (λ task.
+        option_map task_by task ≡ named_task name.now (rows_of (found_of found.now))) }
+{
+    if name == "audit" {
+        return Ok(audit_in(alloc, found)?.map(Task::Audit));
+    }
+    if name == "check" {
+        return Ok(check_in(alloc, found)?.map(Task::Check));
+    }
+    Ok(None)
+}
+
+// What is to be audited.
+fn audit_in<'a>(alloc: Global, found: &ArgMatches<'a>) -> Result<Option<Audit<'a>>, AllocError>
+    ensures { IfOk result (λ audit.
+        option_map audit_by audit ≡ audit_of (rows_of (found_of found.now))) }
+{
+    match found.get_str("list") {
+        Some(list) => Ok(if_any(audit_with(alloc, found, list)?)),
+        None => Ok(None),
+    }
+}
+
+// The audit by this list.
+fn audit_with<'a>(
+    alloc: Global,
+    found: &ArgMatches<'a>,
+    list: &'a str,
+) -> Result<Audit<'a>, AllocError>
+    ensures { IfOk result (λ audit.
+        audit_by audit ≡ audit_with (rows_of (found_of found.now)) list.now) }
+{
+    let files = values_in(alloc, found, "files")?;
+    Ok(Audit {
+        list,
+        all: is_set(found, "all"),
+        quiet: is_set(found, "quiet"),
+        json: is_set(found, "json"),
+        names_from: found.get_str("files0-from"),
+        files,
+    })
+}
+
+// The audit, where a file, a directory or a file of names is given.
+fn if_any(audit: Audit<'_>) -> Option<Audit<'_>>
+    ensures { option_map audit_by result ≡ if_any (audit_by audit.entry) }
+{
+    if audit.names_from.is_none() && audit.files.is_empty() {
+        None
+    } else {
+        Some(audit)
+    }
+}
+
+// What is to be checked.
+fn check_in<'a>(alloc: Global, found: &ArgMatches<'a>) -> Result<Option<Check<'a>>, AllocError>
+    ensures { IfOk result (λ check.
+        option_map check_by check ≡ check_of (rows_of (found_of found.now))) }
+{
+    match found.get_str("list") {
+        Some(list) => Ok(if_alone(check_with(alloc, found, list)?)),
+        None => Ok(None),
+    }
+}
+
+// The check of this list.
+fn check_with<'a>(
+    alloc: Global,
+    found: &ArgMatches<'a>,
+    list: &'a str,
+) -> Result<Check<'a>, AllocError>
+    ensures { IfOk result (λ check.
+        check_by check ≡ check_with (rows_of (found_of found.now)) list.now) }
+{
+    let keep = values_in(alloc, found, "keep")?;
+    Ok(Check {
+        list,
+        newer_than: found.get_str("newer-than"),
+        keep,
+        canary: found.get_str("canary"),
+        print_version: is_set(found, "print-version"),
+    })
+}
+
+// The check, unless the version is asked for together with what the list must meet.
+fn if_alone(check: Check<'_>) -> Option<Check<'_>>
+    ensures { option_map check_by result ≡ if_alone (check_by check.entry) }
+{
+    if check.print_version && !has_only_version(&check) {
+        None
+    } else {
+        Some(check)
+    }
+}
+
+// Whether nothing is to be met.
+fn has_only_version(check: &Check<'_>) -> bool
+    ensures { result ≡ has_only_version (check_by check.now) }
+{
+    check.newer_than.is_none() && check.keep.is_empty() && check.canary.is_none()
+}
+
+// Whether an option without a value is given.
+fn is_set(found: &ArgMatches<'_>, id: &str) -> bool
+    ensures { result ≡ is_set id.now (rows_of (found_of found.now)) }
+{
+    match found.get_str(id) {
+        Some(text) => text == "true",
+        None => false,
+    }
+}
+
+// The values of an option that may be given more than once, or the words by themselves.
+fn values_in<'a>(
+    alloc: Global,
+    found: &ArgMatches<'a>,
+    id: &str,
+) -> Result<Vec<&'a str>, AllocError>
+    ensures { IfOk result (λ values. map (λ value. value.now) values.items
+        ≡ unwrap_or (all_of id.now (rows_of (found_of found.now))) []) }
+{
+    match found.get_strs(id) {
+        Some(values) => Vec::from_slice(alloc, values),
+        None => Ok(Vec::new(alloc)),
+    }
+}

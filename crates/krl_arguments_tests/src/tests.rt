@@ -1,0 +1,4 @@
+//! Which words ask for which task.
+
+mod page;
+mod words;

@@ -1,0 +1,23 @@
+//! The caller of the page of `krl_arguments`.
+
+use krl_arguments::{CommandFault, Task, task_of};
+use std::alloc::Global;
+
+/// The list of the task that words ask for, the program's name before them.
+fn list_of<'a>(alloc: Global, words: &'a [&'a str]) -> Result<&'a str, CommandFault> {
+    match task_of(alloc, words)? {
+        Task::Audit(audit) => Ok(audit.list),
+        Task::Check(check) => Ok(check.list),
+    }
+}
+
+#[test]
+fn words_have_a_list(rt: HostRuntime) {
+    let words = ["krl", "audit", "-f", "r.krl", "/etc/ssh"];
+    let list = list_of(rt.alloc(), &words).expect(&rt, "the words ask for an audit");
+    assert!(rt; list == "r.krl");
+    let none = list_of(rt.alloc(), &["krl", "audit", "-f"])
+        .err()
+        .expect(&rt, "the list is missing");
+    assert!(rt; none.status() == 2);
+}
