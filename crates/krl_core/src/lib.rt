@@ -13,6 +13,9 @@ mod reading;
 pub use header::{Header, MAGIC};
 pub use krl_held::{Authorities, Findings, Listed, Questions, Revocations, Store, Texts};
 pub use krl_types::KrlFault;
-pub use place::Place;
+pub use place::{
+    BitmapPlace, CertificatesPlace, ExtensionPlace, HeaderPlace, ItemKind, ListPlace, Place,
+    SerialsPlace, SignaturePlace,
+};
 pub use read::read_krl;
 pub use reading::{LIMIT, Reading, Walk};

@@ -1,0 +1,124 @@
+-- The fields of a list by which OpenSSH refuses it, or reads other names.
+use Rattle.std.specs.Prelude.{ℕ, ◌-◌, ◌%◌, ◌==◌, ◌&&◌, ◌||◌, nat_le, nat_lt, not, if◌then◌else◌, Bool, true, false, List, [], ◌∷◌, codes, length, take, Option, Some, None, Result, Ok, Err}
+use Rattle.std.specs.List.{list_any}
+use Rattle.ssh_wire.specs.Wire.{number_of}
+use Rattle.ssh_key.specs.Key.{PublicKey}
+use Rattle.ssh_key.specs.KeyReading.{key_at}
+use Rattle.ssh_key.specs.declared.fault.KeyFault.{KeyFault}
+use Rattle.ssh_key.specs.declared.kind.Kind.{Kind}
+use Rattle.ssh_key.specs.declared.kind.Kind.TheVariants as keys
+use Rattle.krl_types.specs.declared.krl_fault.KrlFault.{KrlFault}
+use Rattle.krl_core.specs.Place.{expected}
+use Rattle.krl_core.specs.declared.place.Place.{Place}
+use Rattle.krl_core.specs.declared.place.Place.TheVariants as places
+use Rattle.krl_core.specs.declared.place.bitmap.BitmapPlace.TheVariants as bitmaps
+use Rattle.krl_core.specs.declared.place.certificates.CertificatesPlace.{CertificatesPlace}
+use Rattle.krl_core.specs.declared.place.certificates.CertificatesPlace.TheVariants as certificates
+use Rattle.krl_core.specs.declared.place.header.HeaderPlace.TheVariants as headers
+use Rattle.krl_core.specs.declared.place.list.ItemKind.TheVariants as kinds
+use Rattle.krl_core.specs.declared.place.list.ListPlace.TheVariants as lists
+use Rattle.krl_core.specs.declared.place.serials.SerialsPlace.{SerialsPlace}
+use Rattle.krl_core.specs.declared.place.serials.SerialsPlace.TheVariants as serials
+use Rattle.krl_openssh.specs.declared.difference.Difference.{Difference}
+use Rattle.krl_openssh.specs.declared.difference.Difference.TheVariants as differences
+
+abbrev pub difference_words : Difference → List ℕ
+difference_words differences.Comment = codes "its comment has a zero byte"
+difference_words differences.KeyId = codes "a key ID has a zero byte"
+difference_words differences.SerialZero = codes "it names serial number 0"
+difference_words differences.LongBitmap = codes "a bitmap has more than 2,048 bytes"
+difference_words differences.Authority = codes "a CA is no key, or a key in another spelling"
+difference_words differences.KeySize = codes "the key of a CA is too short or too long"
+difference_words differences.Extension = codes "it has an extension"
+difference_words differences.Signature = codes "it has a signature"
+
+-- ---- one field
+
+abbrev pub found_if : Bool → Difference → Option Difference
+found_if true difference = Some difference
+found_if false difference = None
+
+abbrev pub has_zero : List ℕ → Bool
+has_zero text = list_any (λ byte. byte == 0) text
+
+-- OpenSSH drops a zero byte that stands last, and refuses any other.
+abbrev pub comment_difference : List ℕ → Option Difference
+comment_difference comment =
+    found_if (has_zero (take (length comment - 1) comment)) differences.Comment
+
+abbrev pub section_difference : ℕ → Option Difference
+section_difference type_byte =
+    if type_byte == 4 then Some differences.Signature
+    else if type_byte == 255 then Some differences.Extension else None
+
+-- whether OpenSSH takes a key of this kind and size
+abbrev pub size_fits : Kind → ℕ → Bool
+size_fits keys.Rsa bits = nat_le 1024 bits && nat_le bits 16384
+size_fits keys.Dsa bits = nat_le bits 16384
+size_fits _ bits = true
+
+abbrev pub key_difference : Result PublicKey KeyFault → Option Difference
+key_difference (Ok key) = found_if (not (size_fits key.kind key.bits)) differences.KeySize
+key_difference (Err fault) = Some differences.Authority
+
+-- An authority is no bytes, for all authorities, or a key.
+abbrev pub authority_difference : List ℕ → Option Difference
+authority_difference [] = None
+authority_difference (byte ∷ bytes) = key_difference (key_at (byte ∷ bytes))
+
+abbrev pub certificates_difference : CertificatesPlace → List ℕ → Option Difference
+certificates_difference (certificates.Authority size after) field = authority_difference field
+certificates_difference (certificates.SubsectionType left) field =
+    found_if (number_of field == 0x39) differences.Extension
+certificates_difference _ field = None
+
+abbrev pub serials_difference : SerialsPlace → List ℕ → Option Difference
+serials_difference (serials.Serial left after) field =
+    found_if (number_of field == 0) differences.SerialZero
+serials_difference (serials.RangeMin after) field =
+    found_if (number_of field == 0) differences.SerialZero
+serials_difference _ field = None
+
+-- Of a bitmap's bytes, 2,048 are read, beside a first byte that is zero.
+abbrev pub is_long : (size left byte : ℕ) → Bool
+is_long size left byte =
+    (left == size) && (nat_lt 2049 size || ((size == 2049) && not (byte == 0)))
+
+-- The lowest bit of the last byte stands for the offset.
+abbrev pub names_zero : (offset left byte : ℕ) → Bool
+names_zero offset left byte = ((offset == 0) && (left == 1)) && (byte % 2 == 1)
+
+-- a byte of a bitmap, of whose `size` bytes `left` remain, this one too
+abbrev pub bits_difference : (offset size left byte : ℕ) → Option Difference
+bits_difference offset size left byte =
+    if is_long size left byte then Some differences.LongBitmap
+    else found_if (names_zero offset left byte) differences.SerialZero
+
+-- a whole field at a place
+abbrev pub difference_at : Place → List ℕ → Option Difference
+difference_at (places.Header (headers.Comment size)) field = comment_difference field
+difference_at (places.SectionType signed) field = section_difference (number_of field)
+difference_at (places.Certificates at) field = certificates_difference at field
+difference_at (places.Serials at) field = serials_difference at field
+difference_at (places.Bitmap (bitmaps.Byte offset size left after)) field =
+    bits_difference offset size left (number_of field)
+difference_at (places.List (lists.Item kinds.Id size left after)) field =
+    found_if (has_zero field) differences.KeyId
+difference_at _ field = None
+
+-- ---- all fields
+
+abbrev pub or_later : Option Difference → Option Difference → Option Difference
+or_later (Some difference) later = Some difference
+or_later None later = later
+
+abbrev pub place_or : Place → Result Place KrlFault → Place
+place_or other (Ok next) = next
+place_or other (Err fault) = other
+
+-- the first one of a row of fields, of which the first is at this place
+abbrev pub first_difference : Place → List (List ℕ) → Option Difference
+first_difference place [] = None
+first_difference place (field ∷ fields) =
+    or_later (difference_at place field)
+    (first_difference (place_or place ((expected place).judged field)) fields)

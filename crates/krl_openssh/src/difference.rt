@@ -1,0 +1,187 @@
+//! The fields of a list by which OpenSSH refuses it, or reads other names.
+
+ghost use Rattle.std.specs.Prelude.{◌≡◌, length};
+ghost use Rattle.krl_core.specs.Place.{certificates_expected, expected, serials_expected};
+ghost use Rattle.krl_openssh.specs.Difference.{authority_difference, bits_difference, certificates_difference, comment_difference, difference_at, difference_words, found_if, has_zero, is_long, names_zero, section_difference, serials_difference, size_fits};
+
+use krl_core::{
+    BitmapPlace, CertificatesPlace, HeaderPlace, ItemKind, ListPlace, Place, SerialsPlace,
+};
+use krl_held::{byte_of, u64_of};
+use ssh_key::{Kind, read_key};
+
+/// Why OpenSSH refuses a list, or reads other names from it.
+#[derive(Clone, Copy, PartialEq, Eq)]
+pub enum Difference {
+    /// The comment has a zero byte before its last byte.
+    Comment,
+    /// A key ID has a zero byte. OpenSSH drops one that stands last, and refuses any other.
+    KeyId,
+    /// Serial number 0 is named.
+    SerialZero,
+    /// A bitmap has more than 2,048 bytes; a first byte that is zero does not count.
+    LongBitmap,
+    /// A certificate authority is no key in its one spelling.
+    Authority,
+    /// A certificate authority is an RSA key of fewer than 1,024 bits, or an RSA or DSA key of more
+    /// than 16,384.
+    KeySize,
+    /// There is an extension.
+    Extension,
+    /// There is a signature.
+    Signature,
+}
+
+impl Difference {
+    /// The words for people.
+    pub fn words(self) -> &'static str
+        ensures { result.now ≡ difference_words self }
+    {
+        match self {
+            Difference::Comment => "its comment has a zero byte",
+            Difference::KeyId => "a key ID has a zero byte",
+            Difference::SerialZero => "it names serial number 0",
+            Difference::LongBitmap => "a bitmap has more than 2,048 bytes",
+            Difference::Authority => "a CA is no key, or a key in another spelling",
+            Difference::KeySize => "the key of a CA is too short or too long",
+            Difference::Extension => "it has an extension",
+            Difference::Signature => "it has a signature",
+        }
+    }
+}
+
+/// Why OpenSSH does not take the whole field at a place as this project does, if so.
+pub(crate) fn difference_at(place: Place, field: &[u8]) -> Option<Difference>
+    requires { length field.now ≡ (expected place).size }
+    ensures { result ≡ difference_at place field.now }
+{
+    match place {
+        Place::Header(HeaderPlace::Comment { .. }) => comment_difference(field),
+        Place::SectionType { .. } => section_difference(byte_of(field)),
+        Place::Certificates(at) => certificates_difference(at, field),
+        Place::Serials(at) => serials_difference(at, field),
+        Place::Bitmap(
+            BitmapPlace::Byte {
+                offset,
+                size,
+                left,
+                ..
+            },
+        ) => bits_difference(offset, size, left, byte_of(field)),
+        Place::List(
+            ListPlace::Item {
+                kind: ItemKind::Id,
+                ..
+            },
+        ) => { found_if(has_zero(field), Difference::KeyId) }
+        _ => None,
+    }
+}
+
+// The difference, where it is found.
+fn found_if(found: bool, difference: Difference) -> Option<Difference>
+    ensures { result ≡ found_if found difference }
+{
+    if found { Some(difference) } else { None }
+}
+
+// Of a comment. OpenSSH drops a zero byte that stands last.
+fn comment_difference(comment: &[u8]) -> Option<Difference>
+    ensures { result ≡ comment_difference comment.now }
+{
+    let front = &comment[..comment.len().saturating_sub(1)];
+    found_if(has_zero(front), Difference::Comment)
+}
+
+// Whether a text has a zero byte.
+fn has_zero(text: &[u8]) -> bool
+    ensures { result ≡ has_zero text.now }
+{
+    text.contains(&0)
+}
+
+// Of the type of a section.
+fn section_difference(type_byte: u8) -> Option<Difference>
+    ensures { result ≡ section_difference type_byte }
+{
+    match type_byte {
+        4 => Some(Difference::Signature),
+        255 => Some(Difference::Extension),
+        _ => None,
+    }
+}
+
+// Of a field of a section of certificates.
+fn certificates_difference(at: CertificatesPlace, field: &[u8]) -> Option<Difference>
+    requires { length field.now ≡ (certificates_expected at).size }
+    ensures { result ≡ certificates_difference at field.now }
+{
+    match at {
+        CertificatesPlace::Authority { .. } => authority_difference(field),
+        CertificatesPlace::SubsectionType { .. } => {
+            found_if(byte_of(field) == 0x39, Difference::Extension)
+        }
+        _ => None,
+    }
+}
+
+// Of an authority: no bytes, for all authorities, or a key that OpenSSH takes.
+fn authority_difference(authority: &[u8]) -> Option<Difference>
+    ensures { result ≡ authority_difference authority.now }
+{
+    if authority.is_empty() {
+        return None;
+    }
+    match read_key(authority) {
+        Ok(key) => found_if(!size_fits(key.kind(), key.bits()), Difference::KeySize),
+        Err(_) => Some(Difference::Authority),
+    }
+}
+
+// Whether OpenSSH takes a key of this kind and size.
+fn size_fits(kind: Kind, bits: u32) -> bool
+    ensures { result ≡ size_fits kind bits }
+{
+    match kind {
+        Kind::Rsa => bits >= 1_024 && bits <= 16_384,
+        Kind::Dsa => bits <= 16_384,
+        _ => true,
+    }
+}
+
+// Of a serial number, or the first one of a range.
+fn serials_difference(at: SerialsPlace, field: &[u8]) -> Option<Difference>
+    requires { length field.now ≡ (serials_expected at).size }
+    ensures { result ≡ serials_difference at field.now }
+{
+    match at {
+        SerialsPlace::Serial { .. } | SerialsPlace::RangeMin { .. } => {
+            found_if(u64_of(field) == 0, Difference::SerialZero)
+        }
+        _ => None,
+    }
+}
+
+// Of a byte of a bitmap, of whose `size` bytes `left` remain, this one too.
+fn bits_difference(offset: u64, size: u32, left: u32, byte: u8) -> Option<Difference>
+    ensures { result ≡ bits_difference offset size left byte }
+{
+    if is_long(size, left, byte) {
+        return Some(Difference::LongBitmap);
+    }
+    found_if(names_zero(offset, left, byte), Difference::SerialZero)
+}
+
+// Whether this is the first byte of a bitmap that is too long for OpenSSH.
+fn is_long(size: u32, left: u32, byte: u8) -> bool
+    ensures { result ≡ is_long size left byte }
+{
+    left == size && (size > 2_049 || (size == 2_049 && byte != 0))
+}
+
+// Whether the lowest bit of the byte is set and stands for serial number 0.
+fn names_zero(offset: u64, left: u32, byte: u8) -> bool
+    ensures { result ≡ names_zero offset left byte }
+{
+    offset == 0 && left == 1 && byte % 2 == 1
+}
