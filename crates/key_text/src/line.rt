@@ -68,9 +68,10 @@ fn read_content<'a>(alloc: Global, text: &'a [u8]) -> Result<Line<'a>, LineFault
     read_blob(alloc, word, after_blanks(rest))
 }
 
-// The line from its type word on, if it has one.
+/// The line from its type name on, if it has one: an options field or host names may be before it.
+/// No blank is at the front of the line.
 #[tactic(auto, unfolding(crate::specs::LineReading::key_part, crate::specs::LineReading::typed))]
-fn key_part(line: &[u8]) -> Option<&[u8]>
+pub fn key_part(line: &[u8]) -> Option<&[u8]>
     ensures { option_map (λ part. part.now) result ≡ key_part line.now }
 {
     if begins_with_name(line) {
