@@ -1,0 +1,154 @@
+# A plain file of public keys as RevokedKeys of a real sshd: whom it refuses for each form of a line. The table of
+# docs/FORMATS.md states the rules.
+
+if ! need sshd openssh-server; then
+  echo '# plain_lists is skipped: sshd is missing, and could not be installed'
+  return
+fi
+. "$tests/lib/sshd/serving.sh"
+for name in one ca-a user; do made_key $name ed25519; done
+for name in two ca-b; do made_key $name ecdsa; done
+made_key rsa rsa
+# Certificates of the key user, which is let in by them alone, and one whose key is an authority's.
+for name in a5 a6 b5; do
+  "$openssh" -q -s "$room/ca-${name:0:1}" -I "id of $name" -z "${name:1}" -n "$user" "$room/user.pub"
+  mv "$room/user-cert.pub" "$room/$name.pub"
+done
+"$openssh" -q -s "$room/ca-b" -I 'an authority' "$room/ca-a.pub"
+"$openssh" -q -s "$room/ca-b" -I 'an old one' -V 20010101:20010102 "$room/one.pub"
+mv "$room/one-cert.pub" "$room/old.pub"
+cat "$room/ca-a.pub" "$room/ca-b.pub" >"$room/authorities"
+# The keys of devices have no private halves here: sshd is only asked whether it would accept them.
+{ read -r ecdsa_sk && read -r ed25519_sk; } <"$tests/lib/device_keys"
+echo "$ecdsa_sk" >"$room/ecdsa-sk.pub"
+echo "$ed25519_sk" >"$room/ed25519-sk.pub"
+cat "$room"/{one,two,rsa,ecdsa-sk,ed25519-sk}.pub >"$room/allowed"
+configure "TrustedUserCAKeys $room/authorities" "RevokedKeys $room/revoked"
+serve
+
+# accepts NAME: whether sshd would accept a signature of this key.
+accepts() {
+  timeout 20 ssh -v -F none -p "$port" -o IdentitiesOnly=yes -o IdentityAgent=none -o BatchMode=yes \
+    -o StrictHostKeyChecking=no -o UserKnownHostsFile=/dev/null -i "$room/$1.pub" "$user@127.0.0.1" true \
+    2>&1 </dev/null | grep -q 'Server accepts key'
+}
+
+# verdict NAME: whether this key gets in, or which reason sshd logs.
+verdict() {
+  local before way=enters
+  before=$(wc -l <"$room/log")
+  [[ $1 != *-sk ]] || way=accepts
+  if $way "$1"; then
+    echo in
+  else
+    tail -n +$((before + 1)) "$room/log" |
+      sed -n 's/.*revoked by file.*/revoked/p; s/.*Error checking .*/fault/p' | head -n 1
+  fi
+}
+
+# plain NAME WANTED FORMAT [WORD..]: the list that printf writes. WANTED has an answer for each key.
+plain() {
+  local name=$1 wanted=$2 it got=
+  shift 2
+  printf "$@" >"$room/revoked"
+  for it in $wanted; do got+=" ${it%=*}=$(verdict "${it%=*}")"; done
+  judge "$name" "$(differs 'the answers' "$wanted" "${got:1}")"
+}
+key() {
+  cut -d ' ' -f 1,2 "$room/$1.pub"
+}
+one=$(key one) two=$(key two) word=${one#* }
+nobody='one=in two=in' first='one=revoked two=in' all='one=fault two=fault'
+
+# Lines without a key, and how lines begin and end.
+plain 'an empty file' "$nobody" ''
+plain 'a line feed' "$nobody" '\n'
+plain 'a comment without a line feed' "$nobody" '# a comment'
+plain 'a key' "$first" '%s\n' "$one"
+plain 'a key without a line feed' "$first" '%s' "$one"
+plain 'two keys, the last without a line feed' 'one=revoked two=revoked rsa=in' '%s\n%s' "$one" "$two"
+plain 'blank lines, comments, a key' "$first" '# c\n\n  \n\t\n \t # c\n%s\n' "$one"
+plain 'blanks before a key and tabs in it' "$first" ' \tssh-ed25519\t\t%s\tcomment\n' "$word"
+plain 'a key and CR LF' "$first" '# c\r\n%s\r\n' "$one"
+plain 'a comment of a key and CR LF' "$first" '%s comment\r\n' "$one"
+plain 'an empty line of CR LF' "$all" '\r\n'
+plain 'a line of a blank and CR LF' "$all" ' \r\n'
+plain 'a key and an empty line of CR LF' 'one=revoked two=fault' '%s\r\n\r\n' "$one"
+plain 'CR alone between lines' "$all" '%s\r%s\r' "$one" "$two"
+plain 'CR and VT within base64' "$first" 'ssh-ed25519 %s\r%s\v%s\n' "${word:0:20}" "${word:20:20}" "${word:40}"
+plain 'VT before a key' "$all" '\v%s\n' "$one"
+plain 'a byte order mark before a comment' "$all" '\xef\xbb\xbf# c\n'
+plain 'a long comment' "$first" '%s %s\n' "$one" "$(head -c 300000 /dev/zero | tr '\0' x)"
+plain 'a long comment line' "$first" '# %s\n%s\n' "$(head -c 300000 /dev/zero | tr '\0' x)" "$one"
+
+# What is no key, before the key and after it.
+plain 'garbage after a key' 'one=revoked two=fault' '%s\ngarbage\n' "$one"
+plain 'garbage before a key' "$all" 'garbage\n%s\n' "$one"
+plain 'options' "$all" 'no-pty %s\n' "$one"
+plain 'a marker' "$all" '@revoked %s\n' "$one"
+plain 'a host name' "$all" '127.0.0.1 %s\n' "$one"
+plain 'a line for ssh-keygen -k' "$all" 'key: %s\n' "$one"
+plain 'an unknown type' "$all" 'ssh-mldsa65 AAAA\n%s\n' "$one"
+plain 'another type' "$all" 'ssh-rsa %s\n' "$word"
+plain 'a type in capitals' "$all" 'SSH-ED25519 %s\n' "$word"
+plain 'a type alone' "$all" 'ssh-ed25519 \n'
+plain 'truncated base64' "$all" '%s\n' "${one%???}"
+plain 'base64 of a truncated key' "$all" '%s\n' "${one%????????}"
+plain 'a character after the base64' "$all" '%s#\n' "$one"
+plain 'base64 without its padding' "$all" '%s\n' "${two%%=*}"
+plain 'a private key' "$all" '%s\n' "$(cat "$room/one")"
+plain "a fingerprint" "$all" '%s\n' "$("$openssh" -l -f "$room/one.pub")"
+
+# Zero bytes, which end a line.
+plain 'zero bytes' "$nobody" '\0\0\0\0\0\0\0\0\0\0'
+plain 'a zero byte before a key' "$nobody" '\0%s\n' "$one"
+plain 'a zero byte before garbage, and a key' "$first" '\0garbage\n%s\n' "$one"
+plain 'a zero byte after a key' "$first" '%s\0garbage\n' "$one"
+plain 'a zero byte within base64' "$all" 'ssh-ed25519 %s\0%s\n' "${word:0:20}" "${word:20}"
+plain 'a zero byte in a comment line' "$first" '# c\0\n%s\n' "$one"
+
+# The magic of a revocation list, or less.
+plain 'the first bytes of the magic' "$all" 'SSHKRL\n'
+plain 'the magic alone' "$all" 'SSHKRL\n\0'
+plain 'a line feed and the magic' "$all" '\nSSHKRL\n\0'
+
+# Keys.
+modulus() {
+  line ssh-rsa "$(rsa "$(string 03)" "$(string "00$(repeat "$1" c5)")")"
+}
+plain 'an RSA key below 1,024 bits' "$first" '%s\n%s\n' "$(modulus 127)" "$one"
+plain 'an RSA key of 1,024 bits' "$first" '%s\n%s\n' "$(modulus 128)" "$one"
+plain 'an RSA key above 16,384 bits' "$all" '%s\n%s\n' "$(modulus 2049)" "$one"
+plain 'an RSA key by the name of its signatures' 'rsa=revoked one=in' 'rsa-sha2-256 %s\n' "$(key rsa | cut -d ' ' -f 2)"
+blob=$(key rsa | cut -d ' ' -f 2 | base64 -d | od -An -v -tx1 | tr -d ' \n')
+plain 'an RSA key with a needless zero byte' 'rsa=revoked one=in' '%s\n' \
+  "$(line ssh-rsa "${blob/00000003010001/0000000400010001}")"
+plain 'a point of Ed25519 that is not on the curve' "$first" '%s\n%s\n' \
+  "$(line ssh-ed25519 "$(ed25519 "$(repeat 32 ff)")")" "$one"
+plain 'a point of ECDSA that is not on the curve' "$all" '%s\n%s\n' \
+  "$(line ecdsa-sha2-nistp256 "$(ecdsa 256 "04$(repeat 64 11)")")" "$one"
+plain 'a byte after a key' "$all" '%s\n' "$(line ssh-ed25519 "${G}00")"
+plain 'a key of a device' 'ed25519-sk=revoked ecdsa-sk=in' '%s\n' "$ed25519_sk"
+plain 'another key of a device' 'ed25519-sk=in ecdsa-sk=revoked' 'webauthn-%s\n' "$ecdsa_sk"
+sk=sk-ssh-ed25519@openssh.com
+plain 'a key of a device with a zero byte more' 'ed25519-sk=revoked ecdsa-sk=in' '%s\n' \
+  "$(line $sk "$(words $sk)$(string $github)$(string "$(text ssh:)00")")"
+
+# Certificates, their keys and their authorities.
+plain 'a certificate' 'a5=revoked a6=revoked b5=revoked one=in' '%s\n' "$(cat "$room/a5.pub")"
+plain 'the key of certificates' 'a5=revoked a6=revoked b5=revoked one=in' '%s\n' "$(key user)"
+plain 'the key of an authority' 'a5=revoked a6=revoked b5=in one=in' '%s\n' "$(key ca-a)"
+plain 'a certificate of an authority' 'a5=revoked b5=in one=in' '%s\n' "$(cat "$room/ca-a-cert.pub")"
+plain 'an old certificate' "$first" '%s\n' "$(cat "$room/old.pub")"
+blob=$(key a5 | cut -d ' ' -f 2 | base64 -d | od -An -v -tx1 | tr -d ' \n')
+last=00
+[ "${blob: -2}" != 00 ] || last=01
+plain 'a certificate with a wrong signature' "$all" '%s\n' \
+  "$(line ssh-ed25519-cert-v01@openssh.com "${blob%??}$last")"
+
+# No file, and what is no file.
+rm "$room/revoked"
+judge 'a missing list refuses all keys' "$(differs one fault "$(verdict one)")"
+mkdir "$room/revoked"
+judge 'a folder refuses all keys' "$(differs one fault "$(verdict one)")"
+ends
