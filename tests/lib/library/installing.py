@@ -117,7 +117,7 @@ def packages(tests):
     ran = run(os.path.join(PACKAGING, "library_debs"), ".")
     tests.judge("Debian packages are made", told(ran))
     packages = ran.stdout.split()
-    examples = {"share/doc/libkrl-dev/examples/" + it: "" for it in os.listdir(TOP + "/examples")}
+    examples = {"share/doc/libkrl-dev/examples/" + it: "" for it in files_below(TOP + "/examples")}
     contents = {
         "libkrl1": {**of_loader(MULTIARCH), **documents("libkrl1")},
         "libkrl-dev": {**of_programs(MULTIARCH, ".gz"), **documents("libkrl-dev"), **examples},
