@@ -18,9 +18,9 @@ build:
 test:
 	tests/all
 
-# libkrl as programs in C, Rust and Python call it: a part of make test.
+# libkrl as programs in C, Rust, Go and Python call it: a part of make test.
 test_library: build library
-	tests/run library
+	tests/run library servers
 
 # Each allocation, read and write of many runs fails in turn; make test does this for fewer of them.
 fault_injection: build
