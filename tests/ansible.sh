@@ -116,6 +116,6 @@ plays_ill 'a truncated list is refused' 'revoked.krl' 20 20
 version 30
 : >first/etc/ssh/revoked.krl
 judge 'a damaged list is replaced' "$(plays 0 && in_force 30 30)"
-printf 'Match User nobody\n  RevokedKeys none\n' >>first/etc/ssh/sshd_config
-plays_ill 'a Match block that switches the list off is found' 'RevokedKeys none' 30 30
+printf 'Match User nobody\n  RevokedKeys /dev/null\n' >>first/etc/ssh/sshd_config
+plays_ill 'a Match block that switches the list off is found' 'RevokedKeys /dev/null' 30 30
 judge 'the configuration of this machine is as before' "$(diff <(echo "$before") <(of_machine))"

@@ -1,58 +1,56 @@
-# The README and the manual page as a new user follows them: the walk, and each recipe, in folders of the test's
-# own. That for sshd is followed with a real one, for which such a folder stands in place of /etc/ssh.
+# The README as a new user follows it: the walk, and each recipe of it, of RECIPES.md and of the manual page, in folders
+# of the test's own. Those for sshd and ssh are followed with real ones, for which such a folder is /etc/ssh.
 
 mkdir walk && cp -r "$top/demo" walk && ln -s "$program" walk/ssh-keygen && cd walk || exit 1
 transcript 'the walk of the README' < <(awk '/^## / { here = $0 == "## First steps" }
   /^```/ { on = !on; next } here && on' "$top/README.md")
 cd ..
 
-# Both have the same recipes, so each is tried once.
-judge 'each recipe of the README stands in the manual page' "$(
-  manual_blocks | recipes_of >manual-recipes
-  readme_blocks | recipes_of | grep -vxF -f manual-recipes | sed 's/^/  /'
-  [ "$(grep -c $'\f' manual-recipes)" -gt 5 ] || echo '  there are too few'
+judge 'each recipe of the manual page is in the README or in RECIPES.md' "$(
+  recipes >all-recipes
+  manual_recipes | grep -vxF -f all-recipes | sed 's/^/  /'
+  [ "$(grep -c $'\f' all-recipes)" -gt 15 ] || echo '  there are too few'
 )"
 
 . "$tests/lib/sshd/serving.sh"
-mkdir tools "$room/sshd_config.d"
-ln -s "$program" tools/krl-keygen
-
-# follows NAME BEGINNING STATUS OUTPUT [again]: the recipe that begins so ends with the status and prints this.
-# It is counted once.
-followed=0
-follows() {
-  local got status text
-  text=$(recipe "$2" | sed -e "s|/etc/ssh|$room|g" -e "s|~root/|$PWD/of_root/|g" -e "s|/home/|$PWD/home/|g")
-  got=$(PATH=$PWD/tools:$PATH bash -c "$text" 2>&1; echo "status $?")
-  judge "$1" "$(
-    [ -n "$text" ] || echo '  the manual page has no such recipe'
-    differs 'what it prints' "$4${4:+$'\n'}status $3" "$got"
-  )"
-  [ "${5:-}" = again ] || followed=$((followed + 1))
-}
+begin_recipes
 
 # ---- a list is put in force
 
 made_key one ed25519
 made_key two ed25519
-cat "$room/one.pub" "$room/two.pub" >"$room/allowed"
-configure "Include $room/sshd_config.d/*.conf"
+made_key user ed25519
+for name in user-ca host-ca; do "$openssh" -q -t ed25519 -N '' -C "$name" -f $name; done
+# Two certificates of one key, of which each has a key ID of its own, and one of the host.
+for name in alice other; do
+  "$openssh" -q -s user-ca -I "$name" -z 1 -n "$user" "$room/user.pub" && mv "$room/user-cert.pub" "$room/$name.pub"
+done
+"$openssh" -q -s host-ca -I host -z 7 -h -n 127.0.0.1 "$room/host.pub"
+cat "$room"/{one,two,user}.pub >"$room/allowed"
+configure "Include $room/sshd_config.d/*.conf" "TrustedUserCAKeys $PWD/user-ca.pub" \
+  "HostCertificate $room/host-cert.pub"
 serve
+ln -s config "$room/sshd_config"
 cat >tools/sshd <<END
 #!/bin/sh
 exec '$daemon' -f '$room/config' "\$@"
 END
-# It is reloaded once it listens again.
-cat >tools/service <<END
+echo "Include $room/ssh_config.d/*.conf" >"$room/ssh_config"
+cat >tools/ssh <<END
 #!/bin/sh
-[ "\$*" = 'ssh reload' ] || exit 1
+exec '$(command -v ssh)' -T -F '$room/ssh_config' "\$@"
+END
+# It is reloaded once it listens again. The process that the test knows is that of timeout, which forwards one signal.
+cat >tools/systemctl <<END
+#!/bin/sh
+[ "\$*" = 'reload ssh' ] || { echo "\$*" >>'$room/systemctl' && exit; }
 count() { grep -c '^Server listening' '$room/log'; }
 before=\$(count)
-kill -HUP $server
+kill -HUP \$(ps -o pid= --ppid $server)
 for _ in \$(seq 100); do [ "\$(count)" = "\$before" ] || exit 0; sleep 0.1; done
 exit 1
 END
-chmod +x tools/sshd tools/service
+chmod +x tools/sshd tools/ssh tools/systemctl
 
 # lets_in NAME KEY.., refuses NAME KEY..: what sshd does with these keys.
 lets_in() {
@@ -65,11 +63,16 @@ refuses() {
   for key in "${@:2}"; do ! enters "$key" || wrong+="  it lets in $key"$'\n'; done
   judge "sshd refuses $1" "$wrong"
 }
-check='krl-keygen -Q -f revoked.krl &&'
+check='krl check revoked.krl &&' named='krl check /etc/ssh/revoked.krl &&'
+both='krl-keygen -Q -f revoked.krl && ssh-keygen' lines='grep -ri revokedkeys'
 lets_in 'all keys before it has a list' one two
+follows 'where no list is in force, none is named' "$named" 255 '*' again
+judge 'the configuration is as before' "$(ls "$room/sshd_config.d")"
 "$program" -k -f revoked.krl "$room/one.pub"
+follows 'both programs take a list' "$both" 0 ''
 follows 'a list is put in place' "$check" 0 ''
-follows 'the list is named in the configuration' 'echo RevokedKeys' 0 "revokedkeys $room/revoked.krl"
+follows 'the list is named in the configuration' "$named" 0 "revokedkeys $room/revoked.krl"
+follows 'one line names it' "$lines" 0 "$room/sshd_config.d/01-revoked.conf:RevokedKeys $room/revoked.krl"
 refuses 'a key of the list' one
 lets_in 'another key' two
 "$program" -k -f revoked.krl "$room/two.pub"
@@ -78,76 +81,162 @@ refuses 'a key of the new list without a reload' two
 lets_in 'a key of the list before it' one
 cp "$room/revoked.krl" in-force
 head -c 60 in-force >revoked.krl
-follows 'a list that was cut is not put in place' "$check" 255 'ssh-keygen: revoked.krl: krl 3 EndsEarly' again
+follows 'a truncated list is not put in place' "$check" 255 '*' again
+stays 'the list in force stays' "$room/revoked.krl"
+follows 'both programs refuse a truncated list' "$both" 255 'ssh-keygen: revoked.krl: krl 3 EndsEarly' again
 : >revoked.krl
-follows 'an empty file is not put in place' "$check" 255 'ssh-keygen: revoked.krl: krl 3 EndsEarly' again
-judge 'the list in force stays' "$(cmp in-force "$room/revoked.krl" 2>&1)"
+judge 'an empty file is not put in place' "$(try_recipe "$check" >/dev/null && echo '  it is')"
+# OpenSSH 9.2 refuses any extension.
+{ cat in-force && bytes "ff$(string "$(words name)00$(words contents)")"; } >revoked.krl
+judge 'the program reads a list with an extension' "$("$program" -Q -f revoked.krl 2>&1)"
+judge 'a list that OpenSSH refuses is not put in place' "$(try_recipe "$check" >/dev/null && echo '  it is')"
+judge 'both programs refuse it together' "$(try_recipe "$both" >/dev/null && echo '  they do not')"
+stays 'the list in force stays, too' "$room/revoked.krl"
 
 # What is said of sshd.
 # settled COMMAND..: it finds nothing wrong.
 settled() {
   judge "sshd -t finds nothing wrong with $1" "$(tools/sshd -t 2>&1 || echo '  it does')"
 }
+cp revoked.krl "$room/revoked.krl"
+refuses 'all keys, where OpenSSH refuses the list' one two
 head -c 60 in-force >"$room/revoked.krl"
-settled 'a list that was cut'
-refuses 'all keys, where the list was cut' one two
+settled 'a truncated list'
+refuses 'all keys, where the list is truncated' one two
 : >"$room/revoked.krl"
 settled 'an empty file'
 lets_in 'all keys, where the list is an empty file' one two
 cp in-force "$room/revoked.krl"
-rm "$room/sshd_config.d/revoked.conf"
+cp "$room/config" config
+printf 'Match User %s\n  RevokedKeys none\n' "$user" >>"$room/config"
+tools/systemctl reload ssh
+settled 'a Match block with another list'
+judge 'sshd -T does not show it' \
+  "$(differs 'the configuration' "revokedkeys $room/revoked.krl" "$(tools/sshd -T 2>&1 | grep -i revokedkeys)")"
+follows 'a second line is found' "$lines" 0 "$room/sshd_config:  RevokedKeys none
+$room/sshd_config.d/01-revoked.conf:RevokedKeys $room/revoked.krl" again
+refuses 'all keys of a user for whom there is no list' one two
+sed -i 's|RevokedKeys none|RevokedKeys /dev/null|' "$room/config"
+tools/systemctl reload ssh
+lets_in 'a revoked key of a user who has another list' one two
+sed '/^Include/d' config >"$room/config"
+follows 'a list that is not named is reported' "$named" 1 '' again
 printf 'Match User nobody\nX11Forwarding no\nRevokedKeys %s/revoked.krl\n' "$room" >>"$room/config"
 settled 'a list that is named below a Match'
 judge 'a list that is named below a Match does not count' \
   "$(differs 'the configuration' 'revokedkeys none' "$(tools/sshd -T 2>&1 | grep -i revokedkeys)")"
-ends
+cat config >"$room/config"
+tools/systemctl reload ssh
 
-# ---- lists of several authorities
+# ---- a person is locked out, and lists of several authorities are made anew
 
-for name in user-ca host-ca alice; do "$openssh" -q -t ed25519 -N '' -C "$name" -f $name; done
+anew='krl-keygen -k -f new.krl -z'
+echo 'id: alice' >users
+echo 'serial: 9' >hosts
+follows 'a list under two authorities' "$anew" 0 ''
+cp revoked.krl "$room/revoked.krl"
+lets_in 'the key, and another certificate of it, of a person whose key ID is revoked' user other
+: >users
+cp "$room/user.pub" alice.pub
+cp "$room/alice.pub" alice-cert.pub
+follows 'a person is locked out' "{ echo 'id: alice'" 0 ''
+follows 'the list is made anew' "$anew" 0 '' again
+cp revoked.krl "$room/revoked.krl"
+refuses 'the key, and all certificates of it, of a person who is locked out' user alice other
+lets_in 'another key again' one
+
 for name in user-5 user-7 host-5 host-7; do
-  "$openssh" -q -s ${name%-*}-ca -I "id of $name" -z ${name#*-} alice.pub && mv alice-cert.pub $name.pub
+  "$openssh" -q -s ${name%-*}-ca -I "id of $name" -z ${name#*-} "$room/one.pub" && mv "$room/one-cert.pub" $name.pub
 done
 # answers NAME REVOKED..: the list revokes just these of the certificates.
 answers() {
   local it wanted=
   for it in user-5 user-7 host-5 host-7; do
-    [[ " ${*:2} " == *" $it "* ]] && wanted+="$it.pub (alice): REVOKED"$'\n' || wanted+="$it.pub (alice): ok"$'\n'
+    [[ " ${*:2} " == *" $it "* ]] && wanted+="$it.pub (one): REVOKED"$'\n' || wanted+="$it.pub (one): ok"$'\n'
   done
   expect "$1" $(($# > 1)) "$wanted" '' -Q -f revoked.krl user-5.pub user-7.pub host-5.pub host-7.pub
 }
 printf 'serial: 5\nid: id of user-7\n' >users
 echo 'serial: 7' >hosts
-follows 'a list under two authorities' 'krl-keygen -k -f revoked.krl -s user-ca.pub' 0 ''
+follows 'a list of other lines under two authorities' "$anew" 0 '' again
 answers 'each authority has its own serial numbers' user-5 user-7 host-7
-cp revoked.krl old.krl
+version() {
+  "$program" -Q -l -f revoked.krl | sed -n 's/^# KRL version //p'
+}
+first=$(version)
+sleep 2
 sed -i 1d users
-follows 'a revocation is taken back' 'krl-keygen -k -f revoked.krl -z' 0 ''
+follows 'a revocation is taken back' "$anew" 0 '' again
 answers 'what was taken back is fine, and all else revoked' user-7 host-7
-judge 'the version number rises' "$(
-  version=$("$program" -Q -l -f revoked.krl | sed -n 's/^# KRL version //p')
-  [ "$version" -gt 1700000000 ] || echo "  it is $version"
+judge 'the version number rises' "$([ "$(version)" -gt "$first" ] || echo "  it is $(version) after $first")"
+cp revoked.krl in-force
+echo 'serial: 9-7' >hosts
+follows 'a wrong line in the second file' "$anew" 255 '*' again
+stays 'the list stays, with the entries of both' revoked.krl
+
+# ---- a canary
+
+echo 'serial: 7' >hosts
+printf 'serial: 5\nid: someone\nkey: %s\nsha1: %s\n' "$(cat "$room/one.pub")" "$(cat "$room/two.pub")" >users
+follows 'a canary' "ssh-keygen -q -t ed25519 -N '' -C canary" 0 ''
+judge 'its private key is gone' "$([ ! -e canary ] || echo '  it is there')"
+follows 'a list with a canary' "$anew" 0 '' again
+expect 'the list revokes the canary' 1 $'canary.pub (canary): REVOKED\n' '' -Q -f revoked.krl canary.pub
+judge 'no truncated list that can be read revokes the canary' "$(
+  taken=0
+  size=$(stat -c %s revoked.krl)
+  for ((length = 0; length < size; length++)); do
+    head -c $length revoked.krl >truncated.krl
+    answer=$("$program" -Q -f truncated.krl canary.pub 2>/dev/null)
+    [[ $answer != *REVOKED* ]] || echo "  that of $length bytes does"
+    [[ $answer != *ok ]] || taken=$((taken + 1))
+  done
+  [ $taken -ge 4 ] || echo "  only $taken can be read"
 )"
+# ---- the keys of hosts
 
-# ---- what changed
+# reaches NAME WANTED [WORD..]: whether ssh accepts the key of the host, with the words.
+known=$room/known_key as_user=()
+echo "[127.0.0.1]:$port $(cat "$room/host.pub")" >"$room/known_key"
+echo "@cert-authority * $(cat host-ca.pub)" >"$room/known_authority"
+reaches() {
+  local got=yes
+  timeout 20 "${as_user[@]}" ssh -F "$room/ssh_config" "${@:3}" -p "$port" -o BatchMode=yes -o StrictHostKeyChecking=yes \
+    -o UserKnownHostsFile="$known" -o GlobalKnownHostsFile=/dev/null -o IdentityAgent=none -o IdentityFile=none \
+    "$user@127.0.0.1" true >"$scratch/output" 2>&1 </dev/null
+  grep -q 'Permission denied (publickey' "$scratch/output" || got=no
+  judge "ssh and a host: $1" "$(differs 'it goes on' "$2" $got && [ $got = "$2" ] || cat "$scratch/output")"
+}
+follows 'ssh is told of the list' 'echo RevokedHostKeys' 0 "revokedhostkeys $room/revoked.krl"
+"$program" -k -f "$room/revoked.krl" "$room/one.pub"
+reaches 'a list of other keys' yes
+known=$room/known_authority
+reaches 'a list of other keys, by the authority' yes
+echo 'serial: 7' >hosts
+"$program" -k -f "$room/revoked.krl" -s host-ca.pub hosts
+reaches 'its revoked certificate' no
+known=$room/known_key
+reaches 'its key, by a user who takes no certificate' yes -o HostKeyAlgorithms=ssh-ed25519
+sed 's/^/key: /' "$room/host.pub" >hosts
+"$program" -k -f "$room/revoked.krl" -s host-ca.pub hosts
+reaches 'its revoked key' no
+"$program" -k -f "$room/revoked.krl" "$room/one.pub"
+chmod 755 "$scratch" "$room" && chmod 644 "$room"/known_*
+if [ "$(id -u)" = 0 ]; then
+  as_user=(setpriv --reuid=65534 --regid=65534 --clear-groups)
+  reaches 'a list that all may read' yes
+  chmod 600 "$room/revoked.krl"
+  reaches 'a list that only root may read' no
+  as_user=()
+fi
+truncate -s -1 "$room/revoked.krl"
+reaches 'a damaged list' no
+: >"$room/revoked.krl"
+reaches 'an empty file' yes
+rm "$room/revoked.krl"
+reaches 'no list' no
 
-cp revoked.krl old.krl
-"$program" -k -u -f revoked.krl -s host-ca.pub - <<<'serial: 9'
-# Their versions and times differ too.
-got=$(PATH=$PWD/tools:$PATH bash -c "$(recipe 'diff ')" | grep '^[<>] [^#]')
-judge 'two lists are compared' "$(differs 'what differs' '> serial: 9' "$got")"
-followed=$((followed + 1))
-need git git || judge 'git is there' '  install git'
-mkdir lists && cp old.krl lists/r.krl && (
-  cd lists && git init -q && echo '*.krl diff=krl' >.gitattributes && git add . &&
-    git -c user.name=n -c user.email=e@x commit -qm one
-)
-cd lists && ln -s ../tools tools && follows 'git is told how lists are shown' 'git config' 0 '' && cd ..
-cp revoked.krl lists/r.krl
-got=$(cd lists && PATH=$PWD/tools:$PATH git diff | grep '^[-+][^-+#]')
-judge 'git shows what changed' "$(differs 'the change' '+serial: 9' "$got")"
-
-# ---- all keys of a host, and the line of one
+# ---- all keys of a host
 
 "$program" -k -f revoked.krl alice.pub
 mkdir -p of_root/.ssh home/{a,b,c,d}/.ssh
@@ -159,25 +248,20 @@ cat alice.pub >home/d/.ssh/authorized_keys
 at=$PWD/home
 follows 'all keys of a host' 'for file in' 0 "$PWD/of_root/.ssh/authorized_keys (user-ca): ok
 $at/a/.ssh/authorized_keys (host-ca): ok
-$at/a/.ssh/authorized_keys (alice): REVOKED
+$at/a/.ssh/authorized_keys (user): REVOKED
 $at/a/.ssh/authorized_keys: status 1
 $at/b/.ssh/authorized_keys (host-ca): ok
 ssh-keygen: $at/b/.ssh/authorized_keys: line 2: line 1 NoKey
 $at/b/.ssh/authorized_keys: status 255
-$at/d/.ssh/authorized_keys (alice): REVOKED
+$at/d/.ssh/authorized_keys (user): REVOKED
 $at/d/.ssh/authorized_keys: status 1"
-cp home/a/.ssh/authorized_keys .
-follows 'the line of a revoked key' 'paste' 0 '6:authorized_keys (alice): REVOKED'
-
-# ---- the lines of a command
-
-cp revoked.krl old.krl
-printf '#!/bin/sh\nexit 1\n' >tools/leavers && chmod +x tools/leavers
-follows 'a command that fails' 'set -o pipefail' 1 ''
-judge 'the list stays' "$(cmp old.krl revoked.krl 2>&1)"
-printf '#!/bin/sh\necho serial: 7\n' >tools/leavers
-follows 'a command that ends well' 'set -o pipefail' 0 '' again
-answers 'the list is that of its lines' user-7
-
-judge 'all recipes of the manual page were followed' \
-  "$(differs recipes "$(manual_blocks | recipes_of | grep -c $'\f')" $followed)"
+followed=$((followed + 1))
+! has_krl || judge 'the revoked keys of a host' "$(
+  found=$(try_recipe 'krl audit' | grep "^$at" | cut -d: -f 1-3)
+  differs 'what it finds' "$at/a/.ssh/authorized_keys:6: revoked
+$at/b/.ssh/authorized_keys:2: unread
+$at/b/.ssh/authorized_keys:3: revoked
+$at/d/.ssh/authorized_keys:1: revoked" "$found"
+)"
+ends
+all_followed README.md

@@ -6,20 +6,89 @@ manual_blocks() {
     awk '/^\.Bd -literal/ { on = 1; printf "\f\n"; next } /^\.Ed/ { on = 0 } on'
 }
 
-# readme_blocks: the indented displays of the README, the same way.
-readme_blocks() {
+# page_blocks PAGE: the indented displays of a page in Markdown, the same way.
+page_blocks() {
   awk '/^```/ { fenced = !fenced } fenced { next }
-    /^    / { if (!on) printf "\f\n"; on = 1; print substr($0, 5); next } { on = 0 }' "$top/README.md"
+    /^    / { if (!on) printf "\f\n"; on = 1; print substr($0, 5); next } { on = 0 }' "$1"
 }
 
-# recipes_of: standard input has such displays; those that are recipes, with the name of the program as it is
-# installed. Forms of use and transcripts are none.
+# recipes_of: standard input has such displays; those that are recipes. Forms of use and transcripts are none.
 recipes_of() {
-  sed 's/ssh-keygen -/krl-keygen -/g' |
-    awk 'BEGIN { RS = "\f\n" } NF && !/^(\$|make |apt |krl-keygen [^\n]*[[])/ { printf "\f\n%s", $0 }'
+  awk 'BEGIN { RS = "\f\n" } NF && !/^(\$|make |apt |krl-keygen [^\n]*[[])/ { printf "\f\n%s", $0 }'
 }
 
-# recipe BEGINNING: the recipe of the manual page that begins so.
+# recipes_in PAGE: those of a page of the repository.
+recipes_in() {
+  page_blocks "$top/$1" | recipes_of
+}
+
+# recipes: those of the README and of RECIPES.md.
+recipes() {
+  recipes_in README.md && recipes_in docs/RECIPES.md
+}
+
+# manual_recipes: those of the manual page, with the name of the program as it is installed.
+manual_recipes() {
+  manual_blocks | sed 's/ssh-keygen -/krl-keygen -/g' | recipes_of
+}
+
+# recipe BEGINNING: the recipe that begins so.
 recipe() {
-  manual_blocks | recipes_of | awk -v beginning="$1" 'BEGIN { RS = "\f\n" } index($0, beginning) == 1 { printf "%s", $0 }'
+  recipes | awk -v beginning="$1" 'BEGIN { RS = "\f\n" } index($0, beginning) == 1 { printf "%s", $0 }'
+}
+
+# begin_recipes: makes the folder tools, which has the programs that recipes call. The folder $room is their /etc/ssh.
+begin_recipes() {
+  mkdir -p tools "$room"/{sshd_config.d,ssh_config.d,units}
+  ln -s "$program" tools/krl-keygen
+  krl=$(realpath -- "${KRL:-$top/krl}")
+  if [ -x "$krl" ]; then
+    ln -s "$krl" tools/krl
+  else
+    echo '# there is no program krl: both other programs check lists, and what only krl does is skipped'
+  fi
+  followed=0
+}
+
+# in_room TEXT: the text, with folders of the test's own for those of the system, and without krl where that is missing.
+in_room() {
+  local words=(-e "s|/etc/ssh/ssh_host_ed25519_key|$room/host|g; s|/etc/ssh|$room|g; s|/usr/local|$room/local|g")
+  words+=(-e "s|/etc/systemd/system|$room/units|g; s|/home|$PWD/home|g")
+  words+=(-e "s|~root/|$PWD/of_root/|g; s|/root |$PWD/of_root |g")
+  [ -e tools/krl ] || words+=(-e 's/krl check \([^ ]*\) &&/krl-keygen -Q -f \1 \&\& ssh-keygen -Q -f \1 \&\&/')
+  sed "${words[@]}" <<<"$1"
+}
+
+# try_recipe BEGINNING: runs the recipe that begins so.
+try_recipe() {
+  PATH=$PWD/tools:$PATH bash -c "$(in_room "$(recipe "$1")")" 2>&1
+}
+
+# follows NAME BEGINNING STATUS OUTPUT [again]: the recipe ends with the status and prints this. Where OUTPUT is a star,
+# it may print anything. The first time counts.
+follows() {
+  local got wanted
+  wanted=$4${4:+$'\n'}status\ $3
+  got=$(try_recipe "$2"; echo "status $?")
+  [ "$4" != '*' ] || wanted="status $3" got=${got##*$'\n'}
+  judge "$1" "$(
+    [ -n "$(recipe "$2")" ] || echo '  there is no such recipe'
+    differs 'what it prints' "$wanted" "$got"
+  )"
+  [ "${5:-}" = again ] || followed=$((followed + 1))
+}
+
+# has_krl: whether the program krl is there. A recipe that only it can follow counts where it is not.
+has_krl() {
+  [ -e tools/krl ]
+}
+
+# all_followed PAGE: each recipe of the page was.
+all_followed() {
+  judge "all recipes of $1 were followed" "$(differs recipes "$(recipes_in "$1" | grep -c $'\f')" $followed)"
+}
+
+# stays NAME FILE: the file is the list in-force.
+stays() {
+  judge "$1" "$(cmp in-force "$2" 2>&1)"
 }

@@ -1,0 +1,174 @@
+# The recipes of docs/RECIPES.md, in folders of the test's own.
+
+room=$scratch/room
+begin_recipes
+for name in user-ca host-ca alice canary; do "$openssh" -q -t ed25519 -N '' -C $name -f $name; done
+"$openssh" -q -t ed25519 -N '' -C host -f "$room/host"
+for serial in 5 7; do
+  "$openssh" -q -s user-ca -I "id of $serial" -z $serial alice.pub && mv alice-cert.pub user-$serial.pub
+done
+
+# revoked_lines [WORD..]: the entries of the list that -Q -l prints.
+revoked_lines() {
+  "$program" -Q -l -f revoked.krl | grep -v '^#' | paste -s -d ,
+}
+
+# ---- a rollout is guarded
+
+{ echo 'serial: 5' && echo "sha256: $(cat canary.pub)"; } >users
+"$program" -k -f revoked.krl -z 10 -s user-ca.pub users
+cp revoked.krl "$room/revoked.krl"
+"$program" -k -u -f revoked.krl -s user-ca.pub - <<<'serial: 6'
+guard='krl check revoked.krl --newer-than' remedy='ssh-keygen -Q -f revoked.krl &&'
+cp revoked.krl whole.krl
+follows 'a list is guarded without krl' "$remedy" 0 "user-ca.pub (user-ca): ok
+$room/host.pub (host): ok
+canary.pub (canary): REVOKED"
+cp "$room/revoked.krl" in-force
+! has_krl || follows 'a list is guarded' "$guard" 0 '' again
+followed=$((followed + 1))
+# guarded NAME: neither recipe puts the list in force.
+guarded() {
+  local it
+  for it in "$guard" "$remedy"; do
+    has_krl || [ "$it" != "$guard" ] || continue
+    judge "$1: ${it%% *}" "$(
+      try_recipe "$it" >/dev/null && echo '  it is put in force'
+      cmp in-force "$room/revoked.krl" 2>&1
+    )"
+  done
+}
+"$program" -k -f revoked.krl -z 99999999999 alice.pub
+guarded 'a list without the canary'
+cp whole.krl revoked.krl && "$program" -k -u -f revoked.krl user-ca.pub
+guarded 'a list that revokes the user authority'
+cp whole.krl revoked.krl && "$program" -k -u -f revoked.krl "$room/host.pub"
+guarded "a list that revokes the host's own key"
+
+cp in-force revoked.krl
+"$program" -k -f revoked.krl -z 9 -s user-ca.pub users
+! has_krl || judge 'an older list is refused' "$(
+  try_recipe "$guard" >/dev/null && echo '  it is put in force'
+  cmp in-force "$room/revoked.krl" 2>&1
+)"
+
+# ---- a signed list is fetched
+
+mkdir web && cp "$top"/examples/systemd/* .
+printf '#!/bin/sh\necho "$*" >>%s/systemctl\n' "$room" >tools/systemctl && chmod +x tools/systemctl
+follows 'a key for signing' "ssh-keygen -q -t ed25519 -N '' -C krl" 0 ''
+"$program" -k -f revoked.krl -z 20 -s user-ca.pub users
+follows 'a list is signed' 'rm -f revoked.krl.sig' 0 ''
+follows 'a list is signed again' 'rm -f revoked.krl.sig' 0 '' again
+follows 'the timer is installed' 'install -m 644 krl_signers' 0 ''
+judge 'systemd is told' "$(
+  differs 'the commands' $'daemon-reload\nenable --now krl-pull.timer' "$(cat "$room/systemctl")"
+)"
+if command -v systemd-analyze >/dev/null; then
+  # Without the program it finds one fault.
+  sed -i "s|^ExecStart=/usr/local|ExecStart=$room/local|" "$room/units/krl-pull.service"
+  judge 'systemd finds nothing in the units' "$(systemd-analyze verify "$room"/units/krl-pull.* 2>&1)"
+fi
+
+# pulls NAME STATUS VERSION: what is on the web is fetched, with this status, and then this version is in force.
+pulls() {
+  local status
+  PATH=$PWD/tools:$PATH KRL_SIGNERS=$room/krl_signers "$room/local/sbin/krl-pull" "file://$PWD/web/revoked.krl" \
+    "$room/revoked.krl" user-ca.pub >output 2>&1
+  status=$?
+  judge "krl-pull: $1" "$(
+    differs status "$2" $status && [ $status = "$2" ] || cat output
+    differs 'the version in force' "$3" "$(od -An -j 12 -N 8 -t u8 --endian=big "$room/revoked.krl" | tr -d ' ')"
+    differs 'files beside the list' '' "$(ls -A "$room" | grep krl-pull)"
+  )"
+}
+
+# publish VERSION [FILE ..]: a signed list of this version is on the web.
+publish() {
+  "$program" -k -f revoked.krl -z "$1" -s user-ca.pub users "${@:2}" && try_recipe 'rm -f revoked.krl.sig' &&
+    cp revoked.krl revoked.krl.sig web
+}
+if has_krl && need curl curl; then
+  pulls 'no list on the web' 37 11
+  publish 20
+  pulls 'a newer list' 0 20
+  pulls 'the same list' 0 20
+  publish 19
+  pulls 'an older list' 1 20
+  publish 30 user-ca.pub
+  pulls 'a list that revokes a key to keep' 1 20
+  publish 30
+  "$program" -k -f web/revoked.krl -z 31 -s user-ca.pub users
+  pulls 'a list with the signature of another' 1 20
+  publish 30
+  truncate -s -1 web/revoked.krl
+  pulls 'a truncated list' 1 20
+  publish 30
+  truncate -s 20 "$room/revoked.krl"
+  pulls 'any list, where that in force is damaged' 0 30
+  judge 'all may read it' "$(differs mode 644 "$(stat -c %a "$room/revoked.krl")")"
+fi
+
+# ---- entries that expire
+
+cat >users <<'END'
+serial: 5 # until 2001-02-03
+serial: 6 # until 2999-01-01
+serial: 7
+serial: 8 # until tomorrow
+# until 2001-02-03
+END
+echo "serial: 9 # until $(date +%F), and lost" >>users
+follows 'entries that expire' 'awk -v today' 0 ''
+judge 'what is over is left out' "$(differs entries 'serial: 6-9' "$(revoked_lines)")"
+
+# ---- what changed
+
+cp revoked.krl old.krl
+"$program" -k -u -f revoked.krl -s host-ca.pub - <<<'serial: 99'
+# Their versions and times differ too.
+got=$(PATH=$PWD/tools:$PATH bash -c "$(recipe 'diff ')" | grep '^[<>] [^#]')
+judge 'two lists are compared' "$(differs 'what differs' '> serial: 99' "$got")"
+followed=$((followed + 1))
+need git git || judge 'git is there' '  install git'
+mkdir lists && cp old.krl lists/r.krl && (
+  cd lists && git init -q && echo '*.krl diff=krl' >.gitattributes && git add . &&
+    git -c user.name=n -c user.email=e@x commit -qm one
+)
+cd lists && ln -s ../tools tools && follows 'git is told how lists are shown' 'git config' 0 '' && cd ..
+cp revoked.krl lists/r.krl
+got=$(cd lists && PATH=$PWD/tools:$PATH git diff | grep '^[-+][^-+#]')
+judge 'git shows what changed' "$(differs 'the change' '+serial: 99' "$got")"
+
+# ---- the entries of one authority
+
+follows 'the entries of one authority' 'krl-keygen -Q -l -f revoked.krl |' 0 'serial: 6-9'
+"$program" -k -u -f revoked.krl -s user-ca.pub - <<<$'id: bob\nserial: 1'
+"$program" -k -u -f revoked.krl -s none - <<<'serial: 3'
+"$program" -k -u -f revoked.krl alice.pub
+follows 'the entries of an authority among others' 'krl-keygen -Q -l -f revoked.krl |' 0 \
+  $'serial: 1\nserial: 6-9\nid: bob' again
+
+# ---- the line of a key
+
+"$program" -k -f revoked.krl alice.pub
+{
+  printf '# mine\n\n' && cat host-ca.pub
+  # Bytes that are no UTF-8.
+  printf '# Zo\xeb\n' && sed 's/host-ca/Zo\xeb/' host-ca.pub
+  printf '  \t\n# hers\n' && sed 's/^/no-pty /' alice.pub
+} >authorized_keys
+follows 'the line of a revoked key' 'paste' 0 '8:authorized_keys (alice): REVOKED'
+
+# ---- the lines of a command
+
+cp revoked.krl old.krl
+printf '#!/bin/sh\nexit 1\n' >tools/leavers && chmod +x tools/leavers
+follows 'a command that fails' 'set -o pipefail' 1 ''
+judge 'the list stays' "$(cmp old.krl revoked.krl 2>&1)"
+printf '#!/bin/sh\necho serial: 7\n' >tools/leavers
+follows 'a command that ends well' 'set -o pipefail' 0 '' again
+expect 'the list is that of its lines' 1 $'user-5.pub (alice): ok\nuser-7.pub (alice): REVOKED\n' '' \
+  -Q -f revoked.krl user-5.pub user-7.pub
+
+all_followed docs/RECIPES.md
