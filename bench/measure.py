@@ -8,6 +8,7 @@ import sys
 
 TOP = os.path.dirname(os.path.dirname(os.path.abspath(__file__)))
 OURS = os.path.abspath(os.environ.get("PROGRAM", os.path.join(TOP, "built", "ssh-keygen")))
+AUDIT = os.path.abspath(os.environ.get("KRL", os.path.join(TOP, "built", "krl")))
 THEIRS = os.environ.get("OPENSSH", "ssh-keygen")
 # A program that takes longer, in seconds, is ended.
 LIMIT = int(os.environ.get("LIMIT", "100"))
@@ -19,6 +20,12 @@ def build():
         subprocess.run(
             [os.path.join(TOP, "ssh-keygen"), "-h"], stdout=subprocess.DEVNULL, check=True
         )
+
+
+def build_audit():
+    """The same of the program that audits files."""
+    if "KRL" not in os.environ:
+        subprocess.run([os.path.join(TOP, "krl"), "-h"], stdout=subprocess.DEVNULL, check=True)
 
 
 def plain_rust():
