@@ -5,3 +5,4 @@ pub mod Surveying
 pub mod Files
 pub mod Spelled
 pub mod Private
+pub mod Shallow

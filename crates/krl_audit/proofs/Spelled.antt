@@ -13,6 +13,7 @@ use Rattle.krl_held.specs.Revoked.{Revoked}
 use Rattle.krl_held.proofs.NamingTests.{revoked_tested}
 use Rattle.krl_held.proofs.Reasoned.{any_is_revoked}
 use Rattle.krl_audit.specs.Audit.{kind_of}
+use Rattle.krl_audit.specs.Front.{front_of}
 use Rattle.krl_audit.specs.Outcome.{Blank, Found, Key, line_outcome, outcome_of}
 use Rattle.krl_audit.specs.declared.counts.Kind.TheVariants as kinds
 
@@ -20,13 +21,13 @@ pub nothing_there : (text : List ℕ) → has_key text ≡ false → outcome_of 
 unfolding outcome_of
 nothing_there text has = rw has refl
 
-pub plain_read : (text : List ℕ) (read : Result Content LineFault) → has_key text ≡ true → marker_of text ≡ None → line_at text ≡ read → outcome_of text ≡ line_outcome None read
+pub plain_read : (text : List ℕ) (read : Result Content LineFault) → has_key text ≡ true → marker_of text ≡ None → line_at text ≡ read → outcome_of text ≡ line_outcome None (front_of text) read
 unfolding outcome_of unmarked
-plain_read text read has none is = rw (has, none) (ap (line_outcome None) is)
+plain_read text read has none is = rw (has, none) (ap (line_outcome None (front_of text)) is)
 
-pub marked_read : (text : List ℕ) (marker : Marker) (read : Result Content LineFault) → has_key text ≡ true → marker_of text ≡ Some marker → marked_line_at text ≡ read → outcome_of text ≡ line_outcome (Some marker) read
+pub marked_read : (text : List ℕ) (marker : Marker) (read : Result Content LineFault) → has_key text ≡ true → marker_of text ≡ Some marker → marked_line_at text ≡ read → outcome_of text ≡ line_outcome (Some marker) (front_of (unmarked text)) read
 unfolding outcome_of
-marked_read text marker read has some is = rw (has, some) (ap (line_outcome (Some marker)) is)
+marked_read text marker read has some is = rw (has, some) (ap (line_outcome (Some marker) (front_of (unmarked text))) is)
 
 pub found_revoked : (entries : List Entry) (found : Found) → found.marker ≡ None → Revoked entries found.asked → kind_of (reasons_of entries) (Key found) ≡ kinds.Revoked
 found_revoked entries found none revoked = rw (none, any_is_revoked entries found.asked, (revoked_tested entries found.asked).1 revoked) refl

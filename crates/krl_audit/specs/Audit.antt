@@ -12,14 +12,19 @@ use Rattle.key_listing.specs.Done.{Ends}
 use Rattle.key_listing.specs.Printer.{Printer}
 use Rattle.key_listing.specs.Run.{Item, Passed, said_of}
 use Rattle.krl_audit.specs.Counts.{all_counted, audit_status}
-use Rattle.krl_audit.specs.Outcome.{Blank, Key, Outcome, Unread, outcomes}
+use Rattle.json_lines.specs.Field.{json_line}
+use Rattle.krl_audit.specs.Objects.{key_object, unread_object}
+use Rattle.krl_audit.specs.Outcome.{Blank, Found, Key, Outcome, Unread, outcomes}
 use Rattle.krl_audit.specs.Text.{key_line, unread_line}
 use Rattle.krl_audit.specs.declared.counts.Counts.{Counts}
 use Rattle.krl_audit.specs.declared.counts.Kind.{Kind}
 use Rattle.krl_audit.specs.declared.counts.Kind.TheVariants as kinds
+use Rattle.krl_audit.specs.declared.judge.Form.{Form}
+use Rattle.krl_audit.specs.declared.judge.Form.TheVariants as forms
 use Rattle.krl_audit.specs.declared.judge.Judge.{Judge}
 use Rattle.krl_audit.specs.declared.judge.Shown.{Shown}
 use Rattle.krl_audit.specs.declared.why.Refusal.{Refusal}
+use Rattle.krl_audit.specs.declared.why.Why.{Why}
 use Rattle.krl_audit.specs.declared.why.Why.TheVariants as whys
 
 -- ---- a line
@@ -48,12 +53,23 @@ says shown kinds.Fine = shown.fine
 says shown kinds.Revoked = shown.findings
 says shown kinds.Unread = shown.findings
 
+-- the line of a key, for people or as a JSON object
+abbrev pub key_said : Form → List ℕ → ℕ → Found → Reasons → List ℕ
+key_said forms.Text name number found all =
+    key_line name number found.blob found.comment found.asked all
+key_said forms.Json name number found all = json_line (key_object name number found all)
+
+-- the line of what is not read
+abbrev pub unread_said : Form → List ℕ → ℕ → Why → List ℕ
+unread_said forms.Text name number why = unread_line name number why
+unread_said forms.Json name number why = json_line (unread_object name number why)
+
 -- the line that names it
-abbrev pub outcome_line : (Subject → Reasons) → List ℕ → ℕ → Outcome → List ℕ
-outcome_line reasons name number Blank = []
-outcome_line reasons name number (Key found) =
-    key_line name number found.blob found.comment found.asked (reasons found.asked)
-outcome_line reasons name number (Unread why) = unread_line name number why
+abbrev pub outcome_line : Form → (Subject → Reasons) → List ℕ → ℕ → Outcome → List ℕ
+outcome_line form reasons name number Blank = []
+outcome_line form reasons name number (Key found) =
+    key_said form name number found (reasons found.asked)
+outcome_line form reasons name number (Unread why) = unread_said form name number why
 
 abbrev pub said_if : Bool → List ℕ → List ℕ → Item
 said_if true name text = said_of name text
@@ -62,7 +78,8 @@ said_if false name text = Passed name
 -- what is said of a line
 abbrev pub line_item : (Subject → Reasons) → Shown → List ℕ → ℕ → Outcome → Item
 line_item reasons shown name number outcome =
-    said_if (says shown (kind_of reasons outcome)) name (outcome_line reasons name number outcome)
+    said_if (says shown (kind_of reasons outcome)) name
+    (outcome_line shown.form reasons name number outcome)
 
 -- ---- files
 
@@ -128,7 +145,7 @@ pub record IsMade (reasons : Subject → Reasons) (shown : Shown) (name : List �
     (outcome : Outcome) (kind : Kind) (said : Bool) (text : List ℕ) : Type 0 where
   pub kind_is : kind ≡ kind_of reasons outcome
   pub said_is : said ≡ says shown kind
-  pub text_is : said ≡ true → text ≡ outcome_line reasons name number outcome
+  pub text_is : said ≡ true → text ≡ outcome_line shown.form reasons name number outcome
 
 -- the bytes of a file, or why there are none
 abbrev pub content_of : Result (Bor (List ℕ)) Refusal → Result (List ℕ) Refusal

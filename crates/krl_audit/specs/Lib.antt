@@ -1,6 +1,9 @@
+pub mod Front
 pub mod Why
 pub mod Outcome
 pub mod Counts
 pub mod Visible
 pub mod Text
+pub mod Objects
+pub mod ReasonNames
 pub mod Audit

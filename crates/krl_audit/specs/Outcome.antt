@@ -9,21 +9,25 @@ use Rattle.key_text.specs.ContainerReading.{Opened, opened_of, private_at}
 use Rattle.key_text.specs.KeyFile.{has_key}
 use Rattle.key_text.specs.LineReading.{Content}
 use Rattle.key_text.specs.Lines.{is_newline}
-use Rattle.key_text.specs.Marker.{marked_line_at, marker_of}
+use Rattle.key_text.specs.Marker.{marked_line_at, marker_of, unmarked}
 use Rattle.key_text.specs.PublicHalf.{public_half_at}
 use Rattle.key_text.specs.declared.container.Private.{Private}
 use Rattle.key_text.specs.declared.line_fault.LineFault.{LineFault}
 use Rattle.key_text.specs.declared.marker.Marker.{Marker}
 use Rattle.key_text.specs.declared.private_fault.PrivateFault.{PrivateFault}
 use Rattle.key_text.specs.declared.private_fault.PrivateFault.TheVariants as faults
+use Rattle.krl_audit.specs.Front.{front_of}
+use Rattle.krl_audit.specs.declared.outcome.Found.{Found as KeyFound}
 use Rattle.krl_audit.specs.declared.outcome.Outcome.{Outcome as Given}
 use Rattle.krl_audit.specs.declared.outcome.Outcome.TheVariants as given
 use Rattle.krl_audit.specs.declared.why.Why.{Why}
 use Rattle.krl_audit.specs.declared.why.Why.TheVariants as whys
 
--- A key: what its line says of it, its bytes, its comment, and what a list is asked about it.
+-- A key: what its line says of it, what is before it, its bytes, its comment, and what a list is
+-- asked about it.
 pub record Found : Type 0 where
   pub marker : Option Marker
+  pub front : List ℕ
   pub blob : List ℕ
   pub comment : List ℕ
   pub asked : Subject
@@ -35,20 +39,28 @@ pub data Outcome : Type 0 where
   Unread : Why → Outcome
 
 -- what bytes give, by what they ask of a list
-abbrev pub asked_outcome : Option Marker → (blob comment : List ℕ) → Result Subject SubjectFault
-    → Outcome
-asked_outcome marker blob comment (Ok asked) =
-    Key (record { marker = marker; blob = blob; comment = comment; asked = asked })
-asked_outcome marker blob comment (Err fault) = Unread (whys.Subject fault)
+abbrev pub asked_outcome : Option Marker → (front blob comment : List ℕ)
+    → Result Subject SubjectFault → Outcome
+asked_outcome marker front blob comment (Ok asked) =
+    Key (record {
+      marker = marker;
+      front = front;
+      blob = blob;
+      comment = comment;
+      asked = asked;
+    })
+asked_outcome marker front blob comment (Err fault) = Unread (whys.Subject fault)
 
-abbrev pub line_outcome : Option Marker → Result Content LineFault → Outcome
-line_outcome marker (Ok line) = asked_outcome marker line.blob line.comment (subject_of line.blob)
-line_outcome marker (Err fault) = Unread (whys.Line fault)
+abbrev pub line_outcome : Option Marker → List ℕ → Result Content LineFault → Outcome
+line_outcome marker front (Ok line) =
+    asked_outcome marker front line.blob line.comment (subject_of line.blob)
+line_outcome marker front (Err fault) = Unread (whys.Line fault)
 
 -- what a line gives
 unfoldable pub outcome_of : List ℕ → Outcome
 outcome_of text =
-    if has_key text then line_outcome (marker_of text) (marked_line_at text) else Blank
+    if has_key text
+    then line_outcome (marker_of text) (front_of (unmarked text)) (marked_line_at text) else Blank
 
 -- ---- private key files
 
@@ -70,7 +82,7 @@ opened_at text = or_half text (private_at text)
 
 abbrev pub private_outcome : Result Opened PrivateFault → Outcome
 private_outcome (Ok opened) =
-    asked_outcome None opened.blob opened.comment (subject_of opened.blob)
+    asked_outcome None [] opened.blob opened.comment (subject_of opened.blob)
 private_outcome (Err fault) = Unread (whys.Private fault)
 
 -- ---- files
@@ -90,12 +102,23 @@ outcomes text =
 
 -- ---- what was found out
 
+-- the key that was found, and what a list is asked about it
+abbrev pub found_as : KeyFound → Subject → Found
+found_as found asked =
+    record {
+      marker = found.marker;
+      front = found.front.now;
+      blob = found.blob;
+      comment = found.comment.now;
+      asked = asked;
+    }
+
 -- The outcome is this one.
 abbrev pub GivesOutcome : Given → Outcome → Type 0
 GivesOutcome given.Blank outcome = outcome ≡ Blank
 GivesOutcome (given.Key found) outcome =
     (asked : Subject) × ((subject_of found.blob ≡ Ok asked)
-    × (outcome ≡ asked_outcome found.marker found.blob found.comment.now (Ok asked)))
+    × (outcome ≡ Key (found_as found asked)))
 GivesOutcome (given.Unread why) outcome = outcome ≡ Unread why
 
 -- A list can be asked, or this is why not.

@@ -4,16 +4,19 @@ ghost use Rattle.std.specs.Prelude.{◌≡◌, ◌∷◌, [], ℕ, List, Ok, Opt
 ghost use Rattle.std.specs.List.{slice_split};
 ghost use Rattle.key_text.specs.Lines.{is_newline};
 ghost use Rattle.key_listing.specs.Carries.{Carries, Reaches};
-ghost use Rattle.key_listing.specs.Run.{Item};
+ghost use Rattle.key_listing.specs.Run.{Item, said_of};
+ghost use Rattle.json_lines.specs.Field.{json_line};
 ghost use Rattle.krl_types.specs.Subject.{Subject as SubjectOf};
 ghost use Rattle.krl_held.specs.Entry.{Entry};
 ghost use Rattle.krl_held.specs.Reasons.{reasons_of};
 ghost use Rattle.krl_held.specs.Revocations.{Means};
 ghost use Rattle.krl_held.specs.declared.reasons.Reasons.{Reasons as ReasonsOf};
 ghost use Rattle.krl_audit.specs.Audit.{EndsAudit, JudgesAs, Told, ToldFile, content_of, said_if};
+ghost use Rattle.krl_audit.specs.Objects.{done_object};
 ghost use Rattle.krl_audit.specs.Outcome.{GivesOutcome, Outcome as OutcomeOf, Unread as UnreadOf, opened_at, outcome_of, private_outcome, without_mark};
 
 use crate::counts::Counts;
+use crate::done::{ListFacts, write_done};
 use crate::judge::Judge;
 use crate::outcome::{Outcome, checked, open_private, read_outcome};
 use crate::survey::keyless;
@@ -142,7 +145,7 @@ impl<'q, 'w, W: Sink> Auditor<'q, 'w, W> {
         let place = Place { name, number: 1 };
         match open_private(self.run.alloc, text) {
             Ok(Ok(Private { blob, comment })) => {
-                let outcome = checked(None, blob, comment.as_slice());
+                let outcome = checked(None, &[], blob, comment.as_slice());
                 self.say(place, &outcome)
             }
             Ok(Err(fault)) => self.say(place, &Outcome::Unread(Why::Private(fault))),
@@ -158,6 +161,19 @@ impl<'q, 'w, W: Sink> Auditor<'q, 'w, W> {
         ensures judge { self.new.judge ≡ self.old.judge }
     {
         self.say(Place { name, number: 0 }, &Outcome::Unread(why))
+    }
+
+    /// Says the last object of an audit that nothing stopped: how many files there were, what was
+    /// counted, and the list.
+    pub fn say_done<'a>(&mut self, files: u64, list: &ListFacts<'a>) -> Result<(), RunFault<'a>>
+        ensures said { Carries (said_of list.now.name.now
+            (json_line (done_object files self.old.counts list.now)) ∷ []) result
+            self.old.run.printer self.new.run.printer }
+        ensures judge { self.new.judge ≡ self.old.judge }
+        ensures counts { self.new.counts ≡ self.old.counts }
+    {
+        let made = write_done(self.run.alloc, files, self.counts, list, &mut self.run.line);
+        self.run.say_line(list.name, made)
     }
 
     /// Ends an audit, which a fault stopped or not: sends what waits.

@@ -9,7 +9,8 @@ ghost use Rattle.krl_audit.specs.declared.outcome.Outcome.TheVariants.{Key};
 
 use crate::counts::Kind;
 use crate::outcome::{Found, Outcome};
-use crate::text::{Place, Verdict, write_key, write_unread};
+use crate::said::{say_key, say_unread};
+use crate::text::{Place, Verdict};
 use crate::why::Why;
 use key_text::Marker;
 use krl_held::Revocations;
@@ -17,13 +18,24 @@ use span_sets::Held;
 use ssh_cert::read_any;
 use std::alloc::{AllocError, Global};
 
-/// What is named.
+/// How lines are said.
+#[derive(Clone, Copy, PartialEq, Eq)]
+pub enum Form {
+    /// For people.
+    Text,
+    /// A JSON object on each line.
+    Json,
+}
+
+/// What is named, and how.
 #[derive(Clone, Copy)]
 pub struct Shown {
     /// Whether revoked keys, and what is not read, are named.
     pub findings: bool,
     /// Whether keys that are not revoked are named.
     pub fine: bool,
+    /// How they are named.
+    pub form: Form,
 }
 
 /// A list that is asked, and what is named.
@@ -80,7 +92,7 @@ impl<'q> Judge<'q> {
     {
         let said = self.shown.findings;
         if said {
-            write_unread(alloc, place, why, line)?;
+            say_unread(alloc, self.shown.form, place, why, line)?;
         }
         Ok(Made {
             kind: Kind::Unread,
@@ -115,7 +127,7 @@ impl<'q> Judge<'q> {
                 subject: &subject,
                 reasons,
             };
-            write_key(alloc, place, &verdict, line)?;
+            say_key(alloc, self.shown.form, place, &verdict, line)?;
         }
         Ok(Made { kind, said })
     }

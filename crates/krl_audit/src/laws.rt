@@ -1,23 +1,31 @@
 //! Laws of what an audit finds lines to be. Each function does nothing: its contract is the law.
 
-ghost use Rattle.std.specs.Prelude.{◌≡◌, ℕ, true, false, List, None, Ok, Some};
+ghost use Rattle.std.specs.Prelude.{◌≡◌, ℕ, ◌<◌, ◌^◌, true, false, List, None, Ok, Some};
 ghost use Rattle.ssh_wire.specs.Wire.{IsBytes};
 ghost use Rattle.ssh_cert.specs.SubjectReading.{IsSubject};
 ghost use Rattle.key_text.specs.KeyFile.{has_key};
 ghost use Rattle.key_text.specs.KeyLine.{IsKeyLine};
 ghost use Rattle.key_text.specs.LineFaults.{IsFirstLineFault};
-ghost use Rattle.key_text.specs.Marker.{IsMarkedLine, marker_of};
+ghost use Rattle.key_text.specs.Marker.{IsMarkedLine, marker_of, unmarked};
 ghost use Rattle.key_text.specs.declared.line_fault.LineFault.{LineFault};
 ghost use Rattle.key_text.specs.declared.marker.Marker.{Marker as MarkerOf};
 ghost use Rattle.krl_types.specs.Subject.{Subject};
 ghost use Rattle.krl_held.specs.Entry.{Entry};
 ghost use Rattle.krl_held.specs.Reasons.{reasons_of};
 ghost use Rattle.krl_held.specs.Revoked.{Revoked};
+ghost use Rattle.krl_held.specs.declared.reasons.Reasons.{Reasons};
+ghost use Rattle.json_lines.specs.ReadBack.{IsReadBack};
 ghost use Rattle.krl_audit.specs.Audit.{kind_of};
+ghost use Rattle.krl_audit.specs.Front.{front_of};
+ghost use Rattle.krl_audit.specs.Objects.{done_object, key_object, unread_object};
 ghost use Rattle.krl_audit.specs.Outcome.{Blank, Found, Key, Unread, asked_outcome, outcome_of};
+ghost use Rattle.krl_audit.specs.declared.counts.Counts.{Counts as CountsOf};
 ghost use Rattle.krl_audit.specs.declared.counts.Kind.TheVariants as kinds;
+ghost use Rattle.krl_audit.specs.declared.done.ListFacts.{ListFacts as ListFactsOf};
+ghost use Rattle.krl_audit.specs.declared.why.Why.{Why as WhyOf};
 ghost use Rattle.krl_audit.specs.declared.why.Why.TheVariants.{Line};
 
+use json_lines::laws::lines_are_read_back;
 use key_text::laws::{line_read_where_spelled, line_refused_by_first_fault, marked_line_is_read};
 use ssh_cert::laws::asked_where_spelled;
 
@@ -27,11 +35,12 @@ pub fn lines_by_what_is_spelled()
     ensures none { (text : List ℕ) → has_key text ≡ false → outcome_of text ≡ Blank }
     ensures plain { (text word blob comment : List ℕ) (asked : Subject) → has_key text ≡ true
         → marker_of text ≡ None → IsKeyLine text word blob comment → IsSubject blob asked
-        → outcome_of text ≡ asked_outcome None blob comment (Ok asked) }
+        → outcome_of text ≡ asked_outcome None (front_of text) blob comment (Ok asked) }
     ensures marked { (text : List ℕ) (marker : MarkerOf) (word blob comment : List ℕ)
         (asked : Subject) → has_key text ≡ true → IsMarkedLine text marker word blob comment
         → IsSubject blob asked
-        → outcome_of text ≡ asked_outcome (Some marker) blob comment (Ok asked) }
+        → outcome_of text
+        ≡ asked_outcome (Some marker) (front_of (unmarked text)) blob comment (Ok asked) }
     ensures fault { (text : List ℕ) (fault : LineFault) → IsBytes text → has_key text ≡ true
         → marker_of text ≡ None → IsFirstLineFault text fault
         → outcome_of text ≡ Unread (Line fault) }
@@ -50,3 +59,16 @@ pub fn revoked_where_entries_revoke()
         → (Revoked entries found.asked → ⊥)
         → kind_of (reasons_of entries) (Key found) ≡ kinds.Fine }
 {}
+
+/// Each object that an audit says is one line, which a JSON reader reads as exactly that object.
+pub fn objects_are_read_back()
+    ensures key { (name : List ℕ) (number : ℕ) (found : Found) (all : Reasons)
+        → number < 2 ^ 64 → IsReadBack (key_object name number found all) }
+    ensures unread { (name : List ℕ) (number : ℕ) (why : WhyOf) → number < 2 ^ 64
+        → IsReadBack (unread_object name number why) }
+    ensures done { (files : ℕ) (counts : CountsOf) (list : ListFactsOf) → files < 2 ^ 64
+        → counts.keys < 2 ^ 64 → counts.revoked < 2 ^ 64 → counts.unread < 2 ^ 64
+        → IsReadBack (done_object files counts list) }
+{
+    lines_are_read_back();
+}

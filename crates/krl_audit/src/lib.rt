@@ -4,10 +4,16 @@
 
 mod auditor;
 mod counts;
+mod done;
+mod fault_text;
+mod front;
 mod judge;
 pub mod laws;
+mod objects;
 mod outcome;
+mod reason_values;
 mod reasons;
+mod said;
 mod survey;
 mod text;
 mod visible;
@@ -15,6 +21,7 @@ mod why;
 
 pub use auditor::Auditor;
 pub use counts::{Counts, Kind};
-pub use judge::{Judge, Shown};
+pub use done::ListFacts;
+pub use judge::{Form, Judge, Shown};
 pub use outcome::{Found, Outcome, read_outcome};
 pub use why::{Refusal, Why};

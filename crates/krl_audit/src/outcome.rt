@@ -5,6 +5,7 @@ ghost use Rattle.ssh_cert.specs.SubjectReading.{subject_of};
 ghost use Rattle.key_text.specs.ContainerReading.{private_at};
 ghost use Rattle.krl_audit.specs.Outcome.{GivesOpened, GivesOutcome, SaysFault, asked_outcome, half_opened, opened_at, outcome_of};
 
+use crate::front::front_of;
 use crate::why::Why;
 use key_text::{
     LineFault, Marker, Private, PrivateFault, has_key, read_line, read_private, read_public_half,
@@ -19,6 +20,8 @@ use std::alloc::{AllocError, Global};
 pub struct Found<'a> {
     /// What the line says of the key.
     pub marker: Option<Marker>,
+    /// What is before the key: host names, an options field, or nothing.
+    pub front: &'a [u8],
     /// The key's bytes: a plain key or a certificate.
     pub blob: Bytes,
     /// What is said of the key. It may be empty.
@@ -48,20 +51,26 @@ pub fn read_outcome<'a>(alloc: Global, text: &'a [u8]) -> Result<Outcome<'a>, Al
     }
     let (marker, rest) = split_marker(text);
     match read_line(alloc, rest) {
-        Ok(line) => Ok(checked(marker, line.blob, line.comment)),
+        Ok(line) => Ok(checked(marker, front_of(rest), line.blob, line.comment)),
         Err(LineFault::NoMemory) => Err(AllocError),
         Err(fault) => Ok(Outcome::Unread(Why::Line(fault))),
     }
 }
 
 /// A key with these bytes, where they are those of a plain key or of a certificate.
-pub(crate) fn checked<'a>(marker: Option<Marker>, blob: Bytes, comment: &'a [u8]) -> Outcome<'a>
+pub(crate) fn checked<'a>(
+    marker: Option<Marker>,
+    front: &'a [u8],
+    blob: Bytes,
+    comment: &'a [u8],
+) -> Outcome<'a>
     ensures { GivesOutcome result
-        (asked_outcome marker blob comment.now (subject_of blob)) }
+        (asked_outcome marker front.now blob comment.now (subject_of blob)) }
 {
     match fault_of(blob.as_slice()) {
         None => Outcome::Key(Found {
             marker,
+            front,
             blob,
             comment,
         }),

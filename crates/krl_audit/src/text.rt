@@ -108,9 +108,9 @@ fn push_key(
     text.extend_from_slice(&print)
 }
 
-// The name of the type of a key, which is its first string.
+/// The name of the type of a key, which is its first string.
 #[tactic(auto, unfolding(crate::specs::Text::type_of))]
-fn type_of(blob: &[u8]) -> &[u8]
+pub(crate) fn type_of(blob: &[u8]) -> &[u8]
     ensures { result.now ≡ type_of blob.now }
 {
     match Cursor::new(blob).string() {

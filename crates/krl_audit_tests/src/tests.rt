@@ -4,4 +4,5 @@ mod files;
 mod keys;
 mod lines;
 mod made;
+mod objects;
 mod page;

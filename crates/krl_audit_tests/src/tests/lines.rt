@@ -1,10 +1,7 @@
 //! The outcome of each line, as people read it.
 
 use crate::tests::keys::{ALICE, ALICE_PRINT, AUTHORITY, AUTHORITY_PRINT, BOB, BOB_PRINT};
-use crate::tests::made::{
-    ALL, FINDINGS, Listed, NOTHING, alice_and_bob, authority_of, blob_of, nothing, said_of,
-};
-use key_text::{sha1_of, sha256_of};
+use crate::tests::made::{ALL, FINDINGS, NOTHING, alice_and_bob, all_of_bob, nothing, said_of};
 use std::alloc::Global;
 use std::process::Abort;
 
@@ -103,28 +100,9 @@ fn a_line_that_is_not_read_is_named_with_its_reason(rt: HostRuntime) {
     }
 }
 
-// A list with each entry that names Bob's certificate, in the order of the reasons.
-fn all_of_bob(rt: &impl Abort, alloc: Global, id: &[u8]) -> Listed {
-    let mut list = nothing(alloc);
-    let authority = blob_of(rt, alloc, AUTHORITY);
-    let added = [
-        list.add_key(authority.as_slice()),
-        list.add_sha1(&sha1_of(authority.as_slice())),
-        list.add_sha256(&sha256_of(authority.as_slice())),
-        list.add_serials(authority_of(authority.as_slice()), 8, 8),
-        list.add_serials(None, 1, 8),
-        list.add_id(authority_of(authority.as_slice()), id),
-        list.add_id(None, id),
-    ];
-    for one in added {
-        one.expect(rt, "there is memory");
-    }
-    list
-}
-
 #[test]
 fn all_reasons_are_named_in_their_order(rt: HostRuntime) {
-    let list = all_of_bob(&rt, rt.alloc(), b"bob");
+    let list = all_of_bob(&rt, rt.alloc());
     let files = [("f", Ok(BOB.as_bytes()))];
     let found = said_of(&rt, rt.alloc(), &list, FINDINGS, &files);
     let of_authority = AUTHORITY_PRINT;

@@ -5,8 +5,8 @@ ghost use Rattle.krl_held.specs.Authority.{IsAuthority};
 use crate::tests::keys::{ALICE, AUTHORITY, BOB};
 use byte_streams::{Sink, ToWrite};
 use key_listing::{Printer, Run};
-use key_text::read_line;
-use krl_audit::{Auditor, Counts, Judge, Refusal, Shown};
+use key_text::{read_line, sha1_of, sha256_of};
+use krl_audit::{Auditor, Counts, Form, Judge, Refusal, Shown};
 use krl_held::Revocations;
 use parts_for_tests::Taker;
 use span_sets::Held;
@@ -18,18 +18,28 @@ use std::process::Abort;
 pub const FINDINGS: Shown = Shown {
     findings: true,
     fine: false,
+    form: Form::Text,
 };
 
 /// All keys are printed.
 pub const ALL: Shown = Shown {
     findings: true,
     fine: true,
+    form: Form::Text,
+};
+
+/// All keys are printed, as objects.
+pub const OBJECTS: Shown = Shown {
+    findings: true,
+    fine: true,
+    form: Form::Json,
 };
 
 /// Nothing is printed.
 pub const NOTHING: Shown = Shown {
     findings: false,
     fine: false,
+    form: Form::Text,
 };
 
 /// The blob of the key of a line.
@@ -62,6 +72,25 @@ pub fn alice_and_bob(rt: &impl Abort, alloc: Global) -> Listed {
     list.add_key(alice.as_slice()).expect(rt, "there is memory");
     list.add_id(authority_of(authority.as_slice()), b"bob")
         .expect(rt, "there is memory");
+    list
+}
+
+/// A list with each entry that names Bob's certificate beside his key, in the order of the reasons.
+pub fn all_of_bob(rt: &impl Abort, alloc: Global) -> Listed {
+    let mut list = nothing(alloc);
+    let authority = blob_of(rt, alloc, AUTHORITY);
+    let added = [
+        list.add_key(authority.as_slice()),
+        list.add_sha1(&sha1_of(authority.as_slice())),
+        list.add_sha256(&sha256_of(authority.as_slice())),
+        list.add_serials(authority_of(authority.as_slice()), 8, 8),
+        list.add_serials(None, 1, 8),
+        list.add_id(authority_of(authority.as_slice()), b"bob"),
+        list.add_id(None, b"bob"),
+    ];
+    for one in added {
+        one.expect(rt, "there is memory");
+    }
     list
 }
 

@@ -1,14 +1,19 @@
-//! The caller of the page of `krl_audit`.
+//! The callers of the pages of `krl_audit` and `json_lines`.
+
+ghost use Rattle.std.specs.Prelude.{◌≡◌, ◌∷◌, [], IfOk, codes};
+ghost use Rattle.json_lines.specs.Field.{json_line, number_field, object_of, text_field};
 
 use crate::tests::keys::ALICE;
 use crate::tests::made::alice_and_bob;
 use byte_streams::{Sink, ToWrite};
+use json_lines::{LineWriter, put_number, put_text};
 use key_files::RunFault;
 use key_listing::{Printer, Run};
-use krl_audit::{Auditor, Counts, Judge, Shown};
+use krl_audit::{Auditor, Counts, Form, Judge, Shown};
 use krl_held::Revocations;
 use parts_for_tests::Taker;
 use span_sets::Held;
+use std::alloc::{AllocError, Global};
 
 /// Audits one file by a list, and names what it finds.
 fn audit_one<W: Sink>(
@@ -19,6 +24,7 @@ fn audit_one<W: Sink>(
     let shown = Shown {
         findings: true,
         fine: false,
+        form: Form::Text,
     };
     let judge = Judge { list, shown };
     let mut auditor = Auditor {
@@ -43,4 +49,24 @@ fn one_file_is_audited(rt: HostRuntime) {
     };
     let counts = audit_one(run, &list, ALICE.as_bytes()).expect(&rt, "there is memory");
     assert!(rt; counts.keys == 1 && counts.revoked == 1 && counts.unread == 0);
+}
+
+/// The line of an object with a name, which may be any bytes, and a count.
+fn count_line(alloc: Global, name: &[u8], count: u64) -> Result<Vec<u8>, AllocError>
+    ensures { IfOk result (λ line. line.items ≡ json_line (object_of
+        (text_field (codes "name") name.now ∷ number_field (codes "count") count ∷ []))) }
+{
+    let mut out = LineWriter::object(alloc)?;
+    put_text(alloc, &mut out, "name", name)?;
+    put_number(&mut out, "count", count)?;
+    out.end_object()
+}
+
+#[test]
+fn an_object_is_a_line(rt: HostRuntime) {
+    let line = count_line(rt.alloc(), b"a", 3).expect(&rt, "there is memory");
+    assert_eq!(rt;
+        line.as_slice(),
+        b"{\"name\":\"a\",\"count\":3}\n".as_slice()
+    );
 }

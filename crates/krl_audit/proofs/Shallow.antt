@@ -1,0 +1,134 @@
+-- The objects of findings nest three deep, and their numbers are counts.
+use Rattle.std.proofs.Common.{ℕ, ◌<◌, ◌^◌, Bool, true, false, List, [], ◌∷◌, ◌++◌, Option, None, Some, codes, nat_lt, if◌then◌else◌, arith}
+use Rattle.cert_listing.specs.Time.{instant_text}
+use Rattle.hex.specs.Hex.{encode_lower}
+use Rattle.key_text.specs.Fingerprints.{fingerprint_text}
+use Rattle.key_text.specs.Marker.{marker_word}
+use Rattle.key_text.specs.declared.hash.Hash.TheVariants.{Sha256}
+use Rattle.key_text.specs.declared.marker.Marker.{Marker}
+use Rattle.krl_types.specs.Subject.{CertNames, Subject}
+use Rattle.krl_held.specs.Reasons.{any_reason}
+use Rattle.krl_held.specs.declared.reasons.KeyReasons.{KeyReasons}
+use Rattle.krl_held.specs.declared.reasons.NameReasons.{NameReasons}
+use Rattle.krl_held.specs.declared.reasons.Reasons.{Reasons}
+use Rattle.json.specs.Json.{Json}
+use Rattle.json_lines.specs.Field.{Field, number_field, text_field, word_field}
+use Rattle.json_lines.proofs.Shallow.{FieldsFit, Fits, ValuesFit, array_fits, deeper, digits_fit, fields_fit, number_fits, object_fits, text_fits, values_fit, word_fits}
+use Rattle.krl_audit.specs.Front.{has_hosts}
+use Rattle.krl_audit.specs.Objects.{authority_values, by_value, cert_field, cert_fields, cert_names, cert_values, count_fields, done_object, front_fields, front_word, id_field, key_fields, key_object, key_values, line_fields, list_facts, list_field, list_fields, marker_fields, name_value, name_values, of_value, place_fields, reason_values, reasons_field, serial_field, status_word, unread_object, value_if, why_fault, why_fields, with_cert_values}
+use Rattle.krl_audit.specs.Outcome.{Found}
+use Rattle.krl_audit.specs.Text.{type_of}
+use Rattle.krl_audit.specs.Why.{why_text}
+use Rattle.krl_audit.specs.declared.counts.Counts.{Counts}
+use Rattle.krl_audit.specs.declared.done.ListFacts.{ListFacts}
+use Rattle.krl_audit.specs.declared.why.Why.{Why}
+
+-- ---- reasons
+
+if_fits : (d : ℕ) (said : Bool) (value : Json) → Fits d value → ValuesFit d (value_if said value)
+unfolding value_if
+if_fits d true value fit = (fit, tt)
+if_fits d false value fit = tt
+
+by_fits : (by : List ℕ) → Fits 1 (by_value by [])
+by_fits by = object_fits 0 (word_field (codes "by") by ∷ []) (word_fits 0 (codes "by") by, tt)
+
+of_fits : (of : List ℕ) → Fits 1 (of_value of)
+of_fits of = object_fits 0 (word_field (codes "by") (codes "authority") ∷ word_field (codes "of") of ∷ []) (word_fits 0 (codes "by") (codes "authority"), (word_fits 0 (codes "of") of, tt))
+
+name_fits : (by : List ℕ) (name : Field) (authority : List ℕ) → Fits 0 name.value → Fits 1 (name_value by name authority)
+name_fits by name authority fit = object_fits 0 (word_field (codes "by") by ∷ name ∷ text_field (codes "authority") authority ∷ []) (word_fits 0 (codes "by") by, (fit, (text_fits 0 (codes "authority") authority, tt)))
+
+three_fit : (a b c : List Json) → ValuesFit 1 a → ValuesFit 1 b → ValuesFit 1 c → ValuesFit 1 (a ++ (b ++ c))
+three_fit a b c first second third = values_fit 1 a (b ++ c) first (values_fit 1 b c second third)
+
+key_values_fit : (key : KeyReasons) → ValuesFit 1 (key_values key)
+key_values_fit key =
+    three_fit _ _ _ (if_fits 1 key.blob _ (by_fits (codes "key"))) (if_fits 1 key.sha1 _ (by_fits (codes "sha1"))) (if_fits 1 key.sha256 _ (by_fits (codes "sha256")))
+
+authority_values_fit : (key : KeyReasons) → ValuesFit 1 (authority_values key)
+authority_values_fit key =
+    three_fit _ _ _ (if_fits 1 key.blob _ (of_fits (codes "key"))) (if_fits 1 key.sha1 _ (of_fits (codes "sha1"))) (if_fits 1 key.sha256 _ (of_fits (codes "sha256")))
+
+name_values_fit : (by : List ℕ) (name : Field) (print : List ℕ) (reasons : NameReasons) → Fits 0 name.value → ValuesFit 1 (name_values by name print reasons)
+name_values_fit by name print reasons fit =
+    values_fit 1 _ _ (if_fits 1 reasons.own _ (name_fits by name print fit)) (if_fits 1 reasons.all _ (name_fits by name (codes "all") fit))
+
+cert_values_fit : (cert : CertNames) (all : Reasons) → ValuesFit 1 (cert_values cert all)
+cert_values_fit cert all =
+    three_fit _ _ _ (authority_values_fit all.authority)
+    (name_values_fit (codes "serial") (serial_field cert.serial) (fingerprint_text Sha256 cert.authority) all.serial (digits_fit 0 (codes "serial") cert.serial))
+    (name_values_fit (codes "id") (id_field cert.key_id) (fingerprint_text Sha256 cert.authority) all.key_id (text_fits 0 (codes "id") cert.key_id))
+
+with_cert_values_fit : (cert : Option CertNames) (all : Reasons) → ValuesFit 1 (with_cert_values cert all)
+with_cert_values_fit None all = tt
+with_cert_values_fit (Some cert) all = cert_values_fit cert all
+
+reasons_fit : (asked : Subject) (all : Reasons) → Fits 2 (reasons_field asked all).value
+reasons_fit asked all =
+    array_fits 1 (reason_values asked all) (values_fit 1 (key_values all.key) (with_cert_values asked.cert all) (key_values_fit all.key) (with_cert_values_fit asked.cert all))
+
+-- ---- fields
+
+line_fits : (number : ℕ) (test : Bool) → number < 2 ^ 64 → FieldsFit 2 (if test then number_field (codes "line") number ∷ [] else [])
+line_fits number true small = (number_fits 2 (codes "line") number small, tt)
+line_fits number false small = tt
+
+place_fits : (name : List ℕ) (number : ℕ) → number < 2 ^ 64 → FieldsFit 2 (place_fields name number)
+place_fits name number small = (word_fits 2 (codes "file") name, line_fits number (nat_lt 0 number) small)
+
+key_fits : (blob comment : List ℕ) (asked : Subject) (all : Reasons) → FieldsFit 2 (key_fields blob comment asked all)
+key_fits blob comment asked all =
+    (word_fits 2 (codes "status") (status_word (any_reason all)), (text_fits 2 (codes "type") (type_of blob), (text_fits 2 (codes "fingerprint") (fingerprint_text Sha256 asked.plain), (text_fits 2 (codes "comment") comment, tt))))
+
+marker_fits : (marker : Option Marker) → FieldsFit 2 (marker_fields marker)
+marker_fits None = tt
+marker_fits (Some marker) = (word_fits 2 (codes "marker") (marker_word marker), tt)
+
+front_fits : (hosts : Bool) (front : List ℕ) → FieldsFit 2 (front_fields hosts front)
+front_fits hosts [] = tt
+front_fits hosts (byte ∷ bytes) = (text_fits 2 (front_word hosts) (byte ∷ bytes), tt)
+
+names_fit : (cert : CertNames) → FieldsFit 0 (cert_names cert)
+names_fit cert = (digits_fit 0 (codes "serial") cert.serial, (text_fits 0 (codes "id") cert.key_id, (text_fits 0 (codes "authority") (fingerprint_text Sha256 cert.authority), tt)))
+
+cert_fits : (cert : Option CertNames) → FieldsFit 2 (cert_fields cert)
+cert_fits None = tt
+cert_fits (Some cert) = (deeper 1 2 (cert_field cert).value (omega arith) (object_fits 0 (cert_names cert) (names_fit cert)), tt)
+
+list_fits : (asked : Subject) (all : Reasons) → FieldsFit 2 (list_fields asked all)
+list_fits asked all = fields_fit 2 (cert_fields asked.cert) (reasons_field asked all ∷ []) (cert_fits asked.cert) (reasons_fit asked all, tt)
+
+-- ---- objects
+
+pub key_object_fits : (name : List ℕ) (number : ℕ) (found : Found) (all : Reasons) → number < 2 ^ 64 → Fits 3 (key_object name number found all)
+key_object_fits name number found all small =
+    let place = place_fields name number in
+    let key = key_fields found.blob found.comment found.asked all in
+    let line = line_fields name found.marker found.front in
+    let list = list_fields found.asked all in
+    let line_fit = fields_fit 2 (marker_fields found.marker) (front_fields (has_hosts name found.marker) found.front) (marker_fits found.marker) (front_fits (has_hosts name found.marker) found.front) in
+    object_fits 2 (place ++ (key ++ (line ++ list)))
+    (fields_fit 2 place (key ++ (line ++ list)) (place_fits name number small)
+    (fields_fit 2 key (line ++ list) (key_fits found.blob found.comment found.asked all) (fields_fit 2 line list line_fit (list_fits found.asked all))))
+
+pub unread_object_fits : (name : List ℕ) (number : ℕ) (why : Why) → number < 2 ^ 64 → Fits 3 (unread_object name number why)
+unread_object_fits name number why small =
+    object_fits 2 (place_fields name number ++ why_fields why) (fields_fit 2 (place_fields name number) (why_fields why) (place_fits name number small)
+    (word_fits 2 (codes "status") (codes "unread"), (word_fits 2 (codes "fault") (why_fault why), (text_fits 2 (codes "why") (why_text why), tt))))
+
+facts_fit : (list : ListFacts) → FieldsFit 0 (list_facts list)
+facts_fit list =
+    (word_fits 0 (codes "file") list.name.now, (digits_fit 0 (codes "version") list.version, (text_fits 0 (codes "generated") (instant_text list.generated), (word_fits 0 (codes "sha256") (encode_lower list.sha256), tt))))
+
+list_field_fits : (list : ListFacts) → FieldsFit 2 (list_field list ∷ [])
+list_field_fits list = (deeper 1 2 (list_field list).value (omega arith) (object_fits 0 (list_facts list) (facts_fit list)), tt)
+
+pub done_object_fits : (files : ℕ) (counts : Counts) (list : ListFacts) → files < 2 ^ 64 → counts.keys < 2 ^ 64 → counts.revoked < 2 ^ 64 → counts.unread < 2 ^ 64 → Fits 3 (done_object files counts list)
+done_object_fits files counts list few keys revoked unread =
+    object_fits 2 (word_field (codes "status") (codes "done") ∷ (count_fields files counts ++ list_field list ∷ [])) (
+      word_fits 2 (codes "status") (codes "done"),
+      fields_fit 2 (count_fields files counts) (list_field list ∷ [])
+          (number_fits 2 (codes "files") files few, (number_fits 2 (codes "keys") counts.keys keys, (number_fits 2 (codes "revoked") counts.revoked revoked, (number_fits 2 (codes "unread") counts.unread unread, tt))))
+          (list_field_fits list),
+    )

@@ -1,0 +1,24 @@
+-- Each object nests three deep at most.
+use Rattle.std.proofs.Common.{◌≤◌, arith}
+use Rattle.json.specs.Json.{Json, max_depth}
+use Rattle.json.specs.Tree.{depth}
+use Rattle.json_lines.proofs.Shallow.{Fits}
+use Rattle.krl_audit.specs.Objects.{done_object, key_object, unread_object}
+use Rattle.krl_audit.proofs.Shallow.{done_object_fits, key_object_fits, unread_object_fits}
+use Rattle.krl_audit.proofs.laws.objects_are_read_back.Goals as goal
+
+shallow : (value : Json) → Fits 3 value → depth value ≤ max_depth
+shallow value fit =
+    let three = fit.1 in omega arith
+
+pub returns-clause-key : goal.returns-clause-key
+returns-clause-key c = λ name number found all small.
+    let fit = key_object_fits name number found all small in c.lines_are_read_back.ensures (key_object name number found all) fit.0 (shallow (key_object name number found all) fit)
+
+pub returns-clause-unread : goal.returns-clause-unread
+returns-clause-unread c = λ name number why small.
+    let fit = unread_object_fits name number why small in c.lines_are_read_back.ensures (unread_object name number why) fit.0 (shallow (unread_object name number why) fit)
+
+pub returns-clause-done : goal.returns-clause-done
+returns-clause-done c = λ files counts list few keys revoked unread.
+    let fit = done_object_fits files counts list few keys revoked unread in c.lines_are_read_back.ensures (done_object files counts list) fit.0 (shallow (done_object files counts list) fit)

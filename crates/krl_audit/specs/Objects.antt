@@ -1,0 +1,208 @@
+-- Findings as JSON objects.
+use Rattle.std.specs.Prelude.{ℕ, Bool, true, false, List, [], ◌∷◌, ◌++◌, codes, nat_lt, Option, Some, None, if◌then◌else◌}
+use Rattle.hex.specs.Hex.{encode_lower}
+use Rattle.json.specs.Json.{Json}
+use Rattle.json_lines.specs.Field.{Field, array_of, digits_field, field, number_field, object_of, text_field, word_field}
+use Rattle.cert_listing.specs.Time.{instant_text}
+use Rattle.key_files.specs.FileFault.{file_fault_text}
+use Rattle.key_files.specs.declared.file_fault.FileFault.{FileFault}
+use Rattle.key_files.specs.declared.file_fault.FileFault.TheVariants as files
+use Rattle.key_text.specs.Fingerprints.{fingerprint_text}
+use Rattle.key_text.specs.LineFault.{fault_text as line_fault_text}
+use Rattle.key_text.specs.Marker.{marker_word}
+use Rattle.key_text.specs.PrivateFault.{private_fault_text}
+use Rattle.key_text.specs.declared.hash.Hash.TheVariants.{Sha256}
+use Rattle.key_text.specs.declared.marker.Marker.{Marker}
+use Rattle.krl_types.specs.Subject.{CertNames, Subject}
+use Rattle.krl_held.specs.Reasons.{any_reason}
+use Rattle.krl_held.specs.declared.reasons.KeyReasons.{KeyReasons}
+use Rattle.krl_held.specs.declared.reasons.NameReasons.{NameReasons}
+use Rattle.krl_held.specs.declared.reasons.Reasons.{Reasons}
+use Rattle.ssh_cert.specs.SubjectFault.{subject_fault_text}
+use Rattle.krl_audit.specs.Front.{has_hosts}
+use Rattle.krl_audit.specs.Outcome.{Found}
+use Rattle.krl_audit.specs.Text.{type_of}
+use Rattle.krl_audit.specs.Why.{why_text}
+use Rattle.krl_audit.specs.declared.counts.Counts.{Counts}
+use Rattle.krl_audit.specs.declared.done.ListFacts.{ListFacts}
+use Rattle.krl_audit.specs.declared.why.Refusal.{Refusal}
+use Rattle.krl_audit.specs.declared.why.Refusal.TheVariants as refusals
+use Rattle.krl_audit.specs.declared.why.Why.{Why}
+use Rattle.krl_audit.specs.declared.why.Why.TheVariants as whys
+
+-- the name of a file, and the number of a line of it; 0 stands for the whole file
+abbrev pub place_fields : List ℕ → ℕ → List Field
+place_fields name number =
+    word_field (codes "file") name
+    ∷ (if nat_lt 0 number then number_field (codes "line") number ∷ [] else [])
+
+-- ---- reasons
+
+-- a value where it is said
+unfoldable pub value_if : Bool → Json → List Json
+value_if true value = value ∷ []
+value_if false value = []
+
+abbrev pub by_value : List ℕ → List Field → Json
+by_value by fields = object_of (word_field (codes "by") by ∷ fields)
+
+-- those that name the key
+abbrev pub key_values : KeyReasons → List Json
+key_values key =
+    value_if key.blob (by_value (codes "key") [])
+    ++ (value_if key.sha1 (by_value (codes "sha1") [])
+    ++ value_if key.sha256 (by_value (codes "sha256") []))
+
+abbrev pub of_value : List ℕ → Json
+of_value of = by_value (codes "authority") (word_field (codes "of") of ∷ [])
+
+-- those that name the key of the authority
+abbrev pub authority_values : KeyReasons → List Json
+authority_values key =
+    value_if key.blob (of_value (codes "key"))
+    ++ (value_if key.sha1 (of_value (codes "sha1"))
+    ++ value_if key.sha256 (of_value (codes "sha256")))
+
+-- a serial number or a key ID, under the authority of this fingerprint or under all
+abbrev pub name_value : List ℕ → Field → List ℕ → Json
+name_value by name authority = by_value by (name ∷ text_field (codes "authority") authority ∷ [])
+
+abbrev pub name_values : List ℕ → Field → List ℕ → NameReasons → List Json
+name_values by name print reasons =
+    value_if reasons.own (name_value by name print)
+    ++ value_if reasons.all (name_value by name (codes "all"))
+
+abbrev pub serial_field : ℕ → Field
+serial_field serial = digits_field (codes "serial") serial
+
+abbrev pub id_field : List ℕ → Field
+id_field id = text_field (codes "id") id
+
+abbrev pub cert_values : CertNames → Reasons → List Json
+cert_values cert all =
+    let print = fingerprint_text Sha256 cert.authority in
+    authority_values all.authority
+    ++ (name_values (codes "serial") (serial_field cert.serial) print all.serial
+    ++ name_values (codes "id") (id_field cert.key_id) print all.key_id)
+
+abbrev pub with_cert_values : Option CertNames → Reasons → List Json
+with_cert_values None all = []
+with_cert_values (Some cert) all = cert_values cert all
+
+-- all reasons, in the order in which people read them
+abbrev pub reason_values : Subject → Reasons → List Json
+reason_values asked all = key_values all.key ++ with_cert_values asked.cert all
+
+-- ---- keys
+
+abbrev pub status_word : Bool → List ℕ
+status_word true = codes "revoked"
+status_word false = codes "ok"
+
+-- the type of a key, the fingerprint of its plain key, and its comment
+abbrev pub key_fields : (blob comment : List ℕ) → Subject → Reasons → List Field
+key_fields blob comment asked all =
+    word_field (codes "status") (status_word (any_reason all))
+    ∷ text_field (codes "type") (type_of blob)
+    ∷ text_field (codes "fingerprint") (fingerprint_text Sha256 asked.plain)
+    ∷ text_field (codes "comment") comment ∷ []
+
+abbrev pub marker_fields : Option Marker → List Field
+marker_fields None = []
+marker_fields (Some marker) = word_field (codes "marker") (marker_word marker) ∷ []
+
+abbrev pub front_word : Bool → List ℕ
+front_word true = codes "hosts"
+front_word false = codes "options"
+
+abbrev pub front_fields : Bool → List ℕ → List Field
+front_fields hosts [] = []
+front_fields hosts (byte ∷ bytes) = text_field (front_word hosts) (byte ∷ bytes) ∷ []
+
+-- what else is on the line
+abbrev pub line_fields : List ℕ → Option Marker → List ℕ → List Field
+line_fields name marker front =
+    marker_fields marker ++ front_fields (has_hosts name marker) front
+
+abbrev pub cert_names : CertNames → List Field
+cert_names cert =
+    serial_field cert.serial ∷ id_field cert.key_id
+    ∷ text_field (codes "authority") (fingerprint_text Sha256 cert.authority) ∷ []
+
+abbrev pub cert_field : CertNames → Field
+cert_field cert = field (codes "certificate") (object_of (cert_names cert))
+
+abbrev pub cert_fields : Option CertNames → List Field
+cert_fields None = []
+cert_fields (Some cert) = cert_field cert ∷ []
+
+abbrev pub reasons_field : Subject → Reasons → Field
+reasons_field asked all = field (codes "reasons") (array_of (reason_values asked all))
+
+-- the certificate, and why it or its key is revoked
+abbrev pub list_fields : Subject → Reasons → List Field
+list_fields asked all =
+    cert_fields asked.cert ++ reasons_field asked all ∷ []
+
+-- the object of a key, revoked or not
+abbrev pub key_object : List ℕ → ℕ → Found → Reasons → Json
+key_object name number found all =
+    object_of (place_fields name number
+    ++ (key_fields found.blob found.comment found.asked all
+    ++ (line_fields name found.marker found.front ++ list_fields found.asked all)))
+
+-- ---- what is not read
+
+-- A file that is refused before its first byte is one that cannot be opened.
+abbrev pub refusal_fault : Refusal → FileFault
+refusal_fault refusals.Missing = files.Open
+refusal_fault refusals.Denied = files.Open
+refusal_fault refusals.Irregular = files.Open
+refusal_fault refusals.Loop = files.Open
+refusal_fault refusals.Open = files.Open
+refusal_fault refusals.Read = files.Read
+refusal_fault refusals.TooLong = files.TooLong
+
+-- the fault, by its family, its number and its name
+abbrev pub why_fault : Why → List ℕ
+why_fault (whys.Line fault) = line_fault_text fault
+why_fault (whys.Subject fault) = subject_fault_text fault
+why_fault (whys.Private fault) = private_fault_text fault
+why_fault (whys.File refusal) = file_fault_text (refusal_fault refusal)
+why_fault (whys.NoKeys lines) = file_fault_text files.NoKeys
+
+abbrev pub why_fields : Why → List Field
+why_fields why =
+    word_field (codes "status") (codes "unread")
+    ∷ word_field (codes "fault") (why_fault why)
+    ∷ text_field (codes "why") (why_text why) ∷ []
+
+-- the object of what is not read: nothing of the line itself is in it
+abbrev pub unread_object : List ℕ → ℕ → Why → Json
+unread_object name number why = object_of (place_fields name number ++ why_fields why)
+
+-- ---- the end
+
+-- the list that was asked: its name, version and date, and the SHA-256 of its bytes
+abbrev pub list_facts : ListFacts → List Field
+list_facts list =
+    word_field (codes "file") list.name.now
+    ∷ digits_field (codes "version") list.version
+    ∷ text_field (codes "generated") (instant_text list.generated)
+    ∷ word_field (codes "sha256") (encode_lower list.sha256) ∷ []
+
+abbrev pub list_field : ListFacts → Field
+list_field list = field (codes "list") (object_of (list_facts list))
+
+abbrev pub count_fields : ℕ → Counts → List Field
+count_fields files counts =
+    number_field (codes "files") files
+    ∷ number_field (codes "keys") counts.keys
+    ∷ number_field (codes "revoked") counts.revoked
+    ∷ number_field (codes "unread") counts.unread ∷ []
+
+-- the last object of an audit that nothing stopped
+abbrev pub done_object : ℕ → Counts → ListFacts → Json
+done_object files counts list =
+    object_of (word_field (codes "status") (codes "done")
+    ∷ (count_fields files counts ++ list_field list ∷ []))

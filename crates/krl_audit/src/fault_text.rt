@@ -1,0 +1,33 @@
+//! The fault of what is not read.
+
+ghost use Rattle.std.specs.Prelude.{◌≡◌, IfOk, string_bytes};
+ghost use Rattle.krl_audit.specs.Objects.{refusal_fault, why_fault};
+
+use crate::why::{Refusal, Why};
+use key_files::FileFault;
+use std::alloc::{AllocError, Global};
+
+/// The fault, by its family, its number and its name.
+pub(crate) fn fault_text(alloc: Global, why: Why) -> Result<String, AllocError>
+    ensures { IfOk result (λ text. string_bytes text ≡ why_fault why) }
+{
+    match why {
+        Why::Line(fault) => fault.to_string(alloc),
+        Why::Subject(fault) => fault.to_string(alloc),
+        Why::Private(fault) => fault.to_string(alloc),
+        Why::File(refusal) => refusal_fault(refusal).to_string(alloc),
+        Why::NoKeys(_) => FileFault::NoKeys.to_string(alloc),
+    }
+}
+
+// The fault of a file that is not read. One that is refused before its first byte cannot be opened.
+fn refusal_fault(refusal: Refusal) -> FileFault
+    ensures { result ≡ refusal_fault refusal }
+{
+    match refusal {
+        Refusal::Missing | Refusal::Denied | Refusal::Irregular | Refusal::Loop | Refusal::Open =>
+            FileFault::Open,
+        Refusal::Read => FileFault::Read,
+        Refusal::TooLong => FileFault::TooLong,
+    }
+}

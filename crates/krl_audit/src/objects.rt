@@ -1,0 +1,212 @@
+//! Findings as JSON objects.
+
+ghost use Rattle.std.specs.Prelude.{◌≡◌, ◌∷◌, ◌++◌, [], OnOk};
+ghost use Rattle.key_text.specs.Marker.{marker_word};
+ghost use Rattle.krl_held.specs.Reasons.{any_reason};
+ghost use Rattle.json_lines.specs.Field.{fields_tokens, json_line};
+ghost use Rattle.krl_audit.specs.Objects.{cert_field, cert_fields, front_fields, front_word, key_fields, key_object, line_fields, list_fields, marker_fields, place_fields, status_word, unread_object, why_fields};
+ghost use Rattle.krl_audit.specs.Outcome.{found_as};
+
+use crate::fault_text::fault_text;
+use crate::front::has_hosts;
+use crate::outcome::Found;
+use crate::reason_values::put_reasons;
+use crate::text::{Place, Verdict, type_of};
+use crate::why::{Why, push_why};
+use json::Token;
+use json_lines::{LineWriter, put_digits, put_number, put_text, put_word};
+use key_text::{Hash, Marker, fingerprint};
+use krl_held::Reasons;
+use krl_types::{CertNames, Subject};
+use std::alloc::{AllocError, Global};
+
+/// Makes the line of a key.
+pub(crate) fn write_key_object(
+    alloc: Global,
+    place: Place<'_>,
+    verdict: &Verdict<'_>,
+    line: &mut Vec<u8>,
+) -> Result<(), AllocError>
+    ensures { OnOk result (line.new.items
+        ≡ json_line (key_object place.entry.name.now place.entry.number
+        (found_as verdict.now.found.now verdict.now.subject.now) verdict.now.reasons)) }
+{
+    let mut out = LineWriter::object(alloc)?;
+    put_place(&mut out, place)?;
+    put_key(alloc, &mut out, verdict)?;
+    put_line(alloc, &mut out, place.name, verdict.found)?;
+    put_list(alloc, &mut out, verdict.subject, verdict.reasons)?;
+    *line = out.end_object()?;
+    Ok(())
+}
+
+/// Makes the line of what is not read.
+pub(crate) fn write_unread_object(
+    alloc: Global,
+    place: Place<'_>,
+    why: Why,
+    line: &mut Vec<u8>,
+) -> Result<(), AllocError>
+    ensures { OnOk result (line.new.items
+        ≡ json_line (unread_object place.entry.name.now place.entry.number why)) }
+{
+    let mut out = LineWriter::object(alloc)?;
+    put_place(&mut out, place)?;
+    put_why(alloc, &mut out, why)?;
+    *line = out.end_object()?;
+    Ok(())
+}
+
+// Writes the name of a file, and the number of a line of it.
+#[tactic(auto, unfolding(json_lines::specs::Field::fields_tokens))]
+fn put_place(out: &mut LineWriter, place: Place<'_>) -> Result<(), AllocError>
+    ensures { OnOk result (out.new
+        ≡ out.old ++ fields_tokens (place_fields place.entry.name.now place.entry.number)) }
+{
+    put_word(out, "file", place.name)?;
+    if place.number > 0 {
+        put_number(out, "line", place.number)?;
+    }
+    Ok(())
+}
+
+// Writes why a line or a file is not read.
+#[tactic(auto, unfolding(json_lines::specs::Field::fields_tokens))]
+fn put_why(alloc: Global, out: &mut LineWriter, why: Why) -> Result<(), AllocError>
+    ensures { OnOk result (out.new ≡ out.old ++ fields_tokens (why_fields why)) }
+{
+    let fault = fault_text(alloc, why)?;
+    let mut words = Vec::new(alloc);
+    push_why(alloc, &mut words, why)?;
+    put_word(out, "status", "unread")?;
+    put_word(out, "fault", fault.as_str())?;
+    put_text(alloc, out, "why", &words)?;
+    Ok(())
+}
+
+// Writes the type of a key, the fingerprint of its plain key, and its comment.
+#[tactic(auto, unfolding(json_lines::specs::Field::fields_tokens))]
+fn put_key(alloc: Global, out: &mut LineWriter, verdict: &Verdict<'_>) -> Result<(), AllocError>
+    ensures { OnOk result (out.new ≡ out.old ++ fields_tokens (key_fields
+        verdict.now.found.now.blob verdict.now.found.now.comment.now verdict.now.subject.now
+        verdict.now.reasons)) }
+{
+    let subject = verdict.subject;
+    let found = verdict.found;
+    let print = fingerprint(alloc, Hash::Sha256, subject.plain.as_slice())?;
+    put_word(out, "status", status_word(verdict.reasons))?;
+    put_text(alloc, out, "type", type_of(found.blob.as_slice()))?;
+    put_text(alloc, out, "fingerprint", &print)?;
+    put_text(alloc, out, "comment", found.comment)?;
+    Ok(())
+}
+
+// Whether a key is revoked, as a status.
+fn status_word(reasons: Reasons) -> &'static str
+    ensures { result.now ≡ status_word (any_reason reasons) }
+{
+    if reasons.any() { "revoked" } else { "ok" }
+}
+
+// Writes what else is on the line of a key.
+fn put_line(
+    alloc: Global,
+    out: &mut LineWriter,
+    name: &str,
+    found: &Found<'_>,
+) -> Result<(), AllocError>
+    ensures { OnOk result (out.new ≡ out.old ++ fields_tokens (line_fields name.now
+        found.now.marker found.now.front.now)) }
+{
+    put_marker(out, found.marker)?;
+    put_front(alloc, out, has_hosts(name, found.marker), found.front)?;
+    Ok(())
+}
+
+// Writes a marker, where there is one.
+#[tactic(auto, unfolding(json_lines::specs::Field::fields_tokens))]
+fn put_marker(out: &mut LineWriter, marker: Option<Marker>) -> Result<(), AllocError>
+    ensures { OnOk result (out.new ≡ out.old ++ fields_tokens (marker_fields marker)) }
+{
+    match marker {
+        None => Ok(()),
+        Some(marker) => put_word(out, "marker", marker_word(marker)),
+    }
+}
+
+// A marker, as its line has it.
+fn marker_word(marker: Marker) -> &'static str
+    ensures { result.now ≡ marker_word marker }
+{
+    match marker {
+        Marker::Authority => "@cert-authority",
+        Marker::Revoked => "@revoked",
+    }
+}
+
+// Writes the host names or the options field, where there is one.
+#[tactic(auto, unfolding(json_lines::specs::Field::fields_tokens))]
+fn put_front(
+    alloc: Global,
+    out: &mut LineWriter,
+    hosts: bool,
+    front: &[u8],
+) -> Result<(), AllocError>
+    ensures { OnOk result (out.new ≡ out.old ++ fields_tokens (front_fields hosts front.now)) }
+{
+    if front.is_empty() {
+        return Ok(());
+    }
+    put_text(alloc, out, front_word(hosts), front)
+}
+
+// What is before a key.
+fn front_word(hosts: bool) -> &'static str
+    ensures { result.now ≡ front_word hosts }
+{
+    if hosts { "hosts" } else { "options" }
+}
+
+// Writes what a list is asked about a certificate, and why it or its key is revoked.
+fn put_list(
+    alloc: Global,
+    out: &mut LineWriter,
+    subject: &Subject<'_>,
+    reasons: Reasons,
+) -> Result<(), AllocError>
+    ensures { OnOk result (out.new
+        ≡ out.old ++ fields_tokens (list_fields subject.now reasons)) }
+{
+    put_cert(alloc, out, &subject.cert)?;
+    put_reasons(alloc, out, subject, reasons)?;
+    Ok(())
+}
+
+// Writes what a list is asked about a certificate.
+#[tactic(auto, unfolding(json_lines::specs::Field::fields_tokens))]
+fn put_cert(
+    alloc: Global,
+    out: &mut LineWriter,
+    cert: &Option<CertNames<'_>>,
+) -> Result<(), AllocError>
+    ensures { OnOk result (out.new ≡ out.old ++ fields_tokens (cert_fields cert.now)) }
+{
+    match cert {
+        None => Ok(()),
+        Some(cert) => put_names(alloc, out, cert),
+    }
+}
+
+// Writes the serial number, the key ID and the authority of a certificate.
+fn put_names(alloc: Global, out: &mut LineWriter, cert: &CertNames<'_>) -> Result<(), AllocError>
+    ensures { OnOk result (out.new ≡ out.old ++ fields_tokens (cert_field cert.now ∷ [])) }
+{
+    let print = fingerprint(alloc, Hash::Sha256, cert.authority)?;
+    out.token(Token::Key("certificate"))?;
+    out.token(Token::BeginObject)?;
+    put_digits(out, "serial", cert.serial)?;
+    put_text(alloc, out, "id", cert.key_id)?;
+    put_text(alloc, out, "authority", &print)?;
+    out.token(Token::EndObject)?;
+    Ok(())
+}
