@@ -30,7 +30,7 @@ use key_text::laws::{line_read_where_spelled, line_refused_by_first_fault, marke
 use ssh_cert::laws::asked_where_spelled;
 
 /// A line that is neither blank nor a comment has a key where it spells one, with its marker or
-/// without one; and else its first fault.
+/// without one; and otherwise its first fault, after a marker too.
 pub fn lines_by_what_is_spelled()
     ensures none { (text : List ℕ) → has_key text ≡ false → outcome_of text ≡ Blank }
     ensures plain { (text word blob comment : List ℕ) (asked : Subject) → has_key text ≡ true
@@ -42,8 +42,7 @@ pub fn lines_by_what_is_spelled()
         → outcome_of text
         ≡ asked_outcome (Some marker) (front_of (unmarked text)) blob comment (Ok asked) }
     ensures fault { (text : List ℕ) (fault : LineFault) → IsBytes text → has_key text ≡ true
-        → marker_of text ≡ None → IsFirstLineFault text fault
-        → outcome_of text ≡ Unread (Line fault) }
+        → IsFirstLineFault (unmarked text) fault → outcome_of text ≡ Unread (Line fault) }
 {
     line_read_where_spelled();
     line_refused_by_first_fault();

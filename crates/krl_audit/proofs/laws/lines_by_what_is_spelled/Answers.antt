@@ -1,10 +1,11 @@
 -- Each law of reading lines and blobs gives its part.
-use Rattle.std.proofs.Common.{None, Some, Err, Ok, ap, ◌∙◌}
+use Rattle.std.proofs.Common.{None, Some, Ok, ap, ◌∙◌}
 use Rattle.key_text.specs.LineReading.{content}
+use Rattle.key_text.specs.Marker.{unmarked}
 use Rattle.key_text.specs.Marker.{unmarked}
 use Rattle.krl_audit.specs.Front.{front_of}
 use Rattle.krl_audit.specs.Outcome.{asked_outcome}
-use Rattle.krl_audit.proofs.Spelled.{marked_read, nothing_there, plain_read}
+use Rattle.krl_audit.proofs.Spelled.{fault_read, marked_read, nothing_there, plain_read, unmarked_bytes}
 use Rattle.krl_audit.proofs.laws.lines_by_what_is_spelled.Goals as goal
 
 pub returns-clause-none : goal.returns-clause-none
@@ -22,5 +23,5 @@ returns-clause-marked c = λ text marker word blob comment asked has is_line is_
     ∙ ap (asked_outcome (Some marker) (front_of (unmarked text)) blob comment) ((c.asked_where_spelled.ensures blob asked is_line.is_line.bytes).1 is_asked)
 
 pub returns-clause-fault : goal.returns-clause-fault
-returns-clause-fault c = λ text fault bytes has none first.
-    plain_read text (Err fault) has none ((c.line_refused_by_first_fault.ensures text fault bytes).1 first)
+returns-clause-fault c = λ text fault bytes has first.
+    fault_read text fault has ((c.line_refused_by_first_fault.ensures (unmarked text) fault (unmarked_bytes text bytes)).1 first)
