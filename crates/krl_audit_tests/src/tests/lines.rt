@@ -2,6 +2,7 @@
 
 use crate::tests::keys::{ALICE, ALICE_PRINT, AUTHORITY, AUTHORITY_PRINT, BOB, BOB_PRINT};
 use crate::tests::made::{ALL, FINDINGS, NOTHING, alice_and_bob, all_of_bob, nothing, said_of};
+use parts_for_tests::joined;
 use std::alloc::Global;
 use std::process::Abort;
 
@@ -11,7 +12,7 @@ fn line_of(rt: &impl Abort, alloc: Global, before: &str, key: &str, after: &str)
 }
 
 // The text before a key, the text after it, and what is printed for Alice's key after its place.
-const LINES: [(&str, &str, &str); 13] = [
+const LINES: [(&str, &str, &str); 15] = [
     ("", "", ""),
     ("", " alice@laptop", ": alice@laptop"),
     ("", " a b\r", ": a b"),
@@ -25,6 +26,8 @@ const LINES: [(&str, &str, &str); 13] = [
     ("@cert-authority *.example.net ", " a", ": a"),
     ("", " \u{1b}[31mred\u{7}", ": \\x1b[31mred\\x07"),
     ("", " caf\u{e9}", ": caf\u{e9}"),
+    ("", " \u{9b}31m\u{2028}", ": \\x9b31m\u{2028}"),
+    ("", " \u{7f}\u{80}\u{a0}\"\\", ": \\x7f\\x80\u{a0}\"\\"),
 ];
 
 #[test]
@@ -46,6 +49,20 @@ fn a_revoked_key_is_found_on_each_kind_of_line(rt: HostRuntime) {
         assert_eq!(rt; found.text.as_slice(), wanted.as_bytes(), "line {i}");
         assert_eq!(rt; found.status, 1, "line {i}");
     }
+}
+
+#[test]
+fn a_comment_that_is_not_utf8_is_shown_by_numbers(rt: HostRuntime) {
+    let list = alice_and_bob(&rt, rt.alloc());
+    let line = joined(rt.alloc(), &[ALICE.as_bytes(), b" a\x9b31m\xe9\x7f"]);
+    let line = line.expect(&rt, "there is memory");
+    let files = [("f", Ok(line.as_slice()))];
+    let found = said_of(&rt, rt.alloc(), &list, FINDINGS, &files);
+    let wanted = format!(in rt.alloc();
+        "f:1: revoked: ssh-ed25519 {ALICE_PRINT} by its key: a\\x9b31m\\xe9\\x7f\n"
+    );
+    let wanted = wanted.expect(&rt, "there is memory");
+    assert_eq!(rt; found.text.as_slice(), wanted.as_bytes());
 }
 
 // Lines for which nothing is printed, whatever their keys: blank lines, comments, and keys that are
