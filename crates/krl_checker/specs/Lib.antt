@@ -1,0 +1,3 @@
+pub mod Role
+pub mod Text
+pub mod Check

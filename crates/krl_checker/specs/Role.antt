@@ -1,0 +1,53 @@
+-- What the keys of a file are to a list.
+use Rattle.std.specs.Prelude.{ℕ, ◌==◌, nat_lt, if◌then◌else◌, Bool, true, false, List, [], ◌∷◌, codes, ◌||◌, ◌⊎◌, IsTrue}
+use Rattle.std.specs.List.{AllByRecursion}
+use Rattle.krl_audit.specs.Counts.{is_key}
+use Rattle.krl_audit.specs.declared.counts.Kind.{Kind}
+use Rattle.krl_audit.specs.declared.counts.Kind.TheVariants as kinds
+use Rattle.krl_audit.specs.declared.counts.Counts.{Counts}
+use Rattle.krl_audit.specs.declared.judge.Form.TheVariants.{Text}
+use Rattle.krl_audit.specs.declared.judge.Shown.{Shown}
+use Rattle.krl_checker.specs.declared.role.Role.{Role}
+use Rattle.krl_checker.specs.declared.role.Role.TheVariants as roles
+
+-- None of them may be revoked, or each of them must be.
+abbrev pub are_right : Role → Counts → Bool
+are_right roles.Keep counts = counts.revoked == 0
+are_right roles.Canary counts = counts.revoked == counts.keys
+
+-- There is one, and all is read.
+abbrev pub is_met : Role → Counts → Bool
+is_met role counts =
+    if (counts.keys == 0) || nat_lt 0 counts.unread then false else are_right role counts
+
+-- those are named that are not as they must be
+abbrev pub shown_for : Role → Shown
+shown_for roles.Keep = record { findings = true; fine = false; form = Text }
+shown_for roles.Canary = record { findings = false; fine = true; form = Text }
+
+abbrev pub role_word : Role → List ℕ
+role_word roles.Keep = codes "keep: "
+role_word roles.Canary = codes "canary: "
+
+-- ---- the same of the lines of a file
+
+-- A line of this kind may be in the file. A key that its line calls revoked is not trusted there, so
+-- it is neither to be kept nor a canary.
+abbrev pub MayBe : Role → Kind → Type 0
+MayBe role kinds.Blank = Unit {0}
+MayBe role kinds.Unread = ⊥
+MayBe roles.Keep kinds.Revoked = ⊥
+MayBe roles.Keep kinds.Fine = Unit {0}
+MayBe roles.Keep kinds.Distrusted = Unit {0}
+MayBe roles.Canary kinds.Revoked = Unit {0}
+MayBe roles.Canary kinds.Fine = ⊥
+MayBe roles.Canary kinds.Distrusted = ⊥
+
+-- Some line has a key.
+abbrev pub HasKey : List Kind → Type 0
+HasKey [] = ⊥
+HasKey (line ∷ lines) = IsTrue (is_key line) ⊎ HasKey lines
+
+-- Each line may be there, and one has a key.
+abbrev pub AreMet : Role → List Kind → Type 0
+AreMet role lines = AllByRecursion (MayBe role) lines × HasKey lines

@@ -1,0 +1,26 @@
+-- The lines that name a condition which fails, and why.
+use Rattle.std.specs.Prelude.{ℕ, List, [], ◌∷◌, ◌++◌, codes, decimal}
+use Rattle.ssh_cert.specs.Escape.{escaped}
+use Rattle.krl_audit.specs.declared.counts.Counts.{Counts}
+use Rattle.krl_openssh.specs.Difference.{difference_words}
+use Rattle.krl_openssh.specs.declared.difference.Difference.{Difference}
+use Rattle.krl_checker.specs.Role.{role_word}
+use Rattle.krl_checker.specs.declared.role.Role.{Role}
+
+abbrev pub difference_line : List ℕ → Difference → List ℕ
+difference_line name difference =
+    codes "openssh: " ++ (escaped name
+    ++ (codes ": " ++ (difference_words difference ++ 10 ∷ [])))
+
+abbrev pub version_line : List ℕ → (version other : ℕ) → List ℕ
+version_line name version other =
+    codes "version: " ++ (escaped name
+    ++ (codes ": " ++ (decimal version ++ (codes " is below " ++ (decimal other ++ 10 ∷ [])))))
+
+abbrev pub file_line : Role → List ℕ → Counts → List ℕ
+file_line role name counts =
+    role_word role ++ (escaped name
+    ++ (codes ": " ++ (decimal counts.revoked
+    ++ (codes " of " ++ (decimal counts.keys
+    ++ (codes " keys are revoked, " ++ (decimal counts.unread
+    ++ codes " lines are not read\n")))))))

@@ -1,0 +1,164 @@
+//! Checking a list, one condition after the other.
+
+ghost use Rattle.std.specs.Prelude.{◌≡◌, ◌∷◌, [], ◌||◌, nat_lt, not, true, ℕ, List, Option, OnOk, is_err, is_some};
+ghost use Rattle.key_listing.specs.Carries.{Carries, Reaches};
+ghost use Rattle.key_listing.specs.Run.{Item, said_of};
+ghost use Rattle.krl_core.specs.Front.{start};
+ghost use Rattle.krl_held.specs.Entry.{Entry};
+ghost use Rattle.krl_held.specs.Reasons.{reasons_of};
+ghost use Rattle.krl_held.specs.Revocations.{Means};
+ghost use Rattle.krl_audit.specs.Audit.{content_of};
+ghost use Rattle.krl_openssh.specs.Difference.{first_difference};
+ghost use Rattle.krl_openssh.specs.Fields.{HasFields};
+ghost use Rattle.krl_checker.specs.Check.{ChecksFile, EndsCheck, check_status, difference_items, version_items, counts_items};
+ghost use Rattle.krl_checker.specs.Role.{is_met};
+
+use crate::role::Role;
+use crate::text::{write_difference, write_file, write_version};
+use byte_streams::Sink;
+use key_files::RunFault;
+use key_listing::Done;
+use krl_audit::{Auditor, Counts, Refusal};
+use krl_openssh::first_difference;
+use std::alloc::AllocError;
+
+/// What checks a list: what asks it about the keys of files and prints, whether a condition failed,
+/// and whether a file was not read. Nothing is printed of a condition that holds.
+#[derive(Drop)]
+pub struct Checker<'q, 'w, W: Sink> {
+    /// The list, and what prints.
+    pub auditor: Auditor<'q, 'w, W>,
+    /// Whether a condition failed.
+    pub refused: bool,
+    /// Whether a file of keys was not read.
+    pub unread: bool,
+}
+
+impl<'q, 'w, W: Sink> Checker<'q, 'w, W> {
+    /// Checks that OpenSSH reads a list too, and as the same names. These are the bytes of the list,
+    /// which was read.
+    pub fn check_openssh<'a>(&mut self, name: &'a str, list: &[u8]) -> Result<(), RunFault<'a>>
+        ensures carries { (fields : List (List ℕ)) → HasFields list.now fields
+            → Carries (difference_items name.now (first_difference start.place fields)) result
+            self.old.auditor.run.printer self.new.auditor.run.printer }
+        ensures refused { (fields : List (List ℕ)) → HasFields list.now fields
+            → self.new.refused
+            ≡ (self.old.refused || is_some (first_difference start.place fields)) }
+        ensures unread { self.new.unread ≡ self.old.unread }
+        ensures judge { self.new.auditor.judge ≡ self.old.auditor.judge }
+    {
+        match first_difference(list) {
+            None => Ok(()),
+            Some(difference) => {
+                let made = write_difference(&mut self.auditor.run.line, name, difference);
+                self.refuse(name, made)
+            }
+        }
+    }
+
+    /// Checks that the version of a list is not below that of another.
+    pub fn check_version<'a>(
+        &mut self,
+        name: &'a str,
+        version: u64,
+        other: u64,
+    ) -> Result<(), RunFault<'a>>
+        ensures carries { Carries (version_items name.now version other) result
+            self.old.auditor.run.printer self.new.auditor.run.printer }
+        ensures refused { self.new.refused ≡ (self.old.refused || nat_lt version other) }
+        ensures unread { self.new.unread ≡ self.old.unread }
+        ensures judge { self.new.auditor.judge ≡ self.old.auditor.judge }
+    {
+        if version >= other {
+            return Ok(());
+        }
+        let made = write_version(&mut self.auditor.run.line, name, version, other);
+        self.refuse(name, made)
+    }
+
+    /// Checks that a list revokes none of the keys of a file, or each of them, by the bytes of the
+    /// file or why there are none. The keys that are not as they must be are named as an audit names
+    /// them, and then the file.
+    pub fn check_keys<'a>(
+        &mut self,
+        role: Role,
+        name: &'a str,
+        content: Result<&[u8], Refusal>,
+    ) -> Result<(), RunFault<'a>>
+        ensures checks { (entries : List Entry) → Means self.old.auditor.judge.list.now entries
+            → ChecksFile role (reasons_of entries) name.now (content_of content.entry) result
+            self.old.auditor.run.printer self.new.auditor.run.printer self.old.refused
+            self.new.refused }
+        ensures unread { self.new.unread ≡ (self.old.unread || is_err content.entry) }
+        ensures list { self.new.auditor.judge.list ≡ self.old.auditor.judge.list }
+    {
+        self.unread |= content.is_err();
+        self.auditor.judge.shown = role.shown();
+        self.auditor.counts = Counts::NONE;
+        self.auditor.audit_file(name, content)?;
+        self.check_counts(role, name)
+    }
+
+    // Checks what was counted of a file.
+    fn check_counts<'a>(&mut self, role: Role, name: &'a str) -> Result<(), RunFault<'a>>
+        ensures carries { Carries (counts_items role name.now self.old.auditor.counts) result
+            self.old.auditor.run.printer self.new.auditor.run.printer }
+        ensures refused { self.new.refused
+            ≡ (self.old.refused || not (is_met role self.old.auditor.counts)) }
+        ensures unread { self.new.unread ≡ self.old.unread }
+        ensures judge { self.new.auditor.judge ≡ self.old.auditor.judge }
+    {
+        let counts = self.auditor.counts;
+        if role.is_met(counts) {
+            return Ok(());
+        }
+        let made = write_file(&mut self.auditor.run.line, role, name, counts);
+        self.refuse(name, made)
+    }
+
+    // Says the line that was made of a condition which fails.
+    fn refuse<'a>(
+        &mut self,
+        name: &'a str,
+        made: Result<(), AllocError>,
+    ) -> Result<(), RunFault<'a>>
+        ensures carries { (text : List ℕ)
+            → OnOk made (self.old.auditor.run.line.items ≡ text)
+            → Carries (said_of name.now text ∷ []) result self.old.auditor.run.printer
+            self.new.auditor.run.printer }
+        ensures refused { self.new.refused ≡ true }
+        ensures unread { self.new.unread ≡ self.old.unread }
+        ensures judge { self.new.auditor.judge ≡ self.old.auditor.judge }
+    {
+        self.refused = true;
+        self.auditor.run.say_line(name, made)
+    }
+
+    /// Ends a check, which a fault stopped or not: sends what waits. The status is 255 where it was
+    /// stopped or a file was not read, else 1 where a condition failed, else 0.
+    pub fn finish<'a>(&mut self, stop: Option<RunFault<'a>>) -> Done<'a>
+        ensures ends { (before : Option (List ℕ)) (run : List Item)
+            → Reaches before run stop.entry self.old.auditor.run.printer
+            → EndsCheck run self.old.refused self.old.unread before
+            self.new.auditor.run.printer.taken self.new.auditor.run.printer.failed result.status
+            result.fault }
+    {
+        let done = self.auditor.run.printer.finish(stop);
+        let fault = done.fault;
+        Done {
+            status: status(fault.is_some() || self.unread, self.refused),
+            fault,
+        }
+    }
+}
+
+// The exit status of a check.
+fn status(unknown: bool, refused: bool) -> u8
+    ensures { result ≡ check_status unknown refused }
+{
+    match (unknown, refused) {
+        (true, _) => 255,
+        (false, true) => 1,
+        (false, false) => 0,
+    }
+}

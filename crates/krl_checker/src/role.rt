@@ -1,0 +1,59 @@
+//! What the keys of a file are to a list.
+
+ghost use Rattle.std.specs.Prelude.{◌≡◌};
+ghost use Rattle.krl_checker.specs.Role.{is_met, role_word, shown_for};
+
+use krl_audit::{Counts, Form, Shown};
+
+/// What the keys of a file are to a list.
+#[derive(Clone, Copy, PartialEq, Eq)]
+pub enum Role {
+    /// None of them may be revoked.
+    Keep,
+    /// Each of them must be revoked.
+    Canary,
+}
+
+impl Role {
+    /// Whether a list does what it must for a file with these counts. A file without a key, or with
+    /// a line that is not read, is refused.
+    pub(crate) fn is_met(self, counts: Counts) -> bool
+        ensures { result ≡ is_met self counts }
+    {
+        if counts.keys == 0 || counts.unread > 0 {
+            return false;
+        }
+        match self {
+            Role::Keep => counts.revoked == 0,
+            Role::Canary => counts.revoked == counts.keys,
+        }
+    }
+
+    /// The keys that are named, since they are not as they must be.
+    pub(crate) fn shown(self) -> Shown
+        ensures { result ≡ shown_for self }
+    {
+        match self {
+            Role::Keep => Shown {
+                findings: true,
+                fine: false,
+                form: Form::Text,
+            },
+            Role::Canary => Shown {
+                findings: false,
+                fine: true,
+                form: Form::Text,
+            },
+        }
+    }
+
+    /// The word for the condition.
+    pub(crate) fn word(self) -> &'static [u8]
+        ensures { result.now ≡ role_word self }
+    {
+        match self {
+            Role::Keep => b"keep: ",
+            Role::Canary => b"canary: ",
+        }
+    }
+}
