@@ -7,6 +7,7 @@
 
 int32_t proved_krl_check(const uint8_t *, size_t, const uint8_t *, size_t);
 int32_t proved_krl_check_line(const uint8_t *, size_t, const uint8_t *, size_t);
+int32_t proved_krl_why(const uint8_t *, size_t, const uint8_t *, size_t);
 int32_t proved_krl_load(krl *, const uint8_t *, size_t);
 int32_t proved_krl_ask(const void *, const uint8_t *, size_t);
 int32_t proved_krl_ask_line(const void *, const uint8_t *, size_t);
@@ -28,6 +29,12 @@ int32_t krl_check_line(const uint8_t *list, size_t list_length,
                        const uint8_t *line, size_t line_length) {
     return proved_krl_check_line(bytes(list, list_length), list_length,
                                  bytes(line, line_length), line_length);
+}
+
+int32_t krl_why(const uint8_t *list, size_t list_length,
+                const uint8_t *blob, size_t blob_length) {
+    return proved_krl_why(bytes(list, list_length), list_length,
+                          bytes(blob, blob_length), blob_length);
 }
 
 int32_t krl_load(krl *handle, const uint8_t *list, size_t list_length) {

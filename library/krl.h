@@ -96,6 +96,27 @@ int32_t krl_check(const uint8_t *list, size_t list_length,
 int32_t krl_check_line(const uint8_t *list, size_t list_length,
                        const uint8_t *line, size_t line_length);
 
+/* Why a list revokes the key of a blob: the sum of the numbers below for all reasons that hold, so
+ * KRL_OK where it does not revoke the key, and below zero why that is not known, as krl_check says
+ * it. Ask krl_check or krl_ask whether a key is let in, and this call for what a log says of it. */
+int32_t krl_why(const uint8_t *list, size_t list_length,
+                const uint8_t *blob, size_t blob_length);
+
+/* The reasons. An entry of the list is the key, or a hash of it; of a certificate its plain key. */
+#define KRL_WHY_KEY 1
+#define KRL_WHY_KEY_SHA1 2
+#define KRL_WHY_KEY_SHA256 4
+/* It is the key of the certificate's authority, or a hash of it. */
+#define KRL_WHY_AUTHORITY 8
+#define KRL_WHY_AUTHORITY_SHA1 16
+#define KRL_WHY_AUTHORITY_SHA256 32
+/* It names the certificate's serial number, under its authority or under all authorities. */
+#define KRL_WHY_SERIAL 64
+#define KRL_WHY_SERIAL_OF_ALL 128
+/* It is the certificate's key ID, under its authority or under all authorities. */
+#define KRL_WHY_KEY_ID 256
+#define KRL_WHY_KEY_ID_OF_ALL 512
+
 /* A list that is read once and asked often.
  *
  * The place is krl_size() bytes at a multiple of 16, as malloc gives them. From krl_init on they
@@ -129,7 +150,7 @@ int32_t krl_ask_line(const krl *handle, const uint8_t *line, size_t line_length)
 /* Gives back the memory of the list. The place is then as krl_init leaves it, or may be freed. */
 void krl_unload(krl *handle);
 
-/* The words for an answer: of a fault those that krl-keygen prints, such as "krl 3 EndsEarly",
+/* The words for an answer of any call but krl_why, and for those of krl_why below zero: of a fault those that krl-keygen prints, such as "krl 3 EndsEarly",
  * "line 2 Base64" and "subject 1 Key, key 4 Point". Of the others "ok", "revoked", "no memory",
  * "no list is loaded" and "an authority of the list is no key in its one spelling", and of a number
  * that has no words "unknown answer".

@@ -2,3 +2,4 @@ pub mod Laying
 pub mod Once
 pub mod Printed
 pub mod Saying
+pub mod Explaining

@@ -69,7 +69,7 @@ fn revokes(alloc: Global, list: &[u8], asked: &Subject) -> Result<bool, Refusal>
 }
 
 // Lets a list pass. Nothing of it is kept but what it says of what is asked.
-fn pass(alloc: Global, list: &[u8], asked: &Subject) -> Result<Findings<Held>, KrlFault>
+pub(crate) fn pass(alloc: Global, list: &[u8], asked: &Subject) -> Result<Findings<Held>, KrlFault>
     ensures found { IfOk result (λ findings. (entries : List Entry)
         × IsListOf list.now entries × MeansWithin (asked_in findings) findings.found entries) }
     ensures asked { IfOk result (λ findings. Asks findings.topics asked.now) }
@@ -90,7 +90,7 @@ fn pass(alloc: Global, list: &[u8], asked: &Subject) -> Result<Findings<Held>, K
 }
 
 // Reads a list, of which nothing is asked: why it gives no answer, if it gives none.
-fn judge(alloc: Global, list: &[u8]) -> Result<(), Refusal>
+pub(crate) fn judge(alloc: Global, list: &[u8]) -> Result<(), Refusal>
     ensures list { OnOk result ((entries : List Entry) × IsCompared list.now entries) }
     ensures refused { IfErr result (λ refusal. IsRefusal list.now refusal) }
 {

@@ -8,6 +8,7 @@ ghost use prog.Memory.{capped, size};
 ghost use Rattle.krl_c.specs.Answer.{Answers, AnswersBlob, AnswersLine, AnswersOfLine};
 ghost use Rattle.krl_c.specs.Kept.{AnswersHeld, Loads, unloaded};
 ghost use Rattle.krl_c.specs.Loan.{Loan, is_lent};
+ghost use Rattle.krl_c.specs.Why.{Explains};
 ghost use Rattle.krl_c.specs.contracts.kept.Kept.{the_row};
 ghost use Rattle.krl_c.specs.Words.{words};
 ghost use Rattle.krl_c.specs.Written.{written};
@@ -21,6 +22,7 @@ pub mod laws;
 mod lent;
 mod number;
 mod refusal;
+mod why;
 mod words;
 mod written;
 
@@ -30,6 +32,7 @@ use held::held_of;
 use kept::{Kept, ask, ask_of_line, empty};
 use number::{FINE, of_list};
 use std::alloc::Global;
+use why::explain_list;
 use words::{Words, words_for};
 use written::write;
 
@@ -48,6 +51,15 @@ pub extern "C" fn krl_check_line(alloc: Global, list: &[u8], line: &[u8]) -> i32
     ensures { AnswersOfLine list.now line.now result }
 {
     ask_list_of_line(alloc, list, line)
+}
+
+/// Why a list revokes the key or the certificate of a blob: a bit for each reason, so 0 where it does
+/// not, and below zero why that is not known.
+#[unsafe(no_mangle)]
+pub extern "C" fn krl_why(alloc: Global, list: &[u8], blob: &[u8]) -> i32
+    ensures { Explains list.now blob.now result }
+{
+    explain_list(alloc, list, blob)
 }
 
 /// Reads a list into a handle, for many questions. Where it is refused, what was there stays.

@@ -39,7 +39,7 @@ typedef struct bytes {
 } bytes;
 
 static bytes content(const char *name) {
-    static uint8_t room[3][1 << 20];
+    static uint8_t room[4][1 << 20];
     static int used;
     FILE *file = fopen(name, "rb");
     bytes read = {room[used++], 0};
@@ -50,7 +50,7 @@ static bytes content(const char *name) {
 }
 
 static krl handle;
-static bytes list, other, line;
+static bytes list, other, line, blob;
 
 static int32_t load_other(void) {
     return krl_load(&handle, other.at, other.length);
@@ -62,6 +62,10 @@ static int32_t ask(void) {
 
 static int32_t check(void) {
     return krl_check_line(other.at, other.length, line.at, line.length);
+}
+
+static int32_t why(void) {
+    return krl_why(other.at, other.length, blob.at, blob.length);
 }
 
 /* Fails each allocation of a call in turn. How many there are, or -1 where one of them does
@@ -79,8 +83,9 @@ static long sweep(int32_t (*call)(void), int32_t wanted, int32_t held) {
 
 int main(int argc, char **argv) {
     static _Alignas(16) uint8_t place[4096];
-    if (argc != 4 || krl_size() > sizeof place) return 255;
+    if (argc != 5 || krl_size() > sizeof place) return 255;
     list = content(argv[1]), other = content(argv[2]), line = content(argv[3]);
+    blob = content(argv[4]);
     line.length -= line.length && line.at[line.length - 1] == '\n';
     handle.at = place;
     krl_init(place);
@@ -88,8 +93,9 @@ int main(int argc, char **argv) {
 
     int32_t held = ask();
     long asks = sweep(ask, held, held), checks = sweep(check, check(), held);
-    long loads = sweep(load_other, KRL_OK, held);
+    long whys = sweep(why, why(), held), loads = sweep(load_other, KRL_OK, held);
     krl_unload(&handle);
-    printf("%ld allocations of a question, %ld of a check, %ld of a reading\n", asks, checks, loads);
-    return asks <= 0 || checks <= 0 || loads <= 0 || blocks != 0 || ask() != KRL_NOT_LOADED;
+    printf("%ld allocations of a question, %ld of a check, %ld of a reading, %ld of the reasons\n", asks,
+           checks, loads, whys);
+    return asks <= 0 || checks <= 0 || loads <= 0 || whys <= 0 || blocks != 0 || ask() != KRL_NOT_LOADED;
 }

@@ -117,10 +117,12 @@ def of_32_bits(tests):
         found = library.krl_check_line(content.at, size, text, len(text))
         case("krl_check_line, list", found, -104)
         case("krl_check, list", library.krl_check(content.at, size, KEY, len(KEY)), -104)
+        case("krl_why, list", library.krl_why(content.at, size, KEY, len(KEY)), -104)
         case("krl_load", library.krl_load(handle.krl, content.at, size), -104)
         case("krl_load of the list alone", handle.load(small), 0)
         size = FAR + more + len(KEY)
         case("krl_check, blob", library.krl_check(small, len(small), blob.at, size), -308)
+        case("krl_why, blob", library.krl_why(small, len(small), blob.at, size), -308)
         case("krl_ask", library.krl_ask(handle.krl, blob.at, size), -308)
         # So many bytes of the line have its key in part.
         size = FAR + more + len(text) - 9

@@ -1,0 +1,33 @@
+-- The list says why it names what is asked; else its first fault is answered, or the blob's.
+use Rattle.std.proofs.Common.{◌<◌, ◌^◌, sym, subst, rules, ◌∙◌, arith}
+use Rattle.std.proofs.lemmas.Int.{to_z_pos}
+use mir.Syntax.{w32}
+use mir.Val.{SFits}
+use Rattle.krl_c.specs.Answer.{answered}
+use Rattle.krl_c.specs.Why.{HasReasons, explained}
+use Rattle.krl_c.proofs.Explaining.{has_reasons, unexplained}
+use Rattle.krl_c.proofs.Saying.{list_refused, same}
+use Rattle.krl_c.proofs.why.explain_list.Goals as goal
+
+pub returns-in-Ok-explain : goal.returns-in-Ok-explain
+returns-in-Ok-explain c =
+    let found = c.in-Ok-explain.ensures.reasons in
+    let has = subst (HasReasons found.0 c.in-Ok.asked) (sym c.bits_of.ensures) (has_reasons found.0 c.in-Ok.asked c.in-Ok-explain.reasons found.2) in
+    let small : c.bits_of.result < 2 ^ 31 = omega (arith, has.within) in
+    answered found.0 found.1 (explained c.in-Ok.asked c.bits_of.result c.in-Ok.ensures.found has (to_z_pos w32 c.bits_of.result small))
+
+pub returns-in-Ok : goal.returns-in-Ok
+returns-in-Ok c =
+    let fits : SFits w32 c.of_list.result = search rules in
+    list_refused c.args.list.now c.in-Err-explain.refusal _ c.in-Err-explain.ensures.refused (same c.of_list.result fits ∙ c.of_list.ensures)
+
+pub returns-in-Ok-judge : goal.returns-in-Ok-judge
+returns-in-Ok-judge c =
+    let fits : SFits w32 c.of_subject.result = search rules in
+    let list = c.in-Ok-judge.ensures.list in
+    answered list.0 list.1 (unexplained list.0 c.args.blob.now c.in-Err.fault _ c.in-Err.ensures.fault (same c.of_subject.result fits ∙ c.of_subject.ensures))
+
+pub returns : goal.returns
+returns c =
+    let fits : SFits w32 c.of_list-in-Err-judge.result = search rules in
+    list_refused c.args.list.now c.in-Err-judge.refusal _ c.in-Err-judge.ensures.refused (same c.of_list-in-Err-judge.result fits ∙ c.of_list-in-Err-judge.ensures)

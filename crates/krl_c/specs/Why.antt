@@ -1,0 +1,67 @@
+-- Why a list revokes what is asked: the reasons as the bits of a number.
+use Rattle.std.specs.Prelude.{◌≡◌, ◌↔◌, ◌<◌, ◌+◌, ◌*◌, ◌^◌, ℕ, ℤ, pos, Bool, true, false, List, [], ◌∷◌}
+use Rattle.std.specs.Int.{bit_at}
+use Rattle.ssh_cert.specs.SubjectReading.{IsSubject, IsSubjectFault}
+use Rattle.ssh_cert.specs.declared.subject_fault.SubjectFault.{SubjectFault}
+use Rattle.krl_types.specs.Subject.{Subject}
+use Rattle.krl_held.specs.Entry.{Entry}
+use Rattle.krl_held.specs.Reasons.{IsReason}
+use Rattle.krl_held.specs.declared.reasons.Reason.{Reason}
+use Rattle.krl_held.specs.declared.reasons.Reason.TheVariants as reasons
+use Rattle.krl_held.specs.declared.reasons.Reasons.{Reasons}
+use Rattle.krl_c.specs.Answer.{AnswersBy}
+use Rattle.krl_c.specs.Number.{no_memory, subject_number}
+
+-- the place of the bit of a reason
+abbrev pub place_of : Reason → ℕ
+place_of reasons.Key = 0
+place_of reasons.KeySha1 = 1
+place_of reasons.KeySha256 = 2
+place_of reasons.Authority = 3
+place_of reasons.AuthoritySha1 = 4
+place_of reasons.AuthoritySha256 = 5
+place_of reasons.Serial = 6
+place_of reasons.SerialOfAll = 7
+place_of reasons.KeyId = 8
+place_of reasons.KeyIdOfAll = 9
+
+-- Each bit says whether the entries revoke what is asked in the way of its reason. There are no
+-- other bits.
+pub record HasReasons (entries : List Entry) (asked : Subject) (bits : ℕ) : Type 0 where
+  pub reasons_are : (reason : Reason)
+      → (bit_at bits (place_of reason) ≡ 1 ↔ IsReason entries asked reason)
+  pub within : bits < 2 ^ 10
+
+-- What entries say about a blob.
+pub data ExplainsBlob (entries : List Entry) (blob : List ℕ) (number : ℤ) : Type 0 where
+  explained : (asked : Subject) (bits : ℕ) → IsSubject blob asked → HasReasons entries asked bits
+      → number ≡ pos bits → ExplainsBlob entries blob number
+  no_blob : (fault : SubjectFault) → IsSubjectFault blob fault → number ≡ subject_number fault
+      → ExplainsBlob entries blob number
+  ran_out : number ≡ no_memory → ExplainsBlob entries blob number
+
+-- What a list says about a blob.
+abbrev pub Explains : (list blob : List ℕ) → ℤ → Type 0
+Explains list blob = AnswersBy (λ entries. ExplainsBlob entries blob) list
+
+-- ---- the bits
+
+abbrev pub bit_of : Bool → ℕ
+bit_of true = 1
+bit_of false = 0
+
+-- bits, each one place higher, and a lowest one below them
+abbrev pub with_bit : ℕ → Bool → ℕ
+with_bit bits lowest = 2 * bits + bit_of lowest
+
+-- the first one is lowest
+abbrev pub bits_in : List Bool → ℕ
+bits_in [] = 0
+bits_in (lowest ∷ others) = with_bit (bits_in others) lowest
+
+-- the reasons in the order of their bits
+abbrev pub flags_of : Reasons → List Bool
+flags_of all =
+    all.key.blob ∷ all.key.sha1 ∷ all.key.sha256
+    ∷ all.authority.blob ∷ all.authority.sha1 ∷ all.authority.sha256
+    ∷ all.serial.own ∷ all.serial.all ∷ all.key_id.own ∷ all.key_id.all ∷ []
