@@ -149,7 +149,8 @@ runs 'the program of the package' "$root/usr/bin/krl-keygen"
 holds 'what the package holds' \
   $(of krl-keygen usr | grep -v -e sha256 -e /man1/ | sed 's|site-functions|vendor-completions|') \
   ./usr/share/man/man1/krl-keygen.1.gz \
-  $(printf './usr/share/doc/krl-keygen/%s\n' README.md NEWS.gz changelog.gz copyright)
+  $(printf './usr/share/doc/krl-keygen/%s\n' README.md NEWS.gz changelog.gz copyright docs/RECIPES.md) \
+  $(cd "$top" && find examples/ansible examples/systemd -type f -printf './usr/share/doc/krl-keygen/%p\n')
 dpkg-deb --control "$package" "$scratch/control"
 judge 'the package has the sum of each of its files' "$(
   cd "$root" && md5sum --quiet --check "$scratch/control/md5sums" 2>&1

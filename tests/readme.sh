@@ -201,14 +201,19 @@ echo "[127.0.0.1]:$port $(cat "$room/host.pub")" >"$room/known_key"
 echo "@cert-authority * $(cat host-ca.pub)" >"$room/known_authority"
 reaches() {
   local got=yes
-  timeout 20 "${as_user[@]}" ssh -F "$room/ssh_config" "${@:3}" -p "$port" -o BatchMode=yes -o StrictHostKeyChecking=yes \
-    -o UserKnownHostsFile="$known" -o GlobalKnownHostsFile=/dev/null -o IdentityAgent=none -o IdentityFile=none \
+  timeout 20 "${as_user[@]}" ssh -F "$room/ssh_config" "${@:3}" -p "$port" -o BatchMode=yes \
+    -o StrictHostKeyChecking=yes -o UserKnownHostsFile="$known" -o GlobalKnownHostsFile=/dev/null \
+    -o IdentityAgent=none -o IdentityFile=none \
     "$user@127.0.0.1" true >"$scratch/output" 2>&1 </dev/null
   grep -q 'Permission denied (publickey' "$scratch/output" || got=no
   judge "ssh and a host: $1" "$(differs 'it goes on' "$2" $got && [ $got = "$2" ] || cat "$scratch/output")"
 }
-follows 'ssh is told of the list' 'echo RevokedHostKeys' 0 "revokedhostkeys $room/revoked.krl"
+umask 077
 "$program" -k -f "$room/revoked.krl" "$room/one.pub"
+follows 'ssh is told of the list' 'echo RevokedHostKeys' 0 "revokedhostkeys $room/revoked.krl"
+umask 022
+judge 'all users may read the list and the line that names it' \
+  "$(differs modes $'644\n644' "$(stat -c %a "$room/revoked.krl" "$room/ssh_config.d/01-revoked.conf")")"
 reaches 'a list of other keys' yes
 known=$room/known_authority
 reaches 'a list of other keys, by the authority' yes

@@ -40,6 +40,7 @@ listens() {
   local number
   for number in {1..5}; do
     port=$((20000 + RANDOM % 10000))
+    ! (: >"/dev/tcp/127.0.0.1/$port") 2>/dev/null || continue
     timeout 300 "$@" $port host allowed ca.pub revoked.krl 2>said &
     serving=$!
     for _ in {1..200}; do

@@ -117,7 +117,9 @@ def packages(tests):
     ran = run(os.path.join(PACKAGING, "library_debs"), ".")
     tests.judge("Debian packages are made", told(ran))
     packages = ran.stdout.split()
-    examples = {"share/doc/libkrl-dev/examples/" + it: "" for it in files_below(TOP + "/examples")}
+    others = "ansible/", "systemd/"
+    callers = [it for it in files_below(TOP + "/examples") if not it.startswith(others)]
+    examples = {"share/doc/libkrl-dev/examples/" + it: "" for it in callers}
     contents = {
         "libkrl1": {**of_loader(MULTIARCH), **documents("libkrl1")},
         "libkrl-dev": {**of_programs(MULTIARCH, ".gz"), **documents("libkrl-dev"), **examples},
