@@ -8,11 +8,6 @@ for serial in 5 7; do
   "$openssh" -q -s user-ca -I "id of $serial" -z $serial alice.pub && mv alice-cert.pub user-$serial.pub
 done
 
-# revoked_lines [WORD..]: the entries of the list that -Q -l prints.
-revoked_lines() {
-  "$program" -Q -l -f revoked.krl | grep -v '^#' | paste -s -d ,
-}
-
 # ---- a rollout is guarded
 
 { echo 'serial: 5' && echo "sha256: $(cat canary.pub)"; } >users
@@ -119,8 +114,10 @@ serial: 8 # until tomorrow
 # until 2001-02-03
 END
 echo "serial: 9 # until $(date +%F), and lost" >>users
+echo 'id: host' >hosts
 follows 'entries that expire' 'awk -v today' 0 ''
-judge 'what is over is left out' "$(differs entries 'serial: 6-9' "$(revoked_lines)")"
+judge 'what is over is left out' \
+  "$(differs entries $'id: host\nserial: 6-9' "$("$program" -Q -l -f revoked.krl | grep -v '^#' | sort)")"
 
 # ---- what changed
 
