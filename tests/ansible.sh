@@ -44,7 +44,7 @@ plays() {
   local wanted=$1
   shift
   PATH=$PWD/tools:$PATH HOME=$PWD ANSIBLE_CONFIG=$PWD/ansible.cfg ANSIBLE_NOCOLOR=1 ANSIBLE_PIPELINING=1 \
-    timeout 300 ansible-playbook -i inventory -e '{"krl_serial": [1, "100%"]}' "$@" "$top/examples/ansible/krl.yml" \
+    timeout 300 ansible-playbook -i "${inventory:-inventory}" -e '{"krl_serial": [1, "100%"]}' "$@" "$top/examples/ansible/krl.yml" \
     >output 2>&1 </dev/null
   differs 'status' "$wanted" $?
 }
@@ -118,4 +118,32 @@ version 30
 judge 'a damaged list is replaced' "$(plays 0 && in_force 30 30)"
 printf 'Match User nobody\n  RevokedKeys /dev/null\n' >>first/etc/ssh/sshd_config
 plays_ill 'a Match block that switches the list off is found' 'RevokedKeys /dev/null' 30 30
+
+# A folder again, behind a real sshd that uses the list of the folder: the playbook logs in anew after a change.
+. "$tests/lib/sshd/serving.sh"
+host third
+made_key login ed25519
+cp "$room/login.pub" "$room/allowed"
+: >third/etc/ssh/revoked.krl
+configure "RevokedKeys $PWD/third/etc/ssh/revoked.krl" "SetEnv PATH=$PWD/tools:$PATH" \
+  'Subsystem sftp internal-sftp'
+sed -i '/^ForceCommand/d' "$room/config.common"
+serve
+{
+  echo "third krl_root=$PWD/third ansible_host=127.0.0.1 ansible_port=$port ansible_user=$user"
+  sed -n '/^\[all:vars/,$p' inventory | grep -v ansible_connection
+  echo "ansible_ssh_private_key_file=$room/login"
+  echo "ansible_remote_tmp=$PWD/remote"
+  echo "ansible_ssh_common_args=-F none -o StrictHostKeyChecking=no -o UserKnownHostsFile=/dev/null -o IdentityAgent=none"
+} >by_ssh
+inventory=by_ssh
+version 40
+judge 'a list is put in force by a login' "$(plays 0 || tail -n 20 output)"
+version 50 "$room/login.pub"
+judge 'a list that lets nobody in any more ends the run' "$(
+  plays 4
+  differs 'the hosts that cannot be reached' third=1 "$(recap unreachable)"
+  grep -qF 'TASK [A new login works]' output || tail -n 20 output
+)"
+ends
 judge 'the configuration of this machine is as before' "$(diff <(echo "$before") <(of_machine))"
