@@ -1,10 +1,10 @@
-"""A server that lets in the keys of an authorized_keys file and the certificates of some authorities, but none
-that a list revokes.
+"""A server that lets in the keys of an authorized_keys file and the certificates of some
+authorities, but none that a list revokes.
 
     python3 asyncssh_server.py PORT HOST_KEY authorized_keys authorities revoked.krl
 
-It listens on the loopback, and says "let in" to each client that asks it to run a command. A server of your own
-needs what is above "The server": there the key is decided on.
+It listens on the loopback, and says "let in" to each client that asks it to run a command. A
+server of your own needs what is above "The server": there the key is decided on.
 """
 
 import asyncio
@@ -21,8 +21,8 @@ library.krl_fault_text.restype = ctypes.c_size_t
 
 
 def is_not_revoked(name, blob):
-    """Whether the list does not revoke the key or the certificate. It is read at each login, so a new one
-    counts immediately. A list that cannot be read lets nobody in."""
+    """Whether the list does not revoke the key or the certificate. It is read at each login, so a
+    new one counts immediately. A list that cannot be read lets nobody in."""
     try:
         with open(name, "rb") as file:
             content = file.read()
@@ -38,9 +38,10 @@ def is_not_revoked(name, blob):
 
 
 class Server(asyncssh.SSHServer):
-    """asyncssh shows a server the authority of a certificate, but not the certificate. So the call of the connection
-    that takes either is replaced by one that asks the list first. If a version of asyncssh did not make this call,
-    is_asked would stay False, and nobody would get in."""
+    """asyncssh shows a server the authority of a certificate, but not the certificate. So the call
+    of the connection that takes a key or a certificate is replaced by one that asks the list first.
+    If a version of asyncssh did not make this call, is_asked would stay False, and nobody would get
+    in."""
 
     def __init__(self, allowed, authorities, revoked):
         self.allowed, self.authorities, self.revoked = allowed, authorities, revoked
