@@ -1,0 +1,13 @@
+//! Which files of directories an audit reads and in which order, how they are named, and what is
+//! said at its end.
+#![tactic(auto)]
+
+mod names;
+mod order;
+mod paths;
+mod summary;
+
+pub use names::{Reading, is_audited, reading_of};
+pub use order::sort_names;
+pub use paths::{escaped_name, path_in};
+pub use summary::{Summary, push_summary};
