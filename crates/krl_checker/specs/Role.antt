@@ -31,8 +31,8 @@ role_word roles.Canary = codes "canary: "
 
 -- ---- the same of the lines of a file
 
--- A line of this kind may be in the file. A key that its line calls revoked is not trusted there, so
--- it is neither to be kept nor a canary.
+-- A line of this kind may be in the file. A key that its line calls revoked is not trusted there,
+-- so it may be in a file of keys to be kept, and is no canary.
 abbrev pub MayBe : Role → Kind → Type 0
 MayBe role kinds.Blank = Unit {0}
 MayBe role kinds.Unread = ⊥

@@ -35,8 +35,8 @@ pub struct Checker<'q, 'w, W: Sink> {
 }
 
 impl<'q, 'w, W: Sink> Checker<'q, 'w, W> {
-    /// Checks that OpenSSH reads a list too, and as the same names. These are the bytes of the list,
-    /// which was read.
+    /// Checks that OpenSSH reads a list too, and as the same names. These are the bytes of the
+    /// list, which was read.
     pub fn check_openssh<'a>(&mut self, name: &'a str, list: &[u8]) -> Result<(), RunFault<'a>>
         ensures carries { (fields : List (List ℕ)) → HasFields list.now fields
             → Carries (difference_items name.now (first_difference start.place fields)) result
@@ -77,8 +77,8 @@ impl<'q, 'w, W: Sink> Checker<'q, 'w, W> {
     }
 
     /// Checks that a list revokes none of the keys of a file, or each of them, by the bytes of the
-    /// file or why there are none. The keys that are not as they must be are named as an audit names
-    /// them, and then the file.
+    /// file or why there are none. The keys that are not as they must be are named as an audit
+    /// names them, and then the file.
     pub fn check_keys<'a>(
         &mut self,
         role: Role,

@@ -7,8 +7,8 @@ ghost use Rattle.krl_checker.specs.Check.{none_counted};
 ghost use Rattle.krl_checker.specs.Role.{AreMet, is_met};
 ghost use Rattle.krl_checker.specs.declared.role.Role.{Role};
 
-/// What is counted of the lines of a file passes exactly where each line may be there, and one has a
-/// key.
+/// What is counted of the lines of a file passes exactly where each line may be there, and one has
+/// a key.
 pub fn counts_are_met_by_lines()
     ensures { (role : Role) (lines : List Kind) → length lines + 1 < 2 ^ 64
         → (is_met role (all_counted none_counted lines) ≡ true ↔ AreMet role lines) }

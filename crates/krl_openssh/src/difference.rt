@@ -85,7 +85,7 @@ fn found_if(found: bool, difference: Difference) -> Option<Difference>
     if found { Some(difference) } else { None }
 }
 
-// Of a comment. OpenSSH drops a zero byte that stands last.
+// The difference of a comment. OpenSSH drops a zero byte that stands last.
 fn comment_difference(comment: &[u8]) -> Option<Difference>
     ensures { result ≡ comment_difference comment.now }
 {
@@ -100,7 +100,7 @@ fn has_zero(text: &[u8]) -> bool
     text.contains(&0)
 }
 
-// Of the type of a section.
+// The difference of the type of a section.
 fn section_difference(type_byte: u8) -> Option<Difference>
     ensures { result ≡ section_difference type_byte }
 {
@@ -111,7 +111,7 @@ fn section_difference(type_byte: u8) -> Option<Difference>
     }
 }
 
-// Of a field of a section of certificates.
+// The difference of a field of a section of certificates.
 fn certificates_difference(at: CertificatesPlace, field: &[u8]) -> Option<Difference>
     requires { length field.now ≡ (certificates_expected at).size }
     ensures { result ≡ certificates_difference at field.now }
@@ -125,7 +125,7 @@ fn certificates_difference(at: CertificatesPlace, field: &[u8]) -> Option<Differ
     }
 }
 
-// Of an authority: no bytes, for all authorities, or a key that OpenSSH takes.
+// The difference of an authority, which is no bytes, for all authorities, or a key.
 fn authority_difference(authority: &[u8]) -> Option<Difference>
     ensures { result ≡ authority_difference authority.now }
 {
@@ -149,7 +149,7 @@ fn size_fits(kind: Kind, bits: u32) -> bool
     }
 }
 
-// Of a serial number, or the first one of a range.
+// The difference of a serial number, or the first one of a range.
 fn serials_difference(at: SerialsPlace, field: &[u8]) -> Option<Difference>
     requires { length field.now ≡ (serials_expected at).size }
     ensures { result ≡ serials_difference at field.now }
@@ -162,7 +162,7 @@ fn serials_difference(at: SerialsPlace, field: &[u8]) -> Option<Difference>
     }
 }
 
-// Of a byte of a bitmap, of whose `size` bytes `left` remain, this one too.
+// The difference of a byte of a bitmap, of whose `size` bytes `left` remain, this one too.
 fn bits_difference(offset: u64, size: u32, left: u32, byte: u8) -> Option<Difference>
     ensures { result ≡ bits_difference offset size left byte }
 {

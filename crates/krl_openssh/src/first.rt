@@ -9,10 +9,10 @@ ghost use Rattle.krl_openssh.specs.Fields.{HasFields};
 use crate::difference::{Difference, difference_at};
 use krl_core::{HeaderPlace, Place};
 
-/// The first field by which OpenSSH refuses a list or reads other names from it, and why: none where
-/// OpenSSH reads the list too, and as the same names. The list is one that can be read; of other
-/// bytes nothing is said. Takes no memory. Whether the point of an ECDSA key lies on its curve is not
-/// looked at, and of the numbers of a key only the modulus or the prime.
+/// The first field by which OpenSSH refuses a list or reads other names from it, and why: none
+/// where OpenSSH reads the list too, and as the same names. The list is one that can be read; of
+/// other bytes nothing is said. Takes no memory. Whether the point of an ECDSA key lies on its
+/// curve is not looked at, and of the numbers of a key only the modulus or the prime.
 pub fn first_difference(list: &[u8]) -> Option<Difference>
     ensures { (fields : List (List ℕ)) → HasFields list.now fields
         → result ≡ first_difference start.place fields }

@@ -1,0 +1,213 @@
+//! Each condition both ways, and how a check ends.
+
+use byte_streams::{Sink, ToWrite};
+use key_files::RunFault;
+use key_listing::{Printer, Run};
+use krl_audit::{Auditor, Counts, Form, Judge, Refusal, Shown};
+use krl_checker::{Checker, Role};
+use krl_held::Revocations;
+use parts_for_tests::{CONTAINER, FIVE, GITHUB, GITHUB_LINE, HEADER, OTHER_LINE, Taker, joined};
+use span_sets::Held;
+use std::alloc::Global;
+use std::process::Abort;
+
+/// What a list is checked for.
+#[derive(Clone, Copy)]
+pub enum Asked<'a> {
+    /// These bytes, which OpenSSH is to read.
+    OpenSsh(&'a [u8]),
+    /// Its version, and another one.
+    Version(u64, u64),
+    /// A file of keys.
+    Keys(Role, &'a str, Result<&'a [u8], Refusal>),
+}
+
+/// Checks a list.
+pub fn check<'a, W: Sink>(
+    checker: &mut Checker<'_, '_, W>,
+    asked: Asked<'a>,
+) -> Result<(), RunFault<'a>> {
+    match asked {
+        Asked::OpenSsh(bytes) => checker.check_openssh("r.krl", bytes),
+        Asked::Version(version, other) => checker.check_version("r.krl", version, other),
+        Asked::Keys(role, name, content) => checker.check_keys(role, name, content),
+    }
+}
+
+// What checks of a list that revokes the published key say, and their status.
+fn said(rt: &impl Abort, alloc: Global, asked: &[Asked<'_>]) -> (Vec<u8>, u8) {
+    let mut list: Revocations<Held> = Revocations::new(alloc);
+    list.add_key(GITHUB).expect(rt, "there is memory");
+    let mut taker = Taker::whole(alloc);
+    let status = said_into(rt, alloc, &list, asked, &mut ToWrite::new(&mut taker));
+    (taker.taken, status)
+}
+
+fn said_into<W: Sink>(
+    rt: &impl Abort,
+    alloc: Global,
+    list: &Revocations<Held>,
+    asked: &[Asked<'_>],
+    out: &mut W,
+) -> u8 {
+    let mut buffer = Vec::new(alloc);
+    let mut checker = checker_of(alloc, list, Printer::new(&mut buffer, out));
+    for condition in asked {
+        check(&mut checker, *condition).expect(rt, "there is memory");
+    }
+    checker.finish(None).status
+}
+
+/// What checks a list.
+pub fn checker_of<'q, 'w, W: Sink>(
+    alloc: Global,
+    list: &'q Revocations<Held>,
+    printer: Printer<'w, W>,
+) -> Checker<'q, 'w, W> {
+    let shown = Shown {
+        findings: true,
+        fine: false,
+        form: Form::Text,
+    };
+    let run = Run {
+        alloc,
+        printer,
+        line: Vec::new(alloc),
+    };
+    Checker {
+        auditor: Auditor {
+            judge: Judge { list, shown },
+            run,
+            counts: Counts::NONE,
+        },
+        refused: false,
+        unread: false,
+    }
+}
+
+// One condition, what is said, and the status.
+const CHECKS: [(Asked<'static>, &[u8], u8); 17] = [
+    (Asked::OpenSsh(&HEADER), b"", 0),
+    (Asked::Version(7, 7), b"", 0),
+    (Asked::Version(8, 7), b"", 0),
+    (Asked::Version(6, 7), b"version: r.krl: 6 is below 7\n", 1),
+    (
+        Asked::Version(0, 18_446_744_073_709_551_615),
+        b"version: r.krl: 0 is below 18446744073709551615\n",
+        1,
+    ),
+    (Asked::Keys(Role::Keep, "f", Ok(OTHER_LINE)), b"", 0),
+    (Asked::Keys(Role::Canary, "f", Ok(GITHUB_LINE)), b"", 0),
+    (
+        Asked::Keys(Role::Keep, "f", Ok(GITHUB_LINE)),
+        b"f:1: revoked: ssh-ed25519 SHA256:+DiY3wvvV6TuJJhbpZisF/zLDA0zPMSvHdkr4UvCOqU by its key
+keep: f: 1 of 1 keys are revoked, 0 lines are not read\n",
+        1,
+    ),
+    (
+        Asked::Keys(Role::Keep, "id", Ok(CONTAINER)),
+        b"id:1: revoked: ssh-ed25519 SHA256:+DiY3wvvV6TuJJhbpZisF/zLDA0zPMSvHdkr4UvCOqU by its key: a
+keep: id: 1 of 1 keys are revoked, 0 lines are not read\n",
+        1,
+    ),
+    (
+        Asked::Keys(Role::Keep, "a\x1b", Ok(b"")),
+        b"keep: a\\x1b: 0 of 0 keys are revoked, 0 lines are not read\n",
+        1,
+    ),
+    (
+        Asked::Keys(Role::Canary, "f", Ok(b"# none\n")),
+        b"canary: f: 0 of 0 keys are revoked, 0 lines are not read\n",
+        1,
+    ),
+    (
+        Asked::Keys(Role::Keep, "f", Ok(b"x\n")),
+        b"f:1: unread: no key type stands there
+keep: f: 0 of 0 keys are revoked, 1 lines are not read\n",
+        1,
+    ),
+    (
+        Asked::Keys(Role::Canary, "f", Ok(b"x\n")),
+        b"canary: f: 0 of 0 keys are revoked, 1 lines are not read\n",
+        1,
+    ),
+    (Asked::Keys(Role::Canary, "id", Ok(CONTAINER)), b"", 0),
+    (
+        Asked::Keys(Role::Keep, "gone", Err(Refusal::Missing)),
+        b"gone: unread: No such file or directory
+keep: gone: 0 of 0 keys are revoked, 1 lines are not read\n",
+        255,
+    ),
+    (
+        Asked::Keys(Role::Canary, "gone", Err(Refusal::Missing)),
+        b"canary: gone: 0 of 0 keys are revoked, 1 lines are not read\n",
+        255,
+    ),
+    (
+        Asked::OpenSsh(SERIAL_ZERO),
+        b"openssh: r.krl: it names serial number 0\n",
+        1,
+    ),
+];
+
+// A list of serial number 0 of all authorities.
+const SERIAL_ZERO: &[u8] = b"SSHKRL\n\0\0\0\0\x01\0\0\0\0\0\0\0\x01\0\0\0\0\0\0\0\0\
+\0\0\0\0\0\0\0\0\0\0\0\0\0\0\0\0\
+\x01\0\0\0\x15\0\0\0\0\0\0\0\0\x20\0\0\0\x08\0\0\0\0\0\0\0\0";
+
+#[test]
+fn each_condition(rt: HostRuntime) {
+    for (i, (asked, wanted, status)) in CHECKS.iter().enumerate() {
+        let (text, got) = said(&rt, rt.alloc(), &[*asked]);
+        assert_eq!(rt; text.as_slice(), *wanted, "check {i}");
+        assert_eq!(rt; got, *status, "check {i}");
+    }
+}
+
+// A file of two keys, of which the list revokes the first one.
+const BOTH: &[u8] = b"\
+ssh-ed25519 AAAAC3NzaC1lZDI1NTE5AAAAIOMqqnkVzrm0SdG6UOoqKLsabgH5C9okWi0dh2l9GKJl
+ssh-ed25519 AAAAC3NzaC1lZDI1NTE5AAAAIOYUDputd6M6v/apAWVamVjkTaHJqGoWEmh4spiW+2CM
+";
+
+// The last line for some conditions one after the other, and the status.
+const ROWS: [(&[Asked<'static>], &[u8], u8); 4] = [
+    (&[], b"", 0),
+    (
+        &[
+            Asked::OpenSsh(&HEADER),
+            Asked::Keys(Role::Keep, "other", Ok(OTHER_LINE)),
+            Asked::Keys(Role::Canary, "canary", Ok(GITHUB_LINE)),
+            Asked::Version(1, 1),
+        ],
+        b"",
+        0,
+    ),
+    (
+        &[
+            Asked::Keys(Role::Keep, "both", Ok(BOTH)),
+            Asked::Version(1, 1),
+        ],
+        b"keep: both: 1 of 2 keys are revoked, 0 lines are not read\n",
+        1,
+    ),
+    (
+        &[
+            Asked::Keys(Role::Canary, "gone", Err(Refusal::Denied)),
+            Asked::Keys(Role::Canary, "both", Ok(BOTH)),
+        ],
+        b"canary: both: 1 of 2 keys are revoked, 0 lines are not read\n",
+        255,
+    ),
+];
+
+// A condition that fails decides, wherever it is.
+#[test]
+fn many_conditions(rt: HostRuntime) {
+    for (i, (asked, wanted, status)) in ROWS.iter().enumerate() {
+        let (text, got) = said(&rt, rt.alloc(), *asked);
+        assert!(rt; text.ends_with(*wanted), "row {i}");
+        assert!(rt; text.is_empty() == wanted.is_empty(), "row {i}");
+        assert_eq!(rt; got, *status, "row {i}");
+    }
+}

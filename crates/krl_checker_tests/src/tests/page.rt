@@ -1,0 +1,46 @@
+//! The callers of the pages.
+
+use crate::tests::checks::checker_of;
+use byte_streams::{FromRead, Sink, ToWrite};
+use key_files::RunFault;
+use key_listing::Printer;
+use krl_checker::{Checker, Role};
+use krl_core::read_krl;
+use krl_held::Revocations;
+use krl_openssh::first_difference;
+use parts_for_tests::{FIVE, GITHUB, GITHUB_LINE, OTHER_LINE, Taker, list_of};
+use span_sets::Held;
+use std::alloc::Global;
+
+/// Whether OpenSSH reads a list too, and as the same names.
+fn is_read_alike(alloc: Global, list: &[u8]) -> bool {
+    let (read, _reader) = read_krl::<Held, _>(alloc, FromRead::new(list));
+    read.is_ok() && first_difference(list).is_none()
+}
+
+/// Whether a list, which was read from these bytes, does all that it must: the exit status.
+fn status_of<W: Sink>(
+    checker: &mut Checker<'_, '_, W>,
+    bytes: &[u8],
+    keep: &[u8],
+    canary: &[u8],
+) -> Result<u8, RunFault<'static>> {
+    checker.check_openssh("revoked.krl", bytes)?;
+    checker.check_keys(Role::Keep, "keep.pub", Ok(keep))?;
+    checker.check_keys(Role::Canary, "canary.pub", Ok(canary))?;
+    Ok(checker.finish(None).status)
+}
+
+#[test]
+fn the_callers_of_the_pages(rt: HostRuntime) {
+    let bytes = list_of(rt.alloc(), FIVE).expect(&rt, "there is memory");
+    assert!(rt; is_read_alike(rt.alloc(), &bytes) && !is_read_alike(rt.alloc(), b"x"));
+    let mut list: Revocations<Held> = Revocations::new(rt.alloc());
+    list.add_key(GITHUB).expect(&rt, "there is memory");
+    let mut taker = Taker::whole(rt.alloc());
+    let mut buffer = Vec::new(rt.alloc());
+    let mut out = ToWrite::new(&mut taker);
+    let mut checker = checker_of(rt.alloc(), &list, Printer::new(&mut buffer, &mut out));
+    let status = status_of(&mut checker, &bytes, OTHER_LINE, GITHUB_LINE);
+    assert!(rt; status.expect(&rt, "there is memory") == 0);
+}
