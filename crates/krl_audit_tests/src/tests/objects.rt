@@ -2,7 +2,7 @@
 
 use crate::tests::keys::{ALICE, ALICE_PRINT, AUTHORITY_PRINT, BOB, BOB_PRINT};
 use crate::tests::made::{Listed, OBJECTS, alice_and_bob, all_of_bob, blob_of, nothing, said_of};
-use byte_streams::ToWrite;
+use byte_streams::{Sink, ToWrite};
 use key_listing::{Printer, Run};
 use key_text::{sha1_of, sha256_of};
 use krl_audit::{Auditor, Counts, Judge, ListFacts, Refusal};
@@ -229,19 +229,22 @@ fn a_file_that_is_not_read_has_its_fault(rt: HostRuntime) {
     assert_eq!(rt; found.as_slice(), wanted.as_slice());
 }
 
-#[test]
-fn the_last_object_has_the_counts_and_the_list(rt: HostRuntime) {
-    let list = nothing(rt.alloc());
-    let mut taker = Taker::whole(rt.alloc());
-    let mut out = ToWrite::new(&mut taker);
-    let mut buffer = Vec::new(rt.alloc());
+// Says the last object of an audit of four files by this list.
+fn say_last<W: Sink>(
+    rt: &impl Abort,
+    alloc: Global,
+    list: &Listed,
+    facts: &ListFacts<'static>,
+    out: &mut W,
+) {
+    let mut buffer = Vec::new(alloc);
     let run = Run {
-        alloc: rt.alloc(),
-        printer: Printer::new(&mut buffer, &mut out),
-        line: Vec::new(rt.alloc()),
+        alloc,
+        printer: Printer::new(&mut buffer, out),
+        line: Vec::new(alloc),
     };
     let judge = Judge {
-        list: &list,
+        list,
         shown: OBJECTS,
     };
     let counts = Counts {
@@ -250,15 +253,27 @@ fn the_last_object_has_the_counts_and_the_list(rt: HostRuntime) {
         unread: u64::MAX,
     };
     let mut auditor = Auditor { judge, run, counts };
+    auditor.say_done(4, facts).expect(rt, "there is memory");
+    assert!(rt; auditor.finish(None).status == 1);
+}
+
+#[test]
+fn the_last_object_has_the_counts_and_the_list(rt: HostRuntime) {
+    let list = nothing(rt.alloc());
+    let mut taker = Taker::whole(rt.alloc());
     let facts = ListFacts {
         name: "revoked.krl",
         version: u64::MAX,
         generated: 1_795_734_911,
         sha256: [0xab; 32],
     };
-    auditor.say_done(4, &facts).expect(&rt, "there is memory");
-    let done = auditor.finish(None);
-    assert!(rt; done.fault.is_none());
+    say_last(
+        &rt,
+        rt.alloc(),
+        &list,
+        &facts,
+        &mut ToWrite::new(&mut taker),
+    );
     let wanted = b"{\"status\":\"done\",\"files\":4,\"keys\":8,\"revoked\":5,\
 \"unread\":18446744073709551615,\"list\":{\"file\":\"revoked.krl\",\
 \"version\":\"18446744073709551615\",\"generated\":\"2026-11-26T23:15:11Z\",\
