@@ -4,6 +4,7 @@
 mod answered;
 mod audits;
 mod buffer;
+mod checks;
 mod holding;
 mod keys;
 mod parts;
