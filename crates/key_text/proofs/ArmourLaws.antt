@@ -1,4 +1,4 @@
--- The lines round a container: what is between them is read, and each such text is.
+-- The lines around a container: reading returns the text between them, and reads every such text.
 use Rattle.std.proofs.lemmas.Grind.{common_steps}
 use Rattle.std.proofs.Common.{◌≡◌, ℕ, ◌<◌, map, List, [], ◌∷◌, ◌++◌, Option, Some, None, refl, sym, ap, subst, ◌∙◌, inl, inr, arith}
 use Rattle.std.specs.Prelude.{option_map}
@@ -11,7 +11,7 @@ use Rattle.key_text.specs.Lines.{is_newline}
 use Rattle.key_text.specs.Blanks.{before_ending}
 use Rattle.key_text.proofs.ListLaws.{equal_or_not}
 
--- lines, the first of which that is the end line is there, and their join before it
+-- if the end line is among the lines, the first end line, and the joined lines before it
 record Between (lines : List (List ℕ)) (body : List ℕ) : Type 0 where
   pub between : List (List ℕ)
   pub after : List (List ℕ)
@@ -68,7 +68,7 @@ pub armour_again : (text body : List ℕ) → IsArmour text body → armour_at t
 unfolding armour_at
 armour_again text body is = grind (arith, common_steps, body_again)
 
--- ---- what is between the lines of bytes is bytes
+-- ---- the joined lines of bytes are bytes
 
 AllBytes : List (List ℕ) → Type 0
 AllBytes [] = Unit {0}

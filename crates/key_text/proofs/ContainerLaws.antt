@@ -1,5 +1,4 @@
--- The bytes of a container: what is read is one, each one is read, and the fault that is met is the
--- first.
+-- The bytes of a container: reading returns only a container, reads each container, and reports the first fault.
 use Rattle.std.proofs.lemmas.Grind.{common_steps}
 use Rattle.std.proofs.Common.{◌≡◌, ℕ, ◌<◌, false, cond, eqb, List, [], ◌∷◌, ◌++◌, length, None, Result, Ok, Err, refl, sym, ap, subst, ◌∙◌, arith, inl, inr, ◌⊎◌}
 use Rattle.std.proofs.lemmas.Bool.{cases_Bool, eqb-true, ne_eqb}
@@ -72,7 +71,7 @@ ended_ok o rest r e = grind (arith, common_steps, cases_Bool, eqb-true, nil_from
 ended_err : (rest : List ℕ) (r : Result Opened PrivateFault) (d : PrivateFault) → cond {A = Result Opened PrivateFault} (eqb (length rest) 0) r (Err faults.Trailing) ≡ Err d → ((rest ≡ []) × (r ≡ Err d)) ⊎ ((0 < length rest) × (d ≡ faults.Trailing))
 ended_err rest r d e = grind (arith, common_steps, after, cases_Bool, eqb-true, nil_from_length)
 
--- what is after the name of the format
+-- after the name of the format
 pub record Inside (inside blob comment : List ℕ) : Type 0 where
   pub list : List ℕ
   pub parts : HasParts inside blob list
@@ -80,7 +79,7 @@ pub record Inside (inside blob comment : List ℕ) : Type 0 where
   pub is_key : IsKey blob key
   pub secret : IsPrivateList key list comment
 
--- ---- what is read
+-- ---- reading returns only a container
 
 has_parts : (inside rest : List ℕ) (values : List (List ℕ)) (p : Parts inside values rest) → rest ≡ [] → Leads outer [] inside values rest → HasParts inside p.blob p.list
 has_parts inside rest values p nothing leads =
@@ -117,9 +116,9 @@ pub inside_again : (inside blob comment : List ℕ) → Inside inside blob comme
 inside_again inside blob comment is =
     parts_read inside blob is.list is.key is.parts is.is_key ∙ rw (list_again is.key is.list comment is.secret) refl
 
--- ---- what is refused
+-- ---- the refused bytes
 
--- the first fault of what is after the name of the format
+-- the first fault after the name of the format
 pub data IsInsideFault (inside : List ℕ) (fault : PrivateFault) : Type 0 where
   fails : Fails outer [] inside fault → IsInsideFault inside fault
   goes_on : (rest : List ℕ) (values : List (List ℕ)) → Leads outer [] inside values rest → 0 < length rest → fault ≡ faults.Trailing → IsInsideFault inside fault

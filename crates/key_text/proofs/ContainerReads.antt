@@ -1,4 +1,4 @@
--- What the fields of a container give, read one after the other.
+-- The results of reading the fields of a container, one after the other.
 use Rattle.std.proofs.lemmas.Grind.{common_steps}
 use Rattle.std.proofs.Common.{◌≡◌, ◌≢◌, ℕ, ◌+◌, ◌-◌, ◌<◌, ◌≤◌, Bool, true, false, List, [], ◌∷◌, ◌++◌, length, take, drop, get_or, codes, map, nat_eq, Option, Some, None, Ok, Err, Decides, refl, sym, ap, ◌∙◌, arith, append_assoc}
 use Rattle.std.specs.Prelude.{option_map}
@@ -111,7 +111,7 @@ pub body_refused : (body : List ℕ) (error : DecodeError) → decode_of standar
 unfolding body_at decoded_at
 body_refused body error e = grind (arith, common_steps)
 
--- ---- what follows the name of the format
+-- ---- after the name of the format
 
 pub bytes_inside : (bytes : List ℕ) → starts_with nat_eq bytes magic ≡ true → inside_at (take (length bytes - 15) (drop 15 bytes)) ≡ bytes_at bytes
 unfolding bytes_at

@@ -1,5 +1,5 @@
--- Reading a printed fingerprint and the relation: what is read is one, each one is read, and the fault
--- that is met is the first.
+-- Reading a printed fingerprint agrees with the relation: reading returns only the digest of a fingerprint, reads each
+-- fingerprint, and reports the first fault.
 use Rattle.std.proofs.lemmas.Grind.{common_steps}
 use Rattle.std.proofs.Common.{◌≡◌, ◌≢◌, ℕ, zero, suc, true, false, eqb, List, ◌++◌, Result, Ok, Err, length, drop, slice_index, nat_eq, refl, sym, ap, subst, ◌∙◌, inl, inr, ◌⊎◌, arith}
 use Rattle.std.specs.List.{starts_with}
@@ -28,7 +28,7 @@ use Rattle.ssh_wire.proofs.Steps.{err_is, failed_err, ok_or_err, passed_ok}
 after : (text rest : List ℕ) → text ≡ sha256_prefix ++ rest → drop 7 text ≡ rest
 after text rest e = rw e (drop_at sha256_prefix rest 7 refl)
 
--- reading goes on after the prefix, or stops at it
+-- reading continues after the prefix, or stops at it
 pub prefixed_at : (text rest : List ℕ) → text ≡ sha256_prefix ++ rest → fingerprint_at text ≡ sized (decode_of standard_no_pad rest)
 unfolding fingerprint_at
 prefixed_at text rest e = grind (arith, common_steps, after, front_met)
@@ -49,7 +49,7 @@ sized_ok : (read : Result (List ℕ) DecodeError) (digest : List ℕ) → sized 
 sized_ok (Err error) digest e = absurd cc
 sized_ok (Ok bytes) digest e = let g = passed_ok (eqb (length bytes) 32) Length bytes digest e in (ap done g.1, ap length (sym g.1) ∙ eqb-true _ _ g.0)
 
--- what is refused there: no base64, or that of another count of bytes
+-- the texts that are refused there: no base64, or the base64 of another number of bytes
 Refused : Result (List ℕ) DecodeError → FingerprintFault → Type 0
 Refused read fault =
     ((error : DecodeError) × (read ≡ Err error) × (fault ≡ Base64))
@@ -102,7 +102,7 @@ fingerprint_refused text fault fits e = elim (prefix_or_not text) [
   | inr has ↦ refused_there text has.0 fault fits has.1 (sized_err (decode_of standard_no_pad has.0) fault (sym (prefixed_at text has.0 has.1) ∙ e))
 ]
 
--- ---- a first fault is what is met
+-- ---- reading reports a first fault
 
 pub fingerprint_fault_met : (text : List ℕ) (fault : FingerprintFault) → IsBytes text → IsFingerprintFault text fault → fingerprint_at text ≡ Err fault
 fingerprint_fault_met text Prefix fits none = elim (prefix_or_not text) [

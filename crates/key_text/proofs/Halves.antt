@@ -6,7 +6,7 @@ use Rattle.std.proofs.lemmas.List.{length-drop, take_all}
 use Rattle.key_text.specs.Container.{magic}
 use Rattle.key_text.specs.PublicHalf.{half_bytes, half_inside}
 
--- what follows the name of the format
+-- after the name of the format
 pub bytes_after : (bytes : List ℕ) → starts_with nat_eq bytes magic ≡ true → half_inside (take (length bytes - 15) (drop 15 bytes)) ≡ half_bytes bytes
 unfolding half_bytes
 bytes_after bytes met = grind (arith, common_steps, length-drop, take_all)

@@ -1,4 +1,4 @@
--- Base64: its words have no blank and are not empty, and decoding undoes it and gives bytes.
+-- Base64: its words have no blank and are not empty, and decoding reverses encoding and gives bytes.
 use Rattle.std.proofs.lemmas.Grind.{common_steps}
 use Rattle.std.proofs.Common.{◌≡◌, ℕ, ◌+◌, ◌*◌, ◌/◌, ◌%◌, ◌<◌, true, List, [], ◌∷◌, Result, Ok, Err, length, map, replicate, slice_index, refl, ap, arith, inl, inr, ◌⊎◌}
 use Rattle.std.proofs.lemmas.Bool.{cases_lt}
@@ -66,13 +66,13 @@ base64_some (byte ∷ bytes) some =
     let padding : List ℕ = replicate (padding_len (length (byte ∷ bytes))) 61 in
     omega (arith, some_symbols byte bytes, length-append symbols padding)
 
--- ---- there and back
+-- ---- encoding and decoding
 
 pub decoded_again : (bytes : List ℕ) → IsBytes bytes → decoded (base64 bytes) ≡ Ok bytes
 unfolding decoded base64
 decoded_again bytes fits = ap (in_fault no_base64) (decode_of-encode_of standard bytes refl fits)
 
--- what decodes, whatever a fault is reported as
+-- the decoded bytes do not depend on how a fault is reported
 pub base64_takes : {F : Type 0} (words : DecodeError → F) (text bytes : List ℕ) → IsBytes text → in_fault words (decode_of standard text) ≡ Ok bytes → (text ≡ base64 bytes) × IsBytes bytes
 unfolding base64
 base64_takes words text bytes fits e =

@@ -1,4 +1,4 @@
--- The fault that reading a line meets is the first one of the text, and the first one is what is met.
+-- Reading a line reports the first fault of the text, and each first fault is reported.
 use Rattle.std.proofs.lemmas.Grind.{common_steps}
 use Rattle.std.proofs.Common.{◌≡◌, ◌≢◌, ℕ, ◌⊎◌, false, List, Result, Ok, Err, IfErr, refl, sym, ap, subst, ◌∙◌, inl, inr, arith}
 use Rattle.std.proofs.lemmas.Bool.{both_ways, cases_Bool}
@@ -15,9 +15,9 @@ use Rattle.key_text.proofs.TextWords.{IsBytes-words, none_or_words, words_read}
 use Rattle.ssh_wire.specs.Wire.{BeginsWith, IsBytes}
 use Rattle.ssh_wire.proofs.Steps.{ok_or_err}
 
--- ---- what is met is the first fault
+-- ---- reading reports only the first fault
 
--- what the words of a text were refused for
+-- why the words of a text were refused
 abbrev Refused : List ℕ → List ℕ → LineFault → Type 0
 Refused word encoded fault =
     ((decoded encoded ≡ Err Base64) × (fault ≡ Base64))
@@ -26,7 +26,7 @@ Refused word encoded fault =
 refused : (word encoded comment : List ℕ) (fault : LineFault) → checked word (decoded encoded) comment ≡ Err fault → Refused word encoded fault
 refused word encoded comment fault e = grind (arith, common_steps, decoded_cases)
 
--- words are never refused as no key
+-- words are never refused with `NoKey`
 words_key : (text : List ℕ) → HasSomeWords text → line_at text ≡ Err NoKey → ⊥
 words_key text has e = elim (refused has.word has.encoded has.comment NoKey (sym (words_read text has.word has.encoded has.comment has.words) ∙ e)) [
   | inl bad ↦ let same = bad.1 in cc
@@ -61,7 +61,7 @@ words_refused text fault fits has e = elim (refused has.word has.encoded has.com
 pub line_refused : (text : List ℕ) (fault : LineFault) → IsBytes text → line_at text ≡ Err fault → IsFirstLineFault text fault
 line_refused text fault fits e = grind (arith, common_steps, none_or_words, words_key, words_refused)
 
--- ---- and a first fault is what is met
+-- ---- reading reports each first fault
 
 pub first_line_fault_met : (text : List ℕ) (fault : LineFault) → IsBytes text → IsFirstLineFault text fault → line_at text ≡ Err fault
 first_line_fault_met text NoKey fits none = elim (none_or_words text) [

@@ -1,4 +1,4 @@
--- Reading a key line and the relation: what is read is a key line, and each key line is read.
+-- Reading a key line agrees with the relation: reading returns only key lines, and reads each key line.
 use Rattle.std.proofs.Common.{◌≡◌, ℕ, true, List, Result, Ok, Err, refl, sym, ap, subst, ◌∙◌, inl, inr}
 use Rattle.std.proofs.lemmas.Slice.Eq.{bytes_eq-Decides}
 use Rattle.ssh_wire.specs.Reading.{string_at}
@@ -37,7 +37,7 @@ word_takes word blob fits e =
     let taken = string_takes blob word read.0 fits read.1 in
     record { rest = read.0; spelled = taken.0.parts; fits = taken.1 }
 
--- ---- what is read is a key line
+-- ---- reading returns only key lines
 
 checked_takes : (word : List ℕ) (read : Result (List ℕ) LineFault) (comment : List ℕ) (parts : Content) → checked word read comment ≡ Ok parts → (read ≡ Ok parts.blob) × (has_word word parts.blob ≡ true) × (content word parts.blob comment ≡ parts)
 checked_takes word (Err fault) comment parts e = absurd cc
@@ -61,7 +61,7 @@ line_found text parts fits e = elim (none_or_words text) [
       subst (λ (p : Content). IsKeyLine text p.word p.blob p.comment) taken.2 is
 ]
 
--- ---- each key line is read
+-- ---- reading reads each key line
 
 pub line_again : (text word blob comment : List ℕ) → IsKeyLine text word blob comment → line_at text ≡ Ok (content word blob comment)
 line_again text word blob comment k =

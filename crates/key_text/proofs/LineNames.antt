@@ -1,4 +1,4 @@
--- The names of the key types: the test finds them, and they are short words with no blank.
+-- The names of the key types: the test recognises them, and they are short words with no blank.
 use Rattle.std.proofs.lemmas.Grind.{common_steps}
 use Rattle.std.proofs.Common.{◌≡◌, ℕ, suc, ◌<◌, ◌&&◌, ◌||◌, Bool, true, List, [], ◌∷◌, length, map, nat_lt, Contains, is_some, refl, ◌∙◌, arith, inl, inr}
 use Rattle.std.proofs.lemmas.Bool.{and_parts, cases_Bool, ltb-true}

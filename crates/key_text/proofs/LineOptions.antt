@@ -1,4 +1,4 @@
--- The options field: what the scan stops after is a field, and after a field it stops.
+-- The options field: the scan stops only after a field, and always stops after a field.
 use Rattle.std.proofs.lemmas.Grind.{common_steps}
 use Rattle.std.proofs.Common.{◌≡◌, ◌≢◌, ℕ, ◌==◌, ◌&&◌, Bool, true, false, not, cond, List, [], ◌∷◌, ◌++◌, Some, None, refl, sym, ap, subst, ◌∙◌, arith, inl, inr}
 use Rattle.std.proofs.lemmas.Bool.{and_right, both_ways, cases_Bool, cases_eq, eq-eqb, false_from_ne_true, ne_eqb}
@@ -29,7 +29,7 @@ inside byte = and_right (is_blank byte) (not true) refl
 outside : (byte : ℕ) → is_blank byte ≡ false → (is_blank byte && not false) ≡ false
 outside byte no_blank = rw no_blank refl
 
--- a byte that is no quote changes nothing
+-- a byte that is not a quote does not change the state
 plain : (quoted escaped : Bool) (byte : ℕ) → byte ≢ 34 → quoted_after quoted escaped byte ≡ quoted
 plain quoted escaped byte other = rw (ne_eqb byte 34 other) refl
 
@@ -38,13 +38,13 @@ abbrev NoQuote : List ℕ → Type 0
 NoQuote [] = Unit {0}
 NoQuote (byte ∷ rest) = byte ≢ 34
 
--- only a quote minds the backslash before it
+-- a backslash matters only before a quote
 unescaped : (quoted : Bool) (text : List ℕ) → NoQuote text → after_options quoted true text ≡ after_options quoted false text
 unfolding after_options
 unescaped quoted [] other = refl
 unescaped quoted (byte ∷ rest) other = rw (ne_eqb byte 34 other) refl
 
--- a byte that is no quote, where a quote after it is not escaped by it
+-- a byte that is not a quote, and that does not escape a quote after it
 passes : (quoted : Bool) (byte : ℕ) (rest : List ℕ) → byte ≢ 34 → (is_blank byte && not quoted) ≡ false → ((byte ≡ 92) → NoQuote rest) → after_options quoted false (byte ∷ rest) ≡ after_options quoted false rest
 passes quoted byte rest other stays apart = grind (arith, common_steps, cases_eq, eq-eqb, goes_on, ne_eqb, plain, unescaped)
 
@@ -99,7 +99,7 @@ options_again field rest (options_quoted inner more q o) stops =
     ∙ quoted_passes inner (more ++ rest) q
     ∙ options_again more rest o stops
 
--- ---- what the scan stops after is a field
+-- ---- the scan stops only after a field
 
 -- the text is a field and the rest
 pub record IsOptionsBefore (text rest : List ℕ) : Type 0 where
@@ -108,7 +108,7 @@ pub record IsOptionsBefore (text rest : List ℕ) : Type 0 where
   pub whole : text ≡ field ++ rest
   pub stops : FailsFirst not_blank rest
 
--- the text is what stands up to the next quote, that quote, a field and the rest
+-- the text is the bytes up to the next quote, that quote, a field and the rest
 record IsQuotedBefore (text rest : List ℕ) : Type 0 where
   inner : List ℕ
   is_quoted : Quoted inner
@@ -142,7 +142,7 @@ apart_from_quote : (byte : ℕ) (text inner rest : List ℕ) → text ≡ inner 
 apart_from_quote byte text [] rest whole apart = λ backslash. subst NoQuote whole (apart backslash)
 apart_from_quote byte text (next ∷ inner) rest whole apart = λ backslash. subst NoQuote whole (apart backslash)
 
--- a byte that is no quote, before what the scan goes on with
+-- a byte that is not a quote, before the bytes that the scan continues with
 plain_byte : (byte : ℕ) (text : List ℕ) → FindsEnd text → byte ≢ 34 → ((byte ≡ 92) → NoQuote text) → (quoted : Bool) (rest : List ℕ) → (is_blank byte && not quoted) ≡ false → after_options quoted false (byte ∷ text) ≡ Some rest → Found quoted (byte ∷ text) rest
 plain_byte byte text holds other apart true rest stays e =
     let f = holds true rest (sym (passes true byte text other stays apart) ∙ e) in
@@ -161,7 +161,7 @@ quote_byte text holds false rest e =
     let f = holds true rest (sym (quote_opens text) ∙ e) in
     record { field = 34 ∷ (f.inner ++ 34 ∷ f.field); options = options_quoted f.inner f.field f.is_quoted f.options; whole = ap (λ (xs : List ℕ). 34 ∷ xs) (f.whole ∙ sym (append_assoc f.inner (34 ∷ f.field) rest)); stops = f.stops }
 
--- a pair
+-- a pair of a backslash and a quote
 pair_bytes : (text : List ℕ) → FindsEnd text → (quoted : Bool) (rest : List ℕ) → after_options quoted false (92 ∷ 34 ∷ text) ≡ Some rest → Found quoted (92 ∷ 34 ∷ text) rest
 pair_bytes text holds true rest e =
     let f = holds true rest (sym (pair_passes true text) ∙ e) in

@@ -10,7 +10,7 @@ use Rattle.key_text.specs.Blanks.{AreBlanks, IsWord, BeginsWithNoBlank, after_bl
 use Rattle.key_text.specs.KeyLine.{Comment, comment_after, no_comment}
 use Rattle.key_text.specs.LineReading.{after_word}
 
--- xs does not begin with an element that passes
+-- xs does not begin with an element that passes the test
 abbrev pub FailsFirst : (ℕ → Bool) → List ℕ → Type 0
 FailsFirst p [] = Unit {0}
 FailsFirst p (x ∷ xs) = p x ≡ false
@@ -18,7 +18,7 @@ FailsFirst p (x ∷ xs) = p x ≡ false
 abbrev pub not_blank : ℕ → Bool
 not_blank byte = not (is_blank byte)
 
--- ---- the longest front that passes
+-- ---- the longest front whose elements pass the test
 
 pub prefix_len-front : (p : ℕ → Bool) (xs ys : List ℕ) → AllPass p xs → FailsFirst p ys → prefix_len p (xs ++ ys) ≡ length xs
 prefix_len-front p xs [] each stops =
@@ -74,7 +74,7 @@ pub blanks_stop : (blanks rest : List ℕ) → AreBlanks blanks → FailsFirst n
 blanks_stop [] rest are = absurd (omega (arith, are.some))
 blanks_stop (byte ∷ blanks) rest are = ap not (are.each 0 0 (omega arith))
 
--- where a word ends and something stands after the blanks, there are blanks
+-- if a word ends and bytes follow the blanks, there are blanks
 pub gap : (text : List ℕ) → FailsFirst not_blank text → 0 < length (after_blanks text) → AreBlanks (leading text)
 unfolding after_blanks
 gap [] stops some = absurd (omega (arith, some))
@@ -83,7 +83,7 @@ gap (byte ∷ text) stops some =
     let one : prefix_len is_blank (byte ∷ text) ≡ 1 + prefix_len is_blank text = rw blank refl in
     record { some = omega (arith, one, length-take (prefix_len is_blank (byte ∷ text)) (byte ∷ text)); each = front_passes is_blank (byte ∷ text) }
 
--- a word stands where no blank does
+-- a word has no blank
 pub first_word_is : (text : List ℕ) → 0 < length text → FailsFirst is_blank text → IsWord (first_word text)
 unfolding first_word
 first_word_is [] some bare = absurd (omega (arith, some))
@@ -91,7 +91,7 @@ first_word_is (byte ∷ text) some bare =
     let one : prefix_len not_blank (byte ∷ text) ≡ 1 + prefix_len not_blank text = rw bare refl in
     record { some = omega (arith, one, length-take (prefix_len not_blank (byte ∷ text)) (byte ∷ text)); each = front_passes not_blank (byte ∷ text) }
 
--- and a word begins with no blank, whatever stands after it
+-- and a word begins with no blank, whatever follows it
 pub word_stops : (word rest : List ℕ) → IsWord word → FailsFirst is_blank (word ++ rest)
 word_stops [] rest is = absurd (omega (arith, is.some))
 word_stops (byte ∷ word) rest is = not-true (is_blank byte) (is.each 0 0 (omega arith))

@@ -1,5 +1,4 @@
--- The private list of a container: what is read is one, each one is read, and the fault that is met is
--- the first.
+-- The private list of a container: reading returns only a private list, reads each one, and reports the first fault.
 use Rattle.std.proofs.lemmas.Grind.{common_steps}
 use Rattle.std.proofs.Common.{◌≡◌, ◌≢◌, ℕ, Bool, true, false, List, [], ◌++◌, length, drop, nat_eq, Result, Ok, Err, refl, sym, subst, ◌∙◌, inl, inr, ◌⊎◌, arith}
 use Rattle.std.specs.List.{starts_with}
@@ -47,7 +46,7 @@ ended_other key values comment padding other = grind (arith, common_steps, bytes
 
 -- ---- the rows of a list
 
--- what follows the fields of the kind
+-- after the fields of the kind
 abbrev ends_at : PublicKey → List (List ℕ) → List ℕ → Result (List ℕ) PrivateFault
 ends_at key values rest = in_fault faults.Wire (string_at rest) >>= λ comment. ended (same_as key values) comment.0 comment.1
 
@@ -66,7 +65,7 @@ by_rows : (key : PublicKey) (list : List ℕ) → list_at key list ≡ (row_at (
 unfolding list_at same_at
 by_rows key list = grind (arith, common_steps, bind_again, bind_same, same_as)
 
--- ---- what is read is a private list
+-- ---- reading returns only a private list
 
 list_is : (key : PublicKey) (list comment padding x rest : List ℕ) (values : List (List ℕ)) → Opens key list values rest → BeginsWithPart Text rest comment padding → ended (same_as key values) comment padding ≡ Ok x → IsPrivateList key list x
 list_is key list comment padding x rest values opens stands e = elim (equal_or_not (public_text key.kind values) key.fields) [
@@ -102,7 +101,7 @@ list_again key list comment is =
     let test = front_met all_padding is.padding is.unused is.padded in
     by_rows key list ∙ rw (row_again (beginning key.kind) [] list o.head o.fields o.begun, row_again (secrets key.kind) [] o.fields is.values is.rest o.read, part_again Text is.rest comment is.padding is.ended, (bytes_eq-Decides (public_text key.kind is.values) key.fields).1 is.same, test) refl
 
--- ---- what is refused has that fault first
+-- ---- the refused bytes have that first fault
 
 end_refused : (key : PublicKey) (list comment padding rest : List ℕ) (values : List (List ℕ)) (fault : PrivateFault) → Opens key list values rest → BeginsWithPart Text rest comment padding → ended (same_as key values) comment padding ≡ Err fault → IsListFault key list fault
 end_refused key list comment padding rest values fault opens stands e = elim (equal_or_not (public_text key.kind values) key.fields) [

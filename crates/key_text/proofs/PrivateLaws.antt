@@ -1,4 +1,4 @@
--- A private container: what is read is one, each one is read, and the fault that is met is the first.
+-- A private container: reading returns only a container, reads each container, and reports the first fault.
 use Rattle.std.proofs.lemmas.Grind.{common_steps}
 use Rattle.std.proofs.Common.{◌≡◌, ◌≢◌, ℕ, List, ◌++◌, length, drop, nat_eq, Option, Some, None, Result, Ok, Err, refl, sym, ap, subst, ◌∙◌, inl, inr, ◌⊎◌, arith}
 use Rattle.std.specs.Prelude.{IfErr, IfOk}
@@ -47,7 +47,7 @@ decoded_again : (bytes : List ℕ) → IsBytes bytes → decoded_at (base64 byte
 unfolding decoded_at base64
 decoded_again bytes fits = ap (in_fault (λ error. faults.Base64)) (decode_of-encode_of standard bytes refl fits)
 
--- ---- what the text holds
+-- ---- the contents of the text
 
 holds_read : (text bytes : List ℕ) → Holds text bytes → private_at text ≡ bytes_at bytes
 unfolding private_at body_at
@@ -56,7 +56,7 @@ holds_read text bytes h =
     let read : decoded_at h.body ≡ Ok bytes = ap decoded_at h.encoded ∙ decoded_again bytes h.are_bytes in
     rw (body, read) refl
 
--- ---- what is read is a container
+-- ---- reading returns only a container
 
 some_body_ok : (o : Option (List ℕ)) (body : List ℕ) → some_body o ≡ Ok body → o ≡ Some body
 some_body_ok None body e = absurd cc
@@ -96,7 +96,7 @@ private_again text blob comment is =
     let inner : Inside is.inside blob comment = record { list = is.list; parts = is.parts; key = is.key; is_key = is.is_key; secret = is.secret } in
     holds_read text (magic ++ is.inside) is.holds ∙ bytes_read is.inside ∙ inside_again is.inside blob comment inner
 
--- ---- what is refused has that fault first
+-- ---- a refused text has that first fault
 
 no_armour_at : (text : List ℕ) → armour_at text ≡ None → (body : List ℕ) → ¬ IsArmour text body
 no_armour_at text none body is = let some = armour_again text body is in cc
@@ -135,7 +135,7 @@ private_refused text fault fits e =
           ]
     ]
 
--- ---- and a first fault is what is met
+-- ---- reading reports a first fault
 
 inside_fault_met : (text inside : List ℕ) (fault : PrivateFault) → Holds text (magic ++ inside) → IsInsideFault inside fault → private_at text ≡ Err fault
 inside_fault_met text inside fault holds f = holds_read text (magic ++ inside) holds ∙ bytes_read inside ∙ inside_met inside fault f
@@ -169,7 +169,7 @@ private_met text fault fits (in_parts inside holds f) = inside_fault_met text in
 private_met text fault fits (after_parts inside rest values holds leads more is) = inside_fault_met text inside fault holds (goes_on rest values leads more is)
 private_met text fault fits (in_list inside blob list key holds parts is f) = inside_fault_met text inside fault holds (refused blob list key parts is f)
 
--- ---- what a reader answered
+-- ---- what a reader returned
 
 pub is_private : (text : List ℕ) (result : Result Private PrivateFault) → IsBytes text → GivesPrivate result (private_at text) → IfOk result (λ private. IsContainer text private.blob private.comment)
 is_private text (Ok private) fits given = private_found text (opened_of private) fits given

@@ -1,4 +1,4 @@
--- Rows of fields: what is read is the row, and the fault that is met is the first.
+-- Rows of fields: reading returns only the row, and reports the first fault.
 use Rattle.std.proofs.Common.{◌≡◌, ℕ, List, [], ◌∷◌, ◌++◌, slice_index, Option, Some, None, Result, Ok, Err, refl, sym, ap, subst, ◌∙◌, inl, inr, ◌⊎◌}
 use Rattle.ssh_wire.specs.Wire.{IsBytes}
 use Rattle.ssh_wire.specs.Reading.{in_fault, mpint_at, number_at, string_at}

@@ -1,4 +1,4 @@
--- Rows of fields that pass whatever they are: what is passed over is what the rows of steps give.
+-- Rows of fields that may have any value: skipping them field by field gives the same as the rows of steps.
 use Rattle.std.proofs.Common.{◌≡◌, ℕ, ◌+◌, ◌<◌, ◌≤◌, List, [], ◌∷◌, ◌++◌, length, get_or, drop, Result, Ok, Err, refl, sym, ap, ◌∙◌, append_assoc, inl, inr}
 use Rattle.std.specs.Str.{bytes_eq}
 use Rattle.std.proofs.lemmas.List.{append-nil, drop_all, drop_more}
@@ -13,9 +13,9 @@ use Rattle.key_text.specs.declared.container.secrets.Spelling.TheVariants as spe
 use Rattle.key_text.specs.declared.private_fault.PrivateFault.{PrivateFault}
 use Rattle.key_text.specs.declared.private_fault.PrivateFault.TheVariants.{Wire}
 
--- ---- a row that is passed over field by field
+-- ---- a row that is skipped field by field
 
--- what is passed over in all, after these bytes
+-- all bytes that were skipped, after these bytes
 abbrev pub in_all : List ℕ → Result (List ℕ × List ℕ) PrivateFault → Result (List ℕ × List ℕ) PrivateFault
 in_all read later = later >>= λ others. Ok (read ++ others.0, others.1)
 

@@ -1,4 +1,4 @@
--- The words of a text, and what reading makes of them: it judges the words, where a text has them.
+-- The words of a text: where a text has them, reading checks them.
 use Rattle.std.proofs.lemmas.Grind.{common_steps}
 use Rattle.std.proofs.Common.{◌≡◌, ℕ, ◌<◌, ◌⊎◌, true, false, List, [], ◌∷◌, ◌++◌, Option, Some, None, Result, Err, length, refl, sym, ap, subst, ◌∙◌, arith, inl, inr}
 use Rattle.std.proofs.lemmas.Bool.{both_ways, cases_Bool, cases_lt, false_from_ne_true}
@@ -19,7 +19,7 @@ use Rattle.key_text.proofs.LineWords.{IsBytes-trimmed, FailsFirst, blanks_cut, b
 
 -- ---- a line from its type word on
 
--- what is after the type word and blanks
+-- after the type word and blanks
 abbrev rest_of : List ℕ → List ℕ
 rest_of part = after_blanks (after_word part)
 
@@ -32,7 +32,7 @@ blob_at-none : (word rest : List ℕ) → rest ≡ [] → blob_at word rest ≡ 
 unfolding blob_at
 blob_at-none word rest none = grind (arith, common_steps)
 
--- where something stands after the type word, there are words
+-- if bytes follow the type word, there are words
 words_cut : (part : List ℕ) → is_type_name (first_word part) ≡ true → 0 < length (rest_of part) → AreWords part (first_word part) (first_word (rest_of part)) (after_blanks (after_word (rest_of part)))
 words_cut part name some =
     let after : List ℕ = after_word part in
@@ -65,7 +65,7 @@ words_again part word encoded comment k =
     let read : checked word (decoded (first_word rest)) (after_blanks (after_word rest)) ≡ checked word (decoded encoded) comment = rw (texts.0, texts.1, ended.1) refl in
     (first, test-from_Contains word k.name, ap (blob_at word) left ∙ blob_at-some word rest (omega (arith, length-append encoded k.end)) ∙ read)
 
--- ---- the line from its type word on, after an options field or not
+-- ---- the line from its type word on, with or without an options field
 
 typed-takes : (line part : List ℕ) → typed line ≡ Some part → (line ≡ part) × (is_type_name (first_word part) ≡ true)
 unfolding typed
@@ -84,7 +84,7 @@ name_some line name =
 abbrev LineWords : List ℕ → List ℕ → List ℕ → List ℕ → Type 0
 LineWords line word encoded comment = AreWords line word encoded comment ⊎ AreWordsAfterOptions line word encoded comment
 
--- a part with something after its type word gives the words of the line
+-- if bytes follow its type word, a part gives the words of the line
 part_words : (line part : List ℕ) → key_part line ≡ Some part → 0 < length (rest_of part) → LineWords line (first_word part) (first_word (rest_of part)) (after_blanks (after_word (rest_of part)))
 unfolding key_part
 part_words line part found some = elim (cases_Bool (is_type_name (first_word line))) [
@@ -138,13 +138,13 @@ options_line_again line word encoded comment o =
 
 -- ---- a text
 
--- where a text has its words, they are what is checked
+-- if a text has its words, reading checks them
 pub words_read : (text word encoded comment : List ℕ) → HasWords text word encoded comment → line_at text ≡ checked word (decoded encoded) comment
 unfolding line_at
 words_read text word encoded comment (inl k) = plain_again (trimmed text) word encoded comment k
 words_read text word encoded comment (inr o) = options_line_again (trimmed text) word encoded comment o
 
--- and where it has none, there is no key
+-- and if it has none, there is no key
 by_part : (text : List ℕ) (read : Option (List ℕ)) → key_part (trimmed text) ≡ read → (line_at text ≡ Err NoKey) ⊎ HasSomeWords text
 unfolding line_at
 by_part text None found = inl (ap content_at found)

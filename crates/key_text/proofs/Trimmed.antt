@@ -1,4 +1,4 @@
--- A text without its ends is no longer than it was.
+-- A text is not longer after blanks at its ends are removed.
 use Rattle.std.proofs.Common.{ℕ, ◌-◌, ◌≤◌, List, length, arith}
 use Rattle.std.proofs.lemmas.List.{length-drop, length-take}
 use Rattle.std.specs.List.{prefix_len, suffix_len}

@@ -16,7 +16,7 @@ end_line = codes "-----END OPENSSH PRIVATE KEY-----"
 abbrev pub lines_of : List ℕ → List (List ℕ)
 lines_of text = map before_ending (slice_split is_newline text)
 
--- the same of what is left, where a line is left
+-- the lines of the rest, if a line is left
 abbrev pub rest_lines : Option (Bor (List ℕ)) → List (List ℕ)
 rest_lines rest = map before_ending (lines_left rest)
 

@@ -22,7 +22,7 @@ use Rattle.key_text.specs.declared.private_fault.PrivateFault.TheVariants as fau
 unfoldable pub magic : List ℕ
 magic = codes "openssh-key-v1" ++ 0 ∷ []
 
--- ---- the judgements
+-- ---- the checks
 
 abbrev pub fault_unless : PrivateFault → Bool → Option PrivateFault
 fault_unless fault holds = if holds then None else Some fault
@@ -97,7 +97,7 @@ secrets Ed25519Sk =
     step Text passes ∷ step Text passes
     ∷ step (Number 1) passes ∷ step Text passes ∷ step Text passes ∷ []
 
--- The public fields among them, in the order of the blob. Of an RSA key the modulus comes first.
+-- The public fields among them, in the order of the blob. The modulus of an RSA key comes first.
 abbrev pub public_values : Kind → List (List ℕ) → List (List ℕ)
 public_values Rsa (n ∷ e ∷ others) = e ∷ n ∷ []
 public_values Dsa (p ∷ q ∷ g ∷ y ∷ others) = p ∷ q ∷ g ∷ y ∷ []
@@ -119,14 +119,14 @@ public_text kind values = fields_text (fields_of kind) (public_values kind value
 unfoldable pub all_padding : List ℕ
 all_padding = range_with_len 1 254
 
--- The text holds these bytes: their base64 between the lines of the armour.
+-- The text contains these bytes: their base64 between the lines of the armour.
 pub record Holds (text bytes : List ℕ) : Type 0 where
   pub body : List ℕ
   pub armour : IsArmour text body
   pub encoded : body ≡ base64 bytes
   pub are_bytes : IsBytes bytes
 
--- The list's check words and type, and the fields of the kind. What follows is left.
+-- The list's check words and type, and the fields of the kind. The bytes after them are the rest.
 pub record Opens (key : PublicKey) (list : List ℕ) (values : List (List ℕ)) (rest : List ℕ) : Type 0
   where
     pub head : List (List ℕ)
@@ -134,8 +134,8 @@ pub record Opens (key : PublicKey) (list : List ℕ) (values : List (List ℕ)) 
     pub begun : Leads (beginning key.kind) [] list head fields
     pub read : Leads (secrets key.kind) [] fields values rest
 
--- The private list of the key: its fields have the public ones of the key, and after the comment
--- stands the padding, a front of the bytes 1, 2, 3 and so on up to 254.
+-- The private list of the key: its fields have the public ones of the key, and after the comment comes the padding, a
+-- front of the bytes 1, 2, 3 and so on up to 254.
 pub record IsPrivateList (key : PublicKey) (list comment : List ℕ) : Type 0 where
   pub values : List (List ℕ)
   pub rest : List ℕ
@@ -146,7 +146,7 @@ pub record IsPrivateList (key : PublicKey) (list comment : List ℕ) : Type 0 wh
   pub unused : List ℕ
   pub padded : all_padding ≡ padding ++ unused
 
--- The bytes after the name of the format hold this blob and this private list.
+-- The bytes after the name of the format contain this blob and this private list.
 abbrev pub HasParts : List ℕ → List ℕ → List ℕ → Type 0
 HasParts inside blob list =
     (cipher : List ℕ) × (kdf : List ℕ) × (options : List ℕ) × (count : List ℕ)
@@ -182,7 +182,7 @@ pub data IsListFault (key : PublicKey) (list : List ℕ) (fault : PrivateFault) 
       → ((unused : List ℕ) → all_padding ≢ padding ++ unused) → fault ≡ faults.Padding
       → IsListFault key list fault
 
--- The first fault of a text that is no container. `NoMemory` is never the text's.
+-- The first fault of a text that is not a container. The text itself never has the fault `NoMemory`.
 pub data IsPrivateFault (text : List ℕ) (fault : PrivateFault) : Type 0 where
   no_armour : ((body : List ℕ) → ¬ IsArmour text body) → fault ≡ faults.Armour
       → IsPrivateFault text fault
@@ -200,7 +200,7 @@ pub data IsPrivateFault (text : List ℕ) (fault : PrivateFault) : Type 0 where
       → HasParts inside blob list → IsKey blob key → IsListFault key list fault
       → IsPrivateFault text fault
 
--- What is reported of a text: its fault, or, where it is armoured, that there is no memory.
+-- The fault that is reported for a text: its own, or, if it is armoured, `NoMemory`.
 abbrev pub IsReportedPrivateFault : List ℕ → PrivateFault → Type 0
 IsReportedPrivateFault text faults.NoMemory = (body : List ℕ) × IsArmour text body
 IsReportedPrivateFault text fault = IsPrivateFault text fault

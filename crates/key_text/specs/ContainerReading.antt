@@ -1,4 +1,4 @@
--- Reading a private container from left to right, with the first fault that is met.
+-- Reading a private container from left to right, and its first fault.
 use Rattle.std.specs.Prelude.{◌≡◌, ℕ, ◌==◌, Bool, List, [], ◌∷◌, ◌++◌, codes, length, drop, nat_eq, Option, Some, None, Result, Ok, Err, if◌then◌else◌}
 use Rattle.std.specs.List.{starts_with}
 use Rattle.std.specs.Str.{bytes_eq}
@@ -17,7 +17,7 @@ use Rattle.key_text.specs.declared.container.secrets.Spelling.TheVariants as spe
 use Rattle.key_text.specs.declared.private_fault.PrivateFault.{PrivateFault}
 use Rattle.key_text.specs.declared.private_fault.PrivateFault.TheVariants as faults
 
--- what a container says in public
+-- the public contents of a container
 pub record Opened : Type 0 where
   pub blob : List ℕ
   pub comment : List ℕ
@@ -26,7 +26,7 @@ abbrev pub padded : List ℕ → List ℕ → Result (List ℕ) PrivateFault
 padded comment padding =
     if starts_with nat_eq all_padding padding then Ok comment else Err faults.Padding
 
--- the comment, where the public fields are the same
+-- the comment, if the public fields are the same
 abbrev pub ended : Bool → List ℕ → List ℕ → Result (List ℕ) PrivateFault
 ended same comment padding =
     if same then padded comment padding else Err faults.PublicDiffers
@@ -37,7 +37,7 @@ same_at kind fields bytes = do
   secret ← row_at (secrets kind) [] bytes
   Ok (bytes_eq (public_text kind secret.0) fields, secret.1)
 
--- ---- fields that pass whatever they are
+-- ---- fields that may have any value
 
 abbrev pub part_of : Spelling → Part
 part_of spellings.Number = Magnitude
@@ -48,7 +48,7 @@ abbrev pub row_of : List Spelling → List Step
 row_of [] = []
 row_of (spelling ∷ row) = step (part_of spelling) passes ∷ row_of row
 
--- A part was passed over, or why not.
+-- A part was skipped, or has this fault.
 abbrev pub Skips : {A : Type 0} → Part → Result A PrivateFault → List ℕ → List ℕ → Type 0
 Skips part (Ok done) bytes rest = (value : List ℕ) × (part_at part bytes ≡ Ok (value, rest))
 Skips part (Err fault) bytes rest = in_fault faults.Wire (part_at part bytes) ≡ Err fault
@@ -68,7 +68,7 @@ Spells (spelling ∷ row) values bytes =
     (value : List ℕ) × (others : List (List ℕ)) × (rest : List ℕ) × (values ≡ value ∷ others)
     × (bytes ≡ part_text (part_of spelling) value ++ rest) × Spells row others rest
 
--- The fields of a kind are those of these rows, and those of the first are the public ones.
+-- The fields of a kind are those of these rows, and the fields of the first row are the public ones.
 pub record HasRows (kind : Kind) (first others : List Spelling) : Type 0 where
   pub rows : secrets kind ≡ row_of first ++ row_of others
   pub public : (values more : List (List ℕ)) (bytes : List ℕ) → Spells first values bytes
@@ -122,7 +122,7 @@ private_at text = do
 abbrev pub opened_of : Private → Opened
 opened_of private = record { blob = private.blob; comment = private.comment }
 
--- What a function answered is what reading gives, unless memory ran out.
+-- A function returned what reading gives, or `NoMemory`.
 abbrev pub GivesPrivate : Result Private PrivateFault → Result Opened PrivateFault → Type 0
 GivesPrivate (Ok private) read = read ≡ Ok (opened_of private)
 GivesPrivate (Err faults.NoMemory) read = Unit {0}

@@ -17,18 +17,18 @@ pub record Encodes (text bytes : List ℕ) : Type 0 where
   pub spelled : text ≡ sha256_prefix ++ unpadded bytes
   pub are_bytes : IsBytes bytes
 
--- The text is the fingerprint of what has this digest.
+-- The text is the fingerprint with this digest.
 pub record IsFingerprint (text digest : List ℕ) : Type 0 where
   pub encodes : Encodes text digest
   pub size : length digest ≡ 32
 
--- The prefix stands, and what follows it is not the base64 of any bytes.
+-- The text has the prefix, and the rest is not the base64 of any bytes.
 pub record HasOtherBase64 (text : List ℕ) : Type 0 where
   pub rest : List ℕ
   pub prefixed : text ≡ sha256_prefix ++ rest
   pub none : (bytes : List ℕ) → IsBytes bytes → unpadded bytes ≢ rest
 
--- The fault of a text. `NoMemory` is never the text's.
+-- The fault of a text. The text itself never has the fault `NoMemory`.
 abbrev pub IsFingerprintFault : List ℕ → FingerprintFault → Type 0
 IsFingerprintFault text Prefix = (rest : List ℕ) → text ≢ sha256_prefix ++ rest
 IsFingerprintFault text Base64 = HasOtherBase64 text
@@ -39,14 +39,13 @@ abbrev pub sized : Result (List ℕ) DecodeError → Result (List ℕ) Fingerpri
 sized (Err error) = Err Base64
 sized (Ok bytes) = if length bytes == 32 then Ok bytes else Err Length
 
--- from left to right, with the first fault that is met
+-- from left to right, with the first fault
 unfoldable pub fingerprint_at : List ℕ → Result (List ℕ) FingerprintFault
 fingerprint_at text =
     if starts_with nat_eq text sha256_prefix
     then sized (decode_of standard_no_pad (drop 7 text)) else Err Prefix
 
--- What a function returned is what reading gives, unless memory ran out. Where the prefix does not
--- stand, no memory was asked for.
+-- A function returned what reading gives, or `NoMemory`. If the text does not have the prefix, nothing was allocated.
 abbrev pub GivesDigest : Result (List ℕ) FingerprintFault → Result (List ℕ) FingerprintFault
     → Type 0
 GivesDigest (Ok digest) read = read ≡ Ok digest

@@ -13,20 +13,20 @@ backslash = 92
 abbrev pub quote : ℕ
 quote = 34
 
--- A backslash before a quote always belongs to a pair of the two, so it is no byte of its own.
+-- A backslash before a quote always belongs to a pair of the two, so it is not a byte of its own.
 abbrev pub IsNoPair : ℕ → List ℕ → Type 0
 IsNoPair byte [] = Unit {0}
 IsNoPair byte (next ∷ rest) = (byte ≡ backslash) → next ≢ quote
 
--- what is between two quotes: pairs of a backslash and a quote, and bytes that are no quote
+-- the text between two quotes: pairs of a backslash and a quote, and bytes that are not a quote
 pub data Quoted : List ℕ → Type 0 where
   quoted_end : Quoted []
   quoted_pair : (rest : List ℕ) → Quoted rest → Quoted (backslash ∷ quote ∷ rest)
   quoted_byte : (byte : ℕ) (rest : List ℕ) → byte ≢ quote → IsNoPair byte (rest ++ quote ∷ [])
       → Quoted rest → Quoted (byte ∷ rest)
 
--- An options field is a row of pieces: a pair; another byte, neither a blank nor a quote; or a
--- quote, what may stand between two, and a quote.
+-- An options field is a row of pieces: a pair; another byte, neither a blank nor a quote; or a quote, the text between
+-- two quotes, and a quote.
 pub data Options : List ℕ → Type 0 where
   options_end : Options []
   options_pair : (rest : List ℕ) → Options rest → Options (backslash ∷ quote ∷ rest)
@@ -56,7 +56,7 @@ pub record AreWords (line word encoded comment : List ℕ) : Type 0 where
   pub ended : Comment end comment
   pub spelled : line ≡ word ++ (blanks ++ (encoded ++ end))
 
--- the same after an options field: the first word of the line is no type name
+-- the same after an options field: the first word of the line is not a type name
 pub record AreWordsAfterOptions (line word encoded comment : List ℕ) : Type 0 where
   pub other : ¬ Contains type_names (first_word line)
   pub options : List ℕ

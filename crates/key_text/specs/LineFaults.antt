@@ -1,4 +1,4 @@
--- Why a text is no key line: its first fault, by the words that are in it.
+-- Why a text is not a key line: its first fault, by the words that are in it.
 use Rattle.std.specs.Prelude.{◌≢◌, ℕ, List}
 use Rattle.ssh_wire.specs.Wire.{BeginsWith, IsBytes}
 use Rattle.key_text.specs.declared.line_fault.LineFault.{LineFault}
@@ -26,15 +26,14 @@ pub record EncodesOtherKey (text : List ℕ) : Type 0 where
   pub bytes : IsBytes blob
   pub differs : ¬ BeginsWith blob word
 
--- The fault of a text. `NoMemory` is never the text's.
+-- The fault of a text. The text itself never has the fault `NoMemory`.
 abbrev pub IsFirstLineFault : List ℕ → LineFault → Type 0
 IsFirstLineFault text NoKey = ¬ HasSomeWords text
 IsFirstLineFault text Base64 = HasBadBase64 text
 IsFirstLineFault text WordDiffers = EncodesOtherKey text
 IsFirstLineFault text NoMemory = ⊥
 
--- What is reported of a text: its fault, or, where a word stands that may encode a key, that there
--- is no memory.
+-- The fault that is reported for a text: its own, or, if a word in it may encode a key, `NoMemory`.
 abbrev pub IsReportedFault : List ℕ → LineFault → Type 0
 IsReportedFault text NoMemory = HasSomeWords text
 IsReportedFault text fault = IsFirstLineFault text fault

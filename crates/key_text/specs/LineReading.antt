@@ -1,4 +1,4 @@
--- Reading a key line from left to right, with the first fault that is met.
+-- Reading a key line from left to right, and its first fault.
 use Rattle.std.specs.Prelude.{◌≡◌, ◌≢◌, ℕ, Bool, false, not, ◌==◌, ◌&&◌, List, [], ◌∷◌, drop, Option, Some, None, Result, Ok, Err, if◌then◌else◌}
 use Rattle.std.specs.List.{prefix_len}
 use Rattle.std.specs.Str.{bytes_eq}
@@ -14,7 +14,7 @@ use Rattle.key_text.specs.TypeName.{is_type_name}
 use Rattle.key_text.specs.Blanks.{is_blank, after_blanks, first_word, trimmed}
 use Rattle.key_text.specs.KeyLine.{backslash, quote}
 
--- what a line holds
+-- the contents of a line
 pub record Content : Type 0 where
   pub word : List ℕ
   pub blob : List ℕ
@@ -26,15 +26,14 @@ content word blob comment = record { word = word; blob = blob; comment = comment
 abbrev pub content_of : Line → Content
 content_of line = content line.word.now line.blob line.comment.now
 
--- A fault is the one that reading gives, unless memory ran out. Where no key stands, no memory was
--- asked for.
+-- A fault is the one that reading gives, or `NoMemory`. If there is no key, nothing was allocated.
 abbrev pub ReportsFault : {Y : Type 0} → LineFault → Result Y LineFault → Type 0
 ReportsFault NoMemory read = read ≢ Err NoKey
 ReportsFault NoKey read = read ≡ Err NoKey
 ReportsFault Base64 read = read ≡ Err Base64
 ReportsFault WordDiffers read = read ≡ Err WordDiffers
 
--- what is after the first word
+-- the rest after the first word
 unfoldable pub after_word : List ℕ → List ℕ
 after_word text = drop (prefix_len (λ byte. not (is_blank byte)) text) text
 
@@ -42,8 +41,7 @@ after_word text = drop (prefix_len (λ byte. not (is_blank byte)) text) text
 abbrev pub quoted_after : Bool → Bool → ℕ → Bool
 quoted_after quoted escaped byte = if (byte == quote) && not escaped then not quoted else quoted
 
--- What is after an options field. The place is between quotes or not, and after a backslash
--- or not.
+-- The rest after an options field. The place is between quotes or not, and after a backslash or not.
 unfoldable pub after_options : Bool → Bool → List ℕ → Option (List ℕ)
 after_options quoted escaped [] = if quoted then None else Some []
 after_options quoted escaped (byte ∷ rest) =

@@ -6,7 +6,7 @@ use Rattle.std.specs.List.{slice_split}
 abbrev pub is_newline : ℕ → Bool
 is_newline byte = byte == 10
 
--- the lines of what is left, where a line is left
+-- the lines of the rest, if a line is left
 abbrev pub lines_left : Option (Bor (List ℕ)) → List (List ℕ)
 lines_left None = []
 lines_left (Some text) = slice_split is_newline text.now

@@ -22,7 +22,7 @@ marker_of text = marker_in (first_word (trimmed text))
 unfoldable pub unmarked : List ℕ → List ℕ
 unmarked text = if is_some (marker_of text) then after_word (trimmed text) else text
 
--- what reading a line that may have a marker gives
+-- the result of reading a line that may have a marker
 abbrev pub marked_line_at : List ℕ → Result Content LineFault
 marked_line_at text = line_at (unmarked text)
 

@@ -14,8 +14,8 @@ first_string bytes = do
   read ← in_fault faults.Wire (string_at bytes)
   Ok read.0
 
--- After the names of the cipher and of the derivation, and its options, is the number of keys, 1,
--- and the blob of the public key. What follows is not read.
+-- After the names of the cipher and of the derivation, and its options, come the number of keys, 1, and the blob of the
+-- public key. The bytes after the blob are not read.
 unfoldable pub half_inside : List ℕ → Result (List ℕ) PrivateFault
 half_inside bytes = do
   cipher ← in_fault faults.Wire (string_at bytes)
@@ -35,7 +35,7 @@ public_half_at text = do
   bytes ← decoded_at body
   half_bytes bytes
 
--- A fault is the one that reading gives, unless memory ran out.
+-- A fault is the one that reading gives, or `NoMemory`.
 abbrev pub ReportsHalf : {Y : Type 0} → PrivateFault → Result Y PrivateFault → Type 0
 ReportsHalf faults.NoMemory read = Unit {0}
 ReportsHalf fault read = read ≡ Err fault

@@ -1,4 +1,4 @@
--- Rows of fields: what is expected at each place, and how it is judged once it is whole.
+-- Rows of fields: the part that is expected at each place, and its check once it is complete.
 use Rattle.std.specs.Prelude.{◌≡◌, ℕ, ◌^◌, ◌<◌, List, [], ◌∷◌, ◌++◌, length, slice_index, Option, Some, None, Result, Ok, Err, ◌⊎◌}
 use Rattle.ssh_wire.specs.Wire.{IsMagnitude, complement, mpint, number, string}
 use Rattle.ssh_wire.specs.Reading.{in_fault, mpint_at, number_at, string_at, ◌>>=◌}
@@ -18,7 +18,7 @@ IsPart (Number size) value = (value ≡ slice_index value 0 ∷ []) × (slice_in
 IsPart Magnitude value = IsMagnitude value × (length (complement value) < 2 ^ 32)
 IsPart Text value = length value < 2 ^ 32
 
--- how it is spelled
+-- its encoding
 abbrev pub part_text : Part → List ℕ → List ℕ
 part_text (Number size) value = number size (slice_index value 0)
 part_text Magnitude value = mpint value
@@ -34,25 +34,25 @@ part_at (Number size) bytes = alone (number_at size bytes)
 part_at Magnitude bytes = mpint_at bytes
 part_at Text bytes = string_at bytes
 
--- What is expected: a part, and the judgement on the values up to it.
+-- An expected part: a part, and the check of the values up to it.
 pub record Step : Type 0 where
   pub part : Part
   pub judged : List (List ℕ) → Option PrivateFault
 
--- no fault in whatever values
+-- no fault, whatever the values are
 abbrev pub passes : List (List ℕ) → Option PrivateFault
 passes values = None
 
 abbrev pub step : Part → (List (List ℕ) → Option PrivateFault) → Step
 step part judged = record { part = part; judged = judged }
 
--- A value of the part stands at the front of the bytes, before the rest.
+-- The bytes are a value of the part, and then the rest.
 pub record BeginsWithPart (part : Part) (bytes value rest : List ℕ) : Type 0 where
   pub is_part : IsPart part value
   pub spelled : bytes ≡ part_text part value ++ rest
 
--- From these values on, the bytes are the row: each part stands there and passes its judgement. The
--- values after it, and the bytes that are left.
+-- From these values on, the bytes are the row: each part is in its place and passes its check. The values after it, and
+-- the bytes that are left.
 abbrev pub Leads : List Step → List (List ℕ) → List ℕ → List (List ℕ) → List ℕ → Type 0
 Leads [] values bytes after rest = (values ≡ after) × (bytes ≡ rest)
 Leads (expected ∷ steps) values bytes after rest =
@@ -60,8 +60,7 @@ Leads (expected ∷ steps) values bytes after rest =
     × (expected.judged (values ++ value ∷ []) ≡ None)
     × Leads steps (values ++ value ∷ []) left after rest
 
--- The first fault of a row: a part is cut short or misspelt, or does not pass, and all before it
--- do.
+-- The first fault of a row: a part is truncated or misspelt, or fails its check, and all parts before it pass.
 abbrev pub Fails : List Step → List (List ℕ) → List ℕ → PrivateFault → Type 0
 Fails [] values bytes fault = ⊥
 Fails (expected ∷ steps) values bytes fault =

@@ -25,7 +25,7 @@ use armour::{after_begin, body_size, joined};
 pub use half::read_public_half;
 use parts::{Opened, read_bytes};
 
-/// What a private container says in public.
+/// The public contents of a private container.
 #[derive(Drop)]
 pub struct Private {
     /// The blob of the public key.
@@ -34,35 +34,35 @@ pub struct Private {
     pub comment: Bytes,
 }
 
-/// Reads a private key file (OpenSSH's PROTOCOL.key) of one key that is not encrypted, for its
-/// public key and its comment.
+/// Reads the public key and the comment of a private key file (OpenSSH's PROTOCOL.key) that has one
+/// key and is not encrypted.
 ///
 /// The text is the base64 of the container, in lines of any length, between the line that begins a
 /// container and the first line that ends one. Blanks and carriage returns at the end of a line are
-/// passed over, and what follows the end line is not read. The private part has to be of the kind
-/// of the public key, with its public fields; the private numbers themselves are not checked.
+/// skipped, and the text after the end line is not read. The private part must be of the same kind
+/// as the public key and have its public fields. The private numbers themselves are not checked.
 ///
-/// Faults come in the order in which their fields come. `Trailing`, that bytes follow the private
-/// list, is reported before the list is read. The bytes are decoded into memory that is asked for
-/// before they are checked, so `NoMemory` may take the place of any answer but `Armour`.
+/// Faults are reported in the order of the fields. One is reported before the list is read:
+/// `Trailing`, bytes after the private list. Memory for the decoded bytes is allocated before they
+/// are checked, so `NoMemory` may be returned instead of any result but `Armour`.
 ///
-/// Private bytes are copied no further than the decoded container. The memory that held them is
-/// overwritten before it is given back.
+/// Private bytes are copied only into the decoded container. The memory that held them is
+/// overwritten before it is freed.
 pub fn read_private(alloc: Global, text: &[u8]) -> Result<Private, PrivateFault>
-    // What is read is a container.
+    // Reading returns only a container.
     ensures found { IfOk result (λ private. IsContainer text.now private.blob private.comment) }
-    // Each container is read, unless memory runs out.
+    // Each container is read, unless an allocation fails.
     ensures only { (blob comment : List ℕ) → IsContainer text.now blob comment
         → GivesPrivate result (Ok (record { blob = blob; comment = comment })) }
-    // The fault is the first one of the text, unless memory runs out.
+    // The fault is the first one of the text, unless an allocation fails.
     ensures fault { IfErr result (λ fault. IsReportedPrivateFault text.now fault) }
-    // The same, for those who compute with the answer.
+    // The same, for proofs that compute with the result.
     ensures exact { GivesPrivate result (private_at text.now) }
 {
     read_content(alloc, text)
 }
 
-// Reads a container, and overwrites what was joined of its lines.
+// Reads a container, and overwrites its joined lines.
 #[tactic(auto, unfolding(crate::specs::ContainerReading::private_at))]
 fn read_content(alloc: Global, text: &[u8]) -> Result<Private, PrivateFault>
     ensures exact { GivesPrivate result (private_at text.now) }
@@ -76,7 +76,7 @@ fn read_content(alloc: Global, text: &[u8]) -> Result<Private, PrivateFault>
     private
 }
 
-// The container whose base64 this is.
+// The container with this base64.
 fn read_body(alloc: Global, body: &[u8]) -> Result<Private, PrivateFault>
     ensures { GivesPrivate result (body_at body.now) }
 {
@@ -97,7 +97,7 @@ fn read_decoded(alloc: Global, body: &[u8], bytes: &mut [u8]) -> Result<Private,
     }
 }
 
-// The container that has these bytes, with what it says in public copied out of them.
+// The container that has these bytes, with a copy of its public contents.
 fn read_owned(alloc: Global, bytes: &[u8]) -> Result<Private, PrivateFault>
     ensures { GivesPrivate result (bytes_at bytes.now) }
 {

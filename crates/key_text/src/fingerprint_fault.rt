@@ -6,16 +6,16 @@ ghost use Rattle.key_text.specs.FingerprintFault.{fingerprint_fault_number, fing
 use std::error::Error;
 use std::fmt;
 
-/// Why a text is no fingerprint. It prints as `fingerprint`, its number and its name.
+/// Why a text is not a fingerprint. It prints as `fingerprint`, its number and its name.
 #[derive(Clone, Copy, Debug, PartialEq, Eq)]
 pub enum FingerprintFault {
-    /// The text does not begin with `SHA256:`, in these cases of letters.
+    /// The text does not begin with `SHA256:`, in upper case.
     Prefix,
-    /// What follows is not base64 without padding, its unused bits zero.
+    /// The text after the prefix is not base64 without padding, its unused bits zero.
     Base64,
     /// It does not encode 32 bytes.
     Length,
-    /// There was no memory for the bytes.
+    /// An allocation failed.
     NoMemory,
 }
 

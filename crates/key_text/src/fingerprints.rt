@@ -12,7 +12,7 @@ use std::alloc::{AllocError, Global};
 
 /// The fingerprint of a key's bytes, as ssh-keygen(1) prints it: `SHA256:` and 43 characters of
 /// base64 without padding, or `MD5:` and 16 pairs of hexadecimal digits joined by colons. Any bytes
-/// have one. Fails only where memory runs out.
+/// have one. Fails only if an allocation fails.
 #[tactic(auto, unfolding(crate::specs::Fingerprints::fingerprint_text))]
 pub fn fingerprint(alloc: Global, hash: Hash, bytes: &[u8]) -> Result<Vec<u8>, AllocError>
     ensures { IfOk result (λ text. text.items ≡ fingerprint_text hash bytes.now) }

@@ -5,8 +5,8 @@ ghost use Rattle.key_text.specs.KeyFile.{has_key};
 
 use crate::line::trimmed;
 
-/// Whether a line of a key file has a key: it is neither empty nor a comment, which begins with
-/// `#`. Blanks at both ends, and carriage returns at the end, do not count. Takes no memory.
+/// Returns true if a line of a key file has a key: it is neither empty nor a comment, which begins
+/// with `#`. Blanks at both ends, and carriage returns at the end, are ignored. Does not allocate.
 #[tactic(auto, unfolding(crate::specs::KeyFile::has_key))]
 pub fn has_key(line: &[u8]) -> bool
     ensures value { result ≡ has_key line.now }

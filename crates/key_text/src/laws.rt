@@ -1,5 +1,5 @@
-//! What holds for every text, each as the contract of a function that does nothing. `read_line`,
-//! `parse_fingerprint` and `read_private` answer what the readers named here give.
+//! Laws that hold for every text, each the contract of a function that does nothing. `read_line`,
+//! `parse_fingerprint` and `read_private` return the same as the readers named here.
 
 ghost use Rattle.std.specs.Prelude.{◌≡◌, ◌<◌, ◌↔◌, ℕ, List, Err, Ok, Some, length};
 ghost use Rattle.sha2.specs.Sha256.{sha256};
@@ -19,7 +19,7 @@ ghost use Rattle.key_text.specs.declared.line_fault.LineFault.{LineFault};
 ghost use Rattle.key_text.specs.declared.private_fault.PrivateFault.{PrivateFault};
 ghost use Rattle.ssh_wire.specs.Wire.{IsBytes};
 
-/// Reading gives what a key line holds exactly where the text is one.
+/// Reading returns the contents of a key line exactly if the text is one.
 pub fn line_read_where_spelled()
     ensures read { (text word blob comment : List ℕ) → IsKeyLine text word blob comment
         → line_at text ≡ Ok (content word blob comment) }
@@ -36,18 +36,18 @@ pub fn marked_line_is_read()
         → marked_line_at text ≡ Ok (content word blob comment) }
 {}
 
-/// The base64 of a key is always a word, so no key is left out of the key lines for its bytes.
+/// The base64 of a key is always a word, so every key has a key line, whatever its bytes are.
 pub fn base64_is_word()
     ensures { (blob : List ℕ) → 0 < length blob → IsWord (base64 blob) }
 {}
 
-/// Reading meets a fault exactly where it is the first fault of the text.
+/// Reading reports a fault exactly if it is the first fault of the text.
 pub fn line_refused_by_first_fault()
     ensures { (text : List ℕ) (fault : LineFault) → IsBytes text
         → (line_at text ≡ Err fault) ↔ IsFirstLineFault text fault }
 {}
 
-/// A text has one first fault at most, and a key line has none.
+/// A text has at most one first fault, and a key line has none.
 pub fn one_first_line_fault()
     ensures one { (text : List ℕ) (a b : LineFault) → IsBytes text → IsFirstLineFault text a
         → IsFirstLineFault text b → a ≡ b }
@@ -55,19 +55,19 @@ pub fn one_first_line_fault()
         → IsKeyLine text word blob comment → IsFirstLineFault text fault → ⊥ }
 {}
 
-/// Reading a printed fingerprint gives a digest exactly where the text is its fingerprint.
+/// Reading a printed fingerprint returns a digest exactly if the text is its fingerprint.
 pub fn fingerprint_read_where_spelled()
     ensures { (text digest : List ℕ) → IsBytes text
         → (fingerprint_at text ≡ Ok digest) ↔ IsFingerprint text digest }
 {}
 
-/// Reading meets a fault exactly where it is the first fault of the text as a fingerprint.
+/// Reading reports a fault exactly if it is the first fault of the text as a fingerprint.
 pub fn fingerprint_refused_by_first_fault()
     ensures { (text : List ℕ) (fault : FingerprintFault) → IsBytes text
         → (fingerprint_at text ≡ Err fault) ↔ IsFingerprintFault text fault }
 {}
 
-/// A text has one first fault as a fingerprint at most, and a fingerprint has none.
+/// A text has at most one first fault as a fingerprint, and a fingerprint has none.
 pub fn one_fingerprint_fault()
     ensures one { (text : List ℕ) (a b : FingerprintFault) → IsBytes text
         → IsFingerprintFault text a → IsFingerprintFault text b → a ≡ b }
@@ -81,20 +81,20 @@ pub fn fingerprint_names_its_digest()
     ensures { (bytes : List ℕ) → IsFingerprint (fingerprint_text Sha256 bytes) (sha256 bytes) }
 {}
 
-/// Reading gives a public blob and a comment exactly where the text is their container.
+/// Reading returns a public blob and a comment exactly if the text is their container.
 pub fn private_read_where_spelled()
     ensures { (text blob comment : List ℕ) → IsBytes text
         → (private_at text ≡ Ok (record { blob = blob; comment = comment }))
         ↔ IsContainer text blob comment }
 {}
 
-/// Reading meets a fault exactly where it is the first fault of the text as a container.
+/// Reading reports a fault exactly if it is the first fault of the text as a container.
 pub fn private_refused_by_first_fault()
     ensures { (text : List ℕ) (fault : PrivateFault) → IsBytes text
         → (private_at text ≡ Err fault) ↔ IsPrivateFault text fault }
 {}
 
-/// A text has one first fault as a container at most, and a container has none.
+/// A text has at most one first fault as a container, and a container has none.
 pub fn one_private_fault()
     ensures one { (text : List ℕ) (a b : PrivateFault) → IsBytes text
         → IsPrivateFault text a → IsPrivateFault text b → a ≡ b }

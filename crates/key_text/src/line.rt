@@ -22,36 +22,36 @@ mod words;
 use options::after_options;
 pub use words::{after_blanks, before_ending, is_blank, is_ending, split_word, trimmed};
 
-/// What a key line holds.
+/// The contents of a key line.
 #[derive(Drop)]
 pub struct Line<'a> {
-    /// The name of the key's type, lent from the line.
+    /// The name of the key's type, borrowed from the line.
     pub word: &'a [u8],
     /// The key's bytes. Only their first string, the type word, has been read.
     pub blob: Bytes,
-    /// What is after the key, lent from the line; it may be empty.
+    /// The text after the key, borrowed from the line; it may be empty.
     pub comment: &'a [u8],
 }
 
 /// Reads a line of a public key file or of an authorized keys file (sshd(8)): a type name, the
-/// key's bytes in base64 and a comment, with an options field before them or not.
+/// key's bytes in base64 and a comment. An options field may be before them.
 ///
 /// Blanks are spaces and tabs. The text is a line without its line feed; blanks at both its ends
-/// and carriage returns at its end are passed over. The name is that of a plain key or of a
-/// certificate, and it is the first string of the key's bytes; what follows it there is not read.
+/// and carriage returns at its end are skipped. The name is that of a plain key or of a
+/// certificate, and it is the first string of the key's bytes; the bytes after it are not read.
 ///
-/// Faults come in the order of their numbers. The key's bytes are decoded into memory that is asked
-/// for before they are checked, so `NoMemory` may take the place of any answer but `NoKey`.
+/// Faults are reported in the order of their numbers. Memory for the key's bytes is allocated
+/// before they are checked, so `NoMemory` may be returned instead of any result but `NoKey`.
 pub fn read_line<'a>(alloc: Global, text: &'a [u8]) -> Result<Line<'a>, LineFault>
-    // What is read is a key line.
+    // Reading returns only key lines.
     ensures found { IfOk result (λ line.
         IsKeyLine text.now line.word.now line.blob line.comment.now) }
-    // Each key line is read, unless memory runs out.
+    // Each key line is read, unless an allocation fails.
     ensures only { (word blob comment : List ℕ) → IsKeyLine text.now word blob comment
         → Answers ReportsFault content_of result (Ok (content word blob comment)) }
-    // The fault is the first one of the text, unless memory runs out.
+    // The fault is the first one of the text, unless an allocation fails.
     ensures fault { IfErr result (λ fault. IsReportedFault text.now fault) }
-    // The same, for those who compute with the answer.
+    // The same, for proofs that compute with the result.
     ensures exact { Answers ReportsFault content_of result (line_at text.now) }
 {
     read_content(alloc, text)
@@ -69,7 +69,7 @@ fn read_content<'a>(alloc: Global, text: &'a [u8]) -> Result<Line<'a>, LineFault
 }
 
 /// The line from its type name on, if it has one: an options field or host names may be before it.
-/// No blank is at the front of the line.
+/// The line must not begin with a blank.
 #[tactic(auto, unfolding(crate::specs::LineReading::key_part, crate::specs::LineReading::typed))]
 pub fn key_part(line: &[u8]) -> Option<&[u8]>
     ensures { option_map (λ part. part.now) result ≡ key_part line.now }
@@ -85,7 +85,7 @@ pub fn key_part(line: &[u8]) -> Option<&[u8]>
     }
 }
 
-// Whether the first word is a type name.
+// Returns true if the first word is a type name.
 fn begins_with_name(line: &[u8]) -> bool
     ensures { result ≡ is_type_name (first_word line.now) }
 {
@@ -93,7 +93,7 @@ fn begins_with_name(line: &[u8]) -> bool
     is_type_name(word)
 }
 
-// The key's bytes and the comment, from what follows the type word and blanks.
+// The key's bytes and the comment, from the text after the type word and blanks.
 #[tactic(auto, unfolding(crate::specs::LineReading::blob_at))]
 fn read_blob<'a>(alloc: Global, word: &'a [u8], rest: &'a [u8]) -> Result<Line<'a>, LineFault>
     ensures exact { Answers ReportsFault content_of result (blob_at word.now rest.now) }
@@ -126,7 +126,7 @@ fn decoded(alloc: Global, base64: &[u8]) -> Result<Vec<u8>, LineFault>
     })
 }
 
-// Whether the word is the first string of a key's bytes.
+// Returns true if the word is the first string of a key's bytes.
 #[tactic(auto, unfolding(crate::specs::LineReading::has_word))]
 fn has_word(word: &[u8], blob: &[u8]) -> bool
     ensures { result ≡ has_word word.now blob.now }

@@ -6,16 +6,16 @@ ghost use Rattle.key_text.specs.LineFault.{fault_number, fault_text};
 use std::error::Error;
 use std::fmt;
 
-/// Why a line gives no key. It prints as `line`, its number and its name.
+/// Why a line has no key. It prints as `line`, its number and its name.
 #[derive(Clone, Copy, Debug, PartialEq, Eq)]
 pub enum LineFault {
-    /// No type name stands where one has to, or no word follows it.
+    /// There is no type name in its place, or no word after it.
     NoKey,
     /// The word after the type name is not base64 with padding, its unused bits zero.
     Base64,
     /// The first string of the key is not the type name.
     WordDiffers,
-    /// There was no memory for the key.
+    /// The allocation for the key failed.
     NoMemory,
 }
 

@@ -5,16 +5,16 @@ ghost use Rattle.key_text.specs.Marker.{marker_in, marker_of, unmarked};
 
 use crate::line::{split_word, trimmed};
 
-/// What a marker says of the key of its line.
+/// The statement of a marker about the key of its line.
 #[derive(Clone, Copy, Debug, PartialEq, Eq)]
 pub enum Marker {
-    /// `@cert-authority`: it is the key of an authority.
+    /// `@cert-authority`: it is the key of a certificate authority.
     Authority,
     /// `@revoked`: it must not be used.
     Revoked,
 }
 
-/// The marker of a line, and the line without it. A line without a marker stays.
+/// The marker of a line, and the line without it. A line without a marker is returned unchanged.
 #[tactic(auto, unfolding(crate::specs::Marker::unmarked, crate::specs::Marker::marker_of))]
 pub fn split_marker(line: &[u8]) -> (Option<Marker>, &[u8])
     ensures marker { result.0 ≡ marker_of line.now }
@@ -27,7 +27,7 @@ pub fn split_marker(line: &[u8]) -> (Option<Marker>, &[u8])
     }
 }
 
-// The marker that a word is.
+// The marker that this word is.
 fn marker_in(word: &[u8]) -> Option<Marker>
     ensures { result ≡ marker_in word.now }
 {

@@ -10,15 +10,15 @@ use base64::DecodeAllocError;
 use base64::engine::general_purpose::STANDARD_NO_PAD;
 use std::alloc::Global;
 
-/// The digest that a fingerprint names, as `fingerprint` prints it for `Hash::Sha256`: `SHA256:`,
-/// and the base64 of 32 bytes without padding.
+/// The digest of a fingerprint, as `fingerprint` prints it for `Hash::Sha256`: `SHA256:`, and the
+/// base64 of 32 bytes without padding.
 ///
-/// Faults come in the order of their numbers. The bytes are decoded into memory that is asked for
-/// before they are checked, so `NoMemory` may take the place of any answer but `Prefix`.
+/// Faults are reported in the order of their numbers. Memory for the bytes is allocated before they
+/// are checked, so `NoMemory` may be returned instead of any result but `Prefix`.
 #[tactic(auto, unfolding(crate::specs::FingerprintReading::fingerprint_at))]
 pub fn parse_fingerprint(alloc: Global, text: &[u8]) -> Result<[u8; 32], FingerprintFault>
-    // The digest that is named (`laws::fingerprint_read_where_spelled`), else the first fault
-    // (`laws::fingerprint_refused_by_first_fault`), unless memory runs out.
+    // The digest of the text (`laws::fingerprint_read_where_spelled`), or otherwise its first fault
+    // (`laws::fingerprint_refused_by_first_fault`), unless an allocation fails.
     ensures exact { GivesDigest result (fingerprint_at text.now) }
 {
     let prefix = b"SHA256:";
@@ -28,7 +28,7 @@ pub fn parse_fingerprint(alloc: Global, text: &[u8]) -> Result<[u8; 32], Fingerp
     digest(alloc, &text[7..])
 }
 
-// The digest that base64 encodes without padding.
+// The digest with this base64 without padding.
 fn digest(alloc: Global, base64: &[u8]) -> Result<[u8; 32], FingerprintFault>
     ensures { GivesDigest result (sized (decode_of standard_no_pad base64.now)) }
 {
@@ -39,7 +39,7 @@ fn digest(alloc: Global, base64: &[u8]) -> Result<[u8; 32], FingerprintFault>
     }
 }
 
-// The digest, where it is one by its size.
+// The digest, if it has the size of one.
 fn whole_digest(bytes: &[u8]) -> Result<[u8; 32], FingerprintFault>
     ensures { GivesDigest result (sized (Ok bytes.now)) }
 {

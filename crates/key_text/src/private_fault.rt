@@ -10,33 +10,33 @@ use std::alloc::AllocError;
 use std::error::Error;
 use std::fmt;
 
-/// Why a text is no private container that can be read. It prints as `private`, its number and its
-/// name; after `Key` and `Wire` comes the fault that they carry.
+/// Why a text is not a private container that can be read. It prints as `private`, its number and
+/// its name; after `Key` and `Wire` comes the fault that they carry.
 #[derive(Clone, Copy, Debug, PartialEq, Eq)]
 pub enum PrivateFault {
-    /// The first line is not that of a container, or no line ends it.
+    /// The first line does not begin a container, or no line ends it.
     Armour,
-    /// What is between these lines is not base64 with padding, its unused bits zero.
+    /// The text between these lines is not base64 with padding, its unused bits zero.
     Base64,
     /// The bytes do not begin with the name of the format.
     Magic,
     /// The container is encrypted.
     Encrypted,
-    /// It does not hold one key.
+    /// It does not have exactly one key.
     KeyCount,
     /// The two check words differ.
     Check,
-    /// The public key is none, or a private field of its kind has another length.
+    /// The public key is invalid, or a private field of its kind has another length.
     Key(KeyFault),
-    /// The type or the public fields beside the private ones are not those of the public key.
+    /// The type or the public fields in the private list are not those of the public key.
     PublicDiffers,
-    /// What follows the comment is not 1, 2, 3 and so on, up to 254 at most.
+    /// The bytes after the comment are not 1, 2, 3 and so on, up to 254 at most.
     Padding,
     /// Bytes follow the private list.
     Trailing,
-    /// A field is cut short or misspelt.
+    /// A field is truncated or misspelt.
     Wire(WireFault),
-    /// There was no memory for the bytes.
+    /// An allocation failed.
     NoMemory,
 }
 

@@ -5,7 +5,7 @@ ghost use Rattle.key_text.specs.TypeName.{is_type_name};
 
 use ssh_key::Kind;
 
-/// Whether the word is the name of a key type, plain or of a certificate.
+/// Returns true if the word is the name of a key type, plain or of a certificate.
 pub fn is_type_name(word: &[u8]) -> bool
     ensures { result ≡ is_type_name word.now }
 {

@@ -12,8 +12,8 @@ use base64::engine::general_purpose::STANDARD;
 use ssh_wire::{Bytes, Cursor};
 use std::alloc::Global;
 
-/// The blob of the public key of a private container (OpenSSH's PROTOCOL.key), which is in clear
-/// also where the private part is encrypted. What follows it is not read, and no memory is
+/// The blob of the public key of a private container (OpenSSH's PROTOCOL.key). The blob is not
+/// encrypted even if the private part is. The bytes after it are not read, and memory is not
 /// overwritten: call `read_private` first, which does both for a container that is not encrypted.
 #[tactic(auto, unfolding(crate::specs::PublicHalf::public_half_at))]
 pub fn read_public_half(alloc: Global, text: &[u8]) -> Result<Bytes, PrivateFault>
@@ -49,7 +49,7 @@ fn half_of(bytes: &[u8]) -> Result<&[u8], PrivateFault>
     half_inside(&bytes[MAGIC.len()..])
 }
 
-// The blob in what follows the name of the format.
+// The blob in the bytes after the name of the format.
 #[tactic(auto, unfolding(crate::specs::PublicHalf::half_inside, crate::specs::PublicHalf::first_string))]
 fn half_inside(inside: &[u8]) -> Result<&[u8], PrivateFault>
     ensures { Lends result (half_inside inside.now) }

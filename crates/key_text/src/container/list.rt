@@ -13,7 +13,7 @@ use crate::private_fault::PrivateFault;
 use ssh_key::PublicKey;
 use ssh_wire::Cursor;
 
-/// The comment of a private list, which is that of this key.
+/// The comment of the private list of this key.
 #[tactic(auto, unfolding(crate::specs::ContainerReading::list_at))]
 pub fn read_list<'a>(key: &PublicKey, list: &'a [u8]) -> Result<&'a [u8], PrivateFault>
     ensures { Lends result (list_at key.now list.now) }
@@ -31,7 +31,7 @@ pub fn read_list<'a>(key: &PublicKey, list: &'a [u8]) -> Result<&'a [u8], Privat
     Ok(comment)
 }
 
-// The check words, which are the same, and the type name, which is that of the key.
+// The check words, which must be equal, and the type name, which must be that of the key.
 #[tactic(auto, unfolding(crate::specs::Rows::row_at))]
 fn read_beginning(key: &PublicKey, cursor: &mut Cursor) -> Result<u32, PrivateFault>
     ensures { Gives (λ check. (check ∷ []) ∷ (check ∷ []) ∷ type_name key.now.kind ∷ []) result

@@ -1,4 +1,4 @@
-//! The bytes of a container, field by field. A cursor that met a fault is not used again.
+//! The bytes of a container, field by field. A cursor is not used again after a fault.
 
 ghost use Rattle.std.specs.Prelude.{◌≡◌, [], IfOk, Ok};
 ghost use Rattle.ssh_wire.specs.Reading.{Gives};
@@ -19,7 +19,7 @@ pub const MAGIC: &[u8] = b"openssh-key-v1\0";
 // The cipher and the derivation of a container that is not encrypted.
 const NONE: &[u8] = b"none";
 
-/// What a container says in public, lent from its bytes.
+/// The public contents of a container, borrowed from its bytes.
 #[derive(Drop)]
 pub struct Opened<'a> {
     pub blob: &'a [u8],
@@ -53,7 +53,7 @@ pub fn read_bytes<'a>(bytes: &'a [u8]) -> Result<Opened<'a>, PrivateFault>
     read_inside(&bytes[MAGIC.len()..])
 }
 
-// What follows the name of the format.
+// The bytes after the name of the format.
 #[tactic(auto, unfolding(crate::specs::ContainerReading::inside_at))]
 fn read_inside<'a>(inside: &'a [u8]) -> Result<Opened<'a>, PrivateFault>
     ensures { result ≡ inside_at inside.now }
@@ -90,7 +90,7 @@ fn read_parts<'a>(cursor: &mut Cursor<'a>) -> Result<Parts<'a>, PrivateFault>
     Ok(Parts { blob, key, list })
 }
 
-// Whether a container with this cipher, derivation and options is not encrypted.
+// Returns true if a container with this cipher, derivation and options is not encrypted.
 fn is_plain(cipher: &[u8], derivation: &[u8], options: &[u8]) -> bool
     ensures { result ≡ is_plain cipher.now derivation.now options.now }
 {

@@ -1,5 +1,5 @@
-//! The private fields of a key, with the public ones among them. A cursor that met a fault is not
-//! used again.
+//! The private fields of a key, with the public ones among them. A cursor is not used again after a
+//! fault.
 
 ghost use Rattle.std.specs.Prelude.{◌≡◌, ◌++◌, ◌≤◌, ℕ, List, length};
 ghost use Rattle.std.specs.Str.{bytes_eq};
@@ -14,7 +14,7 @@ use ssh_wire::Cursor;
 // The bytes of the private part of an Ed25519 key.
 const ED25519_SECRET_SIZE: usize = 64;
 
-// How a field is spelled.
+// The encoding of a field.
 #[derive(Clone, Copy)]
 enum Spelling {
     // A multiple precision integer.
@@ -25,7 +25,8 @@ enum Spelling {
     Byte,
 }
 
-/// Reads the fields of a key of this kind, and whether the public ones among them are the key's.
+/// Reads the fields of a key of this kind, and returns true if the public ones are those of the
+/// key.
 pub fn read_secrets(key: &PublicKey, cursor: &mut Cursor) -> Result<bool, PrivateFault>
     ensures { Gives (λ same. same) result cursor.new
         (same_at key.now.kind key.now.fields cursor.old) }
@@ -83,7 +84,7 @@ fn read_rows(
     Ok(among == public)
 }
 
-// The bytes of fields that are spelled so.
+// The bytes of fields with these encodings.
 fn pass_over<'a>(row: &[Spelling], cursor: &mut Cursor<'a>) -> Result<&'a [u8], PrivateFault>
     ensures { Gives (λ read. read.now) result cursor.new (passed_at row.now cursor.old) }
 {
@@ -94,7 +95,7 @@ fn pass_over<'a>(row: &[Spelling], cursor: &mut Cursor<'a>) -> Result<&'a [u8], 
     Ok(read_part(bytes, cursor.rest()))
 }
 
-// Passes over a field that is spelled so.
+// Skips a field with this encoding.
 fn pass(spelling: Spelling, cursor: &mut Cursor) -> Result<(), PrivateFault>
     ensures { Skips (part_of spelling) result cursor.old cursor.new }
 {
@@ -112,7 +113,7 @@ fn pass(spelling: Spelling, cursor: &mut Cursor) -> Result<(), PrivateFault>
     Ok(())
 }
 
-// What was read of the bytes, of which the rest is left.
+// The part of the bytes that was read, given the rest.
 fn read_part<'a>(bytes: &'a [u8], rest: &[u8]) -> &'a [u8]
     requires { length rest.now ≤ length bytes.now }
     ensures { (read : List ℕ) → bytes.now ≡ read ++ rest.now → result.now ≡ read }
@@ -120,7 +121,7 @@ fn read_part<'a>(bytes: &'a [u8], rest: &[u8]) -> &'a [u8]
     &bytes[..bytes.len() - rest.len()]
 }
 
-// Whether the bytes are these two parts.
+// Returns true if the bytes are these two parts, joined.
 fn is_joined(bytes: &[u8], first: &[u8], second: &[u8]) -> bool
     ensures { result ≡ bytes_eq (first.now ++ second.now) bytes.now }
 {

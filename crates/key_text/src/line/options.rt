@@ -5,8 +5,8 @@ ghost use Rattle.key_text.specs.LineReading.{after_options, quoted_after};
 
 use crate::line::words::is_blank;
 
-/// What is after the options field, which ends at the first blank outside double quotes. A
-/// quote after a backslash is a byte like any other. None if the text ends inside quotes.
+/// The text after the options field, which ends at the first blank outside double quotes. A
+/// quote after a backslash is a byte like any other. Returns none if the text ends inside quotes.
 pub fn after_options(text: &[u8]) -> Option<&[u8]>
     ensures { option_map (λ rest. rest.now) result ≡ after_options false false text.now }
 {
@@ -22,7 +22,7 @@ pub fn after_options(text: &[u8]) -> Option<&[u8]>
     if quoted { None } else { Some(&[]) }
 }
 
-// Whether the place after a byte is between quotes, by the place before it.
+// Returns true if the place after a byte is between quotes, given the place before it.
 fn quoted_after(quoted: bool, escaped: bool, byte: u8) -> bool
     ensures { result ≡ quoted_after quoted escaped byte }
 {

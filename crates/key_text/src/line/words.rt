@@ -4,14 +4,14 @@ ghost use Rattle.std.specs.Prelude.{◌≡◌};
 ghost use Rattle.key_text.specs.Blanks.{after_blanks, before_ending, first_word, is_blank, is_ending, trimmed};
 ghost use Rattle.key_text.specs.LineReading.{after_word};
 
-/// Whether a byte is a blank: a space or a tab.
+/// Returns true if a byte is a blank: a space or a tab.
 pub fn is_blank(byte: u8) -> bool
     ensures { result ≡ is_blank byte }
 {
     byte == b' ' || byte == b'\t'
 }
 
-/// Whether a byte goes at the end of a line: a blank or a carriage return.
+/// Returns true if a byte is removed from the end of a line: a blank or a carriage return.
 pub fn is_ending(byte: u8) -> bool
     ensures { result ≡ is_ending byte }
 {
@@ -26,7 +26,7 @@ pub fn trimmed(line: &[u8]) -> &[u8]
     before_ending(after_blanks(line))
 }
 
-/// The first word, up to a blank or the end, and what is after it.
+/// The first word, up to a blank or the end, and the text after it.
 #[tactic(auto, unfolding(crate::specs::Blanks::first_word, crate::specs::LineReading::after_word))]
 pub fn split_word(text: &[u8]) -> (&[u8], &[u8])
     ensures word { result.0.now ≡ first_word text.now }
@@ -40,7 +40,7 @@ pub fn split_word(text: &[u8]) -> (&[u8], &[u8])
     (text, &[])
 }
 
-/// What is after the blanks at the start.
+/// The text after the blanks at the start.
 #[tactic(auto, unfolding(crate::specs::Blanks::after_blanks))]
 pub fn after_blanks(text: &[u8]) -> &[u8]
     ensures { result.now ≡ after_blanks text.now }
@@ -53,7 +53,7 @@ pub fn after_blanks(text: &[u8]) -> &[u8]
     &[]
 }
 
-/// What is before the blanks and carriage returns at the end.
+/// The text before the blanks and carriage returns at the end.
 #[tactic(auto, unfolding(crate::specs::Blanks::before_ending))]
 pub fn before_ending(text: &[u8]) -> &[u8]
     ensures { result.now ≡ before_ending text.now }

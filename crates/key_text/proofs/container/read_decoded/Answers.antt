@@ -1,4 +1,4 @@
--- The base64 is that of these bytes, or of none.
+-- The text is the base64 of these bytes, or is not base64.
 use Rattle.std.proofs.Common.{Result, subst, sym}
 use Rattle.key_text.specs.ContainerReading.{GivesPrivate, Opened}
 use Rattle.key_text.specs.declared.private_fault.PrivateFault.{PrivateFault}

@@ -1,4 +1,4 @@
--- What is read is a container, each is read, and the fault is the first one.
+-- Reading returns only a container, reads each container, and reports the first fault.
 use Rattle.std.proofs.Common.{Result, subst, arith}
 use Rattle.key_text.specs.ContainerReading.{GivesPrivate, Opened}
 use Rattle.key_text.specs.declared.private_fault.PrivateFault.{PrivateFault}

@@ -1,4 +1,4 @@
--- What the bytes decode to is read as it is, and is not the fault of another prefix.
+-- The decoded bytes are read unchanged, and their fault is not that of another prefix.
 use Rattle.std.proofs.Common.{◌≢◌, ℕ, ◌==◌, List, length, Result, Ok, Err, ap}
 use Rattle.base64.specs.Engines.{standard_no_pad}
 use Rattle.base64.specs.GeneralPurpose.{decode_of}

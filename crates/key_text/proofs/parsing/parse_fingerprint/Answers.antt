@@ -1,4 +1,4 @@
--- The prefix stands, and what follows it is read.
+-- The text begins with the prefix, and the rest is read.
 use Rattle.std.proofs.Common.{ℕ, ◌-◌, List, arith, drop, length, length-drop, subst}
 use Rattle.std.proofs.lemmas.List.{take_all}
 use Rattle.base64.specs.Engines.{standard_no_pad}

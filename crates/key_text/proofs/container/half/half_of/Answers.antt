@@ -1,4 +1,4 @@
--- What follows the name of the format was read.
+-- The bytes after the name of the format were read.
 use Rattle.std.proofs.Common.{ℕ, List, Result, subst, sym, ◌∙◌}
 use Rattle.ssh_wire.specs.Reading.{Lends}
 use Rattle.key_text.specs.Container.{magic}

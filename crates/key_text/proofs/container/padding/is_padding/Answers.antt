@@ -1,4 +1,4 @@
--- The bytes are a front of the longest padding, or one of them is another.
+-- The bytes are a front of the longest padding, or one of them differs from it.
 use Rattle.std.proofs.Common.{arith}
 use Rattle.key_text.proofs.ContainerReads.{padding_other, padding_too_long, padding_whole}
 use Rattle.key_text.proofs.container.padding.is_padding.Goals as goal

@@ -1,4 +1,4 @@
--- What follows the name of the format was read.
+-- The bytes after the name of the format were read.
 use Rattle.std.proofs.Common.{sym, ◌∙◌}
 use Rattle.key_text.specs.Container.{magic}
 use Rattle.key_text.proofs.ContainerReads.{bytes_inside}

@@ -1,4 +1,4 @@
--- The bytes begin with the first part, and the second follows or not; or they do not begin with it.
+-- The bytes begin with the first part and the second follows or does not follow, or they do not begin with it.
 use Rattle.std.proofs.Common.{◌∙◌}
 use Rattle.std.proofs.lemmas.Bool.Decides.{Decides-eqb}
 use Rattle.std.proofs.lemmas.Slice.Eq.{strip_prefix_is}

@@ -1,4 +1,4 @@
--- Each field is one more that was passed over.
+-- Each step skips one more field.
 use Rattle.std.proofs.Common.{◌++◌, [], ap, sym, ◌∙◌, append_assoc, arith, subst}
 use Rattle.std.proofs.lemmas.Result.{err_from_is_err_and}
 use Rattle.ssh_wire.specs.Wire.{IsBytes}

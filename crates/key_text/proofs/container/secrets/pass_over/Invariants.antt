@@ -1,4 +1,4 @@
--- What was passed over stands before what is left, and the rest of the row is still to come.
+-- The skipped bytes are before the bytes that are left, and the rest of the row is still to come.
 use Rattle.std.proofs.Common.{◌≡◌, ℕ, List, ◌++◌, drop}
 use Rattle.ssh_wire.specs.Wire.{IsBytes}
 use Rattle.key_text.specs.ContainerReading.{passed_at}
