@@ -1,4 +1,4 @@
--- Answers by two tests that agree are the same.
+-- Two tests that agree give the same answers.
 use Rattle.std.proofs.Common.{◌≡◌, ◌++◌, Bool, true, false, List, [], ◌∷◌, map, Some, Result, Ok, Err, refl, ap, ap₂, ◌∙◌}
 use Rattle.ssh_cert.specs.SubjectReading.{subject_of}
 use Rattle.ssh_cert.specs.declared.subject_fault.SubjectFault.{SubjectFault}
@@ -11,7 +11,7 @@ use Rattle.key_files.specs.RunFault.{RunFault}
 use Rattle.krl_runs.specs.Query.{answer_of, ask_by}
 use Rattle.key_listing.specs.Run.{Item, file_items, files_items, file_key_item, is_answered, key_item, said, subject_item, unanswered_of}
 
--- of a key
+-- for a key
 next_same : (one other : Subject → Bool) → ((asked : Subject) → one asked ≡ other asked) → (next : Result FileKey RunFault) → file_key_item (ask_by one) next ≡ file_key_item (ask_by other) next
 next_same one other same (Err stop) = refl
 next_same one other same (Ok key) = by (subject_of key.line.blob)
@@ -24,7 +24,7 @@ next_same one other same (Ok key) = by (subject_of key.line.blob)
     by (Err fault) = refl
     by (Ok asked) = by_key asked (key_at asked.plain)
 
--- of the keys of a file
+-- for the keys of a file
 keys_same : (one other : Subject → Bool) → ((asked : Subject) → one asked ≡ other asked) → (keys : List (Result FileKey RunFault)) → map (file_key_item (ask_by one)) keys ≡ map (file_key_item (ask_by other)) keys
 keys_same one other same [] = refl
 keys_same one other same (next ∷ keys) = ap₂ (λ x xs. x ∷ xs) (next_same one other same next) (keys_same one other same keys)
@@ -33,14 +33,14 @@ ends_same : (one other : Subject → Bool) (name : List _) (answered : Bool) →
 ends_same one other name true = refl
 ends_same one other name false = refl
 
--- of a file
+-- for a file
 file_same : (one other : Subject → Bool) → ((asked : Subject) → one asked ≡ other asked) → (file : Named) → file_items (ask_by one) file ≡ file_items (ask_by other) file
 unfolding file_items
 file_same one other same file =
     ap (λ (items : List Item). items ++ unanswered_of (ask_by one) file.name (is_answered items)) (keys_same one other same (keys_of file))
     ∙ ap (λ (items : List Item). map (file_key_item (ask_by other)) (keys_of file) ++ items) (ends_same one other file.name (is_answered (map (file_key_item (ask_by other)) (keys_of file))))
 
--- of files
+-- for several files
 pub files_same : (one other : Subject → Bool) → ((asked : Subject) → one asked ≡ other asked) → (files : List Named) → files_items (ask_by one) files ≡ files_items (ask_by other) files
 unfolding files_items
 files_same one other same [] = refl

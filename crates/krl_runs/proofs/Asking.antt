@@ -1,4 +1,4 @@
--- A run by what is held of a list, or by why the list is refused.
+-- A run, by the stored entries of a list or by the fault of a refused list.
 use Rattle.std.proofs.Common.{◌≡◌, ℕ, true, false, List, [], ◌∷◌, ◌++◌, Bool, Option, Some, None, Result, Ok, Err, refl, sym, ap, subst, ◌∙◌, append_assoc}
 use Rattle.std.specs.List.{concat}
 use Rattle.krl_held.proofs.Tested.{revokes_meant}
@@ -30,7 +30,7 @@ use Rattle.key_files.specs.RunFault.{RunFault, run_fault_of}
 use Rattle.krl_runs.proofs.Agreeing.{files_same}
 use Rattle.key_listing.proofs.Carrying.{carries_more, carries_passed, carries_then, carries_withheld}
 
--- A list that was read is held.
+-- A list that was read is stored.
 pub held : (text : List ℕ) (header : Header) (contents : Revocations)
     → IsList text header contents → IsFirstFault text None → IsHeld text (known_of header contents)
 held text header contents list none = record {
@@ -39,7 +39,7 @@ held text header contents list none = record {
   answers = λ asked. revokes_meant contents (entries_of list.sections) list.holds.means asked;
 }
 
--- The contents are said where they are asked for, and the files are asked about by what is held.
+-- The contents are printed if requested, and the files are answered by the stored entries.
 pub read_run : {A : Type 0} (name : List ℕ) (dump : Bool) (files : List Named) (known : Known) (result : Result A RunFault) (old mid new : Printer)
     → Carries (contents_items name dump known) (Ok (tt {0})) old mid → Carries (files_items (ask known.contents) files) result mid new
     → Carries (query_run_of name (Ok known) dump files) result old new
@@ -56,14 +56,14 @@ dump_stops {A} {B} name dump files known stop old new first =
     carries_then (Passed name ∷ []) (contents_items name dump known ++ files_items (ask known.contents) files) tt (Err stop) old old new (carries_passed (tt {0}) name old)
     (carries_more {A = A} {B = B} (contents_items name dump known) (files_items (ask known.contents) files) stop old new first)
 
--- The run ended before anything was said: the list had a fault, or memory ran out.
+-- The run ended before its first line: the list had a fault, or an allocation failed.
 pub refused_run : (name : List ℕ) (dump : Bool) (files : List Named) (fault : KrlFault) (now : Printer)
     → Carries {A = Unit {0}} (query_run_of name (Err fault) dump files) (Err (run_fault_of name (krl_cause fault))) now now
 unfolding query_run_of
 refused_run name dump files faults.NoMemory now = carries_withheld (Stopped (run_fault_of name (krl_cause faults.NoMemory))) (run_fault_of name (krl_cause faults.NoMemory)) now refl
 refused_run name dump files fault now = carries_withheld (Stopped (run_fault_of name (krl_cause fault))) (run_fault_of name (krl_cause fault)) now refl
 
--- Lines that are said of a list make one text, before what follows.
+-- The lines of a list's contents make one text, before the text that follows.
 lines_first : (name : List ℕ) (lines : List (List ℕ)) (items : List Item)
     → outcome_of (all_said name lines ++ items) ≡ before (record { text = concat lines; revoked = false }) (outcome_of items)
 lines_first name [] items = refl
@@ -83,9 +83,9 @@ pub nothing_first : (name : List ℕ) (known : Known) (files : List Named)
 unfolding query_run_of contents_items
 nothing_first name known files = refl
 
--- ---- a list that passed
+-- ---- a list that was streamed
 
--- the entries that answer for a list: those of its sections, or of what is held of it
+-- the entries that answer for a list: those of its sections, or its stored entries
 pub list_entries : {Holds : List ℕ → Revocations → List Entry → Type 0} {Agrees : List Entry → Type 0} (left : Option (List ℕ)) (held : Revocations)
     → ((text : List ℕ) → left ≡ Some text → (header : Header) × IsListAs Holds text header held) → ((text : List ℕ) → left ≡ Some text → IsFirstFault text None)
     → Agrees (entries_in held) → ((text : List ℕ) (entries : List Entry) → Holds text held entries → Agrees entries)
@@ -105,9 +105,9 @@ list_entries (Some text) held list none own agree =
     } in
     (entries, λ other e. let same : text ≡ other = cc in subst (λ (t : List ℕ). HasEntries t entries) same has, agree text entries is.holds)
 
--- ---- of which all is held
+-- ---- a list of which all is stored
 
--- what is held answers for each key
+-- the stored entries answer for each key
 pub held_list : (left : Option (List ℕ)) (held : Revocations) (header : Header) → IsOrderly held
     → ((text : List ℕ) → left ≡ Some text → IsList text header held) → ((text : List ℕ) → left ≡ Some text → IsFirstFault text None)
     → (entries : List Entry) × ((text : List ℕ) → left ≡ Some text → HasEntries text entries) × ((asked : Subject) → revokes held asked ≡ is_named entries asked)
@@ -120,9 +120,9 @@ pub held_run : (name : List ℕ) (files : List Named) (known : Known) (entries :
 unfolding query_run_of contents_items asked_run_of
 held_run name files known entries same = ap (λ (items : List Item). Passed name ∷ items) (files_same (revokes known.contents) (is_named entries) same files)
 
--- ---- of which what was asked about is found
+-- ---- a list of which only the answers to the queries are stored
 
--- what was found answers for what was asked about
+-- the stored entries answer for the keys of the queries
 pub passed_list : (left : Option (List ℕ)) (topics found : Revocations) (kept : Header) → IsOrderly found
     → ((text : List ℕ) → left ≡ Some text → OfHeader (Some topics) kept (λ header. IsListAs (HoldsWithin (Some topics)) text header found)) → ((text : List ℕ) → left ≡ Some text → IsFirstFault text None)
     → (entries : List Entry) × ((text : List ℕ) → left ≡ Some text → HasEntries text entries) × ((asked : Subject) → Asks topics asked → revokes found asked ≡ is_named entries asked)
@@ -131,7 +131,7 @@ passed_list left topics found kept orderly list none =
     (found_tested topics found (entries_in found) (means_within (Some topics) found (entries_in found) (means_itself found orderly)))
     (λ text entries holds. found_tested topics found entries holds.means)
 
--- what was found of it answers for what was asked about
+-- the stored entries of the list answer for the keys of the queries
 pub passed_answers : (topics found : Revocations) (entries : List Entry) → ((asked : Subject) → Asks topics asked → revokes found asked ≡ is_named entries asked)
     → AnswersAbout topics found (ask_by (is_named entries))
 passed_answers topics found entries same = record {
@@ -151,7 +151,7 @@ unfolding asked_run_of
 asked_refused name files faults.NoMemory now = carries_withheld (Stopped (run_fault_of name (krl_cause faults.NoMemory))) (run_fault_of name (krl_cause faults.NoMemory)) now refl
 asked_refused name files fault now = carries_withheld (Stopped (run_fault_of name (krl_cause fault))) (run_fault_of name (krl_cause fault)) now refl
 
--- memory ran out before the first key was answered for
+-- an allocation failed before the answer for the first key
 pub asked_ran_out : (name : List ℕ) (files : List Named) (entries : List Entry) (now : Printer)
     → Carries {A = Unit {0}} (asked_run_of name (Ok entries) files) (Err (run_fault_of name causes.NoMemory)) now now
 unfolding asked_run_of

@@ -1,4 +1,4 @@
--- Keys that are expected where they are answered for.
+-- Keys that are expected are answered for.
 use Rattle.std.proofs.Common.{◌≡◌, ℕ, ◌+◌, ◌<◌, inl, inr, length, get_or, List, [], ◌∷◌, Option}
 use Rattle.std.proofs.Common.{Some, None, Result, Ok, Err, refl, sym, subst, ◌∙◌, arith}
 use Rattle.std.proofs.lemmas.Bool.{cases_lt}
@@ -44,7 +44,7 @@ asked_more old new asked more h = (more (KeyOf asked.plain) h.0, by asked.cert h
     by None h = tt
     by (Some cert) h = (more (KeyOf cert.authority) h.0, (under_stays old new [] cert.key_id cert.serial more h.1.0, under_stays old new cert.authority cert.key_id cert.serial more h.1.1))
 
--- keys that were expected are so still
+-- keys that were expected are still expected
 pub keys_more : (old new : Revocations) (keys : List (Result FileKey RunFault)) → AsksMore old new → AreExpected (Asks old) keys → AreExpected (Asks new) keys
 keys_more old new [] more h = tt
 keys_more old new (Err stop ∷ keys) more h = tt
@@ -62,7 +62,7 @@ key_expected old new key keys more h rest = by (subject_of key.line.blob) h
     by (Ok asked) h = (asked_more old new asked more h, rest)
     by (Err fault) h = tt
 
--- Where the files so far were expected and the next one is, all of them are.
+-- If the files so far were expected and the next one is, all of them are.
 pub files_more : (old new : Revocations) (files : List Named) (i : ℕ) (file : Named) → AsksMore old new → ((k : ℕ) (d : Named) → k < i → AreExpected (Asks old) (keys_of (get_or files k d)))
     → i < length files → file ≡ get_or files i file → AreExpected (Asks new) (keys_of file) → (k : ℕ) (d : Named) → k < i + 1 → AreExpected (Asks new) (keys_of (get_or files k d))
 files_more old new files i file more before lt is now k d next =

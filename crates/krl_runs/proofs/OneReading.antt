@@ -1,4 +1,4 @@
--- A text has one reading, where what is known of it is one and no fault is known beside it.
+-- A text has one reading if its known contents are unique and exclude a fault.
 use Rattle.std.proofs.Common.{◌≡◌, ◌⊎◌, ℕ, false, List, Result, Ok, Err, Option, Some, None, ap, inl, inr}
 use Rattle.krl_core.specs.Front.{IsFirstFault}
 use Rattle.krl_core.specs.Reading.{IsReadAs, Says, ran_out, failed_read, first}
@@ -11,8 +11,7 @@ said_by fault text left (ran_out is some works) = inl is
 said_by fault text left (failed_read is fails) = let failed = fails.failed_is in absurd (cc)
 said_by fault text left (first is works) = inr is
 
--- What is known of a text is one, and is known only of a text without a fault. A text has one first
--- fault.
+-- The known contents of a text are unique, and only a text without a fault has them. A text has one first fault.
 pub record HasOne {K : Type 0} (Knows : List ℕ → K → Type 0) : Type 0 where
   pub known : (text : List ℕ) (one other : K) → Knows text one → Knows text other → one ≡ other
   pub no_fault : (text : List ℕ) (known : K) → Knows text known → IsFirstFault text None

@@ -1,4 +1,4 @@
--- How far the lines of a list's contents are said.
+-- The lines of a list's contents that are printed so far.
 use Rattle.std.proofs.Common.{◌≡◌, ℕ, ◌+◌, ◌<◌, ◌==◌, Bool, true, false, List, [], ◌∷◌, ◌++◌, length, map, drop, get_or, Result, Ok, Err, refl, sym, ap, subst, ◌∙◌, append_assoc, add-one, arith}
 use Rattle.std.specs.Prelude.{Option, Some}
 use Rattle.std.specs.List.{flat_map}
@@ -25,7 +25,7 @@ use Rattle.key_listing.proofs.Carrying.{carries_more, carries_none, carries_then
 abbrev said : Result (Unit {0}) RunFault
 said = Ok tt
 
--- All the lines are those that were said so far and those that are left.
+-- All the lines are those that are printed so far and those that are left.
 pub record IsSaid (name : List ℕ) (all left : List (List ℕ)) (old now : Printer) : Type 0 where
   pub done : List (List ℕ)
   pub parts : all ≡ done ++ left
@@ -37,7 +37,7 @@ none_said name all now = record { done = []; parts = refl; carried = carries_non
 both_said : (name : List ℕ) (xs ys : List (List ℕ)) → all_said name (xs ++ ys) ≡ all_said name xs ++ all_said name ys
 both_said name xs ys = map-append (said_of name) xs ys
 
--- some more lines are said
+-- some more lines are printed
 pub more_said : (name : List ℕ) (all lines left : List (List ℕ)) (old mid new : Printer) → IsSaid name all (lines ++ left) old mid
     → Carries (all_said name lines) said mid new → IsSaid name all left old new
 more_said name all lines left old mid new is carries = record {
@@ -58,7 +58,7 @@ saying_stops {A} {B} name all lines left stop old mid new is carries =
     ∙ sym (append_assoc (all_said name is.done) (all_said name lines) (all_said name left)) in
     subst (λ (items : List Item). Carries {A = B} items (Err stop) old new) (sym items) more
 
--- the last of them, whatever becomes of it
+-- the last of them, whatever its result is
 pub last_said : {B : Type 0} (name : List ℕ) (all lines : List (List ℕ)) (result : Result B RunFault) (old mid new : Printer) → IsSaid name all lines old mid
     → Carries (all_said name lines) result mid new → Carries (all_said name all) result old new
 last_said {B} name all lines result old mid new is carries =
@@ -80,7 +80,7 @@ pub header_started : (name : List ℕ) (header : Header) (now : Printer)
 unfolding header_lines
 header_started name header now = none_said name (header_lines header) now
 
--- a comment without bytes has no line, and any other has its own
+-- a comment without bytes has no line, and any other has one
 pub no_comment : (comment : List ℕ) → (length comment == 0) ≡ true → comment_lines comment ≡ []
 no_comment [] none = refl
 no_comment (byte ∷ bytes) none = absurd (grind (arith, nat_tests))
@@ -96,7 +96,7 @@ spans_next spans i d lt =
     let parts : drop i spans ≡ get_or spans i d ∷ drop (i + 1) spans = rw add-one (drop-cons spans i d lt) in
     ap (λ (xs : List Span). map serials_line xs) parts
 
--- or those of a piece and the others, at which a walk goes on
+-- or those of a piece and the others, where a walk continues
 pub piece_next : (spans piece : List Span) (n : ℕ) (before next : Option ℕ) → IsRuns spans → AreSerials spans → before ≡ Some n → IsPiece spans n piece → next ≡ next_of piece
     → map serials_line (left before spans) ≡ map serials_line piece ++ map serials_line (left next spans)
 piece_next spans piece n before next r fits b p e =
@@ -116,7 +116,7 @@ pub section_started : (name : List ℕ) (section : Section) (now : Printer)
 unfolding section_lines
 section_started name section now = none_said name (section_lines section) now
 
--- ---- the contents, where they are asked for
+-- ---- the contents, if they are requested
 
 pub not_asked : (name : List ℕ) (dump : Bool) (known : Known) (now : Printer) → dump ≡ false → Carries (contents_items name dump known) said now now
 unfolding contents_items

@@ -1,4 +1,4 @@
--- What a list holds, as it is printed (ssh-keygen(1), options -Q and -l): a line for each fact.
+-- The printed contents of a list (ssh-keygen(1), options -Q and -l): a line for each fact.
 use Rattle.std.specs.Prelude.{ℕ, ◌==◌, if◌then◌else◌, Bool, true, false, List, [], ◌∷◌, ◌++◌, codes}
 use Rattle.std.specs.Prelude.{decimal, map}
 use Rattle.std.specs.List.{concat, flat_map}
@@ -17,7 +17,7 @@ use Rattle.krl_runs.specs.declared.contents.fact.Fact.TheVariants.{Id, Key, Sha1
 use Rattle.key_listing.specs.Run.{Item}
 use Rattle.key_listing.specs.Run.{said_of}
 
--- What was read of a list: its header, and what is held of it.
+-- A list that was read: its header, and its stored entries.
 pub record Known : Type 0 where
   pub header : Header
   pub contents : Revocations
@@ -38,7 +38,7 @@ date_line date = line (codes "# Generated at ") (instant_text date)
 unfoldable pub comment_line : List ℕ → List ℕ
 comment_line comment = line (codes "# Comment: ") (escaped comment)
 
--- a line for a comment, where there is one
+-- a line for a comment, if there is one
 abbrev pub comment_lines : List ℕ → List (List ℕ)
 comment_lines [] = []
 comment_lines (byte ∷ bytes) = comment_line (byte ∷ bytes) ∷ []
@@ -60,7 +60,7 @@ serials_text span =
 unfoldable pub serials_line : Span → List ℕ
 serials_line span = line (codes "serial: ") (serials_text span)
 
--- how the line of a key ID, a key or a hash begins
+-- the beginning of the line of a key ID, a key or a hash
 abbrev pub label_of : Fact → List ℕ
 label_of Id = codes "id: "
 label_of Key = codes "key: "
@@ -105,7 +105,7 @@ dump_text known = concat (known_lines known)
 abbrev pub all_said : List ℕ → List (List ℕ) → List Item
 all_said name lines = map (said_of name) lines
 
--- the items of a list's contents, where they are asked for
+-- the items of a list's contents, if they are requested
 unfoldable pub contents_items : List ℕ → Bool → Known → List Item
 contents_items name false known = []
 contents_items name true known = all_said name (known_lines known)

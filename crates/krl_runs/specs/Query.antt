@@ -24,7 +24,7 @@ use Rattle.key_files.specs.Keys.{Named}
 use Rattle.key_listing.specs.Run.{Answering, Item, Passed, Stopped, files_items}
 use Rattle.key_files.specs.RunFault.{krl_cause, run_fault_of}
 
--- a comment after a file's name, where there is one
+-- a comment after a file's name, if there is one
 abbrev pub comment_part : List ℕ → List ℕ
 comment_part [] = []
 comment_part (byte ∷ bytes) = codes " (" ++ (escaped (byte ∷ bytes) ++ codes ")")
@@ -42,18 +42,18 @@ abbrev pub answer_of : List ℕ → Content → Bool → Answer
 answer_of name line is_revoked =
     record { text = query_line name line.comment is_revoked; revoked = is_revoked }
 
--- each key is answered for, by a test of what is asked about it
+-- each key is answered for, by a test of its query
 abbrev pub ask_by : (Subject → Bool) → Answering
 ask_by test = record {
   say = λ name number line asked key. Some (answer_of name line (test asked));
   unanswered = files.NoKeys;
 }
 
--- by what is held of a list
+-- by the stored entries of a list
 abbrev pub ask : Revocations → Answering
 ask contents = ask_by (revokes contents)
 
--- What was asked about is answered for by what was found of it.
+-- The keys of the queries are answered for by the entries that were found.
 pub record AnswersAbout (topics found : Revocations) (answering : Answering) : Type 0 where
   pub say : (name : List ℕ) (number : Option ℕ) (line : Content) (asked : Subject) (key : PublicKey)
       → Asks topics asked
@@ -69,37 +69,37 @@ pub record HasEntries (text : List ℕ) (entries : List Entry) : Type 0 where
   pub no_fault : IsFirstFault text None
   pub entries_are : entries ≡ entries_of sections
 
--- The text is a list without a fault, this is known of it, and the answers are just those of what
--- its sections name.
+-- The text is a list without a fault, these are its known contents, and the answers are exactly those of the entries of
+-- its sections.
 pub record IsHeld (text : List ℕ) (known : Known) : Type 0 where
   pub list : IsList text known.header known.contents
   pub no_fault : IsFirstFault text None
   pub answers : (asked : Subject)
       → IsTrue (revokes known.contents asked) ↔ Revoked (entries_of list.sections) asked
 
--- what reading the text of a list gives
+-- the result of reading the text of a list
 abbrev pub IsRead : List ℕ → Result Known KrlFault → Bool → Option (List ℕ) → Type 0
 IsRead = IsReadAs IsHeld
 
--- This is what reading a list gave, by its reader before and after it.
+-- This is the result of reading a list, by its reader before and after it.
 abbrev pub IsListRead : Option (List ℕ) → Result Known KrlFault → Bool → Option (List ℕ) → Type 0
 IsListRead = IsReadingOf IsHeld
 
--- The list's first fault ends the run at once. Else its contents are printed where they are asked
--- for, and then each key of each file gives one line, up to the first fault.
+-- The list's first fault ends the run immediately. Otherwise its contents are printed if requested, and then each key
+-- of each file gives one line, up to the first fault.
 unfoldable pub query_run_of : List ℕ → Result Known KrlFault → Bool → List Named → List Item
 query_run_of name (Err fault) dump files = Stopped (run_fault_of name (krl_cause fault)) ∷ []
 query_run_of name (Ok known) dump files =
     Passed name ∷ (contents_items name dump known ++ files_items (ask known.contents) files)
 
--- The list's first fault ends the run at once. Else each key of each file gives one line, up to the
--- first fault.
+-- The list's first fault ends the run immediately. Otherwise each key of each file gives one line, up to the first
+-- fault.
 unfoldable pub asked_run_of : List ℕ → Result (List Entry) KrlFault → List Named → List Item
 asked_run_of name (Err fault) files = Stopped (run_fault_of name (krl_cause fault)) ∷ []
 asked_run_of name (Ok entries) files =
     Passed name ∷ files_items (ask_by (is_revoked entries)) files
 
--- What the run says and where it stops: by the list's contents where these are printed, else by the
+-- The lines of the run and the place where it stops: by the list's contents if these are printed, otherwise by the
 -- answers alone.
 pub data IsRun (name : List ℕ) (files : List Named) (before : Option (List ℕ)) (dump failed : Bool)
     (left : Option (List ℕ)) (items : List Item) : Type 0 where

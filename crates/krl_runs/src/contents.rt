@@ -1,4 +1,4 @@
-//! Printing what a list holds (ssh-keygen(1), options -Q and -l).
+//! Printing the contents of a list (ssh-keygen(1), options -Q and -l).
 
 ghost use Rattle.std.specs.Prelude.{map};
 ghost use Rattle.key_listing.specs.Carries.{Carries};
@@ -17,8 +17,8 @@ use key_listing::Run;
 use krl_core::{Header, Listed, Revocations, Texts};
 use serial_set::{Span, Spans};
 
-/// Prints what a list holds, where it is asked for: a line for each fact of its header, and then
-/// each authority with its serials and key IDs, the keys and the hashes.
+/// Prints the contents of a list, if they are requested: a line for each fact of its header, and
+/// then each authority with its serials and key IDs, the keys and the hashes.
 pub fn print_contents<'a, S: Spans, W: Sink>(
     run: &mut Run<W>,
     name: &'a str,
@@ -53,7 +53,7 @@ fn print_header<'a, W: Sink>(
     print_comment(run, name, header.comment.as_slice())
 }
 
-// Prints the line of a comment, where there is one.
+// Prints the line of a comment, if there is one.
 fn print_comment<'a, W: Sink>(
     run: &mut Run<W>,
     name: &'a str,

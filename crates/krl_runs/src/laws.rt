@@ -1,4 +1,4 @@
-//! Laws of what runs say. Each function does nothing: its contract is the law.
+//! Laws of the lines that runs print. Each function does nothing: its contract is the law.
 
 ghost use Rattle.std.specs.Prelude.{◌≡◌, ◌⊎◌, ℕ, true, false, List, Result, Ok, Err, Option};
 ghost use Rattle.krl_held.specs.Entry.{Entry};
@@ -14,8 +14,8 @@ ghost use Rattle.key_listing.specs.Run.{before, files_items, outcome_of};
 use krl_core::laws::{one_first_fault, one_spelling};
 use krl_held::laws::entries_decide_what_is_held;
 
-/// Where a list's contents are asked for, their text stands before all that is said of files; else
-/// nothing is said of the list.
+/// If a list's contents are requested, their text comes before all lines about files; otherwise
+/// nothing is printed about the list.
 pub fn contents_stand_first()
     ensures asked { (name : List ℕ) (known : Known) (files : List Named)
         → outcome_of (query_run_of name (Ok known) true files)
@@ -26,7 +26,7 @@ pub fn contents_stand_first()
         ≡ outcome_of (files_items (ask known.contents) files) }
 {}
 
-/// A list that is held and a list that is asked while it passes give the same lines of each file.
+/// A stored list and a streamed list give the same lines for each file.
 pub fn held_or_passed()
     ensures { (text : List ℕ) (known : Known) (entries : List Entry) (files : List Named)
         → IsHeld text known → HasEntries text entries
@@ -35,8 +35,8 @@ pub fn held_or_passed()
     one_spelling();
 }
 
-/// Where its reader does not fail, a text is read in one way, unless memory runs out: what is known
-/// of it is one, or its fault is.
+/// If its reader does not fail, a text has one reading, unless an allocation fails: its known
+/// contents are unique, or its fault is.
 pub fn one_reading()
     ensures { (text : List ℕ) (one other : Result Known KrlFault) (left later : Option (List ℕ))
         → IsRead text one false left → IsRead text other false later
@@ -47,8 +47,8 @@ pub fn one_reading()
     entries_decide_what_is_held();
 }
 
-/// The same of a list that is asked: where its reader does not fail, its entries are one, or its
-/// fault is, unless memory runs out.
+/// The same for a list that is streamed: if its reader does not fail, its entries are unique, or
+/// its fault is, unless an allocation fails.
 pub fn one_asked_reading()
     ensures { (text : List ℕ) (one other : Result (List Entry) KrlFault)
         (left later : Option (List ℕ))

@@ -1,4 +1,4 @@
-//! The run that asks key revocation lists about keys, as ssh-keygen(1) does.
+//! The run that queries key revocation lists for keys, as ssh-keygen(1) does.
 #![tactic(auto)]
 
 mod contents;

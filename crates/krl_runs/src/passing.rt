@@ -1,4 +1,4 @@
-//! Asking a list about the keys of files: past its front, no more of it is held than was asked.
+//! Queries of a list for the keys of files. After the list's front, only the answers are stored.
 
 ghost use Rattle.std.specs.Prelude.{◌≡◌, ◌≤◌, ℕ, IfSome, List, None, Option, Result, false};
 ghost use Rattle.key_files.specs.Keys.{Named as NamedOf};
@@ -22,8 +22,8 @@ use span_sets::Held;
 use ssh_cert::AnyKey;
 use std::alloc::{AllocError, Global};
 
-// Says of each key what a list that has passed said of it. What was found is small beside what was
-// asked.
+// The answers of a list that was streamed, for each key. Its stored entries are few compared with
+// the queries.
 #[derive(Drop)]
 struct Passed<'q> {
     findings: &'q Findings<Held>,
@@ -52,11 +52,12 @@ impl<'q> Answers for Passed<'q> {
     }
 }
 
-// At most so many bytes of a list are held.
+// At most this number of bytes of a list is stored.
 const FRONT: u64 = 262_144;
 
-/// Asks a list about each key of each file, and says of each whether it is revoked. The list's
-/// front is held. A list that goes on past it is asked about all keys at once, and then passes.
+/// Queries a list for each key of each file, and prints for each whether it is revoked. The list's
+/// front is stored. If the list is longer, it is queried for all keys together while it is
+/// streamed.
 pub(crate) fn ask_passing<'a, R: Source + Drop, W: Sink>(
     run: &mut Run<W>,
     krl_name: &'a str,
@@ -84,8 +85,8 @@ pub(crate) fn ask_passing<'a, R: Source + Drop, W: Sink>(
     }
 }
 
-// How many bytes of a list are held: no more than the files have, so that a question about few keys
-// takes little memory. Many keys are asked of a short list sooner than they are kept in mind.
+// The number of bytes of a list that are stored: at most the size of the files, so that a query for
+// few keys takes little memory. It is cheaper to store a short list than queries for many keys.
 fn front_size(files: &[Named<'_>]) -> u64
     ensures { result ≤ 262144 }
 {
@@ -98,9 +99,9 @@ fn front_size(files: &[Named<'_>]) -> u64
     size.min(FRONT)
 }
 
-// Asks about the keys of the files, of which a list's front has told its part, and lets the rest of
-// the list pass. Where memory runs out before all of them are in mind, it passes all the same: its
-// fault is first.
+// Queries for the keys of the files, with the answers of the list's front, and streams the rest of
+// the list. If an allocation fails before all queries are stored, the list is streamed all the
+// same: its fault is reported first.
 fn ask_rest<'a, R: Source + Drop, W: Sink>(
     run: &mut Run<W>,
     krl_name: &'a str,
@@ -129,8 +130,8 @@ fn ask_rest<'a, R: Source + Drop, W: Sink>(
     }
 }
 
-// Lets the rest of a list pass, which all keys of the files are asked of, and says of each what it
-// said.
+// Streams the rest of a list, with queries for all keys of the files, and prints the answer for
+// each.
 fn pass<'a, R: Source + Drop, W: Sink>(
     run: &mut Run<W>,
     krl_name: &'a str,
@@ -160,7 +161,7 @@ fn pass<'a, R: Source + Drop, W: Sink>(
     }
 }
 
-// Lets the rest of a list pass, of which nothing can be asked for want of memory.
+// Streams the rest of a list without queries, because an allocation failed.
 fn pass_unasked<'a, R: Source + Drop, W: Sink>(
     run: &mut Run<W>,
     krl_name: &'a str,

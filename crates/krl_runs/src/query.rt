@@ -1,4 +1,4 @@
-//! Asking a list about the keys of files (ssh-keygen(1), KEY REVOCATION LISTS).
+//! Queries of a list for the keys of files (ssh-keygen(1), KEY REVOCATION LISTS).
 
 ghost use Rattle.std.specs.Prelude.{◌≡◌, ◌++◌, IfOk, List, Ok, Result, OnOk, false, ⊤};
 ghost use Rattle.krl_types.specs.declared.krl_fault.KrlFault.{KrlFault as FaultOf};
@@ -20,14 +20,14 @@ use ssh_cert::{AnyKey, push_escaped};
 use ssh_wire::Bytes;
 use std::alloc::{AllocError, Global};
 
-/// What was read of a list.
+/// A list that was read.
 #[derive(Drop)]
 pub(crate) struct Known {
     pub(crate) header: Header,
     pub(crate) list: Revocations<Held>,
 }
 
-// Says of each key whether a list revokes it.
+// Answers for each key whether a list revokes it.
 #[derive(Drop)]
 struct Query<'q> {
     list: &'q Revocations<Held>,
@@ -71,14 +71,14 @@ pub(crate) fn query_line(
     Ok(Bytes::from_vec(text))
 }
 
-// Whether a key is revoked, as it is printed.
+// The printed word for whether a key is revoked.
 fn verdict(revoked: bool) -> &'static [u8]
     ensures { result.now ≡ verdict revoked }
 {
     if revoked { b": REVOKED" } else { b": ok" }
 }
 
-// Appends a comment in parentheses, escaped, where there is one.
+// Appends a comment in parentheses, escaped, if there is one.
 fn push_comment(text: &mut Vec<u8>, comment: &[u8]) -> Result<(), AllocError>
     ensures { OnOk result (text.new.items ≡ text.old.items ++ comment_part comment.now) }
 {
@@ -90,10 +90,10 @@ fn push_comment(text: &mut Vec<u8>, comment: &[u8]) -> Result<(), AllocError>
     Ok(())
 }
 
-/// Reads a list, prints its contents where `dump` is true, asks it about each key of each file, and
-/// says of each in a line whether it is revoked (ssh-keygen(1), KEY REVOCATION LISTS). It gives the
-/// list's reader back. Reader and writer have not failed before. The status is 0 where no key is
-/// revoked, 1 where one is, and 255 where a fault stops the run.
+/// Reads a list, prints its contents if `dump` is true, queries it for each key of each file, and
+/// prints a line for each that says whether it is revoked (ssh-keygen(1), KEY REVOCATION LISTS).
+/// Returns the list's reader too. Reader and writer must not have failed before. The status is 0 if
+/// no key is revoked, 1 if one is, and 255 if a fault stops the run.
 pub fn query_run<'a, R: Source + Drop, W: Sink>(
     alloc: Global,
     krl_name: &'a str,
@@ -129,8 +129,8 @@ pub fn query_run<'a, R: Source + Drop, W: Sink>(
     (done, reader)
 }
 
-// Reads a list, prints its contents where `dump` is true, and says of each key of each file whether
-// it is revoked.
+// Reads a list, prints its contents if `dump` is true, and prints for each key of each file
+// whether it is revoked.
 fn ask<'a, R: Source + Drop, W: Sink>(
     run: &mut Run<W>,
     krl_name: &'a str,
@@ -150,7 +150,7 @@ fn ask<'a, R: Source + Drop, W: Sink>(
     ask_passing(run, krl_name, krl, files)
 }
 
-// Reads a list and asks it about each key of each file.
+// Reads a list and queries it for each key of each file.
 fn ask_list<'a, R: Source + Drop, W: Sink>(
     run: &mut Run<W>,
     krl_name: &'a str,
@@ -174,7 +174,7 @@ fn ask_list<'a, R: Source + Drop, W: Sink>(
     }
 }
 
-/// Prints the contents of a list where `dump` is true, and asks it about each key of each file.
+/// Prints the contents of a list if `dump` is true, and queries it for each key of each file.
 pub(crate) fn ask_held<'a, W: Sink>(
     run: &mut Run<W>,
     krl_name: &'a str,

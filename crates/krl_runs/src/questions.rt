@@ -1,4 +1,4 @@
-//! Asking about the keys of files.
+//! Queries for the keys of files.
 
 ghost use Rattle.std.specs.Prelude.{◌≡◌, ◌≢◌, IfOk, OnOk, false};
 ghost use Rattle.std.specs.Result.{IsErr};
@@ -15,8 +15,8 @@ use krl_core::{Questions, Reading};
 use span_sets::Held;
 use std::alloc::{AllocError, Global};
 
-/// Asks a list whose front was read about each key of each file, up to the file's first fault.
-/// Fails only where memory runs out.
+/// Queries a list whose front was read for each key of each file, up to the file's first fault.
+/// Fails only if an allocation fails.
 pub fn ask_about<'a, R: Source + Drop>(
     alloc: Global,
     questions: &mut Questions<Held>,
@@ -35,7 +35,7 @@ pub fn ask_about<'a, R: Source + Drop>(
     Ok(())
 }
 
-// Asks about each key of a file, up to its first fault.
+// Queries for each key of a file, up to its first fault.
 fn ask_file<'a, R: Source + Drop>(
     alloc: Global,
     questions: &mut Questions<Held>,
@@ -62,7 +62,7 @@ fn ask_file<'a, R: Source + Drop>(
     Ok(())
 }
 
-// A fault of a file is passed over: whoever goes over its keys again meets it there.
+// Skips a fault of a file: the run that prints the answers meets it again and reports it.
 fn stopped_by(cause: Cause) -> Result<(), AllocError>
     ensures { OnOk result (cause ≢ NoMemory) }
 {
@@ -72,7 +72,7 @@ fn stopped_by(cause: Cause) -> Result<(), AllocError>
     }
 }
 
-// Asks about a key, and reports whether it can be read.
+// Queries for a key, and returns true if it can be read.
 fn ask_key<R: Source + Drop>(
     alloc: Global,
     questions: &mut Questions<Held>,

@@ -7,7 +7,7 @@ use base64::engine::general_purpose::{STANDARD, STANDARD_NO_PAD};
 use ssh_cert::push_escaped;
 use std::alloc::{AllocError, Global};
 
-/// What some bytes of a list are.
+/// The kind of some bytes of a list.
 #[derive(Clone, Copy)]
 pub enum Fact {
     /// A key ID.
@@ -21,7 +21,7 @@ pub enum Fact {
 }
 
 impl Fact {
-    /// Makes the line of such bytes, with its line feed.
+    /// Makes the line of bytes of this kind, with its line feed.
     #[tactic(auto, unfolding(crate::specs::Contents::fact_line))]
     pub fn write(self, alloc: Global, bytes: &[u8], line: &mut Vec<u8>) -> Result<(), AllocError>
         ensures { OnOk result (line.new.items ≡ fact_line self bytes.now) }
@@ -33,7 +33,7 @@ impl Fact {
         Ok(())
     }
 
-    // What comes before the value in its line.
+    // The text before the value in its line.
     fn label(self) -> &'static [u8]
         ensures { result.now ≡ label_of self }
     {

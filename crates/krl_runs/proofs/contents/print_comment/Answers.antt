@@ -1,4 +1,4 @@
--- A comment without bytes has no line, and any other has its own.
+-- A comment without bytes has no line, and any other has one.
 use Rattle.std.proofs.Common.{◌∙◌, sym}
 use Rattle.krl_runs.specs.Contents.{comment_line}
 use Rattle.key_listing.proofs.Carrying.{carries_none}

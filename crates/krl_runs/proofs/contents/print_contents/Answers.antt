@@ -1,4 +1,4 @@
--- The header and what is held are said where they are asked for.
+-- The header and the stored entries are printed if requested.
 use Rattle.std.proofs.lemmas.Result.{err_from_is_err_and}
 use Rattle.krl_runs.proofs.Printing.{contents_said, contents_stop, not_asked}
 use Rattle.krl_runs.proofs.contents.print_contents.Goals as goal

@@ -1,4 +1,4 @@
--- Each line is said, or ends the run.
+-- Each line is printed, or ends the run.
 use Rattle.std.proofs.Common.{◌∷◌, []}
 use Rattle.std.proofs.lemmas.Result.{err_from_is_err_and}
 use Rattle.krl_runs.specs.Contents.{comment_lines, date_line, version_line}

@@ -1,4 +1,4 @@
--- The authorities so far are said, and the others are left, with the keys and the hashes.
+-- The authorities so far are printed, and the others are left, with the keys and the hashes.
 use Rattle.krl_runs.specs.Contents.{contents_lines}
 use Rattle.krl_runs.proofs.Printing.{IsSaid, held_lines}
 use Rattle.krl_runs.proofs.contents.print_held.Given as goal

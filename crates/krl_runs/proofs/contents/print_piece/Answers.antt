@@ -1,4 +1,4 @@
--- Each span is said, or ends the run.
+-- Each span is printed, or ends the run.
 use Rattle.std.proofs.Common.{◌∷◌, [], get_or}
 use Rattle.std.proofs.lemmas.Result.{err_from_is_err_and}
 use Rattle.krl_runs.specs.Contents.{serials_line}

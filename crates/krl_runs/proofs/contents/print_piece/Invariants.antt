@@ -1,4 +1,4 @@
--- The spans so far are said, and the others are left.
+-- The spans so far are printed, and the others are left.
 use Rattle.std.proofs.Common.{drop, map}
 use Rattle.krl_runs.specs.Contents.{serials_line}
 use Rattle.krl_runs.proofs.Printing.{IsSaid}

@@ -1,4 +1,4 @@
--- Each part is said, or ends the run.
+-- Each part is printed, or ends the run.
 use Rattle.std.proofs.Common.{◌∷◌, [], map}
 use Rattle.std.proofs.lemmas.Result.{err_from_is_err_and}
 use Rattle.krl_runs.specs.Contents.{authority_line, fact_line, serials_line}

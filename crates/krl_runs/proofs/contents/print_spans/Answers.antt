@@ -1,4 +1,4 @@
--- Each piece is said, or ends the run.
+-- Each piece is printed, or ends the run.
 use Rattle.std.proofs.Common.{◌∙◌, ap, map, refl, sym, subst}
 use Rattle.std.specs.Prelude.{List}
 use Rattle.std.proofs.lemmas.Result.{err_from_is_err_and}

@@ -1,4 +1,4 @@
--- The spans before the number are said, and the others are left.
+-- The spans before the number are printed, and the others are left.
 use Rattle.std.proofs.Common.{map}
 use Rattle.serial_set.specs.Walk.{left, steps}
 use Rattle.krl_runs.specs.Contents.{serials_line}

@@ -1,4 +1,4 @@
--- Each text is said, or ends the run.
+-- Each text is printed, or ends the run.
 use Rattle.std.proofs.Common.{◌∷◌, []}
 use Rattle.std.proofs.lemmas.Result.{err_from_is_err_and}
 use Rattle.krl_runs.specs.Contents.{fact_line}

@@ -1,4 +1,4 @@
--- The texts so far are said, and the others are left.
+-- The texts so far are printed, and the others are left.
 use Rattle.std.proofs.Common.{map}
 use Rattle.krl_runs.specs.Contents.{fact_line}
 use Rattle.krl_runs.proofs.Printing.{IsSaid}

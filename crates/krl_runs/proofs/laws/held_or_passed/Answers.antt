@@ -1,4 +1,4 @@
--- Both say what the one spelling of the list names.
+-- Both print the answers of the one spelling of the list.
 use Rattle.std.proofs.Common.{sym, ap, ◌∙◌}
 use Rattle.krl_core.specs.Entries.{entries_of}
 use Rattle.krl_held.specs.NamingTests.{is_revoked}

@@ -1,4 +1,4 @@
--- One list of entries of a text, by one spelling and one first fault.
+-- A text has one list of entries, because it has one spelling and one first fault.
 use Rattle.std.proofs.Common.{◌≡◌, ℕ, List, sym, ap, ◌∙◌}
 use Rattle.krl_held.specs.Entry.{Entry}
 use Rattle.krl_core.specs.Entries.{entries_of}

@@ -1,4 +1,4 @@
--- One reading of a text, by one spelling and one first fault.
+-- A text has one reading, because it has one spelling and one first fault.
 use Rattle.std.proofs.Common.{◌≡◌, ℕ, List, sym, ap, subst, ◌∙◌}
 use Rattle.krl_held.specs.Revocations.{Revocations, Means}
 use Rattle.krl_core.specs.Entries.{entries_of}

@@ -1,4 +1,4 @@
--- The list ends within its front, goes on past it, or is refused.
+-- The list ends within its front, continues after it, or is refused.
 use Rattle.std.proofs.Common.{Ok, Err, [], ◌∙◌}
 use Rattle.krl_core.proofs.Whole.{whole_unfaulted}
 use Rattle.krl_runs.specs.Contents.{known_of}

@@ -1,4 +1,4 @@
--- What the front has told of what is asked, it has told for the rest too.
+-- The entries that were found in the front are kept for the rest of the list.
 use Rattle.krl_runs.proofs.passing.ask_rest.Goals as goal
 
 pub returns-in-Ok : goal.returns-in-Ok

@@ -1,4 +1,4 @@
--- The list passed, or was refused.
+-- The list was streamed to its end, or was refused.
 use Rattle.std.proofs.Common.{Ok, Err}
 use Rattle.krl_held.specs.NamingTests.{is_revoked}
 use Rattle.krl_runs.specs.Query.{ask_by}

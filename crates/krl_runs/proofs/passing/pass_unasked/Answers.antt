@@ -1,4 +1,4 @@
--- The list is refused, or memory ran out first.
+-- The list is refused, or an allocation failed first.
 use Rattle.std.proofs.Common.{Ok, Err}
 use Rattle.krl_runs.proofs.Asking.{asked_refused, asked_ran_out, list_entries}
 use Rattle.krl_runs.proofs.passing.pass_unasked.Goals as goal

@@ -1,4 +1,4 @@
--- The run is one by contents or one by answers.
+-- The run prints the contents, or only the answers.
 use Rattle.std.proofs.Common.{refl}
 use Rattle.krl_runs.specs.Query.{asked, asked_run_of, dumped, query_run_of}
 use Rattle.krl_runs.proofs.query.ask.Goals as goal

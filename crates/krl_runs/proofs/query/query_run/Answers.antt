@@ -1,4 +1,4 @@
--- What was said is sent, and the end of the run reported.
+-- The waiting text is sent, and the end of the run is reported.
 use Rattle.std.proofs.Common.{rules}
 use Rattle.key_listing.proofs.Ending.{ends_known}
 use Rattle.krl_runs.proofs.query.query_run.Goals as goal

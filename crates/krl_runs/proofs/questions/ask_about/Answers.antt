@@ -1,4 +1,4 @@
--- Files that were asked about are so still, and one more is.
+-- The files so far are still asked about, and one more is.
 use Rattle.krl_runs.proofs.Expecting.{files_more}
 use Rattle.krl_runs.proofs.questions.ask_about.Goals as goal
 

@@ -1,4 +1,4 @@
--- The answer is that of what was found, for what was asked about.
+-- The answer for a key of the queries is that of the stored entries.
 use Rattle.std.proofs.Common.{rules}
 use Rattle.ssh_cert.specs.AnyKey.{asked_of, plain_of}
 use Rattle.krl_runs.proofs.passing.PassedAnswers.answer.Goals as goal
