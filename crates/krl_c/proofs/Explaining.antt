@@ -91,7 +91,7 @@ has_reasons entries asked all are = record {
   within = below all;
 }
 
--- a blob's fault is answered by its number
+-- the number of a blob's fault is returned
 pub unexplained : (entries : List Entry) (blob : List ℕ) (fault : SubjectFault) (number : ℤ) → IsReportedFault blob fault → number ≡ subject_number fault → ExplainsBlob entries blob number
 unexplained entries blob (subjects.Key why) number reported e = no_blob (subjects.Key why) reported e
 unexplained entries blob (subjects.Cert why) number reported e = no_blob (subjects.Cert why) reported e

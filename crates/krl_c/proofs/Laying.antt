@@ -5,7 +5,7 @@ use Rattle.std.proofs.lemmas.List.{append-nil}
 use borrow.Rule.Slice.PartMut.{mid_of, post_of}
 use Rattle.krl_c.specs.Written.{written}
 
--- the last piece, and the zero byte behind it
+-- the last piece, and the zero byte after it
 pub ended : (text old : List ℕ) (n : ℕ) → 0 < length old → n ≡ min (length text) (length old - 1)
     → slice_set (take n text ++ drop n old) n 0 ≡ written text old
 ended text [] n some e = absurd (omega arith)
@@ -30,7 +30,7 @@ begun (byte ∷ head) tail (old ∷ (next ∷ olds)) zero some e = absurd (omega
 begun (byte ∷ head) tail (old ∷ (next ∷ olds)) (suc n) some e =
     ap (λ (bs : List ℕ). byte ∷ bs) (begun head tail (next ∷ olds) n (omega arith) (omega arith))
 
--- what lies behind the first bytes is replaced
+-- the bytes after the first ones are replaced
 put_at : (first behind new : List ℕ)
     → take (length first) (first ++ behind) ++ (new ++ post_of (length first) (length (first ++ behind) - length first) (first ++ behind)) ≡ first ++ new
 put_at first behind new =
@@ -42,7 +42,7 @@ pub put : (n : ℕ) (first behind new : List ℕ) → length first ≡ n
 put n first behind new e =
     subst (λ (k : ℕ). take k (first ++ behind) ++ (new ++ post_of k (length (first ++ behind) - k) (first ++ behind)) ≡ first ++ new) e (put_at first behind new)
 
--- and it is all that lies behind them
+-- and they are all the bytes after the first ones
 rest_at : (first behind : List ℕ) → mid_of (length first) (length (first ++ behind) - length first) (first ++ behind) ≡ behind
 rest_at first behind =
     let k : length (first ++ behind) - length first ≡ length behind = omega (arith, length-append first behind) in

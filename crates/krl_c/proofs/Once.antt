@@ -1,4 +1,4 @@
--- One answer for one question, but for want of memory.
+-- One call has one answer, unless an allocation fails.
 use Rattle.std.proofs.Common.{◌≡◌, ◌⊎◌, inl, inr, ℕ, ℤ, List, Result, Ok, Err, sym, ap, subst, ◌∙◌}
 use Rattle.krl_types.specs.Subject.{Subject}
 use Rattle.ssh_cert.specs.declared.subject_fault.SubjectFault.{SubjectFault}
@@ -11,11 +11,11 @@ use Rattle.krl_held.specs.Entry.{Entry}
 use Rattle.krl_c.specs.Answer.{AnswersBlob, AnswersBy, AnswersLine, HasOne, Says, names, spares, said, no_blob, ran_out, answered, other_authority, no_list, list_ran_out, of_key, no_line, line_ran_out}
 use Rattle.krl_c.specs.Number.{list_number, line_number, no_memory, subject_number}
 
--- the two are one, or memory ran out for one of them
+-- the two are equal, or one of them is `no_memory`
 abbrev pub Once : ℤ → ℤ → Type 0
 Once one other = (one ≡ other) ⊎ ((one ≡ no_memory) ⊎ (other ≡ no_memory))
 
--- what is so of one of two numbers of a fault is so of both
+-- two numbers of one fault are equal
 numbers_same : {F : Type 0} (number : F → ℤ) (one other : ℤ) (fault fault' : F) → fault ≡ fault' → one ≡ number fault → other ≡ number fault' → Once one other
 numbers_same number one other fault fault' same e f = inl (e ∙ ap number same ∙ sym f)
 
@@ -25,7 +25,7 @@ said_once entries asked one other (names is e) (spares not f) = absurd (not is)
 said_once entries asked one other (spares not e) (names is f) = absurd (not is)
 said_once entries asked one other (spares not e) (spares also f) = e ∙ sym f
 
--- of a blob, by a reading of it
+-- for a blob, by a reading of it
 pub blob_once : (blob : List ℕ) (read : Result Subject SubjectFault) → ((asked : Subject) → IsSubject blob asked → read ≡ Ok asked) → ((fault : SubjectFault) → IsSubjectFault blob fault → read ≡ Err fault)
     → (entries : List Entry) (one other : ℤ) → AnswersBlob entries blob one → AnswersBlob entries blob other → Once one other
 blob_once blob read of_subject of_fault entries one other (said a is says) (said b also tells) =
@@ -43,7 +43,7 @@ blob_once blob read of_subject of_fault entries one other (no_blob fault first e
 blob_once blob read of_subject of_fault entries one other (ran_out e) tells = inr (inl e)
 blob_once blob read of_subject of_fault entries one other says (ran_out f) = inr (inr f)
 
--- of a line, by a reading of it
+-- for a line, by a reading of it
 pub line_once : (text : List ℕ) (read : Result Content LineFault) → ((word blob comment : List ℕ) → IsKeyLine text word blob comment → read ≡ Ok (content word blob comment))
     → ((fault : LineFault) → IsFirstLineFault text fault → read ≡ Err fault)
     → (entries : List Entry)
@@ -65,7 +65,7 @@ line_once text read of_line of_fault entries once one other (no_line fault first
 line_once text read of_line of_fault entries once one other (line_ran_out e) tells = inr (inl e)
 line_once text read of_line of_fault entries once one other says (line_ran_out f) = inr (inr f)
 
--- ---- of a list
+-- ---- for a list
 
 pub list_once : {Tells : List Entry → ℤ → Type 0} (list : List ℕ) → HasOne list → ((entries : List Entry) (one other : ℤ) → Tells entries one → Tells entries other → Once one other)
     → (one other : ℤ) → AnswersBy Tells list one → AnswersBy Tells list other → Once one other

@@ -1,4 +1,4 @@
--- The words for the number of each fault are those that it prints.
+-- The words for the number of a fault are those that the fault prints.
 use Rattle.std.proofs.Common.{◌≡◌, refl}
 use Rattle.ssh_wire.specs.declared.fault.WireFault.TheVariants.{Short, Negative, NotShortest}
 use Rattle.ssh_key.specs.declared.fault.KeyFault.{KeyFault}

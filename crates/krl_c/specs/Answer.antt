@@ -1,4 +1,4 @@
--- What a list answers about the blob of a key or of a certificate.
+-- The answer of a list for the blob of a key or of a certificate.
 use Rattle.std.specs.Prelude.{◌≡◌, ◌≤◌, ◌⊎◌, ℕ, ℤ, List, length, Some}
 use Rattle.krl_types.specs.Subject.{Subject}
 use Rattle.key_text.specs.KeyLine.{IsKeyLine}
@@ -27,8 +27,8 @@ pub record IsListOf (list : List ℕ) (entries : List Entry) : Type 0 where
   pub within : length list ≤ limit
   pub entries_are : entries ≡ entries_of sections
 
--- Each authority of the list is none or a key in its one spelling, so that of a certificate can be
--- compared with it.
+-- Each authority of the list is empty or a key in its one spelling, so a certificate's authority can be compared with
+-- it.
 pub record IsCompared (list : List ℕ) (entries : List Entry) : Type 0 where
   pub is : IsListOf list entries
   pub keys : AuthoritiesAreKeys is.sections
@@ -39,12 +39,12 @@ pub record HasOtherAuthority (list : List ℕ) : Type 0 where
   pub is : IsListOf list entries
   pub other : AuthoritiesAreKeys is.sections → ⊥
 
--- why a list gives no answer: its first fault, or that memory ran out, or such an authority
+-- why a list gives no answer: its first fault, a failed allocation, or such an authority
 abbrev pub IsRefusal : List ℕ → Refusal → Type 0
 IsRefusal list (refusals.Fault fault) = (fault ≡ NoMemory) ⊎ IsFirstFault list (Some fault)
 IsRefusal list refusals.Authority = HasOtherAuthority list
 
--- A list has one row of entries at most, and one first fault, and not both.
+-- A list has at most one row of entries, and one first fault, and not both.
 pub record HasOne (list : List ℕ) : Type 0 where
   pub entries : (these others : List Entry) → IsListOf list these → IsListOf list others
       → these ≡ others
@@ -55,12 +55,12 @@ pub record HasOne (list : List ℕ) : Type 0 where
   pub none : (these : List Entry) (fault : KrlFault) → IsListOf list these
       → IsFirstFault list (Some fault) → ⊥
 
--- The question was answered: 1 exactly where the entries revoke what is asked, else 0.
+-- The query was answered: 1 exactly if the entries revoke the key of the query, otherwise 0.
 pub data Says (entries : List Entry) (asked : Subject) (number : ℤ) : Type 0 where
   names : Revoked entries asked → number ≡ revoked → Says entries asked number
   spares : ¬ Revoked entries asked → number ≡ fine → Says entries asked number
 
--- What entries answer about a blob.
+-- The answer of entries for a blob.
 pub data AnswersBlob (entries : List Entry) (blob : List ℕ) (number : ℤ) : Type 0 where
   said : (asked : Subject) → IsSubject blob asked → Says entries asked number
       → AnswersBlob entries blob number
@@ -68,7 +68,7 @@ pub data AnswersBlob (entries : List Entry) (blob : List ℕ) (number : ℤ) : T
       → AnswersBlob entries blob number
   ran_out : number ≡ no_memory → AnswersBlob entries blob number
 
--- What entries answer about the key of a line, as one of an authorized keys file.
+-- The answer of entries for the key of a line, in the format of an authorized keys file.
 pub data AnswersLine (entries : List Entry) (text : List ℕ) (number : ℤ) : Type 0 where
   of_key : (word blob comment : List ℕ) → IsKeyLine text word blob comment
       → AnswersBlob entries blob number → AnswersLine entries text number
@@ -76,8 +76,8 @@ pub data AnswersLine (entries : List Entry) (text : List ℕ) (number : ℤ) : T
       → AnswersLine entries text number
   line_ran_out : number ≡ no_memory → AnswersLine entries text number
 
--- What a list answers, by what its entries answer. Of a list that is refused the first fault is
--- answered. One that is read, but has an authority that is not compared, has a number of its own.
+-- The answer of a list, by the answer of its entries. The answer of a refused list is its first fault. A list that is
+-- read, but has an authority that cannot be compared, has a number of its own.
 pub data AnswersBy (Says : List Entry → ℤ → Type 0) (list : List ℕ) (number : ℤ) : Type 0 where
   answered : (entries : List Entry) → IsCompared list entries → Says entries number
       → AnswersBy Says list number
@@ -87,10 +87,10 @@ pub data AnswersBy (Says : List Entry → ℤ → Type 0) (list : List ℕ) (num
       → AnswersBy Says list number
   list_ran_out : number ≡ no_memory → AnswersBy Says list number
 
--- about a blob
+-- for a blob
 abbrev pub Answers : (list blob : List ℕ) → ℤ → Type 0
 Answers list blob = AnswersBy (λ entries. AnswersBlob entries blob) list
 
--- about the key of a line
+-- for the key of a line
 abbrev pub AnswersOfLine : (list text : List ℕ) → ℤ → Type 0
 AnswersOfLine list text = AnswersBy (λ entries. AnswersLine entries text) list

@@ -1,4 +1,4 @@
--- What is held of a list, by the entries that it means.
+-- The stored list, by the entries that it means.
 use Rattle.std.specs.Prelude.{◌≡◌, ℕ, ℤ, Bool, true, false, List}
 use Rattle.krl_held.specs.Revocations.{Revocations, Means, nothing}
 use Rattle.krl_held.specs.Entry.{Entry}
@@ -8,12 +8,12 @@ use Rattle.krl_c.specs.Number.{fine, not_loaded, refusal_number}
 use Rattle.krl_c.specs.declared.refusal.Refusal.{Refusal}
 use Rattle.krl_c.specs.declared.kept.Kept.{Kept}
 
--- a list was read, and what is held means these entries
+-- a list was read, and the stored list means these entries
 pub record Holds (loaded : Bool) (contents : Revocations) (entries : List Entry) : Type 0 where
   pub is_loaded : loaded ≡ true
   pub means : Means contents entries
 
--- What is held answers by the entries that it means, or that no list was read.
+-- The stored list answers by the entries that it means, or says that no list was read.
 pub record AnswersHeld (Says : List Entry → ℤ → Type 0) (kept : Kept) (number : ℤ) : Type 0 where
   pub answer : (entries : List Entry) → Holds kept.loaded kept.list entries → Says entries number
   pub none : kept.loaded ≡ false → number ≡ not_loaded
@@ -22,9 +22,9 @@ pub record AnswersHeld (Says : List Entry → ℤ → Type 0) (kept : Kept) (num
 abbrev pub unloaded : Kept
 unloaded = record { loaded = false; list = nothing }
 
--- What reading a list into a handle does: what is held is then what the list names, and has at most
--- four intervals of serials for each of its bytes, and no more bytes than it. Where it is refused,
--- by its first fault, for want of memory or for an authority, what was there stays.
+-- The result of reading a list into a handle: the stored list means the entries of the list, and has at most four
+-- intervals of serials for each of its bytes, and no more bytes than it. If the list is refused for its first fault, a
+-- failed allocation or an authority, the stored list stays unchanged.
 pub data Loads (list : List ℕ) (old new : Kept) (number : ℤ) : Type 0 where
   loaded : (entries : List Entry) → IsCompared list entries → Holds new.loaded new.list entries
       → HoldsAll list new.list entries → number ≡ fine → Loads list old new number

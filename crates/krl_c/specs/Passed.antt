@@ -1,12 +1,12 @@
--- What is kept of a list that passes.
+-- The stored part of a list that is streamed.
 use Rattle.std.specs.Prelude.{◌≤◌, length}
 use Rattle.krl_types.specs.Subject.{Subject}
 use Rattle.krl_held.specs.Questions.{Asked, subject_size}
 use Rattle.krl_held.specs.Revocations.{serials_in, stored}
 use Rattle.krl_held.specs.Scope.{IsWithin}
 
--- Nothing is kept but what was asked about: at most two serial numbers, two keys, and the bytes of
--- the key or certificate.
+-- Only the subject of the query is stored: at most two serial numbers, two keys, and the bytes of the key or
+-- certificate.
 pub record KeepsAsked (subject : Subject) (asked : Asked) : Type 0 where
   pub within : IsWithin asked.topics asked.found
   pub serials : serials_in asked.topics.sections ≤ 2

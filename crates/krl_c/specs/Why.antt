@@ -1,4 +1,4 @@
--- Why a list revokes what is asked: the reasons as the bits of a number.
+-- Why a list revokes the key of a query: the reasons as the bits of a number.
 use Rattle.std.specs.Prelude.{◌≡◌, ◌↔◌, ◌<◌, ◌+◌, ◌*◌, ◌^◌, ℕ, ℤ, pos, Bool, true, false, List, [], ◌∷◌}
 use Rattle.std.specs.Int.{bit_at}
 use Rattle.ssh_cert.specs.SubjectReading.{IsSubject, IsSubjectFault}
@@ -25,14 +25,13 @@ place_of reasons.SerialOfAll = 7
 place_of reasons.KeyId = 8
 place_of reasons.KeyIdOfAll = 9
 
--- Each bit says whether the entries revoke what is asked in the way of its reason. There are no
--- other bits.
+-- Each bit says whether the entries revoke the key of the query for its reason. There are no other bits.
 pub record HasReasons (entries : List Entry) (asked : Subject) (bits : ℕ) : Type 0 where
   pub reasons_are : (reason : Reason)
       → (bit_at bits (place_of reason) ≡ 1 ↔ IsReason entries asked reason)
   pub within : bits < 2 ^ 10
 
--- What entries say about a blob.
+-- The reasons of entries for a blob.
 pub data ExplainsBlob (entries : List Entry) (blob : List ℕ) (number : ℤ) : Type 0 where
   explained : (asked : Subject) (bits : ℕ) → IsSubject blob asked → HasReasons entries asked bits
       → number ≡ pos bits → ExplainsBlob entries blob number
@@ -40,7 +39,7 @@ pub data ExplainsBlob (entries : List Entry) (blob : List ℕ) (number : ℤ) : 
       → ExplainsBlob entries blob number
   ran_out : number ≡ no_memory → ExplainsBlob entries blob number
 
--- What a list says about a blob.
+-- The reasons of a list for a blob.
 abbrev pub Explains : (list blob : List ℕ) → ℤ → Type 0
 Explains list blob = AnswersBy (λ entries. ExplainsBlob entries blob) list
 
@@ -54,7 +53,7 @@ bit_of false = 0
 abbrev pub with_bit : ℕ → Bool → ℕ
 with_bit bits lowest = 2 * bits + bit_of lowest
 
--- the first one is lowest
+-- the first one is the lowest
 abbrev pub bits_in : List Bool → ℕ
 bits_in [] = 0
 bits_in (lowest ∷ others) = with_bit (bits_in others) lowest

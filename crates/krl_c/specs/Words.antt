@@ -54,7 +54,7 @@ key_words n =
     (if n == 13 then Some (key_fault_text (keys.Wire NotShortest)) else
     None)))))))))
 
--- by the number of a certificate's fault that is none of its keys'
+-- by the number of a certificate's fault that is not a fault of its keys
 abbrev pub cert_words : ℕ → Option (List ℕ)
 cert_words n =
     if n == 1 then Some (cert_fault_text certs.Wire) else
@@ -66,14 +66,14 @@ cert_words n =
     (if n == 9 then Some (cert_fault_text certs.Trailing) else
     None))))))
 
--- by the number of an answer that is no fault's
+-- by the number of an answer that is not a fault
 abbrev pub plain_words : ℕ → Option (List ℕ)
 plain_words n =
     if n == 1 then Some (codes "no memory") else
     (if n == 2 then Some (codes "no list is loaded") else
     None)
 
--- the head goes before what there is
+-- the head goes before the words, if there are any
 abbrev pub behind : List ℕ → Option (List ℕ) → Option (List ℕ)
 behind head None = None
 behind head (Some tail) = Some (head ++ tail)

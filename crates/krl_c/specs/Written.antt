@@ -1,8 +1,7 @@
 -- A text that is written to a buffer as snprintf writes it.
 use Rattle.std.specs.Prelude.{ℕ, List, [], ◌∷◌}
 
--- What the buffer holds then: as much of the text as leaves room for a zero byte, that byte, and
--- behind it what was there.
+-- The buffer then has as much of the text as leaves room for a zero byte, that byte, and its old bytes after it.
 abbrev pub written : List ℕ → List ℕ → List ℕ
 written text [] = []
 written [] (old ∷ olds) = 0 ∷ olds

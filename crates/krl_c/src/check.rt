@@ -1,4 +1,4 @@
-//! Asking a list about a blob while it passes: no more of it is held than was asked.
+//! Queries of a list for a blob while it is streamed: only the answers to the query are stored.
 
 ghost use Rattle.std.specs.Prelude.{◌≡◌, ◌⊎◌, ◌↔◌, List, IfOk, IfErr, IsTrue, OnOk};
 ghost use Rattle.krl_types.specs.declared.krl_fault.KrlFault.TheVariants.{NoMemory};
@@ -20,7 +20,7 @@ use span_sets::Held;
 use ssh_cert::{Subject, subject};
 use std::alloc::Global;
 
-// Asks a list about a blob.
+// Queries a list for a blob.
 pub(crate) fn ask_list(alloc: Global, list: &[u8], blob: &[u8]) -> i32
     ensures { Answers list.now blob.now result }
 {
@@ -37,7 +37,7 @@ pub(crate) fn ask_list(alloc: Global, list: &[u8], blob: &[u8]) -> i32
     }
 }
 
-// Asks a list about the key of a line.
+// Queries a list for the key of a line.
 pub(crate) fn ask_list_of_line(alloc: Global, list: &[u8], line: &[u8]) -> i32
     ensures { AnswersOfLine list.now line.now result }
 {
@@ -50,7 +50,7 @@ pub(crate) fn ask_list_of_line(alloc: Global, list: &[u8], line: &[u8]) -> i32
     }
 }
 
-// Whether a list revokes what is asked, or why it gives no answer.
+// Returns true if a list revokes the key of the query, or why it gives no answer.
 fn revokes(alloc: Global, list: &[u8], asked: &Subject) -> Result<bool, Refusal>
     ensures answer { IfOk result (λ revoked. (entries : List Entry)
         × IsCompared list.now entries × (IsTrue revoked ↔ Revoked entries asked.now)) }
@@ -68,7 +68,7 @@ fn revokes(alloc: Global, list: &[u8], asked: &Subject) -> Result<bool, Refusal>
     }
 }
 
-// Lets a list pass. Nothing of it is kept but what it says of what is asked.
+// Streams a list, and stores only the answers to the query.
 pub(crate) fn pass(alloc: Global, list: &[u8], asked: &Subject) -> Result<Findings<Held>, KrlFault>
     ensures found { IfOk result (λ findings. (entries : List Entry)
         × IsListOf list.now entries × MeansWithin (asked_in findings) findings.found entries) }
@@ -89,7 +89,7 @@ pub(crate) fn pass(alloc: Global, list: &[u8], asked: &Subject) -> Result<Findin
     }
 }
 
-// Reads a list, of which nothing is asked: why it gives no answer, if it gives none.
+// Reads a list without a query: returns why it gives no answer, if it gives none.
 pub(crate) fn judge(alloc: Global, list: &[u8]) -> Result<(), Refusal>
     ensures list { OnOk result ((entries : List Entry) × IsCompared list.now entries) }
     ensures refused { IfErr result (λ refusal. IsRefusal list.now refusal) }
@@ -106,7 +106,7 @@ pub(crate) fn judge(alloc: Global, list: &[u8]) -> Result<(), Refusal>
     }
 }
 
-// Reads a list, of which nothing is asked: its first fault, if it has one.
+// Reads a list without a query: returns its first fault, if it has one.
 fn pass_unasked(alloc: Global, list: &[u8]) -> Result<(), KrlFault>
     ensures list { OnOk result ((entries : List Entry) × IsListOf list.now entries) }
     ensures fault { IfErr result (λ fault.

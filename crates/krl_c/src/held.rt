@@ -1,4 +1,4 @@
-//! Asking about a blob what is held of a list.
+//! Queries of a stored list for a blob.
 
 ghost use Rattle.std.specs.Prelude.{List, IfOk, IfErr};
 ghost use Rattle.krl_held.specs.Revocations.{Means};
@@ -16,7 +16,7 @@ use span_sets::Held;
 use ssh_cert::subject;
 use std::alloc::Global;
 
-// What a list revokes, where each of its authorities is a key in its one spelling.
+// The entries of a list, if each of its authorities is a key in its one spelling.
 pub(crate) fn held_of(alloc: Global, list: &[u8]) -> Result<Revocations<Held>, Refusal>
     ensures found { IfOk result (λ held. (entries : List Entry)
         × IsCompared list.now entries × HoldsAll list.now held entries) }
@@ -35,7 +35,7 @@ pub(crate) fn held_of(alloc: Global, list: &[u8]) -> Result<Revocations<Held>, R
     }
 }
 
-// Asks what is held about a blob.
+// Queries the stored list for a blob.
 pub(crate) fn ask_held(alloc: Global, held: &Revocations<Held>, blob: &[u8]) -> i32
     ensures { (entries : List Entry) → Means held.now entries
         → AnswersBlob entries blob.now result }
@@ -46,7 +46,7 @@ pub(crate) fn ask_held(alloc: Global, held: &Revocations<Held>, blob: &[u8]) -> 
     }
 }
 
-// Asks what is held about the key of a line.
+// Queries the stored list for the key of a line.
 pub(crate) fn ask_held_of_line(alloc: Global, held: &Revocations<Held>, line: &[u8]) -> i32
     ensures { (entries : List Entry) → Means held.now entries
         → AnswersLine entries line.now result }

@@ -1,4 +1,4 @@
-//! What is held of a list, or that none was read.
+//! The stored list, or that none was read.
 
 ghost use Rattle.std.specs.Prelude.{◌≡◌};
 ghost use Rattle.krl_c.specs.Answer.{AnswersBlob, AnswersLine};
@@ -10,14 +10,14 @@ use krl_core::Revocations;
 use span_sets::Held;
 use std::alloc::Global;
 
-/// What is held of a list, and whether one was read.
+/// The stored list, and whether one was read.
 #[derive(Drop)]
 pub struct Kept {
     pub(crate) loaded: bool,
     pub(crate) list: Revocations<Held>,
 }
 
-// No list was read. Takes no memory.
+// No list was read. Does not allocate.
 pub(crate) fn empty(alloc: Global) -> Kept
     ensures { result ≡ unloaded }
 {
@@ -27,7 +27,7 @@ pub(crate) fn empty(alloc: Global) -> Kept
     }
 }
 
-// Asks what is held about a blob.
+// Queries the stored list for a blob.
 pub(crate) fn ask(alloc: Global, kept: &Kept, blob: &[u8]) -> i32
     ensures { AnswersHeld (λ entries. AnswersBlob entries blob.now) kept.now result }
 {
@@ -38,7 +38,7 @@ pub(crate) fn ask(alloc: Global, kept: &Kept, blob: &[u8]) -> i32
     }
 }
 
-// Asks what is held about the key of a line.
+// Queries the stored list for the key of a line.
 pub(crate) fn ask_of_line(alloc: Global, kept: &Kept, line: &[u8]) -> i32
     ensures { AnswersHeld (λ entries. AnswersLine entries line.now) kept.now result }
 {

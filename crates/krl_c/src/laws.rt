@@ -31,7 +31,7 @@ pub fn one_list()
     no_fault_where_spelled();
 }
 
-/// A list has one answer about a blob, but that memory may run out.
+/// A list has one answer for a blob, unless an allocation fails.
 pub fn one_answer()
     ensures { (list blob : List ℕ) (one other : ℤ) → IsBytes list → IsBytes blob
         → Answers list blob one → Answers list blob other
@@ -42,7 +42,7 @@ pub fn one_answer()
     not_asked_by_first_fault();
 }
 
-/// So it has about the key of a line.
+/// The same holds for the key of a line.
 pub fn one_answer_of_a_line()
     ensures { (list text : List ℕ) (one other : ℤ) → IsBytes list → IsBytes text
         → AnswersOfLine list text one → AnswersOfLine list text other
@@ -55,7 +55,8 @@ pub fn one_answer_of_a_line()
     line_refused_by_first_fault();
 }
 
-/// A loan of what a handle holds names no thread, so any thread may have it, and many at once.
+/// A loan of a handle's stored list does not depend on a thread, so any thread may have it, and
+/// many at the same time.
 pub fn lent_to_any_thread()
     ensures { (at : Ptr) (loan : Loan) → Keyless (is_lent at loan) }
 {}

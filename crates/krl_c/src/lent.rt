@@ -1,10 +1,10 @@
-//! Bytes that are lent, as a source whose buffer they are.
+//! Borrowed bytes, as a source whose buffer they are.
 
 ghost use Rattle.std.specs.Prelude.{◌≡◌, Some, false};
 
 use byte_streams::{Failed, Source};
 
-// Bytes that are lent, of which the rest is left. It never fails.
+// The rest of borrowed bytes. Reading never fails.
 #[derive(Drop)]
 pub(crate) struct Lent<'a> {
     rest: &'a [u8],

@@ -1,4 +1,4 @@
-//! The question of whether a key is revoked, for programs in other languages.
+//! Queries of a revocation list for a key, for programs in other languages.
 #![tactic(auto)]
 
 ghost use Rattle.std.specs.Prelude.{◌≡◌, length};
@@ -36,8 +36,8 @@ use why::explain_list;
 use words::{Words, words_for};
 use written::write;
 
-/// Whether a list revokes the key or the certificate of a blob: 0 where it does not, 1 where it
-/// does, and below zero why that is not known.
+/// Returns 1 if a list revokes the key or the certificate of a blob, 0 if it does not, and a number
+/// below zero that says why this is not known.
 #[unsafe(no_mangle)]
 pub extern "C" fn krl_check(alloc: Global, list: &[u8], blob: &[u8]) -> i32
     ensures { Answers list.now blob.now result }
@@ -45,7 +45,7 @@ pub extern "C" fn krl_check(alloc: Global, list: &[u8], blob: &[u8]) -> i32
     ask_list(alloc, list, blob)
 }
 
-/// The same of the key or the certificate of a line, as one of an authorized keys file.
+/// The same for the key or the certificate of a line, in the format of an authorized keys file.
 #[unsafe(no_mangle)]
 pub extern "C" fn krl_check_line(alloc: Global, list: &[u8], line: &[u8]) -> i32
     ensures { AnswersOfLine list.now line.now result }
@@ -53,8 +53,8 @@ pub extern "C" fn krl_check_line(alloc: Global, list: &[u8], line: &[u8]) -> i32
     ask_list_of_line(alloc, list, line)
 }
 
-/// Why a list revokes the key or the certificate of a blob: a bit for each reason, so 0 where it does
-/// not, and below zero why that is not known.
+/// Returns why a list revokes the key or the certificate of a blob: a bit for each reason, so 0 if
+/// it does not, and a number below zero that says why this is not known.
 #[unsafe(no_mangle)]
 pub extern "C" fn krl_why(alloc: Global, list: &[u8], blob: &[u8]) -> i32
     ensures { Explains list.now blob.now result }
@@ -62,7 +62,7 @@ pub extern "C" fn krl_why(alloc: Global, list: &[u8], blob: &[u8]) -> i32
     explain_list(alloc, list, blob)
 }
 
-/// Reads a list into a handle, for many questions. Where it is refused, what was there stays.
+/// Reads a list into a handle, for many queries. If it is refused, the handle stays unchanged.
 #[unsafe(no_mangle)]
 pub extern "C" fn krl_load(alloc: Global, krl: &mut Krl, list: &[u8]) -> i32
     ensures { Loads list.now krl.old.held krl.new.held result }
@@ -82,8 +82,8 @@ pub extern "C" fn krl_load(alloc: Global, krl: &mut Krl, list: &[u8]) -> i32
     }
 }
 
-/// Asks the list that was read into a handle about the key or the certificate of a blob. The
-/// handle is lent, and nothing of it changes: many calls may read it at once.
+/// Queries the list that was read into a handle for the key or the certificate of a blob. The
+/// handle is borrowed and does not change: many calls may read it at the same time.
 #[unsafe(no_mangle)]
 pub unsafe extern "C" fn krl_ask(alloc: Global, at: *const Handle, blob: &[u8]) -> i32
     ghost loan: { Loan }
@@ -94,7 +94,7 @@ pub unsafe extern "C" fn krl_ask(alloc: Global, at: *const Handle, blob: &[u8]) 
     ask(alloc, unsafe { &*(at as *const Kept) }, blob)
 }
 
-/// The same about the key or the certificate of a line.
+/// The same for the key or the certificate of a line.
 #[unsafe(no_mangle)]
 pub unsafe extern "C" fn krl_ask_line(alloc: Global, at: *const Handle, line: &[u8]) -> i32
     ghost loan: { Loan }
@@ -105,7 +105,7 @@ pub unsafe extern "C" fn krl_ask_line(alloc: Global, at: *const Handle, line: &[
     ask_of_line(alloc, unsafe { &*(at as *const Kept) }, line)
 }
 
-/// Gives back the memory of what a handle holds. The handle stays ready for another list.
+/// Frees the memory of a handle's stored list. The handle stays ready for another list.
 #[unsafe(no_mangle)]
 pub extern "C" fn krl_unload(alloc: Global, krl: &mut Krl)
     ensures { krl.new.held ≡ unloaded }
@@ -113,7 +113,7 @@ pub extern "C" fn krl_unload(alloc: Global, krl: &mut Krl)
     let _old = swap(krl, empty(alloc));
 }
 
-/// How many bytes a handle has.
+/// The size of a handle in bytes.
 #[unsafe(no_mangle)]
 pub extern "C" fn krl_size() -> usize
     ensures { result ≡ capped (size (layout the_row)) }
@@ -121,8 +121,8 @@ pub extern "C" fn krl_size() -> usize
     std::mem::size_of::<Kept>()
 }
 
-/// The words for an answer, written as snprintf does it. The result is how many bytes they have.
-/// Takes no memory.
+/// Writes the words for an answer as snprintf does. Returns their length in bytes. Does not
+/// allocate.
 #[unsafe(no_mangle)]
 pub extern "C" fn krl_fault_text(answer: i32, buffer: &mut [u8]) -> usize
     ensures length { result ≡ length (words answer) }

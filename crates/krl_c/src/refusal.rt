@@ -2,11 +2,11 @@
 
 use krl_core::KrlFault;
 
-/// The list is not read, or one of its authorities is no key in its one spelling.
+/// The list is not read, or one of its authorities is not a key in its one spelling.
 #[derive(Clone, Copy)]
 pub enum Refusal {
-    /// The list's first fault, or that memory ran out.
+    /// The list's first fault, or `NoMemory`.
     Fault(KrlFault),
-    /// The list is read, and names an authority in a spelling that is not compared.
+    /// The list is read, and has an authority in a spelling that cannot be compared.
     Authority,
 }

@@ -31,7 +31,7 @@ pub(crate) fn explain_list(alloc: Global, list: &[u8], blob: &[u8]) -> i32
     }
 }
 
-// The reasons why a list revokes what is asked, or why it gives no answer.
+// The reasons why a list revokes the key of the query, or why it gives no answer.
 fn explain(alloc: Global, list: &[u8], asked: &Subject) -> Result<Reasons, Refusal>
     ensures reasons { IfOk result (λ reasons. (entries : List Entry)
         × IsCompared list.now entries × ((reason : ReasonOf)
@@ -50,7 +50,7 @@ fn explain(alloc: Global, list: &[u8], asked: &Subject) -> Result<Reasons, Refus
     }
 }
 
-// The reasons as bits: the last one is highest.
+// The reasons as bits: the last one is the highest.
 fn bits_of(reasons: Reasons) -> u16
     ensures { result ≡ bits_in (flags_of reasons) }
 {

@@ -4,7 +4,7 @@ ghost use Rattle.std.specs.Prelude.{◌≡◌, ◌++◌, MatchOption, Some, None
 ghost use Rattle.krl_c.specs.Words.{cert_words, key_words, line_words, list_words, plain_words};
 ghost use Rattle.krl_c.specs.Words.{refusal, words};
 
-/// What no call answers.
+/// The words for a number that no call returns.
 const UNKNOWN: &str = "unknown answer";
 
 // The words in two pieces.
@@ -41,8 +41,8 @@ pub(crate) fn words_for(answer: i32) -> Words
     }
 }
 
-// Of an answer below zero without its sign: the hundreds say what was refused, and the last two
-// digits why.
+// The words for an answer below zero, by its number without the sign: the hundreds say what was
+// refused, and the last two digits why.
 fn refused(number: u32) -> Option<Words>
     ensures { MatchOption result (refusal number ≡ None)
         (λ words. refusal number ≡ Some (words.head.now ++ words.tail.now)) }
@@ -61,7 +61,7 @@ fn refused(number: u32) -> Option<Words>
     Some(Words { head, tail })
 }
 
-// Of an answer that is no fault's.
+// The words for an answer that is not a fault.
 fn plain_words(number: u32) -> Option<&'static str>
     ensures { MatchOption result (plain_words number ≡ None)
         (λ words. plain_words number ≡ Some words.now) }
@@ -73,7 +73,7 @@ fn plain_words(number: u32) -> Option<&'static str>
     }
 }
 
-// Of a list, by the last two digits.
+// The words for a list, by the last two digits.
 fn list_words(number: u32) -> Option<&'static str>
     ensures { MatchOption result (list_words number ≡ None)
         (λ words. list_words number ≡ Some words.now) }
@@ -98,7 +98,7 @@ fn list_words(number: u32) -> Option<&'static str>
     }
 }
 
-// Of a line, by the number of its fault.
+// The words for a line, by the number of its fault.
 fn line_words(number: u32) -> Option<&'static str>
     ensures { MatchOption result (line_words number ≡ None)
         (λ words. line_words number ≡ Some words.now) }
@@ -111,7 +111,7 @@ fn line_words(number: u32) -> Option<&'static str>
     }
 }
 
-// Of a key, by the last two digits.
+// The words for a key, by the last two digits.
 fn key_words(number: u32) -> Option<&'static str>
     ensures { MatchOption result (key_words number ≡ None)
         (λ words. key_words number ≡ Some words.now) }
@@ -131,7 +131,7 @@ fn key_words(number: u32) -> Option<&'static str>
     }
 }
 
-// Of a certificate, by the number of its fault: those of its keys have hundreds of their own.
+// The words for a certificate, by the number of its fault: its keys' faults have other hundreds.
 fn cert_words(number: u32) -> Option<&'static str>
     ensures { MatchOption result (cert_words number ≡ None)
         (λ words. cert_words number ≡ Some words.now) }

@@ -3,8 +3,8 @@
 ghost use Rattle.std.specs.Prelude.{◌≡◌, ◌++◌, ◌<◌, length};
 ghost use Rattle.krl_c.specs.Written.{written};
 
-// Writes two pieces of text, cut where the buffer is full, and a zero byte. The answer is how many
-// bytes the whole text has.
+// Writes two pieces of text, truncated if the buffer is full, and a zero byte. Returns the length
+// of the whole text in bytes.
 pub(crate) fn write(head: &[u8], tail: &[u8], buffer: &mut [u8]) -> usize
     ensures length { result ≡ length (head.now ++ tail.now) }
     ensures written { buffer.new ≡ written (head.now ++ tail.now) buffer.old }

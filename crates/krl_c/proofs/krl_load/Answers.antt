@@ -1,4 +1,4 @@
--- The list is held, or what was held stays.
+-- The list is stored, or the stored list stays unchanged.
 use Rattle.std.proofs.Common.{refl, rules, ◌∙◌}
 use mir.Syntax.{w32}
 use mir.Val.{SFits}

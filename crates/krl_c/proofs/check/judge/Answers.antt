@@ -1,4 +1,4 @@
--- A list that is read is judged by its authorities.
+-- A list that was read is accepted or refused by its authorities.
 use Rattle.std.proofs.Common.{sym, ◌∙◌}
 use Rattle.std.proofs.lemmas.Bool.{false≢true}
 use Rattle.krl_c.proofs.Saying.{compared, not_compared}

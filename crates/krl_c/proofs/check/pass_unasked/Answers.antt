@@ -1,4 +1,4 @@
--- The list passed, or its first fault is reported: bytes that are lent do not fail.
+-- The list was streamed to its end, or its first fault is reported: borrowed bytes do not fail.
 use Rattle.std.proofs.Common.{[]}
 use Rattle.krl_core.specs.Entries.{entries_of}
 use Rattle.krl_c.proofs.Saying.{first_of, of_list}

@@ -1,4 +1,4 @@
--- What passed answers what was asked, where the list's authorities can be compared.
+-- The findings answer the query, if the list's authorities can be compared.
 use Rattle.std.proofs.Common.{sym, ◌∙◌}
 use Rattle.std.proofs.lemmas.Bool.{false≢true}
 use Rattle.krl_c.proofs.Saying.{compared, not_compared}

@@ -1,4 +1,4 @@
--- `swap` reads what lies at the pointer and writes the other there.
+-- `swap` reads the value at the pointer and writes the other one there.
 use Rattle.std.proofs.Common.{◌≡◌, List, [], ◌∷◌, ◌++◌, refl, sym, ap, subst, ◌∙◌}
 use Rattle.std.proofs.raw_atomic.Walks.{proved_at}
 use lib.Dec.{T}
@@ -85,7 +85,8 @@ swap_spec 𝓤 𝓛 𝓜 𝓡 wired =
     rewrite ! 3 Cell (sym word) refl $
     move ! (1 ∷ 8 ∷ []) $ use2 𝓛 (‵ (part_at K full_share kept b' o')) (part_in 𝓛 K refl full_share kept b' o' u) $
     rewrite ! 0 (λ (p : Ptr). ‵ (lies_at K full_share p kept)) (sym e) refl $
-    -- [kept lies there; what the old value owns; the fields; the struct's cell; the open borrow, in three; the rest of krl]
+    -- [kept at the pointer; what the old value owns; the fields; the struct's cell; the open borrow, in three; the rest
+    -- of krl]
     move ! (2 ∷ 0 ∷ []) $ fjoin ! $ move ! (2 ∷ 0 ∷ 3 ∷ 4 ∷ 5 ∷ []) $ closes ! tt R (record h { held = kept }) ws b o $
     returns ! (look_at ! 0 refl) $ free_all ! refl $
     -- [krl, but for its first part, in two; the token; what the old value owns; the first part]

@@ -1,4 +1,4 @@
--- The list says whether it names what is asked, or the blob's fault is answered.
+-- The answer is whether the list names the key of the query, or the blob's fault.
 use Rattle.std.proofs.Common.{refl, rules, arith, ◌∙◌}
 use mir.Syntax.{w32}
 use mir.Val.{SFits}

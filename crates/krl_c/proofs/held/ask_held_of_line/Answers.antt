@@ -1,4 +1,4 @@
--- The key of the line is asked about, or the line's fault is answered.
+-- The list is queried for the key of the line, or the answer is the line's fault.
 use Rattle.std.proofs.Common.{rules, ◌∙◌}
 use mir.Syntax.{w32}
 use mir.Val.{SFits}

@@ -1,11 +1,11 @@
--- What is held may be read by many threads at once.
+-- Many threads may read the stored list at the same time.
 use base.Fml.{ftrue}
 use base.Shift.{Keyless}
 use denote.RawPtr.{Ptr, block_ptr, null_ptr, block_of, count_of, in_block}
 use Rattle.krl_c.proofs.kept.Kept.TheSendSync.{the_sync}
 use Rattle.krl_c.proofs.laws.lent_to_any_thread.Goals as goal
 
--- that a pointer is not null names no thread
+-- that a pointer is not null does not depend on a thread
 no_key : (p : Ptr) → Keyless (in_block p ftrue)
 no_key (block_ptr b o) = tt
 no_key null_ptr = tt

@@ -1,4 +1,4 @@
--- By one spelling, one first fault and one reading of the blob.
+-- The list has one spelling and one first fault, and the blob has one reading.
 use Rattle.ssh_cert.specs.SubjectReading.{subject_of}
 use Rattle.krl_c.proofs.Once.{blob_once, list_once}
 use Rattle.krl_c.proofs.laws.one_answer.Goals as goal

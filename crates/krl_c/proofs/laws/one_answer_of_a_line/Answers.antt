@@ -1,4 +1,4 @@
--- By one spelling, one first fault, and one reading of the line and of its blob.
+-- The list has one spelling and one first fault, and the line and its blob have one reading.
 use Rattle.ssh_cert.specs.SubjectReading.{subject_of}
 use Rattle.key_text.specs.LineReading.{line_at}
 use Rattle.krl_c.proofs.Once.{blob_once, line_once, list_once}

@@ -1,4 +1,4 @@
--- By one spelling and one first fault.
+-- The list has one spelling and one first fault.
 use Rattle.std.proofs.Common.{Some, None, sym, ap, subst, ◌∙◌}
 use Rattle.krl_authority.specs.Authority.{AuthoritiesAreKeys}
 use Rattle.krl_core.specs.Entries.{entries_of}

@@ -1,4 +1,4 @@
--- What passed gives the reasons of what was asked, where the list's authorities can be compared.
+-- The findings give the reasons for the query, if the list's authorities can be compared.
 use Rattle.std.proofs.Common.{sym, ◌∙◌}
 use Rattle.std.proofs.lemmas.Bool.{false≢true}
 use Rattle.krl_c.proofs.Saying.{compared, not_compared}

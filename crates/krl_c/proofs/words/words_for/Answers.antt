@@ -1,4 +1,4 @@
--- Below zero the number without its sign says it.
+-- Below zero, the words depend on the number without its sign.
 use Rattle.std.proofs.Common.{◌≡◌, ℤ, pos, negsuc, ◌<ℤ◌, unsigned_abs, sym, ap, ◌∙◌, refl, arith, rules}
 use Rattle.std.proofs.lemmas.Int.{ints, to_z-of_z}
 use mir.Syntax.{w32}

@@ -1,4 +1,4 @@
--- The text is cut so that the zero byte has room.
+-- The text is truncated so that there is room for the zero byte.
 use Rattle.krl_c.proofs.Laying.{ended}
 use Rattle.krl_c.proofs.written.end_with.Goals as goal
 

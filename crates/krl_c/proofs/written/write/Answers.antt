@@ -1,4 +1,4 @@
--- The first piece lies before what the rest writes.
+-- The first piece comes before the bytes that the rest writes.
 use Rattle.std.proofs.Common.{◌≡◌, ◌++◌, ◌<◌, length, drop, ap, ◌∙◌, arith}
 use Rattle.std.proofs.lemmas.Grind.{common_steps}
 use Rattle.std.proofs.lemmas.List.{length-take-le}

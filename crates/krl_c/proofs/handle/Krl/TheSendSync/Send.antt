@@ -1,4 +1,4 @@
--- What is held may go to another thread, and so the handle may.
+-- The stored list may be sent to another thread, and so the handle may be too.
 use base.Fraction.{full_share}
 use base.Shift.{Keyless}
 use denote.Exit.{Exit, unchanged, leaves, hidden, under}
@@ -16,7 +16,7 @@ still : {D X : Type 0} (part : D → X) (exit : Exit X) → Quiet exit → Quiet
 still part unchanged quiet = λ whole last. tt
 still part (leaves L l S s r) quiet = λ whole. quiet (part whole)
 
--- what lies at a pointer names no thread
+-- the memory at a pointer does not depend on a thread
 no_key : (p : Ptr) (x : K.Denot) → Keyless (lies_at K full_share p x)
 no_key (block_ptr b o) x = part_keyless K the_send full_share x b o
 no_key null_ptr x = tt
