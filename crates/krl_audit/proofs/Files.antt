@@ -1,4 +1,4 @@
--- What is said of whole files.
+-- The findings of whole files.
 use Rattle.std.proofs.Common.{◌≡◌, ℕ, ◌+◌, true, false, List, [], ◌∷◌, length, map, Option, None, Some, Result, Ok, Err, refl, sym, ap, ◌∙◌, arith}
 use Rattle.std.specs.List.{slice_split}
 use Rattle.std.proofs.lemmas.List.Splits.{length-slice_split}
@@ -70,7 +70,7 @@ pub told_refused : (reasons : Subject → Reasons) (shown : Shown) (name : List 
 unfolding file_items file_kinds
 told_refused reasons shown name refusal result old new before after told = record { carries = told.carries; counts = told.counts }
 
--- ---- where memory ran out
+-- ---- if an allocation failed
 
 some_part : (parts : List (List ℕ)) (n : ℕ) → length parts ≡ n + 1 → (line : List ℕ) × (after : List (List ℕ)) × (parts ≡ line ∷ after)
 some_part [] n e = absurd (omega arith)

@@ -1,4 +1,4 @@
--- What a key is found to be.
+-- The kind of a key.
 use Rattle.std.proofs.Common.{◌≡◌, ℕ, Bool, true, List, Result, Ok, Err, sym, ap, ◌∙◌}
 use Rattle.krl_types.specs.Subject.{Subject}
 use Rattle.krl_held.specs.Reasons.{any_reason}

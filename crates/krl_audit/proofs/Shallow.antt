@@ -1,4 +1,4 @@
--- The objects of findings nest three deep, and their numbers are counts.
+-- The objects of findings are nested three deep, and their numbers are counts.
 use Rattle.std.proofs.Common.{ℕ, ◌<◌, ◌^◌, Bool, true, false, List, [], ◌∷◌, ◌++◌, Option, None, Some, codes, nat_lt, if◌then◌else◌, arith}
 use Rattle.cert_listing.specs.Time.{instant_text}
 use Rattle.hex.specs.Hex.{encode_lower}

@@ -1,4 +1,4 @@
--- What a line gives, by what reading it gives.
+-- The outcome of a line, by the result of reading it.
 use Rattle.std.specs.List.{prefix_len, suffix_len}
 use Rattle.std.proofs.Common.{◌≡◌, ℕ, ◌-◌, length, not, Bool, true, false, List, None, Some, Err, Result, is_some, refl, ap, inl, inr}
 use Rattle.std.proofs.lemmas.Bool.{cases_Bool}

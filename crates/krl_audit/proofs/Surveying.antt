@@ -1,4 +1,4 @@
--- How many lines are not read.
+-- The number of lines that are not read.
 use Rattle.std.proofs.Common.{◌≡◌, ℕ, ◌+◌, List, [], ◌∷◌, map, Option, Some, None, sym, ap, ◌∙◌, arith}
 use Rattle.std.specs.List.{slice_split}
 use Rattle.key_text.specs.Lines.{is_newline}
@@ -12,7 +12,7 @@ last_more count = let same : count + 0 ≡ count = omega arith in ap Some same
 pub lines_of_split : (text line : List ℕ) (after : List (List ℕ)) → slice_split is_newline text ≡ line ∷ after → map outcome_of (slice_split is_newline text) ≡ outcome_of line ∷ map outcome_of after
 lines_of_split text line after split = ap (map outcome_of) split
 
--- a line more was counted
+-- one more line was counted
 pub counted_on : (all : Option ℕ) (count more : ℕ) (text line : List ℕ) (after : List (List ℕ)) → all ≡ more_unread count (unread_alone (map outcome_of (slice_split is_newline text)))
     → slice_split is_newline text ≡ line ∷ after → ((lines : List Outcome) → more_unread count (unread_alone (outcome_of line ∷ lines)) ≡ unread_with (Some more) lines)
     → all ≡ more_unread more (unread_alone (map outcome_of after))

@@ -1,4 +1,4 @@
--- What is said of lines, one after the other, and what is counted.
+-- The findings of lines, one after the other, and the counts.
 use Rattle.std.proofs.Common.{◌≡◌, ℕ, ◌+◌, Bool, true, false, List, [], ◌∷◌, map, Result, Ok, Err, refl, sym, ap, subst, ◌∙◌}
 use Rattle.std.specs.Prelude.{OnOk}
 use Rattle.std.specs.List.{slice_split}
@@ -26,7 +26,7 @@ item_by reasons shown name number outcome kind said text made =
     ap (λ (k : Kind). said_if (says shown k) name (outcome_line shown.form reasons name number outcome)) (sym made.kind_is)
     ∙ ap (λ (b : Bool). said_if b name (outcome_line shown.form reasons name number outcome)) (sym made.said_is)
 
--- the item of what was made
+-- the item of a line that was made
 item_is : (reasons : Subject → Reasons) (shown : Shown) (name : List ℕ) (number : ℕ) (outcome : Outcome) (kind : Kind) (said : Bool) (text : List ℕ) → IsMade reasons shown name number outcome kind said text
     → line_item reasons shown name number outcome ≡ said_if said name text
 item_is reasons shown name number outcome kind true text made = item_by reasons shown name number outcome kind true text made ∙ ap (said_of name) (sym (made.text_is refl))
@@ -49,7 +49,7 @@ one_line reasons shown name number outcome item result old new before after is c
   counts = counts;
 }
 
--- it was judged, and said where it is to be said
+-- the line was judged, and printed if it is to be printed
 pub told_line : (reasons : Subject → Reasons) (shown : Shown) (name : List ℕ) (number : ℕ) (outcome : Outcome) (kind : Kind) (said : Bool) (text : List ℕ) (result : Result (Unit {0}) RunFault) (old new : Printer) (before after : Counts)
     → IsMade reasons shown name number outcome kind said text → Carries (said_if said name text ∷ []) result old new → OnOk result (after ≡ counted before kind)
     → Told reasons shown name number (outcome ∷ []) result old new before after
@@ -58,7 +58,7 @@ told_line reasons shown name number outcome kind said text result old new before
     (item_is reasons shown name number outcome kind said text made) carries
     (subst (λ (k : Kind). OnOk result (after ≡ counted before k)) made.kind_is counts)
 
--- memory ran out
+-- an allocation failed
 pub told_memory : (reasons : Subject → Reasons) (shown : Shown) (name : List ℕ) (number : ℕ) (line : Outcome) (lines : List Outcome) (stop : RunFault) (now : Printer) (before after : Counts)
     → stop ≡ run_fault_of name causes.NoMemory → Told reasons shown name number (line ∷ lines) (Err stop) now now before after
 told_memory reasons shown name number line lines stop now before after is = record {

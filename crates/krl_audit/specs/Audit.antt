@@ -1,4 +1,4 @@
--- Auditing files: what is said of their lines, and what is counted.
+-- Auditing files: the findings of their lines, and the counts.
 use Rattle.std.specs.Borrow.{Bor}
 use Rattle.std.specs.Prelude.{◌≡◌, ℕ, ◌+◌, Bool, true, false, List, [], ◌∷◌, is_some, map, nat_lt, OnOk, Option, Some, None, Result, Ok, Err, if◌then◌else◌}
 use Rattle.key_text.specs.declared.marker.Marker.{Marker}
@@ -33,19 +33,19 @@ abbrev pub revoked_or_fine : Bool → Kind
 revoked_or_fine true = kinds.Revoked
 revoked_or_fine false = kinds.Fine
 
--- a key that its line calls revoked is no finding
+-- a key that its line marks as revoked is not a finding
 abbrev pub key_kind : Option Marker → Bool → Kind
 key_kind (Some markers.Revoked) revoked = kinds.Distrusted
 key_kind (Some markers.Authority) revoked = revoked_or_fine revoked
 key_kind None revoked = revoked_or_fine revoked
 
--- what a line is found to be
+-- the kind of a line
 abbrev pub kind_of : (Subject → Reasons) → Outcome → Kind
 kind_of reasons Blank = kinds.Blank
 kind_of reasons (Key found) = key_kind found.marker (any_reason (reasons found.asked))
 kind_of reasons (Unread why) = kinds.Unread
 
--- whether a line of this kind is named
+-- whether a line of this kind is printed
 abbrev pub says : Shown → Kind → Bool
 says shown kinds.Blank = false
 says shown kinds.Distrusted = false
@@ -59,12 +59,12 @@ key_said forms.Text name number found all =
     key_line name number found.blob found.comment found.asked all
 key_said forms.Json name number found all = json_line (key_object name number found all)
 
--- the line of what is not read
+-- the line for a line or file that is not read
 abbrev pub unread_said : Form → List ℕ → ℕ → Why → List ℕ
 unread_said forms.Text name number why = unread_line name number why
 unread_said forms.Json name number why = json_line (unread_object name number why)
 
--- the line that names it
+-- the line that is printed for an outcome
 abbrev pub outcome_line : Form → (Subject → Reasons) → List ℕ → ℕ → Outcome → List ℕ
 outcome_line form reasons name number Blank = []
 outcome_line form reasons name number (Key found) =
@@ -75,7 +75,7 @@ abbrev pub said_if : Bool → List ℕ → List ℕ → Item
 said_if true name text = said_of name text
 said_if false name text = Passed name
 
--- what is said of a line
+-- the item of a line
 abbrev pub line_item : (Subject → Reasons) → Shown → List ℕ → ℕ → Outcome → Item
 line_item reasons shown name number outcome =
     said_if (says shown (kind_of reasons outcome)) name
@@ -83,25 +83,25 @@ line_item reasons shown name number outcome =
 
 -- ---- files
 
--- what is said of lines, of which the first has this number
+-- the items of lines, of which the first has this number
 abbrev pub lines_items : (Subject → Reasons) → Shown → List ℕ → ℕ → List Outcome → List Item
 lines_items reasons shown name number [] = []
 lines_items reasons shown name number (line ∷ lines) =
     line_item reasons shown name number line ∷ lines_items reasons shown name (number + 1) lines
 
--- so many more
+-- this number more
 abbrev pub more_unread : ℕ → Option ℕ → Option ℕ
 more_unread more None = None
 more_unread more (Some count) = Some (more + count)
 
--- how many lines are not read, or none where one has a key
+-- the number of lines that are not read, or none if one has a key
 abbrev pub unread_alone : List Outcome → Option ℕ
 unread_alone [] = Some 0
 unread_alone (Blank ∷ lines) = unread_alone lines
 unread_alone (Key found ∷ lines) = None
 unread_alone (Unread why ∷ lines) = more_unread 1 (unread_alone lines)
 
--- the same where so many were counted before, or a key was found
+-- the same if this number was counted before, or a key was found
 abbrev pub unread_with : Option ℕ → List Outcome → Option ℕ
 unread_with None lines = None
 unread_with (Some count) lines = more_unread count (unread_alone lines)
@@ -110,8 +110,7 @@ abbrev pub many : Option ℕ → Option ℕ
 many None = None
 many (Some count) = if nat_lt 1 count then Some count else None
 
--- A file without a key, of whose lines several are not read, is as one that is not read: how many
--- these are.
+-- A file without a key in which several lines are not read is treated as one unread file: the number of these lines.
 unfoldable pub keyless : List Outcome → Option ℕ
 keyless lines = many (unread_alone lines)
 
@@ -120,12 +119,12 @@ abbrev pub or_whole : Option ℕ → List Outcome → List Outcome
 or_whole None lines = lines
 or_whole (Some count) lines = Unread (whys.NoKeys count) ∷ []
 
--- the number of the first line: 0 stands for the whole file
+-- the number of the first line: 0 represents the whole file
 abbrev pub first_number : Option ℕ → ℕ
 first_number None = 1
 first_number (Some count) = 0
 
--- what is said of a file, and what kinds of lines are counted: of its bytes, or why there are none
+-- the items of a file, and the kinds of lines that are counted: by its bytes, or why there are none
 unfoldable pub file_items : (Subject → Reasons) → Shown → List ℕ → Result (List ℕ) Refusal
     → List Item
 file_items reasons shown name (Err refusal) =
@@ -139,7 +138,7 @@ file_kinds reasons (Err refusal) = kinds.Unread ∷ []
 file_kinds reasons (Ok text) =
     let lines = outcomes text in map (kind_of reasons) (or_whole (keyless lines) lines)
 
--- ---- what was made of a line
+-- ---- the line that was made for an outcome
 
 pub record IsMade (reasons : Subject → Reasons) (shown : Shown) (name : List ℕ) (number : ℕ)
     (outcome : Outcome) (kind : Kind) (said : Bool) (text : List ℕ) : Type 0 where
@@ -156,22 +155,22 @@ content_of (Err refusal) = Err refusal
 abbrev pub JudgesAs : Judge → (Subject → Reasons) → Type 0
 JudgesAs judge reasons = (asked : Subject) → held_reasons judge.list.now asked ≡ reasons asked
 
--- Of these lines, the first of which has this number, all was said that is to be said after what
--- was said before, and all were counted; or the audit was stopped within them.
+-- Exactly the items of these lines, of which the first has this number, were printed after the earlier ones, and all
+-- lines were counted; or the audit was stopped within them.
 pub record Told (reasons : Subject → Reasons) (shown : Shown) (name : List ℕ) (number : ℕ)
     (lines : List Outcome) (result : Result (Unit {0}) RunFault) (old new : Printer)
     (before after : Counts) : Type 0 where
   pub carries : Carries (lines_items reasons shown name number lines) result old new
   pub counts : OnOk result (after ≡ all_counted before (map (kind_of reasons) lines))
 
--- The same of a file.
+-- The same for a file.
 pub record ToldFile (reasons : Subject → Reasons) (shown : Shown) (name : List ℕ)
     (content : Result (List ℕ) Refusal) (result : Result (Unit {0}) RunFault) (old new : Printer)
     (before after : Counts) : Type 0 where
   pub carries : Carries (file_items reasons shown name content) result old new
   pub counts : OnOk result (after ≡ all_counted before (file_kinds reasons content))
 
--- The audit ended as a run over its items does, with the status of what was counted.
+-- The audit ended as a run over its items does, with the status of its counts.
 pub record EndsAudit (run : List Item) (counts : Counts) (before after : Option (List ℕ))
     (failed : Bool) (status : ℕ) (fault : Option RunFault) : Type 0 where
   pub plain : ℕ

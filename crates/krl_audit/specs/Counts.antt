@@ -1,4 +1,4 @@
--- What is counted of lines, and the exit status.
+-- The counts of lines, and the exit status.
 use Rattle.std.specs.Prelude.{ℕ, ◌+◌, ◌-◌, ◌^◌, Bool, true, false, List, [], ◌∷◌, min, nat_lt, if◌then◌else◌}
 use Rattle.krl_audit.specs.declared.counts.Counts.{Counts}
 use Rattle.krl_audit.specs.declared.counts.Kind.{Kind}
@@ -19,7 +19,7 @@ abbrev pub is_unread_kind : Kind → Bool
 is_unread_kind kinds.Unread = true
 is_unread_kind _ = false
 
--- a count that ends at the greatest number that it can have
+-- a count that stops at its maximum
 abbrev pub one_more : ℕ → Bool → ℕ
 one_more count is_one = if is_one then min (count + 1) (2 ^ 64 - 1) else count
 
@@ -35,7 +35,7 @@ abbrev pub all_counted : Counts → List Kind → Counts
 all_counted counts [] = counts
 all_counted counts (kind ∷ kinds) = all_counted (counted counts kind) kinds
 
--- the exit status, where the audit was stopped or not
+-- the exit status, whether the audit was stopped or not
 abbrev pub audit_status : Bool → Counts → ℕ
 audit_status stopped counts =
     if stopped then 255

@@ -1,4 +1,4 @@
--- What is before the key of a line: host names, an options field, or nothing.
+-- The text before the key of a line: host names, an options field, or nothing.
 use Rattle.std.specs.Prelude.{ℕ, ◌-◌, ◌||◌, Bool, List, [], codes, is_some, length, nat_eq, take, Option, Some, None}
 use Rattle.std.specs.List.{ends_with}
 use Rattle.key_text.specs.Blanks.{before_ending, trimmed}
@@ -9,17 +9,17 @@ abbrev pub front_before : List ℕ → Option (List ℕ) → List ℕ
 front_before line None = []
 front_before line (Some part) = before_ending (take (length line - length part) line)
 
--- what is before the type name of a line without its marker, without the blanks around it
+-- the text before the type name of a line without its marker, without the blanks around it
 unfoldable pub front_of : List ℕ → List ℕ
 front_of text = front_before (trimmed text) (key_part (trimmed text))
 
--- whether the name of a file says that its lines are of known hosts
+-- whether the lines of a file with this name are of known hosts
 unfoldable pub is_known_hosts : List ℕ → Bool
 is_known_hosts name =
     ends_with nat_eq name (codes "known_hosts")
     || (ends_with nat_eq name (codes "known_hosts2")
     || ends_with nat_eq name (codes "known_hosts.old"))
 
--- whether what is before a key is host names: only a line of known hosts has a marker
+-- whether the text before a key is host names: only a line of known hosts has a marker
 abbrev pub has_hosts : List ℕ → Option Marker → Bool
 has_hosts name marker = is_some marker || is_known_hosts name

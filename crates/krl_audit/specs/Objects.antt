@@ -30,7 +30,7 @@ use Rattle.krl_audit.specs.declared.why.Refusal.TheVariants as refusals
 use Rattle.krl_audit.specs.declared.why.Why.{Why}
 use Rattle.krl_audit.specs.declared.why.Why.TheVariants as whys
 
--- the name of a file, and the number of a line of it; 0 stands for the whole file
+-- the name of a file, and the number of a line of it; 0 represents the whole file
 abbrev pub place_fields : List ℕ → ℕ → List Field
 place_fields name number =
     word_field (codes "file") name
@@ -38,7 +38,7 @@ place_fields name number =
 
 -- ---- reasons
 
--- a value where it is said
+-- a value, if its reason holds
 unfoldable pub value_if : Bool → Json → List Json
 value_if true value = value ∷ []
 value_if false value = []
@@ -119,7 +119,7 @@ abbrev pub front_fields : Bool → List ℕ → List Field
 front_fields hosts [] = []
 front_fields hosts (byte ∷ bytes) = text_field (front_word hosts) (byte ∷ bytes) ∷ []
 
--- what else is on the line
+-- the rest of the line
 abbrev pub line_fields : List ℕ → Option Marker → List ℕ → List Field
 line_fields name marker front =
     marker_fields marker ++ front_fields (has_hosts name marker) front
@@ -151,7 +151,7 @@ key_object name number found all =
     ++ (key_fields found.blob found.comment found.asked all
     ++ (line_fields name found.marker found.front ++ list_fields found.asked all)))
 
--- ---- what is not read
+-- ---- lines and files that are not read
 
 -- A file that is refused before its first byte is one that cannot be opened.
 abbrev pub refusal_fault : Refusal → FileFault
@@ -177,13 +177,13 @@ why_fields why =
     ∷ word_field (codes "fault") (why_fault why)
     ∷ text_field (codes "why") (why_text why) ∷ []
 
--- the object of what is not read: nothing of the line itself is in it
+-- the object of a line or file that is not read: it has no text of the line itself
 abbrev pub unread_object : List ℕ → ℕ → Why → Json
 unread_object name number why = object_of (place_fields name number ++ why_fields why)
 
 -- ---- the end
 
--- the list that was asked: its name, version and date, and the SHA-256 of its bytes
+-- the list of the audit: its name, version and date, and the SHA-256 of its bytes
 abbrev pub list_facts : ListFacts → List Field
 list_facts list =
     word_field (codes "file") list.name.now
@@ -201,7 +201,7 @@ count_fields files counts =
     ∷ number_field (codes "revoked") counts.revoked
     ∷ number_field (codes "unread") counts.unread ∷ []
 
--- the last object of an audit that nothing stopped
+-- the last object of an audit that was not stopped
 abbrev pub done_object : ℕ → Counts → ListFacts → Json
 done_object files counts list =
     object_of (word_field (codes "status") (codes "done")

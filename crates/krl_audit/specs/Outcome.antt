@@ -1,4 +1,4 @@
--- What each line of a file of keys gives: nothing, a key, or why it is not read.
+-- The outcome of each line of a file of keys: nothing, a key, or why it is not read.
 use Rattle.std.specs.Prelude.{◌≡◌, ℕ, List, [], ◌∷◌, drop, map, nat_eq, Option, Some, None, Result, Ok, Err, if◌then◌else◌}
 use Rattle.std.specs.List.{slice_split, starts_with}
 use Rattle.ssh_cert.specs.SubjectReading.{IsAsked, subject_of}
@@ -23,8 +23,7 @@ use Rattle.krl_audit.specs.declared.outcome.Outcome.TheVariants as given
 use Rattle.krl_audit.specs.declared.why.Why.{Why}
 use Rattle.krl_audit.specs.declared.why.Why.TheVariants as whys
 
--- A key: what its line says of it, what is before it, its bytes, its comment, and what a list is
--- asked about it.
+-- A key: its marker, the text before it, its bytes, its comment, and the query for it.
 pub record Found : Type 0 where
   pub marker : Option Marker
   pub front : List ℕ
@@ -38,7 +37,7 @@ pub data Outcome : Type 0 where
   Key : Found → Outcome
   Unread : Why → Outcome
 
--- what bytes give, by what they ask of a list
+-- the outcome of the bytes of a key, by the query that they make
 abbrev pub asked_outcome : Option Marker → (front blob comment : List ℕ)
     → Result Subject SubjectFault → Outcome
 asked_outcome marker front blob comment (Ok asked) =
@@ -56,7 +55,7 @@ line_outcome marker front (Ok line) =
     asked_outcome marker front line.blob line.comment (subject_of line.blob)
 line_outcome marker front (Err fault) = Unread (whys.Line fault)
 
--- what a line gives
+-- the outcome of a line
 unfoldable pub outcome_of : List ℕ → Outcome
 outcome_of text =
     if has_key text
@@ -64,7 +63,7 @@ outcome_of text =
 
 -- ---- private key files
 
--- the public key of one that is encrypted, which has no comment in clear
+-- the public key of one that is encrypted, whose comment is encrypted too
 abbrev pub with_no_comment : Result (List ℕ) PrivateFault → Result Opened PrivateFault
 with_no_comment (Ok blob) = Ok (record { blob = blob; comment = [] })
 with_no_comment (Err fault) = Err fault
@@ -94,15 +93,15 @@ order_mark = 239 ∷ 187 ∷ 191 ∷ []
 unfoldable pub without_mark : List ℕ → List ℕ
 without_mark text = if starts_with nat_eq text order_mark then drop 3 text else text
 
--- what the lines of a file give, one outcome for each; a private key file is as one line
+-- the outcomes of the lines of a file, one for each; a private key file counts as one line
 unfoldable pub outcomes : List ℕ → List Outcome
 outcomes text =
     if begins_container text then private_outcome (opened_at text) ∷ []
     else map outcome_of (slice_split is_newline (without_mark text))
 
--- ---- what was found out
+-- ---- the result of reading
 
--- the key that was found, and what a list is asked about it
+-- the key that was found, and the query for it
 abbrev pub found_as : KeyFound → Subject → Found
 found_as found asked =
     record {
@@ -121,7 +120,7 @@ GivesOutcome (given.Key found) outcome =
     × (outcome ≡ Key (found_as found asked)))
 GivesOutcome (given.Unread why) outcome = outcome ≡ Unread why
 
--- A list can be asked, or this is why not.
+-- A list can be queried for the bytes, or this is why not.
 abbrev pub SaysFault : Option SubjectFault → Result Subject SubjectFault → Type 0
 SaysFault None read = IsAsked read
 SaysFault (Some fault) read = read ≡ Err fault

@@ -1,4 +1,4 @@
--- What a list names of a certificate beside keys, as fields.
+-- The names of a certificate in a list, besides keys, as fields.
 use Rattle.std.specs.Prelude.{ℕ, List, [], ◌∷◌, codes}
 use Rattle.json_lines.specs.Field.{Field, word_field}
 use Rattle.krl_audit.specs.Objects.{id_field, serial_field}

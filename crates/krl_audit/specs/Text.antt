@@ -13,14 +13,14 @@ use Rattle.krl_audit.specs.Visible.{visible}
 use Rattle.krl_audit.specs.Why.{why_text}
 use Rattle.krl_audit.specs.declared.why.Why.{Why}
 
--- the name of a file, and the number of a line of it; 0 stands for the whole file
+-- the name of a file, and the number of a line of it; 0 represents the whole file
 abbrev pub place_text : List ℕ → ℕ → List ℕ
 place_text name number =
     visible false name ++ (if nat_lt 0 number then codes ":" ++ decimal number else [])
 
 -- ---- reasons
 
--- words where they are said
+-- words, if their reason holds
 unfoldable pub word_if : Bool → List ℕ → List ℕ
 word_if true words = words
 word_if false words = []
@@ -102,7 +102,7 @@ key_line name number blob comment asked all =
     ++ (key_words blob asked
     ++ (reasons_text asked all ++ (comment_words comment ++ 10 ∷ []))))
 
--- the line of what is not read
+-- the line for a line or file that is not read
 abbrev pub unread_line : List ℕ → ℕ → Why → List ℕ
 unread_line name number why =
     place_text name number ++ (codes ": unread: " ++ (why_text why ++ 10 ∷ []))

@@ -15,7 +15,7 @@ visible_char quoted code =
     if is_control code then numbered code
     else if quoted && (code == 34 || code == 92) then 92 ∷ code ∷ [] else encode_utf8 code
 
--- a byte of what is no UTF-8
+-- a byte of a text that is not UTF-8
 unfoldable pub visible_byte : Bool → ℕ → List ℕ
 visible_byte quoted byte = if nat_lt byte 128 then visible_char quoted byte else numbered byte
 

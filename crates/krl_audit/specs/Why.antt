@@ -1,4 +1,4 @@
--- The words for what is not read.
+-- The words for why a line or a file is not read.
 use Rattle.std.specs.Prelude.{ℕ, List, ◌++◌, codes, decimal}
 use Rattle.ssh_cert.specs.SubjectFault.{subject_fault_text}
 use Rattle.key_text.specs.PrivateFault.{private_fault_text}

@@ -30,21 +30,21 @@ use key_text::{Private, is_container, split_line};
 // The byte order mark of UTF-8.
 const ORDER_MARK: &[u8] = b"\xef\xbb\xbf";
 
-/// What audits files: a list that is asked, what prints, and what was counted.
+/// Audits files: has the list for the queries, the printer and the counts.
 #[derive(Drop)]
 pub struct Auditor<'q, 'w, W: Sink> {
-    /// The list, and what is named.
+    /// The list, and which findings are printed.
     pub judge: Judge<'q>,
-    /// What prints.
+    /// The printer.
     pub run: Run<'w, W>,
-    /// What was counted.
+    /// The counts so far.
     pub counts: Counts,
 }
 
 impl<'q, 'w, W: Sink> Auditor<'q, 'w, W> {
-    /// Audits a file, of which these are the bytes or why there are none: says what is to be said
-    /// of each of its lines after what was said before, and counts them. Each fact is one of the
-    /// list's entries and of the bytes.
+    /// Audits a file, given its bytes or why there are none: prints the findings of each of its
+    /// lines after the earlier findings, and counts the lines. Each finding depends only on the
+    /// list's entries and on the bytes.
     pub fn audit_file<'a>(
         &mut self,
         name: &'a str,
@@ -61,7 +61,7 @@ impl<'q, 'w, W: Sink> Auditor<'q, 'w, W> {
         }
     }
 
-    // The same of bytes.
+    // The same for bytes.
     fn audit_text<'a>(&mut self, name: &'a str, text: &[u8]) -> Result<(), RunFault<'a>>
         ensures told { (reasons : SubjectOf → ReasonsOf) → JudgesAs self.old.judge reasons
             → ToldFile reasons self.old.judge.shown name.now (Ok text.now) result
@@ -79,7 +79,7 @@ impl<'q, 'w, W: Sink> Auditor<'q, 'w, W> {
         }
     }
 
-    // The same of each line.
+    // The same for each line.
     fn audit_lines<'a>(&mut self, name: &'a str, text: &[u8]) -> Result<(), RunFault<'a>>
         ensures told { (reasons : SubjectOf → ReasonsOf) → JudgesAs self.old.judge reasons
             → Told reasons self.old.judge.shown name.now 1
@@ -101,7 +101,7 @@ impl<'q, 'w, W: Sink> Auditor<'q, 'w, W> {
         }
     }
 
-    // Says what is to be said of a line, and counts it.
+    // Prints the finding of a line, if it is to be printed, and counts it.
     fn say_line<'a>(&mut self, place: Place<'a>, line: &[u8]) -> Result<(), RunFault<'a>>
         ensures told { (reasons : SubjectOf → ReasonsOf) → JudgesAs self.old.judge reasons
             → Told reasons self.old.judge.shown place.entry.name.now place.entry.number
@@ -115,7 +115,7 @@ impl<'q, 'w, W: Sink> Auditor<'q, 'w, W> {
         }
     }
 
-    // Says what is to be said of an outcome, and counts it.
+    // Prints the finding of an outcome, if it is to be printed, and counts it.
     fn say<'a>(&mut self, place: Place<'a>, outcome: &Outcome<'_>) -> Result<(), RunFault<'a>>
         ensures told { (given : OutcomeOf) → GivesOutcome outcome.now given
             → (reasons : SubjectOf → ReasonsOf) → JudgesAs self.old.judge reasons
@@ -134,7 +134,7 @@ impl<'q, 'w, W: Sink> Auditor<'q, 'w, W> {
         Ok(())
     }
 
-    // The same of a private key file.
+    // The same for a private key file.
     fn audit_private<'a>(&mut self, name: &'a str, text: &[u8]) -> Result<(), RunFault<'a>>
         ensures told { (reasons : SubjectOf → ReasonsOf) → JudgesAs self.old.judge reasons
             → Told reasons self.old.judge.shown name.now 1
@@ -153,7 +153,7 @@ impl<'q, 'w, W: Sink> Auditor<'q, 'w, W> {
         }
     }
 
-    // Says that a file is not read, and counts it.
+    // Prints that a file is not read, if it is to be printed, and counts it.
     fn say_unread<'a>(&mut self, name: &'a str, why: Why) -> Result<(), RunFault<'a>>
         ensures told { (reasons : SubjectOf → ReasonsOf) → JudgesAs self.old.judge reasons
             → Told reasons self.old.judge.shown name.now 0 (UnreadOf why ∷ []) result
@@ -163,8 +163,8 @@ impl<'q, 'w, W: Sink> Auditor<'q, 'w, W> {
         self.say(Place { name, number: 0 }, &Outcome::Unread(why))
     }
 
-    /// Says the last object of an audit that nothing stopped: how many files there were, what was
-    /// counted, and the list.
+    /// Prints the last object of an audit that was not stopped: the number of files, the counts,
+    /// and the list.
     pub fn say_done<'a>(&mut self, files: u64, list: &ListFacts<'a>) -> Result<(), RunFault<'a>>
         ensures said { Carries (said_of list.now.name.now
             (json_line (done_object files self.old.counts list.now)) ∷ []) result
@@ -176,7 +176,7 @@ impl<'q, 'w, W: Sink> Auditor<'q, 'w, W> {
         self.run.say_line(list.name, made)
     }
 
-    /// Ends an audit, which a fault stopped or not: sends what waits.
+    /// Ends an audit, whether a fault stopped it or not: sends the waiting output.
     pub fn finish<'a>(&mut self, stop: Option<RunFault<'a>>) -> Done<'a>
         ensures ends { (before : Option (List ℕ)) (run : List Item)
             → Reaches before run stop.entry self.old.run.printer
@@ -192,7 +192,7 @@ impl<'q, 'w, W: Sink> Auditor<'q, 'w, W> {
     }
 }
 
-// Says the line that was made, where it is to be said.
+// Prints the line that was made, if it is to be printed.
 fn say_made<'a, W: Sink>(run: &mut Run<W>, name: &'a str, said: bool) -> Result<(), RunFault<'a>>
     ensures { Carries (said_if said name.now run.old.line.items ∷ []) result run.old.printer
         run.new.printer }

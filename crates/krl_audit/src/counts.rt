@@ -1,14 +1,14 @@
-//! What is counted of lines.
+//! The counts of lines.
 
 ghost use Rattle.std.specs.Prelude.{◌≡◌};
 ghost use Rattle.krl_audit.specs.Counts.{audit_status, counted, is_key, one_more};
 
-/// What a line is found to be.
+/// The kind of a line.
 #[derive(Clone, Copy, PartialEq, Eq)]
 pub enum Kind {
     /// Blank, or a comment.
     Blank,
-    /// A key of which the line says that it is revoked.
+    /// A key that its line marks as revoked.
     Distrusted,
     /// A key that the list does not revoke.
     Fine,
@@ -18,7 +18,7 @@ pub enum Kind {
     Unread,
 }
 
-/// How many there were.
+/// The number of keys and of lines that are not read.
 #[derive(Clone, Copy)]
 pub struct Counts {
     /// Keys, revoked or not.
@@ -48,8 +48,8 @@ impl Counts {
         }
     }
 
-    /// The exit status of an audit that counted these, and that a fault stopped or not: 255 where
-    /// it was stopped, else 1 where a key is revoked, else 3 where something is not read, else 0.
+    /// The exit status of an audit with these counts, which a fault stopped or not: 255 if it was
+    /// stopped, otherwise 1 if a key is revoked, otherwise 3 if something is not read, otherwise 0.
     pub fn status(self, stopped: bool) -> u8
         ensures { result ≡ audit_status stopped self }
     {
@@ -65,7 +65,7 @@ impl Counts {
     }
 }
 
-// A count, and one more where it is one of them.
+// A count, and one more if it includes this line.
 fn one_more(count: u64, is_one: bool) -> u64
     ensures { result ≡ one_more count is_one }
 {
@@ -76,7 +76,7 @@ fn one_more(count: u64, is_one: bool) -> u64
     }
 }
 
-// Whether a line has a key.
+// Returns true if a line has a key.
 fn is_key(kind: Kind) -> bool
     ensures { result ≡ is_key kind }
 {

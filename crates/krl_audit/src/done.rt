@@ -10,14 +10,14 @@ use json::Token;
 use json_lines::{LineWriter, put_digits, put_number, put_text, put_word};
 use std::alloc::{AllocError, Global};
 
-/// What is said of the list that was asked.
+/// The facts about the list of the audit.
 #[derive(Clone, Copy)]
 pub struct ListFacts<'a> {
     /// The name of its file.
     pub name: &'a str,
     /// Its version.
     pub version: u64,
-    /// When it was made, in seconds from 1970 on.
+    /// When it was made, in seconds since 1970.
     pub generated: u64,
     /// The SHA-256 of its bytes.
     pub sha256: [u8; 32],
@@ -41,7 +41,7 @@ pub(crate) fn write_done(
     Ok(())
 }
 
-// Writes what was counted.
+// Writes the counts.
 fn put_counts(out: &mut LineWriter, files: u64, counts: Counts) -> Result<(), AllocError>
     ensures { OnOk result (out.new ≡ out.old ++ fields_tokens (count_fields files counts)) }
 {
@@ -52,7 +52,7 @@ fn put_counts(out: &mut LineWriter, files: u64, counts: Counts) -> Result<(), Al
     Ok(())
 }
 
-// Writes what is said of a list.
+// Writes the facts about a list.
 fn put_list_facts(
     alloc: Global,
     out: &mut LineWriter,

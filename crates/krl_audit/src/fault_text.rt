@@ -1,4 +1,4 @@
-//! The fault of what is not read.
+//! The fault of a line or file that is not read.
 
 ghost use Rattle.std.specs.Prelude.{◌≡◌, IfOk, string_bytes};
 ghost use Rattle.krl_audit.specs.Objects.{refusal_fault, why_fault};

@@ -1,4 +1,4 @@
-//! What is before the key of a line.
+//! The text before the key of a line.
 
 ghost use Rattle.std.specs.Prelude.{◌≡◌, ◌-◌, length, take};
 ghost use Rattle.key_text.specs.Blanks.{before_ending};
@@ -6,7 +6,7 @@ ghost use Rattle.krl_audit.specs.Front.{front_of, has_hosts, is_known_hosts};
 
 use key_text::{Marker, after_blanks, before_ending, key_part};
 
-/// What is before the type name of a line without its marker: host names, an options field, or
+/// The text before the type name of a line without its marker: host names, an options field, or
 /// nothing.
 #[tactic(auto, unfolding(crate::specs::Front::front_of, key_text::specs::Blanks::trimmed))]
 pub(crate) fn front_of(line: &[u8]) -> &[u8]
@@ -19,21 +19,22 @@ pub(crate) fn front_of(line: &[u8]) -> &[u8]
     }
 }
 
-// A line without so many bytes at its end, and without blanks before them.
+// A line without this number of bytes at its end, and without blanks before them.
 fn front_before(line: &[u8], rest: usize) -> &[u8]
     ensures { result.now ≡ before_ending (take (length line.now - rest) line.now) }
 {
     before_ending(&line[..line.len().saturating_sub(rest)])
 }
 
-/// Whether what is before a key is host names, by the name of the file and the marker of the line.
+/// Returns true if the text before a key is host names, by the name of the file and the marker of
+/// the line.
 pub(crate) fn has_hosts(name: &str, marker: Option<Marker>) -> bool
     ensures { result ≡ has_hosts name.now marker }
 {
     marker.is_some() || is_known_hosts(name.as_bytes())
 }
 
-// Whether the name of a file says that its lines are of known hosts.
+// Returns true if the lines of a file with this name are of known hosts.
 #[tactic(auto, unfolding(crate::specs::Front::is_known_hosts))]
 fn is_known_hosts(name: &[u8]) -> bool
     ensures { result ≡ is_known_hosts name.now }

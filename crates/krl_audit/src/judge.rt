@@ -1,4 +1,4 @@
-//! What a list says of a key, and what is shown of it.
+//! The answer of a list for a key, and whether it is printed.
 
 ghost use Rattle.std.specs.Prelude.{◌≡◌, IfOk};
 ghost use Rattle.krl_types.specs.Subject.{Subject as SubjectOf};
@@ -18,7 +18,7 @@ use span_sets::Held;
 use ssh_cert::read_any;
 use std::alloc::{AllocError, Global};
 
-/// How lines are said.
+/// The form in which findings are printed.
 #[derive(Clone, Copy, PartialEq, Eq)]
 pub enum Form {
     /// For people.
@@ -27,27 +27,27 @@ pub enum Form {
     Json,
 }
 
-/// What is named, and how.
+/// Which findings are printed, and how.
 #[derive(Clone, Copy)]
 pub struct Shown {
-    /// Whether revoked keys, and what is not read, are named.
+    /// Print revoked keys, and lines and files that are not read.
     pub findings: bool,
-    /// Whether keys that are not revoked are named.
+    /// Print keys that are not revoked.
     pub fine: bool,
-    /// How they are named.
+    /// The form in which they are printed.
     pub form: Form,
 }
 
-/// A list that is asked, and what is named.
+/// The list for the queries, and which findings are printed.
 #[derive(Clone, Copy)]
 pub struct Judge<'q> {
     /// The list.
     pub list: &'q Revocations<Held>,
-    /// What is named.
+    /// Which findings are printed.
     pub shown: Shown,
 }
 
-/// What a line is found to be, and whether it is named: then its line was made.
+/// The kind of a line, and whether it is printed: then its text was made.
 #[derive(Clone, Copy)]
 pub(crate) struct Made {
     pub(crate) kind: Kind,
@@ -55,7 +55,7 @@ pub(crate) struct Made {
 }
 
 impl<'q> Judge<'q> {
-    /// Judges an outcome, and makes its line where it is named.
+    /// Judges an outcome, and makes its line if it is printed.
     pub(crate) fn judge(
         &self,
         alloc: Global,
@@ -78,7 +78,7 @@ impl<'q> Judge<'q> {
         }
     }
 
-    // The same of what is not read.
+    // The same for a line or file that is not read.
     fn judge_unread(
         &self,
         alloc: Global,
@@ -100,7 +100,7 @@ impl<'q> Judge<'q> {
         })
     }
 
-    // The same of a key.
+    // The same for a key.
     fn judge_key(
         &self,
         alloc: Global,
@@ -133,7 +133,7 @@ impl<'q> Judge<'q> {
     }
 }
 
-// What a key is found to be, by what its line says of it and whether there is a reason.
+// The kind of a key, by its marker and whether there is a reason.
 fn key_kind(marker: Option<Marker>, revoked: bool) -> Kind
     ensures { result ≡ key_kind marker revoked }
 {
@@ -144,7 +144,7 @@ fn key_kind(marker: Option<Marker>, revoked: bool) -> Kind
     }
 }
 
-// Whether a line of this kind is named.
+// Returns true if a line of this kind is printed.
 fn says(shown: Shown, kind: Kind) -> bool
     ensures { result ≡ says shown kind }
 {

@@ -1,4 +1,4 @@
-//! Laws of what an audit finds lines to be. Each function does nothing: its contract is the law.
+//! Laws of the outcomes of lines. Each function does nothing: its contract is the law.
 
 ghost use Rattle.std.specs.Prelude.{◌≡◌, ℕ, ◌<◌, ◌^◌, true, false, List, None, Ok, Some};
 ghost use Rattle.ssh_wire.specs.Wire.{IsBytes};
@@ -29,8 +29,8 @@ use json_lines::laws::lines_are_read_back;
 use key_text::laws::{line_read_where_spelled, line_refused_by_first_fault, marked_line_is_read};
 use ssh_cert::laws::asked_where_spelled;
 
-/// A line that is neither blank nor a comment has a key where it spells one, with its marker or
-/// without one; and otherwise its first fault, after a marker too.
+/// A line that is neither blank nor a comment has a key if it spells one, with or without its
+/// marker; otherwise its first fault, after a marker too.
 pub fn lines_by_what_is_spelled()
     ensures none { (text : List ℕ) → has_key text ≡ false → outcome_of text ≡ Blank }
     ensures plain { (text word blob comment : List ℕ) (asked : Subject) → has_key text ≡ true
@@ -50,7 +50,7 @@ pub fn lines_by_what_is_spelled()
     asked_where_spelled();
 }
 
-/// A key of a line without a marker is found revoked exactly where the entries revoke it.
+/// A key of a line without a marker is reported as revoked exactly if the entries revoke it.
 pub fn revoked_where_entries_revoke()
     ensures revoked { (entries : List Entry) (found : Found) → found.marker ≡ None
         → Revoked entries found.asked → kind_of (reasons_of entries) (Key found) ≡ kinds.Revoked }
@@ -59,7 +59,7 @@ pub fn revoked_where_entries_revoke()
         → kind_of (reasons_of entries) (Key found) ≡ kinds.Fine }
 {}
 
-/// Each object that an audit says is one line, which a JSON reader reads as exactly that object.
+/// Each object that an audit prints is one line, which a JSON reader reads as exactly that object.
 pub fn objects_are_read_back()
     ensures key { (name : List ℕ) (number : ℕ) (found : Found) (all : Reasons)
         → number < 2 ^ 64 → IsReadBack (key_object name number found all) }

@@ -1,5 +1,5 @@
-//! Audits files of keys by a key revocation list: each line has an outcome, and is named where its
-//! key is revoked, with the reasons, or where it cannot be read.
+//! Audits files of keys by a key revocation list: each line has an outcome, and is printed if its
+//! key is revoked, with the reasons, or if it cannot be read.
 #![tactic(auto)]
 
 mod auditor;

@@ -40,7 +40,7 @@ pub(crate) fn write_key_object(
     Ok(())
 }
 
-/// Makes the line of what is not read.
+/// Makes the line for a line or file that is not read.
 pub(crate) fn write_unread_object(
     alloc: Global,
     place: Place<'_>,
@@ -101,14 +101,14 @@ fn put_key(alloc: Global, out: &mut LineWriter, verdict: &Verdict<'_>) -> Result
     Ok(())
 }
 
-// Whether a key is revoked, as a status.
+// The status of a key: revoked or not.
 fn status_word(reasons: Reasons) -> &'static str
     ensures { result.now ≡ status_word (any_reason reasons) }
 {
     if reasons.any() { "revoked" } else { "ok" }
 }
 
-// Writes what else is on the line of a key.
+// Writes the rest of the line of a key.
 fn put_line(
     alloc: Global,
     out: &mut LineWriter,
@@ -123,7 +123,7 @@ fn put_line(
     Ok(())
 }
 
-// Writes a marker, where there is one.
+// Writes a marker, if there is one.
 #[tactic(auto, unfolding(json_lines::specs::Field::fields_tokens))]
 fn put_marker(out: &mut LineWriter, marker: Option<Marker>) -> Result<(), AllocError>
     ensures { OnOk result (out.new ≡ out.old ++ fields_tokens (marker_fields marker)) }
@@ -134,7 +134,7 @@ fn put_marker(out: &mut LineWriter, marker: Option<Marker>) -> Result<(), AllocE
     }
 }
 
-// A marker, as its line has it.
+// A marker, as it is in its line.
 fn marker_word(marker: Marker) -> &'static str
     ensures { result.now ≡ marker_word marker }
 {
@@ -144,7 +144,7 @@ fn marker_word(marker: Marker) -> &'static str
     }
 }
 
-// Writes the host names or the options field, where there is one.
+// Writes the host names or the options field, if there is one.
 #[tactic(auto, unfolding(json_lines::specs::Field::fields_tokens))]
 fn put_front(
     alloc: Global,
@@ -160,14 +160,14 @@ fn put_front(
     put_text(alloc, out, front_word(hosts), front)
 }
 
-// What is before a key.
+// The kind of the text before a key.
 fn front_word(hosts: bool) -> &'static str
     ensures { result.now ≡ front_word hosts }
 {
     if hosts { "hosts" } else { "options" }
 }
 
-// Writes what a list is asked about a certificate, and why it or its key is revoked.
+// Writes the query for a certificate, and why it or its key is revoked.
 fn put_list(
     alloc: Global,
     out: &mut LineWriter,
@@ -182,7 +182,7 @@ fn put_list(
     Ok(())
 }
 
-// Writes what a list is asked about a certificate.
+// Writes the query for a certificate.
 #[tactic(auto, unfolding(json_lines::specs::Field::fields_tokens))]
 fn put_cert(
     alloc: Global,

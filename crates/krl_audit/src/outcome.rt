@@ -1,4 +1,4 @@
-//! What each line of a file of keys gives.
+//! The outcome of each line of a file of keys.
 
 ghost use Rattle.std.specs.Prelude.{◌≡◌, IfOk};
 ghost use Rattle.ssh_cert.specs.SubjectReading.{subject_of};
@@ -18,30 +18,30 @@ use std::alloc::{AllocError, Global};
 /// A key of a line or of a private key file.
 #[derive(Drop)]
 pub struct Found<'a> {
-    /// What the line says of the key.
+    /// The marker of the line.
     pub marker: Option<Marker>,
-    /// What is before the key: host names, an options field, or nothing.
+    /// The text before the key: host names, an options field, or nothing.
     pub front: &'a [u8],
     /// The key's bytes: a plain key or a certificate.
     pub blob: Bytes,
-    /// What is said of the key. It may be empty.
+    /// The comment. It may be empty.
     pub comment: &'a [u8],
 }
 
-/// What a line gives.
+/// The outcome of a line.
 #[derive(Drop)]
 pub enum Outcome<'a> {
     /// It is blank or a comment.
     Blank,
-    /// A key that a list can be asked about.
+    /// A key for which a list can be queried.
     Key(Found<'a>),
     /// It is not read.
     Unread(Why),
 }
 
-/// The outcome of a line (sshd(8), AUTHORIZED_KEYS FILE FORMAT and SSH_KNOWN_HOSTS FILE FORMAT): a
-/// marker or none, an options field or host names or neither, a type name, the key in base64 and a
-/// comment. Fails only where memory runs out.
+/// The outcome of a line (sshd(8), AUTHORIZED_KEYS FILE FORMAT and SSH_KNOWN_HOSTS FILE FORMAT):
+/// an optional marker, an optional options field or host names, a type name, the key in base64 and
+/// a comment. Fails only if an allocation fails.
 #[tactic(auto, unfolding(crate::specs::Outcome::outcome_of))]
 pub fn read_outcome<'a>(alloc: Global, text: &'a [u8]) -> Result<Outcome<'a>, AllocError>
     ensures { IfOk result (λ outcome. GivesOutcome outcome (outcome_of text.now)) }
@@ -57,7 +57,7 @@ pub fn read_outcome<'a>(alloc: Global, text: &'a [u8]) -> Result<Outcome<'a>, Al
     }
 }
 
-/// A key with these bytes, where they are those of a plain key or of a certificate.
+/// A key with these bytes, if they are those of a plain key or of a certificate.
 pub(crate) fn checked<'a>(
     marker: Option<Marker>,
     front: &'a [u8],
@@ -78,7 +78,7 @@ pub(crate) fn checked<'a>(
     }
 }
 
-// Why a list cannot be asked about the bytes.
+// Why a list cannot be queried for the bytes.
 fn fault_of(blob: &[u8]) -> Option<SubjectFault>
     ensures { SaysFault result (subject_of blob.now) }
 {
@@ -88,7 +88,7 @@ fn fault_of(blob: &[u8]) -> Option<SubjectFault>
     }
 }
 
-/// The public key of a private key file, with its comment where it is not encrypted.
+/// The public key of a private key file, with its comment if it is not encrypted.
 pub(crate) fn open_private(
     alloc: Global,
     text: &[u8],
@@ -102,7 +102,7 @@ pub(crate) fn open_private(
     }
 }
 
-// The public key of one that is encrypted.
+// The public key of an encrypted private key file.
 fn open_half(alloc: Global, text: &[u8]) -> Result<Result<Private, PrivateFault>, AllocError>
     ensures { IfOk result (λ opened. GivesOpened opened (half_opened text.now)) }
 {

@@ -12,7 +12,7 @@ use krl_held::{KeyReasons, NameReasons, Reasons};
 use krl_types::{CertNames, Subject};
 use std::alloc::{AllocError, Global};
 
-// What a list names of a certificate beside keys.
+// The names of a certificate in a list, besides keys.
 #[derive(Clone, Copy)]
 enum Name<'a> {
     // Its serial number.
@@ -53,7 +53,7 @@ fn put_values(
     Ok(())
 }
 
-// Writes those of a certificate, where there is one.
+// Writes the reasons of a certificate, if there is one.
 #[tactic(auto, unfolding(json_lines::specs::Field::values_tokens))]
 fn put_with_cert_values(
     alloc: Global,
@@ -70,7 +70,7 @@ fn put_with_cert_values(
     }
 }
 
-// Writes those that name the key.
+// Writes the reasons that name the key.
 fn put_key_values(out: &mut LineWriter, key: KeyReasons) -> Result<(), AllocError>
     ensures { OnOk result (out.new ≡ out.old ++ values_tokens (key_values key)) }
 {
@@ -80,7 +80,7 @@ fn put_key_values(out: &mut LineWriter, key: KeyReasons) -> Result<(), AllocErro
     Ok(())
 }
 
-// Writes one of those, where it is said.
+// Writes one of those, if it holds.
 fn put_by(out: &mut LineWriter, by: &str, said: bool) -> Result<(), AllocError>
     ensures { OnOk result (out.new
         ≡ out.old ++ values_tokens (value_if said (by_value by.now []))) }
@@ -93,7 +93,7 @@ fn put_by(out: &mut LineWriter, by: &str, said: bool) -> Result<(), AllocError>
     Ok(())
 }
 
-// Writes those that name the key of the authority.
+// Writes the reasons that name the key of the authority.
 fn put_authority_values(out: &mut LineWriter, key: KeyReasons) -> Result<(), AllocError>
     ensures { OnOk result (out.new ≡ out.old ++ values_tokens (authority_values key)) }
 {
@@ -103,7 +103,7 @@ fn put_authority_values(out: &mut LineWriter, key: KeyReasons) -> Result<(), All
     Ok(())
 }
 
-// Writes one of those, where it is said.
+// Writes one of those, if it holds.
 fn put_of(out: &mut LineWriter, of: &str, said: bool) -> Result<(), AllocError>
     ensures { OnOk result (out.new ≡ out.old ++ values_tokens (value_if said (of_value of.now))) }
 {
@@ -116,7 +116,7 @@ fn put_of(out: &mut LineWriter, of: &str, said: bool) -> Result<(), AllocError>
     Ok(())
 }
 
-// Writes those of a certificate.
+// Writes the reasons that name the authority's key, the serial number or the key ID.
 fn put_cert_values(
     alloc: Global,
     out: &mut LineWriter,
@@ -154,7 +154,7 @@ fn put_name_values(
     Ok(())
 }
 
-// Writes a name under an authority, where it is said.
+// Writes a name under an authority, if its reason holds.
 fn put_name_value(
     alloc: Global,
     out: &mut LineWriter,
@@ -174,7 +174,7 @@ fn put_name_value(
     Ok(())
 }
 
-// Writes a name, and what it is.
+// Writes a name, and its kind.
 #[tactic(auto, unfolding(json_lines::specs::Field::fields_tokens))]
 fn put_name(alloc: Global, out: &mut LineWriter, name: Name<'_>) -> Result<(), AllocError>
     ensures { OnOk result (out.new

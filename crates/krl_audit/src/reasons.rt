@@ -10,7 +10,7 @@ use krl_held::{KeyReasons, NameReasons, Reasons};
 use krl_types::{CertNames, Subject};
 use std::alloc::{AllocError, Global};
 
-/// Appends all reasons, each after a comma but for the first one. Nothing where there is none.
+/// Appends all reasons, with commas between them. Appends nothing if there is none.
 pub(crate) fn push_reasons(
     alloc: Global,
     text: &mut Vec<u8>,
@@ -45,7 +45,7 @@ fn push_parts(
     }
 }
 
-// Those that name the key.
+// The reasons that name the key.
 fn push_key_parts(text: &mut Vec<u8>, key: KeyReasons) -> Result<(), AllocError>
     ensures { OnOk result (text.new.items ≡ text.old.items ++ key_parts key) }
 {
@@ -55,7 +55,7 @@ fn push_key_parts(text: &mut Vec<u8>, key: KeyReasons) -> Result<(), AllocError>
     Ok(())
 }
 
-// Those that name the key of the authority.
+// The reasons that name the key of the authority.
 fn push_authority_parts(text: &mut Vec<u8>, key: KeyReasons) -> Result<(), AllocError>
     ensures { OnOk result (text.new.items ≡ text.old.items ++ authority_parts key) }
 {
@@ -65,7 +65,7 @@ fn push_authority_parts(text: &mut Vec<u8>, key: KeyReasons) -> Result<(), Alloc
     Ok(())
 }
 
-// Those of a certificate.
+// The reasons of a certificate.
 fn push_cert_parts(
     alloc: Global,
     text: &mut Vec<u8>,
@@ -119,7 +119,7 @@ fn push_names(
     Ok(())
 }
 
-// Appends words under the authority of this fingerprint, where they are said.
+// Appends words under the authority of this fingerprint, if their reason holds.
 #[tactic(auto, unfolding(crate::specs::Text::word_if))]
 fn push_own(text: &mut Vec<u8>, words: &[u8], print: &[u8], said: bool) -> Result<(), AllocError>
     ensures { OnOk result (text.new.items
@@ -133,7 +133,7 @@ fn push_own(text: &mut Vec<u8>, words: &[u8], print: &[u8], said: bool) -> Resul
     Ok(())
 }
 
-// Appends words under all authorities, where they are said.
+// Appends words under all authorities, if their reason holds.
 #[tactic(auto, unfolding(crate::specs::Text::word_if))]
 fn push_all(text: &mut Vec<u8>, words: &[u8], said: bool) -> Result<(), AllocError>
     ensures { OnOk result (text.new.items ≡ text.old.items ++ word_if said (of_all words.now)) }
@@ -145,7 +145,7 @@ fn push_all(text: &mut Vec<u8>, words: &[u8], said: bool) -> Result<(), AllocErr
     Ok(())
 }
 
-// Appends words, where they are said.
+// Appends words, if their reason holds.
 #[tactic(auto, unfolding(crate::specs::Text::word_if))]
 fn push_if(text: &mut Vec<u8>, words: &[u8], said: bool) -> Result<(), AllocError>
     ensures { OnOk result (text.new.items ≡ text.old.items ++ word_if said words.now) }

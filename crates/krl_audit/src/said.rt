@@ -28,7 +28,7 @@ pub(crate) fn say_key(
     }
 }
 
-/// Makes the line of what is not read.
+/// Makes the line for a line or file that is not read.
 pub(crate) fn say_unread(
     alloc: Global,
     form: Form,

@@ -1,4 +1,4 @@
-//! Whether a file has a key at all.
+//! The test whether a file has a key.
 
 ghost use Rattle.std.specs.Prelude.{◌≡◌, ◌∷◌, ◌+◌, ◌<◌, ◌≤◌, ◌^◌, IfOk, IfSome, List, map};
 ghost use Rattle.std.specs.List.{slice_split};
@@ -10,7 +10,8 @@ use crate::outcome::{Outcome, read_outcome};
 use key_text::split_line;
 use std::alloc::{AllocError, Global};
 
-/// How many lines of a text are not read, where none of them has a key and they are several.
+/// The number of lines of a text that are not read, if none has a key and more than one is not
+/// read.
 #[tactic(auto, unfolding(crate::specs::Audit::keyless))]
 pub(crate) fn keyless(alloc: Global, text: &[u8]) -> Result<Option<u64>, AllocError>
     ensures { IfOk result (λ count. count
@@ -29,7 +30,7 @@ fn many(count: Option<u64>) -> Option<u64>
     }
 }
 
-// How many lines of a text are not read, where none of them has a key. It ends at the first key.
+// The number of lines of a text that are not read, if none has a key. Stops at the first key.
 fn unread_alone(alloc: Global, text: &[u8]) -> Result<Option<u64>, AllocError>
     ensures { IfOk result (λ count. count
         ≡ unread_alone (map outcome_of (slice_split is_newline text.now))) }
@@ -49,7 +50,7 @@ fn unread_alone(alloc: Global, text: &[u8]) -> Result<Option<u64>, AllocError>
     }
 }
 
-// The count with a line, where it has no key.
+// The count with one more line, if the line has no key.
 fn count_line(alloc: Global, line: &[u8], count: u64) -> Result<Option<u64>, AllocError>
     requires { count + 1 < 2 ^ 64 }
     ensures counts { IfOk result (λ more. (lines : List OutcomeOf)

@@ -15,14 +15,15 @@ use krl_types::Subject;
 use ssh_wire::Cursor;
 use std::alloc::{AllocError, Global};
 
-/// Where a line is: the name of its file, and its number from 1 on; 0 stands for the whole file.
+/// The place of a line: the name of its file, and its number from 1 on; 0 represents the whole
+/// file.
 #[derive(Clone, Copy)]
 pub(crate) struct Place<'a> {
     pub(crate) name: &'a str,
     pub(crate) number: u64,
 }
 
-/// What is known of a key: the bytes, what a list is asked about them, and what it answers.
+/// The facts about a key: its bytes, the query for it, and the answer.
 #[derive(Clone, Copy)]
 pub(crate) struct Verdict<'a> {
     pub(crate) found: &'a Found<'a>,
@@ -30,7 +31,7 @@ pub(crate) struct Verdict<'a> {
     pub(crate) reasons: Reasons,
 }
 
-/// Makes the line of what is not read, with its line feed.
+/// Makes the line for a line or file that is not read, with its line feed.
 pub(crate) fn write_unread(
     alloc: Global,
     place: Place<'_>,
@@ -69,7 +70,7 @@ pub(crate) fn write_key(
     Ok(())
 }
 
-// Whether a key is revoked, as it is printed.
+// The printed word for whether a key is revoked.
 fn verdict_word(reasons: Reasons) -> &'static [u8]
     ensures { result.now ≡ verdict_word (any_reason reasons) }
 {
@@ -119,7 +120,7 @@ pub(crate) fn type_of(blob: &[u8]) -> &[u8]
     }
 }
 
-// Appends a comment, where there is one.
+// Appends a comment, if there is one.
 fn push_comment(text: &mut Vec<u8>, comment: &[u8]) -> Result<(), AllocError>
     ensures { OnOk result (text.new.items ≡ text.old.items ++ comment_words comment.now) }
 {

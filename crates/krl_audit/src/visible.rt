@@ -1,4 +1,4 @@
-//! Texts that anybody may have written, as they are shown.
+//! Texts that anyone may have written, as they are printed.
 
 ghost use Rattle.std.specs.Prelude.{◌≡◌, ◌++◌, ◌<◌, OnOk};
 ghost use Rattle.std.specs.List.{flat_map};
@@ -11,8 +11,8 @@ use std::str;
 const DIGITS: &[u8; 16] = b"0123456789abcdef";
 
 /// Appends a text with each control character as `\x` and two hexadecimal digits, also those from
-/// 0x80 to 0x9f, which some terminals obey. In a text that is no UTF-8 each byte from 0x80 on is
-/// shown so. Between quotes a quote and a backslash have a backslash before them.
+/// 0x80 to 0x9f, which some terminals obey. In a text that is not UTF-8 each byte from 0x80 on is
+/// shown in the same way. Between quotes a quote and a backslash have a backslash before them.
 #[tactic(auto, unfolding(crate::specs::Visible::visible))]
 pub(crate) fn push_visible(out: &mut Vec<u8>, text: &[u8], quoted: bool) -> Result<(), AllocError>
     ensures { OnOk result (out.new.items ≡ out.old.items ++ visible quoted text.now) }
@@ -34,7 +34,7 @@ fn push_chars(out: &mut Vec<u8>, text: &str, quoted: bool) -> Result<(), AllocEr
     Ok(())
 }
 
-// Appends the bytes of what is no UTF-8.
+// Appends the bytes of a text that is not UTF-8.
 fn push_bytes(out: &mut Vec<u8>, text: &[u8], quoted: bool) -> Result<(), AllocError>
     ensures { OnOk result (out.new.items
         ≡ out.old.items ++ flat_map (visible_byte quoted) text.now) }
@@ -60,7 +60,7 @@ fn push_char(out: &mut Vec<u8>, character: char, quoted: bool) -> Result<(), All
     out.extend_from_slice(character.encode_utf8(&mut bytes).as_bytes())
 }
 
-// Appends a byte of what is no UTF-8.
+// Appends a byte of a text that is not UTF-8.
 #[tactic(auto, unfolding(crate::specs::Visible::visible_byte))]
 fn push_byte(out: &mut Vec<u8>, byte: u8, quoted: bool) -> Result<(), AllocError>
     ensures { OnOk result (out.new.items ≡ out.old.items ++ visible_byte quoted byte) }

@@ -24,7 +24,7 @@ pub enum Refusal {
     Open,
     /// It cannot be read to its end.
     Read,
-    /// It has more than 16,777,216 bytes.
+    /// It is larger than 16,777,216 bytes.
     TooLong,
 }
 
@@ -33,13 +33,13 @@ pub enum Refusal {
 pub enum Why {
     /// A line has no key.
     Line(LineFault),
-    /// The key of a line is none that is known.
+    /// The key of a line is not a known key.
     Subject(SubjectFault),
-    /// A private key file is cut or misspelt.
+    /// A private key file is truncated or misspelt.
     Private(PrivateFault),
     /// A file is not read.
     File(Refusal),
-    /// A file has no key, and so many lines that are none.
+    /// A file has no key, and this number of lines that are not keys.
     NoKeys(u64),
 }
 
@@ -83,7 +83,7 @@ fn refusal_why(refusal: Refusal) -> &'static [u8]
     }
 }
 
-// The words for a blob that is no key.
+// The words for a blob that is not a key.
 fn push_subject(alloc: Global, text: &mut Vec<u8>, fault: SubjectFault) -> Result<(), AllocError>
     ensures { OnOk result (text.new.items ≡ text.old.items ++ why_text (Subject fault)) }
 {
@@ -101,7 +101,7 @@ fn push_private(alloc: Global, text: &mut Vec<u8>, fault: PrivateFault) -> Resul
     text.extend_from_slice(said.as_bytes())
 }
 
-// The words for a file of which no line is a key.
+// The words for a file in which no line is a key.
 fn push_no_keys(text: &mut Vec<u8>, lines: u64) -> Result<(), AllocError>
     ensures { OnOk result (text.new.items ≡ text.old.items ++ why_text (NoKeys lines)) }
 {

@@ -1,4 +1,4 @@
--- Nothing is said.
+-- Nothing is printed.
 use Rattle.std.proofs.Common.{Bool, [], ◌∷◌, Ok, subst, sym}
 use Rattle.key_listing.specs.Carries.{Carries}
 use Rattle.key_listing.proofs.Carrying.{carries_passed}

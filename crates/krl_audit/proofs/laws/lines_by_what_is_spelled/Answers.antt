@@ -1,4 +1,4 @@
--- Each law of reading lines and blobs gives its part.
+-- Each law of reading lines and blobs proves a part.
 use Rattle.std.proofs.Common.{None, Some, Ok, ap, ◌∙◌}
 use Rattle.key_text.specs.LineReading.{content}
 use Rattle.key_text.specs.Marker.{unmarked}

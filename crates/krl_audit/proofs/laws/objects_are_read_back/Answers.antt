@@ -1,4 +1,4 @@
--- Each object nests three deep at most.
+-- Each object is nested at most three deep.
 use Rattle.std.proofs.Common.{◌≤◌, arith}
 use Rattle.json.specs.Json.{Json, max_depth}
 use Rattle.json.specs.Tree.{depth}

@@ -1,4 +1,4 @@
--- There is a reason exactly where the entries revoke.
+-- There is a reason exactly if the entries revoke the key.
 use Rattle.krl_audit.proofs.Spelled.{found_fine, found_revoked}
 use Rattle.krl_audit.proofs.laws.revoked_where_entries_revoke.Goals as goal
 

@@ -1,4 +1,4 @@
--- The marker, and what is before the key.
+-- The marker, and the text before the key.
 use Rattle.json_lines.proofs.Objects.{two_fields}
 use Rattle.krl_audit.proofs.objects.put_line.Goals as goal
 

@@ -1,4 +1,4 @@
--- Under the own authority, and under all.
+-- Under the certificate's own authority, and under all.
 use Rattle.json_lines.proofs.Objects.{two_values}
 use Rattle.krl_audit.proofs.reason_values.put_name_values.Goals as goal
 

@@ -1,4 +1,4 @@
--- The object is written, or nothing.
+-- The object is written, or nothing is.
 use Rattle.std.proofs.Common.{append-nil, sym}
 use Rattle.json_lines.specs.Field.{values_tokens}
 use Rattle.json_lines.proofs.Objects.{object_value, two_fields}

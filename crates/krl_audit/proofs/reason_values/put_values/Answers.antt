@@ -1,4 +1,4 @@
--- Those of the key and those of the certificate.
+-- The values of the key and those of the certificate.
 use Rattle.std.proofs.Common.{ap}
 use Rattle.krl_types.specs.Subject.{Subject}
 use Rattle.json_lines.proofs.Objects.{two_values}

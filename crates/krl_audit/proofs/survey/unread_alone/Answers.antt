@@ -1,4 +1,4 @@
--- A line more was counted.
+-- One more line was counted.
 use Rattle.std.proofs.Common.{arith}
 use Rattle.std.specs.List.{slice_split}
 use Rattle.key_text.specs.Lines.{is_newline}

@@ -1,4 +1,4 @@
--- So many lines were not read, and the others are left.
+-- This number of lines was not read, and the others are left.
 use Rattle.std.proofs.Common.{◌≡◌, ◌+◌, ◌≤◌, map, length}
 use Rattle.std.specs.List.{slice_split}
 use Rattle.key_text.specs.Lines.{is_newline}

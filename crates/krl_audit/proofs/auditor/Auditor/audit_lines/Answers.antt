@@ -1,4 +1,4 @@
--- A line more is said, or the audit is stopped at it.
+-- One more line is printed, or the audit is stopped at it.
 use Rattle.std.proofs.Common.{◌≡◌, ◌+◌, [], rules, ◌∙◌, arith}
 use Rattle.std.specs.List.{slice_split}
 use Rattle.std.proofs.lemmas.Result.{err_from_is_err_and}

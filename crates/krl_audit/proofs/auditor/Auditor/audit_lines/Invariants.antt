@@ -1,4 +1,4 @@
--- What is said of the lines that are left ends what is said of all.
+-- The findings of the lines that are left are the end of the findings of all lines.
 use Rattle.std.proofs.Common.{◌≡◌, ◌+◌, ◌≤◌, map, length, Result}
 use Rattle.std.specs.List.{slice_split}
 use Rattle.key_text.specs.Lines.{is_newline}

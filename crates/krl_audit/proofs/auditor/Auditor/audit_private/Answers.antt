@@ -1,4 +1,4 @@
--- The outcome is that of the public key, or why it is not read.
+-- The outcome is that of the public key, or why the file is not read.
 use Rattle.std.proofs.Common.{rules, ap}
 use Rattle.krl_audit.specs.Outcome.{opened_at, private_outcome}
 use Rattle.krl_audit.proofs.Private.{private_gives}

@@ -1,4 +1,4 @@
--- A private key file, a file without a key, or one that is said line after line.
+-- The file is a private key file, has no key, or is audited line by line.
 use Rattle.std.proofs.Common.{sym, ◌∙◌}
 use Rattle.krl_audit.proofs.Files.{told_lines, told_no_memory, told_private, told_whole}
 use Rattle.krl_audit.proofs.auditor.Auditor.audit_text.Goals as goal

@@ -1,4 +1,4 @@
--- The key is read, and judged by the reasons of what is asked about it; or it was never one.
+-- The key is read, and judged by the reasons for its query; or it is not a key.
 use Rattle.std.proofs.Common.{sym, ◌∙◌}
 use Rattle.krl_held.specs.Reasons.{held_reasons}
 use Rattle.krl_audit.proofs.Judging.{key_made, ok_same}
