@@ -9,12 +9,12 @@ use key_listing::{Done, FAILED};
 use krl_system::report;
 use krl_words::CommandFault;
 
-/// The status of a command line that asks for nothing that the program does.
+/// The status of a command line that the program refuses.
 const MISUSED: u8 = 2;
-/// The name of standard output where it fails.
+/// The name of standard output in a fault of the output.
 const OUTPUT: &str = "output";
 
-/// A run that ended with a fault and said nothing.
+/// A run that a fault ended and that printed nothing.
 pub fn stopped(fault: RunFault<'_>) -> Done<'_>
     ensures status { result.status ≡ 255 }
     ensures fault { result.fault ≡ Some fault.entry }
@@ -33,7 +33,7 @@ pub fn failed(name: &str, cause: Cause) -> Done<'_>
     stopped(RunFault::whole(name, cause))
 }
 
-/// Reports why the run stopped, if it did, and gives its status.
+/// Reports why the run stopped, if it did, and returns its status.
 pub fn end(rt: &HostRuntime, done: &Done) -> u8
     ensures { result ≡ done.now.status }
 {
@@ -43,8 +43,8 @@ pub fn end(rt: &HostRuntime, done: &Done) -> u8
     done.status
 }
 
-/// Prints help or the version, or why the words are refused, and gives the status. Help that cannot
-/// be printed is a fault of the output.
+/// Prints help or the version, or why the words are refused, and returns the status. If help cannot
+/// be printed, that is a fault of the output.
 pub fn refuse(rt: &HostRuntime, fault: &CommandFault) -> u8
     ensures { (result ≡ command_fault_status fault.now) ⊎ (result ≡ 255) }
 {
@@ -65,7 +65,7 @@ pub fn refuse(rt: &HostRuntime, fault: &CommandFault) -> u8
     }
 }
 
-// Prints the help or the version, and gives the status.
+// Prints the help or the version, and returns the status.
 fn print_help(rt: &HostRuntime, text: &[u8]) -> u8
     ensures { (result ≡ 0) ⊎ (result ≡ 255) }
 {

@@ -1,4 +1,4 @@
-//! Lists keys, and makes, prints and asks key revocation lists, as ssh-keygen(1) does.
+//! Lists keys, and makes, prints and queries key revocation lists, as ssh-keygen(1) does.
 #![tactic(auto)]
 
 mod ending;
@@ -17,7 +17,7 @@ use std::env;
 use std::io::{self, ErrorKind};
 use std::process::ExitCode;
 
-// Runs the program, with the places of closed standard streams held.
+// Runs the program, with the file descriptors of closed standard streams occupied.
 fn main(rt: HostRuntime) -> ExitCode {
     let status = match hold_places(&rt) {
         Ok(places) => {
@@ -30,7 +30,7 @@ fn main(rt: HostRuntime) -> ExitCode {
     ExitCode::from(status)
 }
 
-// Reads the words and does the job that they ask for. Answers the exit status.
+// Parses the command line and does its job. Returns the exit status.
 fn run(rt: &HostRuntime) -> u8 {
     let words = match env::args(rt) {
         Ok(words) => words,
@@ -45,7 +45,7 @@ fn run(rt: &HostRuntime) -> u8 {
     }
 }
 
-// Words that are not text are a misuse; else memory ran out.
+// Words that are not text are a misuse. The only other error is a failed allocation.
 fn fault_of_words(error: &io::Error) -> CommandFault {
     if error.kind() == ErrorKind::OutOfMemory {
         CommandFault::NoMemory
@@ -54,7 +54,7 @@ fn fault_of_words(error: &io::Error) -> CommandFault {
     }
 }
 
-// Does the job. Answers the exit status.
+// Does the job. Returns the exit status.
 fn run_job(rt: &HostRuntime, job: &Job) -> u8 {
     match job.mode {
         Mode::Keys => list_file(rt, job, ListMode::Keys),
@@ -75,7 +75,7 @@ fn list_file(rt: &HostRuntime, job: &Job, mode: ListMode) -> u8 {
     )
 }
 
-// `-Q`: prints what the list holds, where `-l` asks for it, and asks it about the keys of the
+// `-Q`: prints the contents of the list, if `-l` requests it, and queries it for the keys of the
 // files.
 fn ask_list(rt: &HostRuntime, job: &Job) -> u8 {
     let krl = match open_list(rt, job.file) {

@@ -14,29 +14,30 @@ use krl_system::{
 };
 use std::fs::{self, File};
 
-// How often a list is opened anew whose name another file has got. Of updates at once each waits
-// for those before it, and opens what they made, so this is far above their number.
+// How often a list is opened again because its name now belongs to another file. Each of several
+// simultaneous updates waits for those before it, and opens the list that they made, so this is far
+// above their number.
 const TRIES: u32 = 10_000;
 
-// What the list is made of.
+// The list from which the new one is made.
 #[derive(Drop)]
 enum Base {
-    // Nothing.
+    // No list.
     Nothing,
-    // A regular file, which is opened anew once the lines are read, and locked.
+    // A regular file, which is opened again after the lines are read, and locked.
     File,
-    // A pipe or a device, which is read as it is.
+    // A pipe or a device, which is read directly.
     Stream(File),
 }
 
-// The bytes of the list, where they are made before the list is held.
+// The bytes of the list, if they are made before the list is held.
 #[derive(Drop)]
 struct Made {
     of: MadeOf,
     text: Option<Vec<u8>>,
 }
 
-// The list that is wanted, beside what an old one holds.
+// The requested list, apart from the contents of an old one.
 #[derive(Drop)]
 struct Wanted<'a> {
     name: &'a str,
@@ -45,7 +46,7 @@ struct Wanted<'a> {
     files: Vec<Named<'a>>,
 }
 
-/// `-k`: makes a list, of the old one where `-u` is given. Answers the exit status.
+/// `-k`: makes a list, from the old one if `-u` is given. Returns the exit status.
 pub fn make_list(rt: &HostRuntime, job: &Job) -> u8 {
     let base = match base_of(rt, job) {
         Ok(base) => base,
@@ -65,7 +66,7 @@ pub fn make_list(rt: &HostRuntime, job: &Job) -> u8 {
     make_of(rt, base, &wanted)
 }
 
-// What the list is made of. An old list that cannot be opened is reported before any file is read.
+// Finds the old list. An old list that cannot be opened is reported before any file is read.
 fn base_of(rt: &HostRuntime, job: &Job) -> Result<Base, Cause> {
     if !job.update {
         return Ok(Base::Nothing);
@@ -80,7 +81,7 @@ fn base_of(rt: &HostRuntime, job: &Job) -> Result<Base, Cause> {
     }
 }
 
-// Makes the list and writes it, once the lines are read. Answers the exit status.
+// Makes the list and writes it, after the lines are read. Returns the exit status.
 fn make_of(rt: &HostRuntime, base: Base, wanted: &Wanted) -> u8 {
     let made = match made_of(rt, base, wanted) {
         Ok(made) => made,
@@ -97,7 +98,7 @@ fn make_of(rt: &HostRuntime, base: Base, wanted: &Wanted) -> u8 {
     end(rt, &failed(wanted.name, Cause::Output { count: 0 }))
 }
 
-// What is made of the list before it is held: all of it, unless it is made of the one that is there.
+// Makes the bytes before the list is held, unless they are made from the regular file there.
 fn made_of<'a>(rt: &HostRuntime, base: Base, wanted: &'a Wanted<'a>) -> Result<Made, RunFault<'a>> {
     match base {
         Base::Nothing => Ok(Made {
@@ -115,8 +116,8 @@ fn made_of<'a>(rt: &HostRuntime, base: Base, wanted: &'a Wanted<'a>) -> Result<M
     }
 }
 
-// Writes what was made; else makes it of the list as it is now, which no other update changes
-// meanwhile.
+// Writes the bytes that were made; otherwise makes them from the current list, which no other
+// update can change in the meantime.
 fn write_once<'a>(
     rt: &HostRuntime,
     made: &Made,
@@ -152,7 +153,7 @@ fn write_text<'a>(
     }
 }
 
-// The list that is held, with the lines added. What is no file any more is not read.
+// The bytes of the held list, with the lines added. It is an error if it is no longer a file.
 fn updated<'a>(
     rt: &HostRuntime,
     target: &Target,
@@ -166,7 +167,7 @@ fn updated<'a>(
     Err(RunFault::whole(wanted.name, Cause::File(FileFault::Open)))
 }
 
-// The bytes of the list over an old one.
+// The bytes of the list, made from an old one.
 fn text_over<'a>(
     rt: &HostRuntime,
     file: File,
@@ -178,7 +179,7 @@ fn text_over<'a>(
     }
 }
 
-// The bytes of the list over what a reader gives.
+// The bytes of the list, made from the old one that a reader gives.
 fn text_of<'a, R: Source + Drop>(
     rt: &HostRuntime,
     list: Option<R>,
