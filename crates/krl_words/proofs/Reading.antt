@@ -1,4 +1,4 @@
--- What the words hold, by their matches.
+-- The values of the words, by their matches.
 use Rattle.std.proofs.Common.{◌≡◌, ℕ, ◌+◌, ◌<◌, true, false, List, [], ◌∷◌, ◌++◌, length, map, take, get_or, Option, Result, Ok, Err, refl, sym, ap, ap₂, ◌∙◌, codes, inl, inr}
 use Rattle.std.specs.Prelude.{unwrap_or, option_map}
 use Rattle.std.specs.Option.{option_map_or}
@@ -35,7 +35,7 @@ last_rule : (app : App) (rules : List Rule) (rule : Rule) → with_rules app (ru
 last_rule app [] rule = refl
 last_rule app (first ∷ rules) rule = last_rule (with_rule app first) rules rule
 
--- the rules of a table to one argument more
+-- the rules of a table and one more argument
 pub one_more_rule : (app : App) (table : List Argument) (i : ℕ) (d : Argument) → i < length table
     → with_rule (with_rules app (map rule_by (take i table))) (rule_by (get_or table i d)) ≡ with_rules app (map rule_by (take (i + 1) table))
 one_more_rule app table i d lt =
@@ -61,7 +61,7 @@ pub files_by : (f : Found) (id : List ℕ) (values : Option (List (List ℕ))) �
     → unwrap_or values [] ≡ unwrap_or (all_of id (rows_of f)) []
 files_by f id values is = ap (λ (o : Option (List (List ℕ))). unwrap_or o []) (is ∙ raw_values-rows f id)
 
--- what the matches of the words hold is what the words hold
+-- the matches have the same values as the words
 pub held_by : (app : App) (words : List (List ℕ)) (m : ArgMatches) → app ≡ program → HasMatchesOf app words m → given_of (rows_of (found_of m)) ≡ given_in words
 unfolding given_in
 held_by app words m same has = ap given_of ((rw same at has) program_is_simple).0
@@ -72,14 +72,14 @@ free_by app words same free = (rw same at free) program_is_free
 pub fails_by : (app : App) (words : List (List ℕ)) (e : Error) → app ≡ program → (is_simple_and_free app ≡ true → HasKind (fault_of app words) e) → HasKind (fault_of program words) e
 fails_by app words e same kinds = (rw same at kinds) program_is_free
 
--- the job of words that are read
+-- the job of words that can be parsed
 pub asked_for : (words : List (List ℕ)) (given : Given) (result : Result Job CommandFault) → fault_of program words ≡ [] → given ≡ given_in words → AsksFor given result → IsCommand words result
 asked_for words given (Ok job) free same asks = (free, ap job_of (sym same) ∙ asks)
 asked_for words given (Err Usage) free same asks = (free, ap job_of (sym same) ∙ asks)
 asked_for words given (Err (Words help text)) free same asks = absurd asks
 asked_for words given (Err NoMemory) free same asks = tt
 
--- why words are not read
+-- why words cannot be parsed
 pub not_read : (words : List (List ℕ)) (e : Error) (fault : CommandFault) → HasKind (fault_of program words) e → ReportsError e fault → IsCommand words (Err fault)
 not_read words e Usage kind reports = absurd reports
 not_read words e NoMemory kind reports = tt

@@ -1,5 +1,5 @@
--- Which words ask for which job (ssh-keygen(1), SYNOPSIS), and the faults of the command line:
--- their numbers, and the statuses that they end with.
+-- Which words ask for which job (ssh-keygen(1), SYNOPSIS), and the faults of the command line: their numbers, and their
+-- exit statuses.
 use Rattle.std.specs.Prelude.{◌≡◌, ◌≢◌, ℕ, ⊤, Bool, true, false, List, [], None, Some, Result, Ok}
 use Rattle.std.specs.Prelude.{Err}
 use Rattle.clap.specs.Faults.{fault_of}
@@ -37,22 +37,22 @@ is_help DisplayHelp = true
 is_help DisplayVersion = true
 is_help kind = false
 
--- What words that are read ask for, by what they hold.
+-- The job that parsed words ask for, by their values.
 abbrev pub AsksFor : Given → Result Job CommandFault → Type 0
 AsksFor given (Ok job) = job_of given ≡ Some (asked_of job)
 AsksFor given (Err Usage) = job_of given ≡ None
 AsksFor given (Err (Words help text)) = ⊥
 AsksFor given (Err NoMemory) = ⊤
 
--- why words are not read
+-- why words cannot be parsed
 abbrev pub ReportsError : Error → CommandFault → Type 0
 ReportsError error (Words help text) =
     (kind_of error ≢ OutOfMemory) × (help ≡ is_help (kind_of error))
 ReportsError error Usage = ⊥
 ReportsError error NoMemory = ⊤
 
--- What comes of the words, the program's name before them: where they are read, the job that they
--- ask for or Usage; else why they are not read.
+-- The result of words that follow the program's name: if they can be parsed, the job that they ask for or Usage;
+-- otherwise why they cannot.
 abbrev pub IsCommand : List (List ℕ) → Result Job CommandFault → Type 0
 IsCommand words (Ok job) =
     (fault_of program words ≡ []) × AsksFor (given_in words) (Ok job)

@@ -1,4 +1,4 @@
--- The options that the program has (ssh-keygen(1), SYNOPSIS), and what words hold of them.
+-- The options that the program has (ssh-keygen(1), SYNOPSIS), and their values in a command line.
 use Rattle.std.specs.Prelude.{ℕ, Bool, true, false, List, [], ◌∷◌, Some, codes, unwrap_or}
 use Rattle.std.specs.Option.{option_map_or}
 use Rattle.std.specs.Str.{bytes_eq}
@@ -62,8 +62,8 @@ abbrev pub with_rules : App → List Rule → App
 with_rules app [] = app
 with_rules app (rule ∷ rules) = with_rules (with_rule app rule) rules
 
--- The program without its options. A use of an option undoes an earlier use of the same option: of
--- several values the last one counts, and an option without a value counts once.
+-- The program without its options. A use of an option overrides an earlier use of the same option: the last of several
+-- values counts, and an option without a value counts once.
 abbrev pub bare : App
 bare = record {
   top = record (new_shape (codes "krl-keygen")) {
@@ -94,6 +94,6 @@ given_of rows = record {
   files = unwrap_or (all_of (codes "files") rows) [];
 }
 
--- what these words hold, the program's name before them
+-- the values in these words, the program's name before them
 unfoldable pub given_in : List (List ℕ) → Given
 given_in words = given_of (matches_of program words)

@@ -20,14 +20,13 @@ use thiserror::Error as ErrorText;
 /// Why there is no job.
 #[derive(Debug, Drop, ErrorText)]
 pub enum CommandFault {
-    /// The options, or a value of one, are none that the program has together.
+    /// The options do not go together, or a value of one is invalid.
     #[error("usage 1 Usage")]
     Usage,
-    /// The words are no options of the program, or ask for its help or its version: the text to
-    /// print.
+    /// The words cannot be parsed, or ask for help or the version: the text to print.
     #[error("usage 2 Words")]
     Words { help: bool, text: String },
-    /// There was no memory.
+    /// An allocation failed.
     #[error("usage 3 NoMemory")]
     NoMemory,
 }
@@ -53,10 +52,9 @@ impl From<AllocError> for CommandFault {
     }
 }
 
-/// The job that the words ask for, the program's name before them (ssh-keygen(1), SYNOPSIS).
-/// `Words` where they are no options of the program, or ask for its help or its version, `Usage`
-/// where the options do not go together or a value is none of theirs, `NoMemory` where memory runs
-/// out.
+/// Returns the job that the words ask for, the program's name before them (ssh-keygen(1),
+/// SYNOPSIS). Returns `Words` if they cannot be parsed or ask for help or the version, `Usage` if
+/// the options do not go together or a value is invalid, `NoMemory` if an allocation fails.
 pub fn command_of<'a, S: AsStr>(alloc: Global, words: &'a [S]) -> Result<Job<'a>, CommandFault>
     ensures { IsCommand (map S.text words.entry.now) result }
 {
@@ -67,7 +65,7 @@ pub fn command_of<'a, S: AsStr>(alloc: Global, words: &'a [S]) -> Result<Job<'a>
     }
 }
 
-// Why the words are not read, or the help or the version that they ask for.
+// Why the words cannot be parsed, or the help or the version that they ask for.
 fn words_fault<S: AsStr>(alloc: Global, error: &Error, words: &[S]) -> CommandFault
     ensures { ReportsError error.now result }
 {
@@ -83,7 +81,7 @@ fn words_fault<S: AsStr>(alloc: Global, error: &Error, words: &[S]) -> CommandFa
     }
 }
 
-// The job of words that are read.
+// The job of words that can be parsed.
 fn job_in<'a>(alloc: Global, matches: &ArgMatches<'a>) -> Result<Job<'a>, CommandFault>
     ensures { AsksFor (given_of (rows_of (found_of matches.now))) result }
 {

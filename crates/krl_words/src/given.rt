@@ -1,4 +1,4 @@
-//! What words hold of the options.
+//! The values of the options in a command line.
 
 ghost use Rattle.std.specs.Prelude.{◌≡◌, IfOk, codes, map, unwrap_or, []};
 ghost use Rattle.clap.specs.Matches.{found_of};
@@ -10,7 +10,7 @@ use clap::ArgMatches;
 use krl_job::Given;
 use std::alloc::{AllocError, Global};
 
-/// What the words of these matches hold.
+/// The values in these matches.
 pub fn given_in<'a>(alloc: Global, matches: &ArgMatches<'a>) -> Result<Given<'a>, AllocError>
     ensures { IfOk result (λ given.
         given_by given ≡ given_of (rows_of (found_of matches.now))) }
@@ -30,7 +30,7 @@ pub fn given_in<'a>(alloc: Global, matches: &ArgMatches<'a>) -> Result<Given<'a>
     })
 }
 
-// Whether an option without a value is given.
+// Returns true if an option without a value is given.
 fn is_set(matches: &ArgMatches, id: &str) -> bool
     ensures { result ≡ is_set id.now (rows_of (found_of matches.now)) }
 {

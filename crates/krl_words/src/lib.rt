@@ -1,4 +1,5 @@
-//! The words of the command: what they ask for, or why they are not read (ssh-keygen(1), SYNOPSIS).
+//! The words of the command line: the job that they ask for, or why they cannot be parsed
+//! (ssh-keygen(1), SYNOPSIS).
 #![tactic(auto)]
 
 mod command;

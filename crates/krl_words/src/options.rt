@@ -9,7 +9,7 @@ use crate::version::VERSION;
 use clap::{Arg, ArgAction, Command};
 use std::alloc::{AllocError, Global};
 
-/// The program's own name, by whatever name it is called.
+/// The program's own name, whatever name it is called by.
 pub const NAME: &str = "krl-keygen";
 
 /// An argument of the command.
@@ -20,7 +20,7 @@ pub struct Argument {
     help: &'static str,
 }
 
-/// How an argument is given.
+/// The form of an argument.
 #[derive(Clone, Copy)]
 pub enum Form {
     /// By a letter.
@@ -33,7 +33,7 @@ pub enum Form {
     Version(&'static str),
 }
 
-/// What the words of the command line can be, in the order in which help shows it.
+/// All arguments of the command line, in the order in which help shows them.
 pub const ARGUMENTS: [Argument; 11] = [
     Argument {
         id: "list",
@@ -92,7 +92,7 @@ pub const ARGUMENTS: [Argument; 11] = [
     },
 ];
 
-/// The program as its words are read. Of an option that is given more than once the last counts.
+/// The program, for parsing its words. If an option is given more than once, the last one counts.
 pub fn program<'a>(alloc: Global) -> Result<Command<'a>, AllocError>
     ensures { IfOk result (λ command. app_of command ≡ program) }
 {
@@ -120,7 +120,7 @@ fn with_arguments<'a>(
     Ok(made)
 }
 
-// The argument as the library takes it.
+// The argument in the form of the library.
 fn argument_of<'a>(alloc: Global, argument: &Argument) -> Arg<'a>
     ensures rule { rule_of result ≡ rule_by argument.now }
     ensures local { result.global ≡ false }

@@ -1,4 +1,4 @@
-//! What the command line library says of words that it refuses.
+//! The text of the command line library for words that it refuses.
 
 use crate::options::program;
 use crate::usage::{command_name, examples_of, usage_of};
@@ -6,12 +6,12 @@ use clap::error::ErrorKind;
 use std::alloc::{AllocError, Global};
 use std::convert::AsStr;
 
-// What is said of words that are read once they are escaped.
+// The text for words that can be parsed after they are escaped.
 const REFUSED: &str = "ssh-keygen: usage 2 Words\n";
 
 /// The library's text for these words, its help or the version. It repeats words as they are given,
-/// so it is given them with their control characters escaped: no word moves the terminal or begins
-/// a line.
+/// so it receives them with their control characters escaped: no word can control the terminal or
+/// begin a line.
 pub fn text_for<S: AsStr>(alloc: Global, words: &[S]) -> Result<String, AllocError> {
     let shown = shown_words(alloc, words)?;
     said_of(alloc, shown.as_slice())
@@ -42,7 +42,7 @@ fn said_of(alloc: Global, words: &[String]) -> Result<String, AllocError> {
 }
 
 // The word with each byte of a control character as `\x` and two hexadecimal digits, as names are
-// printed. The control characters past those of ASCII are among them.
+// printed. Control characters outside ASCII are included.
 fn shown_word(alloc: Global, word: &str) -> Result<String, AllocError> {
     let mut shown = String::new(alloc);
     for letter in word.chars() {
@@ -55,7 +55,7 @@ fn shown_word(alloc: Global, word: &str) -> Result<String, AllocError> {
     Ok(shown)
 }
 
-// Appends the bytes of the letter by their digits.
+// Appends the bytes of the letter as digits.
 fn push_digits(alloc: Global, shown: &mut String, letter: char) -> Result<(), AllocError> {
     let mut bytes = [0u8; 4];
     for byte in letter.encode_utf8(&mut bytes).bytes() {

@@ -1,9 +1,9 @@
-//! How the command is used, by the name that it was called by (ssh-keygen(1), SYNOPSIS).
+//! The usage of the command, with the name that it was called by (ssh-keygen(1), SYNOPSIS).
 
 use crate::options::NAME;
 use std::alloc::{AllocError, Global};
 
-/// The name of the command, which the first of the words has, after the folders that lead to it.
+/// The name of the command: the first of the words, without the directories in it.
 pub fn command_name(words: &[String]) -> &str {
     let Some(word) = words.first() else {
         return NAME;
@@ -14,7 +14,7 @@ pub fn command_name(words: &[String]) -> &str {
     }
 }
 
-/// The forms of use of a command of this name.
+/// The forms of use of a command with this name.
 pub fn usage_of(alloc: Global, name: &str) -> Result<String, AllocError> {
     format!(in alloc;
         "{name} -l [-E hash] -f file
@@ -24,7 +24,7 @@ pub fn usage_of(alloc: Global, name: &str) -> Result<String, AllocError> {
     )
 }
 
-/// An example of each use of a command of this name.
+/// An example of each use of a command with this name.
 pub fn examples_of(alloc: Global, name: &str) -> Result<String, AllocError> {
     format!(in alloc;
         "Examples:
