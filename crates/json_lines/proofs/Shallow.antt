@@ -1,4 +1,4 @@
--- Values whose numbers are counts, and that nest no deeper than a number.
+-- Values whose numbers are counts, and whose depth is at most a given number.
 use Rattle.std.proofs.Common.{◌≡◌, ℕ, ◌+◌, ◌<◌, ◌≤◌, ◌^◌, Bool, true, false, List, [], ◌∷◌, ◌++◌, refl, arith}
 use Rattle.std.specs.Str.{is_utf8}
 use Rattle.json.specs.Json.{Json}

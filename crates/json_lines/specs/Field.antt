@@ -40,20 +40,20 @@ word_field name word = field name (string word)
 abbrev pub number_field : List ℕ → ℕ → Field
 number_field name count = field name (number (decimal count))
 
--- a number as a string, since it may be more than a reader's numbers hold
+-- a number as a string, because it may be too large for a reader's numbers
 abbrev pub digits_field : List ℕ → ℕ → Field
 digits_field name count = word_field name (decimal count)
 
--- bytes in base64 (RFC 4648 section 4), with padding, of which the name tells
+-- bytes in base64 (RFC 4648 section 4), with padding, as the name of the field shows
 abbrev pub base64_field : List ℕ → List ℕ → Field
 base64_field name bytes = word_field (name ++ codes "_base64") (encode_of standard bytes)
 
--- bytes as text where they are UTF-8
+-- bytes as text if they are UTF-8
 unfoldable pub text_field : List ℕ → List ℕ → Field
 text_field name bytes =
     if is_utf8 bytes then word_field name bytes else base64_field name bytes
 
--- ---- what is written
+-- ---- the written text
 
 abbrev pub field_tokens : Field → List Token
 field_tokens one = key one.name ∷ json_tokens one.value

@@ -1,4 +1,4 @@
--- What a reader makes of the line of a value.
+-- The value that a reader reads from the line of a value.
 use Rattle.std.specs.Prelude.{◌≡◌, ℕ, ◌<◌, ◌^◌, ◌==◌, [], ◌∷◌, Some, decimal}
 use Rattle.std.specs.List.{slice_split}
 use Rattle.json.specs.Json.{Json, array, boolean, document, null, number, object, string, Items, item, no_items, Members, member, no_members}

@@ -29,8 +29,8 @@ pub fn put_number(out: &mut LineWriter, name: &str, count: u64) -> Result<(), Al
     out.number(count)
 }
 
-/// Writes a field with the digits of a number as a text: it may be more than a reader's numbers
-/// hold.
+/// Writes a field with the digits of a number as a text, because the number may be too large for a
+/// reader's numbers.
 pub fn put_digits(out: &mut LineWriter, name: &str, count: u64) -> Result<(), AllocError>
     ensures { OnOk result (out.new
         ≡ out.old ++ fields_tokens (digits_field name.now count ∷ [])) }
@@ -39,7 +39,7 @@ pub fn put_digits(out: &mut LineWriter, name: &str, count: u64) -> Result<(), Al
     put_word(out, name, digits.format(count))
 }
 
-/// Writes a field with bytes: as text where they are UTF-8, and else in base64 (RFC 4648 section
+/// Writes a field with bytes: as text if they are UTF-8, otherwise in base64 (RFC 4648 section
 /// 4), with `_base64` after the name.
 #[tactic(auto, unfolding(crate::specs::Field::text_field))]
 pub fn put_text(

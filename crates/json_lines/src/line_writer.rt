@@ -10,7 +10,7 @@ use json::{Token, Writer};
 use std::alloc::{AllocError, Global};
 use std::marker::Model;
 
-/// A JSON text that is written token by token. A clause sees the tokens.
+/// A JSON text that is written token by token. Contracts state the tokens.
 #[derive(Drop)]
 pub struct LineWriter {
     out: Writer,
@@ -30,7 +30,7 @@ impl Model for LineWriter {
 }
 
 impl LineWriter {
-    // A text without a token.
+    // A text without tokens.
     fn new(alloc: Global) -> LineWriter
         ensures { result ≡ [] }
     {
@@ -48,7 +48,7 @@ impl LineWriter {
         Ok(line)
     }
 
-    /// Writes a token. The caller keeps to the grammar.
+    /// Writes a token. The caller must follow the grammar.
     pub fn token(&mut self, token: Token<'_>) -> Result<(), AllocError>
         requires { IsPrintable (token_of token) }
         ensures { OnOk result (self.new ≡ self.old ++ token_of token.entry ∷ []) }

@@ -1,4 +1,4 @@
--- The text is free of line feeds, and is read.
+-- The text has no line feed, and a reader reads it.
 use Rattle.json_lines.proofs.SingleLines.{read_back}
 use Rattle.json_lines.proofs.laws.lines_are_read_back.Goals as goal
 
