@@ -15,7 +15,7 @@ use Rattle.krl_openssh.specs.Difference.{difference_at, first_difference, or_lat
 use Rattle.krl_openssh.specs.Fields.{AreWhole, HasFields}
 use Rattle.krl_openssh.specs.declared.difference.Difference.{Difference}
 
--- Some fields are left of a list, and the first difference is theirs.
+-- Some fields of a list are left, and its first difference is in them.
 pub record Remains (fields : List (List ℕ)) (place : Place) (rest : List ℕ) : Type 0 where
   pub todo : List (List ℕ)
   pub whole : AreWhole place todo
@@ -27,7 +27,7 @@ begins list fields is = record { todo = fields; whole = is.whole; parts = is.par
 
 -- ---- the end
 
--- where a list may end a field has a byte
+-- at a place where a list may end, a field has a byte
 not_ended : (place next : Place) (field rest : List ℕ) (more : List (List ℕ)) → can_end place ≡ true → rest ≡ [] → Passes place field next → rest ≡ concat (field ∷ more) → ⊥
 not_ended place next field rest more may none passes parts =
     omega (arith, end_size place may, passes.whole, ap length none, ap length parts, length-append field (concat more))
@@ -94,7 +94,7 @@ module _ (fields : List (List ℕ)) (place next : Place) (rest : List ℕ) (size
     same = same ∙ ap (λ (d : Option Difference). or_later d (first_difference next there.more)) differs;
   }
 
--- each field brings the end nearer
+-- after each field the end is nearer
 pub comes_nearer : (place next : Place) (rest : List ℕ) (size : ℕ) → size ≤ length rest → Passes place (take size rest) next
     → 2 * length (take (length rest - size) (drop size rest)) + weight next < 2 * length rest + weight place
 comes_nearer place next rest size within passes =

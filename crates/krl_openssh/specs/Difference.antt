@@ -1,4 +1,4 @@
--- The fields of a list by which OpenSSH refuses it, or reads other names.
+-- The fields of a list for which OpenSSH refuses it, or reads other names.
 use Rattle.std.specs.Prelude.{ℕ, ◌-◌, ◌%◌, ◌==◌, ◌&&◌, ◌||◌, nat_le, nat_lt, not, if◌then◌else◌, Bool, true, false, List, [], ◌∷◌, codes, length, take, Option, Some, None, Result, Ok, Err}
 use Rattle.std.specs.List.{list_any}
 use Rattle.ssh_wire.specs.Wire.{number_of}
@@ -41,7 +41,7 @@ found_if false difference = None
 abbrev pub has_zero : List ℕ → Bool
 has_zero text = list_any (λ byte. byte == 0) text
 
--- OpenSSH drops a zero byte that stands last, and refuses any other.
+-- OpenSSH drops a zero byte at the end, and refuses any other.
 abbrev pub comment_difference : List ℕ → Option Difference
 comment_difference comment =
     found_if (has_zero (take (length comment - 1) comment)) differences.Comment
@@ -51,7 +51,7 @@ section_difference type_byte =
     if type_byte == 4 then Some differences.Signature
     else if type_byte == 255 then Some differences.Extension else None
 
--- whether OpenSSH takes a key of this kind and size
+-- whether OpenSSH accepts a key of this kind and size
 abbrev pub size_fits : Kind → ℕ → Bool
 size_fits keys.Rsa bits = nat_le 1024 bits && nat_le bits 16384
 size_fits keys.Dsa bits = nat_le bits 16384
@@ -61,7 +61,7 @@ abbrev pub key_difference : Result PublicKey KeyFault → Option Difference
 key_difference (Ok key) = found_if (not (size_fits key.kind key.bits)) differences.KeySize
 key_difference (Err fault) = Some differences.Authority
 
--- An authority is no bytes, for all authorities, or a key.
+-- An authority is empty, for all authorities, or a key.
 abbrev pub authority_difference : List ℕ → Option Difference
 authority_difference [] = None
 authority_difference (byte ∷ bytes) = key_difference (key_at (byte ∷ bytes))
@@ -79,16 +79,16 @@ serials_difference (serials.RangeMin after) field =
     found_if (number_of field == 0) differences.SerialZero
 serials_difference _ field = None
 
--- Of a bitmap's bytes, 2,048 are read, beside a first byte that is zero.
+-- OpenSSH reads at most 2,048 bytes of a bitmap, after an optional first byte that is zero.
 abbrev pub is_long : (size left byte : ℕ) → Bool
 is_long size left byte =
     (left == size) && (nat_lt 2049 size || ((size == 2049) && not (byte == 0)))
 
--- The lowest bit of the last byte stands for the offset.
+-- The lowest bit of the last byte represents the offset.
 abbrev pub names_zero : (offset left byte : ℕ) → Bool
 names_zero offset left byte = ((offset == 0) && (left == 1)) && (byte % 2 == 1)
 
--- a byte of a bitmap, of whose `size` bytes `left` remain, this one too
+-- a byte of a bitmap; `left` of its `size` bytes remain, including this one
 abbrev pub bits_difference : (offset size left byte : ℕ) → Option Difference
 bits_difference offset size left byte =
     if is_long size left byte then Some differences.LongBitmap
@@ -116,7 +116,7 @@ abbrev pub place_or : Place → Result Place KrlFault → Place
 place_or other (Ok next) = next
 place_or other (Err fault) = other
 
--- the first one of a row of fields, of which the first is at this place
+-- the first difference in a row of fields, of which the first is at this place
 abbrev pub first_difference : Place → List (List ℕ) → Option Difference
 first_difference place [] = None
 first_difference place (field ∷ fields) =

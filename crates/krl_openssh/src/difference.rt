@@ -1,4 +1,4 @@
-//! The fields of a list by which OpenSSH refuses it, or reads other names.
+//! The fields of a list for which OpenSSH refuses it, or reads other names.
 
 ghost use Rattle.std.specs.Prelude.{◌≡◌, length};
 ghost use Rattle.krl_core.specs.Place.{certificates_expected, expected, serials_expected};
@@ -15,13 +15,13 @@ use ssh_key::{Kind, read_key};
 pub enum Difference {
     /// The comment has a zero byte before its last byte.
     Comment,
-    /// A key ID has a zero byte. OpenSSH drops one that stands last, and refuses any other.
+    /// A key ID has a zero byte. OpenSSH drops one at the end, and refuses any other.
     KeyId,
-    /// Serial number 0 is named.
+    /// The list names serial number 0.
     SerialZero,
-    /// A bitmap has more than 2,048 bytes; a first byte that is zero does not count.
+    /// A bitmap has more than 2,048 bytes, not counting a first byte that is zero.
     LongBitmap,
-    /// A certificate authority is no key in its one spelling.
+    /// A certificate authority is not a key in its one spelling.
     Authority,
     /// A certificate authority is an RSA key of fewer than 1,024 bits, or an RSA or DSA key of more
     /// than 16,384.
@@ -50,7 +50,7 @@ impl Difference {
     }
 }
 
-/// Why OpenSSH does not take the whole field at a place as this project does, if so.
+/// Returns why OpenSSH does not read the whole field at a place as this project does, if so.
 pub(crate) fn difference_at(place: Place, field: &[u8]) -> Option<Difference>
     requires { length field.now ≡ (expected place).size }
     ensures { result ≡ difference_at place field.now }
@@ -78,14 +78,14 @@ pub(crate) fn difference_at(place: Place, field: &[u8]) -> Option<Difference>
     }
 }
 
-// The difference, where it is found.
+// The difference, if it was found.
 fn found_if(found: bool, difference: Difference) -> Option<Difference>
     ensures { result ≡ found_if found difference }
 {
     if found { Some(difference) } else { None }
 }
 
-// The difference of a comment. OpenSSH drops a zero byte that stands last.
+// The difference of a comment. OpenSSH drops a zero byte at the end.
 fn comment_difference(comment: &[u8]) -> Option<Difference>
     ensures { result ≡ comment_difference comment.now }
 {
@@ -93,7 +93,7 @@ fn comment_difference(comment: &[u8]) -> Option<Difference>
     found_if(has_zero(front), Difference::Comment)
 }
 
-// Whether a text has a zero byte.
+// Returns true if a text has a zero byte.
 fn has_zero(text: &[u8]) -> bool
     ensures { result ≡ has_zero text.now }
 {
@@ -125,7 +125,8 @@ fn certificates_difference(at: CertificatesPlace, field: &[u8]) -> Option<Differ
     }
 }
 
-// The difference of an authority, which is no bytes, for all authorities, or a key.
+// The difference of an authority. It may be empty, for all authorities, or a key that OpenSSH
+// accepts.
 fn authority_difference(authority: &[u8]) -> Option<Difference>
     ensures { result ≡ authority_difference authority.now }
 {
@@ -138,7 +139,7 @@ fn authority_difference(authority: &[u8]) -> Option<Difference>
     }
 }
 
-// Whether OpenSSH takes a key of this kind and size.
+// Returns true if OpenSSH accepts a key of this kind and size.
 fn size_fits(kind: Kind, bits: u32) -> bool
     ensures { result ≡ size_fits kind bits }
 {
@@ -149,7 +150,7 @@ fn size_fits(kind: Kind, bits: u32) -> bool
     }
 }
 
-// The difference of a serial number, or the first one of a range.
+// The difference of a serial number, or of the first one of a range.
 fn serials_difference(at: SerialsPlace, field: &[u8]) -> Option<Difference>
     requires { length field.now ≡ (serials_expected at).size }
     ensures { result ≡ serials_difference at field.now }
@@ -162,7 +163,7 @@ fn serials_difference(at: SerialsPlace, field: &[u8]) -> Option<Difference>
     }
 }
 
-// The difference of a byte of a bitmap, of whose `size` bytes `left` remain, this one too.
+// The difference of a byte of a bitmap; `left` of its `size` bytes remain, including this one.
 fn bits_difference(offset: u64, size: u32, left: u32, byte: u8) -> Option<Difference>
     ensures { result ≡ bits_difference offset size left byte }
 {
@@ -172,14 +173,14 @@ fn bits_difference(offset: u64, size: u32, left: u32, byte: u8) -> Option<Differ
     found_if(names_zero(offset, left, byte), Difference::SerialZero)
 }
 
-// Whether this is the first byte of a bitmap that is too long for OpenSSH.
+// Returns true if this is the first byte of a bitmap that is too long for OpenSSH.
 fn is_long(size: u32, left: u32, byte: u8) -> bool
     ensures { result ≡ is_long size left byte }
 {
     left == size && (size > 2_049 || (size == 2_049 && byte != 0))
 }
 
-// Whether the lowest bit of the byte is set and stands for serial number 0.
+// Returns true if the lowest bit of the byte is set and represents serial number 0.
 fn names_zero(offset: u64, left: u32, byte: u8) -> bool
     ensures { result ≡ names_zero offset left byte }
 {

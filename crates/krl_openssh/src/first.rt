@@ -1,4 +1,4 @@
-//! Going over the fields of a list for the first difference.
+//! The first difference among the fields of a list.
 
 ghost use Rattle.std.specs.Prelude.{◌≡◌, ◌≢◌, ◌↔◌, ◌++◌, ◌≤◌, List, ℕ, IfSome, IsTrue, None, length, take};
 ghost use Rattle.krl_core.specs.Front.{IsEnd, Passes, start};
@@ -9,10 +9,11 @@ ghost use Rattle.krl_openssh.specs.Fields.{HasFields};
 use crate::difference::{Difference, difference_at};
 use krl_core::{HeaderPlace, Place};
 
-/// The first field by which OpenSSH refuses a list or reads other names from it, and why: none
-/// where OpenSSH reads the list too, and as the same names. The list is one that can be read; of
-/// other bytes nothing is said. Takes no memory. Whether the point of an ECDSA key lies on its
-/// curve is not looked at, and of the numbers of a key only the modulus or the prime.
+/// Returns the first field for which OpenSSH refuses a list or reads other names from it, and why.
+/// Returns none if OpenSSH also reads the list, and reads the same names. The list must be one that
+/// can be read; for other bytes the result is not specified. Does not allocate. Does not check
+/// whether the point of an ECDSA key is on its curve, and checks only the modulus or the prime
+/// among the numbers of a key.
 pub fn first_difference(list: &[u8]) -> Option<Difference>
     ensures { (fields : List (List ℕ)) → HasFields list.now fields
         → result ≡ first_difference start.place fields }
@@ -32,15 +33,15 @@ pub fn first_difference(list: &[u8]) -> Option<Difference>
     None
 }
 
-// Whether a list may end at this place, and no byte is left.
+// Returns true if a list may end at this place, and no byte is left.
 fn is_end(place: Place, rest: &[u8]) -> bool
     ensures { IsTrue result ↔ IsEnd place rest.now }
 {
     place.may_end() && rest.is_empty()
 }
 
-// How many bytes the expected field has, and the place after it, where it is whole and passes its
-// judgement.
+// The size of the expected field in bytes, and the place after it, if the field is whole and passes
+// its check.
 fn passes(place: Place, bytes: &[u8]) -> Option<(usize, Place)>
     ensures within { IfSome result (λ field. field.0 ≤ length bytes.now) }
     ensures passes { IfSome result (λ field. Passes place (take field.0 bytes.now) field.1) }

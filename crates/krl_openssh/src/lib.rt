@@ -1,4 +1,4 @@
-//! Whether OpenSSH reads a key revocation list too, and as the same names (PROTOCOL.krl).
+//! Whether OpenSSH also reads a key revocation list, and reads the same names (PROTOCOL.krl).
 #![tactic(auto)]
 
 mod difference;

@@ -1,4 +1,4 @@
--- The next field is there, and differs or not.
+-- The next field exists, and has a difference or not.
 use Rattle.std.proofs.Common.{refl, sym}
 use Rattle.std.proofs.lemmas.Bool.{false≢true}
 use Rattle.std.proofs.lemmas.List.{take_rest}

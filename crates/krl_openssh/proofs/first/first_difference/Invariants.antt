@@ -1,4 +1,4 @@
--- Some fields are left, and the first difference is theirs.
+-- Some fields are left, and the first difference is in them.
 use Rattle.std.proofs.Common.{◌+◌, ◌*◌, ℕ, List, length}
 use Rattle.krl_core.proofs.Exists.{weight}
 use Rattle.krl_openssh.specs.Fields.{HasFields}

@@ -1,4 +1,4 @@
--- A list that is read is its fields, and no others.
+-- A list that is read consists of exactly its fields.
 use Rattle.krl_openssh.proofs.Rows.{has_fields, one_row}
 use Rattle.krl_openssh.proofs.laws.read_lists_have_fields.Goals as goal
 
