@@ -1,4 +1,4 @@
--- What was audited of a file, and then counted, is what is checked of it.
+-- A check uses exactly the counts of the audit of a file.
 use Rattle.std.proofs.Common.{◌≡◌, ℕ, ◌||◌, Bool, not, List, Result, Ok, Err, subst}
 use Rattle.std.specs.Prelude.{OnOk}
 use Rattle.key_files.specs.RunFault.{RunFault}

@@ -1,4 +1,4 @@
--- What is counted of lines, and what they are.
+-- The counts of lines, and the kinds of the lines.
 use Rattle.std.proofs.Common.{◌≡◌, ℕ, ◌+◌, ◌<◌, ◌≤◌, ◌^◌, inl, inr, Bool, true, false, List, [], ◌∷◌, length, refl, sym, ap, ◌∙◌, arith}
 use Rattle.std.specs.Prelude.{◌↔◌, ◌==◌, ◌||◌, nat_lt, if◌then◌else◌}
 use Rattle.std.proofs.lemmas.Bool.{eq-eqb, eqb-true, false≢true, le-ltb, ltb-false}
@@ -13,7 +13,7 @@ use Rattle.krl_checker.specs.Role.{AreMet, HasKey, MayBe, are_right, is_met}
 use Rattle.krl_checker.specs.declared.role.Role.{Role}
 use Rattle.krl_checker.specs.declared.role.Role.TheVariants as roles
 
--- ---- how many lines are of a sort
+-- ---- the number of lines of a kind
 
 add : Bool → ℕ → ℕ
 add true n = 1 + n
@@ -43,7 +43,7 @@ record AreCounted (old new : Counts) (lines : List Kind) : Type 0 where
   revoked : new.revoked ≡ old.revoked + count is_revoked_kind lines
   unread : new.unread ≡ old.unread + count is_unread_kind lines
 
--- each line is counted, where the counts have room
+-- each line is counted, if the counts have room
 are_counted : (old : Counts) (lines : List Kind) → old.keys + length lines < 2 ^ 64 → old.revoked + length lines < 2 ^ 64 → old.unread + length lines < 2 ^ 64 → AreCounted old (all_counted old lines) lines
 unfolding count
 are_counted old [] keys revoked unread = record { keys = omega arith; revoked = omega arith; unread = omega arith }
@@ -61,7 +61,7 @@ are_counted old (line ∷ lines) keys revoked unread =
       unread = rest.unread ∙ moved (is_unread_kind line) next.unread old.unread (count is_unread_kind lines) u;
     }
 
--- ---- what the lines are by these numbers
+-- ---- the kinds of the lines, by these numbers
 
 some_key : (lines : List Kind) → HasKey lines → count is_key lines ≡ 0 → ⊥
 unfolding count add
@@ -130,7 +130,7 @@ may_be_canaries (kinds.Unread ∷ lines) revoked unread = absurd (omega (arith, 
 
 -- ---- the test
 
--- Lines are right by the numbers of keys and of revoked ones.
+-- The lines meet the condition, by the numbers of keys and of revoked keys.
 abbrev AreRight : Role → ℕ → ℕ → Type 0
 AreRight roles.Keep keys revoked = revoked ≡ 0
 AreRight roles.Canary keys revoked = revoked ≡ keys

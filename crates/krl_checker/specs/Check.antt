@@ -1,4 +1,4 @@
--- What a check says of each condition, and how it ends.
+-- The lines that a check prints for each condition, and its end.
 use Rattle.std.specs.Prelude.{◌≡◌, ℕ, ◌||◌, nat_lt, not, Bool, true, false, List, [], ◌∷◌, ◌++◌, is_some, OnOk, Option, Some, None, Result}
 use Rattle.key_files.specs.RunFault.{RunFault}
 use Rattle.key_listing.specs.Carries.{Carries}
@@ -16,7 +16,7 @@ use Rattle.krl_checker.specs.Role.{is_met, shown_for}
 use Rattle.krl_checker.specs.Text.{difference_line, file_line, version_line}
 use Rattle.krl_checker.specs.declared.role.Role.{Role}
 
--- a line is said where a condition fails
+-- a line is printed if a condition fails
 abbrev pub said_where : Bool → List ℕ → List ℕ → List Item
 said_where true name text = said_of name text ∷ []
 said_where false name text = []
@@ -37,24 +37,24 @@ counts_items role name counts =
 abbrev pub none_counted : Counts
 none_counted = record { keys = 0; revoked = 0; unread = 0 }
 
--- what is counted of a file
+-- the counts of a file
 abbrev pub counts_of : (Subject → Reasons) → Result (List ℕ) Refusal → Counts
 counts_of reasons content = all_counted none_counted (file_kinds reasons content)
 
--- the keys that are not as they must be, and then the file
+-- the keys that do not meet the condition, and then the file
 abbrev pub keys_items : Role → (Subject → Reasons) → List ℕ → Result (List ℕ) Refusal → List Item
 keys_items role reasons name content =
     file_items reasons (shown_for role) name content
     ++ counts_items role name (counts_of reasons content)
 
--- The keys of a file were checked, after what was checked before; or the check was stopped.
+-- The keys of a file were checked, after the earlier checks; or the check was stopped.
 pub record ChecksFile (role : Role) (reasons : Subject → Reasons) (name : List ℕ)
     (content : Result (List ℕ) Refusal) (result : Result (Unit {0}) RunFault) (old new : Printer)
     (before after : Bool) : Type 0 where
   pub carries : Carries (keys_items role reasons name content) result old new
   pub refused : OnOk result (after ≡ (before || not (is_met role (counts_of reasons content))))
 
--- the exit status, by whether the answer is unknown and whether a condition failed
+-- the exit status, by whether the result is unknown and whether a condition failed
 abbrev pub check_status : Bool → Bool → ℕ
 check_status true refused = 255
 check_status false true = 1

@@ -1,4 +1,4 @@
--- What the keys of a file are to a list.
+-- The condition that a list must meet for the keys of a file.
 use Rattle.std.specs.Prelude.{ℕ, ◌==◌, nat_lt, if◌then◌else◌, Bool, true, false, List, [], ◌∷◌, codes, ◌||◌, ◌⊎◌, IsTrue}
 use Rattle.std.specs.List.{AllByRecursion}
 use Rattle.krl_audit.specs.Counts.{is_key}
@@ -15,12 +15,12 @@ abbrev pub are_right : Role → Counts → Bool
 are_right roles.Keep counts = counts.revoked == 0
 are_right roles.Canary counts = counts.revoked == counts.keys
 
--- There is one, and all is read.
+-- There is a key, and all lines are read.
 abbrev pub is_met : Role → Counts → Bool
 is_met role counts =
     if (counts.keys == 0) || nat_lt 0 counts.unread then false else are_right role counts
 
--- those are named that are not as they must be
+-- the keys that do not meet the condition are printed
 abbrev pub shown_for : Role → Shown
 shown_for roles.Keep = record { findings = true; fine = false; form = Text }
 shown_for roles.Canary = record { findings = false; fine = true; form = Text }
@@ -31,8 +31,8 @@ role_word roles.Canary = codes "canary: "
 
 -- ---- the same of the lines of a file
 
--- A line of this kind may be in the file. A key that its line calls revoked is not trusted there,
--- so it may be in a file of keys to be kept, and is no canary.
+-- A line of this kind may be in the file. A key that its line marks as revoked is not trusted there, so it counts
+-- neither as a key to be kept nor as a canary.
 abbrev pub MayBe : Role → Kind → Type 0
 MayBe role kinds.Blank = Unit {0}
 MayBe role kinds.Unread = ⊥
@@ -48,6 +48,6 @@ abbrev pub HasKey : List Kind → Type 0
 HasKey [] = ⊥
 HasKey (line ∷ lines) = IsTrue (is_key line) ⊎ HasKey lines
 
--- Each line may be there, and one has a key.
+-- Each line may be in the file, and one has a key.
 abbrev pub AreMet : Role → List Kind → Type 0
 AreMet role lines = AllByRecursion (MayBe role) lines × HasKey lines

@@ -1,4 +1,4 @@
--- The lines that name a condition which fails, and why.
+-- The lines that are printed for a condition that fails, and why it fails.
 use Rattle.std.specs.Prelude.{ℕ, List, [], ◌∷◌, ◌++◌, codes, decimal}
 use Rattle.ssh_cert.specs.Escape.{escaped}
 use Rattle.krl_audit.specs.declared.counts.Counts.{Counts}

@@ -22,21 +22,21 @@ use krl_audit::{Auditor, Counts, Refusal};
 use krl_openssh::first_difference;
 use std::alloc::AllocError;
 
-/// What checks a list: what asks it about the keys of files and prints, whether a condition failed,
-/// and whether a file was not read. Nothing is printed of a condition that holds.
+/// Checks a list: has the auditor that queries it for the keys of files and prints, whether a
+/// condition failed, and whether a file was not read. Prints nothing for a condition that holds.
 #[derive(Drop)]
 pub struct Checker<'q, 'w, W: Sink> {
-    /// The list, and what prints.
+    /// The list, and the printer.
     pub auditor: Auditor<'q, 'w, W>,
-    /// Whether a condition failed.
+    /// True if a condition failed.
     pub refused: bool,
-    /// Whether a file of keys was not read.
+    /// True if a file of keys was not read.
     pub unread: bool,
 }
 
 impl<'q, 'w, W: Sink> Checker<'q, 'w, W> {
-    /// Checks that OpenSSH reads a list too, and as the same names. These are the bytes of the
-    /// list, which was read.
+    /// Checks that OpenSSH also reads a list, and reads the same names. `list` is the bytes of the
+    /// list, which must have been read.
     pub fn check_openssh<'a>(&mut self, name: &'a str, list: &[u8]) -> Result<(), RunFault<'a>>
         ensures carries { (fields : List (List ℕ)) → HasFields list.now fields
             → Carries (difference_items name.now (first_difference start.place fields)) result
@@ -56,7 +56,7 @@ impl<'q, 'w, W: Sink> Checker<'q, 'w, W> {
         }
     }
 
-    /// Checks that the version of a list is not below that of another.
+    /// Checks that the version of a list is not lower than that of another.
     pub fn check_version<'a>(
         &mut self,
         name: &'a str,
@@ -76,9 +76,9 @@ impl<'q, 'w, W: Sink> Checker<'q, 'w, W> {
         self.refuse(name, made)
     }
 
-    /// Checks that a list revokes none of the keys of a file, or each of them, by the bytes of the
-    /// file or why there are none. The keys that are not as they must be are named as an audit
-    /// names them, and then the file.
+    /// Checks that a list revokes none of the keys of a file, or each of them, given the bytes of
+    /// the file or why there are none. Prints the keys that do not meet the condition, in the form
+    /// of an audit, and then the file.
     pub fn check_keys<'a>(
         &mut self,
         role: Role,
@@ -99,7 +99,7 @@ impl<'q, 'w, W: Sink> Checker<'q, 'w, W> {
         self.check_counts(role, name)
     }
 
-    // Checks what was counted of a file.
+    // Checks the counts of a file.
     fn check_counts<'a>(&mut self, role: Role, name: &'a str) -> Result<(), RunFault<'a>>
         ensures carries { Carries (counts_items role name.now self.old.auditor.counts) result
             self.old.auditor.run.printer self.new.auditor.run.printer }
@@ -116,7 +116,7 @@ impl<'q, 'w, W: Sink> Checker<'q, 'w, W> {
         self.refuse(name, made)
     }
 
-    // Says the line that was made of a condition which fails.
+    // Prints the line that was made for a condition that fails.
     fn refuse<'a>(
         &mut self,
         name: &'a str,
@@ -134,8 +134,8 @@ impl<'q, 'w, W: Sink> Checker<'q, 'w, W> {
         self.auditor.run.say_line(name, made)
     }
 
-    /// Ends a check, which a fault stopped or not: sends what waits. The status is 255 where it was
-    /// stopped or a file was not read, else 1 where a condition failed, else 0.
+    /// Ends a check, whether a fault stopped it or not: sends the waiting output. The status is 255
+    /// if it was stopped or a file was not read, otherwise 1 if a condition failed, otherwise 0.
     pub fn finish<'a>(&mut self, stop: Option<RunFault<'a>>) -> Done<'a>
         ensures ends { (before : Option (List ℕ)) (run : List Item)
             → Reaches before run stop.entry self.old.auditor.run.printer

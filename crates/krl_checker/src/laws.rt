@@ -1,4 +1,4 @@
-//! Laws of what is checked. Each function does nothing: its contract is the law.
+//! Laws of the checks. Each function does nothing: its contract is the law.
 
 ghost use Rattle.std.specs.Prelude.{◌≡◌, ◌+◌, ◌<◌, ◌^◌, ◌↔◌, List, length, true};
 ghost use Rattle.krl_audit.specs.Counts.{all_counted};
@@ -7,8 +7,8 @@ ghost use Rattle.krl_checker.specs.Check.{none_counted};
 ghost use Rattle.krl_checker.specs.Role.{AreMet, is_met};
 ghost use Rattle.krl_checker.specs.declared.role.Role.{Role};
 
-/// What is counted of the lines of a file passes exactly where each line may be there, and one has
-/// a key.
+/// The counts of the lines of a file meet the condition exactly if each line may be in the file,
+/// and one has a key.
 pub fn counts_are_met_by_lines()
     ensures { (role : Role) (lines : List Kind) → length lines + 1 < 2 ^ 64
         → (is_met role (all_counted none_counted lines) ≡ true ↔ AreMet role lines) }

@@ -1,5 +1,5 @@
-//! Checks a key revocation list before it is put in force: OpenSSH reads it too, it is not older
-//! than another, it revokes no key that is to be kept, and it revokes each canary.
+//! Checks a key revocation list before it is put in force: OpenSSH also reads it, it is not older
+//! than another, it revokes no key that must be kept, and it revokes each canary.
 #![tactic(auto)]
 
 mod checker;

@@ -1,11 +1,11 @@
-//! What the keys of a file are to a list.
+//! The condition that a list must meet for the keys of a file.
 
 ghost use Rattle.std.specs.Prelude.{◌≡◌};
 ghost use Rattle.krl_checker.specs.Role.{is_met, role_word, shown_for};
 
 use krl_audit::{Counts, Form, Shown};
 
-/// What the keys of a file are to a list.
+/// The condition that a list must meet for the keys of a file.
 #[derive(Clone, Copy, PartialEq, Eq)]
 pub enum Role {
     /// None of them may be revoked.
@@ -15,8 +15,8 @@ pub enum Role {
 }
 
 impl Role {
-    /// Whether a list does what it must for a file with these counts. A file without a key, or with
-    /// a line that is not read, is refused.
+    /// Returns true if a list meets the condition for a file with these counts. Returns false for a
+    /// file without a key, or with a line that is not read.
     pub(crate) fn is_met(self, counts: Counts) -> bool
         ensures { result ≡ is_met self counts }
     {
@@ -29,7 +29,7 @@ impl Role {
         }
     }
 
-    /// The keys that are named, since they are not as they must be.
+    /// The keys that are printed because they do not meet the condition.
     pub(crate) fn shown(self) -> Shown
         ensures { result ≡ shown_for self }
     {

@@ -1,4 +1,4 @@
-//! The lines that name a condition which fails, and why.
+//! The lines that are printed for a condition that fails, and why it fails.
 
 ghost use Rattle.std.specs.Prelude.{◌≡◌, OnOk};
 ghost use Rattle.krl_checker.specs.Text.{difference_line, file_line, version_line};
@@ -10,7 +10,7 @@ use krl_openssh::Difference;
 use ssh_cert::push_escaped;
 use std::alloc::AllocError;
 
-/// Makes the line of a list that OpenSSH does not read, or reads as other names.
+/// Makes the line for a list that OpenSSH does not read, or from which it reads other names.
 pub(crate) fn write_difference(
     line: &mut Vec<u8>,
     name: &str,
@@ -27,7 +27,7 @@ pub(crate) fn write_difference(
     Ok(())
 }
 
-/// Makes the line of a list whose version is below that of another.
+/// Makes the line for a list whose version is lower than that of another.
 pub(crate) fn write_version(
     line: &mut Vec<u8>,
     name: &str,
@@ -47,7 +47,7 @@ pub(crate) fn write_version(
     Ok(())
 }
 
-/// Makes the line of a file whose keys are not as they must be, or are not all read.
+/// Makes the line for a file whose keys do not meet the condition, or are not all read.
 pub(crate) fn write_file(
     line: &mut Vec<u8>,
     role: Role,

@@ -1,4 +1,4 @@
--- The file is audited, and what was counted is checked.
+-- The file is audited, and the counts are checked.
 use Rattle.std.proofs.lemmas.Result.{err_from_is_err_and}
 use Rattle.krl_checker.proofs.Checking.{counted, stopped}
 use Rattle.krl_checker.proofs.checker.Checker.check_keys.Goals as goal

@@ -1,4 +1,4 @@
--- The first difference is said.
+-- The first difference is printed.
 use Rattle.std.proofs.Common.{Option, subst}
 use Rattle.key_listing.specs.Carries.{Carries}
 use Rattle.krl_openssh.specs.declared.difference.Difference.{Difference}
