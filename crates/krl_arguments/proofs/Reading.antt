@@ -1,4 +1,4 @@
--- What the words hold, by their matches.
+-- The values of the words, by their matches.
 use Rattle.std.proofs.Common.{◌≡◌, ℕ, ◌+◌, ◌<◌, true, false, List, [], ◌∷◌, ◌++◌, length, map, take, get_or, Option, Result, Ok, Err, refl, sym, ap, ap₂, ◌∙◌, codes, inl, inr}
 use Rattle.std.specs.Prelude.{option_map, unwrap_or}
 use Rattle.std.specs.Option.{option_map_or}
@@ -34,7 +34,7 @@ last_rule : (app : App) (rules : List Rule) (rule : Rule) → with_rules app (ru
 last_rule app [] rule = refl
 last_rule app (first ∷ rules) rule = last_rule (with_rule app first) rules rule
 
--- the rules of a table to one argument more
+-- the rules of a table and one more argument
 pub one_more_rule : (app : App) (table : List Argument) (i : ℕ) (d : Argument) → i < length table
     → with_rule (with_rules app (map rule_by (take i table))) (rule_by (get_or table i d)) ≡ with_rules app (map rule_by (take (i + 1) table))
 one_more_rule app table i d lt =
@@ -60,7 +60,7 @@ pub values_by : (f : Found) (id : List ℕ) (values : Option (List (List ℕ))) 
     → unwrap_or values [] ≡ values_of id (rows_of f)
 values_by f id values is = ap (λ (o : Option (List (List ℕ))). unwrap_or o []) (is ∙ raw_values-rows f id)
 
--- what the matches of the words hold is what the words hold
+-- the matches have the same values as the words
 pub held_by : (app : App) (words : List (List ℕ)) (m : ArgMatches) → app ≡ program → HasMatchesOf app words m → task_in (subcommand_rows_of m) ≡ task_of words
 unfolding task_of
 held_by app words m same has = ap task_in ((rw same at has) program_is_simple).1
@@ -71,13 +71,13 @@ free_by app words same free = (rw same at free) program_is_free
 pub fails_by : (app : App) (words : List (List ℕ)) (e : Error) → app ≡ program → (is_simple_and_free app ≡ true → HasKind (fault_of app words) e) → HasKind (fault_of program words) e
 fails_by app words e same kinds = (rw same at kinds) program_is_free
 
--- the task of words that are read
+-- the task of words that can be parsed
 pub asked_for : (words : List (List ℕ)) (asked : _) (result : Result TaskOf CommandFault) → fault_of program words ≡ [] → asked ≡ task_of words → AsksFor asked result → IsCommand words result
 asked_for words asked (Ok task) free same asks = (free, sym same ∙ asks)
 asked_for words asked (Err (Words help text)) free same asks = inl (free, (sym same ∙ asks.0, asks.1))
 asked_for words asked (Err NoMemory) free same asks = tt
 
--- why words are not read
+-- why words cannot be parsed
 pub not_read : (words : List (List ℕ)) (e : Error) (fault : CommandFault) → HasKind (fault_of program words) e → ReportsError e fault → IsCommand words (Err fault)
 not_read words e NoMemory kind reports = tt
 not_read words e (Words help text) kind reports = inr (kind_of e, among kind, reports.1)

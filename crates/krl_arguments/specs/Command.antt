@@ -1,4 +1,4 @@
--- Which words ask for which task (krl(1), SYNOPSIS), and the statuses that they end with otherwise.
+-- Which words ask for which task (krl(1), SYNOPSIS), and the exit statuses of other words.
 use Rattle.std.specs.Prelude.{◌≡◌, ◌≢◌, ◌⊎◌, ℕ, ⊤, Bool, false, List, [], None, Some, Option, Result, Ok, Err}
 use Rattle.clap.specs.Faults.{fault_of}
 use Rattle.clap.specs.Kinds.{IsAmong}
@@ -17,25 +17,25 @@ abbrev pub command_fault_status : CommandFault → ℕ
 command_fault_status (Words help text) = words_status help
 command_fault_status NoMemory = 255
 
--- What words that are read ask for: this task, or none, since the options do not go together.
+-- The result of parsed words: this task, or none, because the options do not go together.
 abbrev pub AsksFor : Option Task → Result TaskOf CommandFault → Type 0
 AsksFor asked (Ok task) = asked ≡ Some (task_by task)
 AsksFor asked (Err (Words help text)) = (asked ≡ None) × (help ≡ false)
 AsksFor asked (Err NoMemory) = ⊤
 
--- why words are not read
+-- why words cannot be parsed
 abbrev pub ReportsError : Error → CommandFault → Type 0
 ReportsError error (Words help text) =
     (kind_of error ≢ OutOfMemory) × (help ≡ is_help (kind_of error))
 ReportsError error NoMemory = ⊤
 
--- The words are not read, for a fault of this kind.
+-- The words cannot be parsed, because of a fault of this kind.
 abbrev pub IsRefused : List (List ℕ) → Bool → Type 0
 IsRefused words help =
     (kind : ErrorKind) × IsAmong kind (fault_of program words) × (help ≡ is_help kind)
 
--- What comes of the words, the program's name before them: where they are read, the task that they
--- ask for; otherwise help, or why they are refused.
+-- The result of words that follow the program's name: if they can be parsed, the task that they ask for; otherwise
+-- help, or why they are refused.
 abbrev pub IsCommand : List (List ℕ) → Result TaskOf CommandFault → Type 0
 IsCommand words (Ok task) =
     (fault_of program words ≡ []) × (task_of words ≡ Some (task_by task))

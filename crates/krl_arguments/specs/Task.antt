@@ -1,4 +1,4 @@
--- What words ask for (krl(1), SYNOPSIS).
+-- The tasks that words ask for (krl(1), SYNOPSIS).
 use Rattle.std.specs.Prelude.{ℕ, ◌&&◌, Bool, false, not, List, [], codes, is_some, map, Option, Some, None, option_and_then, option_map, unwrap_or, if◌then◌else◌}
 use Rattle.std.specs.Option.{option_map_or}
 use Rattle.std.specs.Str.{bytes_eq}
@@ -19,7 +19,7 @@ pub record Audit : Type 0 where
   pub names_from : Option (List ℕ)
   pub files : List (List ℕ)
 
--- a check: the list, what it must meet, and whether its version alone is printed
+-- a check: the list, its conditions, and whether only its version is printed
 pub record Check : Type 0 where
   pub list : List ℕ
   pub newer_than : Option (List ℕ)
@@ -31,7 +31,7 @@ pub data Task : Type 0 where
   AuditTask : Audit → Task
   CheckTask : Check → Task
 
--- ---- what words hold
+-- ---- the values of the words
 
 abbrev pub is_set : List ℕ → List Row → Bool
 is_set id rows = option_map_or (λ text. bytes_eq text (codes "true")) (first_of id rows) false
@@ -49,7 +49,7 @@ audit_with rows list = record {
   files = values_of (codes "files") rows;
 }
 
--- The audit, where a file, a directory or a file of names is given.
+-- The audit, if a file, a directory or a file of names is given.
 abbrev pub if_any : Audit → Option Audit
 if_any audit =
     if not (is_some audit.names_from) && is_empty audit.files then None else Some audit
@@ -67,12 +67,12 @@ check_with rows list = record {
   print_version = is_set (codes "print-version") rows;
 }
 
--- nothing is to be met
+-- there is no condition
 abbrev pub has_only_version : Check → Bool
 has_only_version check =
     not (is_some check.newer_than) && (is_empty check.keep && not (is_some check.canary))
 
--- The check, where the version is not asked for together with what the list must meet.
+-- The check, unless the version is requested together with a condition.
 abbrev pub if_alone : Check → Option Check
 if_alone check =
     if check.print_version && not (has_only_version check) then None else Some check
@@ -96,7 +96,7 @@ task_in (Some (name, rows)) = named_task name rows
 unfoldable pub task_of : List (List ℕ) → Option Task
 task_of words = task_in (subcommand_of program words)
 
--- ---- the same, as the program keeps it
+-- ---- the same, in the types of the program
 
 abbrev pub audit_by : AuditOf → Audit
 audit_by audit = record {

@@ -18,14 +18,14 @@ use std::convert::AsStr;
 /// Why there is no task.
 #[derive(Debug, Drop)]
 pub enum CommandFault {
-    /// The words ask for help or the version, or are none that the program has: the text to print.
+    /// The words ask for help or the version, or cannot be parsed: the text to print.
     Words { help: bool, text: String },
-    /// There was no memory.
+    /// An allocation failed.
     NoMemory,
 }
 
 impl CommandFault {
-    /// The exit status: 0 where help or the version is printed, 2 where the words are refused.
+    /// The exit status: 0 if help or the version is printed, 2 if the words are refused.
     pub fn status(&self) -> u8
         ensures { result ≡ command_fault_status self.now }
     {
@@ -45,8 +45,8 @@ impl From<AllocError> for CommandFault {
     }
 }
 
-/// The task that the words ask for, the program's name before them (krl(1), SYNOPSIS). `Words` where
-/// they ask for help or the version, are none of the program, or do not go together.
+/// Returns the task that the words ask for, the program's name before them (krl(1), SYNOPSIS).
+/// Returns `Words` if they ask for help or the version, cannot be parsed, or do not go together.
 pub fn task_of<'a, S: AsStr>(alloc: Global, words: &'a [S]) -> Result<Task<'a>, CommandFault>
     ensures { IsCommand (map S.text words.entry.now) result }
 {
@@ -57,7 +57,7 @@ pub fn task_of<'a, S: AsStr>(alloc: Global, words: &'a [S]) -> Result<Task<'a>, 
     }
 }
 
-// Why the words are not read, or the help or the version that they ask for.
+// Why the words cannot be parsed, or the help or the version that they ask for.
 fn words_fault<S: AsStr>(alloc: Global, error: &Error, words: &[S]) -> CommandFault
     ensures { ReportsError error.now result }
 {
@@ -73,7 +73,7 @@ fn words_fault<S: AsStr>(alloc: Global, error: &Error, words: &[S]) -> CommandFa
     }
 }
 
-// The task of words that are read.
+// The task of words that can be parsed.
 fn asked_for<'a>(alloc: Global, matches: &ArgMatches<'a>) -> Result<Task<'a>, CommandFault>
     ensures { AsksFor (task_in (subcommand_rows_of matches.now)) result }
 {

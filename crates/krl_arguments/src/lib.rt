@@ -1,4 +1,4 @@
-//! The words of `krl`: which task they ask for, or why they are not read (krl(1), SYNOPSIS).
+//! The words of `krl`: the task that they ask for, or why they cannot be parsed (krl(1), SYNOPSIS).
 #![tactic(auto)]
 
 mod command;

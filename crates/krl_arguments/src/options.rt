@@ -10,7 +10,7 @@ use clap::{Arg, ArgAction, Command};
 use krl_words::VERSION;
 use std::alloc::{AllocError, Global};
 
-/// The program's own name, by whatever name it is called.
+/// The program's own name, whatever name it is called by.
 pub const NAME: &str = "krl";
 
 /// A subcommand with its arguments.
@@ -29,20 +29,20 @@ pub struct Argument {
     help: &'static str,
 }
 
-/// How an argument is given. A value or a word has a name.
+/// The form of an argument. A value or a word has a name.
 #[derive(Clone, Copy)]
 pub enum Form {
     /// By a letter.
     Letter(char),
     /// By its id as a long name.
     Long,
-    /// By a letter, with a value, always.
+    /// By a letter, with a value. It must be given.
     Needed(char, &'static str),
     /// By its id as a long name, with a value.
     Value(&'static str),
     /// By its id as a long name, with a value, any number of times.
     Values(&'static str),
-    /// As a word by itself, always.
+    /// As a word by itself. It must be given.
     Word(&'static str),
     /// As any number of words by themselves.
     Words(&'static str),
@@ -123,8 +123,8 @@ pub const CHECKING: Subcommand = Subcommand {
     arguments: &CHECK,
 };
 
-/// The program as its words are read. Of an option with one value that is given more than once the
-/// last counts.
+/// The program, for parsing its words. If an option with one value is given more than once, the
+/// last one counts.
 pub fn program<'a>(alloc: Global) -> Result<Command<'a>, AllocError>
     ensures { IfOk result (λ command. app_of command ≡ program) }
 {
@@ -140,7 +140,7 @@ pub fn program<'a>(alloc: Global) -> Result<Command<'a>, AllocError>
     bare.subcommand(audit)?.subcommand(check)
 }
 
-// The subcommand as the library takes it.
+// The subcommand in the form of the library.
 fn subcommand_of<'a>(alloc: Global, subcommand: &Subcommand) -> Result<Command<'a>, AllocError>
     ensures shape { IfOk result (λ command. shape_of command ≡ subcommand_by subcommand.now) }
     ensures local { IfOk result (λ command. (out-Command command).has_globals ≡ false) }
@@ -167,7 +167,7 @@ fn with_arguments<'a>(
     Ok(made)
 }
 
-// The argument as the library takes it.
+// The argument in the form of the library.
 fn argument_of<'a>(alloc: Global, argument: &Argument) -> Arg<'a>
     ensures rule { rule_of result ≡ rule_by argument.now }
     ensures local { result.global ≡ false }

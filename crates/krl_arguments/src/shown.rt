@@ -1,4 +1,4 @@
-//! What is said of words that are refused.
+//! The text that is printed for words that are refused.
 
 use crate::options::program;
 use clap::ArgMatches;
@@ -7,16 +7,16 @@ use krl_words::shown_words;
 use std::alloc::{AllocError, Global};
 use std::convert::AsStr;
 
-// What is said of words that are read once they are escaped.
+// The text for words that can be parsed after they are escaped.
 const REFUSED: &str = "krl: words that are read once they are escaped\n";
-// What is said of options of `krl audit` that do not go together.
+// The text for options of `krl audit` that do not go together.
 const NOTHING_TO_AUDIT: &str = "error: a file, a directory or --files0-from is needed
 
 Usage: krl audit -f <krl> [-aq] [--json] [--files0-from <file>] [file|directory]...
 
 For more information, try '--help'.
 ";
-// What is said of options of `krl check` that do not go together.
+// The text for options of `krl check` that do not go together.
 const VERSION_ALONE: &str = "error: --print-version goes with no other option
 
 Usage: krl check --print-version <krl>
@@ -25,8 +25,8 @@ For more information, try '--help'.
 ";
 
 /// The library's text for these words, its help or the version. It repeats words as they are given,
-/// so it is given them with their control characters escaped: no word moves the terminal or begins
-/// a line.
+/// so it receives them with their control characters escaped: no word can control the terminal or
+/// begin a line.
 pub fn text_for<S: AsStr>(alloc: Global, words: &[S]) -> Result<String, AllocError> {
     let shown = shown_words(alloc, words)?;
     match program(alloc)?.try_get_matches_from(shown.as_slice()) {
@@ -36,7 +36,7 @@ pub fn text_for<S: AsStr>(alloc: Global, words: &[S]) -> Result<String, AllocErr
     }
 }
 
-/// What is said of options that do not go together.
+/// The text for options that do not go together.
 pub fn text_of_misuse(alloc: Global, matches: &ArgMatches<'_>) -> Result<String, AllocError> {
     let text = match matches.subcommand_name() {
         Some("check") => VERSION_ALONE,

@@ -1,4 +1,4 @@
-//! The task of words that are read.
+//! The task of words that can be parsed.
 
 ghost use Rattle.std.specs.Prelude.{◌≡◌, IfOk, [], map, option_map, unwrap_or};
 ghost use Rattle.clap.specs.Matches.{found_of};
@@ -10,7 +10,7 @@ use crate::task::{Audit, Check, Task};
 use clap::ArgMatches;
 use std::alloc::{AllocError, Global};
 
-/// The task of these matches, or `None` where the options do not go together.
+/// The task of these matches, or `None` if the options do not go together.
 pub fn task_in<'a>(alloc: Global, matches: &ArgMatches<'a>) -> Result<Option<Task<'a>>, AllocError>
     ensures { IfOk result (λ task.
         option_map task_by task ≡ task_in (subcommand_rows_of matches.now)) }
@@ -21,7 +21,7 @@ pub fn task_in<'a>(alloc: Global, matches: &ArgMatches<'a>) -> Result<Option<Tas
     }
 }
 
-// The task of a subcommand of this name.
+// The task of a subcommand with this name.
 fn named_task<'a>(
     alloc: Global,
     name: &str,
@@ -39,7 +39,7 @@ fn named_task<'a>(
     Ok(None)
 }
 
-// What is to be audited.
+// The audit of these matches.
 fn audit_in<'a>(alloc: Global, found: &ArgMatches<'a>) -> Result<Option<Audit<'a>>, AllocError>
     ensures { IfOk result (λ audit.
         option_map audit_by audit ≡ audit_of (rows_of (found_of found.now))) }
@@ -50,7 +50,7 @@ fn audit_in<'a>(alloc: Global, found: &ArgMatches<'a>) -> Result<Option<Audit<'a
     }
 }
 
-// The audit by this list.
+// The audit with this list.
 fn audit_with<'a>(
     alloc: Global,
     found: &ArgMatches<'a>,
@@ -70,7 +70,7 @@ fn audit_with<'a>(
     })
 }
 
-// The audit, where a file, a directory or a file of names is given.
+// The audit, if a file, a directory or a file of names is given.
 fn if_any(audit: Audit<'_>) -> Option<Audit<'_>>
     ensures { option_map audit_by result ≡ if_any (audit_by audit.entry) }
 {
@@ -81,7 +81,7 @@ fn if_any(audit: Audit<'_>) -> Option<Audit<'_>>
     }
 }
 
-// What is to be checked.
+// The check of these matches.
 fn check_in<'a>(alloc: Global, found: &ArgMatches<'a>) -> Result<Option<Check<'a>>, AllocError>
     ensures { IfOk result (λ check.
         option_map check_by check ≡ check_of (rows_of (found_of found.now))) }
@@ -111,7 +111,7 @@ fn check_with<'a>(
     })
 }
 
-// The check, unless the version is asked for together with what the list must meet.
+// The check, unless the version is requested together with a condition.
 fn if_alone(check: Check<'_>) -> Option<Check<'_>>
     ensures { option_map check_by result ≡ if_alone (check_by check.entry) }
 {
@@ -122,14 +122,14 @@ fn if_alone(check: Check<'_>) -> Option<Check<'_>>
     }
 }
 
-// Whether nothing is to be met.
+// Returns true if there is no condition.
 fn has_only_version(check: &Check<'_>) -> bool
     ensures { result ≡ has_only_version (check_by check.now) }
 {
     check.newer_than.is_none() && check.keep.is_empty() && check.canary.is_none()
 }
 
-// Whether an option without a value is given.
+// Returns true if an option without a value is given.
 fn is_set(found: &ArgMatches<'_>, id: &str) -> bool
     ensures { result ≡ is_set id.now (rows_of (found_of found.now)) }
 {

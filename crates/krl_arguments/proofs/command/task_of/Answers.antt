@@ -1,4 +1,4 @@
--- The words are read and ask for a task, or are not read.
+-- The words are parsed and ask for a task, or cannot be parsed.
 use Rattle.std.proofs.Common.{map}
 use Rattle.krl_arguments.proofs.Reading.{asked_for, fails_by, free_by, held_by, not_read}
 use Rattle.krl_arguments.proofs.command.task_of.Goals as goal

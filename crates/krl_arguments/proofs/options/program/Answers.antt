@@ -1,4 +1,4 @@
--- The tables hold the subcommands.
+-- The tables have the subcommands.
 use Rattle.std.proofs.Common.{◌≡◌, ◌∙◌, ap, ap₂, true}
 use Rattle.std.proofs.lemmas.Result.{IfOk-weaker}
 use Rattle.clap.specs.Simple.{app_of, app_of_fields, on_top, with_subcommand}

@@ -1,4 +1,4 @@
--- Each field is what was found.
+-- Each field is the value that was found.
 use Rattle.std.proofs.Common.{refl, codes}
 use Rattle.clap.specs.Matches.{found_of}
 use Rattle.krl_arguments.proofs.Reading.{value_by}
