@@ -16,7 +16,7 @@ is_key_name name =
     || (bytes_eq name (codes "ssh_known_hosts")
     || ends_with nat_eq name (codes ".pub")))))
 
--- the name of what may be a private key file
+-- the name of a possible private key file
 abbrev pub is_private_name : List ℕ → Bool
 is_private_name name =
     starts_with nat_eq name (codes "id_") || starts_with nat_eq name (codes "ssh_host_")
@@ -31,6 +31,6 @@ is_audited_as readings.Always text = true
 is_audited_as readings.IfPrivate text = begins_container text
 is_audited_as readings.Never text = false
 
--- A file of a directory is audited by its name, or by its name and its first line.
+-- Whether a file of a directory is audited depends on its name, or on its name and its first line.
 abbrev pub is_audited : (name text : List ℕ) → Bool
 is_audited name text = is_audited_as (reading_of name) text

@@ -1,4 +1,4 @@
--- The paths of what is in a directory.
+-- The paths of the entries of a directory.
 use Rattle.std.specs.Prelude.{ℕ, List, ◌++◌, codes, nat_eq, if◌then◌else◌}
 use Rattle.std.specs.List.{ends_with}
 

@@ -1,31 +1,31 @@
--- What is said at the end of an audit.
+-- The last line of an audit.
 use Rattle.std.specs.Prelude.{ℕ, ◌==◌, List, [], ◌∷◌, ◌++◌, codes, decimal, if◌then◌else◌}
 use Rattle.cert_listing.specs.Time.{instant_text}
 use Rattle.audit_tree.specs.declared.summary.Summary.{Summary}
 
--- how many there are of what a word names
+-- a number, and the noun that it counts
 abbrev pub amount_text : ℕ → List ℕ → List ℕ
 amount_text count word =
     decimal count ++ (codes " " ++ (word ++ (if count == 1 then [] else codes "s")))
 
--- which list was asked
+-- the list that was queried
 abbrev pub list_text : Summary → List ℕ
 list_text summary =
     codes " (list version "
     ++ (decimal summary.version ++ (codes ", " ++ (instant_text summary.date ++ codes ")\n")))
 
--- how many files and keys there are
+-- the numbers of files and of keys
 abbrev pub inputs_text : Summary → List ℕ
 inputs_text summary =
     codes "krl audit: "
     ++ (amount_text summary.files (codes "file")
     ++ (codes ", " ++ (amount_text summary.counts.keys (codes "key") ++ codes ": ")))
 
--- how much is not read
+-- the number of lines and files that were not read
 abbrev pub unread_text : Summary → List ℕ
 unread_text summary = decimal summary.counts.unread ++ codes " unread"
 
--- how many keys are revoked, and how much is not read
+-- the number of revoked keys, and of lines and files that were not read
 abbrev pub findings_text : Summary → List ℕ
 findings_text summary =
     decimal summary.counts.revoked

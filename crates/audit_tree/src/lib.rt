@@ -1,5 +1,5 @@
-//! Which files of directories an audit reads and in which order, how they are named, and what is
-//! said at its end.
+//! Which files of directories an audit reads and in which order, how they are named, and the last
+//! line of an audit.
 #![tactic(auto)]
 
 mod names;

@@ -5,18 +5,18 @@ ghost use Rattle.audit_tree.specs.Names.{is_audited, is_key_name, is_private_nam
 
 use key_text::is_container;
 
-/// How a file of a directory is read, by its name.
+/// Whether a file of a directory is read, by its name.
 #[derive(Clone, Copy, PartialEq, Eq)]
 pub enum Reading {
     /// It is read.
     Always,
-    /// It is read where its first line is that of a private key file.
+    /// It is read if its first line is that of a private key file.
     IfPrivate,
     /// It is not read.
     Never,
 }
 
-/// How a file of this name is read.
+/// Returns whether a file of this name is read.
 pub fn reading_of(name: &[u8]) -> Reading
     ensures { result ≡ reading_of name.now }
 {
@@ -29,7 +29,7 @@ pub fn reading_of(name: &[u8]) -> Reading
     }
 }
 
-/// Whether a file of a directory is audited, by its name and its bytes.
+/// Returns true if a file of a directory is audited, by its name and its bytes.
 pub fn is_audited(name: &[u8], text: &[u8]) -> bool
     ensures { result ≡ is_audited name.now text.now }
 {
@@ -40,7 +40,7 @@ pub fn is_audited(name: &[u8], text: &[u8]) -> bool
     }
 }
 
-// Whether it is the name of a file of public keys.
+// Returns true if it is the name of a file of public keys.
 fn is_key_name(name: &[u8]) -> bool
     ensures { result ≡ is_key_name name.now }
 {
@@ -52,7 +52,7 @@ fn is_key_name(name: &[u8]) -> bool
         || name.ends_with(b".pub")
 }
 
-// Whether it may be the name of a private key file.
+// Returns true if it may be the name of a private key file.
 fn is_private_name(name: &[u8]) -> bool
     ensures { result ≡ is_private_name name.now }
 {

@@ -1,4 +1,4 @@
-//! The paths of what is in a directory.
+//! The paths of the entries of a directory.
 
 ghost use Rattle.std.specs.Prelude.{◌≡◌, IfOk, string_bytes};
 ghost use Rattle.audit_tree.specs.Paths.{path_in};
@@ -20,7 +20,7 @@ pub fn path_in(alloc: Global, directory: &str, name: &str) -> Result<String, All
     Ok(path)
 }
 
-/// A name that is not UTF-8, with each byte past ASCII as `\x` and two hexadecimal digits.
+/// A name that is not UTF-8, with each non-ASCII byte as `\x` and two hexadecimal digits.
 pub fn escaped_name(alloc: Global, name: &[u8]) -> Result<String, AllocError> {
     let mut text = String::new(alloc);
     for byte in name {

@@ -1,4 +1,4 @@
-//! What is said at the end of an audit.
+//! The last line of an audit.
 
 ghost use Rattle.std.specs.Prelude.{◌≡◌, ◌++◌, OnOk};
 ghost use Rattle.audit_tree.specs.Summary.{amount_text, findings_text, inputs_text, list_text, summary_text, unread_text};
@@ -8,14 +8,14 @@ use key_listing::push_number;
 use krl_audit::Counts;
 use std::alloc::{AllocError, Global};
 
-/// What an audit counted, and the list that it asked.
+/// The counts of an audit, and the list that it queried.
 #[derive(Clone, Copy)]
 pub struct Summary {
-    /// How many files were audited, read or not.
+    /// The number of files that were audited, whether they were read or not.
     pub files: u64,
-    /// In how many of them a key is revoked.
+    /// The number of those that have a revoked key.
     pub revoked_files: u64,
-    /// What was counted of their lines.
+    /// The counts of their lines.
     pub counts: Counts,
     /// The version of the list.
     pub version: u64,
@@ -23,7 +23,7 @@ pub struct Summary {
     pub date: u64,
 }
 
-/// Appends the line of an audit's end, with its line feed.
+/// Appends the last line of an audit, with its line feed.
 pub fn push_summary(alloc: Global, summary: &Summary, text: &mut Vec<u8>) -> Result<(), AllocError>
     ensures { OnOk result (text.new.items ≡ text.old.items ++ summary_text summary.now) }
 {
@@ -32,7 +32,7 @@ pub fn push_summary(alloc: Global, summary: &Summary, text: &mut Vec<u8>) -> Res
     push_list(alloc, summary, text)
 }
 
-// Appends how many files and keys there are.
+// Appends the numbers of files and of keys.
 fn push_inputs(summary: &Summary, text: &mut Vec<u8>) -> Result<(), AllocError>
     ensures { OnOk result (text.new.items ≡ text.old.items ++ inputs_text summary.now) }
 {
@@ -43,7 +43,7 @@ fn push_inputs(summary: &Summary, text: &mut Vec<u8>) -> Result<(), AllocError>
     text.extend_from_slice(b": ")
 }
 
-// Appends how many keys are revoked, and how much is not read.
+// Appends the number of revoked keys, and of lines and files that were not read.
 fn push_findings(summary: &Summary, text: &mut Vec<u8>) -> Result<(), AllocError>
     ensures { OnOk result (text.new.items ≡ text.old.items ++ findings_text summary.now) }
 {
@@ -55,7 +55,7 @@ fn push_findings(summary: &Summary, text: &mut Vec<u8>) -> Result<(), AllocError
     Ok(())
 }
 
-// Appends how much is not read.
+// Appends the number of lines and files that were not read.
 fn push_unread(summary: &Summary, text: &mut Vec<u8>) -> Result<(), AllocError>
     ensures { OnOk result (text.new.items ≡ text.old.items ++ unread_text summary.now) }
 {
@@ -63,7 +63,7 @@ fn push_unread(summary: &Summary, text: &mut Vec<u8>) -> Result<(), AllocError>
     text.extend_from_slice(b" unread")
 }
 
-// Appends which list was asked.
+// Appends the list that was queried.
 fn push_list(alloc: Global, summary: &Summary, text: &mut Vec<u8>) -> Result<(), AllocError>
     ensures { OnOk result (text.new.items ≡ text.old.items ++ list_text summary.now) }
 {
@@ -76,7 +76,7 @@ fn push_list(alloc: Global, summary: &Summary, text: &mut Vec<u8>) -> Result<(),
     Ok(())
 }
 
-// Appends how many there are of what a word names.
+// Appends a number, and the noun that it counts.
 fn push_amount(count: u64, word: &[u8], text: &mut Vec<u8>) -> Result<(), AllocError>
     ensures { OnOk result (text.new.items ≡ text.old.items ++ amount_text count word.now) }
 {
