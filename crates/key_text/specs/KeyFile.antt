@@ -7,7 +7,7 @@ abbrev pub is_no_comment : List ℕ → Bool
 is_no_comment [] = false
 is_no_comment (byte ∷ bytes) = not (byte == 35)
 
--- A line has a key where, without blanks at both ends and carriage returns at its end, it is
+-- A line has a key if, without blanks at both ends and carriage returns at its end, it is
 -- neither empty nor a comment.
 unfoldable pub has_key : List ℕ → Bool
 has_key line = is_no_comment (trimmed line)

@@ -35,7 +35,7 @@ fault_expected Expected next stop keys is known = by stop.cause is known
     by (causes.Output count) is known = absurd is
     by cause is known = subst (λ (n : Result FileKey RunFault). AreExpected Expected (n ∷ keys)) (sym is) tt
 
--- ---- where more is asked about
+-- ---- more queries
 
 asked_more : (old new : Revocations) (asked : Subject) → AsksMore old new → Asks old asked → Asks new asked
 asked_more old new asked more h = (more (KeyOf asked.plain) h.0, by asked.cert h.1)
@@ -54,7 +54,7 @@ keys_more old new (Ok key ∷ keys) more h = by (subject_of key.line.blob) (keys
     by (Ok asked) rest h = (asked_more old new asked more h.0, rest h.1)
     by (Err fault) rest h = tt
 
--- a key that was asked about, before keys that are expected
+-- a key that is in the queries, before keys that are expected
 pub key_expected : (old new : Revocations) (key : FileKey) (keys : List (Result FileKey RunFault)) → AsksMore old new → IfOk (subject_of key.line.blob) (Asks old) → AreExpected (Asks new) keys → AreExpected (Asks new) (Ok key ∷ keys)
 key_expected old new key keys more h rest = by (subject_of key.line.blob) h
   where

@@ -80,7 +80,7 @@ pub fn joined(alloc: Global, lines: &[u8], size: usize) -> Result<Vec<u8>, Alloc
     }
 }
 
-// Whether a line, without its ending, ends a container.
+// Returns true if a line, without its ending, ends a container.
 fn is_end(line: &[u8]) -> bool
     ensures { result ≡ bytes_eq line.now end_line }
 {

@@ -1,4 +1,4 @@
--- The files so far are still asked about, and one more is.
+-- The keys of the files so far are still in the queries, and those of one more file are too.
 use Rattle.krl_runs.proofs.Expecting.{files_more}
 use Rattle.krl_runs.proofs.questions.ask_about.Goals as goal
 

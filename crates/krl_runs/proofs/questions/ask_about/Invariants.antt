@@ -1,4 +1,4 @@
--- The keys of the files so far are asked about.
+-- The keys of the files so far are in the queries.
 use Rattle.std.proofs.Common.{ℕ, ◌<◌}
 use Rattle.key_files.specs.Keys.{Named, keys_of}
 use Rattle.krl_held.specs.Questions.{Asks, FindsIn}

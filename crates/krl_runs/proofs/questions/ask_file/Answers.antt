@@ -1,4 +1,4 @@
--- Each key is asked about, up to the first fault.
+-- Each key is added to the queries, up to the first fault.
 use Rattle.std.proofs.Common.{◌∷◌, ◌≡◌, Result, ap, ◌∙◌}
 use Rattle.std.specs.Prelude.{◌≢◌}
 use Rattle.key_files.specs.Keys.{FileKey, keys_of}

@@ -1,4 +1,4 @@
--- If all keys that are left are asked about, all keys of the file are.
+-- If all keys that are left are in the queries, all keys of the file are.
 use Rattle.key_files.specs.Keys.{keys_of}
 use Rattle.krl_held.specs.Revocations.{IsOrderly, Revocations}
 use Rattle.krl_held.specs.Questions.{Asks, AsksMore, FindsIn}
