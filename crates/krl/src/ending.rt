@@ -1,0 +1,92 @@
+//! How a run ends: with a status, and a line that says why it stopped.
+
+ghost use Rattle.std.specs.Prelude.{◌≡◌, ◌⊎◌};
+ghost use Rattle.krl_arguments.specs.Command.{command_fault_status};
+
+use byte_streams::{ToWrite, send};
+use key_files::{Cause, RunFault};
+use key_listing::{Done, FAILED};
+use krl_arguments::CommandFault;
+use ssh_cert::push_escaped;
+use std::alloc::{AllocError, Global};
+
+// The status of a command line that asks for nothing that the program does.
+const MISUSED: u8 = 2;
+
+/// Reports why the run stopped, if it did, and gives its status.
+pub fn end(rt: &HostRuntime, done: &Done) -> u8
+    ensures { result ≡ done.now.status }
+{
+    if let Some(fault) = &done.fault
+        && let Ok(line) = fault_line(rt.alloc(), fault)
+    {
+        print_line(rt, line.as_slice());
+    }
+    done.status
+}
+
+/// Ends a run that a file stopped before it began.
+pub fn fail(rt: &HostRuntime, name: &str, cause: Cause) -> u8
+    ensures { result ≡ 255 }
+{
+    let fault = Some(RunFault::whole(name, cause));
+    end(
+        rt,
+        &Done {
+            status: FAILED,
+            fault,
+        },
+    )
+}
+
+/// Prints help or the version, or why the words are refused, and gives the status. Help that cannot
+/// be printed is a fault of the output.
+pub fn refuse(rt: &HostRuntime, fault: &CommandFault) -> u8
+    ensures { (result ≡ command_fault_status fault.now) ⊎ (result ≡ 255) }
+{
+    match fault {
+        CommandFault::Words { help: true, text } => print_help(rt, text.as_bytes()),
+        CommandFault::Words { help: false, text } => {
+            print_line(rt, text.as_bytes());
+            MISUSED
+        }
+        CommandFault::NoMemory => fail(rt, "memory", Cause::NoMemory),
+    }
+}
+
+/// Prints why the words are refused, and gives the status.
+pub fn print_refusal(rt: &HostRuntime, why: &str) -> u8
+    ensures { result ≡ 2 }
+{
+    let _ = rt.eprintln(format_args!("krl: {why}"));
+    MISUSED
+}
+
+// Prints the help or the version, and gives the status.
+fn print_help(rt: &HostRuntime, text: &[u8]) -> u8
+    ensures { (result ≡ 0) ⊎ (result ≡ 255) }
+{
+    match send(&mut ToWrite::new(rt.stdout()), text) {
+        Ok(()) => 0,
+        Err(part) => {
+            let count = part.count as u64;
+            fail(rt, "output", Cause::Output { count })
+        }
+    }
+}
+
+/// Prints a line on standard error. A fault of standard error cannot be reported.
+pub fn print_line(rt: &HostRuntime, line: &[u8]) {
+    let _ = send(&mut ToWrite::new(rt.stderr()), line);
+}
+
+// The line that says why a run stopped.
+fn fault_line(alloc: Global, fault: &RunFault) -> Result<Vec<u8>, AllocError> {
+    let mut text = Vec::from_slice(alloc, b"krl: ")?;
+    push_escaped(&mut text, fault.name.as_bytes())?;
+    let cause = fault.cause.to_string(alloc)?;
+    text.extend_from_slice(b": ")?;
+    text.extend_from_slice(cause.as_bytes())?;
+    text.push(b'\n')?;
+    Ok(text)
+}

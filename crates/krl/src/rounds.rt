@@ -1,0 +1,228 @@
+//! The files and directories that an audit goes over (krl(1), FILES THAT ARE READ).
+
+use crate::loading::{begins_private, open, read, refusal_of};
+use crate::stop::Stop;
+use audit_tree::{Reading, escaped_name, is_audited, path_in, reading_of, sort_names};
+use byte_streams::ToWrite;
+use krl_audit::{Auditor, Refusal};
+use std::alloc::AllocError;
+use std::fs::{self, Files};
+use std::io::{BufRead, BufReader, ErrorKind, Read, Stdout};
+use std::str;
+
+// How many directories are entered one in the other. Linux opens no path of more than 4,096 bytes,
+// in which there are no more.
+const DEPTH: u32 = 2_048;
+// How many bytes of names are read at a time.
+const BUFFER: usize = 8_192;
+
+/// What audits files, and what was counted of them.
+#[derive(Drop)]
+pub struct Rounds<'a, 'q, 'w> {
+    pub rt: &'a HostRuntime,
+    pub auditor: Auditor<'q, 'w, ToWrite<Stdout>>,
+    /// Whether the audit ends at the first file with a revoked key.
+    pub ends_at_revoked: bool,
+    /// How many files were audited, read or not.
+    pub files: u64,
+    /// In how many of them a key is revoked.
+    pub revoked_files: u64,
+}
+
+impl<'a, 'q, 'w> Rounds<'a, 'q, 'w> {
+    /// Audits a file or a directory that the command names. A pipe is waited for.
+    pub fn audit_named<'s>(&mut self, name: &str) -> Result<(), Stop<'s>> {
+        if name == "-" {
+            return self.audit_read(name, self.rt.stdin());
+        }
+        match fs::metadata(self.rt, name) {
+            Ok(found) if found.is_dir() => self.audit_directory(name, DEPTH),
+            _ => self.audit_file(name),
+        }
+    }
+
+    /// Audits the files and directories whose names a reader gives, each ended by a zero byte. No
+    /// pipe is waited for. Answers false where the names cannot be read to their end.
+    pub fn audit_listed<'s, R: Read + Drop>(&mut self, names: R) -> Result<bool, Stop<'s>> {
+        let Ok(names) = BufReader::with_capacity(self.rt.alloc(), BUFFER, names) else {
+            return Err(Stop::from(AllocError));
+        };
+        for name in names.split(self.rt.alloc(), 0) {
+            let Ok(name) = name else {
+                return Ok(false);
+            };
+            self.audit_one_listed(name.as_slice())?;
+        }
+        Ok(true)
+    }
+
+    // Audits a file or a directory of a list of names.
+    fn audit_one_listed<'s>(&mut self, name: &[u8]) -> Result<(), Stop<'s>> {
+        let Ok(name) = str::from_utf8(name) else {
+            let shown = escaped_name(self.rt.alloc(), name)?;
+            return self.audit(shown.as_str(), Err(Refusal::Open));
+        };
+        if name == "-" {
+            return self.audit_named(name);
+        }
+        match fs::metadata(self.rt, name) {
+            Ok(found) if found.is_dir() => self.audit_directory(name, DEPTH),
+            Ok(found) if found.is_file() => self.audit_file(name),
+            Ok(_) => self.audit(name, Err(Refusal::Irregular)),
+            Err(error) => self.audit(name, Err(refusal_of(&error))),
+        }
+    }
+
+    // Audits a directory and all below it.
+    fn audit_directory<'s>(&mut self, path: &str, depth: u32) -> Result<(), Stop<'s>> {
+        let names = match self.names_in(path, depth == DEPTH)? {
+            Ok(names) if depth > 0 => names,
+            Ok(_) => return self.audit(path, Err(Refusal::Open)),
+            Err(refusal) => return self.audit(path, Err(refusal)),
+        };
+        for name in &names {
+            if let Some(below) = self.audit_entry(path, name.as_slice())? {
+                self.audit_directory(below.as_str(), depth - 1)?;
+            }
+        }
+        Ok(())
+    }
+
+    // The names of a directory that may be read, in their order. A link to a directory is followed
+    // where it has a slash at its end, which one gets that is named.
+    fn names_in(
+        &self,
+        path: &str,
+        named: bool,
+    ) -> Result<Result<Vec<Vec<u8>>, Refusal>, AllocError> {
+        let alloc = self.rt.alloc();
+        let with_slash = path_in(alloc, path, "")?;
+        let opened = if named { with_slash.as_str() } else { path };
+        let directory = match self.rt.open_dir(opened) {
+            Ok(directory) => directory,
+            Err(error) => return Ok(Err(refusal_of(&error))),
+        };
+        let Ok(entries) = BufReader::with_capacity(alloc, BUFFER, directory) else {
+            return Err(AllocError);
+        };
+        let mut names = Vec::new(alloc);
+        for name in entries.split(alloc, 0) {
+            let Ok(name) = name else {
+                return Ok(Err(Refusal::Read));
+            };
+            if self.is_wanted(path, name.as_slice())? {
+                names.push(name)?;
+            }
+        }
+        sort_names(&mut names);
+        Ok(Ok(names))
+    }
+
+    // Whether a name of a directory may be read: by its name, or since it is a directory or cannot
+    // be looked at.
+    fn is_wanted(&self, path: &str, name: &[u8]) -> Result<bool, AllocError> {
+        if name == b".".as_slice() || name == b"..".as_slice() {
+            return Ok(false);
+        }
+        if reading_of(name) != Reading::Never {
+            return Ok(true);
+        }
+        let Ok(name) = str::from_utf8(name) else {
+            return Ok(true);
+        };
+        let path = path_in(self.rt.alloc(), path, name)?;
+        match fs::symlink_metadata(self.rt, path.as_str()) {
+            Ok(found) => Ok(found.is_dir()),
+            Err(error) => Ok(error.kind() != ErrorKind::NotFound),
+        }
+    }
+
+    // Audits what a name of a directory leads to. Answers its path where that is a directory.
+    fn audit_entry<'s>(&mut self, path: &str, name: &[u8]) -> Result<Option<String>, Stop<'s>> {
+        let alloc = self.rt.alloc();
+        let Ok(name) = str::from_utf8(name) else {
+            let shown = escaped_name(alloc, name)?;
+            let path = path_in(alloc, path, shown.as_str())?;
+            self.audit(path.as_str(), Err(Refusal::Open))?;
+            return Ok(None);
+        };
+        let path = path_in(alloc, path, name)?;
+        match fs::symlink_metadata(self.rt, path.as_str()) {
+            Ok(found) if found.is_dir() => return Ok(Some(path)),
+            Ok(_) => self.audit_found(path.as_str(), name)?,
+            Err(error) => self.audit(path.as_str(), Err(refusal_of(&error)))?,
+        }
+        Ok(None)
+    }
+
+    // Audits a file that was found in a directory, over a link or not. A link to a directory is not
+    // followed, and a pipe, a socket or a device is not opened.
+    fn audit_found<'s>(&mut self, path: &str, name: &str) -> Result<(), Stop<'s>> {
+        let reading = reading_of(name.as_bytes());
+        match fs::metadata(self.rt, path) {
+            Ok(found) if found.is_dir() => Ok(()),
+            Ok(found) if found.is_file() => match reading {
+                Reading::Always => self.audit_file(path),
+                Reading::IfPrivate => self.audit_if_private(path, name),
+                Reading::Never => Ok(()),
+            },
+            Ok(_) if reading != Reading::Always => Ok(()),
+            Ok(_) => self.audit(path, Err(Refusal::Irregular)),
+            Err(error) => self.audit(path, Err(refusal_of(&error))),
+        }
+    }
+
+    // Audits a file where it is a private key file.
+    fn audit_if_private<'s>(&mut self, path: &str, name: &str) -> Result<(), Stop<'s>> {
+        let mut file = match open(self.rt, path) {
+            Ok(file) => file,
+            Err(refusal) => return self.audit(path, Err(refusal)),
+        };
+        match begins_private(&mut file) {
+            Ok(true) => {}
+            Ok(false) => return Ok(()),
+            Err(_) => return self.audit(path, Err(Refusal::Read)),
+        }
+        match read(self.rt, file) {
+            Some(Ok(text)) if !is_audited(name.as_bytes(), text.as_slice()) => Ok(()),
+            Some(Ok(text)) => self.audit(path, Ok(text.as_slice())),
+            Some(Err(refusal)) => self.audit(path, Err(refusal)),
+            None => Err(Stop::from(AllocError)),
+        }
+    }
+
+    // Audits a file.
+    fn audit_file<'s>(&mut self, path: &str) -> Result<(), Stop<'s>> {
+        match open(self.rt, path) {
+            Ok(file) => self.audit_read(path, file),
+            Err(refusal) => self.audit(path, Err(refusal)),
+        }
+    }
+
+    // Audits what a reader gives.
+    fn audit_read<'s, R: Read + Drop>(&mut self, name: &str, reader: R) -> Result<(), Stop<'s>> {
+        match read(self.rt, reader) {
+            Some(Ok(text)) => self.audit(name, Ok(text.as_slice())),
+            Some(Err(refusal)) => self.audit(name, Err(refusal)),
+            None => Err(Stop::from(AllocError)),
+        }
+    }
+
+    // Audits the bytes of a file, or says why there are none, and counts it.
+    fn audit<'s>(&mut self, name: &str, text: Result<&[u8], Refusal>) -> Result<(), Stop<'s>> {
+        let before = self.auditor.counts.revoked;
+        if let Err(fault) = self.auditor.audit_file(name, text) {
+            return Err(Stop::within(fault.cause));
+        }
+        self.files = self.files.saturating_add(1);
+        if self.auditor.counts.revoked == before {
+            return Ok(());
+        }
+        self.revoked_files = self.revoked_files.saturating_add(1);
+        if self.ends_at_revoked {
+            Err(Stop::Revoked)
+        } else {
+            Ok(())
+        }
+    }
+}
