@@ -1,42 +1,57 @@
 //! `krl audit`: files of keys, audited by a list.
 
-use crate::ending::{end, fail, print_line, print_refusal};
+use crate::ending::{end, fail, print_line};
+use crate::list::{List, read_list};
 use crate::rounds::Rounds;
 use crate::stop::Stop;
 use audit_tree::{Summary, push_summary};
-use byte_streams::{FromBuffer, ToWrite};
-use key_files::{Cause, FileFault, RunFault, cause_of};
+use byte_streams::ToWrite;
+use key_files::{Cause, FileFault, RunFault};
 use key_listing::{Printer, Run};
 use krl_arguments::Audit;
-use krl_audit::{Auditor, Counts, Judge, Shown};
-use krl_core::{Header, Revocations, read_krl};
-use krl_system::open_list;
-use span_sets::Held;
+use krl_audit::{Auditor, Counts, Form, Judge, ListFacts, Shown};
+use sha2::{Digest, Sha256};
 use std::fs;
 
 /// Audits what the task names. Answers the exit status.
 pub fn audit(rt: &HostRuntime, task: &Audit) -> u8 {
-    if task.json {
-        return print_refusal(rt, "--json is not in this version");
-    }
     match read_list(rt, task.list) {
-        Ok((header, list)) => audit_by(rt, task, &header, &list),
+        Ok(list) => audit_by(rt, task, list),
         Err(cause) => fail(rt, task.list, cause),
     }
 }
 
-// Reads the list, and holds it.
-fn read_list(rt: &HostRuntime, name: &str) -> Result<(Header, Revocations<Held>), Cause> {
-    let list = open_list(rt, name)?;
-    let (read, _) = read_krl(rt.alloc(), FromBuffer::new(list));
-    match read {
-        Ok(read) => Ok(read),
-        Err(fault) => Err(cause_of(fault)),
+// What is known of a list beside what it revokes. Its SHA-256 is made where the last object has it.
+#[derive(Clone, Copy)]
+struct Known {
+    version: u64,
+    date: u64,
+    sha256: Option<[u8; 32]>,
+}
+
+// The same of a list that was read. Text has no last object, and quietly nothing is printed.
+fn known_of(task: &Audit, list: &List) -> Known {
+    let sha256 = if task.json && !task.quiet {
+        Some(Sha256::digest(list.bytes.as_slice()))
+    } else {
+        None
+    };
+    Known {
+        version: list.header.version,
+        date: list.header.date,
+        sha256,
     }
 }
 
-// Audits what the task names by this list.
-fn audit_by(rt: &HostRuntime, task: &Audit, header: &Header, list: &Revocations<Held>) -> u8 {
+// Audits what the task names by this list, of which the bytes are dropped first.
+fn audit_by(rt: &HostRuntime, task: &Audit, list: List) -> u8 {
+    let known = known_of(task, &list);
+    let List {
+        bytes,
+        revocations,
+        ..
+    } = list;
+    drop(bytes);
     let alloc = rt.alloc();
     let mut out = ToWrite::new(rt.stdout());
     let mut buffer = Vec::new(alloc);
@@ -48,9 +63,13 @@ fn audit_by(rt: &HostRuntime, task: &Audit, header: &Header, list: &Revocations<
     let shown = Shown {
         findings: !task.quiet,
         fine: task.all && !task.quiet,
+        form: if task.json { Form::Json } else { Form::Text },
     };
     let auditor = Auditor {
-        judge: Judge { list, shown },
+        judge: Judge {
+            list: &revocations,
+            shown,
+        },
         run,
         counts: Counts::NONE,
     };
@@ -61,19 +80,24 @@ fn audit_by(rt: &HostRuntime, task: &Audit, header: &Header, list: &Revocations<
         files: 0,
         revoked_files: 0,
     };
-    let stop = match audit_all(&mut rounds, task) {
+    let stop = match audit_all(&mut rounds, task, known) {
         Ok(()) => None,
         Err(stop) => stop.fault(),
     };
     let done = rounds.auditor.finish(stop);
     if done.fault.is_none() {
-        print_summary(rt, &rounds, header);
+        print_summary(rt, &rounds, known);
     }
     end(rt, &done)
 }
 
-// Audits all that the task names, first what a file names.
-fn audit_all<'a>(rounds: &mut Rounds, task: &'a Audit<'a>) -> Result<(), Stop<'a>> {
+// Audits all that the task names, first what a file names, and prints the last object if there is
+// one.
+fn audit_all<'t, 'a>(
+    rounds: &mut Rounds,
+    task: &'t Audit<'a>,
+    known: Known,
+) -> Result<(), Stop<'a>> {
     if let Some(from) = task.names_from
         && !audit_names(rounds, from)?
     {
@@ -83,7 +107,29 @@ fn audit_all<'a>(rounds: &mut Rounds, task: &'a Audit<'a>) -> Result<(), Stop<'a
     for name in &task.files {
         rounds.audit_named(name)?;
     }
-    Ok(())
+    match known.sha256 {
+        Some(sha256) => print_last(rounds, task.list, known, sha256),
+        None => Ok(()),
+    }
+}
+
+// Prints the last object of an audit by the list of this name.
+fn print_last<'a>(
+    rounds: &mut Rounds,
+    name: &'a str,
+    known: Known,
+    sha256: [u8; 32],
+) -> Result<(), Stop<'a>> {
+    let facts = ListFacts {
+        name,
+        version: known.version,
+        generated: known.date,
+        sha256,
+    };
+    match rounds.auditor.say_done(rounds.files, &facts) {
+        Ok(()) => Ok(()),
+        Err(fault) => Err(Stop::Fault(fault)),
+    }
 }
 
 // Audits the files whose names are in a file. Answers false where these cannot be read.
@@ -102,13 +148,13 @@ fn audit_names<'a>(rounds: &mut Rounds, from: &'a str) -> Result<bool, Stop<'a>>
 
 // Prints on standard error what was counted. Where there is no memory for the line, nothing is
 // printed.
-fn print_summary(rt: &HostRuntime, rounds: &Rounds, header: &Header) {
+fn print_summary(rt: &HostRuntime, rounds: &Rounds, known: Known) {
     let summary = Summary {
         files: rounds.files,
         revoked_files: rounds.revoked_files,
         counts: rounds.auditor.counts,
-        version: header.version,
-        date: header.date,
+        version: known.version,
+        date: known.date,
     };
     let mut line = Vec::new(rt.alloc());
     if push_summary(rt.alloc(), &summary, &mut line).is_ok() {

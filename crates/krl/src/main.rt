@@ -2,12 +2,15 @@
 #![tactic(auto)]
 
 mod audit;
+mod check;
 mod ending;
+mod list;
 mod loading;
 mod rounds;
 mod stop;
 
 use crate::audit::audit;
+use crate::check::check;
 use crate::ending::{fail, print_refusal, refuse};
 use key_files::{Cause, FileFault};
 use krl_arguments::{CommandFault, Task, task_of};
@@ -40,7 +43,7 @@ fn run(rt: &HostRuntime) -> u8 {
     };
     match task_of(rt.alloc(), words.as_slice()) {
         Ok(Task::Audit(task)) => audit(rt, &task),
-        Ok(Task::Check(_)) => print_refusal(rt, "krl check is not in this version"),
+        Ok(Task::Check(task)) => check(rt, &task),
         Err(fault) => refuse(rt, &fault),
     }
 }
