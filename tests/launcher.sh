@@ -1,4 +1,4 @@
-# The launcher ./ssh-keygen: from anywhere, by links, and without the toolchain once the program is
+# The launchers ./ssh-keygen and ./krl: from anywhere, by links, and without the toolchain once the program is
 # built; and what it does where the program is not built, over a toolchain that proves nothing.
 
 launcher=$top/ssh-keygen
@@ -20,17 +20,17 @@ PATH=/usr/bin:/bin launch 'the launcher without the toolchain' "$launcher"
 # A repository of small crates, in which proving takes a step for each line, and a kit for them.
 away=$scratch/here/away
 mkdir -p away kit/bin kit/c
-cp "$launcher" "$top/build.py" away/
+cp "$launcher" "$top/krl" "$top/build.py" away/ && mkdir away/packaging && cp "$top/packaging/launch.sh" away/packaging/
 cp -r "$top/library" away/
 cp "$top"/tests/lib/kit/* kit/bin/
 echo 'the kit of the tests' >kit/WHAT
 printf '%s\n' 'low: byteorder' 'low_tests: low' side: 'upper: low side' 'aside: low' 'krl_tool: upper aside' \
-  'krl_c staticlib: low' >away/crates.txt
-for it in low:6 low_tests:1 side:4 upper:6 aside:3 krl_tool:2 krl_c:2; do
+  'krl: low' 'krl_c staticlib: low' >away/crates.txt
+for it in low:6 low_tests:1 side:4 upper:6 aside:3 krl_tool:2 krl:2 krl_c:2; do
   mkdir -p "away/crates/${it%:*}"/{src,specs,proofs}
   seq "${it#*:}" >"away/crates/${it%:*}/src/lib.rt"
 done
-mv away/crates/krl_tool/src/lib.rt away/crates/krl_tool/src/main.rt
+for it in krl_tool krl; do mv away/crates/$it/src/lib.rt away/crates/$it/src/main.rt; done
 export calls=$scratch/here/calls XDG_CACHE_HOME=$scratch/here/cache
 store=$XDG_CACHE_HOME/krl-keygen
 unset RT_JOBS AFTER_CI
@@ -85,6 +85,14 @@ judge 'one crate after the other' "$(awk '
 judge 'one process in each crate' "$(grep begins calls | grep -v ' with 1$')"
 judge 'each crate is proved once' "$(differs crates "$every" "$(proved)")"
 build 'the second use only runs' 0 "$(made_of 6 4)" '' ''
+PATH=$scratch/here/kit/bin:/usr/bin:/bin "${one[@]}" away/krl >said 2>"$scratch/error"
+judge 'the first use of krl proves what is left' "$(
+  differs 'exit status' 0 $?
+  differs 'standard output' 'made of krl:1,2 low:1,2,3,4,5,6' "$(cat said)"
+  differs 'standard error' "$(said_by 'proving and building, this once: 2 crates' 'proving krl: 1 of 2 are proved' |
+    sed 's/^ssh-keygen/krl/')" "$(cat "$scratch/error")"
+  differs 'what is proved' 'krl ' "$(proved)"
+)"
 sleep 0.1 && touch away/crates/low_tests/src/lib.rt
 build 'a changed test builds nothing' 0 "$(made_of 6 4)" '' ''
 sleep 0.1 && touch away/crates/low/src/lib.rt

@@ -4,8 +4,8 @@ page=$top/docs/ssh-keygen.1
 
 need mandoc mandoc || judge 'mandoc is there' '  install it, on Debian by apt-get install mandoc'
 # Which other pages are installed is no matter of this one.
-judge 'mandoc finds nothing in the manual page' \
-  "$(mandoc -T lint "$page" 2>&1 | grep -v -e 'referenced manual not found' -e 'outdated mandoc.db')"
+judge 'mandoc finds nothing in the manual pages' \
+  "$(mandoc -T lint "$page" "$top/docs/krl.1" 2>&1 | grep -v -e 'referenced manual not found' -e 'outdated mandoc.db')"
 
 # rendered SECTION: the text of a section of the page, without its indentation.
 rendered() {

@@ -1,4 +1,4 @@
-# The pages of the crates: each library has one and so has the program, and the map leads to it. The caller
+# The pages of the crates: each library has one and so has each program, and the map leads to it. The caller
 # that a library's page shows is one that a crate of tests proves and runs, in the same words. What the
 # program's page shows is what the program prints. What THEOREMS.md cites stands in the crates.
 
@@ -22,15 +22,17 @@ for crate in $(sed -n 's/^\([a-z0-9_]*\)\( staticlib\)\{0,1\}:.*/\1/p' "$top/cra
     grep -qF "(../crates/$crate/README.md)" "$top/docs/ARCHITECTURE.md" || echo '  the map does not lead to it'
   )"
   # The program's use is shown below; what C calls is tried by tests/library.
-  [[ $crate == krl_tool || $crate == krl_c ]] && continue
+  [[ $crate == krl_tool || $crate == krl || $crate == krl_c ]] && continue
   caller=$(shown rust "$page")
   judge "the caller on the page of $crate" "$([ -n "$caller" ] && stands "$caller" || echo '  no module page has it')"
 done
 cp -r "$top/demo" demo && cd demo || exit 1
-use=$(shown console "$top/crates/krl_tool/README.md")
-judge 'the page of the program shows a use' "$([ -n "$use" ] || echo '  it shows none')"
-transcript 'what the page of the program shows' <<<"$use"
-cd ..
+for it in krl_tool:. krl:audit; do
+  use=$(shown console "$top/crates/${it%:*}/README.md")
+  judge "the page of ${it%:*} shows a use" "$([ -n "$use" ] || echo '  it shows none')"
+  cd "${it#*:}" && transcript "what the page of ${it%:*} shows" <<<"$use"
+done
+cd ../..
 
 judge 'the names that THEOREMS.md and the README cite stand in the crates' \
   "$(python3 -B "$tests/lib/cited.py" "$top" 2>&1)"

@@ -1,11 +1,11 @@
 # Examples of documents, run as they stand there.
 
 # transcript NAME: standard input has lines that begin with '$ ', each followed by what it prints. They
-# are run in one shell in the folder at hand, where the program is ssh-keygen. Times may differ.
+# are run in one shell in the folder at hand, where the programs are ssh-keygen and krl. Times may differ.
 transcript() {
   local wanted got
   wanted=$(timeless)
-  mkdir -p "$scratch/bin" && ln -sfn "$program" "$scratch/bin/ssh-keygen"
+  mkdir -p "$scratch/bin" && ln -sfn "$program" "$scratch/bin/ssh-keygen" && ln -sfn "$krl" "$scratch/bin/krl"
   got=$(PATH=$scratch/bin:$PATH follow <<<"$wanted" | timeless)
   judge "$1" "$(diff <(printf '%s\n' "$wanted") <(printf '%s\n' "$got"))"
 }

@@ -1,0 +1,226 @@
+# krl audit: each kind of line and of file, directories, statuses, and outputs that fail.
+
+keygen=$program
+program=$krl
+bytes "$H" "$(section "$G" "$A")" >r.krl
+g=$(line ssh-ed25519 "$G") a=$(line ssh-ed25519 "$A") b=$(line ssh-ed25519 "$B")
+by_g="revoked: ssh-ed25519 $(fingerprint "$G") by its key"
+by_a="revoked: ssh-ed25519 $(fingerprint "$A") by its key"
+ok_b="ok: ssh-ed25519 $(fingerprint "$B")"
+no_type='unread: no key type stands there'
+
+# lines_of LINE..: the lines, or nothing.
+lines_of() {
+  [ $# = 0 ] || printf '%s\n' "$@"
+}
+# audits NAME STATUS COUNTS OUTPUT WORD..: the list r.krl, which is of the first second of 1970, is asked.
+audits() {
+  local name=$1 status=$2 counts=$3 output=$4
+  shift 4
+  expect "$name" "$status" "${output:+$output$'\n'}" \
+    "krl audit: $counts (list version 1, 1970-01-01T00:00:00Z)"$'\n' audit -f r.krl "$@"
+}
+
+# The kinds of lines.
+# says NAME LINE FINDING: what is said of the line, as line 2 of a file, with -a.
+says() {
+  printf '# a file\n%s\n%s\n' "$2" "$b" >file
+  "$program" audit -a -f r.krl file >"$scratch/output" 2>"$scratch/error"
+  judge "$1" "$(differs 'what is said' "$(lines_of ${3:+"file:2: $3"} "file:3: $ok_b")" "$(cat "$scratch/output")")"
+}
+says 'a plain key' "$g" "$by_g"
+says 'a key with a comment' "$g a comment" "$by_g: a comment"
+says 'options before a key' "from=\"10.0.0.0/8\",command=\"a \\\"b\\\" c\" $g me" "$by_g: me"
+says 'a carriage return' "$g me"$'\r' "$by_g: me"
+says 'blanks before a key' $' \t'"$g" "$by_g"
+says 'a comment' "# $g" ''
+says 'an empty line' '' ''
+says 'cert-authority' "cert-authority $g" "$by_g"
+says 'cert-authority with principals' "cert-authority,principals=\"a b\" $g" "$by_g"
+says 'a host' "a.example,10.0.0.1 $g" "$by_g"
+says 'a host with a port' "[a.example]:2222 $g" "$by_g"
+says 'a hashed host' "|1|F1E1KeoE/eEWhi10WpGv4OdiO6Y=|3988QV0VE8wmZL7suNrYQLITLCg= $g" "$by_g"
+says 'a CA of hosts' "@cert-authority *.example $g" "$by_g"
+says 'a key that the file revokes' "@revoked * $g" ''
+says 'SSH version 1' 'host 1024 35 12345678901234567890' "$no_type"
+says 'garbage' 'garbage' "$no_type"
+says 'a type that is not known' 'ssh-ed448 AAAA' "$no_type"
+says 'base64 that is cut' "${g:0:58}" 'unread: the key is not whole base64'
+says 'no base64' 'ssh-ed25519 !!!!' 'unread: the key is not whole base64'
+says 'a key of another type' "ssh-rsa ${g#* }" 'unread: the key is of another type'
+dsa=$(words ssh-dss)$(string 00"$(repeat 128 81)")$(string 00"$(repeat 20 81)")$(string 03)$(string 05)
+says 'a DSA key' "$(line ssh-dss "$dsa")" "ok: ssh-dss $(fingerprint "$dsa")"
+device=$(words sk-ssh-ed25519@openssh.com)$(string "$(repeat 32 33)")$(words ssh:)
+says 'a security key' "$(line sk-ssh-ed25519@openssh.com "$device")" \
+  "ok: sk-ssh-ed25519@openssh.com $(fingerprint "$device")"
+says 'control characters in a comment' "$g a"$'\e[31m'b "$by_g"': a\x1b[31mb'
+printf '\xef\xbb\xbf%s\n' "$g" >marked
+audits 'a byte order mark' 1 '1 file, 1 key: 1 revoked in 1 file, 0 unread' "marked:1: $by_g" marked
+printf '%s \x9b1m\xff\n' "$g" >high
+audits 'a comment that is not UTF-8' 1 '1 file, 1 key: 1 revoked in 1 file, 0 unread' \
+  "high:1: $by_g: "$'\x9b1m\xff' high
+printf 'one\ntwo\n' >none
+audits 'a file without a key' 3 '1 file, 0 keys: 0 revoked in 0 files, 1 unread' \
+  'none: unread: none of its 2 lines is a key' none
+: >empty
+audits 'an empty file' 0 '1 file, 0 keys: 0 revoked in 0 files, 0 unread' '' empty
+
+# Reasons, in their order.
+cert=$(certificate "$B" "$A" 0000000000000007 'a "b"')
+line ssh-ed25519-cert-v01@openssh.com "$cert" me >cert
+audits 'a certificate of a CA that is revoked' 1 '1 file, 1 key: 1 revoked in 1 file, 0 unread' \
+  "cert:1: revoked: ssh-ed25519-cert-v01@openssh.com $(fingerprint "$B") by the key of its CA: me" cert
+line ssh-ed25519 "$A" >a.pub
+printf 'serial: 7\nid: a "b"\n' >of_one
+printf 'serial: 7\nid: a "b"\nsha1: %s\nsha256: %s\nkey: %s\n' "$b" "$b" "$b" >of_all
+"$openssh" -q -k -f every.krl -s a.pub of_one && "$openssh" -q -k -u -f every.krl -s none of_all
+said=$("$program" audit -f every.krl cert 2>/dev/null)
+wanted="cert:1: revoked: ssh-ed25519-cert-v01@openssh.com $(fingerprint "$B") by its key, by its SHA-1, by its SHA-256"
+for it in 'serial 7' 'key ID "a \"b\""'; do
+  wanted+=", by $it of CA $(fingerprint "$A"), by $it of all CAs"
+done
+judge 'all reasons at once' "$(differs 'what is said' "$wanted: me" "$said")"
+
+# Files and directories.
+"$openssh" -q -t ed25519 -N '' -C me -f private && "$openssh" -q -t ed25519 -N secret -C me -f locked
+mkdir -p home/.ssh home/B home/a home/linked
+for it in authorized_keys authorized_keys2 known_hosts known_hosts2 ssh_known_hosts x.pub; do
+  echo "$g" >"home/.ssh/$it"
+done
+for it in authorized_keys.old key id_key x.pub.txt; do echo "$g" >"home/.ssh/$it"; done
+cp private home/.ssh/id_plain && cp locked home/.ssh/ssh_host_locked && cp private home/.ssh/other
+echo "$a" >home/B/known_hosts
+echo "$b" >home/a/x.pub
+ln -s ../../high home/a/link.pub
+ln -s "$PWD/home/B" home/linked/B
+key_of() {
+  echo "ok: ssh-ed25519 $("$openssh" -lf "$1.pub" | cut -d ' ' -f 2)"
+}
+audits 'a directory' 1 '11 files, 11 keys: 8 revoked in 8 files, 0 unread' "home/.ssh/authorized_keys:1: $by_g
+home/.ssh/authorized_keys2:1: $by_g
+home/.ssh/id_plain:1: $(key_of private): me
+home/.ssh/known_hosts:1: $by_g
+home/.ssh/known_hosts2:1: $by_g
+home/.ssh/ssh_host_locked:1: $(key_of locked)
+home/.ssh/ssh_known_hosts:1: $by_g
+home/.ssh/x.pub:1: $by_g
+home/B/known_hosts:1: $by_a
+home/a/link.pub:1: $by_g: "$'\x9b1m\xff'"
+home/a/x.pub:1: $ok_b" -a home
+audits 'a directory that a link names' 1 '1 file, 1 key: 1 revoked in 1 file, 0 unread' \
+  "home/linked/B/known_hosts:1: $by_a" home/linked/B
+audits 'a slash at the end' 1 '1 file, 1 key: 1 revoked in 1 file, 0 unread' "home/B/known_hosts:1: $by_a" home/B/
+audits 'a file of another name that is named' 1 '1 file, 1 key: 1 revoked in 1 file, 0 unread' \
+  "home/.ssh/key:1: $by_g" home/.ssh/key
+audits 'a file twice' 1 '2 files, 2 keys: 2 revoked in 2 files, 0 unread' "marked:1: $by_g
+marked:1: $by_g" marked marked
+mkdir nothing
+audits 'an empty directory' 0 '0 files, 0 keys: 0 revoked in 0 files, 0 unread' '' nothing
+audits 'standard input' 1 '1 file, 1 key: 1 revoked in 1 file, 0 unread' "-:1: $by_g" - <<<"$g"
+audits 'a file that is not there' 3 '1 file, 0 keys: 0 revoked in 0 files, 1 unread' \
+  'gone: unread: No such file or directory' gone
+head -c 16777217 /dev/zero >long
+audits 'a file of more than 16 MiB' 3 '1 file, 0 keys: 0 revoked in 0 files, 1 unread' \
+  'long: unread: it has more than 16 MiB' long
+{ echo "$g" && head -c $((16777216 - ${#g} - 1)) /dev/zero | tr '\0' '\n'; } >long
+audits 'a file of 16 MiB' 1 '1 file, 1 key: 1 revoked in 1 file, 0 unread' "long:1: $by_g" long
+
+# What is in the place of a file.
+mkdir odd && cd odd || exit 1
+mkfifo authorized_keys id_pipe pipe
+python3 -c 'import socket; socket.socket(socket.AF_UNIX).bind("known_hosts")'
+ln -s loop.pub loop.pub && ln -s gone dangling.pub && ln -s ../nothing directory.pub && ln -s ../high id_link
+mkdir $'\x1b[31m' && echo "$g" >$'\x1b[31m/a\nb\rc.pub'
+echo "$g" >$'\xe9.pub' && echo "$g" >$'caf\xe9'
+cd ..
+audits 'pipes, sockets, links and names' 1 '7 files, 1 key: 1 revoked in 1 file, 6 unread' \
+  'odd/\x1b[31m/a\x0ab\x0dc.pub:1: '"$by_g
+odd/authorized_keys: unread: no regular file
+odd/caf\\xe9: unread: it cannot be opened
+odd/dangling.pub: unread: No such file or directory
+odd/known_hosts: unread: no regular file
+odd/loop.pub: unread: Too many levels of symbolic links
+odd/\\xe9.pub: unread: it cannot be opened" odd
+cp "$(realpath -- "${KRL:-$top/built/krl}")" built
+mkdir -p closed/in && echo "$g" >closed/x.pub && echo "$g" >closed/in/x.pub && chmod 000 closed/x.pub closed/in
+chmod 755 "$scratch" built
+ask=(./built)
+[ "$(id -u)" != 0 ] || ask=(setpriv --reuid=65534 --regid=65534 --clear-groups ./built)
+said=$("${ask[@]}" audit -f r.krl closed 2>&1)
+judge 'what may not be read' "$(differs status 3 $?
+  differs 'what is said' 'closed/in: unread: Permission denied
+closed/x.pub: unread: Permission denied
+krl audit: 2 files, 0 keys: 0 revoked in 0 files, 2 unread (list version 1, 1970-01-01T00:00:00Z)' "$said")"
+chmod 755 closed/in
+# A directory in a directory, as deep as a path can be, and deeper than Linux opens one.
+python3 - <<'END'
+import os
+for it in ["deep"] + ["d"] * 2100:
+    os.mkdir(it)
+    os.chdir(it)
+open("x.pub", "w").close()
+END
+"$program" audit -f r.krl deep >"$scratch/output" 2>&1
+judge 'directories too deep to be opened' "$(differs status 3 $?
+  differs findings 1 "$(grep -c '^deep/d.*: unread: it cannot be opened$' "$scratch/output")"
+  differs lines 2 "$(wc -l <"$scratch/output")")"
+rm -rf deep
+mkdir many && (cd many && seq -f 'k%.0f.pub' 3000 | xargs touch && echo "$g" >k1500.pub)
+audits 'many files' 1 '3000 files, 1 key: 1 revoked in 1 file, 0 unread' "many/k1500.pub:1: $by_g" many
+
+# Names from a file.
+printf '%s\0' marked home/B gone odd/authorized_keys $'\xe9' >names
+audits 'names of a file' 1 '5 files, 2 keys: 2 revoked in 2 files, 3 unread' "marked:1: $by_g
+home/B/known_hosts:1: $by_a
+gone: unread: No such file or directory
+odd/authorized_keys: unread: no regular file
+\\xe9: unread: it cannot be opened" --files0-from names
+audits 'names of standard input, the last without its end' 1 \
+  '3 files, 2 keys: 2 revoked in 2 files, 0 unread' "marked:1: $by_g
+home/B/known_hosts:1: $by_a" --files0-from - home/B < <(printf 'marked\0empty')
+audits 'no name' 0 '0 files, 0 keys: 0 revoked in 0 files, 0 unread' '' --files0-from empty
+expect 'names that cannot be opened' 255 '' $'krl: none/names: file 1 Open\n' audit -f r.krl --files0-from none/names
+expect 'names that cannot be read' 255 '' $'krl: nothing: file 2 Read\n' audit -f r.krl --files0-from nothing
+
+# Options and statuses.
+audits 'nothing is revoked' 0 '1 file, 1 key: 0 revoked in 0 files, 0 unread' '' home/a/x.pub
+audits 'something is unread' 3 '2 files, 1 key: 0 revoked in 0 files, 1 unread' \
+  'gone: unread: No such file or directory' gone home/a/x.pub
+audits 'quietly, up to the first revoked key' 1 '2 files, 1 key: 1 revoked in 1 file, 1 unread' '' \
+  -aq gone marked home
+audits 'quietly, where nothing is revoked' 3 '2 files, 1 key: 0 revoked in 0 files, 1 unread' '' \
+  -q gone home/a/x.pub
+expect 'a list that is not there' 255 '' $'krl: no.krl: file 1 Open\n' audit -f no.krl marked
+expect 'a list that is none' 255 '' $'krl: marked: krl 1 Magic\n' audit -f marked marked
+bytes "$H" 02 >cut.krl
+expect 'a list that is cut' 255 '' $'krl: cut.krl: krl 3 EndsEarly\n' audit -f cut.krl gone
+expect 'a list of a name that moves the terminal' 255 '' $'krl: \\x1b[2J: file 1 Open\n' audit -f $'\e[2J' a
+expect_text 'no words' 2 error
+expect_text 'no list' 2 error audit marked
+expect_text 'nothing to audit' 2 error audit -f r.krl
+expect_text 'an option that is not known' 2 error audit -f r.krl -Q marked
+expect_text 'help' 0 output -h
+expect_text 'help for audit' 0 output audit --help
+expect 'the version' 0 "krl $("$keygen" --version | sed 's/.* //')"$'\n' '' --version
+expect 'JSON' 2 '' $'krl: --json is not in this version\n' audit -f r.krl --json marked
+judge 'no word of a refusal moves the terminal' "$("$program" audit -f r.krl $'--\e[2J' 2>&1 | grep -n $'\e')"
+for it in /dev/full closed; do
+  if [ $it = closed ]; then
+    "$program" audit -f r.krl marked >&- 2>"$scratch/error"
+  else
+    "$program" audit -f r.krl marked >$it 2>"$scratch/error"
+  fi
+  judge "an output that is $it" "$(differs status 255 $?
+    differs 'standard error' 'krl: output: output 1 Write after 0 bytes' "$(cat "$scratch/error")")"
+done
+"$program" audit -f r.krl marked 2>&- >"$scratch/output"
+judge 'an error output that is closed' "$(differs status 1 $?; differs output "marked:1: $by_g" "$(cat "$scratch/output")")"
+
+# The example of the manual page.
+cp -r "$top/demo/audit" demo && cd demo || exit 1
+manual=$top/docs/krl.1
+example=$(sed 's/\\e/\\/g' "$manual" | awk '/^\.Bd -literal/ { on = 1; next } /^\.Ed/ { on = 0 } on' |
+  awk '/^\$ / { on = 1 } on; /^1$/ { exit }')
+program=$keygen transcript 'the example of the manual page' <<<"$example"
+cd ..
+program=$keygen
