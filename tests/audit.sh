@@ -58,7 +58,7 @@ printf '\xef\xbb\xbf%s\n' "$g" >marked
 audits 'a byte order mark' 1 '1 file, 1 key: 1 revoked in 1 file, 0 unread' "marked:1: $by_g" marked
 printf '%s \x9b1m\xff\n' "$g" >high
 audits 'a comment that is not UTF-8' 1 '1 file, 1 key: 1 revoked in 1 file, 0 unread' \
-  "high:1: $by_g: "$'\x9b1m\xff' high
+  "high:1: $by_g: \\x9b1m\\xff" high
 printf 'one\ntwo\n' >none
 audits 'a file without a key' 3 '1 file, 0 keys: 0 revoked in 0 files, 1 unread' \
   'none: unread: none of its 2 lines is a key' none
@@ -105,7 +105,7 @@ home/.ssh/ssh_host_locked:1: $(key_of locked)
 home/.ssh/ssh_known_hosts:1: $by_g
 home/.ssh/x.pub:1: $by_g
 home/B/known_hosts:1: $by_a
-home/a/link.pub:1: $by_g: "$'\x9b1m\xff'"
+home/a/link.pub:1: $by_g: \\x9b1m\\xff
 home/a/x.pub:1: $ok_b" -a home
 audits 'a directory that a link names' 1 '1 file, 1 key: 1 revoked in 1 file, 0 unread' \
   "home/linked/B/known_hosts:1: $by_a" home/linked/B
@@ -202,7 +202,6 @@ expect_text 'an option that is not known' 2 error audit -f r.krl -Q marked
 expect_text 'help' 0 output -h
 expect_text 'help for audit' 0 output audit --help
 expect 'the version' 0 "krl $("$keygen" --version | sed 's/.* //')"$'\n' '' --version
-expect 'JSON' 2 '' $'krl: --json is not in this version\n' audit -f r.krl --json marked
 judge 'no word of a refusal moves the terminal' "$("$program" audit -f r.krl $'--\e[2J' 2>&1 | grep -n $'\e')"
 for it in /dev/full closed; do
   if [ $it = closed ]; then
@@ -215,6 +214,67 @@ for it in /dev/full closed; do
 done
 "$program" audit -f r.krl marked 2>&- >"$scratch/output"
 judge 'an error output that is closed' "$(differs status 1 $?; differs output "marked:1: $by_g" "$(cat "$scratch/output")")"
+
+# JSON. What each object should be is made of the same values as the lines above, and read by another reader.
+# objects NAME STATUS WANTED WORD..: each line is one object, and the objects are these.
+objects() {
+  local name=$1 status=$2 wanted=$3 got
+  shift 3
+  "$program" audit --json "$@" >"$scratch/output" 2>"$scratch/error"
+  got=$?
+  judge "$name" "$(differs status "$status" $got
+    python3 - "$scratch/output" "$wanted" <<'END'
+import json, sys
+got = [json.loads(line) for line in open(sys.argv[1], encoding="utf-8").read().split("\n")[:-1]]
+wanted = [json.loads(line) for line in sys.argv[2].split("\n")]
+if got != wanted:
+    print("  objects: want %s\n  got  %s" % (wanted, got))
+END
+  )"
+}
+key_g="\"type\":\"ssh-ed25519\",\"fingerprint\":\"$(fingerprint "$G")\""
+list_of_g="\"list\":{\"file\":\"r.krl\",\"version\":\"1\",\"generated\":\"1970-01-01T00:00:00Z\",\"sha256\":\"$(
+  sha256sum r.krl | cut -d ' ' -f 1)\"}"
+ends_with() {
+  echo "{\"status\":\"done\",\"files\":$1,\"keys\":$2,\"revoked\":$3,\"unread\":$4,$list_of_g}"
+}
+by_key='"reasons":[{"by":"key"}]'
+printf 'no-pty %s \xc3\xa9"\\\n\n# none\ngarbage\n' "$g" >authorized_keys
+objects 'objects of lines' 1 "{\"file\":\"authorized_keys\",\"line\":1,\"status\":\"revoked\",$key_g,\
+\"comment\":\"\u00e9\\\"\\\\\",\"options\":\"no-pty\",$by_key}
+{\"file\":\"authorized_keys\",\"line\":4,\"status\":\"unread\",\"fault\":\"line 1 NoKey\",\
+\"why\":\"no key type stands there\"}
+$(ends_with 1 1 1 1)" -f r.krl authorized_keys
+printf '@cert-authority a.example,b.example %s\n' "$g" >known_hosts
+objects 'an object of a known host' 1 "{\"file\":\"known_hosts\",\"line\":1,\"status\":\"revoked\",$key_g,\
+\"comment\":\"\",\"marker\":\"@cert-authority\",\"hosts\":\"a.example,b.example\",$by_key}
+$(ends_with 1 1 1 0)" -f r.krl known_hosts
+objects 'a comment that is not UTF-8 in base64' 1 "{\"file\":\"high\",\"line\":1,\"status\":\"revoked\",$key_g,\
+\"comment_base64\":\"$(printf '\x9b1m\xff' | base64)\",$by_key}
+$(ends_with 1 1 1 0)" -f r.krl high
+objects 'an object of a file' 3 "{\"file\":\"gone\",\"status\":\"unread\",\"fault\":\"file 1 Open\",\
+\"why\":\"No such file or directory\"}
+$(ends_with 1 0 0 1)" -f r.krl gone
+objects 'no file at all' 0 "$(ends_with 0 0 0 0)" -f r.krl nothing
+objects 'keys that are not revoked' 0 "{\"file\":\"home/a/x.pub\",\"line\":1,\"status\":\"ok\",\
+\"type\":\"ssh-ed25519\",\"fingerprint\":\"$(fingerprint "$B")\",\"comment\":\"\",\"reasons\":[]}
+$(ends_with 1 1 0 0)" -a -f r.krl home/a/x.pub
+expect 'no objects quietly' 1 '' "krl audit: 1 file, 1 key: 1 revoked in 1 file, 0 unread \
+(list version 1, 1970-01-01T00:00:00Z)
+" audit -q --json -f r.krl known_hosts
+by_names='{"by":"serial","serial":"7","authority":A},{"by":"serial","serial":"7","authority":"all"},
+{"by":"id","id":"a \\"b\\"","authority":A},{"by":"id","id":"a \\"b\\"","authority":"all"}'
+by_names=${by_names//A\}/"\"$(fingerprint "$A")\"}"}
+"$program" audit --json -f every.krl cert 2>/dev/null | head -n 1 >"$scratch/output"
+judge 'the object of a certificate' "$(python3 - "$scratch/output" "$by_names" "$(fingerprint "$A")" <<'END'
+import json, sys
+got = json.loads(open(sys.argv[1]).read())
+reasons = [{"by": "key"}, {"by": "sha1"}, {"by": "sha256"}] + json.loads("[%s]" % sys.argv[2])
+wanted = {"serial": "7", "id": 'a "b"', "authority": sys.argv[3]}
+if (got["reasons"], got["certificate"]) != (reasons, wanted):
+    print("  got %s" % got)
+END
+)"
 
 # The example of the manual page.
 cp -r "$top/demo/audit" demo && cd demo || exit 1
