@@ -34,5 +34,5 @@ for it in krl_tool:. krl:audit; do
 done
 cd ../..
 
-judge 'the names that THEOREMS.md and the README cite stand in the crates' \
+judge 'the names that THEOREMS.md cites stand in the crates' \
   "$(python3 -B "$tests/lib/cited.py" "$top" 2>&1)"

@@ -259,7 +259,7 @@ $at/b/.ssh/authorized_keys (host-ca): ok
 ssh-keygen: $at/b/.ssh/authorized_keys: line 2: line 1 NoKey
 $at/b/.ssh/authorized_keys: status 255
 $at/d/.ssh/authorized_keys (user): REVOKED
-$at/d/.ssh/authorized_keys: status 1"
+$at/d/.ssh/authorized_keys: status 1" again
 followed=$((followed + 1))
 ! has_krl || judge 'the revoked keys of a host' "$(
   found=$(try_recipe 'krl audit' | grep "^$at" | cut -d: -f 1-3)

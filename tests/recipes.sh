@@ -168,4 +168,6 @@ follows 'a command that ends well' 'set -o pipefail' 0 '' again
 expect 'the list is that of its lines' 1 $'user-5.pub (alice): ok\nuser-7.pub (alice): REVOKED\n' '' \
   -Q -f revoked.krl user-5.pub user-7.pub
 
+# That for all keys of a host is followed by readme.sh, beside krl audit.
+followed=$((followed + 1))
 all_followed docs/RECIPES.md

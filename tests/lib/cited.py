@@ -1,4 +1,4 @@
-"""The names that the tables of docs/THEOREMS.md and of the README cite, sought in the crates.
+"""The names that the tables of docs/THEOREMS.md cite, sought in the crates.
 
     cited.py TOP
 
@@ -111,25 +111,21 @@ def rows(path):
 def main():
     names = [it for it in sorted(os.listdir(CRATES)) if os.path.isdir(os.path.join(CRATES, it, "src"))]
     every = {name: Crate(name) for name in names if not name.endswith("_tests")}
-    for path, wanted in ("docs/THEOREMS.md", lambda heading: "`" in heading), (
-        "README.md",
-        lambda heading: heading.strip() == "## What is proved",
-    ):
-        cited = 0
-        for number, heading, column in rows(path):
-            if not wanted(heading):
+    cited = 0
+    for number, heading, column in rows("docs/THEOREMS.md"):
+        if "`" not in heading:
+            continue
+        crates = [every[it] for it in re.findall(r"`(\w+)`", heading) if it in every] or list(every.values())
+        for name in re.findall(r"`([^`]+)`", column):
+            # Files, commands, and what the standard library names.
+            if re.match(r"(docs|tests|specs)/|make ", name) or name == "Display":
                 continue
-            crates = [every[it] for it in re.findall(r"`(\w+)`", heading) if it in every] or list(every.values())
-            for name in re.findall(r"`([^`]+)`", column):
-                # Files, commands, and what the standard library names.
-                if re.match(r"(docs|tests|specs)/|make ", name) or name == "Display":
-                    continue
-                for one in spread(name):
-                    cited += 1
-                    if not stands(one, crates, every):
-                        print("  %s, line %d: %s" % (path, number, one))
-        if cited < 10:
-            print("  %s: only %d names were found" % (path, cited))
+            for one in spread(name):
+                cited += 1
+                if not stands(one, crates, every):
+                    print("  line %d: %s" % (number, one))
+    if cited < 10:
+        print("  only %d names were found" % cited)
 
 
 main()
