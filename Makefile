@@ -10,9 +10,10 @@ SECONDS = 60
 .PHONY: build test test_library fault_injection fuzz bench install uninstall deb library \
   install-library uninstall-library
 
-# Proves and builds the program.
+# Proves and builds the programs.
 build:
 	./ssh-keygen -h >/dev/null
+	./krl -h >/dev/null
 
 # All of the checking: each proof from nothing, and the program that was proved beside OpenSSH.
 test:
@@ -35,13 +36,15 @@ fuzz: build library
 bench: build
 	bench/run
 
-# The built program, its manual page and its completions: they need nothing of this folder. A program
+# The built programs, their manual pages and their completions: they need nothing of this folder. A program
 # that is not ours is left as it is, unless FORCE=1 is given.
 install: build
 	packaging/install '$(DESTDIR)' '$(PREFIX)' '$(NAME)' '$(FORCE)'
+	packaging/install '$(DESTDIR)' '$(PREFIX)' krl '$(FORCE)'
 
 uninstall:
 	packaging/uninstall '$(DESTDIR)' '$(PREFIX)' '$(NAME)'
+	packaging/uninstall '$(DESTDIR)' '$(PREFIX)' krl
 
 # libkrl, which asks revocation lists for programs in other languages, in built/.
 library:

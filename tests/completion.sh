@@ -43,3 +43,20 @@ got=$(bash --norc -c '. "$0" && complete -p ssh-keygen' "$top/completions/ssh-ke
 judge 'bash asks for the words of the program' \
   "$(differs 'what is said of it' 'complete -F _krl_keygen ssh-keygen' "$got")"
 cd ..
+
+# offers_krl NAME WANTED WORD..: the same for the words of krl.
+offers_krl() {
+  local name=$1 wanted=$2 got
+  shift 2
+  got=$(bash --norc -c '. "$0" && COMP_WORDS=("$@") COMP_CWORD=$(($# - 1)) && _krl && printf "%s\n" "${COMPREPLY[@]}"' \
+    "$top/completions/krl.bash" krl "$@" 2>&1 | sort | paste -sd ,)
+  judge "bash is offered $name" "$(differs words "$wanted" "$got")"
+}
+cd words || exit 1
+offers_krl 'the tasks of krl' --help,--version,audit ''
+offers_krl 'the task that was begun' audit a
+offers_krl 'the options of an audit' --files0-from,--help,--json,--version,-a,-f,-q audit -
+offers_krl 'a list' two.krl audit -f t
+offers_krl 'files to audit' "$every" audit -f two.krl ''
+offers_krl 'a file of names' one.pub audit -f two.krl --files0-from o
+cd ..

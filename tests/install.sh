@@ -1,6 +1,7 @@
 # make install, make uninstall and make deb, into folders of the tests' own.
 
 root=$scratch/root
+export KRL=$(realpath -- "${KRL:-$top/built/krl}")
 line ssh-ed25519 "$G" >g.pub
 bytes "$H" "$(section "$G")" >r.krl
 # made NAME STATUS TARGET WORD..: make ends with this status.
@@ -19,15 +20,22 @@ runs() {
 holds() {
   judge "$1" "$(differs files "$(printf '%s\n' "${@:2}" | sort)" "$(cd "$root" && find . -type f | sort)")"
 }
-# of NAME PREFIX: the files that are installed.
+# of NAME PREFIX: the files that are installed, which are those of krl too.
 of() {
-  printf "./$2/%s\n" "bin/$1" "share/man/man1/$1.1" "share/bash-completion/completions/$1" \
-    "share/zsh/site-functions/_$1" "share/fish/vendor_completions.d/$1.fish" "share/krl-keygen/$1.sha256"
+  local it
+  for it in "$1" krl; do
+    printf "./$2/%s\n" "bin/$it" "share/man/man1/$it.1" "share/bash-completion/completions/$it" \
+      "share/zsh/site-functions/_$it" "share/fish/vendor_completions.d/$it.fish" "share/krl-keygen/$it.sha256"
+  done
 }
 
 made 'make install' 0 install
 holds 'what is installed' $(of krl-keygen usr/local)
 runs 'the installed program' "$root/usr/local/bin/krl-keygen"
+program=$root/usr/local/bin/krl expect 'the installed krl' 1 \
+  "g.pub:1: revoked: ssh-ed25519 $(fingerprint "$G") by its key"$'\n' \
+  $'krl audit: 1 file, 1 key: 1 revoked in 1 file, 0 unread (list version 1, 1970-01-01T00:00:00Z)\n' audit -f r.krl g.pub
+judge 'the manual page of krl' "$(cmp "$top/docs/krl.1" "$root/usr/local/share/man/man1/krl.1" 2>&1)"
 judge 'the manual page has the name of the program' \
   "$(grep -n -e 'Nm ssh-keygen' -e 'SSH-KEYGEN' -e 'ssh-keygen -[a-zA-Z]' "$root/usr/local/share/man/man1/krl-keygen.1")"
 for file in bash-completion/completions/krl-keygen zsh/site-functions/_krl-keygen \
@@ -148,7 +156,7 @@ modes 'everybody may read what the package has' "$root/usr"
 runs 'the program of the package' "$root/usr/bin/krl-keygen"
 holds 'what the package holds' \
   $(of krl-keygen usr | grep -v -e sha256 -e /man1/ | sed 's|site-functions|vendor-completions|') \
-  ./usr/share/man/man1/krl-keygen.1.gz \
+  ./usr/share/man/man1/krl-keygen.1.gz ./usr/share/man/man1/krl.1.gz \
   $(printf './usr/share/doc/krl-keygen/%s\n' README.md NEWS.gz changelog.gz copyright docs/RECIPES.md) \
   $(cd "$top" && find examples/ansible examples/systemd -type f -printf './usr/share/doc/krl-keygen/%p\n')
 dpkg-deb --control "$package" "$scratch/control"

@@ -1,0 +1,18 @@
+# What bash offers for the words of krl, as its manual page has them.
+
+_krl() {
+  local offered word=${COMP_WORDS[COMP_CWORD]} before=${COMP_WORDS[COMP_CWORD - 1]}
+  COMPREPLY=()
+  if [ "$COMP_CWORD" = 1 ]; then
+    offered=$(compgen -W 'audit --help --version' -- "$word")
+  elif [[ $word == -* && $before != --files0-from && $before != -*f ]]; then
+    offered=$(compgen -W '-a -f -q --json --files0-from --help --version' -- "$word")
+  else
+    offered=$(compgen -f -- "$word")
+    compopt -o filenames 2>/dev/null
+  fi
+  [ -z "$offered" ] || mapfile -t COMPREPLY <<<"$offered"
+  return 0
+}
+
+complete -F _krl krl

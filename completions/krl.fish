@@ -1,0 +1,14 @@
+# What fish offers for the words of krl, as its manual page has them.
+
+set -l audits '__fish_seen_subcommand_from audit'
+
+complete -c krl -f
+complete -c krl -n "not $audits" -a audit -d 'Find revoked keys in files'
+complete -c krl -s h -l help -d 'Print the options'
+complete -c krl -s V -l version -d 'Print the name and version'
+complete -c krl -n "$audits" -F
+complete -c krl -n "$audits" -s f -rF -d 'The revocation list'
+complete -c krl -n "$audits" -s a -d 'Name the keys that are not revoked as well'
+complete -c krl -n "$audits" -s q -d 'Print nothing on standard output'
+complete -c krl -n "$audits" -l json -d 'Print JSON objects'
+complete -c krl -n "$audits" -l files0-from -rF -d 'Read names of files'
