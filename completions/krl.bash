@@ -4,12 +4,14 @@ _krl() {
   local offered word=${COMP_WORDS[COMP_CWORD]} before=${COMP_WORDS[COMP_CWORD - 1]}
   COMPREPLY=()
   if [ "$COMP_CWORD" = 1 ]; then
-    offered=$(compgen -W 'audit --help --version' -- "$word")
-  elif [[ $word == -* && $before != --files0-from && $before != -*f ]]; then
-    offered=$(compgen -W '-a -f -q --json --files0-from --help --version' -- "$word")
-  else
+    offered=$(compgen -W 'audit check --help --version' -- "$word")
+  elif [[ $word != -* || $before == --@(files0-from|newer-than|keep|canary) || $before == -*f ]]; then
     offered=$(compgen -f -- "$word")
     compopt -o filenames 2>/dev/null
+  elif [ "${COMP_WORDS[1]}" = check ]; then
+    offered=$(compgen -W '--newer-than --keep --canary --print-version --help --version' -- "$word")
+  else
+    offered=$(compgen -W '-a -f -q --json --files0-from --help --version' -- "$word")
   fi
   [ -z "$offered" ] || mapfile -t COMPREPLY <<<"$offered"
   return 0

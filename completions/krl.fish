@@ -1,9 +1,11 @@
 # What fish offers for the words of krl, as its manual page has them.
 
 set -l audits '__fish_seen_subcommand_from audit'
+set -l checks '__fish_seen_subcommand_from check'
 
 complete -c krl -f
-complete -c krl -n "not $audits" -a audit -d 'Find revoked keys in files'
+complete -c krl -n "not $audits; and not $checks" -a audit -d 'Find revoked keys in files'
+complete -c krl -n "not $audits; and not $checks" -a check -d 'Check a list before it is put in force'
 complete -c krl -s h -l help -d 'Print the options'
 complete -c krl -s V -l version -d 'Print the name and version'
 complete -c krl -n "$audits" -F
@@ -12,3 +14,8 @@ complete -c krl -n "$audits" -s a -d 'Name the keys that are not revoked as well
 complete -c krl -n "$audits" -s q -d 'Print nothing on standard output'
 complete -c krl -n "$audits" -l json -d 'Print JSON objects'
 complete -c krl -n "$audits" -l files0-from -rF -d 'Read names of files'
+complete -c krl -n "$checks" -F
+complete -c krl -n "$checks" -l newer-than -rF -d 'Refuse a version below that of this list'
+complete -c krl -n "$checks" -l keep -rF -d 'Refuse a list that revokes a key of this file'
+complete -c krl -n "$checks" -l canary -rF -d 'Refuse a list that does not revoke the key of this file'
+complete -c krl -n "$checks" -l print-version -d 'Print the version of the list alone'

@@ -14,4 +14,5 @@ mod runs;
 mod sets;
 mod spec_files;
 mod texts;
+mod trees;
 mod words;

@@ -1,6 +1,7 @@
 //! The words of the command line.
 
 use crate::tests::answered::ran_out;
+use krl_arguments::{Audit, CommandFault as TaskFault, Task, task_of};
 use krl_job::{Job, Mode};
 use krl_words::{CommandFault, command_of};
 
@@ -44,6 +45,37 @@ fn words_that_are_refused(rt: HostRuntime) {
     match command_of(rt.alloc(), &["ssh-keygen", "-Y"]) {
         Err(CommandFault::Words { help, text }) => assert!(rt; !help && !text.is_empty()),
         Err(CommandFault::NoMemory) => ran_out(&rt),
+        _ => assert!(rt; false, "the words are refused"),
+    }
+}
+
+#[test]
+fn a_task(rt: HostRuntime) {
+    let words = ["krl", "audit", "-f", "r.krl", "-a", "--json", "x", "y"];
+    match task_of(rt.alloc(), &words) {
+        Ok(
+            Task::Audit(
+                Audit {
+                    list,
+                    all,
+                    json,
+                    files,
+                    ..
+                },
+            ),
+        ) => assert!(rt; list == "r.krl" && all && json && files.len() == 2),
+        Err(TaskFault::NoMemory) => ran_out(&rt),
+        _ => assert!(rt; false, "the words ask for an audit"),
+    }
+}
+
+// A version that is requested together with a condition.
+#[test]
+fn a_task_that_is_refused(rt: HostRuntime) {
+    let words = ["krl", "check", "--print-version", "--canary", "c", "r.krl"];
+    match task_of(rt.alloc(), &words) {
+        Err(TaskFault::Words { help, text }) => assert!(rt; !help && !text.is_empty()),
+        Err(TaskFault::NoMemory) => ran_out(&rt),
         _ => assert!(rt; false, "the words are refused"),
     }
 }

@@ -1,0 +1,38 @@
+//! Paths of directories, names that are shown, and the last line of an audit.
+
+use crate::tests::answered::answered;
+use audit_tree::{Summary, escaped_name, path_in, push_summary};
+use krl_audit::Counts;
+use std::alloc::AllocError;
+
+#[test]
+fn a_path(rt: HostRuntime) {
+    if let Some(path) = answered(&rt, path_in(rt.alloc(), "home", "x"), AllocError) {
+        assert!(rt; path.as_str() == "home/x");
+    }
+}
+
+#[test]
+fn a_name_that_is_not_utf8(rt: HostRuntime) {
+    if let Some(name) = answered(&rt, escaped_name(rt.alloc(), b"caf\xe9"), AllocError) {
+        assert!(rt; name.as_str() == "caf\\xe9");
+    }
+}
+
+#[test]
+fn a_last_line(rt: HostRuntime) {
+    let summary = Summary {
+        files: 1,
+        revoked_files: 0,
+        counts: Counts::NONE,
+        version: 12,
+        date: 1_795_734_911,
+    };
+    let mut text = Vec::new(rt.alloc());
+    let pushed = push_summary(rt.alloc(), &summary, &mut text);
+    if let Some(()) = answered(&rt, pushed, AllocError) {
+        let wanted = b"krl audit: 1 file, 0 keys: 0 revoked in 0 files, 0 unread \
+(list version 12, 2026-11-26T23:15:11Z)\n";
+        assert!(rt; text.as_slice() == wanted.as_slice());
+    }
+}
