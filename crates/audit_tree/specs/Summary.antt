@@ -1,5 +1,5 @@
 -- The last line of an audit.
-use Rattle.std.specs.Prelude.{ℕ, ◌==◌, List, [], ◌∷◌, ◌++◌, codes, decimal, if◌then◌else◌}
+use Rattle.std.specs.Prelude.{ℕ, ◌==◌, List, [], ◌++◌, codes, decimal, if◌then◌else◌}
 use Rattle.cert_listing.specs.Time.{instant_text}
 use Rattle.audit_tree.specs.declared.summary.Summary.{Summary}
 
