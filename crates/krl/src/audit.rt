@@ -21,7 +21,7 @@ pub fn audit(rt: &HostRuntime, task: &Audit) -> u8 {
     }
 }
 
-// What is known of a list beside what it revokes. Its SHA-256 is made where the last object has it.
+// The facts about a list that the last line prints, and its SHA-256 if the last object has it.
 #[derive(Clone, Copy)]
 struct Known {
     version: u64,

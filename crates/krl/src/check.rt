@@ -44,8 +44,7 @@ fn push_line(number: u64, line: &mut Vec<u8>) -> Result<(), AllocError> {
     Ok(())
 }
 
-// What is known of a list beside what it revokes: its bytes, its version, and the version that it
-// must not be below.
+// The bytes of a list, its version, and the version that it must not be below.
 #[derive(Clone, Copy)]
 struct Known<'a> {
     bytes: &'a [u8],
@@ -70,7 +69,7 @@ fn check_beside(rt: &HostRuntime, task: &Check, list: &List) -> u8 {
     check_by(rt, task, known, &list.revocations)
 }
 
-// What checks a list, and reads the files of keys.
+// The checker of a list, which reads the files of keys.
 #[derive(Drop)]
 struct Round<'a, 'k, 'q, 'w> {
     rt: &'a HostRuntime,

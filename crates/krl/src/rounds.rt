@@ -16,7 +16,7 @@ const DEPTH: u32 = 2_048;
 // How many bytes of names are read at a time.
 const BUFFER: usize = 8_192;
 
-/// What audits files, and what was counted of them.
+/// The auditor of files, and the counts of files.
 #[derive(Drop)]
 pub struct Rounds<'a, 'q, 'w> {
     pub rt: &'a HostRuntime,
