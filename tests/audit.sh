@@ -230,6 +230,7 @@ wanted = [json.loads(line) for line in sys.argv[2].split("\n")]
 if got != wanted:
     print("  objects: want %s\n  got  %s" % (wanted, got))
 END
+    [ $? = 0 ] || echo '  they cannot be read'
   )"
 }
 key_g="\"type\":\"ssh-ed25519\",\"fingerprint\":\"$(fingerprint "$G")\""
@@ -263,7 +264,7 @@ expect 'no objects quietly' 1 '' "krl audit: 1 file, 1 key: 1 revoked in 1 file,
 (list version 1, 1970-01-01T00:00:00Z)
 " audit -q --json -f r.krl known_hosts
 by_names='{"by":"serial","serial":"7","authority":A},{"by":"serial","serial":"7","authority":"all"},
-{"by":"id","id":"a \\"b\\"","authority":A},{"by":"id","id":"a \\"b\\"","authority":"all"}'
+{"by":"id","id":"a \"b\"","authority":A},{"by":"id","id":"a \"b\"","authority":"all"}'
 by_names=${by_names//A\}/"\"$(fingerprint "$A")\"}"}
 "$program" audit --json -f every.krl cert 2>/dev/null | head -n 1 >"$scratch/output"
 judge 'the object of a certificate' "$(python3 - "$scratch/output" "$by_names" "$(fingerprint "$A")" <<'END'
@@ -274,6 +275,7 @@ wanted = {"serial": "7", "id": 'a "b"', "authority": sys.argv[3]}
 if (got["reasons"], got["certificate"]) != (reasons, wanted):
     print("  got %s" % got)
 END
+  [ $? = 0 ] || echo '  it cannot be read'
 )"
 
 # The example of the manual page.
