@@ -13,7 +13,7 @@ no_type='unread: no key type stands there'
 lines_of() {
   [ $# = 0 ] || printf '%s\n' "$@"
 }
-# audits NAME STATUS COUNTS OUTPUT WORD..: the list r.krl, which is of the first second of 1970, is asked.
+# audits NAME STATUS COUNTS OUTPUT WORD..: an audit with the list r.krl, whose time is the first second of 1970.
 audits() {
   local name=$1 status=$2 counts=$3 output=$4
   shift 4
@@ -22,7 +22,7 @@ audits() {
 }
 
 # The kinds of lines.
-# says NAME LINE FINDING: what is said of the line, as line 2 of a file, with -a.
+# says NAME LINE FINDING: the finding about the line, as line 2 of a file, with -a.
 says() {
   printf '# a file\n%s\n%s\n' "$2" "$b" >file
   "$program" audit -a -f r.krl file >"$scratch/output" 2>"$scratch/error"
@@ -125,7 +125,7 @@ audits 'a file of more than 16 MiB' 3 '1 file, 0 keys: 0 revoked in 0 files, 1 u
 { echo "$g" && head -c $((16777216 - ${#g} - 1)) /dev/zero | tr '\0' '\n'; } >long
 audits 'a file of 16 MiB' 1 '1 file, 1 key: 1 revoked in 1 file, 0 unread' "long:1: $by_g" long
 
-# What is in the place of a file.
+# Pipes and other things where a file is expected.
 mkdir odd && cd odd || exit 1
 mkfifo authorized_keys id_pipe pipe
 python3 -c 'import socket; socket.socket(socket.AF_UNIX).bind("known_hosts")'
@@ -215,7 +215,7 @@ done
 "$program" audit -f r.krl marked 2>&- >"$scratch/output"
 judge 'an error output that is closed' "$(differs status 1 $?; differs output "marked:1: $by_g" "$(cat "$scratch/output")")"
 
-# JSON. What each object should be is made of the same values as the lines above, and read by another reader.
+# JSON. The expected objects are made from the same values as the lines above, and another reader reads them.
 # objects NAME STATUS WANTED WORD..: each line is one object, and the objects are these.
 objects() {
   local name=$1 status=$2 wanted=$3 got

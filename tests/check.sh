@@ -1,4 +1,4 @@
-# krl check: each condition both ways, lists that OpenSSH refuses or reads as other names, lists that are cut,
+# krl check: each condition both ways, lists that OpenSSH refuses or reads as other names, truncated lists,
 # statuses, and files that are missing.
 
 keygen=$program
@@ -153,7 +153,7 @@ done
 bytes "${H:0:80}" "$(string 610062)" >made.krl
 checks 'a zero byte within a comment' 1 'openssh: made.krl: its comment has a zero byte' made.krl
 
-# A list of each sort of section, whose last one has the canary. It never passes where it is cut.
+# A list of each sort of section, whose last one has the canary. It never passes if it is truncated.
 printf 'serial: 5-100\nserial: 7000\nid: bob\nkey: %s\n' "$(cat g.pub)" >spec
 "$keygen" -k -f whole.krl -s b.pub spec && echo "sha256: $(cat a.pub)" | "$keygen" -k -u -f whole.krl -
 checks 'a whole list with its canary' 0 '' --canary a.pub whole.krl

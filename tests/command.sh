@@ -156,8 +156,8 @@ expect_text 'an unknown long option' 2 error --nothing
 expect_text 'an option without its value' 2 error -l -f
 expect_text 'a second time without its value' 2 error -l -f g.pub -f
 
-# What is refused is said without control characters, and no word begins a line.
-# says_plainly NAME WORD..: the words are refused so.
+# The report of a refused argument has no control characters, and no argument begins a line of it.
+# says_plainly NAME WORD..: the arguments are refused with such a report.
 says_plainly() {
   local name=$1 said
   shift
@@ -179,7 +179,7 @@ for letter in $'\e' $'\r' $'\n' $'\x7f' $'\u9b'; do
   says_plainly "a value with $shown for help" "--help=${letter}fake"
   says_plainly "a file name with $shown beside an option" -l --no "${letter}fake" -f "a${letter}fake"
 done
-# Such files among those that a pattern names: --x.. is taken for an option.
+# A pattern matches such files too: --x.. is taken for an option.
 touch -- $'--x\nfake.pub (bob@desk): ok\n'
 says_plainly 'a file name that a pattern gives' -Q -f r.krl *
 rm -- --x*

@@ -1,4 +1,4 @@
-# What bash is offered for the words of the command.
+# The completions that bash gets for the command-line arguments.
 
 mkdir words && cd words || exit 1
 touch one.pub two.krl 'a b.pub'

@@ -17,7 +17,7 @@ fails 'a missing file' $'g.pub: REVOKED\n' 'none: file 1 Open' -Q -f r.krl g.pub
 fails 'a missing file, the first' '' 'none: file 1 Open' -Q -f r.krl none g.pub
 fails 'a missing list' '' 'none: file 1 Open' -Q -f none g.pub
 fails 'a missing file to list' '' 'none: file 1 Open' -l -f none
-# Of two faults that of the list comes first, then that of the first file.
+# If there are two faults, that of the list is reported first, then that of the first file.
 fails 'a missing list and a missing file' '' 'none.krl: file 1 Open' -Q -f none.krl none
 fails 'a list that is none and a missing file' '' 'a: krl 1 Magic' -Q -f a none
 fails 'the same, the contents too' '' 'a: krl 1 Magic' -Q -l -f a none
@@ -32,7 +32,7 @@ fails 'an empty key file' $'g.pub: REVOKED\n' 'empty: file 5 NoKeys' -Q -f r.krl
 fails 'an empty file to list' '' 'empty: file 5 NoKeys' -l -f empty
 fails 'empty standard input' '' '-: file 5 NoKeys' -l -f -
 fails 'a file of comments' '' 'comments: file 5 NoKeys' -l -f comments
-# A hyphen is standard input for what is listed and for the files of -k, and else a name.
+# A hyphen means standard input as the file to list and as a file of -k. Otherwise it is a name.
 fails 'a hyphen is a name in a query' '' '-: file 1 Open' -Q -f r.krl - <g.pub
 fails 'a hyphen is a name of a list' '' '-: file 1 Open' -Q -f - g.pub <r.krl
 fails 'a hyphen is a name of a list to update' '' '-: file 1 Open' -k -u -f - empty <r.krl
@@ -84,7 +84,7 @@ without_end() {
   bytes "$(repeat 20000 "$2")" >piece
   bytes "$1" && while cat piece; do :; done 2>/dev/null
 }
-# endless NAME DIGITS DIGITS: a list that goes on so is refused once it is too long.
+# endless NAME DIGITS DIGITS: a list that repeats the second digits without end is refused once it is too long.
 endless() {
   fails "$1 without end" '' '/dev/stdin: krl 12 TooLong' -Q -f /dev/stdin < <(without_end "$2" "$3")
 }
@@ -102,7 +102,7 @@ fails 'a key file of one byte more' '' 'most.pub: file 3 TooLong' -l -f most.pub
 fails 'standard input of a hundred megabytes' '' '-: file 3 TooLong' -l -f - \
   < <(head -c 100000000 /dev/zero)
 
-# full NAME STATUS ERROR WORD..: the run's output takes no byte.
+# full NAME STATUS ERROR WORD..: the device of the run's output is full.
 full() {
   local name=$1 status=$2 error=$3 got
   shift 3
@@ -147,7 +147,7 @@ cut_off() {
 cut_off 'an output that fails in the first piece' 1
 cut_off 'an output that fails in the second piece' 100
 
-# What the system ends is no answer: the old list stands, and is updated afterwards.
+# A run that the system ends gives no answer: the old list is unchanged, and is updated afterwards.
 printf 'serial: 5\n' >spec
 (ulimit -f 0 && "$binary" -k -u -f r.krl -s none spec) >"$scratch/output" 2>&1
 judge 'a signal for a file that is too long' "$(differs 'exit status' 153 $?)"

@@ -16,7 +16,7 @@ made() {
 runs() {
   program=$2 expect "$1" 1 $'g.pub: REVOKED\n' '' -Q -f r.krl g.pub
 }
-# holds NAME FILE..: just these files are there.
+# holds NAME FILE..: exactly these files are there.
 holds() {
   judge "$1" "$(differs files "$(printf '%s\n' "${@:2}" | sort)" "$(cd "$root" && find . -type f | sort)")"
 }
@@ -146,7 +146,7 @@ judge 'its version has the number of the program, the time and the commit' "$(
   [[ "$(field Version)" =~ ^"$number"[+][0-9]{8}[.][0-9]{6}[.]"$commit"([.]changed)?$ ]] || field Version
 )"
 judge 'it needs the C library of a version' "$([[ "$(field Depends)" =~ ^'libc6 (>= '[0-9.]+')'$ ]] || field Depends)"
-# How the kit compiles and links is its own, and some bytes of the code look like misspelt words.
+# The kit decides how it compiles and links, and some bytes of the code look like misspelt words.
 judge 'lintian finds nothing in the package, but for the code of the program' \
   "$(lintian --allow-root --display-info "$package" 2>&1 |
     grep -v -e '^N:' -e '^I: krl-keygen: hardening-no-' -e '^I: krl-keygen: spelling-error-in-binary')"

@@ -34,7 +34,7 @@ for it in krl_tool krl; do mv away/crates/$it/src/lib.rt away/crates/$it/src/mai
 export calls=$scratch/here/calls XDG_CACHE_HOME=$scratch/here/cache
 store=$XDG_CACHE_HOME/krl-keygen
 unset RT_JOBS AFTER_CI
-# What runs in the background of a script has some signals ignored, as a user's shell has not.
+# A background job of a script ignores some signals. One of a user's shell does not.
 one=(env --default-signal=HUP,INT,TERM RT_JOBS=1)
 two=(env --default-signal=HUP,INT,TERM RT_JOBS=2)
 
@@ -98,7 +98,7 @@ build 'a changed test builds nothing' 0 "$(made_of 6 4)" '' ''
 sleep 0.1 && touch away/crates/low/src/lib.rt
 build 'a source with a new time proves nothing' 0 "$(made_of 6 4)" '' ''
 
-# What each change leads to. The program that was there is replaced, and not written over.
+# The effect of each change. The old program is replaced, and not overwritten.
 ln away/built/ssh-keygen older
 sleep 0.1 && seq 7 >away/crates/low/src/lib.rt
 build 'a changed source' 0 "$(made_of 7 4)" any 'low upper aside krl_tool ' "${one[@]}"
@@ -165,7 +165,7 @@ whole() {
 nothing_left() {
   [ -z "$(ls -d "$store"/*.new 2>/dev/null)" ] || echo '  half a library is left'
   flock -n away/built/lock true || echo '  a build is still at work'
-  # What was killed may take a moment to end.
+  # A killed process may take a moment to end.
   ! { sleep 0.3 && at_work; } || echo '  a crate is still being proved'
 }
 

@@ -11,7 +11,7 @@ seq -f 'id: more %.0f' 5000 >more
 jobs=('-l -f many' '-L -f certs' '-k -f made.krl -s none -z 3 spec' '-k -u -f made.krl -s none more'
   '-Q -f old.krl many' '-Q -l -f old.krl many' -h -Z)
 
-# limited SORT NUMBER WORD..: a run under this limit; what it says stands in said and error.
+# limited SORT NUMBER WORD..: a run under this limit; its output is in the files said and error.
 limited() {
   cp old.krl made.krl
   (
@@ -48,7 +48,7 @@ for job in "${jobs[@]}"; do
         differs 'the list' "$(digits old.krl)" "$(digits made.krl)"
       )
     elif [ $status = 139 ] && [ $answered = 0 ]; then
-      # In the few KiB where the heap takes what is left, the stack has no room, and the system ends the run.
+      # Within a few KiB of the limit the heap takes the rest, the stack has no room, and the system ends the run.
       stopped=$((stopped + 1))
       wrong+=$(differs 'the list' "$(digits old.krl)" "$(digits made.krl)")
     else

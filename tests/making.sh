@@ -234,8 +234,8 @@ cp made.krl large.krl
 keeps 'a list that would be too long' 'made.krl: run 3 TextTooLong' large.krl -u -s none large-4 large-5
 rm -f large*
 
-# Beside OpenSSH: each list is asked by both programs.
-# agree NAME: both programs say of both lists what OpenSSH's says of its own, and ours is no larger.
+# Beside OpenSSH: both programs query each list.
+# agree NAME: both programs give for both lists the answer of OpenSSH's to its own, and ours is no larger.
 agree() {
   local output status krl
   output=$("$openssh" -Q -f theirs.krl "${asked[@]}")

@@ -3,7 +3,7 @@
 page=$top/docs/ssh-keygen.1
 
 need mandoc mandoc || judge 'mandoc is there' '  install it, on Debian by apt-get install mandoc'
-# Which other pages are installed is no matter of this one.
+# The test does not depend on other installed pages.
 judge 'mandoc finds nothing in the manual pages' \
   "$(mandoc -T lint "$page" "$top/docs/krl.1" 2>&1 | grep -v -e 'referenced manual not found' -e 'outdated mandoc.db')"
 

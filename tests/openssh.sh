@@ -1,4 +1,4 @@
-# Beside OpenSSH: keys that its ssh-keygen makes, listed and asked about by both programs.
+# Beside OpenSSH: both programs list the keys that its ssh-keygen makes, and query lists about them.
 
 made=()
 comments=('' user@host 'two  words' "tab"$'\t'"s" 'Zoë 日本' 'a "b" \c (d)')
@@ -39,7 +39,7 @@ for key in "${made[@]}"; do
   done
 done
 
-# What OpenSSH 9.2 printed for the ready lines.
+# The output of OpenSSH 9.2 for the ready lines.
 for hash in sha256 md5; do
   expect "device keys listed by $hash" 0 "$(cat "$tests/lib/device_keys.$hash")"$'\n' '' \
     -l -E $hash -f "$tests/lib/device_keys"

@@ -1,6 +1,6 @@
-# The pages of the crates: each library has one and so has each program, and the map leads to it. The caller
-# that a library's page shows is one that a crate of tests proves and runs, in the same words. What the
-# program's page shows is what the program prints. What THEOREMS.md cites stands in the crates.
+# The pages of the crates: each library and each program has one, and the map links to it. A crate of tests
+# proves and runs the caller that a library's page shows, in the same words. The program prints the output
+# that its page shows. The crates have the names that THEOREMS.md cites.
 
 # shown LANGUAGE PAGE: what the page shows in it.
 shown() {

@@ -81,7 +81,7 @@ plain 'a byte order mark before a comment' "$all" '\xef\xbb\xbf# c\n'
 plain 'a long comment' "$first" '%s %s\n' "$one" "$(head -c 300000 /dev/zero | tr '\0' x)"
 plain 'a long comment line' "$first" '# %s\n%s\n' "$(head -c 300000 /dev/zero | tr '\0' x)" "$one"
 
-# What is no key, before the key and after it.
+# Text that is no key, before the key and after it.
 plain 'garbage after a key' 'one=revoked two=fault' '%s\ngarbage\n' "$one"
 plain 'garbage before a key' "$all" 'garbage\n%s\n' "$one"
 plain 'options' "$all" 'no-pty %s\n' "$one"
@@ -146,7 +146,7 @@ last=00
 plain 'a certificate with a wrong signature' "$all" '%s\n' \
   "$(line ssh-ed25519-cert-v01@openssh.com "${blob%??}$last")"
 
-# No file, and what is no file.
+# A missing file, and names that are not files.
 rm "$room/revoked"
 judge 'a missing list refuses all keys' "$(differs one fault "$(verdict one)")"
 mkdir "$room/revoked"

@@ -21,7 +21,7 @@ made_key one ed25519
 made_key two ed25519
 made_key user ed25519
 for name in user-ca host-ca; do "$openssh" -q -t ed25519 -N '' -C "$name" -f $name; done
-# Two certificates of one key, of which each has a key ID of its own, and one of the host.
+# Two certificates of one key, each with its own key ID, and one of the host.
 for name in alice other; do
   "$openssh" -q -s user-ca -I "$name" -z 1 -n "$user" "$room/user.pub" && mv "$room/user-cert.pub" "$room/$name.pub"
 done
@@ -93,7 +93,7 @@ judge 'a list that OpenSSH refuses is not put in place' "$(try_recipe "$check" >
 judge 'both programs refuse it together' "$(try_recipe "$both" >/dev/null && echo '  they do not')"
 stays 'the list in force stays, too' "$room/revoked.krl"
 
-# What is said of sshd.
+# The statements about sshd.
 # settled COMMAND..: it finds nothing wrong.
 settled() {
   judge "sshd -t finds nothing wrong with $1" "$(tools/sshd -t 2>&1 || echo '  it does')"
@@ -148,7 +148,7 @@ lets_in 'another key again' one
 for name in user-5 user-7 host-5 host-7; do
   "$openssh" -q -s ${name%-*}-ca -I "id of $name" -z ${name#*-} "$room/one.pub" && mv "$room/one-cert.pub" $name.pub
 done
-# answers NAME REVOKED..: the list revokes just these of the certificates.
+# answers NAME REVOKED..: the list revokes exactly these certificates.
 answers() {
   local it wanted=
   for it in user-5 user-7 host-5 host-7; do

@@ -1,4 +1,4 @@
-# Memory that runs out while many files are opened: none of them is passed over.
+# Memory that runs out while many files are opened: none of them is skipped.
 
 line ssh-ed25519 "$G" >g
 bytes "$H" "$(section "$G")" >r.krl

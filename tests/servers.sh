@@ -19,7 +19,7 @@ done
 cat one.pub two.pub three.pub >allowed
 everybody='one two three cert-5 cert-6'
 
-# enters NAME: whether the server lets in who has this key, or the key user with this certificate.
+# enters NAME: whether the server lets in a client with this key, or with the key user and this certificate.
 enters() {
   local words=(-i "$1")
   [ -f "$1" ] || words=(-i user -o CertificateFile="$1.pub")
@@ -28,7 +28,7 @@ enters() {
     "${words[@]}" somebody@127.0.0.1 true 2>error </dev/null)" = 'let in' ]
 }
 
-# lets_in NAME KEY..: of all keys and certificates just these get in.
+# lets_in NAME KEY..: exactly these of all keys and certificates get in.
 lets_in() {
   local it got=
   for it in $everybody other; do ! enters $it || got+=" $it"; done

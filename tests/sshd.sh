@@ -19,7 +19,7 @@ cat "$room/one.pub" "$room/two.pub" >"$room/allowed"
 configure "TrustedUserCAKeys $room/authorities" "RevokedKeys $room/revoked.krl"
 serve
 
-# login NAME STATUS KEY: -Q ends with this status about it, and sshd lets in just who has 0 there.
+# login NAME STATUS KEY: -Q ends with this status for the key, and sshd lets in exactly the keys with status 0.
 login() {
   local got answer
   "$program" -Q -f "$room/revoked.krl" "$room/$3.pub" >"$scratch/answer" 2>&1

@@ -1,8 +1,8 @@
-/* Loaded before the C library of a program, this counts its calls on files, in one row, and at one of
-   them stops it, ends it, or lets the call fail. The environment says:
+/* Loaded before the C library of a program, this counts its calls on files in one sequence. At one of the
+   calls it stops the program, ends it, or lets the call fail. The environment says:
 
-     CALLS=FILE            each call stands there, one on a line, in their order: its name, the path that it
-                           was given or that of its file, and more of what it was given, with tabs between
+     CALLS=FILE            the calls are written there, one on a line, in their order: the name, the path that
+                           it was given or that of its file, and its other arguments, with tabs between
      AT=K                  before the K-th call, counted from 1,
      SIGNAL=N              the program sends itself this signal
      FAIL=NAME:K-L:ERRNO   the K-th to the L-th call of this name fail so; of NAME@END only those count whose
@@ -39,7 +39,7 @@ static long number_of(const char *name, long usual) {
   return text ? atol(text) : usual;
 }
 
-/* What is called before the program itself begins does not count. */
+/* Calls before the program itself begins do not count. */
 __attribute__((constructor)) static void begin(void) {
   const char *file = getenv("CALLS"), *fail = getenv("FAIL");
   hurries = getenv("HURRY") != NULL;

@@ -3,8 +3,8 @@
     cited.py TOP
 
 Each line of the output is a name that is not there. A name is a public function, a type, the name of a clause, a
-definition of specs/, or a crate. What a row cites is sought in the crates that the section's heading, or the name
-itself, gives; definitions also in the other crates.
+definition of specs/, or a crate. Each name that a row cites is looked up in the crates that the section's heading, or
+the name itself, gives; definitions also in the other crates.
 """
 
 import os
@@ -41,7 +41,7 @@ class Crate:
         self.methods = set()
         for text in source.values():
             self.methods |= methods(text)
-        # A type that stands for another one has its methods.
+        # A type that is an alias of another one has its methods.
         for other, one in re.findall(r"\bpub type (\w+)[^=;]*= (\w+)", whole):
             self.methods |= {(other, name) for it, name in self.methods if it == one}
         self.clauses = set(re.findall(r"\b(?:ensures|requires|law|ghost) (\w+) [{=]", whole))
@@ -51,7 +51,7 @@ class Crate:
             # The fields of a record, and the cases of a definition by cases.
             self.definitions |= set(re.findall(r"(?m)^  (?:pub )?(\w+) :", text))
         if re.search(r"(?m)^%s staticlib:" % name, open(os.path.join(TOP, "crates.txt")).read()):
-            # What C calls is exported by its symbol.
+            # A function that C calls is exported by its symbol.
             self.functions = set(re.findall(r"\bfn (krl_\w+)", whole))
 
 

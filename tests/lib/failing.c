@@ -11,7 +11,7 @@
                              opened so, RENAME and REMOVE of those of a name, LINK of a second name
      KILL=K                  the K-th write moves half of its bytes, and then the program is killed
      MOMENT=N                the clock shows N seconds since 1970, before it where N is negative
-     REPORT=FILE             the counts of what was called and of what failed stand there at the end */
+     REPORT=FILE             the counts of calls and of failed calls are written there at the end */
 #define _GNU_SOURCE
 #include <errno.h>
 #include <fcntl.h>
@@ -30,7 +30,7 @@ enum { MEMORY, READ, WRITE, CREATE, MODE, OWNER, SYNC, CLOSE, RENAME, REMOVE, LI
 static const char *const names[SORTS] = {"MEMORY", "READ",  "WRITE",  "CREATE", "MODE", "OWNER",
                                          "SYNC",   "CLOSE", "RENAME", "REMOVE", "LINK"};
 
-/* What was called and what of it failed, and the descriptor of the last call that failed. */
+/* The numbers of calls and of failed calls, and the descriptor of the last call that failed. */
 struct count {
   uint64_t called, failed, descriptor;
 };
@@ -62,7 +62,7 @@ static void take(const char *name, struct order *order) {
     sscanf(text, "%lu-%lu:%ld:%lu", &order->first, &order->last, &order->how, &order->piece);
 }
 
-/* What is called before the program itself begins does not count. */
+/* Calls before the program itself begins do not count. */
 __attribute__((constructor)) static void begin(void) {
   const char *file = getenv("REPORT"), *time = getenv("MOMENT"), *kill = getenv("KILL");
   for (int sort = 0; sort < SORTS; sort++)
@@ -111,7 +111,7 @@ void *realloc(void *held, size_t size) {
   return fails(MEMORY, 0) ? refused() : __libc_realloc(held, size);
 }
 
-/* How many bytes a call of the sort moves at most, or -1 where it ends with an error, which is set. */
+/* How many bytes a call of the sort moves at most, or -1 if it ends with an error, which is set. */
 static ssize_t most(int sort, int descriptor, size_t size) {
   struct order *order = &orders[sort];
   if (!fails(sort, descriptor))

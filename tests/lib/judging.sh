@@ -1,4 +1,4 @@
-# What the parts of tests/ share: running the program and comparing what it did.
+# The shared code of the parts of tests/: runs the program and compares the results.
 
 passed=0
 failed=0
@@ -17,7 +17,7 @@ expect() {
 }
 
 # expect_text NAME STATUS STREAM WORD..: as expect, where the text is the command line library's
-# own: it stands on the named stream (output or error), and nothing on the other.
+# own: it is printed on the named stream (output or error), and nothing on the other.
 expect_text() {
   local name=$1 status=$2 stream=$3 said other
   shift 3
@@ -57,7 +57,7 @@ judge() {
   fi
 }
 
-# digits FILE: the bytes of a list in hexadecimal, with zeros in place of its time.
+# digits FILE: the bytes of a list in hexadecimal, with zeros instead of its time.
 digits() {
   local all
   all=$(od -An -v -tx1 "$1" | tr -d ' \n')

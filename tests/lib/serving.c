@@ -120,7 +120,7 @@ int gethostname(char *name, size_t size) {
   return library(name, size);
 }
 
-/* What its libraries give back at the end takes OpenSSH's program longer than most runs. */
+/* OpenSSH's program takes longer to free the memory of its libraries at the end than for most runs. */
 void exit(int status) {
   fflush(NULL);
   if (is_late_copy)

@@ -1,7 +1,7 @@
-# Examples of documents, run as they stand there.
+# Runs the examples of documents as they are written there.
 
-# transcript NAME: standard input has lines that begin with '$ ', each followed by what it prints. They
-# are run in one shell in the folder at hand, where the programs are ssh-keygen and krl. Times may differ.
+# transcript NAME: standard input has lines that begin with '$ ', each followed by its output. One shell runs
+# them in the current folder, where the programs are called ssh-keygen and krl. Times may differ.
 transcript() {
   local wanted got
   wanted=$(timeless)

@@ -1,4 +1,4 @@
-"""What the programs of tests/ share: the program that is tried, tests that are counted, and libraries
+"""The shared code of the programs of tests/: the program that is tested, the count of tests, and libraries
 that are loaded before a program, and change what its calls do."""
 
 import os

@@ -1,6 +1,6 @@
-/* Loaded before the C library of a program, this looks at each block of memory that is given back,
-   for byte strings that should not stand in it any more. A block that grows is moved each time, so
-   that its old place is given back. The environment says:
+/* Loaded before the C library of a program, this searches each block of memory that is freed for
+   byte strings that should not be in it any more. A block that grows is moved each time, so that
+   its old place is freed. The environment says:
 
      SOUGHT=FILE   the byte strings, each after a byte with its length
      FOUND=FILE    how many blocks had each of them, and how many there were, as 64-bit numbers */

@@ -6,7 +6,7 @@ from fuzz import change
 
 
 class Case:
-    """What is run: files by name, our runs and OpenSSH's, one after the other."""
+    """A case to run: files by name, our runs and OpenSSH's, one after the other."""
 
     def __init__(self, number, kind):
         self.number = number
@@ -107,7 +107,7 @@ class Maker:
         case.ours = case.theirs = [["-l", "-f", case.name("key")]]
 
     def lists_made(self, source, case):
-        """-k of a changed specification file, or -k -u of a list; then both lists are asked."""
+        """-k of a changed specification file, or -k -u of a list; then queries of both lists."""
         case.files["spec"] = self.changed(
             source, self.specs, [change.change_spec, change.change_spec, change.change_bytes]
         )
@@ -133,7 +133,7 @@ class Maker:
 
 
 def is_single(content):
-    """Whether just one line of it could be a key, and has only bytes that stand for themselves."""
+    """Whether exactly one line of it could be a key, and that line has only printable ASCII characters."""
     lines = [it.lstrip(b" \t").rstrip(b" \t\r") for it in content.split(b"\n")]
     lines = [it for it in lines if it and not it.startswith(b"#")]
     return len(lines) == 1 and all(0x20 <= it < 0x7F for it in lines[0])

@@ -1,4 +1,4 @@
-"""Changes of files at random: of bytes that stand anywhere, and of fields that are known."""
+"""Changes of files at random: of bytes at any place, and of fields that are known."""
 
 import base64
 import binascii
@@ -252,7 +252,7 @@ def change_list(source, content, other):
 
 
 def change_certificates(source, inner, other):
-    """What a section of certificates holds, with a change of its authority or of a subsection."""
+    """The content of a section of certificates, with a change of its authority or of a subsection."""
     (authority, reserved), rest = (fields_of(inner)[0] + [b"", b""])[:2], None
     rest = inner[8 + len(authority) + len(reserved) :]
     subsections, last = pieces_of(rest, False)
@@ -278,7 +278,7 @@ def change_certificates(source, inner, other):
 
 
 def extension(source):
-    """What an extension holds; it must not be understood more often than it must."""
+    """The content of an extension. It is critical less often than not."""
     critical = source.choice([b"\0", b"\0", b"\0", b"\1", b"\2", b""])
     return string(b"name") + critical + string(b"contents")
 

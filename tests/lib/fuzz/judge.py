@@ -1,4 +1,4 @@
-"""What is wrong with what the programs said of a case, if anything is."""
+"""Finds what is wrong with the programs' answers to a case, if anything is."""
 
 import re
 
@@ -69,7 +69,7 @@ class Run:
 
 
 def wrong_form(run):
-    """What no run of this program may show, whatever it reads."""
+    """Finds what no run of this program may show, whatever it reads."""
     if run.status not in (0, 1, 255):
         return "status %d" % run.status
     if b"NoMemory" in run.error:
@@ -154,7 +154,7 @@ def is_taken(run):
 
 
 def compared(case, ours, theirs):
-    """What is wrong beside OpenSSH's program, which took the same files."""
+    """Finds differences from OpenSSH's program, which took the same files."""
     if case.kind == "lists_asked":
         if not is_taken(theirs[0]):
             return None

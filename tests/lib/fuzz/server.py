@@ -6,7 +6,7 @@ import subprocess
 
 
 class Request:
-    """What is run, and the files for what it prints."""
+    """The arguments of a run, and the files for its output."""
 
     def __init__(self, words, output, error, seconds, memory):
         self.texts = [str(seconds), str(memory), output, error] + words
@@ -18,11 +18,11 @@ class Request:
 
 
 class Server:
-    """The program, started once for words of some count; its runs begin in the folder at hand."""
+    """The program, started once for a number of arguments; its runs begin in the current folder."""
 
     def __init__(self, program, library, count):
         self.program = program
-        # Later is better, where the program comes by that place.
+        # Late is better, if the program reaches that place.
         for late in ({"SERVE_LATE": "1"}, {}):
             self.process = subprocess.Popen(
                 [program] + ["-"] * (count - 1),

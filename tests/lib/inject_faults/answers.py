@@ -1,6 +1,6 @@
-"""What a run may answer when one of its calls failed, beside what it answers when none does.
+"""The answers that are allowed when a call of a run failed, compared with the answer when no call fails.
 
-Each function gives None, or what is wrong."""
+Each function returns None, or what is wrong."""
 
 import re
 
@@ -22,7 +22,7 @@ def same(run, ample, got):
 
 
 def stopped(run, ample, got):
-    """A run that stopped: some lines may stand, and a list is as it was to the byte."""
+    """A run that stopped: it may have printed some lines, and each byte of a list is unchanged."""
     if got.status != FAULT:
         return "the status"
     if not is_front(got.output, ample.output):
@@ -60,7 +60,7 @@ def after_read(run, ample, got):
 
 
 def after_write(run, ample, got):
-    """A write failed: just what was written before it stands, and its length is reported."""
+    """A write failed: only the bytes before it are in the file, and their length is reported."""
     descriptor = got.counts["WRITE"].descriptor
     if descriptor == ERROR:
         said = (got.status, got.output, got.made) == (ample.status, ample.output, ample.made)
@@ -88,7 +88,7 @@ def in_place(run, ample, got):
 
 
 def unwritten(run, ample, got):
-    """The new file was not given the name of the list, so the old one stands, and no byte of it."""
+    """The new file did not get the name of the list: the old list is unchanged, and 0 bytes are reported."""
     if got.error != WRITE % (b"made.krl", 0):
         return "standard error"
     return stopped(run, ample, got)

@@ -7,7 +7,7 @@ from pathlib import Path
 
 MOMENT = 951782400
 SECONDS = 20
-# What the library counts, in its order.
+# The calls that the library counts, in its order.
 SORTS = "MEMORY READ WRITE CREATE MODE OWNER SYNC CLOSE RENAME REMOVE LINK".split()
 LIST = "made.krl"
 
@@ -40,7 +40,7 @@ class Ended:
 
 
 class Counts:
-    """How often something was called and how often that failed, and where it did last."""
+    """The numbers of calls and of failed calls, and the descriptor of the last failed call."""
 
     def __init__(self, called, failed, descriptor):
         self.called = called
@@ -49,7 +49,7 @@ class Counts:
 
 
 class Program:
-    """The program, in the folder at hand, which holds the files that it reads."""
+    """The program, in the current folder, which has the files that it reads."""
 
     def __init__(self, program, library):
         self.program = program

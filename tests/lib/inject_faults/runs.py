@@ -7,18 +7,18 @@ class Run:
         self.words = words.split()
         # The file that is standard input.
         self.given = given
-        # The file that stands where -k makes its list.
+        # The file that was there under the name of the list that -k makes.
         self.old = old
-        # Whether a thousand interruptions are passed over: not where the standard library prints.
+        # Whether a thousand interruptions are ignored: not where the standard library prints.
         self.is_patient = is_patient
-        # What the environment has beside what the library is told.
+        # The variables of the environment, besides those for the preloaded library.
         self.environment = environment or {}
 
     def makes(self):
         return self.words[0] == "-k"
 
 
-# A number that is so long that its text takes memory of its own.
+# A number that is so long that its text needs an allocation.
 EPOCH = {"SOURCE_DATE_EPOCH": "00000000001234567890"}
 KEYS = "g.pub other.pub cert.pub certs.pub keys.pub private private-rsa"
 RUNS = [

@@ -1,4 +1,4 @@
-"""What each run is put through: its calls fail in turn, until a run meets no failure."""
+"""Runs the program again and again: its calls fail in turn, until a run meets no failure."""
 
 import errno
 
@@ -7,12 +7,12 @@ from inject_faults import answers
 
 ALWAYS = 1 << 62
 SHORT, NOTHING = -1, 0
-# A device is asked again so often where it was interrupted.
+# How often the program repeats a call that was interrupted.
 PATIENCE = 1000
 
 
 class Sweep:
-    """Of a sort of calls the first fails, then the second, and so on."""
+    """The first call of a sort fails, then the second, and so on."""
 
     def __init__(self, name, sort, answer, how=0, piece=ALWAYS, lasts=False):
         self.name = name
@@ -73,7 +73,7 @@ def numbers(count, most):
 
 
 class Room(trial.Tests):
-    """Where the runs take place, and what they showed."""
+    """The place of the runs, and their results."""
 
     def __init__(self, program, files, most):
         super().__init__()
@@ -107,7 +107,7 @@ class Room(trial.Tests):
         self.judge(name, ["%s: %s" % (what, got.shown())] if what else [])
 
     def pieces(self, run):
-        """Devices that give and take few bytes at once."""
+        """Devices that read and write only a few bytes in each call."""
         ample = self.start(run, {})
         for sort in ("READ", "WRITE"):
             for piece in (1, 3, 7):
@@ -115,7 +115,7 @@ class Room(trial.Tests):
                 self.once(name, run, ample, {sort: "0-0:0:%d" % piece}, answers.same)
 
     def patience(self, run):
-        """A thousand interruptions are passed over, and no more."""
+        """A thousand interruptions are ignored, and no more."""
         ample = self.start(run, {})
         for sort, fault in (("READ", answers.after_read), ("WRITE", answers.after_write)):
             if not ample.counts[sort].called:

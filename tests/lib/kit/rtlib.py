@@ -1,4 +1,4 @@
-"""What build.py uses of a kit's rtlib, over the crates of tests/launcher.sh."""
+"""The functions of a kit's rtlib that build.py uses, for the crates of tests/launcher.sh."""
 
 import functools
 import os

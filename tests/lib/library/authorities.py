@@ -43,7 +43,7 @@ def under(authority, *subsections):
 
 
 def answers(content, text):
-    """What each call answers about the key of a line."""
+    """The answers of each call about the key of a line."""
     library = krl.loaded()
     handle = krl.Handle(library)
     loaded = handle.load(content)
@@ -85,7 +85,7 @@ def beside_openssh(tests, kind):
 
 
 def named(tests):
-    """Which authorities are compared, whatever their sections revoke and what is asked."""
+    """Which authorities are compared, whatever their sections revoke and whatever the query is."""
     text = line(SEVENTH).strip().encode()
     keys = {"none": b"", "ed25519": AUTHORITY, "rsa": RSA, "ecdsa": ECDSA, "device": DEVICE}
     others = {

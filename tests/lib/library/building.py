@@ -23,7 +23,7 @@ def run(*words, **more):
 
 
 def told(ran, status=0):
-    """What is wrong with a run that is to end so."""
+    """What is wrong with a run that should end with this status."""
     return [] if ran.returncode == status else [(ran.stdout + ran.stderr)[-400:]]
 
 

@@ -12,7 +12,7 @@ from trial import TOP
 PAGE = os.path.join(TOP, "docs", "krl.3")
 PACKAGING = os.path.join(TOP, "packaging")
 MULTIARCH = "lib/x86_64-linux-gnu"
-# What mandoc says of other pages, which this one does not answer for.
+# Messages of mandoc about other pages, which are not faults of this one.
 OF_OTHERS = "referenced manual not found", "outdated mandoc.db"
 
 
@@ -38,7 +38,7 @@ def linked(libraries):
 
 
 def of_programs(libraries, ending=""):
-    """What programs are built with."""
+    """The files that programs are built with."""
     pages = {"share/man/man3/%s.3%s" % (it, ending): "krl.3" + ending for it in CALLS}
     names = ("include/krl.h", libraries + "/libkrl.a", libraries + "/pkgconfig/krl.pc")
     pages["share/man/man3/krl.3" + ending] = ""

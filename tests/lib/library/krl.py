@@ -45,7 +45,7 @@ def text(library, answer):
 
 
 class Handle:
-    """A place in which no list is held yet."""
+    """A place without a list yet."""
 
     def __init__(self, library):
         self.library = library

@@ -36,7 +36,7 @@ def listening(seconds=10):
 
 
 def enters(port, key):
-    """Whether the server lets in who has the key."""
+    """Whether the server lets in a client with the key."""
     options = [word for it in OPTIONS for word in ("-o", it)]
     words = ["ssh", "-F", "none", "-p", port, *options, "-i", key, "somebody@127.0.0.1", "true"]
     ran = run(*words, stdin=subprocess.DEVNULL, timeout=60)

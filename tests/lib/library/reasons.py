@@ -32,7 +32,7 @@ SECTIONS = {
     "KEY_ID": certificates(AUTHORITY, ids("b", "a")),
     "KEY_ID_OF_ALL": certificates(b"", ids("a")),
 }
-# What names neither the certificate nor its key.
+# Sections that name neither the certificate nor its key.
 OTHERS = (
     section(2, string(OTHER)),
     hashed(3, hashlib.sha1, OTHER),

@@ -8,7 +8,7 @@
 void *__real_malloc(size_t size), *__real_realloc(void *block, size_t size);
 void __real_free(void *block);
 
-/* How many allocations go well before one fails; none fails where it is below zero. */
+/* How many allocations succeed before one fails; none fails if it is below zero. */
 static long left = -1;
 static long blocks;
 

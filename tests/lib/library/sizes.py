@@ -16,13 +16,13 @@ OPENSSH = os.environ.get("OPENSSH", "ssh-keygen")
 FAR = 1 << 32
 # MAP_NORESERVE of Linux, which mmap names only in later versions.
 NO_RESERVE = 0x4000
-# What the last bytes of a list revoke: a key, and a certificate by its serial number.
+# The last bytes of a list: they revoke a key, and a certificate by its serial number.
 LAST = section(2, string(KEY)) + certificates(AUTHORITY, serials(7))
 ASKED = {"key": KEY, "other": OTHER, "cert": SEVENTH}
 
 
 def fillers(size):
-    """A section of keys that nobody asks about, of so many bytes."""
+    """A section of keys that no query asks about, `size` bytes long."""
     left, keys = size - 5, []
     while left > 2000:
         keys.append(string(ed25519(0x77) * 15))
@@ -31,8 +31,8 @@ def fillers(size):
 
 
 def list_of(size, front=0):
-    """A list of so many bytes, of which the last ones revoke. Its first `front` bytes are a list
-    too, that revokes nothing of it."""
+    """A list `size` bytes long, of which only the last ones revoke the keys of the queries. Its first
+    `front` bytes are a list too, which revokes none of them."""
     begun = HEADER + (fillers(front - len(HEADER)) if front else b"")
     return begun + fillers(size - len(begun) - len(LAST)) + LAST
 

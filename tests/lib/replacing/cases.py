@@ -1,4 +1,4 @@
-"""Where the list stands: over links, with its mode, without leave, as a pipe or a device."""
+"""Lists in all kinds of places: behind links, with a mode, without permission, as a pipe or a device."""
 
 import os
 import stat
@@ -173,7 +173,7 @@ def is_new(got, made):
 
 
 def reading(place):
-    """A reader beside a hundred updates sees whole lists alone."""
+    """A reader beside a hundred updates sees only whole lists."""
     place.enter()
     seen, stops = set(), threading.Event()
 

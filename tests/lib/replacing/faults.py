@@ -1,4 +1,4 @@
-"""Writing that fails, or is cut off, at one length after the other."""
+"""Writes that fail, or are cut off, at one length after the other."""
 
 import os
 import signal

@@ -21,7 +21,7 @@ def padded(section_of):
     return "x" * (-len(HEADER + section_of("")) % PAGE)
 
 
-# What an update adds. Two sections end where a page does; in none of these the old key stands.
+# The entries that an update adds. Two sections end where a page does; none of them has the old key.
 FIRST = padded(lambda text: certificates(b"", files.ids(text)))
 # The second begins where a page does, without a header before it.
 SECOND = padded(lambda text: certificates(files.AUTHORITY, files.ids(text))) + "x" * len(HEADER)
@@ -34,7 +34,7 @@ SPEC = "id: %s\n%ssha1: %ssha256: %s" % (
 
 
 class Folder(trial.Tests):
-    """The scratch folder, which is the one at hand too, and the count of what was judged."""
+    """The scratch folder, which is also the current folder, and the count of the tests."""
 
     def __init__(self, scratch, program, library):
         super().__init__()
@@ -124,7 +124,7 @@ class Folder(trial.Tests):
         return wrong
 
     def revoked(self):
-        """What is wrong where the list is asked about its old key."""
+        """What is wrong with the answer of the list about its old key."""
         done = self.run("-Q", "-f", LIST, "../key.pub")
         if (done.returncode, done.stdout) != (1, b"../key.pub: REVOKED\n"):
             return ["asked, it says %d %r %r" % (done.returncode, done.stdout, done.stderr)]
@@ -137,7 +137,7 @@ def without_key(made):
 
 
 def timeless(content):
-    """The list with zeros in place of its time."""
+    """The list with zeros instead of its time."""
     return content[:20] + bytes(8) + content[28:]
 
 

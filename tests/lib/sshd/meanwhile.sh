@@ -7,7 +7,7 @@ cp "$binary" "$room/ssh-keygen" && chmod 755 "$room/ssh-keygen"
 cc -O2 -shared -fPIC -o "$room/calls.so" "$tests/lib/calls.c"
 "$program" -k -f "$room/old.krl" "$room/one.pub"
 for number in {1..3}; do echo "serial: $((1000 * number))" >"$room/more-$number"; done
-# Who may write the list, but make no file beside it.
+# A user who may write the list, but make no file beside it.
 as_owner=()
 [ "$(id -u)" != 0 ] || as_owner=(setpriv --reuid=65534 --regid=65534 --clear-groups)
 cp "$room/old.krl" "$room/closed/r.krl"
@@ -23,7 +23,7 @@ waits_for() {
   done
 }
 
-# What a list that was emptied first would do, as one of other programs is.
+# The effect of a list that is emptied before it is written, as other programs do.
 : >"$room/revoked.krl"
 echo "# sshd $(enters one && echo lets in || echo refuses) a revoked key where the list has no bytes"
 rm "$room/revoked.krl"

@@ -13,7 +13,7 @@ OPENSSH = os.environ.get("OPENSSH", "ssh-keygen")
 
 
 def is_refused(place):
-    """What is wrong where neither program may take the list."""
+    """What is wrong if neither program may take the list."""
     wrong = []
     ours = place.run("-Q", "-f", LIST, "../key.pub")
     if (ours.returncode, ours.stdout) != (255, b""):
@@ -27,8 +27,8 @@ def is_refused(place):
 
 
 def by_rename(place, made):
-    """The old list or the new one stands, and beside it the new file and the lock at most, which no
-    one else may read; the next update takes over the lock."""
+    """The folder has the old list or the new one, and beside it at most the new file and the lock, which
+    no one else may read. The next update takes over the lock."""
     steps = Steps(place)
     place.enter()
     calls, _ = steps.calls()
@@ -54,7 +54,7 @@ def by_rename(place, made):
 
 
 def in_place(place, made):
-    """The old list, the new one, or one that every reader refuses stands."""
+    """The folder has the old list, the new one, or one that every reader refuses."""
     user = closed(place, OLD)
     steps = Steps(place, user=user)
     calls, _ = steps.calls()

@@ -60,7 +60,7 @@ def is_locked_out(place, done, calls, says=WAITS + LOCKED):
 
 
 def by_readers(place, made):
-    """Who may only read the list holds up no update by a lock on it, for longer than a second."""
+    """A user who may only read the list cannot delay an update for more than a second by a lock on it."""
     user = NOBODY if os.geteuid() == 0 else None
     for words, wanted in ((UPDATE, made), (ANEW, None)):
         place.enter()
@@ -130,7 +130,7 @@ def real_minute(place):
 
 
 def waits(place, made):
-    """An update says that it waits after a second, once, and goes on where the lock ends before."""
+    """After a second an update says once that it waits. It continues if the lock ends before the minute is over."""
     for words, old in ((UPDATE, OLD), (ANEW, OLD), (ANEW, None)):
         place.enter(old=old)
         with open(LOCK, "wb") as lock:
@@ -172,7 +172,7 @@ def control_bytes(place):
 
 
 def compared(place):
-    """Who gets a lock whose file has lost its name looks for the new one."""
+    """An update that gets a lock whose file has lost its name looks for the new one."""
     place.enter()
     with open(LOCK, "wb") as lock:
         fcntl.flock(lock, fcntl.LOCK_EX)
@@ -258,8 +258,8 @@ def shown_files(place, made):
 
 
 def of_others(place, made):
-    """In a folder where all may make files, a lock of another user keeps an update out, for it could
-    be taken away while it is held; one of root or of the list's owner is taken over."""
+    """In a folder where all may make files, a lock of another user blocks an update, since that user
+    could remove it while it is held. A lock of root or of the list's owner is taken over."""
     if os.geteuid():
         print("# only root makes files for others, so no lock of another user is tried")
         return

@@ -86,7 +86,7 @@ def is_one_of(found, wanted):
 
 
 def first_list(place, made):
-    """Where there was no list, one that another program makes is not replaced unseen."""
+    """If there was no list, one that another program makes is not replaced unseen."""
     steps = Steps(place, ANEW)
     begin(place)
     os.remove(LIST)
@@ -117,7 +117,7 @@ def failing(place, made):
             for error in SORTS:
                 begin(place)
                 done = steps.run(FAIL="%s:%s:%d" % (name, turn, error))
-                # Where the lock cannot be made, the folder takes no new file.
+                # If the lock cannot be made, the folder takes no new file.
                 in_place = (name, error) == ("create", errno.EACCES) and turn.startswith("1-")
                 is_whole = done.returncode == 0 or name == "stat"
                 is_whole = is_whole and same(content(), made)
@@ -146,7 +146,7 @@ def unseen(place):
     done = Steps(place).run(FAIL="lstat@%s:1-%d:%d" % (LIST, ALL, errno.EIO))
     wrong = place.differs(done, 255, FAULTS[0]) + place.stands(OLD)
     place.judge("a path that cannot be looked at", wrong)
-    # Where no link can be made, a free name is looked at before the renaming.
+    # If no link can be made, the update checks that the name is free before the renaming.
     place.enter(old=None)
     fails = "lstat@%s:1-%d:%d,link:1-%d:%d" % (LIST, ALL, errno.EIO, ALL, errno.EPERM)
     done = Steps(place, ANEW).run(FAIL=fails)

@@ -134,7 +134,7 @@ def interrupted(place, made):
 
 
 def refused_modes(place):
-    """Where the mode cannot be kept, the old list stands, with its mode."""
+    """If the mode cannot be kept, the old list is unchanged, with its mode."""
     place.enter()
     os.chmod(LIST, 0o644)
     done = Steps(place).run(FAIL="fchmod@.new:1-1:%d" % errno.EPERM)

@@ -69,7 +69,7 @@ def groups(place, made):
 
 
 def owners(place, made):
-    """Who gets the list of another owner gets none of the bit that lends that owner's rights."""
+    """A user who becomes the owner of another user's list does not keep the set-user-ID or set-group-ID bit."""
     for mode, wanted in ((0o4666, 0o666), (0o6666, 0o666), (0o1666, 0o1666)):
         begin(place, mode, (STRANGER, STRANGER))
         update = Update(place, STRANGER)

@@ -8,7 +8,7 @@ import subprocess
 from replacing.folder import LIST, NOBODY, timeless
 from wire import HEADER
 
-# A list up to its format version, in place of which no reader takes this.
+# The first bytes of a list: its magic, then a format version that every reader refuses.
 REFUSED = HEADER[:8] + b"\xff" * 4
 UPDATE = ("-k", "-u", "-f", LIST, "-s", "none", "../spec")
 ANEW = ("-k", "-f", LIST, "-s", "none", "../spec")
@@ -63,7 +63,7 @@ class Steps:
         return [Call(*(it.replace(here + "/", "") for it in line)) for line in lines], done
 
     def stopped(self, number, meanwhile, **orders):
-        """A run that stops before this call; then meanwhile is done, and it goes on."""
+        """A run that stops before this call. Then `meanwhile` is called, and the run continues."""
         as_user = {} if self.user is None else self.as_user()
         orders |= {"AT": str(number), "SIGNAL": str(int(signal.SIGSTOP))}
         process = subprocess.Popen(

@@ -1,4 +1,4 @@
-"""Updates of one list at once."""
+"""Updates of one list at the same time."""
 
 import os
 import re
@@ -41,13 +41,13 @@ def held(place):
 
 
 def faults(ends):
-    """What is wrong with them. An update that waits for more than a second may say so."""
+    """What is wrong with the updates. One that waits for more than a second may say so."""
     says = b"ssh-keygen: waiting for another update of %s\n" % LIST.encode()
     return ["%d: %r" % (status, it) for it, status in ends if status or it not in (b"", says)][:2]
 
 
 def updates(place, count, rounds):
-    """Each of them adds a serial. They all wait for their lines, and get them at once."""
+    """Each of them adds a serial. They all wait for their lines, and get them at the same time."""
     for number in range(rounds):
         place.enter()
         serials = [*range(1, 2 * count, 2)]
@@ -93,7 +93,7 @@ def among(place, count, rounds):
 
 
 def first(place, count, rounds):
-    """Several make a list at once where there is none: it is that of one of them."""
+    """Several make a list at the same time where there is none: the list is that of one of them."""
     for number in range(rounds):
         place.enter(old=None)
         runs = [started(place, *WORDS[1:]) for _ in range(count)]
@@ -109,7 +109,7 @@ def first(place, count, rounds):
 
 
 def slow_lines(place):
-    """Who waits for lines keeps nobody out, and adds them to the list as it is then."""
+    """An update that waits for lines blocks no other one, and adds them to the list as it is then."""
     place.enter()
     slow = started(place, *WORDS)
     lines = [b"serial: %d\n" % it for it in (1, 3, 5)]

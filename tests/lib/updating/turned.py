@@ -136,7 +136,7 @@ def fed(path):
 
 
 def pipe_for_list(place):
-    """What was read of a pipe goes into no list, whenever one takes the name of the pipe."""
+    """Bytes that were read from a pipe go into no list, whenever a list takes the name of the pipe."""
     steps = Steps(place)
 
     def begin():
@@ -163,7 +163,7 @@ def pipe_for_list(place):
 
 
 def list_for_pipe(place):
-    """What was read of a list goes into no pipe, whenever one takes the name of the list."""
+    """Bytes that were read from a list go into no pipe, whenever a pipe takes the name of the list."""
     steps = Steps(place)
     place.enter()
     found, _ = steps.seen()
