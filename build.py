@@ -32,7 +32,7 @@ sys.dont_write_bytecode = True
 TOP = os.path.dirname(os.path.realpath(__file__))
 BUILT = os.path.join(TOP, "built")
 TOOLS = ("rattle", "rattle-link", "rtlib.py")
-# The memory that a process takes which proves a crate, in bytes.
+# The memory in bytes of a process that proves a crate.
 NEED = 2_500_000_000
 # How many builds of a crate stay in the cache; each stays for this many seconds after its last use.
 STAY, LEAST_AGE = 3, 86400
@@ -121,14 +121,14 @@ def free_memory():
         (f"{group}.max", f"{group}.stat", rb"anon (\d+)"),
         (f"{group}/memory.limit_in_bytes", f"{group}/memory.stat", rb"total_rss (\d+)"),
     ):
-        # Where there is no limit, there is no file, or it has a word.
+        # If there is no limit, there is no file, or the file has a word.
         with contextlib.suppress(OSError, TypeError, ValueError):
             free.append(int(read(limit)) - int(re.search(word, read(held))[1]))
     return min(free)
 
 
 def count_lanes():
-    """Returns how many processes prove at once: one for each processor that has memory, or the number in RT_JOBS."""
+    """Returns how many processes prove at the same time: one a processor with memory, or the number in RT_JOBS."""
     fixed = os.environ.get("RT_JOBS", "")
     if re.fullmatch("[1-9][0-9]*", fixed):
         return int(fixed)
@@ -146,7 +146,7 @@ class Task:
         self.made = self.place = self.process = self.lock = None
         self.was_killed = self.is_waiting = False
         lines = sum(read(it).count(b"\n") for it in self.files() if it.endswith(".rt"))
-        # How many seconds proving it takes, about. Each library below is loaded.
+        # About how many seconds the proofs of the crate take. Each library below is loaded.
         self.seconds = 10 + lines / 10 + 5 * len(below)
 
     def files(self):
@@ -154,7 +154,7 @@ class Task:
         return sorted(os.path.join(at, name) for at, _, names in walked for name in names)
 
     def state(self):
-        """Returns what tells whether a file was changed meanwhile, also where it was changed back."""
+        """Returns data that shows whether a file was changed meanwhile, even if it was changed back."""
         found = []
         for it in self.files():
             with contextlib.suppress(FileNotFoundError):
@@ -197,7 +197,7 @@ class Build:
             for crate in [*last.below(), last]:
                 tasks[crate.name] = Task(crate, [tasks[it.name] for it in crate.below()])
         self.tasks, self.last = [*tasks.values()], tasks[top]
-        # Where rt ci has just proved all crates, the libraries that it left are taken.
+        # If rt ci has just proved all crates, this build uses the libraries that it left.
         if os.environ.get("AFTER_CI"):
             for it in self.tasks[:-1]:
                 it.made = it.crate.rlib if os.path.isfile(f"{it.crate.rlib}/format") else None
@@ -220,8 +220,8 @@ class Build:
         return self.last.made
 
     def begin_some(self, ready):
-        """Begins to prove what is ready, the longest chain first. A second process in a crate does parts of its work
-        anew, so a crate gets one only where no other can use the processor, or its chain is by far the longest."""
+        """Begins to prove the crates that are ready, the longest chain first. A second process in a crate repeats parts
+        of the work, so a crate gets one only if no other can use the processor, or its chain is by far the longest."""
         if self.lanes is None:
             self.lanes = count_lanes()
             say(f"proving and building, this once: {len(self.tasks)} crates")
@@ -268,7 +268,7 @@ class Build:
             return [*words, "--statements", "-o", made]
         words += ["--backend", "llvm", "--toolchain", f"{self.kit}/toolchain"]
         if it.crate.is_program:
-            # What is as before is not proved again. A library that is built as statements cannot be built so.
+            # Unchanged functions are not proved again. This does not work for a library that is built as statements.
             return [*words, "--incremental", f"{self.store}/{it.name}.incremental", "-o", f"{made}.o"]
         return [*words, "-o", made]
 
@@ -365,7 +365,7 @@ def main(top, file):
         signal.signal(it, lambda *_: sys.exit(255))
     try:
         os.makedirs(BUILT, exist_ok=True)
-        # Of two builds at once, the second waits, and finds all proved.
+        # If two builds run at the same time, the second waits, and finds all proved.
         lock = open(f"{BUILT}/lock", "w")
     except OSError as error:
         refuse(f"{error.filename} cannot be made, so nothing can be built: {error.strerror}")

@@ -1,8 +1,8 @@
-/* asking LIST LINE: what libkrl takes to ask a list about the key of a line.
+/* asking LIST LINE: the time and memory that libkrl takes to ask a list about the key of a line.
  *
- * It prints the microseconds of a check and the KiB that it took beside the list's own bytes, the
+ * It prints the microseconds of a check and the KiB that it took besides the list's own bytes, the
  * microseconds of reading the list into a place and the KiB that this took at most, and the
- * microseconds of a question of what is held. Times are the least of several. */
+ * microseconds of a query of the list in the place. Times are the least of several. */
 #define _POSIX_C_SOURCE 200809L
 #include <krl.h>
 #include <stdio.h>
@@ -41,8 +41,8 @@ static double taken(int32_t (*call)(void), int count) {
     return (now(CLOCK_PROCESS_CPUTIME_ID) - before) / count;
 }
 
-/* The least microseconds of a call, in half a second of calls or in three rounds. Of short calls a
- * round has a thousand. */
+/* The least microseconds of a call, in half a second of calls or in three rounds. A round has a
+ * thousand calls where they are short. */
 static double least(int32_t (*call)(void)) {
     int count = taken(call, 1) < 1000 ? 1000 : 1;
     double begun = now(CLOCK_MONOTONIC), least = taken(call, count);

@@ -8,7 +8,7 @@ from measure import AUDIT, OURS, build_audit, least, own
 
 FILES, KEYS = 10_000, 34_000
 LIST = 4 << 20
-# What a file may have.
+# The most bytes that a file may have.
 LONGEST = 16 << 20
 
 

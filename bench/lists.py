@@ -16,7 +16,7 @@ BITMAP = 1 << 11
 
 
 def key(number):
-    """The blob of an Ed25519 key that stands for a number."""
+    """The blob of an Ed25519 key that is made from a number."""
     return string(b"ssh-ed25519") + string(struct.pack(">Q", number) + bytes(24))
 
 

@@ -15,7 +15,7 @@ LIMIT = int(os.environ.get("LIMIT", "100"))
 
 
 def build():
-    """The launcher builds the program, where it is not built."""
+    """The launcher builds the program if it is not built yet."""
     if "PROGRAM" not in os.environ:
         subprocess.run(
             [os.path.join(TOP, "ssh-keygen"), "-h"], stdout=subprocess.DEVNULL, check=True
@@ -23,13 +23,13 @@ def build():
 
 
 def build_audit():
-    """The same of the program that audits files."""
+    """The same for the program that audits files."""
     if "KRL" not in os.environ:
         subprocess.run([os.path.join(TOP, "krl"), "-h"], stdout=subprocess.DEVNULL, check=True)
 
 
 def plain_rust():
-    """The plain reader of lists, compiled in the folder at hand."""
+    """The plain reader of lists, compiled in the current folder."""
     plain = os.path.join(os.getcwd(), "plain")
     subprocess.run(
         ["rustc", "-O", "-o", plain, os.path.join(TOP, "bench", "plain", "main.rs")], check=True

@@ -42,7 +42,7 @@ def three_byte_ids(size):
 
 
 def two_byte_ids(count, falling=False):
-    """Authorities of three bytes, each with so many key IDs, in the order of their bytes or against it."""
+    """Authorities of three bytes, each with `count` key IDs, in the order of their bytes or in reverse."""
 
     def shape(size):
         ids = sorted((struct.pack(">H", at) for at in range(count)), reverse=falling)
@@ -142,7 +142,7 @@ def lying_bitmap(size):
     return HEADER + head + b"\x55" * size
 
 
-# What takes the most memory for its bytes: many intervals in few bytes, or few in windows of their own.
+# The lists that take the most memory for a byte: many intervals in few bytes, or few in windows of their own.
 BITMAPS = {
     "bitmaps of 0x55, in no order": large_bitmaps(b"\x55" * BITMAP),
     "bitmaps of 0x55, in order": large_bitmaps(b"\x55" * BITMAP, order=range),
@@ -153,7 +153,7 @@ BITMAPS = {
     "even bits, then odd ones": large_bitmaps(b"\x55" * BITMAP, b"\x2a" * BITMAP),
 }
 
-# A field that is longer than the reader's buffer is held.
+# A reader keeps a whole field in memory if it is longer than the buffer.
 LONG = {"half of it one authority": under_authority(1 / 2), "all of it one comment": long_comment}
 
 # Lists that are refused at their end.

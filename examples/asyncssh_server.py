@@ -3,8 +3,8 @@ authorities, but none that a list revokes.
 
     python3 asyncssh_server.py PORT HOST_KEY authorized_keys authorities revoked.krl
 
-It listens on the loopback, and says "let in" to each client that asks it to run a command. A
-server of your own needs what is above "The server": there the key is decided on.
+It listens on the loopback, and says "let in" to each client that asks it to run a command.
+Your own server needs the code before the comment "The server": it decides about the key.
 """
 
 import asyncio

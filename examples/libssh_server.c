@@ -3,8 +3,8 @@
  *   cc -o libssh_server libssh_server.c $(pkg-config --cflags --libs libssh krl)
  *   ./libssh_server PORT HOST_KEY authorized_keys revoked.krl
  *
- * It listens on the loopback, and says "let in" to whoever asks it to run a command. A server of
- * your own with libssh needs what stands above "The server": there the key is decided on. */
+ * It listens on the loopback, and answers "let in" to a client that asks it to run a command. Your
+ * own server with libssh needs the code before the comment "The server": it decides about the key. */
 #define _GNU_SOURCE
 #include <krl.h>
 #include <libssh/callbacks.h>
@@ -16,8 +16,8 @@
 
 static const char *allowed, *revoked;
 
-/* Whether the list does not revoke the key of a line. It is read at each login, so a new one counts
- * at once. A list that cannot be read lets nobody in. */
+/* Whether the list does not revoke the key of a line. The list is read at each login, so a new one
+ * takes effect immediately. If the list cannot be read, nobody is let in. */
 static bool is_not_revoked(const char *line) {
     FILE *file = fopen(revoked, "rb");
     uint8_t *list = NULL, *longer;
@@ -39,8 +39,8 @@ static bool is_not_revoked(const char *line) {
     return answer == KRL_OK;
 }
 
-/* Whether a line of the file begins with this one, a type and a key. Lines with options are passed
- * over, since this server knows none. */
+/* Whether a line of the file begins with this one, a type and a key. Lines with options are skipped,
+ * since this server knows none. */
 static bool is_allowed(const char *line) {
     FILE *file = fopen(allowed, "r");
     size_t length = strlen(line), room = 0;
@@ -53,7 +53,7 @@ static bool is_allowed(const char *line) {
     return is_there;
 }
 
-/* What libssh calls when a client offers a key, and again when it has signed by it. */
+/* libssh calls this when a client offers a key, and again when the client has signed with it. */
 static int offers_key(ssh_session session, const char *user, ssh_key key, char state, void *given) {
     char *base64 = NULL, *line = NULL;
     int answer = SSH_AUTH_DENIED;

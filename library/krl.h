@@ -1,28 +1,28 @@
 /* krl.h: whether an OpenSSH key revocation list (KRL) revokes a key or a certificate.
  *
  * A RevokedKeys file of sshd can be a KRL or a plain file of public keys. These calls read KRLs:
- * they answer -101 for a plain file, as for anything else that is no KRL, or -103 where the file
+ * they answer -101 for a plain file, as for anything else that is no KRL, or -103 if the file
  * has less than 8 bytes. A server that takes plain files too has to look for the keys in them
  * itself.
  *
- * Fail closed: let a key in where krl_check, krl_check_line, krl_ask or krl_ask_line answers
+ * Fail closed: let a key in if krl_check, krl_check_line, krl_ask or krl_ask_line answers
  * KRL_OK for it, and in no other case. KRL_OK of krl_load says only that the list was read.
  *
- * What is not checked: the signatures of a list, of a certificate or of a login, whether a
- * certificate's authority is trusted, and when the certificate is valid. Do that too.
+ * The calls do not check the signatures of a list, of a certificate or of a login, whether a
+ * certificate's authority is trusted, or whether the certificate is valid now. Check these too.
  *
  * The calls read only the bytes that they are given, which may be any bytes. They keep no state
  * of their own, print nothing, never end the process, and take memory from malloc alone. They
- * may overlap in any threads, over the same bytes too, as long as nobody writes these bytes
- * meanwhile. Many threads may ask one handle (struct krl, below) at once; krl_load and krl_unload
- * need it alone. Call none from a signal handler, nor in the forked child of a process with
- * threads before it calls exec, since they call malloc.
+ * may run at the same time in any threads, also over the same bytes, as long as nobody writes
+ * these bytes meanwhile. Many threads may ask one handle (struct krl, below) at the same time;
+ * krl_load and krl_unload need it alone. Call none of them from a signal handler, nor in the
+ * forked child of a process with threads before it calls exec, since they call malloc.
  *
- * A pointer to bytes may be null where its length is 0. No other pointer is null.
+ * A pointer to bytes may be null if its length is 0. No other pointer may be null.
  *
- * The promises hold for a program that keeps these rules. One that breaks a rule, as by a wrong
- * length, or by bytes or a place that change while a call runs, may crash or get a wrong answer,
- * also KRL_OK for a revoked key.
+ * The promises hold for a program that keeps these rules. A program that breaks a rule, for
+ * example by a wrong length, or by bytes or a place that change while a call runs, may crash or
+ * get a wrong answer, also KRL_OK for a revoked key.
  */
 #ifndef KRL_H
 #define KRL_H
@@ -62,7 +62,7 @@ extern "C" {
 
 /* The list has no fault, but the authority of one of its sections is neither empty, for all
  * authorities, nor a key in its one spelling. OpenSSH may take it for a key, and so revoke
- * certificates that a comparison of bytes lets pass. So nobody is let in. */
+ * certificates that a comparison of bytes does not find. So let nobody in. */
 #define KRL_LIST_AUTHORITY (-116)
 
 /* -201 to -203: the line has no key. */
@@ -71,8 +71,8 @@ extern "C" {
 #define KRL_LINE_WORD_DIFFERS (-203) /* the line names another type than the key has */
 
 /* -302 to -313: the blob is no plain key, -401 to -409: no certificate. -503 to -513: the key of
- * the certificate is none, -602 to -613: the key of its authority is none. The last two digits
- * of the number of a key's fault: 02 its type is not known, 03 another curve than its type says,
+ * the certificate is no key, -602 to -613: the key of its authority is no key. The last two digits
+ * of the number say the key's fault: 02 its type is not known, 03 another curve than its type says,
  * 04 its point has another form, 05 a length, 06 a number, 07 bytes after it, 08 more than
  * 65,536 bytes, and of a field: 11 it ends early, 12 a negative number, 13 a number with a
  * needless zero byte. -402, -502 and -507 are never answered: the type of a certificate is known
@@ -82,27 +82,27 @@ extern "C" {
 
 /* Whether a list revokes the key of a blob.
  *
- * list: the whole content of the file. Nothing of it is held but what is asked about.
+ * list: the whole content of the file. The call keeps in memory only what the query needs.
  * blob: a public key or a certificate as SSH sends it (RFC 4253, section 6.6, and
- *     PROTOCOL.certkeys). Of a certificate its plain key, its key ID, its serial number and its
- *     authority's key are asked about.
+ *     PROTOCOL.certkeys). For a certificate the call looks up its plain key, its key ID, its
+ *     serial number and its authority's key.
  *
- * A list that is refused is reported before the blob is. */
+ * If both the list and the blob have a fault, the call reports that of the list. */
 int32_t krl_check(const uint8_t *list, size_t list_length,
                   const uint8_t *blob, size_t blob_length);
 
-/* The same of the key of a line, as of a .pub or an authorized_keys file: options or none, the
- * name of the type, the key in base64, and a comment or none. It has no line feed. */
+/* The same for the key of a line, as in a .pub or an authorized_keys file: options or none, the
+ * name of the type, the key in base64, and a comment or none. The line has no line feed. */
 int32_t krl_check_line(const uint8_t *list, size_t list_length,
                        const uint8_t *line, size_t line_length);
 
 /* Why a list revokes the key of a blob: the sum of the numbers below for all reasons that hold, so
- * KRL_OK where it does not revoke the key, and below zero why that is not known, as krl_check says
- * it. Ask krl_check or krl_ask whether a key is let in, and this call for what a log says of it. */
+ * KRL_OK if it does not revoke the key. A number below zero is that of krl_check: there is no
+ * answer. Ask krl_check or krl_ask whether to let a key in, and this call for the text of a log. */
 int32_t krl_why(const uint8_t *list, size_t list_length,
                 const uint8_t *blob, size_t blob_length);
 
-/* The reasons. An entry of the list is the key, or a hash of it; of a certificate its plain key. */
+/* The reasons. An entry of the list is the key, or a hash of it; for a certificate, its plain key. */
 #define KRL_WHY_KEY 1
 #define KRL_WHY_KEY_SHA1 2
 #define KRL_WHY_KEY_SHA256 4
@@ -119,46 +119,47 @@ int32_t krl_why(const uint8_t *list, size_t list_length,
 
 /* A list that is read once and asked often.
  *
- * The place is krl_size() bytes at a multiple of 16, as malloc gives them. From krl_init on they
- * are the library's: neither read, write, copy nor move them until krl_unload. The struct around
- * the place may be copied and moved.
+ * The place is krl_size() bytes at a multiple of 16, as malloc returns them. From krl_init on they
+ * belong to the library: do not read, write, copy or move them until krl_unload. You may copy and
+ * move the struct around the place.
  *
- * krl_ask and krl_ask_line change nothing, so any number of threads may ask one place at once.
- * While krl_init, krl_load or krl_unload runs, no other call may be given the place: guard it by a
- * lock for readers and writers, or load a new list into another place. */
+ * krl_ask and krl_ask_line change nothing, so any number of threads may ask one place at the same
+ * time. While krl_init, krl_load or krl_unload runs, no other call may get the place: guard it by
+ * a lock for readers and writers, or load a new list into another place. */
 typedef struct krl {
     void *at;
 } krl;
 
-/* How many bytes a place has. Ask for it: another version of the library may have another
+/* How many bytes a place has. Always call it: another version of the library may have another
  * number. */
 size_t krl_size(void);
 
-/* Makes a place ready: no list is held. Takes no memory. */
+/* Makes a place ready, without a list. Takes no memory. */
 void krl_init(void *at);
 
-/* Reads a list: KRL_OK where it is held now, or why not. Where it is refused, the list that was
- * held before stays. Of the list's bytes nothing is used once the call is over: they may be freed
- * or changed. */
+/* Reads a list: KRL_OK if the handle has it now, or why not. If the list is refused, the handle
+ * keeps the list that it had before. After the call the library does not use the list's bytes: you
+ * may free or change them. */
 int32_t krl_load(krl *handle, const uint8_t *list, size_t list_length);
 
-/* As krl_check and krl_check_line, of the list that is held: KRL_NOT_LOADED where none is. They
+/* As krl_check and krl_check_line, for the list of the handle: KRL_NOT_LOADED if it has none. They
  * only read the place. */
 int32_t krl_ask(const krl *handle, const uint8_t *blob, size_t blob_length);
 int32_t krl_ask_line(const krl *handle, const uint8_t *line, size_t line_length);
 
-/* Gives back the memory of the list. The place is then as krl_init leaves it, or may be freed. */
+/* Frees the memory of the list. The place is then as krl_init leaves it, and you may free it. */
 void krl_unload(krl *handle);
 
-/* The words for an answer of any call but krl_why, and for those of krl_why below zero: of a fault those that krl-keygen prints, such as "krl 3 EndsEarly",
- * "line 2 Base64" and "subject 1 Key, key 4 Point". Of the others "ok", "revoked", "no memory",
- * "no list is loaded" and "an authority of the list is no key in its one spelling", and of a number
- * that has no words "unknown answer".
+/* The words for an answer of any call but krl_why, and for an answer of krl_why below zero. For a
+ * fault they are those that krl-keygen prints, such as "krl 3 EndsEarly", "line 2 Base64" and
+ * "subject 1 Key, key 4 Point". The other answers have the words "ok", "revoked", "no memory",
+ * "no list is loaded" and "an authority of the list is no key in its one spelling". A number that
+ * has no words gets "unknown answer".
  *
- * They are written as snprintf does it: as many bytes as leave room for a zero byte, and that
- * byte; nothing where the size is 0. The result is the length of the words, whatever the size:
- * they were cut where it is not below the size. No words are longer than 64 bytes. The call takes
- * no memory and cannot fail. */
+ * The call writes them as snprintf does: as many bytes as leave room for a zero byte, and that
+ * byte; nothing if the size is 0. The result is the length of the words, whatever the size: if it
+ * is not below the size, the words were truncated. No words are longer than 64 bytes. The call
+ * takes no memory and cannot fail. */
 size_t krl_fault_text(int32_t answer, char *buffer, size_t size);
 
 #ifdef __cplusplus

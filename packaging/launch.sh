@@ -1,4 +1,4 @@
-# Runs a program of this repository. Where it is not built, or a source has changed since, it is proved and built
+# Runs a program of this repository. If it is not built, or a source has changed since, it is proved and built
 # first. The launchers ./ssh-keygen and ./krl read this.
 
 # launch NAME CRATE WORD..: runs the program of this name, which that crate makes.

@@ -1,5 +1,5 @@
-# What installing and uninstalling share. Files are put below $root, and noted with their checksums in
-# $root/$note. A file that is there and not so noted is another's: it is neither overwritten nor removed.
+# The shared code of installing and uninstalling. Files are put below $root, and recorded with their checksums in
+# $root/$note. A file without such a record belongs to another program: it is neither overwritten nor removed.
 
 say() {
   printf "packaging/$(basename "$0"): %s\n" "$@" >&2
@@ -23,8 +23,8 @@ is_ours() {
   [ -f "$root/$note" ] && grep -qxF -e "$(line_of "$root" "$1")" "$root/$note"
 }
 
-# place FOLDER FORCE: installs what the folder has, or nothing where that would overwrite another's file and
-# FORCE is not given.
+# place FOLDER FORCE: installs the files of the folder, or nothing if that would overwrite another program's file
+# and FORCE is not given.
 place() {
   files=$(cd "$1" && find . ! -type d | sort)
   others=
@@ -40,14 +40,14 @@ place() {
   done
   mkdir -p "$root/$(dirname "$note")"
   touch "$root/$note"
-  # What an older version had, and this one has not.
+  # Remove the files that an older version had, and this one has not.
   while read -r _ file; do
     [ -e "$1/$file" ] || [ -L "$1/$file" ] || ! is_ours "$file" || rm -- "$root/$file"
   done <"$root/$note"
   for file in $files; do line_of "$1" "$file"; done >"$root/$note"
 }
 
-# take_away: removes what was installed, but for files that were changed since.
+# take_away: removes the installed files, except those that were changed since.
 take_away() {
   while read -r _ file; do
     if is_ours "$file"; then

@@ -1,5 +1,5 @@
-//! The yardstick: a revocation list (PROTOCOL.krl) read as one would in plain Rust, and keys asked by their
-//! blobs. `plain hold LIST [KEYS]` puts the list into the standard library's ordered maps first, and
+//! The yardstick: reads a revocation list (PROTOCOL.krl) as one would in plain Rust, and looks up keys by
+//! their blobs. `plain hold LIST [KEYS]` puts the list into the standard library's ordered maps first, and
 //! `plain pass LIST [KEYS]` looks at each entry as it passes; both print a line for each key.
 
 use std::collections::{BTreeMap, BTreeSet, HashSet};
@@ -8,7 +8,7 @@ use std::io::{self, BufRead, BufReader, BufWriter, Read, Write};
 
 const LIMIT: u64 = 64 << 20;
 
-/// What becomes of the entries of a list.
+/// Receives the entries of a list.
 trait Entries {
     fn authority(&mut self, name: &[u8]);
     /// Whether some serial from `lo` to `hi` counts.
@@ -102,8 +102,8 @@ impl Entries for Revoked {
     }
 }
 
-/// What is asked, and what of it was named. Plain keys have no serials and no key IDs; the standard
-/// library has no hashes, so those of a list are looked up among none that it can have.
+/// The keys of the query, and those that the list names. Plain keys have no serials and no key IDs.
+/// The standard library has no hashes, so the hashes of a list are looked up in an empty set.
 #[derive(Default)]
 struct Asked {
     keys: HashSet<Vec<u8>>,
