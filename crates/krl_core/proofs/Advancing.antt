@@ -1,4 +1,4 @@
--- The way on: each step takes a field, or several.
+-- Progress: each step takes one field or several.
 use Rattle.std.proofs.Common.{◌≡◌, ◌+◌, ◌-◌, ◌*◌, ◌<◌, [], ◌∷◌, Bool, Result, Ok, Err, false, refl, inl, inr, arith}
 use Rattle.std.specs.Prelude.{IfOk, IsTrue}
 use Rattle.krl_types.specs.declared.krl_fault.KrlFault.{KrlFault}
@@ -29,7 +29,7 @@ pub advances_of : (result : Result Bool KrlFault) (old : Walk) (new : Walk) → 
 advances_of (Ok more) old new h = λ on. inl (h on)
 advances_of (Err fault) old new h = h
 
--- memory can run out past the header
+-- an allocation can fail after the header
 pub late_past_header : (p : Place) → ((at : HeaderPlace) → p ≡ places.Header at → ⊥) → is_fixed p ≡ false
 late_past_header (places.Header at) past = absurd (past at refl)
 late_past_header (places.SectionType signed) past = refl

@@ -1,4 +1,4 @@
--- Fields that name nothing in scope are crossed at once.
+-- Fields that name nothing in scope are crossed together.
 use Rattle.std.proofs.Common.{◌≡◌, ℕ, ◌-◌, ◌*◌, ◌/◌, ◌%◌, ◌<◌, ◌≤◌, List, length, take, Result, Ok, refl, sym, ap, subst, ◌∙◌, arith}
 use Rattle.std.specs.Prelude.{None, OnOk}
 use Rattle.std.specs.declared.alloc.AllocError.{AllocError}

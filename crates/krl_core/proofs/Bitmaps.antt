@@ -1,4 +1,4 @@
--- A bitmap by its bytes.
+-- A bitmap, byte by byte.
 use Rattle.std.proofs.Common.{◌≡◌, ℕ, ◌+◌, ◌-◌, ◌*◌, ◌<◌, ◌≤◌, ◌^◌, ◌⊎◌, List, [], ◌∷◌, length, refl, sym, ap, subst, ◌∙◌, arith, inl, inr}
 use Rattle.std.specs.Int.{bit_at}
 use Rattle.std.proofs.lemmas.Bool.{cases_lt}
@@ -13,7 +13,7 @@ use Rattle.krl_held.specs.Entry.{BitmapEntry}
 use Rattle.krl_held.specs.Naming.{NamesSame}
 use Rattle.krl_held.proofs.Same.{same_nothing, same_serials}
 
--- the number of a bitmap that is fed byte by byte is the wire's
+-- a bitmap that is fed byte by byte has the number of the wire format
 pub bitmap_number : (bytes : List ℕ) → big_endian bytes ≡ number_of bytes
 unfolding number_of
 bitmap_number [] = refl
@@ -46,7 +46,7 @@ bit_of-byte b bits k low bit =
       | inr le ↦ inl (le, sym (bit_at_cat_high b n (number_of bits) k low le) ∙ whole)
     ]
 
--- a bitmap without bytes names none
+-- a bitmap without bytes names no serial numbers
 pub same_no_bits : (a : List ℕ) (offset : ℕ) → NamesSame [] (BitmapEntry a offset (number_of []) ∷ [])
 unfolding number_of
 same_no_bits a offset = same_nothing (BitmapEntry a offset 0) tt (λ c s k. let z = bit_at-zero (s - offset) in omega (arith, z, k.1.2))

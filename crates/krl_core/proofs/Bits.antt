@@ -1,4 +1,4 @@
--- What a byte of a bitmap adds.
+-- The entries of a byte of a bitmap.
 use Rattle.std.proofs.Common.{◌≡◌, ℕ, ◌+◌, ◌-◌, ◌*◌, ◌^◌, ◌<◌, ◌≤◌, ◌↔◌, Bool, true, false, not, cond, eqb, ltb, leb, leb-false, eq-eqb, zero, suc, Option, None, List, [], ◌∷◌, ◌++◌, length, reverse, Ok, Err, refl, sym, ap, subst, ◌∙◌, append_assoc, arith, inl, inr}
 use Rattle.std.specs.Option.{option_to_list}
 use Rattle.std.specs.Int.{bit_at}
@@ -39,7 +39,7 @@ names_reverse (x ∷ xs) s =
     subst (λ (l : List Span). Covers l s ↔ Covers (x ∷ xs) s) (sym (reverse-append (x ∷ []) xs))
     (Iff.trans (covers_append (reverse xs) (x ∷ []) s) (Iff.trans iff_swap (iff_or (Iff.symm (iff_none (λ no. no))) (names_reverse xs s))))
 
--- the runs that a byte finished and the one that is open name what was open and the byte's bits
+-- the runs that a byte finished and the open run name what was open and the bits of the byte
 fed_same : (a : List ℕ) (before : BitRuns) (byte : ℕ) (after : BitRuns) (finished : List Span) → Feeds before byte after finished
     → NamesSame (run_entries a finished ++ run_entries a (option_to_list after.pending))
     (run_entries a (option_to_list before.pending) ++ BitmapEntry a (lowest after) byte ∷ [])
@@ -134,8 +134,8 @@ bits_close old mid new last_one byte last finished on fed contents scope authori
       goes_on = λ off. absurd (cc (on, off));
     }
 
--- A byte was fed (which makes at most four runs more), and of the runs that it finished some were added. What came
--- after that added none.
+-- A byte was fed, which makes at most four more runs, and some of the runs that it finished were
+-- added. Later changes added none.
 pub fed_grows : (old mid new last : Keeper) (byte : ℕ) (finished : List Span) → Feeds old.bitmap byte mid.bitmap finished
     → mid ≡ record old { bitmap = mid.bitmap } → held_with_open new ≤ held_with_open mid + length finished → StaysWithin mid new
     → held_with_open last ≤ held_with_open new → StaysWithin new last → GrowsWithin 1 old last
@@ -149,14 +149,14 @@ fed_grows old mid new last byte finished fed rest more stored less after =
 
 -- ---- a byte that passes its judgement shows no fault
 
--- a number that is not 0 is no less than this bit, and a byte is below twice that
+-- a number that is not 0 is at least this bit, and a byte is less than twice the bit
 abbrev IsAround : (byte bit : ℕ) → Type 0
 IsAround byte bit = (0 < byte → 2 ^ bit ≤ byte) × (byte < 256 → byte < 2 ^ (bit + 1))
 
 around_next : (byte bound bit rest : ℕ) → (byte < bound → IsAround byte bit) → (bound ≤ byte → IsAround byte rest) → IsAround byte (cond (ltb byte bound) bit rest)
 around_next byte bound bit rest low high = elim (cases_lt byte bound) [ inl lt ↦ rw (lt-ltb byte bound lt) (low lt) | inr le ↦ rw (le-ltb byte bound le) (high le) ]
 
--- every byte stands so around its highest bit
+-- each byte is in this way around its highest bit
 pub highest_around : (byte : ℕ) → (0 < byte → 2 ^ highest_bit byte ≤ byte) × (byte < 256 → byte < 2 ^ (highest_bit byte + 1))
 highest_around byte =
     around_next byte 2 0 _ (λ b. (λ some. omega arith, λ small. omega arith)) (λ a1.
@@ -210,7 +210,7 @@ good_bits p offset size left after byte next h is judged fault bad =
     shown Negative b low in_range = let lt = low b.0 in omega (arith, lt, b.1)
     shown Wraps b low in_range = let lt = in_range b.1.0 b.1.1.1 in omega (arith, lt, b.1.1.0)
 
--- no byte of a bitmap is left
+-- the bitmap has no byte left
 abbrev IsOut : Place → Type 0
 IsOut (places.Bitmap (bitmaps.Byte n m k l)) = ⊥
 IsOut _ = Unit {0}
@@ -223,7 +223,7 @@ out_subsection : (left : ℕ) → IsOut (next_subsection left)
 out_subsection zero = tt
 out_subsection (suc left) = tt
 
--- where a byte of a bitmap is left, the byte before it is fed
+-- if the bitmap has a byte left, the byte before it was fed
 bits_in_step : (before fed : BitRuns) (offset size left after : ℕ)
     → before ≡ record { offset = offset; len = size; bytes_left = left; pending = before.pending; fault = None }
     → (eqb left 1 ≡ true → fed.pending ≡ None)

@@ -1,4 +1,4 @@
--- A row of fields that leads to the end of a list spells its sections, and names what they name.
+-- A row of fields that leads to the end of a list spells its sections, and has their entries.
 use Rattle.std.proofs.Common.{◌≡◌, ℕ, zero, suc, ◌+◌, ◌-◌, ◌<◌, ◌≤◌, ◌^◌, ◌⊎◌, Bool, true, false, cond, ltb, List, [], ◌∷◌, ◌++◌, length, map, Result, Ok, refl, sym, ap, subst, ◌∙◌, append_assoc, arith, inl, inr}
 use Rattle.std.specs.List.{flat_map, AllByRecursion}
 use Rattle.std.proofs.lemmas.Bool.{ltb-false}
@@ -31,7 +31,7 @@ pub chosen : (b : Bool) (p : Place) (x : Result Place KrlFault) (q : Place) → 
 chosen true p x q e = inl (refl, same_place p q e)
 chosen false p x q e = inr (refl, e)
 
--- ---- one field in front
+-- ---- one field at the front
 
 pub number_front : (Then : ℕ → Rest) (field tail : List ℕ) (more : List Entry) → IsBytes field → length field ≡ 8 → Then (number_of field) tail more → FromNumber Then (field ++ tail) more
 number_front Then field tail more fits size h =
@@ -50,7 +50,7 @@ pub item_front : (size : ℕ) (entry : List ℕ → Entry) (Then : Rest) (field 
 item_front size entry Then field tail more len h =
     record { content = field; rest = tail; others = more; parts = refl; size_is = len; named = refl; then_is = h }
 
--- a length and what it counts make a string
+-- a length and the bytes that it counts are a string
 pub whole_string : (size : ℕ) (content rest after bytes : List ℕ) → bytes ≡ number 4 size ++ after → after ≡ content ++ rest → length content ≡ size → bytes ≡ string content ++ rest
 unfolding string
 whole_string size content rest after bytes e f len =
@@ -143,7 +143,7 @@ sections_more signed K section text tail rest more others k parts spelled named 
   known = k.known;
 }
 
--- a section of items, of whatever kind
+-- a section of items of any kind
 pub items_section : (K : Type 0) (signed : Bool) (kind : ItemKind) (a : List ℕ) (type_byte : ℕ) (section : SpelledSection) (bytes : List ℕ) (more : List Entry) → signed ≡ false → (l : FromLength (λ n. Items K kind a n 0) bytes more)
     → (length (strings l.then_is.items) < 2 ^ 32 → SpellsSection (type_byte ∷ string (strings l.then_is.items)) section)
     → section_entries section ≡ map (item_entry kind a) l.then_is.items → ((others : List SpelledSection) → SignaturesLast others → SignaturesLast (section ∷ others))

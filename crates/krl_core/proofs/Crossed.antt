@@ -52,7 +52,7 @@ crosses_then xs ys p q r a b c h k = record {
   scope_is = k.scope_is ∙ h.scope_is;
 }
 
--- a field that passes its judgement, and is kept
+-- a field that passes its judgement and is kept
 pub crosses_field : (place next : Place) (old new : Keeper) (field : List ℕ) → Passes place field next → KeepsField place field next old new → IsBytes field
     → Crosses field place old next new
 crosses_field place next old new field passes keeps bytes = record {
@@ -90,7 +90,7 @@ some_none bytes place k step = record {
   none = λ _. (refl, refl);
 }
 
--- some bytes more
+-- more of the bytes
 pub some_more : (bytes : List ℕ) (at n : ℕ) (result : Result (Unit {0}) AllocError) (p q r : Place) (a b c : Keeper) → CrossesSome bytes at (Ok (tt {0})) p a q b
     → n ≤ length (drop at bytes) → OnOk result (Crosses (take n (drop at bytes)) q b r c) → GrowsWithin n b c → (at + n ≡ 0 → (r ≡ p) × (c ≡ a))
     → CrossesSome bytes (at + n) result p a r c
@@ -152,7 +152,7 @@ crossed_nearer bytes at size q next b c within there =
     let near = nearer q next _ field.passes.judged in
     omega (arith, near, field.passes.whole, length-take-le size (drop at bytes) field.within, within)
 
--- ---- a reading
+-- ---- a walk
 
 pub reads_crossed : (old : Walk) (new : Pull) (place : Place) (keeper : Keeper) (bytes : List ℕ) → Takes old.pull bytes new
     → Crosses bytes old.place old.keeper place keeper → ReadsMore old (working new place keeper)

@@ -1,4 +1,4 @@
--- A list that is cut short.
+-- A list that is truncated.
 use Rattle.std.proofs.Common.{◌≡◌, ℕ, ◌≤◌, ◌⊎◌, Bool, true, false, ltb, List, [], ◌∷◌, ◌++◌, length, Option, Some, None, refl, sym, ap, subst, ◌∙◌, append_assoc, arith, inl, inr}
 use Rattle.std.specs.List.{concat}
 use Rattle.std.proofs.lemmas.Bool.{le-ltb}
@@ -18,11 +18,11 @@ use Rattle.krl_core.proofs.Fronts.{append_same, end_room, end_short, end_size, f
 use Rattle.krl_core.proofs.Lists.{unfaulted_row}
 use Rattle.krl_core.proofs.SpelledLists.{spelled_unfaulted}
 
--- what may be reported of a cut
+-- the faults that may be reported for a truncated list
 abbrev IsCutFault : Option KrlFault → Type 0
 IsCutFault fault = (fault ≡ None) ⊎ (fault ≡ Some faults.EndsEarly)
 
--- where the field that passes is cut, nothing else is reported
+-- if a field that passes is truncated, nothing else is reported
 cut_field : (p next : Place) (rest more field after : List ℕ) (fault : Option KrlFault) → Passes p field next → rest ++ more ≡ field ++ after → Reported p rest false fault → IsCutFault fault
 cut_field p next rest more field after fault pass e (ended at_end off is) = inl is
 cut_field p next rest more field after fault pass e (no_room full is) = absurd (full pass.room)
@@ -33,7 +33,7 @@ cut_field p next rest more field after fault pass e (refused field' after' why r
 cut_field p next rest more field after fault pass e (too_long room short on is) = absurd (cc (on))
 cut_field p next rest more field after fault pass e (ends_early room short not_end off is) = inr is
 
--- at the end of the list nothing is reported but its end
+-- at the end of the list, only its end is reported
 cut_end : (p : Place) (rest : List ℕ) (fault : Option KrlFault) → can_end p ≡ true → rest ≡ [] → Reported p rest false fault → IsCutFault fault
 cut_end p rest fault may none (ended at_end off is) = inl is
 cut_end p rest fault may none (no_room full is) = absurd (full (end_room p may))
@@ -51,7 +51,7 @@ cut_row : (p q last : State) (fields : List (List ℕ)) (rest more : List ℕ) (
 cut_row p q last [] rest more fault leads may e reported = cut_end q.place rest fault (subst (λ (s : State). can_end s.place ≡ true) (sym leads) may) (none_left rest more e) reported
 cut_row p q last (field ∷ fields) rest more fault (next, (pass, leads)) may e reported = cut_field q.place next rest more field (concat fields) fault pass e reported
 
--- of a longer row than the whole list the fields after its end would be empty
+-- if a row is longer than the whole list, its fields after the end would be empty
 cut_longer : (q : State) (fields : List (List ℕ)) (last : State) (rest more : List ℕ) (fault : Option KrlFault) → Leads q fields last → can_end q.place ≡ true → concat fields ++ (rest ++ more) ≡ []
     → Reported last.place rest false fault → IsCutFault fault
 cut_longer q [] last rest more fault leads may e reported =
@@ -85,7 +85,7 @@ cut_reported text prefix more fields last fault parts le leads may all h =
           cut_longer last w.0 h.state h.rest more fault rest_leads may (append_same (concat fields) (concat fields) (concat w.0 ++ (h.rest ++ more)) [] refl e).1 reported
     ]
 
--- A front of the bytes of a spelled list within the limit is itself spelled, or ends early.
+-- A prefix of a spelled list within the limit is spelled too, or ends early.
 pub cut_short : (text prefix more : List ℕ) (header : Header) (sections : List SpelledSection) → IsBytes text → Spells text header sections → length text ≤ limit → text ≡ prefix ++ more
     → IsFirstFault prefix None ⊎ IsFirstFault prefix (Some faults.EndsEarly)
 cut_short text prefix more header sections fits h le parts =

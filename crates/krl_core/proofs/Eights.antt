@@ -1,4 +1,4 @@
--- Serial numbers of eight bytes each that are crossed at once.
+-- Serial numbers, of eight bytes each, that are crossed together.
 use Rattle.std.proofs.Common.{◌≡◌, ℕ, ◌+◌, ◌-◌, ◌*◌, ◌<◌, ◌≤◌, List, [], ◌∷◌, ◌++◌, length, take, drop, zero, suc, inl, inr, refl, sym, ap, subst, ◌∙◌, append_assoc, arith, length-drop}
 use Rattle.std.specs.Prelude.{None}
 use Rattle.std.specs.List.{concat}
@@ -27,7 +27,7 @@ eights : ℕ → List ℕ → List (List ℕ)
 eights zero bytes = []
 eights (suc count) bytes = take 8 bytes ∷ eights count (drop 8 bytes)
 
--- what they name
+-- their entries
 serial_entries : List ℕ → ℕ → List ℕ → List Entry
 serial_entries a zero bytes = []
 serial_entries a (suc count) bytes = SerialsEntry a (number_of (take 8 bytes) ∷ []) ∷ serial_entries a count (drop 8 bytes)
@@ -43,7 +43,7 @@ at_serial : (left after : ℕ) → 0 < left → places.Serials (serials.Serial l
 at_serial zero after pos = absurd (omega arith)
 at_serial (suc left) after pos = refl
 
--- They lead on, and name what they name.
+-- The serial numbers lead to the next place, and have these entries.
 record LeadsSerials (state : State) (count left after : ℕ) (bytes : List ℕ) : Type 0 where
   pub last : State
   pub leads : Leads state (eights count bytes) last
@@ -115,7 +115,7 @@ still zero zero bitmap none = none
 still zero (suc after) bitmap none = none
 still (suc left) after bitmap none = none
 
--- the serial numbers are crossed, since none of them is in scope
+-- the serial numbers are crossed because none of them is in scope
 pub crosses_serials : (count : ℕ) (keeper : Keeper) (left after : ℕ) (bytes : List ℕ) → 0 < left → keeper.bitmap.pending ≡ None → IsBytes bytes → 8 * count ≤ length bytes
     → 8 * count ≤ left → AreUnwanted keeper.scope keeper.authority bytes (8 * count)
     → Crosses (take (8 * count) bytes) (places.Serials (serials.Serial left after)) keeper (next_serial (left - 8 * count) after) keeper

@@ -1,4 +1,4 @@
--- The expected field, in front of what is spelled after it.
+-- The expected field, in front of the spelling after it.
 use Rattle.std.proofs.Common.{◌≡◌, ℕ, ◌-◌, ◌%◌, ◌==◌, ◌<◌, ◌≤◌, Bool, true, false, eqb, ltb, leb, leb-true, eq-eqb, List, [], ◌∷◌, ◌++◌, map, get_or, Ok, refl, sym, ap, subst, ◌∙◌, append_assoc, arith, inl, inr}
 use Rattle.std.specs.List.{concat, flat_map}
 use Rattle.std.specs.Str.{bytes_eq}
@@ -33,7 +33,7 @@ use Rattle.krl_held.proofs.Same.{same_refl, same_is, same_then, same_append}
 use Rattle.krl_core.proofs.Rests.{FromItem, FromBits, FromSections, FromLength, FromContent, FromExtension, FromCritical, FromComment, FromHeaderReserved, FromFlags, FromDate, FromSubsections, FromReserved, FromCertificates, FromPart, Completes, IsItem, Items}
 use Rattle.krl_core.proofs.Judged.{held_back, same_place}
 
--- what is spelled from the place after a field is spelled from the same place by another name
+-- equal places after a field have the same spelling
 along : (last h : Header) (a : List ℕ) (p q : Place) (bytes : List ℕ) (more : List Entry) → p ≡ q → Completes last h a q bytes more → Completes last h a p bytes more
 along last h a p q bytes more e k = subst (λ (x : Place). Completes last h a x bytes more) (sym e) k
 

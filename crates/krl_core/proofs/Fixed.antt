@@ -1,4 +1,4 @@
--- The first fields of a list, of which none says how long another is.
+-- The first fields of a list, whose sizes depend on no length.
 use Rattle.std.proofs.Common.{◌≡◌, ◌<◌, false, refl, arith}
 use Rattle.krl_core.specs.declared.place.Place.{Place}
 use Rattle.krl_core.specs.declared.place.Place.TheVariants as places
@@ -6,7 +6,7 @@ use Rattle.krl_core.specs.declared.place.header.HeaderPlace.TheVariants as heade
 use Rattle.krl_core.specs.Place.{expected}
 use Rattle.krl_core.specs.Reading.{is_fixed}
 
--- a large field is none of the first
+-- a large field is not one of the first
 pub late_where_large : (p : Place) → 32 < (expected p).size → is_fixed p ≡ false
 late_where_large (places.Header (headers.Reserved n)) large = refl
 late_where_large (places.Header (headers.Comment n)) large = refl

@@ -1,4 +1,4 @@
--- What the fields of a front name has at most four intervals for each of their bytes.
+-- The entries of the fields of a front have at most four intervals for each of their bytes.
 use Rattle.std.proofs.Common.{◌≡◌, ℕ, ◌+◌, ◌*◌, ◌<◌, ◌≤◌, Bool, true, false, List, [], ◌∷◌, ◌++◌, length, refl, sym, ap, subst, ◌∙◌, inl, inr, arith, length-append}
 use Rattle.std.specs.Prelude.{◌↔◌, sum_by}
 use Rattle.std.specs.List.{All, AllByRecursion, concat}
@@ -63,12 +63,12 @@ all_under_names a [] s small = Iff.rfl
 all_under_names a (entry ∷ entries) s small =
     Iff.trans (covers_append (under a entry) (all_under a entries) s) (iff_or (under_names a entry s small.0) (all_under_names a entries s small.1))
 
--- ---- how many they are over all authorities
+-- ---- the number of intervals over all authorities
 
 abbrev count_under : Entry → Section → ℕ
 count_under entry section = length (under section.authority entry)
 
--- under an authority that comes later an entry names nothing
+-- under any other authority an entry names nothing
 none_under : (a : List ℕ) (entry : Entry) → (entry_authority entry ≡ a → ⊥) → length (under a entry) ≡ 0
 unfolding under if_under
 none_under a entry apart = none_if (bytes_eq (entry_authority entry) a) (λ e. apart ((bytes_eq-Decides (entry_authority entry) a).0 e))
@@ -101,7 +101,7 @@ once_more entry x xs false e rise rest =
     let apart : entry_authority entry ≡ x.authority → ⊥ = λ same. false≢true (sym e ∙ (bytes_eq-Decides (entry_authority entry) x.authority).1 same) in
     omega (arith, sum_by-cons (count_under entry) x xs, none_under x.authority entry apart, rest)
 
--- an entry names something under one authority only
+-- an entry names serial numbers under one authority only
 once : (entry : Entry) (sections : List Section) → RisesBy section_authority sections → sum_by (count_under entry) sections ≤ most entry
 once entry [] rise = omega arith
 once entry (x ∷ xs) rise = once_more entry x xs (bytes_eq (entry_authority entry) x.authority) refl rise (once entry xs rise.1)
@@ -127,9 +127,9 @@ count_most [] sections rise = omega (arith, count_none sections)
 count_most (entry ∷ entries) sections rise =
     omega (arith, count_more entry entries sections, once entry sections rise, count_most entries sections rise, sum_by-cons most entry entries)
 
--- ---- what is held
+-- ---- the stored spans
 
--- under the authorities of the sections just the serials are held that the entries name
+-- the stored serial numbers of these authorities are exactly those that the entries name
 abbrev AreHeld : List Section → List Entry → Type 0
 AreHeld sections entries =
     (a : List ℕ) (s : ℕ) → SomeSection (λ section. section.authority ≡ a) sections → HoldsSerial sections a s ↔ SomeNames entries (SerialOf a s)

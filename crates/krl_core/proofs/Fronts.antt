@@ -1,4 +1,4 @@
--- Fronts of one text: one begins the other, the longest is one, and what is reported there is one.
+-- The fronts of one text: one begins the other, only one is the longest, and its report is unique.
 use Rattle.std.proofs.Common.{◌≡◌, ℕ, ◌<◌, Bool, true, false, ltb, List, [], ◌∷◌, ◌++◌, length, take, drop, Option, Some, None, Ok, Err, refl, sym, ap, subst, ◌∙◌, append_assoc, arith, inl, inr, ◌⊎◌}
 use Rattle.std.specs.List.{concat}
 use Rattle.std.proofs.lemmas.List.{append-nil, length-append}
@@ -14,14 +14,14 @@ use Rattle.krl_core.proofs.Walks.{EndsReported}
 use Rattle.krl_core.proofs.Judged.{same_place}
 use Rattle.ssh_wire.proofs.Steps.{never_err}
 
--- fronts of one list that are as long are the same
+-- prefixes of one list that have the same length are the same
 pub append_same : (a b x y : List ℕ) → length a ≡ length b → a ++ x ≡ b ++ y → (a ≡ b) × (x ≡ y)
 append_same a b x y len e =
     let n : take (length b) (a ++ x) ≡ a = ap (λ (k : ℕ). take k (a ++ x)) (sym len) ∙ take-append_seam a x in
     let m : drop (length b) (a ++ x) ≡ x = ap (λ (k : ℕ). drop k (a ++ x)) (sym len) ∙ drop-append_seam a x in
     (sym n ∙ ap (take (length b)) e ∙ take-append_seam b y, sym m ∙ ap (drop (length b)) e ∙ drop-append_seam b y)
 
--- the place after a field is one
+-- the place after a field is unique
 next_is : (p m n : Place) (x y : List ℕ) → x ≡ y → (expected p).judged x ≡ Ok m → (expected p).judged y ≡ Ok n → m ≡ n
 next_is p m n x y e h k = same_place m n (sym h ∙ ap (expected p).judged e ∙ k)
 
@@ -59,7 +59,7 @@ Leads-split p r (x ∷ fields) more h =
     let w = Leads-split (state_after p x h.0) r fields more h.1.1 in
     (w.0, (h.0, (h.1.0, w.1)), w.2)
 
--- where the list may end, a byte is expected that is part of nothing
+-- if the list may end, the expected field is one byte that is inside no other part
 pub end_size : (p : Place) → can_end p ≡ true → (expected p).size ≡ 1
 end_size (SectionType signed) e = refl
 end_size _ e = absurd (cc)
@@ -68,15 +68,15 @@ pub end_room : (p : Place) → can_end p ≡ true → HasRoom (expected p)
 end_room (SectionType signed) e = tt
 end_room _ e = absurd (cc)
 
--- fewer bytes are left there than that
+-- an end has fewer bytes left than the expected field
 pub end_short : (p : Place) (rest : List ℕ) → IsEnd p rest → length rest < (expected p).size
 end_short p rest at = omega (arith, end_size p at.0, ap length at.1)
 
--- what begins with a whole field is as long as the field
+-- a list that begins with a whole field is at least as long as the field
 whole_rest : (p : Place) (rest field after : List ℕ) → length field ≡ (expected p).size → rest ≡ field ++ after → length rest < (expected p).size → ⊥
 whole_rest p rest field after size e short = omega (arith, short, size, ap length e, length-append field after)
 
--- where something is reported, no next field passes
+-- if something is reported, no next field passes
 pub blocked : (p next : Place) (rest field after : List ℕ) (goes_on : Bool) (fault : Option KrlFault) → Reported p rest goes_on fault
     → HasRoom (expected p) → length field ≡ (expected p).size → (expected p).judged field ≡ Ok next → rest ≡ field ++ after → ⊥
 blocked p next rest field after goes_on fault (ended at off is) room size judged e = whole_rest p rest field after size e (end_short p rest at)
@@ -109,7 +109,7 @@ first_fault_is text fault h =
     let front : IsFront text h.walks.fields h.last h.rest = record { leads = h.walks.leads; parts = h.walks.parts } in
     record { fields = h.walks.fields; state = h.last; rest = h.rest; front = is_longest text h.walks.fields h.last h.rest (ltb limit (length text)) fault front h.reported; reported = h.reported }
 
--- ---- what is reported is one
+-- ---- the report is unique
 
 ended_only : (p : Place) (rest : List ℕ) (goes_on : Bool) (fault : Option KrlFault) → IsEnd p rest → goes_on ≡ false → Reported p rest goes_on fault → None ≡ fault
 ended_only p rest goes_on fault at off (ended at' off' is) = sym is
@@ -157,7 +157,7 @@ reported_same p rest goes_on fault fault' (refused field after why room e size j
 reported_same p rest goes_on fault fault' (too_long room short on is) t = is ∙ too_long_only p rest goes_on fault' room short on t
 reported_same p rest goes_on fault fault' (ends_early room short not_end off is) t = is ∙ early_only p rest goes_on fault' room short not_end off t
 
--- two ends of one text, of which the second may come after more fields
+-- two ends of one text, the second maybe after more fields
 ends_same : (p q : State) (more : List (List ℕ)) (r s : List ℕ) (goes_on : Bool) (a b : Option KrlFault) → Leads p more q
     → r ≡ concat more ++ s → Reported p.place r goes_on a → Reported q.place s goes_on b → a ≡ b
 ends_same p q [] r s goes_on a b h e ta tb =
@@ -167,7 +167,7 @@ ends_same p q (x ∷ more) r s goes_on a b h e ta tb =
     absurd (blocked p.place h.0 r x (concat more ++ s) goes_on a ta h.1.0.room h.1.0.whole h.1.0.judged
     (e ∙ append_assoc x (concat more) s))
 
--- what comes after a row, where a longer row is known
+-- the report after a row of fields, if a longer row is known
 following : (p q q' : State) (one other more : List (List ℕ)) (r s : List ℕ) (goes_on : Bool) (a b : Option KrlFault)
     → Leads p one q → Leads p other q' → concat one ++ r ≡ concat other ++ s
     → other ≡ one ++ more → Reported q.place r goes_on a → Reported q'.place s goes_on b → a ≡ b

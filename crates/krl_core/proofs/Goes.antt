@@ -8,7 +8,7 @@ use Rattle.krl_core.specs.Front.{State, Passes, HasRoom, state_after, Leads}
 use Rattle.krl_core.specs.Place.{expected}
 use Rattle.krl_core.proofs.Walks.{Walks}
 
--- from the place some fields lead to the last place, and leave the rest of the bytes
+-- some fields lead from a place to the last one, and leave the rest of the bytes
 abbrev pub Along : Place → List (List ℕ) → Place → Type 0
 Along place [] last = place ≡ last
 Along place (field ∷ fields) last = (next : Place) × (Passes place field next × Along next fields last)

@@ -1,4 +1,4 @@
--- Judgements that passed: where they lead.
+-- Judgements that passed: the places after them.
 use Rattle.std.proofs.Common.{◌≡◌, Bool, true, false, cond, Result, Ok, Err, refl}
 use Rattle.ssh_wire.proofs.Steps.{ok_is}
 use Rattle.krl_types.specs.declared.krl_fault.KrlFault.{KrlFault}

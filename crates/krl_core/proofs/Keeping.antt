@@ -1,4 +1,4 @@
--- What is kept after one entry or another is added.
+-- The keeper after one more entry.
 use Rattle.std.proofs.Common.{◌≡◌, ℕ, ◌+◌, ◌≤◌, Option, None, Some, List, [], ◌∷◌, ◌++◌, length, take, drop, refl, sym, ap, subst, ◌∙◌, append_assoc, arith, inl, inr}
 use Rattle.std.specs.Option.{option_to_list}
 use Rattle.std.proofs.lemmas.List.{append-nil, length-take-le}
@@ -23,13 +23,13 @@ use Rattle.krl_held.proofs.Same.{same_refl, same_is, same_then, same_append, sam
 abbrev pub open_entries : Keeper → List Entry
 open_entries keeper = run_entries keeper.authority (open_run keeper)
 
--- nothing changed but what is held, so the open run is the same
+-- only the stored entries changed, so the open run is the same
 open_same : (old new : Keeper) → KeepsRest old new → open_entries new ≡ open_entries old
 open_same old new rest =
     ap (λ (a : List ℕ). run_entries a (open_run new)) rest.authority_is
     ∙ ap (λ (p : Option Span). run_entries old.authority (option_to_list p)) (ap (λ b. b.pending) rest.bitmap_is)
 
--- what is held means some entries more
+-- the stored entries mean some more entries
 pub adds_all : (old new : Keeper) (more : List Entry) → KeepsRest old new
     → MeansMoreWithin old.scope old.contents new.contents more → Adds old more new
 adds_all old new more rest means = record {
@@ -75,7 +75,7 @@ adds_then a b c xs ys h k = record {
   rest = rest_then a b c h.rest k.rest;
 }
 
--- a serial 0 adds nothing
+-- a serial number 0 adds nothing
 pub adds_zero : (k : Keeper) (n : ℕ) → n ≡ 0 → Adds k (SerialsEntry k.authority (n ∷ []) ∷ []) k
 adds_zero k n e = subst (λ (x : ℕ). Adds k (SerialsEntry k.authority (x ∷ []) ∷ []) k) (sym e)
     (adds_same k k [] (SerialsEntry k.authority (0 ∷ []) ∷ []) (same_zero k.authority) (adds_none k))
@@ -84,7 +84,7 @@ pub adds_to_zero : (k : Keeper) (min max : ℕ) → max ≡ 0 → Adds k (RangeE
 adds_to_zero k min max e = subst (λ (x : ℕ). Adds k (RangeEntry k.authority min x ∷ []) k) (sym e)
     (adds_same k k [] (RangeEntry k.authority min 0 ∷ []) (same_none k.authority min) (adds_none k))
 
--- what is within a number is within any larger one
+-- stored bytes that are within a number are within each larger one
 pub stored_wider : (k : Keeper) (n m : ℕ) → n ≤ m → StoresWithin k n → StoresWithin k m
 stored_wider k n m le h = record {
   now = omega (arith, h.now);
@@ -109,7 +109,7 @@ stored_same old new e a s = record {
 pub stored_then : (a b c : Keeper) → StaysWithin a b → StaysWithin b c → StaysWithin a c
 stored_then a b c h k = record { stored_is = λ m s. k.stored_is m (h.stored_is m s); scope_is = λ s. k.scope_is (h.scope_is s); same_scope = k.same_scope ∙ h.same_scope }
 
--- ---- what is kept of the header
+-- ---- the kept parts of the header
 
 pub kept_start : (scope : Scope) → start.header ≡ kept_header scope start.header
 kept_start None = refl
@@ -133,7 +133,7 @@ header_kept place here next field old new header keeps at was =
     ∙ ap (λ (p : Place). kept_header old.scope (header_after p header field)) at
     ∙ ap (λ (s : Scope). kept_header s (header_after here header field)) (sym keeps.scope_is)
 
--- where it stays
+-- if the header does not change
 pub header_stays : (old new : Keeper) (header last : Header) → new.header ≡ old.header → new.scope ≡ old.scope
     → last ≡ header → old.header ≡ kept_header old.scope header → new.header ≡ kept_header new.scope last
 header_stays old new header last same scope is was =
@@ -149,7 +149,7 @@ adds_runs old mid new runs more h k =
     subst (λ (xs : List Entry). Adds old xs new) (sym (run_entries-append old.authority runs more))
     (adds_then old mid new (run_entries old.authority runs) (run_entries old.authority more) h next)
 
--- the open run becomes one that is held
+-- the open run becomes a stored run
 pub closes_run : (old mid new : Keeper) (run : Span) → old.bitmap.pending ≡ Some run → mid.contents ≡ old.contents → mid.scope ≡ old.scope → mid.authority ≡ old.authority
     → mid.header ≡ old.header → mid.bitmap.pending ≡ None → Adds mid (RangeEntry mid.authority run.lo run.hi ∷ []) new → Closes old new
 closes_run old mid new run is contents scope authority header none h = record {

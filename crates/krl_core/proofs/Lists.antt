@@ -1,4 +1,4 @@
--- A whole list is spelled, and means what its sections name.
+-- A whole list is spelled, and means the entries of its sections.
 use Rattle.std.proofs.Common.{◌≡◌, ℕ, ◌<◌, ◌≤◌, ◌^◌, Bool, true, false, ltb, List, ◌++◌, length, Option, None, refl, sym, ap, subst, ◌∙◌, append_assoc}
 use Rattle.std.specs.List.{concat}
 use Rattle.ssh_wire.specs.Wire.{IsBytes, number, string}
@@ -21,7 +21,7 @@ use Rattle.krl_core.proofs.Rests.{FromText, FromFormat}
 use Rattle.krl_held.proofs.Scoped.{means_all_within, same_within}
 use Rattle.krl_core.proofs.Completes.{whole_string}
 
--- the fields of a header and what follows it, one after the other
+-- the fields of a header and the bytes after it
 pub header_parts : (header : Header) (flags : ℕ) (reserved rest : List ℕ) → header_text header flags reserved ++ rest
     ≡ magic ++ (number 4 1 ++ (number 8 header.version ++ (number 8 header.date ++ (number 8 flags ++ (string reserved ++ (string header.comment ++ rest))))))
 header_parts header flags reserved rest = simp append_assoc
@@ -68,7 +68,7 @@ spelled_from text last h more h0 =
       named = h7.named;
     }
 
--- what a row of fields names that leads to the end of a list
+-- the entries of a row of fields that leads to the end of a list
 pub row_spelled : (fields : List (List ℕ)) (last : State) → Leads start fields last → can_end last.place ≡ true → IsBytes (concat fields)
     → SpelledBy (concat fields) last.header last.entries
 row_spelled fields last leads may fits =
@@ -80,7 +80,8 @@ row_spelled fields last leads may fits =
       named = subst (λ (x : List Entry). NamesSame x (entries_of k.sections)) (sym w.1) k.named;
     }
 
--- a whole list is one that sections spell, where what is held is what anything names that names the same
+-- a whole list is one that sections spell, if the property of its entries depends only on what they
+-- name
 pub list_of_whole : (Holds : List ℕ → Revocations → List Entry → Type 0) (text : List ℕ) (header : Header) (contents : Revocations)
     → ((entries others : List Entry) → Holds text contents entries → NamesSame entries others → Holds text contents others) → IsWholeAs Holds text header contents
     → IsListAs Holds text header contents
@@ -99,7 +100,7 @@ pub same_holds_within : (scope : Scope) (text : List ℕ) (contents : Revocation
 same_holds_within scope text contents entries others h same =
     record { means = same_within scope contents entries others h.means same; within = h.within; bounds = h.bounds }
 
--- where all names are in scope
+-- if all names are in scope
 pub holds_all : (text : List ℕ) (contents : Revocations) (entries : List Entry) → HoldsWithin every_name text contents entries → HoldsAll text contents entries
 holds_all text contents entries h = let b = h.bounds refl in record { means = means_all_within contents entries h.means; held_is = b.0; stored_is = b.1 }
 
@@ -123,7 +124,7 @@ unfaulted_row text h =
     let whole : text ≡ concat h.fields = sym (take_all limit text le) ∙ h.front.front.parts ∙ ap (λ (x : List ℕ). concat h.fields ++ x) w.0.1 ∙ append-nil (concat h.fields) in
     (h.fields, h.state, (h.front.front.leads, w.0.0, whole, le))
 
--- a text without a fault leads to the end of a list
+-- a text without a fault is spelled by a header and sections
 pub unfaulted_spelled : (text : List ℕ) → IsBytes text → IsFirstFault text None
     → (length text ≤ limit) × ((header : Header) × ((sections : List SpelledSection) × Spells text header sections))
 unfaulted_spelled text fits h =

@@ -1,4 +1,4 @@
--- A text is spelled by one header and one list of sections.
+-- One header and one list of sections spell a text.
 use Rattle.std.proofs.Common.{◌≡◌, ℕ, ◌+◌, ◌<◌, ◌^◌, List, [], ◌∷◌, ◌++◌, length, refl, sym, ap, subst, ◌∙◌, append_assoc, arith}
 use Rattle.std.specs.List.{AllByRecursion}
 use Rattle.std.proofs.lemmas.List.{append-nil, append_cancel_left, length-append}
@@ -52,7 +52,7 @@ same_numbers (x ∷ xs) (y ∷ ys) a b e =
 
 -- ---- items, one after the other
 
--- of two items that are spelled at the front of a text both are the same
+-- two items that are spelled at the front of a text are the same
 abbrev OneAtFront : {X : Type 0} → (List ℕ → X → Type 0) → Type 0
 OneAtFront {X} Spelling = (x y : X) (text other rest rest' : List ℕ) → Spelling text x → Spelling other y → text ++ rest ≡ other ++ rest' → (x ≡ y) × (rest ≡ rest')
 

@@ -1,5 +1,5 @@
--- What is spelled from each place on, where a row of fields leads to the end of a list and uses up the
--- bytes, and what it names.
+-- The rest of a list from each place on: its spelling, if a row of fields leads to the end of the
+-- list and uses up the bytes, and its entries.
 use Rattle.std.proofs.Common.{◌≡◌, ℕ, ◌+◌, ◌-◌, ◌*◌, ◌<◌, ◌≤◌, ◌^◌, Bool, true, false, List, [], ◌∷◌, ◌++◌, length, map}
 use Rattle.std.specs.List.{flat_map, AllByRecursion}
 use Rattle.std.specs.Int.{bit_at}
@@ -21,7 +21,7 @@ use Rattle.krl_core.specs.Krl.{SpelledSection, Subsection, SpellsEach, SpellsSec
 use Rattle.krl_held.specs.Naming.{NamesSame}
 use Rattle.krl_core.specs.Place.{item_entry, item_size}
 
--- what holds of the bytes that are left and of what their fields name
+-- a property of the bytes that are left and of the entries of their fields
 abbrev pub Rest : Type 1
 Rest = List ℕ → List Entry → Type 0
 
@@ -48,7 +48,7 @@ pub record FromNumber (Then : ℕ → Rest) (bytes : List ℕ) (more : List Entr
   pub fits : value < 2 ^ 64
   pub then_is : Then value rest more
 
--- a length, and what it counts
+-- a length, and the bytes that it counts
 pub record FromLength (Then : ℕ → Rest) (bytes : List ℕ) (more : List Entry) : Type 0 where
   pub size : ℕ
   pub rest : List ℕ
@@ -63,7 +63,7 @@ pub record FromContent (size : ℕ) (Then : List ℕ → Rest) (bytes : List ℕ
   pub size_is : length content ≡ size
   pub then_is : Then content rest more
 
--- items that fill what is left of a section or subsection
+-- items that fill the rest of a section or a subsection
 pub record FromItems {X : Type 0} (spell : X → List ℕ) (Good : X → Type 0) (entry : X → Entry) (left : ℕ) (Then : Rest) (bytes : List ℕ) (more : List Entry) : Type 0 where
   pub items : List X
   pub rest : List ℕ
@@ -84,7 +84,7 @@ pub record FromItem (size : ℕ) (entry : List ℕ → Entry) (Then : Rest) (byt
   pub named : more ≡ entry content ∷ others
   pub then_is : Then rest others
 
--- subsections that fill what is left of their section
+-- subsections that fill the rest of their section
 pub record FromSubsections (K : Type 0) (a : List ℕ) (left : ℕ) (bytes : List ℕ) (more : List Entry) : Type 0 where
   pub subsections : List Subsection
   pub body : List ℕ
@@ -123,8 +123,8 @@ pub record FromCertificates (K : Type 0) (left : ℕ) (bytes : List ℕ) (more :
   pub named : NamesSame more (flat_map (subsection_entries authority) subsections ++ others)
   pub then_is : FromSections false K rest others
 
--- the content of a subsection as a string, with this many bytes left of the section, and what
--- follows it
+-- the content of a subsection as a string, with this many bytes of the section left, and the rest
+-- after it
 pub record FromPart (K : Type 0) (a : List ℕ) (type_byte left : ℕ) (bytes : List ℕ) (more : List Entry) : Type 0 where
   pub subsection : Subsection
   pub content : List ℕ
@@ -142,7 +142,7 @@ abbrev pub SerialItems : Type 0 → List ℕ → ℕ → ℕ → Rest
 SerialItems K a left after =
     FromItems (number 8) (λ n. n < 2 ^ 64) (λ n. SerialsEntry a (n ∷ [])) left (FromSubsections K a after)
 
--- strings of one kind, each of the size that items of it have
+-- strings of one kind, which have the size of its items
 abbrev pub IsItem : ItemKind → List ℕ → Type 0
 IsItem kind item = length item ≡ item_size kind (length item)
 
@@ -184,7 +184,7 @@ pub record FromBits (K : Type 0) (a : List ℕ) (offset size left after : ℕ) (
   pub named : NamesSame more (BitmapEntry a offset (number_of bits) ∷ others)
   pub then_is : FromSubsections K a after rest others
 
--- a bitmap as a string that fills what is left of its subsection
+-- a bitmap as a string that fills the rest of its subsection
 pub record FromBitmap (K : Type 0) (a : List ℕ) (offset left after : ℕ) (bytes : List ℕ) (more : List Entry) : Type 0 where
   pub bits : List ℕ
   pub rest : List ℕ
@@ -209,7 +209,7 @@ pub record FromOffset (K : Type 0) (a : List ℕ) (left after : ℕ) (bytes : Li
   pub named : NamesSame more (BitmapEntry a offset value ∷ others)
   pub then_is : FromSubsections K a after rest others
 
--- an extension from its name on, from its critical byte on, and from its contents' length on
+-- an extension from its name on, from its critical byte on, and from the length of its contents on
 pub record FromExtension (left : ℕ) (Then : Rest) (bytes : List ℕ) (more : List Entry) : Type 0 where
   pub content : List ℕ
   pub rest : List ℕ
@@ -232,7 +232,7 @@ pub record FromContents (left : ℕ) (Then : Rest) (bytes : List ℕ) (more : Li
   pub size_is : length (string contents) ≡ left
   pub then_is : Then rest more
 
--- ---- the header, of which the last is known as `last`
+-- ---- the header; `last` is the header at the end of the list
 
 abbrev pub FromComment : Header → Header → Rest
 FromComment last h = FromLength (λ n. FromContent n (λ c. FromSections false (last ≡ record h { comment = c })))
@@ -252,7 +252,7 @@ FromVersion last h = FromNumber (λ v. FromDate last (record h { version = v }))
 abbrev pub FromFormat : Header → Header → Rest
 FromFormat last h = FromText (number 4 1) (FromVersion last h)
 
--- ---- all places, under an authority, where h is known of the header
+-- ---- all places, under an authority; h is the header so far
 
 abbrev pub Completes : Header → Header → List ℕ → Place → Rest
 Completes last h a (places.Header headers.Magic) = FromText magic (FromFormat last h)

@@ -1,4 +1,4 @@
--- Bytes of a bitmap that are crossed at once.
+-- Bytes of a bitmap that are crossed together.
 use Rattle.std.proofs.Common.{◌≡◌, ℕ, ◌+◌, ◌-◌, ◌*◌, ◌^◌, ◌<◌, ◌≤◌, Bool, true, false, not, eqb, leb, ltb, cond, List, [], ◌∷◌, ◌++◌, length, map, take, Result, Ok, Err, refl, sym, ap, subst, ◌∙◌, append_assoc, arith, zero, suc, inl, inr}
 use Rattle.std.specs.Prelude.{None, Option, Some}
 use Rattle.std.proofs.lemmas.Bool.{eqb-true, false≢true, lt-leb, lt-ltb}
@@ -35,7 +35,7 @@ use Rattle.krl_core.specs.Place.{next_subsection, authority_after, base_of, bits
 abbrev pub singles : List ℕ → List (List ℕ)
 singles bytes = map (λ (b : ℕ). b ∷ []) bytes
 
--- what the bytes name, of which the first is the highest of `left`
+-- the entries of the bytes, if the bitmap has `left` bytes left with the first of them
 abbrev pub bit_entries : List ℕ → (offset left : ℕ) → List ℕ → List Entry
 bit_entries a offset left [] = []
 bit_entries a offset left (b ∷ bs) = BitmapEntry a (base_of offset left) (number_of (b ∷ [])) ∷ bit_entries a offset (left - 1) bs
@@ -62,7 +62,7 @@ judged_on offset size left after byte pos sign_free fits =
     (ap (λ (b : Bool). judge (not b) faults.BitmapWraps (next_bits offset size (left - 1) after)) past)
     (λ same. lt-ltb byte 128 (sign_free (eqb-true left size same)))
 
--- The bytes lead on, and name what they name.
+-- The bytes lead to the next place, and have these entries.
 pub record LeadsBits (state : State) (offset size left after : ℕ) (bytes : List ℕ) : Type 0 where
   pub last : State
   pub leads : Leads state (singles bytes) last
@@ -110,14 +110,14 @@ leads_bits state offset size (suc left) after (b ∷ bs) at le within sign_free 
           ∙ ap (λ (n : ℕ). state.entries ++ E ∷ bit_entries a offset n bs) less;
     }
 
--- ---- names that nothing asks about
+-- ---- names that no topic contains
 
 -- the numbers of the bits of a byte
 bit_between : (base byte s : ℕ) → byte < 256 → BitNames base byte s → (base ≤ s) × (s < base + 8)
 bit_between base byte s lt named =
     let near : s - base < 8 = bit_below byte 8 (s - base) lt named.2 in (named.1, omega (arith, named.1))
 
--- none of the numbers of some bytes is asked about under the authority
+-- none of the numbers of some bytes is in scope under the authority
 pub bits_unasked : (scope : Scope) (a : List ℕ) (offset left : ℕ) (bytes : List ℕ) → IsBytes bytes → length bytes ≤ left
     → ((s : ℕ) → offset + 8 * (left - length bytes) ≤ s → s < offset + 8 * left → InScope scope (SerialOf a s) → ⊥)
     → (name : Name) → InScope scope name → SomeNames (bit_entries a offset left bytes) name → ⊥
@@ -131,7 +131,7 @@ bits_unasked scope a offset left (b ∷ bs) are le none name is (inl h) = h
 bits_unasked scope a offset left (b ∷ bs) are le none name is (inr h) =
     bits_unasked scope a offset (left - 1) bs (IsBytes-tail b bs are) (omega arith) (λ s low high. none s (omega (arith, low)) (omega (arith, high))) name is h
 
--- What is kept stays kept where the bytes name nothing that is asked about and no run is open.
+-- The keeper keeps the same entries if the bytes name nothing in scope and no run is open.
 pub skipped_kept : (old new : Keeper) (entries : List Entry) (more : List Entry) → ((name : Name) → InScope old.scope name → SomeNames more name → ⊥)
     → new.contents ≡ old.contents → new.scope ≡ old.scope → old.bitmap.pending ≡ None → new.bitmap.pending ≡ None → IsKept old entries → IsKept new (entries ++ more)
 skipped_kept old new entries more none contents scope shut still h =
@@ -147,7 +147,7 @@ skipped_kept old new entries more none contents scope shut still h =
       same = subst (λ (xs : List Entry). NamesSame xs (entries ++ more)) (sym open_now) (same_append h.closed more entries more before (same_refl more));
     }
 
--- ---- the bytes at once
+-- ---- the bytes together
 
 pub skips_run : (old mid new : Keeper) (count : ℕ) (run : Span) → old.bitmap.pending ≡ Some run → mid.contents ≡ old.contents → mid.scope ≡ old.scope → mid.authority ≡ old.authority → mid.header ≡ old.header
     → mid.bitmap ≡ record old.bitmap { bytes_left = old.bitmap.bytes_left - count; pending = None }
@@ -182,7 +182,7 @@ bits_in_step old keeper offset size left after count step skips =
     in_step zero at all none = none_in after none
     in_step (suc n) at all none = (omega arith, all ∙ ap (λ (m : ℕ). record { offset = offset; len = size; bytes_left = m; pending = None; fault = None }) (sym at) ∙ ap (λ (o : Option Span). record { offset = offset; len = size; bytes_left = suc n; pending = o; fault = None }) (sym none))
 
--- the bytes are crossed, since none of their numbers is in scope
+-- the bytes are crossed because none of their numbers is in scope
 pub crosses_bits : (old new : Keeper) (offset size left after : ℕ) (bytes : List ℕ) → InStep (places.Bitmap (bitmaps.Byte offset size left after)) old.bitmap → IsBytes bytes
     → length bytes ≤ left → left ≤ size → (left ≡ size → number_of (take 1 bytes) < 128) → offset + 8 * left ≤ 2 ^ 64 → AreUnasked old offset left (length bytes)
     → Skips (length bytes) old new → Crosses bytes (places.Bitmap (bitmaps.Byte offset size left after)) old (next_bits offset size (left - length bytes) after) new

@@ -1,4 +1,4 @@
--- What is spelled is walked.
+-- A walk goes through all fields of a spelling.
 use Rattle.std.proofs.Common.{◌≡◌, ℕ, zero, suc, ◌+◌, ◌-◌, ◌*◌, ◌%◌, ◌==◌, ◌<◌, ◌≤◌, ◌^◌, Bool, true, false, not, cond, eqb, ltb, leb, eq-eqb, List, [], ◌∷◌, ◌++◌, length, Result, Ok, Err, refl, sym, ap, subst, ◌∙◌, append_assoc, arith, inl, inr}
 use Rattle.std.specs.List.{AllByRecursion}
 use Rattle.std.specs.Int.{bit_at}
@@ -33,9 +33,9 @@ use Rattle.krl_core.proofs.Lists.{header_parts}
 use Rattle.krl_held.proofs.Numbers.{number_again4, number_again8, number_of-one}
 use Rattle.krl_core.proofs.Rests.{IsItem}
 
--- ---- a field, and what follows it
+-- ---- a field, and the place after it
 
--- a length of content that is read in parts
+-- the length of content that is read in parts
 pub content_goes : (p q r : Place) (content rest : List ℕ) → HasRoom (expected p) → (expected p).size ≡ 4 → length content < 2 ^ 32
     → ((field : List ℕ) → number_of field ≡ length content → (expected p).judged field ≡ Ok q) → Goes q (content ++ rest) r rest → Goes p (string content ++ rest) r rest
 unfolding string
@@ -50,7 +50,7 @@ pub string_goes : (p : Place) (q : Place) (r : Place) (content rest : List ℕ) 
     → HasRoom (expected q) → length content ≡ (expected q).size → (expected q).judged content ≡ Ok r → Goes p (string content ++ rest) r rest
 string_goes p q r content rest room size fits judged room' size' judged' = content_goes p q r content rest room size fits judged (goes_one q r content rest room' size' judged')
 
--- a length that fits is checked by what follows
+-- a length that fits passes, and the judgement is that of its value
 pub within_is : (left : ℕ) (next : ℕ → Result Place KrlFault) (size n : ℕ) → size ≡ n → n ≤ left - 4 → within left next size ≡ next n
 within_is left next size n e le =
     let f : ltb (left - 4) size ≡ false = le-ltb (left - 4) size (omega arith) in
@@ -108,7 +108,7 @@ items_go kind (item ∷ items) total left after rest e fits good =
     (goes_then (next_item kind total after) (next_item kind mid after) (next_item kind left after) (string item ++ (strings items ++ rest)) (strings items ++ rest) rest
     (item_goes kind total mid after item (strings items ++ rest) (omega arith) fits good.0) (items_go kind items mid left after rest refl (omega arith) good.1))
 
--- items that may be of any size
+-- items that may have any size
 pub any_size : (items : List (List ℕ)) → AllByRecursion (λ item. length item ≡ length item) items
 any_size [] = tt
 any_size (item ∷ items) = (refl, any_size items)
@@ -133,7 +133,7 @@ serials_go (n ∷ items) total left after rest e =
 
 -- ---- the bytes of a bitmap
 
--- the highest bit that is set is set
+-- the highest set bit is set
 highest_set : (byte : ℕ) → 0 < byte → byte < 256 → bit_at byte (highest_bit byte) ≡ 1
 highest_set byte pos lt =
     let j = highest_bit byte in
@@ -144,7 +144,7 @@ highest_set byte pos lt =
     let two : byte < (1 + 1) * 2 ^ j = omega (arith, high, double) in
     ap (λ (q : ℕ). q % 2) (div-eq_of_lt-le {k = 1} (2 ^ j) {m = byte} one two)
 
--- no set bit stands for a number past the last one
+-- no set bit is the bit of a number past the last one
 not_passes : (base byte : ℕ) → byte < 256 → ((k : ℕ) → bit_at byte k ≡ 1 → base + k < 2 ^ 64) → passes_end base byte ≡ false
 not_passes base zero lt within = refl
 not_passes base (suc b) lt within =
@@ -198,7 +198,7 @@ bits_go (b ∷ bits) offset size after rest fits le sign within =
 
 -- ---- subsections
 
--- an extension that fills what has as many bytes left
+-- an extension that fills the part around it
 pub extension_goes : (left after : ℕ) (content rest : List ℕ) → SpellsExtension content → left ≡ length content → left < 2 ^ 32
     → Goes (places.Extension (extensions.NameLength left after)) (content ++ rest) (next_subsection after) rest
 unfolding number_of
@@ -224,7 +224,7 @@ extension_goes left after content rest h size fits =
     (λ field e. within_is left (λ m. Ok (places.Extension (extensions.Name m (left - 4 - m) after))) (number_of field) (length name) e (omega (arith, all, size)) ∙ ap (λ (m : ℕ). Ok (places.Extension (extensions.Name (length name) m after))) left_is) tt refl refl)
     critical)
 
--- a subsection's type byte, the length of its content, and the content
+-- the type byte of a subsection, the length of its content, and the content
 part_goes : (left type_byte : ℕ) (p q : Place) (text content rest : List ℕ) (next : (size after : ℕ) → Result Place KrlFault) → text ≡ type_byte ∷ string content → length text ≤ left → length content < 2 ^ 32
     → (expected (places.Certificates (certificates.SubsectionType left))).judged (type_byte ∷ []) ≡ Ok p → expected p ≡ length_within (left - 1) (λ size. next size (left - 1 - 4 - size))
     → next (length content) (left - length text) ≡ Ok q → Goes q (content ++ rest) (next_subsection (left - length text)) rest

@@ -1,4 +1,4 @@
--- A list that is spelled has no fault, where it is within the limit.
+-- A list that is spelled has no fault if it is within the limit.
 use Rattle.std.proofs.Common.{◌≡◌, ℕ, ◌+◌, ◌-◌, ◌<◌, ◌≤◌, ◌^◌, ◌⊎◌, Bool, true, false, ltb, List, [], ◌∷◌, ◌++◌, length, take, Some, None, Ok, refl, sym, ap, subst, ◌∙◌, append_assoc, arith, inl, inr, Option}
 use Rattle.std.specs.List.{AllByRecursion}
 use Rattle.std.proofs.lemmas.Bool.{le-ltb}
@@ -31,14 +31,14 @@ abbrev signed_after : SpelledSection → Bool
 signed_after Signature = true
 signed_after _ = false
 
--- a section of another type than a signature, from its type byte on
+-- a section that is no signature, from its type byte on
 typed_goes : (signed : Bool) (n : ℕ) (q : Place) (content rest : List ℕ) → signed ≡ false → length content < 2 ^ 32
     → (expected (places.SectionType false)).judged (n ∷ []) ≡ Ok q → ((r : Place) → Goes q (string content ++ rest) r rest → Goes (places.SectionType false) (n ∷ (string content ++ rest)) r rest)
 typed_goes signed n q content rest off fits judged r w =
     goes_then (places.SectionType false) q r (n ∷ (string content ++ rest)) (string content ++ rest) rest
     (goes_one (places.SectionType false) q (n ∷ []) (string content ++ rest) tt refl judged) w
 
--- a section of items, of whatever kind
+-- a section of items of any kind
 items_section_goes : (kind : ItemKind) (n : ℕ) (items : List (List ℕ)) (text content rest : List ℕ) → text ≡ n ∷ string content → length content < 2 ^ 32 → content ≡ strings items → AllByRecursion (IsItem kind) items
     → (expected (places.SectionType false)).judged (n ∷ []) ≡ Ok (places.List (lists.SectionLength kind)) → Goes (places.SectionType false) (text ++ rest) (places.SectionType false) rest
 items_section_goes kind n items text content rest spelled fits is good judged =
@@ -120,7 +120,7 @@ sections_go (section ∷ sections) signed body (first_one, (later, (parts, spell
           (goes_then (places.SectionType signed) (places.SectionType (signed_after section)) (places.SectionType more.0) (first_one ++ later) later [] one more.1),
     )
 
--- what is spelled within the limit has no fault
+-- a spelled list within the limit has no fault
 pub spelled_unfaulted : (text : List ℕ) (header : Header) (sections : List SpelledSection) → IsBytes text → Spells text header sections → length text ≤ limit → IsFirstFault text None
 spelled_unfaulted text header sections fits h le =
     let body_bytes = IsBytes-back (header_text header h.flags h.reserved) h.body (subst IsBytes h.spelled fits) in
@@ -138,7 +138,8 @@ spelled_unfaulted text header sections fits h le =
       reported = subst (λ (p : Place). Reported p [] (ltb limit (length text)) None) (sym a.place_is) (ended (refl, refl) off refl);
     })
 
--- of a list that is spelled nothing else is said than that memory ran out or that the reader failed
+-- for a spelled list, the only possible faults are that an allocation failed or that the reader
+-- failed
 pub only_broken_off : (fault : KrlFault) (failed : Bool) (left : Option (List ℕ)) (text : List ℕ) (header : Header) (sections : List SpelledSection) → Says fault text failed left → IsBytes text → Spells text header sections → length text ≤ limit
     → (fault ≡ faults.NoMemory) ⊎ ((fault ≡ faults.Read) × (failed ≡ true))
 only_broken_off fault failed left text header sections (ran_out is some works) fits h le = inl is

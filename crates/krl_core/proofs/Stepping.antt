@@ -1,4 +1,4 @@
--- What a step of a reading did to the fields that were read, and what its faults say of the text.
+-- The effect of a step on the fields that were read, and what its faults say about the text.
 use Rattle.std.proofs.Common.{◌≡◌, ℕ, ◌+◌, ◌-◌, ◌<◌, ◌≤◌, ◌⊎◌, Bool, true, false, ltb, List, [], ◌∷◌, ◌++◌, length, take, Option, Some, None, Err, refl, sym, ap, subst, ◌∙◌, append_assoc, arith, inl, inr, IsSome}
 use Rattle.std.specs.List.{concat}
 use Rattle.std.specs.Io.KnownBytes.{Consumes, IsAtEnd, Keeps}
@@ -26,7 +26,7 @@ use Rattle.krl_held.proofs.HeldWithin.{small_in}
 use Rattle.krl_core.proofs.Walks.{Leads-push}
 use Rattle.krl_core.proofs.Exists.{end_or_early}
 
--- ---- what a reader has left
+-- ---- the bytes that a reader has left
 
 pub consumes_some : (a b : Option (List ℕ)) (rest field : List ℕ) → a ≡ Some rest → Consumes a b field
     → (after : List ℕ) × (b ≡ Some after) × (rest ≡ field ++ after)
@@ -68,7 +68,7 @@ come h = record { state = h.state; leads = h.leads; place_is = h.place_is; rest 
 
 -- ---- the front that was read
 
--- what is reported at the place that was reached is the first fault
+-- the report at the place that was reached is the first fault
 pub reported_there : (text : List ℕ) (fields : List (List ℕ)) (p : Walk) (h : HasCome text fields p) (fault : Option KrlFault)
     → length (concat fields) ≤ limit
     → Reported p.place (take (limit - length (concat fields)) h.rest) (ltb limit (length text)) fault → IsFirstFault text fault
@@ -82,7 +82,7 @@ reported_there text fields p h fault le reported =
       reported = subst (λ (place : Place). Reported place (take (limit - length (concat fields)) h.rest) (ltb limit (length text)) fault) h.place_is reported;
     })
 
--- the same of other bytes that begin with the fields
+-- the same for other bytes that begin with the fields
 reported_given : (fields : List (List ℕ)) (state : State) (came : List ℕ) (fault : Option KrlFault) → Leads start fields state
     → length (concat fields) + length came ≤ limit → Reported state.place came false fault → IsFirstFault (concat fields ++ came) fault
 reported_given fields state came fault leads le reported =
@@ -98,7 +98,7 @@ reported_given fields state came fault leads le reported =
 
 -- ---- faults
 
--- the reader failed in a field, or where the end was looked for
+-- the reader failed in a field, or at the test for the end
 pub says_read : (old : Walk) (mid new : Pull) (text : List ℕ) (fields : List (List ℕ)) → IsBounded old.pull old.keeper
     → HasCome text fields old → Keeps (left_of old.pull) (left_of mid) → mid.taken ≡ old.pull.taken → mid.limit ≡ old.pull.limit
     → HasRoom (expected old.place) → Refuses mid (expected old.place).size pulls.Read new → Says faults.Read text new.failed new.source
@@ -162,7 +162,7 @@ says_long old mid new text fields bounded h looks room r =
     not_empty [] h = absurd (h refl)
     not_empty (x ∷ l) h = omega arith
 
--- where the fields that were read lead past the first ones
+-- an allocation failed after the first fields
 pub says_ran_out : (old : Walk) (new : Pull) (text : List ℕ) (fields : List (List ℕ)) (fault : KrlFault) → HasCome text fields old
     → is_fixed old.place ≡ false → fault ≡ faults.NoMemory → new.failed ≡ false → Says fault text new.failed new.source
 says_ran_out old new text fields fault h late is works = ran_out is (record {
@@ -207,7 +207,7 @@ refused_says old mid new field fault bounded looks takes room size (inr judged) 
     first (reported_there text fields old (come h) (Some fault) (omega arith)
     (refused field (take (limit - length (concat fields) - length field) after.0) fault room front size judged refl)) takes.working
 
--- ---- one field more
+-- ---- one more field
 
 pub one_more : (old : Walk) (mid new : Pull) (place : Place) (keeper : Keeper) (field : List ℕ) → old.fault ≡ None
     → LooksFor old.place old.pull false mid → Takes mid field new → Passes old.place field place → IsBytes field
@@ -260,7 +260,7 @@ pub keeps_refl : (a : Option (List ℕ)) → Keeps a a
 keeps_refl None = tt
 keeps_refl (Some xs) = refl
 
--- the reader failed where the end was looked for
+-- the reader failed at the test for the end
 pub end_refused : (old : Walk) (new : Pull) (fault : KrlFault) → IsBounded old.pull old.keeper → fault ≡ faults.Read
     → can_end old.place ≡ true → Refuses old.pull 1 pulls.Read new → Refused fault old new
 end_refused old new fault bounded is may r text fields h =

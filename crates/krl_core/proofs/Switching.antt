@@ -1,4 +1,4 @@
--- Where a list is read on with what is asked about alone.
+-- A walk that continues with the questions alone.
 use Rattle.std.proofs.Common.{◌≡◌, ℕ, ◌∙◌, sym, ap, List, ◌++◌, subst, subst₂}
 use Rattle.std.proofs.Math.Logic.Iff as Iff
 use Rattle.std.specs.Option.{option_to_list}
@@ -15,7 +15,7 @@ use Rattle.krl_core.specs.declared.header.Header.{Header}
 use Rattle.krl_core.specs.Keeper.{IsKept, Keeper, kept_header}
 use Rattle.krl_core.specs.Reading.{HasRead, IsBounded, Walk}
 
--- what is found of what is held means the same, of what is asked about
+-- the answers from the stored entries mean the same in the scope of the questions
 found_within : (front : Revocations) (asked : Asked) (entries : List Entry) → FindsIn front asked → MeansWithin all front entries → MeansWithin (asked_in asked) asked.found entries
 found_within front asked entries finds m = record {
   orderly = finds.within.orderly;
@@ -32,7 +32,8 @@ found_kept old new asked entries every finds contents scope authority bitmap h =
       (subst (λ (a : List ℕ). NamesSame (h.closed ++ run_entries a (option_to_list old.bitmap.pending)) entries) (sym authority) h.same);
 }
 
--- what was read stays read where all that was kept stays kept, of the header what the scope asks for
+-- the fields that were read stay read if all kept entries stay kept, with the parts of the header
+-- that the scope needs
 pub found_read : (text : List ℕ) (fields : List (List ℕ)) (old : Walk) (keeper : Keeper) → HasRead text fields old → old.keeper.scope ≡ all
     → ((entries : List Entry) → IsKept old.keeper entries → IsKept keeper entries) → keeper.authority ≡ old.keeper.authority
     → keeper.header ≡ kept_header keeper.scope old.keeper.header → HasRead text fields (record old { keeper = keeper })
@@ -52,7 +53,7 @@ found_read text fields old keeper h every kept authority header = record {
   faultless = h.faultless;
 }
 
--- what is held stays bounded where just what is asked about is found
+-- the stored entries stay bounded if only the answers to the questions are kept
 pub bounded_found : (pull : Pull) (old new : Keeper) (asked : Asked) → IsBounded pull old → FindsIn old.contents asked → new.contents ≡ asked.found → new.scope ≡ asked_in asked → IsBounded pull new
 bounded_found pull old new asked b finds contents scope =
     let within : WithinScope new.scope new.contents = subst₂ WithinScope (sym scope) (sym contents) finds.within in

@@ -1,4 +1,4 @@
--- Going from field to field, and what is reported where that ends.
+-- A walk from field to field, and the report at its end.
 use Rattle.std.proofs.Common.{◌≡◌, ℕ, Bool, List, [], ◌∷◌, ◌++◌, Option, refl, sym, ap, subst, ◌∙◌, append_assoc}
 use Rattle.std.specs.List.{concat}
 use Rattle.std.proofs.lemmas.List.{append-nil}
@@ -13,7 +13,7 @@ pub record Walks (state : State) (bytes : List ℕ) (last : State) (rest : List 
   pub leads : Leads state fields last
   pub parts : bytes ≡ concat fields ++ rest
 
--- it leads to a place where this is reported
+-- the row leads to a place where this is reported
 pub record EndsReported (state : State) (bytes : List ℕ) (goes_on : Bool) (fault : Option KrlFault) : Type 0 where
   pub last : State
   pub rest : List ℕ
@@ -24,7 +24,7 @@ pub Leads-append : (p q r : State) (fields more : List (List ℕ)) → Leads p f
 Leads-append p q r [] more h k = subst (λ (x : State). Leads x more r) (sym h) k
 Leads-append p q r (field ∷ fields) more h k = (h.0, (h.1.0, Leads-append (state_after p field h.0) q r fields more h.1.1 k))
 
--- one field more
+-- one more field
 pub Leads-push : (p q : State) (fields : List (List ℕ)) (field : List ℕ) (next : Place) → Leads p fields q
     → Passes q.place field next → Leads p (fields ++ field ∷ []) (state_after q field next)
 Leads-push p q fields field next h k =

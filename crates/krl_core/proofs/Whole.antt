@@ -24,13 +24,13 @@ use Rattle.krl_core.proofs.Fronts.{first_fault_is}
 use Rattle.krl_held.specs.Scope.{all as every_name}
 use Rattle.krl_held.proofs.Scoped.{same_within}
 
--- some fields more were read, without a fault
+-- some more fields were read, without a fault
 pub record LeadsOn (old new : Walk) : Type 0 where
   pub reads : ReadsMore old new
   pub faultless : new.fault ≡ None
   pub scope_is : new.keeper.scope ≡ old.keeper.scope
 
--- none was read yet
+-- no field was read yet
 pub leads_on : (p : Walk) → p.fault ≡ None → LeadsOn p p
 leads_on p faultless = record {
   reads = λ text fields h. ([], subst (λ (row : List (List ℕ)). HasRead text row p) (sym (append-nil fields)) h);
@@ -65,12 +65,12 @@ step_nearer old new h =
     let near = nearer old.place new.place h.field h.passes.judged in
     omega (arith, near, h.taken, h.within, h.passes.whole)
 
--- where the list may end no run is open
+-- if the list may end, no run is open
 pub none_open : (p : Place) (keeper : Keeper) → can_end p ≡ true → InStep p keeper.bitmap → keeper.bitmap.pending ≡ None
 none_open (SectionType signed) keeper may step = step
 none_open _ keeper may step = absurd (cc)
 
--- what was read to its end is all of the text
+-- the bytes that were read up to the end are all of the text
 all_read : (text front rest : List ℕ) (left : Option (List ℕ)) → text ≡ front ++ rest → left ≡ Some rest → IsAtEnd left → text ≡ front
 all_read text front rest left parts is end = parts ∙ ap (λ (x : List ℕ). front ++ x) (subst IsAtEnd is end) ∙ append-nil front
 
@@ -104,11 +104,11 @@ whole_list text fields p sound off h =
     } in
     (h.state.header, h.header_is, whole)
 
--- where all names are in scope, all of the header is kept
+-- if all names are in scope, the whole header is kept
 pub of_all : (Holds : Header → Type 0) (kept : Header) → OfHeader every_name kept Holds → Holds kept
 of_all Holds kept h = subst Holds (sym h.1) h.2
 
--- what was read is no more than the limit
+-- a walk within its bounds is within the limit
 pub within_limit : (pull : Pull) (keeper : Keeper) → IsBounded pull keeper → IsWithinLimit keeper.scope keeper.contents
 within_limit pull keeper h = record {
   within = h.scope_is;
@@ -116,7 +116,7 @@ within_limit pull keeper h = record {
   bounds = λ every. let b = h.all_is every in (omega (arith, b.0, h.within), omega (arith, b.1.now, h.within));
 }
 
--- where what is held is in another way what the fields name
+-- if the stored entries also have another property
 pub whole_holds : (Holds Other : List ℕ → Revocations → List Entry → Type 0) (text : List ℕ) (header : Header) (contents : Revocations)
     → ((entries : List Entry) → Holds text contents entries → Other text contents entries) → IsWholeAs Holds text header contents → IsWholeAs Other text header contents
 whole_holds Holds Other text header contents other h = record {
@@ -131,7 +131,7 @@ whole_holds Holds Other text header contents other h = record {
   holds = other h.state.entries h.holds;
 }
 
--- what leads to the end of a list has no fault
+-- fields that lead to the end of a list have no fault
 pub whole_unfaulted : (Holds : List ℕ → Revocations → List Entry → Type 0) (text : List ℕ) (header : Header) (contents : Revocations) → IsWholeAs Holds text header contents → IsFirstFault text None
 whole_unfaulted Holds text header contents h =
     let all : take limit text ≡ text = take_all limit text h.within in

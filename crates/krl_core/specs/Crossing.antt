@@ -1,4 +1,4 @@
--- Fields that stand in a reader's buffer, and are read without it.
+-- Crossing fields: reading them from a reader's buffer without the reader.
 use Rattle.std.specs.Prelude.{◌≡◌, ℕ, ◌+◌, ◌-◌, ◌*◌, ◌≤◌, ◌<◌, Bool, true, List, ◌++◌, length, take, Result}
 use Rattle.std.specs.Prelude.{IfOk, OnOk}
 use Rattle.std.specs.List.{concat}
@@ -10,7 +10,7 @@ use Rattle.krl_core.specs.Keeper.{GrowsWithin, InStep, IsKept, Keeper, KeepsFiel
 use Rattle.krl_held.specs.Naming.{SerialOf}
 use Rattle.krl_held.specs.Scope.{InScope}
 
--- These fields lead from a list's first byte to a place, and what is kept means what they name.
+-- These fields lead from a list's first byte to a place, and the keeper kept what they name.
 pub record HasKept (fields : List (List ℕ)) (place : Place) (keeper : Keeper) : Type 0 where
   pub state : State
   pub leads : Leads start fields state
@@ -19,7 +19,8 @@ pub record HasKept (fields : List (List ℕ)) (place : Place) (keeper : Keeper) 
   pub header_is : keeper.header ≡ kept_header keeper.scope state.header
   pub kept : IsKept keeper state.entries
 
--- The bytes are whole fields, which lead from one place to another, and what they name is kept too.
+-- The bytes are whole fields, which lead from one place to another, and the keeper kept what they
+-- name.
 pub record Crosses (bytes : List ℕ) (place : Place) (old : Keeper) (next : Place) (new : Keeper)
     : Type 0 where
   pub kept : (fields : List (List ℕ)) → HasKept fields place old
@@ -28,7 +29,7 @@ pub record Crosses (bytes : List ℕ) (place : Place) (old : Keeper) (next : Pla
   pub in_step : InStep next new.bitmap
   pub scope_is : new.scope ≡ old.scope
 
--- So many of the bytes were crossed, or memory ran out at the last of them.
+-- This many of the bytes were crossed, or an allocation failed at the last field of them.
 pub record CrossesSome (bytes : List ℕ) (count : ℕ) (result : Result (Unit {0}) AllocError)
     (place : Place) (old : Keeper) (next : Place) (new : Keeper) : Type 0 where
   pub within : count ≤ length bytes
@@ -36,8 +37,8 @@ pub record CrossesSome (bytes : List ℕ) (count : ℕ) (result : Result (Unit {
   pub grows : GrowsWithin count old new
   pub none : count ≡ 0 → (next ≡ place) × (new ≡ old)
 
--- The field at the front of the bytes passed its judgement and what it names was kept, or memory ran
--- out at it. It has bytes, unless it may be empty.
+-- The field at the front of the bytes passed its judgement and what it names was kept, or an
+-- allocation failed at the field. It has no bytes only if `empty` is true.
 pub record CrossesField (bytes : List ℕ) (empty : Bool) (size : ℕ)
     (result : Result Place AllocError) (place : Place) (old new : Keeper) : Type 0 where
   pub within : size ≤ length bytes
@@ -48,14 +49,14 @@ pub record CrossesField (bytes : List ℕ) (empty : Bool) (size : ℕ)
 
 -- ---- fields that name nothing in scope
 
--- no serial number of the `count` highest of the `left` last bytes of a bitmap is in scope
+-- no serial number of the first `count` of the last `left` bytes of a bitmap is in scope
 abbrev pub AreUnasked : Keeper → (offset left count : ℕ) → Type 0
 AreUnasked keeper offset left count =
     (s : ℕ) → offset + 8 * (left - count) ≤ s → s < offset + 8 * left
     → InScope keeper.scope (SerialOf keeper.authority s) → ⊥
 
--- The bytes are left of a bitmap, the first of all is not negative, none can pass 2^64-1, and
--- nothing in scope is among their numbers.
+-- The first `count` bytes are bytes of a bitmap that has `left` bytes left. The bitmap's number is
+-- not negative, no bit of it can pass 2^64-1, and no serial number of these bytes is in scope.
 pub record MayPass (keeper : Keeper) (offset size left : ℕ) (bytes : List ℕ) (count : ℕ)
     : Type 0 where
   pub there : count ≤ length bytes

@@ -1,4 +1,4 @@
--- What the sections of a list name, as entries.
+-- The entries of the sections of a list.
 use Rattle.std.specs.Prelude.{ℕ, List, [], ◌∷◌, map}
 use Rattle.std.specs.List.{flat_map}
 use Rattle.krl_held.specs.Entry.{Entry, SerialsEntry, RangeEntry, BitmapEntry, IdEntry, KeyEntry}
@@ -7,7 +7,7 @@ use Rattle.krl_core.specs.Krl.{SpelledSection, Certificates, Keys, Sha1s, Sha256
 use Rattle.krl_core.specs.Krl.{Extension, Subsection, Serials, Range, Bitmap, Ids}
 use Rattle.krl_core.specs.Krl.{SubsectionExtension}
 
--- what a subsection of an authority's section names
+-- the entries of a subsection of an authority's section
 abbrev pub subsection_entries : List ℕ → Subsection → List Entry
 subsection_entries authority (Serials numbers) = SerialsEntry authority numbers ∷ []
 subsection_entries authority (Range min max) = RangeEntry authority min max ∷ []
@@ -15,7 +15,7 @@ subsection_entries authority (Bitmap offset number) = BitmapEntry authority offs
 subsection_entries authority (Ids texts) = map (IdEntry authority) texts
 subsection_entries authority SubsectionExtension = []
 
--- what a section names
+-- the entries of a section
 abbrev pub section_entries : SpelledSection → List Entry
 section_entries (Certificates authority subsections) =
     flat_map (subsection_entries authority) subsections
@@ -25,6 +25,6 @@ section_entries (Sha256s hashes) = map Sha256Entry hashes
 section_entries Signature = []
 section_entries Extension = []
 
--- what the sections name, in order
+-- the entries of the sections, in order
 abbrev pub entries_of : List SpelledSection → List Entry
 entries_of sections = flat_map section_entries sections

@@ -1,4 +1,4 @@
--- The fronts of a list, and the first fault that is read off the longest one.
+-- The fronts of a list, and the first fault, which the longest front determines.
 use Rattle.std.specs.Prelude.{◌≡◌, ℕ, ◌<◌, ◌≤◌, nat_lt, Bool, true, false, List, [], ◌∷◌, ◌++◌}
 use Rattle.std.specs.Prelude.{length, take, Option, Some, None, Ok, Err, IfSome}
 use Rattle.std.specs.List.{concat}
@@ -15,19 +15,19 @@ use Rattle.krl_core.specs.Place.{can_end, Expected, expected, names, authority_a
 abbrev pub limit : ℕ
 limit = 67108864
 
--- where the field is part of something, that has as many bytes left
+-- if the field is inside a part, that part has enough bytes left for it
 abbrev pub HasRoom : Expected → Type 0
 HasRoom field = IfSome field.room (λ left. field.size ≤ left)
 
--- how far a row of fields has come: the place where the next one is expected, what is known of the
--- header, the authority in force, and what the fields named
+-- The state after a row of fields: the place where the next field is expected, the header so far,
+-- the authority in force, and the entries of the fields.
 pub record State : Type 0 where
   pub place : Place
   pub header : Header
   pub authority : List ℕ
   pub entries : List Entry
 
--- before the first field
+-- the state before the first field
 abbrev pub start : State
 start = record {
   place = (places.Header headers.Magic);
@@ -50,15 +50,15 @@ state_after state field next = record {
   entries = state.entries ++ names state.place state.authority field;
 }
 
--- A row of whole fields, each of which passes its judgement, leads from one state to another.
+-- The row is whole fields that each pass their judgement. It leads from one state to another.
 abbrev pub Leads : State → List (List ℕ) → State → Type 0
 Leads state [] last = state ≡ last
 Leads state (field ∷ fields) last =
     (next : Place)
     × (Passes state.place field next × Leads (state_after state field next) fields last)
 
--- A row of fields stands at the front of a text, within the limit. After it the text is in a state,
--- and has the rest left up to the limit.
+-- The text begins with a row of fields, within the limit. After the row the text is in a state, and
+-- `rest` is left up to the limit.
 pub record IsFront (text : List ℕ) (fields : List (List ℕ)) (state : State) (rest : List ℕ)
     : Type 0 where
   pub leads : Leads start fields state
@@ -71,29 +71,30 @@ pub record IsLongestFront (text : List ℕ) (fields : List (List ℕ)) (state : 
   pub longest : (field : List ℕ) (next : State) (after : List ℕ)
       → IsFront text (fields ++ field ∷ []) next after → ⊥
 
--- the end of the text is expected, and nothing is left
+-- the end of the text is expected, and no bytes are left
 abbrev pub IsEnd : Place → List ℕ → Type 0
 IsEnd place rest = (can_end place ≡ true) × (rest ≡ [])
 
--- What is reported at the end of a longest front: at this place, with this rest up to the limit,
--- past which the text may go on. `None` is reported where the list ends as it should.
+-- The report at the end of a longest front. The next place is `place`, `rest` is left up to the
+-- limit, and `goes_on` says whether the text has more bytes after the limit. The report is `None`
+-- if the list ends where it may end.
 pub data Reported (place : Place) (rest : List ℕ) (goes_on : Bool) (fault : Option KrlFault)
     : Type 0 where
   -- the end of the text is expected, and is there
   ended : IsEnd place rest → goes_on ≡ false → fault ≡ None → Reported place rest goes_on fault
-  -- what is left cannot hold the field: reported before any of its bytes
+  -- the bytes that are left cannot hold the field: reported before any byte of it is read
   no_room : (HasRoom (expected place) → ⊥) → fault ≡ Some faults.Length
       → Reported place rest goes_on fault
-  -- the field is whole within the limit, and refused
+  -- the field is whole within the limit, and is refused
   refused : (field after : List ℕ) (why : KrlFault) → HasRoom (expected place)
       → rest ≡ field ++ after
       → length field ≡ (expected place).size → (expected place).judged field ≡ Err why
       → fault ≡ Some why
       → Reported place rest goes_on fault
-  -- the field is not whole within the limit, and the text goes on past it
+  -- the field is not whole within the limit, and the text continues after the limit
   too_long : HasRoom (expected place) → length rest < (expected place).size → goes_on ≡ true
       → fault ≡ Some faults.TooLong → Reported place rest goes_on fault
-  -- the text ends in the field, or before it where the end is not expected
+  -- the text ends inside the field, or before it although the end is not expected
   ends_early : HasRoom (expected place) → length rest < (expected place).size
       → (IsEnd place rest → ⊥)
       → goes_on ≡ false → fault ≡ Some faults.EndsEarly → Reported place rest goes_on fault

@@ -1,4 +1,4 @@
--- What a reading keeps of the fields that it has read.
+-- The keeper of a walk: the parts that it keeps of the fields that were read.
 use Rattle.std.specs.Prelude.{◌≡◌, ℕ, ◌+◌, ◌-◌, ◌<◌, Bool, true, false, ◌*◌, ◌≤◌, None, List}
 use Rattle.std.specs.Prelude.{[], ◌∷◌, ◌++◌, length}
 use Rattle.std.specs.Option.{option_to_list}
@@ -17,8 +17,8 @@ use Rattle.krl_held.specs.Naming.{NamesSame}
 use Rattle.krl_core.specs.Place.{names, authority_after, header_after, base_of}
 use Rattle.krl_held.specs.Scope.{MeansWithin, Scope, WithinScope, kept_comment}
 
--- What is kept of the header, the authority in force, what is held, which names it answers for,
--- and how far the bitmap at hand is read.
+-- The kept parts of the header, the authority in force, the stored entries, the scope that they
+-- answer for, and how far the current bitmap is read.
 pub record Keeper : Type 0 where
   pub header : Header
   pub authority : List ℕ
@@ -26,27 +26,28 @@ pub record Keeper : Type 0 where
   pub scope : Scope
   pub bitmap : BitRuns
 
--- What is kept of a header: no comment, where just some topics are in scope.
+-- The kept parts of a header: all but the comment if only some topics are in scope.
 abbrev pub kept_header : Scope → Header → Header
 kept_header scope header = record header { comment = kept_comment scope header.comment }
 
--- what is kept of the header after a field
+-- the kept parts of the header after a field
 abbrev pub kept_header_after : Scope → Place → Header → List ℕ → Header
 kept_header_after scope (places.Header (headers.Comment size)) header field =
     record header { comment = kept_comment scope field }
 kept_header_after scope place header field = header_after place header field
 
--- the run of the bitmap at hand with which its next byte may go on
+-- the run of the current bitmap that its next byte may continue
 abbrev pub open_run : Keeper → List Span
 open_run keeper = option_to_list keeper.bitmap.pending
 
--- What is held means, in its scope, some entries, which with the open run name the same as these.
+-- The stored entries mean some entries in their scope. With the open run, these entries name the
+-- same as `entries`.
 pub record IsKept (keeper : Keeper) (entries : List Entry) : Type 0 where
   pub closed : List Entry
   pub means : MeansWithin keeper.scope keeper.contents closed
   pub same : NamesSame (closed ++ run_entries keeper.authority (open_run keeper)) entries
 
--- at a byte of a bitmap the bytes before it are fed, and elsewhere no run is open
+-- At a byte of a bitmap, the bytes before it were fed. At other places, no run is open.
 abbrev pub InStep : Place → BitRuns → Type 0
 InStep (places.Bitmap (bitmaps.Byte offset size left after)) bitmap =
     (0 < left)
@@ -59,32 +60,33 @@ InStep (places.Bitmap (bitmaps.Byte offset size left after)) bitmap =
     })
 InStep _ bitmap = bitmap.pending ≡ None
 
--- how many spans are held, the open run as one more
+-- the number of stored spans, with the open run as one more
 abbrev pub held_with_open : Keeper → ℕ
 held_with_open keeper = held keeper.contents + length (open_run keeper)
 
--- what is held is stored within n bytes, and so it is with the authority in force
+-- the stored entries and the authority in force have at most n bytes
 abbrev pub StoresWithin : Keeper → ℕ → Type 0
 StoresWithin keeper n = IsStoredWithin keeper.authority keeper.contents n
 
--- nothing changed but what is held
+-- Only the stored entries changed.
 pub record KeepsRest (old new : Keeper) : Type 0 where
   pub authority_is : new.authority ≡ old.authority
   pub header_is : new.header ≡ old.header
   pub bitmap_is : new.bitmap ≡ old.bitmap
   pub scope_is : new.scope ≡ old.scope
 
--- These entries are kept too.
+-- The keeper kept these entries too.
 abbrev pub AddsEntries : Keeper → List Entry → Keeper → Type 0
 AddsEntries old named new =
     (entries : List Entry) → IsKept old entries → IsKept new (entries ++ named)
 
--- these entries were added, and nothing else changed
+-- These entries were added, and nothing else changed.
 pub record Adds (old : Keeper) (named : List Entry) (new : Keeper) : Type 0 where
   pub kept : AddsEntries old named new
   pub rest : KeepsRest old new
 
--- What a field names was added, and the authority, the header and the bitmap are as after it.
+-- The entries of a field were added. The authority, the header and the bitmap are those after the
+-- field.
 pub record KeepsField (place : Place) (field : List ℕ) (next : Place) (old new : Keeper)
     : Type 0 where
   pub kept : AddsEntries old (names place old.authority field) new
@@ -93,12 +95,12 @@ pub record KeepsField (place : Place) (field : List ℕ) (next : Place) (old new
   pub in_step : InStep next new.bitmap
   pub scope_is : new.scope ≡ old.scope
 
--- a byte of the bitmap is left, and this one has no fault
+-- The bitmap has a byte left, and this byte has no fault.
 pub record TakesByte (bitmap : BitRuns) (byte : ℕ) : Type 0 where
   pub bytes_left : 0 < bitmap.bytes_left
   pub good : (fault : BitFault) → HasFault bitmap byte fault → ⊥
 
--- What a byte of the bitmap at hand names was added. After the last one no run is open.
+-- The entry of a byte of the current bitmap was added. After the last byte no run is open.
 pub record KeepsBits (byte : ℕ) (last : Bool) (old new : Keeper) : Type 0 where
   pub kept : AddsEntries old
       (BitmapEntry old.authority (base_of old.bitmap.offset old.bitmap.bytes_left) byte ∷ []) new
@@ -109,7 +111,7 @@ pub record KeepsBits (byte : ℕ) (last : Bool) (old new : Keeper) : Type 0 wher
   pub goes_on : last ≡ false → new.bitmap
       ≡ record old.bitmap { bytes_left = old.bitmap.bytes_left - 1; pending = new.bitmap.pending }
 
--- The same is kept, and no run is open.
+-- The keeper has the same entries, and no run is open.
 pub record Closes (old new : Keeper) : Type 0 where
   pub kept : AddsEntries old [] new
   pub authority_is : new.authority ≡ old.authority
@@ -117,24 +119,26 @@ pub record Closes (old new : Keeper) : Type 0 where
   pub scope_is : new.scope ≡ old.scope
   pub closed : new.bitmap.pending ≡ None
 
--- what is held is within the scope
+-- the stored entries are within the scope
 abbrev pub KeepsWithin : Keeper → Type 0
 KeepsWithin keeper = WithinScope keeper.scope keeper.contents
 
--- What is stored stays within any number that it is within, and what is held within the scope.
+-- The bytes of the stored entries stay within any bound that they were within. The stored entries
+-- stay within the scope.
 pub record StaysWithin (old new : Keeper) : Type 0 where
   pub stored_is : (m : ℕ) → StoresWithin old m → StoresWithin new m
   pub scope_is : KeepsWithin old → KeepsWithin new
   pub same_scope : new.scope ≡ old.scope
 
--- At most n bytes of the list made it grow, also where memory ran out in between.
+-- At most n bytes of the list made the keeper grow, also if an allocation failed in between.
 pub record GrowsWithin (n : ℕ) (old new : Keeper) : Type 0 where
   pub held_is : held_with_open new ≤ held_with_open old + 4 * n
   pub stored_is : (m : ℕ) → StoresWithin old m → StoresWithin new (m + n)
   pub scope_is : KeepsWithin old → KeepsWithin new
   pub same_scope : new.scope ≡ old.scope
 
--- The same is kept, no run is open, and this many bytes of the bitmap at hand were passed over.
+-- The keeper has the same entries, no run is open, and this many bytes of the current bitmap were
+-- skipped.
 pub record Skips (count : ℕ) (old new : Keeper) : Type 0 where
   pub closes : Closes old new
   pub bitmap_is : new.bitmap

@@ -5,31 +5,31 @@ use Rattle.std.specs.Int.{bit_at}
 use Rattle.ssh_wire.specs.Wire.{number, number_of, string, strings}
 use Rattle.krl_core.specs.declared.header.Header.{Header}
 
--- a subsection of a certificate section
+-- a subsection of a section of certificates
 pub data Subsection : Type 0 where
-  -- each of the serials
+  -- each of the serial numbers
   Serials : (numbers : List ℕ) → Subsection
-  -- the serials from the first to the last
+  -- the serial numbers from the first to the last
   Range : (min max : ℕ) → Subsection
-  -- the serial offset + N for each bit N of the number that is set
+  -- the serial number offset + N for each set bit N of the number
   Bitmap : (offset number : ℕ) → Subsection
   -- key IDs
   Ids : (texts : List (List ℕ)) → Subsection
-  -- an extension that may be passed over
+  -- an extension that may be skipped
   SubsectionExtension : Subsection
 
 -- a section of a list
 pub data SpelledSection : Type 0 where
-  -- what is revoked of an authority, or of all authorities where its bytes are none
+  -- the revocations of one authority, or of all authorities if the authority has no bytes
   Certificates : (authority : List ℕ) (subsections : List Subsection) → SpelledSection
   -- explicit keys, each a blob
   Keys : (blobs : List (List ℕ)) → SpelledSection
   -- hashes of keys
   Sha1s : (hashes : List (List ℕ)) → SpelledSection
   Sha256s : (hashes : List (List ℕ)) → SpelledSection
-  -- a signature, of which nothing is read
+  -- a signature, which is skipped
   Signature : SpelledSection
-  -- an extension that may be passed over
+  -- an extension that may be skipped
   Extension : SpelledSection
 
 -- `SSHKRL`, a line feed and a zero byte
@@ -53,13 +53,13 @@ SpellsEach Spelling text (item ∷ items) =
 abbrev pub numbers_text : List ℕ → List ℕ
 numbers_text numbers = flat_map (number 8) numbers
 
--- the bytes of a bitmap are two's complement of a number that is not negative
+-- the bytes of a bitmap are the two's complement of a number that is not negative
 abbrev pub IsPositive : List ℕ → Type 0
 IsPositive [] = Unit {0}
 IsPositive (byte ∷ bytes) = byte < 128
 
--- A bitmap: an offset, and a number with any zero bytes before it. No bit that is set stands for a
--- number past 2^64-1.
+-- A bitmap: an offset, and a number, which may begin with zero bytes. No set bit of it is the bit
+-- of a serial number past 2^64-1.
 pub record SpellsBitmap (content : List ℕ) (offset value : ℕ) : Type 0 where
   pub bytes : List ℕ
   pub spelled : content ≡ number 8 offset ++ string bytes
@@ -74,7 +74,7 @@ pub record SpellsExtension (content : List ℕ) : Type 0 where
   pub contents : List ℕ
   pub spelled : content ≡ string name ++ 0 ∷ string contents
 
--- the content of a subsection of a certificate section
+-- the content of a subsection of a section of certificates
 abbrev pub SubsectionContent : List ℕ → Subsection → Type 0
 SubsectionContent content (Serials numbers) =
     (content ≡ numbers_text numbers) × AllByRecursion (λ n. n < 2 ^ 64) numbers
@@ -106,7 +106,7 @@ pub record SpellsCertificates (content authority : List ℕ) (subsections : List
   pub spelled : content ≡ string authority ++ (string reserved ++ body)
   pub subsections_are : SpellsEach SpellsSubsection body subsections
 
--- strings, of which each is a hash of this size
+-- strings that are all hashes of this size
 abbrev pub SpellsHashes : ℕ → List ℕ → List (List ℕ) → Type 0
 SpellsHashes size content hashes =
     (content ≡ strings hashes) × AllByRecursion (λ hash. length hash ≡ size) hashes
@@ -141,14 +141,14 @@ abbrev pub IsSignature : SpelledSection → Type 0
 IsSignature Signature = Unit {0}
 IsSignature _ = ⊥
 
--- signatures stand last
+-- no other section follows a signature
 abbrev pub SignaturesLast : List SpelledSection → Type 0
 SignaturesLast [] = Unit {0}
 SignaturesLast (Signature ∷ sections) = AllByRecursion IsSignature sections
 SignaturesLast (section ∷ sections) = SignaturesLast sections
 
--- The text is the header, then the sections one after the other. Flags and the reserved string may
--- be any.
+-- The text is the header and then the sections, one after the other. The flags and the reserved
+-- string may have any value.
 pub record Spells (text : List ℕ) (header : Header) (sections : List SpelledSection) : Type 0 where
   pub flags : ℕ
   pub reserved : List ℕ

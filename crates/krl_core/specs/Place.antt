@@ -30,9 +30,9 @@ use Rattle.krl_held.specs.Entry.{Entry, SerialsEntry, RangeEntry, BitmapEntry, I
 use Rattle.krl_held.specs.Entry.{Sha1Entry, Sha256Entry}
 use Rattle.krl_core.specs.Krl.{magic}
 
--- A field that is expected: how many bytes it has; how many bytes what it is part of has left for
--- it, where it is part of something and no length before it has said how many; and what the whole
--- field is judged to be: the place after it, or why it is refused.
+-- An expected field: its size in bytes; the number of bytes that the part around it has left, if
+-- there is such a part and no earlier length has already set the field's size; and the judgement on
+-- the whole field, which is the place after it or why it is refused.
 pub record Expected : Type 0 where
   pub size : ℕ
   pub room : Option ℕ
@@ -43,7 +43,7 @@ judge good fault next = if good then Ok next else Err fault
 
 -- ---- kinds of fields
 
--- a field that may be any bytes, as many as there is room for
+-- a field that may be any bytes of this size
 abbrev pub any_bytes : ℕ → Place → Expected
 any_bytes size next =
     record { size = size; room = None; judged = λ field. Ok next }
@@ -56,11 +56,11 @@ any_number size judged = record {
   judged = λ field. judged (number_of field);
 }
 
--- the length of a string that is part of no other
+-- the length of a string that is not inside another
 abbrev pub any_length : (ℕ → Place) → Expected
 any_length next = any_number 4 (λ size. Ok (next size))
 
--- a length that is passed where what it is part of has as many bytes left after it
+-- a length is good if it counts no more bytes than are left after it
 abbrev pub within : ℕ → (ℕ → Result Place KrlFault) → ℕ → Result Place KrlFault
 within left next size = if nat_lt (left - 4) size then Err faults.Length else next size
 
@@ -71,7 +71,7 @@ length_within left next = record {
   judged = λ field. within left next (number_of field);
 }
 
--- a length that counts all that is left after it
+-- a length that must count all bytes that are left after it
 abbrev pub length_of_rest : ℕ → Place → Expected
 length_of_rest left next = record {
   size = 4;
@@ -79,7 +79,7 @@ length_of_rest left next = record {
   judged = λ field. judge (number_of field == left - 4) faults.Length next;
 }
 
--- a number in what has as many bytes left
+-- a number in a part that has this many bytes left
 abbrev pub number_within : ℕ → (ℕ → Place) → Expected
 number_within left next = record {
   size = 8;
@@ -87,7 +87,7 @@ number_within left next = record {
   judged = λ field. Ok (next (number_of field));
 }
 
--- a byte in what has as many bytes left
+-- a byte in a part that has this many bytes left
 abbrev pub byte_within : ℕ → (ℕ → Result Place KrlFault) → Expected
 byte_within left judged = record {
   size = 1;
@@ -95,9 +95,9 @@ byte_within left judged = record {
   judged = λ field. judged (number_of field);
 }
 
--- ---- what comes next where a subsection may be at its end
+-- ---- the next place, if a subsection may be at its end
 
--- another subsection, or the end of the section
+-- the next subsection, or the end of the section
 abbrev pub next_subsection : ℕ → Place
 next_subsection zero = places.SectionType false
 next_subsection (suc left) = places.Certificates (certificates.SubsectionType (suc left))
@@ -110,14 +110,14 @@ abbrev pub next_serial : (left after : ℕ) → Place
 next_serial zero after = next_subsection after
 next_serial (suc left) after = places.Serials (serials.Serial (suc left) after)
 
--- `left` of the `size` bytes of a bitmap remain
+-- `left` of the `size` bytes of a bitmap are left
 abbrev pub next_bits : (offset size left after : ℕ) → Place
 next_bits offset size zero after = next_subsection after
 next_bits offset size (suc left) after = places.Bitmap (bitmaps.Byte offset size (suc left) after)
 
 -- ---- judgements
 
--- how many bytes an item has whose length says `size`
+-- the size in bytes of an item whose length field contains `size`
 abbrev pub item_size : ItemKind → ℕ → ℕ
 item_size kinds.Key size = size
 item_size kinds.Sha1 size = 20
@@ -145,20 +145,21 @@ subsection_of_type left type_byte =
     else if type_byte == 0x39 then Ok (places.Extension (extensions.SubsectionLength left))
     else Err faults.UnknownCertSection
 
--- the place of the highest bit of a byte that is set
+-- the index of the highest set bit of a byte
 abbrev pub highest_bit : ℕ → ℕ
 highest_bit byte =
     if nat_lt byte 2 then 0 else if nat_lt byte 4 then 1 else if nat_lt byte 8 then 2
     else if nat_lt byte 16 then 3 else if nat_lt byte 32 then 4 else if nat_lt byte 64 then 5
     else if nat_lt byte 128 then 6 else 7
 
--- whether a bit of the byte that is set stands for a number past 2^64-1, where the lowest stands
--- for `base`
+-- Whether a set bit of the byte is the bit of a number past 2^64-1. The lowest bit is that of
+-- `base`.
 abbrev pub passes_end : ℕ → ℕ → Bool
 passes_end base byte =
     if byte == 0 then false else nat_le 18446744073709551616 (base + highest_bit byte)
 
--- what the lowest bit stands for of the byte of a bitmap of which `left` bytes remain
+-- the number of the lowest bit of a byte of a bitmap, if `left` bytes of the bitmap are left with
+-- this one
 abbrev pub base_of : (offset left : ℕ) → ℕ
 base_of offset left = offset + 8 * (left - 1)
 
@@ -167,7 +168,7 @@ bits_within offset size left after byte =
     judge (not (passes_end (base_of offset left) byte)) faults.BitmapWraps
     (next_bits offset size (left - 1) after)
 
--- of a bitmap's first byte the highest bit is its sign
+-- the highest bit of a bitmap's first byte is its sign
 abbrev pub bits_judged : (offset size left after byte : ℕ) → Result Place KrlFault
 bits_judged offset size left after byte =
     if left == size then (if nat_lt byte 128 then bits_within offset size left after byte
@@ -285,21 +286,21 @@ expected (places.Serials at) = serials_expected at
 expected (places.Bitmap at) = bitmap_expected at
 expected (places.Extension at) = extension_expected at
 
--- whether the list may end where this is expected
+-- whether the list may end at this place
 abbrev pub can_end : Place → Bool
 can_end (places.SectionType signed) = true
 can_end _ = false
 
--- ---- what fields name
+-- ---- the entries of fields
 
--- what an item names, under the authority in force
+-- the entry of an item, under the authority in force
 abbrev pub item_entry : ItemKind → (authority item : List ℕ) → Entry
 item_entry kinds.Key authority item = KeyEntry item
 item_entry kinds.Sha1 authority item = Sha1Entry item
 item_entry kinds.Sha256 authority item = Sha256Entry item
 item_entry kinds.Id authority item = IdEntry authority item
 
--- what a field at a place names, under the authority in force
+-- the entries of a field at a place, under the authority in force
 abbrev pub names : Place → (authority field : List ℕ) → List Entry
 names (places.List (lists.Item kind size left after)) authority field =
     item_entry kind authority field ∷ []
@@ -311,13 +312,13 @@ names (places.Bitmap (bitmaps.Byte offset size left after)) authority field =
     BitmapEntry authority (base_of offset left) (number_of field) ∷ []
 names _ authority field = []
 
--- The authority in force after a field. A section begins without one.
+-- The authority in force after a field. A section begins without an authority.
 abbrev pub authority_after : Place → (authority field : List ℕ) → List ℕ
 authority_after (places.Certificates (certificates.Authority size after)) authority field = field
 authority_after (places.SectionType signed) authority field = []
 authority_after _ authority field = authority
 
--- what is known of the header after a field
+-- the known parts of the header after a field
 abbrev pub header_after : Place → Header → List ℕ → Header
 header_after (places.Header headers.Version) header field =
     record header { version = number_of field }

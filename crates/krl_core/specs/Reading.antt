@@ -1,4 +1,4 @@
--- How far a list is read, a field at a time.
+-- How far a walk has read a list, field by field.
 use Rattle.std.specs.Prelude.{◌≡◌, ℕ, ◌+◌, ◌*◌, ◌<◌, ◌≤◌, ◌⊎◌, ◌↔◌, Bool, true, false, List, []}
 use Rattle.std.specs.Prelude.{◌∷◌, ◌++◌, length, Option, Some, None, IsSome, Result, Ok, Err}
 use Rattle.std.specs.List.{concat}
@@ -24,8 +24,8 @@ use Rattle.krl_core.specs.Place.{can_end, expected}
 use Rattle.krl_held.specs.Entry.{Entry}
 use Rattle.krl_held.specs.Scope.{IsSmallIn, MeansWithin, Scope, WithinScope, all}
 
--- the reader, the place where the next field is expected, what is kept, whether the list's end was
--- found, and the fault that was met
+-- A walk: the reader, the place where the next field is expected, the keeper, whether the end of
+-- the list was found, and the fault, if any.
 pub record Walk : Type 0 where
   pub pull : Pull
   pub place : Place
@@ -33,13 +33,13 @@ pub record Walk : Type 0 where
   pub ended : Bool
   pub fault : Option KrlFault
 
--- a reading before the list's end, without a fault
+-- a walk before the end of the list, without a fault
 abbrev pub working : Pull → Place → Keeper → Walk
 working pull place keeper =
     record { pull = pull; place = place; keeper = keeper; ended = false; fault = None }
 
--- These fields of the text were read and no others: they lead to this reading, what is kept means
--- what they name, and the reader has the rest of the text left.
+-- The walk has read exactly these fields of the text. They lead to its place, its keeper kept what
+-- they name, and its reader has the rest of the text left.
 pub record HasRead (text : List ℕ) (fields : List (List ℕ)) (reading : Walk) : Type 0 where
   pub state : State
   pub leads : Leads start fields state
@@ -55,18 +55,18 @@ pub record HasRead (text : List ℕ) (fields : List (List ℕ)) (reading : Walk)
   pub works : reading.pull.failed ≡ false
   pub faultless : reading.fault ≡ None
 
--- Of the bytes that the reader had left before, some fields were read.
+-- The walk has read some fields of the bytes that the reader had left before.
 abbrev pub HasReadOf : (before : Option (List ℕ)) → Walk → Type 0
 HasReadOf before reading =
     (text : List ℕ) → before ≡ Some text → (fields : List (List ℕ)) × HasRead text fields reading
 
--- For each row of fields that was read before, it is read now with one field more.
+-- If a row of fields was read before, that row with one more field is read now.
 abbrev pub ReadsOneMore : Walk → Walk → Type 0
 ReadsOneMore old new =
     (text : List ℕ) (fields : List (List ℕ)) → HasRead text fields old
     → (field : List ℕ) × HasRead text (fields ++ field ∷ []) new
 
--- One whole field that passes leads from one reading to another.
+-- One whole field that passes its judgement leads from one walk to the other.
 pub record Follows (old new : Walk) : Type 0 where
   pub field : List ℕ
   pub passes : Passes old.place field new.place
@@ -82,8 +82,8 @@ pub record Ends (old new : Walk) : Type 0 where
       → HasRead text fields new × (text ≡ concat fields)
   pub scope_is : new.keeper.scope ≡ old.keeper.scope
 
--- The reader failed when it had given the first bytes of the text and had these left. The bytes
--- that it gave end where a field or the end is expected.
+-- The reader failed after it gave the first bytes of the text, and has the later bytes left. The
+-- bytes that it gave have no fault, or end early.
 pub record FailsAfter (text : List ℕ) (failed : Bool) (left : Option (List ℕ)) : Type 0 where
   pub given : List ℕ
   pub later : List ℕ
@@ -92,12 +92,13 @@ pub record FailsAfter (text : List ℕ) (failed : Bool) (left : Option (List ℕ
   pub failed_is : failed ≡ true
   pub reported : IsFirstFault given None ⊎ IsFirstFault given (Some EndsEarly)
 
--- Read is reported exactly where the reader failed.
+-- The result is `Read` exactly if the reader failed.
 abbrev pub ReportsFailure : {A : Type 0} → Result A KrlFault → Bool → Type 0
 ReportsFailure (Ok a) failed = failed ≡ false
 ReportsFailure (Err fault) failed = fault ≡ Read ↔ failed ≡ true
 
--- the first fields of a list, of 40 bytes together, of which none says how long another is
+-- The first fields of a list, which have 40 bytes together. The size of none of them depends on a
+-- length.
 abbrev pub is_fixed : Place → Bool
 is_fixed (places.Header headers.Magic) = true
 is_fixed (places.Header headers.FormatVersion) = true
@@ -107,7 +108,8 @@ is_fixed (places.Header headers.Flags) = true
 is_fixed (places.Header headers.ReservedLength) = true
 is_fixed _ = false
 
--- These first fields stand at the front of a text, each as it is judged, and maybe more.
+-- The text begins with these first fields, each of which passes its judgement, and may have more
+-- fields.
 pub record HasFixedFields (text : List ℕ) : Type 0 where
   pub fields : List (List ℕ)
   pub state : State
@@ -116,15 +118,15 @@ pub record HasFixedFields (text : List ℕ) : Type 0 where
   pub parts : text ≡ concat fields ++ rest
   pub past : is_fixed state.place ≡ false
 
--- What a fault says of a text, by whether the reader failed and the bytes that it has left. Memory
--- runs out only after the first fields.
+-- A fault says this about a text, if it is known whether the reader failed and which bytes it has
+-- left. An allocation fails only after the first fields.
 pub data Says (fault : KrlFault) (text : List ℕ) (failed : Bool) (left : Option (List ℕ))
     : Type 0 where
   ran_out : fault ≡ NoMemory → HasFixedFields text → failed ≡ false → Says fault text failed left
   failed_read : fault ≡ Read → FailsAfter text failed left → Says fault text failed left
   first : IsFirstFault text (Some fault) → failed ≡ false → Says fault text failed left
 
--- Whatever fields of a text were read before, the fault says that of the text.
+-- The fault says this about the text, no matter which of its fields were read before.
 abbrev pub Refused : KrlFault → Walk → Pull → Type 0
 Refused fault old new =
     (text : List ℕ) (fields : List (List ℕ)) → HasRead text fields old
@@ -132,7 +134,7 @@ Refused fault old new =
 
 -- ---- the parts of a step
 
--- whether the list ends at a place was found out, and no byte was taken
+-- It was tested whether the list ends at this place, and no byte was taken.
 pub record LooksFor (place : Place) (old : Pull) (ended : Bool) (new : Pull) : Type 0 where
   pub bytes : Keeps (left_of old) (left_of new)
   pub taken : new.taken ≡ old.taken
@@ -142,17 +144,17 @@ pub record LooksFor (place : Place) (old : Pull) (ended : Bool) (new : Pull) : T
   pub at_end : ended ≡ true → (can_end place ≡ true) × IsAtEnd (left_of new)
   pub goes_on : ended ≡ false → can_end place ≡ true → IsSome new.ahead
 
--- why a field that was expected was not taken
+-- why an expected field was not taken
 pub data Missed (place : Place) (old : Pull) (fault : KrlFault) (new : Pull) : Type 0 where
-  -- what it is part of has not as many bytes left
+  -- the part around the field has fewer bytes left
   no_room : (HasRoom (expected place) → ⊥) → fault ≡ Length → new ≡ old → Missed place old fault new
-  -- the reader gave less
+  -- the text ended, the limit was reached, or a read or an allocation failed
   cut : (why : PullFault) → HasRoom (expected place) → Refuses old (expected place).size why new
       → fault ≡ reported_as why → Missed place old fault new
 
--- What was taken is within the limit, and what is held within the scope. Where all names are in
--- scope, what is held and stored is within what was taken. Where just some topics are, it is small
--- beside them.
+-- The taken bytes are within the limit, and the stored entries within the scope. If all names are
+-- in scope, the number of stored spans and the stored bytes are bounded by the taken bytes. If only
+-- some topics are in scope, the stored entries are small compared with them.
 pub record IsBounded (pull : Pull) (keeper : Keeper) : Type 0 where
   pub limit_is : pull.limit ≡ limit
   pub within : pull.taken ≤ limit
@@ -161,13 +163,13 @@ pub record IsBounded (pull : Pull) (keeper : Keeper) : Type 0 where
   pub scope_is : KeepsWithin keeper
   pub asked_is : IsSmallIn keeper.scope keeper.contents
 
--- The end of the list was found: it is expected, no byte is left, and no fault was met.
+-- The end of the list was found: it is expected, no byte is left, and there was no fault.
 pub record IsEnded (reading : Walk) : Type 0 where
   pub may_end : can_end reading.place ≡ true
   pub at_end : IsAtEnd (left_of reading.pull)
   pub faultless : reading.fault ≡ None
 
--- The reading is one that the code reaches.
+-- The walk is one that the code can reach.
 pub record IsReached (reading : Walk) : Type 0 where
   pub in_step : reading.fault ≡ None → InStep reading.place reading.keeper.bitmap
   pub pull_faultless : reading.fault ≡ None → reading.pull.fault ≡ None
@@ -175,33 +177,34 @@ pub record IsReached (reading : Walk) : Type 0 where
   pub ends : reading.ended ≡ true → IsEnded reading
   pub bounded : IsBounded reading.pull reading.keeper
 
--- Of the names in scope just what the entries name is held, and nothing that is not within it.
--- Where all are in scope, it is no more than the text has room for.
+-- The stored entries mean what the entries name in scope, and are within the scope. If all names
+-- are in scope, they are bounded by the size of the text.
 pub record HoldsWithin (scope : Scope) (text : List ℕ) (r : Revocations) (entries : List Entry)
     : Type 0 where
   pub means : MeansWithin scope r entries
   pub within : WithinScope scope r
   pub bounds : scope ≡ all → (held r ≤ 4 * length text) × (stored r ≤ length text)
 
--- What is held is within the scope. Where that is all names, it is no more than a list of the most
--- bytes has room for. Where it is just some topics, it is small beside them.
+-- The stored entries are within the scope. If all names are in scope, they are bounded by the
+-- largest size of a list. If only some topics are in scope, the stored entries are small compared
+-- with them.
 pub record IsWithinLimit (scope : Scope) (r : Revocations) : Type 0 where
   pub within : WithinScope scope r
   pub asked_is : IsSmallIn scope r
   pub bounds : scope ≡ all → (held r ≤ 4 * limit) × (stored r ≤ limit)
 
--- Something holds of a header, of which this is kept.
+-- A property holds of a header whose kept parts are `kept`.
 abbrev pub OfHeader : Scope → (kept : Header) → (Header → Type 0) → Type 0
 OfHeader scope kept Holds = (header : Header) × (kept ≡ kept_header scope header) × Holds header
 
--- All that the entries name is held, and no more than the text has room for.
+-- The stored entries mean all that the entries name, and are bounded by the size of the text.
 pub record HoldsAll (text : List ℕ) (r : Revocations) (entries : List Entry) : Type 0 where
   pub means : Means r entries
   pub held_is : held r ≤ 4 * length text
   pub stored_is : stored r ≤ length text
 
--- A whole list was read: its fields lead from the first byte to its end, and the header and what is
--- held are what they say.
+-- A whole list was read: its fields lead from the first byte to the end. The header and the stored
+-- entries are those of the fields.
 pub record IsWholeAs (Holds : List ℕ → Revocations → List Entry → Type 0) (text : List ℕ)
     (header : Header) (contents : Revocations) : Type 0 where
   pub fields : List (List ℕ)
@@ -217,7 +220,8 @@ pub record IsWholeAs (Holds : List ℕ → Revocations → List Entry → Type 0
 abbrev pub IsWhole : List ℕ → Header → Revocations → Type 0
 IsWhole = IsWholeAs HoldsAll
 
--- A list was read: a header and sections spell the text, and what the sections name is held.
+-- A list was read: a header and sections spell the text, and the stored entries are what the
+-- sections name.
 pub record IsListAs (Holds : List ℕ → Revocations → List Entry → Type 0) (text : List ℕ)
     (header : Header) (contents : Revocations) : Type 0 where
   pub sections : List SpelledSection
@@ -228,21 +232,21 @@ pub record IsListAs (Holds : List ℕ → Revocations → List Entry → Type 0)
 abbrev pub IsList : List ℕ → Header → Revocations → Type 0
 IsList = IsListAs HoldsAll
 
--- What reading a text gives: what is known of it, or its fault, by whether the reader failed and
--- the bytes that it has left.
+-- The result of reading a text: the known facts about it, or its fault, if it is known whether the
+-- reader failed and which bytes it has left.
 abbrev pub IsReadAs : {K : Type 0} → (List ℕ → K → Type 0) → List ℕ → Result K KrlFault → Bool
     → Option (List ℕ) → Type 0
 IsReadAs Knows text (Ok known) failed left = Knows text known
 IsReadAs Knows text (Err fault) failed left = Says fault text failed left
 
--- What reading gave, where the bytes that the reader had left before are known. Read is reported
--- exactly where the reader failed.
+-- The result of a reading, if the bytes that the reader had left before are known. The result is
+-- `Read` exactly if the reader failed.
 pub record IsReadingOf {K : Type 0} (Knows : List ℕ → K → Type 0) (before : Option (List ℕ))
     (reading : Result K KrlFault) (failed : Bool) (left : Option (List ℕ)) : Type 0 where
   pub failure : ReportsFailure reading failed
   pub read : (text : List ℕ) → before ≡ Some text → IsReadAs Knows text reading failed left
 
--- For each row of fields that was read before, it is read now with some fields more.
+-- If a row of fields was read before, that row with some more fields is read now.
 abbrev pub ReadsMore : Walk → Walk → Type 0
 ReadsMore old new =
     (text : List ℕ) (fields : List (List ℕ)) → HasRead text fields old
@@ -254,11 +258,11 @@ pub record Leaps (old new : Walk) : Type 0 where
   pub within : new.pull.taken ≤ limit
   pub scope_is : new.keeper.scope ≡ old.keeper.scope
 
--- A field or some bytes more were taken.
+-- One field or some bytes were taken.
 abbrev pub Advances : Walk → Walk → Type 0
 Advances old new = Follows old new ⊎ Leaps old new
 
--- Reading went on to the list's end.
+-- The walk has read to the end of the list.
 pub record EndsAfter (old new : Walk) : Type 0 where
   pub may_end : can_end new.place ≡ true
   pub whole : (text : List ℕ) (fields : List (List ℕ)) → HasRead text fields old

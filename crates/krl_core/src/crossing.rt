@@ -1,4 +1,4 @@
-//! Crossing the fields that stand in a reader's buffer, without the reader.
+//! Crossing fields: reading them from a reader's buffer without the reader.
 
 ghost use Rattle.std.specs.Prelude.{◌≡◌, ◌+◌, ◌*◌, ◌%◌, ◌^◌, ◌≤◌, ◌<◌, IsTrue, IfSome, None, false, length};
 ghost use Rattle.std.specs.Prelude.{take};
@@ -13,11 +13,11 @@ use crate::place::{BitmapPlace, CertificatesPlace, ListPlace, Place, SerialsPlac
 use krl_held::Store;
 use std::alloc::AllocError;
 
-// At most so many bytes of serial numbers or of a bitmap are crossed at once.
+// At most this many bytes of serial numbers or of a bitmap are crossed together.
 const STRIDE: usize = 512;
 
-/// Crosses whole fields at the front of some bytes, as far as they pass their judgements, and says
-/// how many bytes these have. Where memory runs out, the last field is one of them.
+/// Crosses whole fields at the front of some bytes until one does not pass its judgement. Returns
+/// how many bytes were crossed. If an allocation fails, the field where it failed is counted too.
 pub(crate) fn cross<T: Store>(
     place: &mut Place,
     keeper: &mut Keeper<T>,
@@ -37,7 +37,7 @@ pub(crate) fn cross<T: Store>(
     (at, Ok(()))
 }
 
-// Crosses at once what names nothing in scope, else one field after the other.
+// Crosses fields that name nothing in scope together, and otherwise one field after the other.
 fn cross_front<T: Store>(
     place: &mut Place,
     keeper: &mut Keeper<T>,
@@ -54,7 +54,7 @@ fn cross_front<T: Store>(
     cross_each(place, keeper, bytes)
 }
 
-// Crosses at once fields of one kind that name nothing in scope: serial numbers, or bytes of a
+// Crosses fields of one kind that name nothing in scope together: serial numbers, or bytes of a
 // bitmap.
 fn cross_unasked<T: Store>(
     place: &mut Place,
@@ -94,7 +94,8 @@ fn cross_unasked<T: Store>(
     }
 }
 
-// How many bytes of serial numbers at the front, of which `left` bytes remain, are not in scope.
+// How many bytes at the front are serial numbers that are not in scope. The subsection has `left`
+// bytes of serial numbers left.
 fn unwanted<T: Store>(keeper: &Keeper<T>, left: u32, bytes: &[u8]) -> usize
     ensures within { result ≤ length bytes.now }
     ensures left { result ≤ left }
@@ -105,8 +106,8 @@ fn unwanted<T: Store>(keeper: &Keeper<T>, left: u32, bytes: &[u8]) -> usize
     keeper.unwanted(&bytes[..count])
 }
 
-// How many bytes at the front of a bitmap, of whose `size` bytes `left` remain, are crossed at
-// once: none of their serial numbers is in scope, and none of them is refused.
+// How many bytes at the front of a bitmap may be crossed together: none of their serial numbers is
+// in scope, and none of the bytes is refused. The bitmap has `left` of its `size` bytes left.
 fn unasked<T: Store>(keeper: &Keeper<T>, offset: u64, size: u32, left: u32, bytes: &[u8]) -> usize
     requires there { 0 < length bytes.now }
     ensures { 0 < result → MayPass keeper.now offset size left bytes.now result }
@@ -124,14 +125,14 @@ fn unasked<T: Store>(keeper: &Keeper<T>, offset: u64, size: u32, left: u32, byte
     0
 }
 
-// Whether a byte is a bitmap's first, and shows that its number is negative.
+// Whether a byte is the first of a bitmap and shows that its number is negative.
 fn is_negative(size: u32, left: u32, byte: u8) -> bool
     ensures { result ≡ false → left ≡ size → byte < 128 }
 {
     left == size && byte >= 128
 }
 
-// Whether no serial of the `count` highest of the `left` last bytes of a bitmap is in scope.
+// Whether no serial number of the first `count` of the last `left` bytes of a bitmap is in scope.
 fn is_unasked<T: Store>(keeper: &Keeper<T>, offset: u64, left: u32, count: u32) -> bool
     requires some { 0 < count }
     requires within { count ≤ left }
@@ -143,8 +144,8 @@ fn is_unasked<T: Store>(keeper: &Keeper<T>, offset: u64, left: u32, count: u32) 
     !keeper.wants(lo, hi)
 }
 
-// Crosses one field after the other, up to a place where many may be crossed at once. A field
-// without bytes is crossed only after one that has some.
+// Crosses one field after the other, until many may be crossed together. A field without bytes is
+// crossed only after one that has some.
 fn cross_each<T: Store>(
     place: &mut Place,
     keeper: &mut Keeper<T>,
@@ -170,8 +171,8 @@ fn cross_each<T: Store>(
     (at, Ok(()))
 }
 
-// Crosses the expected field. Each arm names the kind of its place, so that the compiler makes of
-// each field code of its own, with no further test of the place.
+// Crosses the expected field. Each arm names its place, so that the compiler generates separate
+// code for each field and does not test the place again.
 #[inline(always)]
 fn cross_next<T: Store>(
     place: Place,
@@ -316,7 +317,7 @@ fn cross_next<T: Store>(
     }
 }
 
-// Crosses the expected field, where it is whole and passes its judgement.
+// Crosses the expected field if it is whole and passes its judgement.
 #[inline(always)]
 fn cross_field<T: Store>(
     place: Place,
@@ -339,7 +340,7 @@ fn cross_field<T: Store>(
     }
 }
 
-// How many bytes the expected field has, and the place after it, where it is whole and passes its
+// The size of the expected field and the place after it, if the field is whole and passes its
 // judgement.
 #[inline(always)]
 fn passes(place: Place, bytes: &[u8]) -> Option<(usize, Place)>
@@ -359,7 +360,7 @@ fn passes(place: Place, bytes: &[u8]) -> Option<(usize, Place)>
     }
 }
 
-// Whether the field at this place may be one of many that are crossed at once.
+// Whether the field at this place may be one of many that are crossed together.
 #[inline(always)]
 fn is_one_of_many(place: Place) -> bool {
     matches!(

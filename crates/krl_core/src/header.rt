@@ -1,17 +1,17 @@
-//! What a list says of itself.
+//! The header of a list.
 
 use ssh_wire::Bytes;
 
-/// The bytes with which each list begins.
+/// The bytes at the beginning of each list.
 pub const MAGIC: &[u8] = b"SSHKRL\n\0";
 
-/// The header of a revocation list: its version, when it was made in seconds since 1970, and a
-/// comment, which may be any bytes.
+/// The header of a revocation list: its version, its date in seconds since 1970, and a comment,
+/// which may be any bytes.
 #[derive(Drop)]
 pub struct Header {
     /// The version of the list.
     pub version: u64,
-    /// When the list was made, in seconds since 1970.
+    /// The date of the list, in seconds since 1970.
     pub date: u64,
     /// A comment, which may be empty and need not be text.
     pub comment: Bytes,

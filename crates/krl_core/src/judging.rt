@@ -1,4 +1,4 @@
-//! What follows a field of a list, or why it is refused.
+//! The place after a field of a list, or why the field is refused.
 
 ghost use Rattle.std.specs.Prelude.{◌≡◌, ◌-◌, ◌<◌, ◌≤◌};
 ghost use Rattle.krl_core.specs.Place.{judge as judged_by, within as within_of, base_of};
@@ -17,14 +17,14 @@ use crate::place::{
 };
 use krl_types::KrlFault;
 
-// The next place where a field is good, else its fault.
+// The next place if a field is good, and otherwise the fault.
 pub(crate) fn judge(good: bool, fault: KrlFault, next: Place) -> Result<Place, KrlFault>
     ensures { result ≡ judged_by good fault next }
 {
     if good { Ok(next) } else { Err(fault) }
 }
 
-// What follows a length, unless it counts more bytes than are left after it.
+// The place after a length, unless it counts more bytes than are left after it.
 pub(crate) fn within(left: u32, size: u32, next: Result<Place, KrlFault>) -> Result<Place, KrlFault>
     requires { 4 ≤ left }
     ensures { result ≡ within_of left (λ _. next) size }
@@ -36,14 +36,14 @@ pub(crate) fn within(left: u32, size: u32, next: Result<Place, KrlFault>) -> Res
     }
 }
 
-// What is left after a length and the bytes that it counts.
+// The number of bytes that are left after a length and the bytes that it counts.
 pub(crate) fn rest(left: u32, size: u32) -> u32
     ensures { result ≡ left - 4 - size }
 {
     left.saturating_sub(4).saturating_sub(size)
 }
 
-// A subsection, or the end of the section.
+// The place of the next subsection, or of the next section if no bytes are left.
 pub(crate) fn next_subsection(left: u32) -> Place
     ensures { result ≡ subsection_after left }
 {
@@ -54,7 +54,7 @@ pub(crate) fn next_subsection(left: u32) -> Place
     }
 }
 
-// An item, or the end of a list of them.
+// The place of the next item of a list, or the place after the list if no bytes are left.
 pub(crate) fn next_item(kind: ItemKind, left: u32, after: u32) -> Place
     ensures { result ≡ item_after kind left after }
 {
@@ -65,7 +65,7 @@ pub(crate) fn next_item(kind: ItemKind, left: u32, after: u32) -> Place
     }
 }
 
-// What comes after a serial: the next one, or the end of the subsection.
+// The place of the next serial number, or the place after the subsection if no bytes are left.
 pub(crate) fn next_serial(left: u32, after: u32) -> Place
     ensures { result ≡ serial_after left after }
 {
@@ -76,7 +76,7 @@ pub(crate) fn next_serial(left: u32, after: u32) -> Place
     }
 }
 
-// What comes after a byte of a bitmap: the next one, or the end of the subsection.
+// The place of the next byte of a bitmap, or the place after the subsection if none is left.
 pub(crate) fn next_bits(offset: u64, size: u32, left: u32, after: u32) -> Place
     ensures { result ≡ bits_after offset size left after }
 {
@@ -92,7 +92,7 @@ pub(crate) fn next_bits(offset: u64, size: u32, left: u32, after: u32) -> Place
     }
 }
 
-// The content of a section by its type byte.
+// The first place in the content of a section of this type.
 pub(crate) fn section_of_type(signed: bool, type_byte: u8) -> Result<Place, KrlFault>
     ensures { result ≡ section_of signed type_byte }
 {
@@ -112,14 +112,14 @@ pub(crate) fn section_of_type(signed: bool, type_byte: u8) -> Result<Place, KrlF
     }
 }
 
-// A section that is one list, at its length.
+// The place of the length of a section that is one list.
 fn list_of(kind: ItemKind) -> Place
     ensures { result ≡ places.List (lists.SectionLength kind) }
 {
     Place::List(ListPlace::SectionLength { kind })
 }
 
-// The content of a subsection by its type byte.
+// The first place in the content of a subsection of this type.
 pub(crate) fn subsection_of_type(left: u32, type_byte: u8) -> Result<Place, KrlFault>
     ensures { result ≡ subsection_of left type_byte }
 {
@@ -133,7 +133,7 @@ pub(crate) fn subsection_of_type(left: u32, type_byte: u8) -> Result<Place, KrlF
     }
 }
 
-// Judges a byte of a bitmap, of whose `size` bytes `left` remain, this one too.
+// Judges a byte of a bitmap. The bitmap has `left` of its `size` bytes left, with this one.
 #[inline(always)]
 pub(crate) fn bits_judged(
     offset: u64,
@@ -153,8 +153,8 @@ pub(crate) fn bits_judged(
     Ok(next_bits(offset, size, left.saturating_sub(1), after))
 }
 
-// Whether a bit of the byte that is set stands for a number past 2^64-1. The byte is the highest
-// of the `left` last bytes of a bitmap.
+// Whether a set bit of the byte is the bit of a number past 2^64-1. The byte is the first of the
+// last `left` bytes of a bitmap.
 #[inline(always)]
 pub(crate) fn passes_end(offset: u64, left: u32, byte: u8) -> bool
     ensures { result ≡ passes_end_of (base_of offset left) byte }
@@ -163,7 +163,7 @@ pub(crate) fn passes_end(offset: u64, left: u32, byte: u8) -> bool
     byte != 0 && place + highest_bit(byte) > u64::MAX - offset
 }
 
-// The place of the highest bit that is set.
+// The index of the highest set bit.
 pub(crate) fn highest_bit(byte: u8) -> u64
     ensures value { result ≡ highest_bit_of byte }
     ensures below { result < 8 }

@@ -1,4 +1,4 @@
-//! Keeping what the fields of a list name.
+//! The keeper: it keeps what the fields of a list name.
 
 ghost use Rattle.std.specs.Prelude.{◌≡◌, ◌+◌, ◌%◌, ◌^◌, ◌<◌, ◌≤◌, ◌∷◌, [], ℕ, List, None, OnErr};
 ghost use Rattle.std.specs.Prelude.{OnOk, false};
@@ -29,7 +29,7 @@ use ssh_wire::Bytes;
 use std::alloc::{AllocError, Global};
 use std::marker::Model;
 
-/// What is kept of a list while it is read.
+/// The parts of a list that are kept while it is read.
 #[derive(Drop)]
 pub struct Keeper<T: Store> {
     version: u64,
@@ -62,7 +62,7 @@ impl<T: Store> Model for Keeper<T> {
 }
 
 impl<T: Store> Keeper<T> {
-    /// Nothing is kept yet.
+    /// A keeper that has kept nothing yet.
     pub fn new(alloc: Global, store: T) -> Self
         requires empty { T.contents store ≡ nothing }
         requires within { WithinScope (T.scope store) nothing }
@@ -87,7 +87,7 @@ impl<T: Store> Keeper<T> {
         }
     }
 
-    /// What was kept.
+    /// The header and the store.
     pub fn done(self) -> (Header, T)
         ensures header { result.0 ≡ self.header }
         ensures contents { T.contents result.1 ≡ self.contents }
@@ -101,7 +101,7 @@ impl<T: Store> Keeper<T> {
         (header, self.store)
     }
 
-    /// Keeps what a field names, where it is expected and passes its judgement.
+    /// Keeps what a field names. The field is the expected one, and passes its judgement.
     #[inline(always)]
     pub fn keep(&mut self, place: Place, field: &[u8], next: Place) -> Result<(), AllocError>
         requires passes { Passes place field.now next }
@@ -140,12 +140,12 @@ impl<T: Store> Keeper<T> {
                 left == 1,
             ),
             Place::List(ListPlace::Item { kind, .. }) => self.add_item(kind, field),
-            // the other places name nothing; of one that names something this is not proved
+            // The other places name nothing. For a place that names something, this is not proved.
             _ => Ok(()),
         }
     }
 
-    // Takes what is kept of the comment of the header.
+    // Keeps the comment of the header, if the store wants it.
     fn set_comment(&mut self, comment: &[u8]) -> Result<(), AllocError>
         ensures set { OnOk result (self.new ≡ record self.old {
           header = record self.old.header { comment = kept_comment self.old.scope comment.now };
@@ -157,7 +157,7 @@ impl<T: Store> Keeper<T> {
             .extend_from_slice(self.store.kept_comment(comment))
     }
 
-    // Takes the authority of the certificates that follow.
+    // Sets the authority of the certificates that follow.
     fn set_authority(&mut self, authority: &[u8]) -> Result<(), AllocError>
         ensures set { OnOk result (self.new ≡ record self.old { authority = authority.now }) }
         ensures grows { GrowsWithin (length authority.now) self.old self.new }
@@ -167,7 +167,7 @@ impl<T: Store> Keeper<T> {
         self.authority.extend_from_slice(authority)
     }
 
-    /// Adds a serial under the authority in force. 0 names nothing.
+    /// Adds a serial number under the authority in force. The number 0 names nothing.
     pub fn add_serial(&mut self, serial: u64) -> Result<(), AllocError>
         ensures adds { OnOk result
             (Adds self.old (SerialsEntry self.old.authority (serial ∷ []) ∷ []) self.new) }
@@ -180,7 +180,7 @@ impl<T: Store> Keeper<T> {
         self.add_span(serial, serial)
     }
 
-    // Adds the serials of a range, which may begin at 0.
+    // Adds the serial numbers of a range, which may begin at 0.
     fn add_range(&mut self, min: u64, max: u64) -> Result<(), AllocError>
         requires { min ≤ max }
         ensures adds { OnOk result
@@ -193,7 +193,7 @@ impl<T: Store> Keeper<T> {
         self.add_span(min.max(1), max)
     }
 
-    // Adds the serials from `lo` to `hi` under the authority in force.
+    // Adds the serial numbers from `lo` to `hi` under the authority in force.
     fn add_span(&mut self, lo: u64, hi: u64) -> Result<(), AllocError>
         requires from_one { 0 < lo }
         requires ordered { lo ≤ hi }
@@ -206,7 +206,7 @@ impl<T: Store> Keeper<T> {
         self.add_near(&[Span { lo, hi }])
     }
 
-    // Adds spans that lie near each other.
+    // Adds spans that are near each other, under the authority in force.
     fn add_near(&mut self, near: &[Span]) -> Result<(), AllocError>
         requires some { 0 < length near.now }
         requires intervals { All IsInterval near.now }
@@ -238,8 +238,8 @@ impl<T: Store> Keeper<T> {
         }
     }
 
-    // Feeds a byte to the bitmap at hand, and adds the runs that it finishes. With the last byte
-    // the open run is finished too.
+    // Feeds a byte to the current bitmap, and adds the runs that it finishes. The last byte also
+    // finishes the open run.
     fn add_bits(&mut self, byte: u8, last: bool) -> Result<(), AllocError>
         requires { TakesByte self.old.bitmap byte }
         ensures kept { OnOk result (KeepsBits byte last self.old self.new) }
@@ -250,7 +250,7 @@ impl<T: Store> Keeper<T> {
         if last { self.close() } else { Ok(()) }
     }
 
-    // Most bytes finish spans in one window alone, which one change adds.
+    // Most bytes finish spans of only one window, which are added together.
     fn add_spans(&mut self, spans: &[Span]) -> Result<(), AllocError>
         requires { All IsInterval spans.now }
         ensures adds { OnOk result
@@ -268,7 +268,7 @@ impl<T: Store> Keeper<T> {
         Ok(())
     }
 
-    /// Whether some serial from `lo` to `hi` may be in scope under the authority in force.
+    /// Whether a serial number from `lo` to `hi` may be in scope under the authority in force.
     pub fn wants(&self, lo: u64, hi: u64) -> bool
         requires { lo ≤ hi }
         ensures { result ≡ false → (s : ℕ) → lo ≤ s → s ≤ hi
@@ -277,8 +277,8 @@ impl<T: Store> Keeper<T> {
         self.store.wants(self.authority.as_slice(), lo, hi)
     }
 
-    /// How many bytes at the front of some serial numbers, of eight bytes each, are of those that
-    /// are not in scope under the authority in force.
+    /// How many bytes at the front are serial numbers, of eight bytes each, that are not in scope
+    /// under the authority in force.
     pub fn unwanted(&self, serials: &[u8]) -> usize
         ensures within { result ≤ length serials.now }
         ensures whole { result % 8 ≡ 0 }
@@ -287,7 +287,7 @@ impl<T: Store> Keeper<T> {
         self.store.unwanted(self.authority.as_slice(), serials)
     }
 
-    /// Passes over bytes of the bitmap at hand unread. The open run ends before them.
+    /// Skips bytes of the current bitmap. The open run ends before them.
     pub fn skip(&mut self, count: u32) -> Result<(), AllocError>
         requires { count ≤ self.old.bitmap.bytes_left }
         ensures skips { OnOk result (Skips count self.old self.new) }
@@ -318,7 +318,7 @@ impl<T: Store> Keeper<T> {
 }
 
 impl<S: Spans> Keeper<Revocations<S>> {
-    /// How many spans are held, with the run that may still grow.
+    /// The number of stored spans, with the open run as one more.
     pub fn held(&self) -> u128
         requires { self.now.scope ≡ all → held_with_open self.now < 2 ^ 64 }
         ensures value { result ≡ held_with_open self.now }
@@ -331,14 +331,15 @@ impl<S: Spans> Keeper<Revocations<S>> {
         self.store.held() + open
     }
 
-    /// What is held so far.
+    /// The entries that are stored so far.
     pub fn held_so_far(&self) -> &Revocations<S>
         ensures { result.now ≡ self.now.contents }
     {
         &self.store
     }
 
-    /// Goes on with what is asked alone, of which just what is held so far is found.
+    /// Continues with the questions alone. They already have what the stored entries name of their
+    /// topics.
     pub fn ask(self, alloc: Global, questions: Questions<S>) -> Keeper<Findings<S>>
         requires { FindsIn self.contents questions }
         ensures kept { (entries : List Entry) → IsKept self entries → IsKept result entries }
@@ -369,7 +370,7 @@ impl<S: Spans> Keeper<Revocations<S>> {
     }
 }
 
-// The authority that some bytes name: none name all authorities.
+// The authority with these bytes, or all authorities if there are none.
 fn authority_of(authority: &[u8]) -> Option<&[u8]>
     ensures bytes { authority_bytes result ≡ authority.now }
     ensures authority { IsAuthority result }
@@ -381,7 +382,7 @@ fn authority_of(authority: &[u8]) -> Option<&[u8]>
     }
 }
 
-// The bytes of a field of this size.
+// The bytes of a field of this size, as an array.
 fn array_of<const N: usize>(field: &[u8]) -> [u8; N]
     requires { length field.now ≡ N }
     ensures { result ≡ field.now }

@@ -23,13 +23,15 @@ pub use list::{ItemKind, ListPlace};
 pub use serials::SerialsPlace;
 pub use signature::SignaturePlace;
 
-/// What comes next in a list, of which the fields are read one after the other. `left` counts the
-/// bytes that are left of what the field is part of, with the field; `after` those of the section
-/// after that. A bitmap's byte is a field.
+/// The place of a walk in a list: the field that is expected next. A byte of a bitmap is a field.
+///
+/// `left` is the number of bytes that are left of the part around the field. It counts the field,
+/// unless the place has the field's `size`. `after` is the number of bytes of the section after
+/// that part.
 #[derive(Clone, Copy)]
 pub enum Place {
     Header(HeaderPlace),
-    /// A section, or the end. `signed` says that a signature stands before it.
+    /// The next section, or the end of the list. `signed` is true after a signature.
     SectionType { signed: bool },
     Signature(SignaturePlace),
     List(ListPlace),
@@ -40,7 +42,7 @@ pub enum Place {
 }
 
 impl Place {
-    // How many bytes the expected field has, and how many are left for it.
+    // Returns the size of the expected field, and the bytes that are left for it.
     #[inline(always)]
     fn size_and_room(self) -> (u32, Option<u32>)
         ensures size { result.0 ≡ (expected self).size }
@@ -58,7 +60,7 @@ impl Place {
         }
     }
 
-    /// How many bytes the expected field has.
+    /// The size of the expected field in bytes.
     #[inline(always)]
     pub fn size(self) -> u32
         ensures { result ≡ (expected self).size }
@@ -66,7 +68,7 @@ impl Place {
         self.size_and_room().0
     }
 
-    /// Whether what the field is part of has as many bytes left.
+    /// Whether the part around the field has enough bytes left for it.
     #[inline(always)]
     pub fn has_room(self) -> bool
         ensures { IsTrue result ↔ HasRoom (expected self) }
@@ -88,7 +90,7 @@ impl Place {
         }
     }
 
-    /// Judges the whole field that was expected: the place after it, or why it is refused.
+    /// Judges the whole field: returns the place after it, or why it is refused.
     #[inline(always)]
     pub fn after(self, field: &[u8]) -> Result<Place, KrlFault>
         requires whole { length field.now ≡ (expected self).size }

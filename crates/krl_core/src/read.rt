@@ -1,4 +1,4 @@
-//! Reading a list on, to its end or as far as its front goes.
+//! Reading a list to its end, or up to a number of bytes.
 
 ghost use Rattle.std.specs.Prelude.{◌≡◌, ◌+◌, ◌*◌, ◌<◌, ◌≤◌, ◌⊎◌, length, false, true, ℕ, List, None};
 ghost use Rattle.std.specs.Prelude.{Some, Ok, Err};
@@ -22,10 +22,12 @@ use krl_types::KrlFault;
 use serial_set::Spans;
 use std::alloc::Global;
 
-/// Reads a list of at most 67,108,864 bytes to its end (PROTOCOL.krl), a field at a time, and gives
-/// the reader back, which has not failed before. A list is refused with its first fault; where the
-/// reader fails, with the first fault of the bytes that it gave, and with `Read` where these have
-/// none but their end. `NoMemory` comes only where memory runs out.
+/// Reads a list of at most 67,108,864 bytes to its end (PROTOCOL.krl), field by field, and returns
+/// the reader. The reader must not have failed before.
+///
+/// If the list is refused, returns its first fault. If the reader fails, returns the first fault of
+/// the bytes that it gave, or `Read` if they have no fault except that they end. Returns `NoMemory`
+/// only if an allocation fails.
 pub fn read_krl<S: Spans, R: Source + Drop>(
     alloc: Global,
     reader: R,
@@ -53,9 +55,9 @@ pub fn read_krl<S: Spans, R: Source + Drop>(
 }
 
 impl<T: Store, R: Source + Drop> Walk<T, R> {
-    /// Reads on to the list's end, and gives the reader back. Of the names in scope, what is held
-    /// means just what the list's sections name. The header lacks the comment where just some
-    /// topics are in scope.
+    /// Reads to the end of the list, and returns the reader. The stored entries mean exactly what
+    /// the sections of the list name in scope. The header has no comment if only some topics are in
+    /// scope.
     pub fn read_on(self) -> (Result<(Header, T), KrlFault>, R)
         requires { self.fault ≡ None }
         ensures found { IfOk result.0 (λ list. (text : List ℕ) (fields : List (List ℕ))
@@ -85,8 +87,8 @@ impl<T: Store, R: Source + Drop> Walk<T, R> {
         }
     }
 
-    /// Reads on to the list's end, and answers false there; or to a field that would lead past so
-    /// many bytes.
+    /// Reads field by field. Returns false at the end of the list, and true if the next field would
+    /// exceed `most` bytes.
     pub fn read_to(&mut self, most: u64) -> Result<bool, KrlFault>
         ensures more { IfOk result (λ more. IsTrue more → ReadsMore self.old self.new) }
         ensures full { IfOk result (λ more. IsTrue more

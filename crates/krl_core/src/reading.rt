@@ -1,4 +1,4 @@
-//! Reading a list in one pass, a field at a time.
+//! Reading a list in one pass, field by field.
 
 ghost use Rattle.std.specs.Prelude.{◌≡◌, ◌+◌, ◌*◌, ◌<◌, ◌≤◌, ◌⊎◌, ℕ, false, true, None, Some, Ok};
 ghost use Rattle.std.specs.Prelude.{Err, List, [], IfOk, IfErr, IfSome, IsTrue, OnOk, length};
@@ -32,17 +32,17 @@ use std::marker::Model;
 /// At most this many bytes of a list are read.
 pub const LIMIT: u64 = 67_108_864;
 
-// Fields of at most this many bytes take no memory: numbers, lengths and hashes.
+// A field of at most this many bytes needs no allocation: numbers, lengths and hashes.
 const SMALL: usize = 32;
 
-/// A list that is read from a reader in one pass, into a store. No more of its bytes is held than
-/// the field at hand, and of a bitmap only the byte at hand.
+/// A walk reads a list from a reader in one pass, into a store. Beside what its keeper keeps, it
+/// holds only the current field of the list, which in a bitmap is one byte.
 #[derive(Drop)]
 pub struct Walk<T: Store, R: Source + Drop> {
     pub(crate) pull: Pull<R>,
     place: Place,
     keeper: Keeper<T>,
-    // the field at hand, where it is large
+    // the current field, if it is large
     large: Vec<u8>,
     pub(crate) ended: bool,
     pub(crate) fault: Option<KrlFault>,
@@ -70,11 +70,11 @@ impl<T: Store, R: Source + Drop> Model for Walk<T, R> {
     }) };
 }
 
-/// A list that is read in one pass, of which all is held.
+/// A walk that stores all entries of the list.
 pub type Reading<S, R> = Walk<Revocations<S>, R>;
 
 impl<S: Spans, R: Source + Drop> Walk<Revocations<S>, R> {
-    /// Nothing is read yet. The reader has not failed before.
+    /// A walk that has read nothing yet. The reader must not have failed before.
     pub fn new(alloc: Global, reader: R) -> Self
         requires { R.has_failed reader ≡ false }
         ensures start { (text : List ℕ) → R.left reader ≡ Some text → HasRead text [] result }
@@ -86,7 +86,7 @@ impl<S: Spans, R: Source + Drop> Walk<Revocations<S>, R> {
         Walk::over(alloc, Revocations::new(alloc), reader)
     }
 
-    /// How many spans are held of the list so far, with the run of a bitmap that may still grow.
+    /// The number of spans that are stored so far, with the open run of a bitmap as one more.
     pub fn held(&self) -> u128
         ensures value { result ≡ held_with_open self.now.keeper }
         ensures four_a_byte { result ≤ 4 * self.now.pull.taken }
@@ -95,7 +95,7 @@ impl<S: Spans, R: Source + Drop> Walk<Revocations<S>, R> {
         self.keeper.held()
     }
 
-    /// What was read, after a step that answered false, and the reader.
+    /// The header, the stored entries and the reader, after a step that returned false.
     pub fn done(self) -> (Header, Revocations<S>, R)
         requires { self.ended ≡ true }
         ensures whole { (text : List ℕ) → (fields : List (List ℕ)) → HasRead text fields self
@@ -114,8 +114,8 @@ impl<S: Spans, R: Source + Drop> Walk<Revocations<S>, R> {
 }
 
 impl<S: Spans, R: Source + Drop> Walk<Revocations<S>, R> {
-    /// Asks about a key or a certificate too, of which just what is held so far is found. Fails only
-    /// where memory runs out.
+    /// Adds the questions about a key or a certificate, with what the stored entries name of their
+    /// topics. Fails only if an allocation fails.
     pub fn add_question(
         &self,
         questions: &mut Questions<S>,
@@ -136,8 +136,8 @@ impl<S: Spans, R: Source + Drop> Walk<Revocations<S>, R> {
         questions.ask(self.keeper.held_so_far(), subject)
     }
 
-    /// Goes on with what is asked alone, of which just what is held so far is found. The answers
-    /// come with the end of the list. No comment is kept.
+    /// Continues with the questions alone. They already have what the stored entries name of their
+    /// topics. The comment is dropped. The answers come at the end of the list.
     pub fn ask(self, alloc: Global, questions: Questions<S>) -> Walk<Findings<S>, R>
         requires { FindsIn self.keeper.contents questions }
         ensures reads { (text : List ℕ) (fields : List (List ℕ)) → HasRead text fields self
@@ -166,7 +166,8 @@ impl<S: Spans, R: Source + Drop> Walk<Revocations<S>, R> {
 }
 
 impl<T: Store, R: Source + Drop> Walk<T, R> {
-    /// Nothing is read yet, and the store is empty. The reader has not failed before.
+    /// A walk that has read nothing yet, over an empty store. The reader must not have failed
+    /// before.
     pub fn over(alloc: Global, store: T, reader: R) -> Self
         requires empty { T.contents store ≡ nothing }
         requires within { WithinScope (T.scope store) nothing }
@@ -187,14 +188,15 @@ impl<T: Store, R: Source + Drop> Walk<T, R> {
         }
     }
 
-    /// Reads the next field of the list, and takes no byte past it; it may look at one. It answers
-    /// false at the list's end, and from then on. After a fault it answers that fault from then on.
+    /// Reads the next field of the list. It takes no byte after the field, but may look at one.
+    /// Returns false at the end of the list, and from then on. After a fault it returns that fault
+    /// from then on.
     pub fn step(&mut self) -> Result<bool, KrlFault>
         ensures more { IfOk result (λ more. IsTrue more → ReadsOneMore self.old self.new) }
         ensures follows { IfOk result (λ more. IsTrue more → Follows self.old self.new) }
         ensures ends { IfOk result (λ more. more ≡ false → Ends self.old self.new) }
         ensures ended { IfOk result (λ more. more ≡ false → self.new.ended ≡ true) }
-        // Once the end was found, the reader is not asked again.
+        // After the end was found, the reader is not asked again.
         ensures rests { self.old.ended ≡ true → (result ≡ Ok false) × (self.new ≡ self.old) }
         ensures fault { self.old.fault ≡ None
             → IfErr result (λ fault. Refused fault self.old self.new.pull) }
@@ -229,7 +231,7 @@ impl<T: Store, R: Source + Drop> Walk<T, R> {
         }
     }
 
-    /// The same, where it may read many fields that stand in the reader's buffer.
+    /// Does the same as `step`, but may read many fields that are in the reader's buffer.
     pub fn stride(&mut self) -> Result<bool, KrlFault>
         ensures more { IfOk result (λ more. IsTrue more → ReadsMore self.old self.new) }
         ensures advances { IfOk result (λ more. IsTrue more → Advances self.old self.new) }
@@ -269,8 +271,8 @@ impl<T: Store, R: Source + Drop> Walk<T, R> {
         }
     }
 
-    /// What was read, after a step that answered false, and the reader. The header lacks the
-    /// comment where just some topics are in scope.
+    /// The header, the store and the reader, after a step that returned false. The header has no
+    /// comment if only some topics are in scope.
     pub fn end(self) -> (Header, T, R)
         requires { self.ended ≡ true }
         ensures whole { (text : List ℕ) → (fields : List (List ℕ)) → HasRead text fields self
@@ -284,7 +286,7 @@ impl<T: Store, R: Source + Drop> Walk<T, R> {
         (header, store, self.pull.into_inner())
     }
 
-    /// The reader, which goes on after the last byte that was taken or looked at.
+    /// The reader. It continues after the last byte that was taken or looked at.
     pub fn into_reader(self) -> R
         ensures left { R.left result ≡ self.pull.source }
         ensures failed { R.has_failed result ≡ self.pull.failed }
@@ -292,7 +294,7 @@ impl<T: Store, R: Source + Drop> Walk<T, R> {
         self.pull.into_inner()
     }
 
-    /// How many bytes of the list were taken.
+    /// The number of bytes of the list that were taken.
     pub fn taken(&self) -> u64
         ensures value { result ≡ self.now.pull.taken }
         ensures within { result ≤ limit }
@@ -300,7 +302,7 @@ impl<T: Store, R: Source + Drop> Walk<T, R> {
         self.pull.taken()
     }
 
-    // How many bytes of the list are taken once the next field is.
+    // The number of bytes that will be taken after the next field.
     pub(crate) fn taken_with_next(&self) -> u64
         ensures { result ≡ self.now.pull.taken + (expected self.now.place).size }
     {
@@ -323,7 +325,7 @@ fn ends<R: Source + Drop>(pull: &mut Pull<R>, place: Place) -> Result<bool, KrlF
     Ok(pull.at_end()?)
 }
 
-// Takes the expected field. A small one takes no memory.
+// Takes the expected field. A small field needs no allocation.
 #[inline(always)]
 fn take<'a, R: Source + Drop>(
     pull: &mut Pull<R>,
@@ -351,7 +353,7 @@ fn take<'a, R: Source + Drop>(
     Ok(large.as_slice())
 }
 
-// Judges the field that was taken, keeps what it names, and answers the place after it.
+// Judges the field that was taken, keeps what it names, and returns the place after it.
 #[inline(always)]
 fn pass<T: Store>(place: Place, keeper: &mut Keeper<T>, field: &[u8]) -> Result<Place, KrlFault>
     requires room { HasRoom (expected place) }
@@ -370,8 +372,8 @@ fn pass<T: Store>(place: Place, keeper: &mut Keeper<T>, field: &[u8]) -> Result<
     Ok(next)
 }
 
-// Crosses the fields that stand in the reader's buffer, if there are any, else reads a field, or
-// finds that the list is at its end.
+// Crosses the fields in the reader's buffer. If there are none, reads a field or finds the end of
+// the list.
 fn advance_far<T: Store, R: Source + Drop>(
     pull: &mut Pull<R>,
     place: &mut Place,
@@ -405,7 +407,7 @@ fn advance_far<T: Store, R: Source + Drop>(
     }
 }
 
-// Reads a field, or finds that the list is at its end.
+// Reads a field, or finds the end of the list.
 fn advance<T: Store, R: Source + Drop>(
     pull: &mut Pull<R>,
     place: &mut Place,

@@ -1,5 +1,5 @@
-//! Laws of what a list spells, of its first fault and of what its fields name. Each function does
-//! nothing: its contract is the law.
+//! Laws of spellings, first faults and the entries of fields. Each function does nothing: its
+//! contract is the law.
 
 ghost use Rattle.std.specs.Prelude.{◌≡◌, ◌≤◌, ◌*◌, ◌⊎◌, ◌++◌, ℕ, List, None, Some, Option, length};
 ghost use Rattle.krl_types.specs.declared.krl_fault.KrlFault.TheVariants.{EndsEarly};
@@ -12,7 +12,7 @@ ghost use Rattle.krl_core.specs.Krl.{SpelledSection, Spells};
 ghost use Rattle.krl_types.specs.declared.krl_fault.KrlFault.{KrlFault};
 ghost use Rattle.krl_core.specs.Front.{State, IsFirstFault, IsFront, limit};
 
-/// Of two fronts of a text one is the beginning of the other.
+/// If a text has two fronts, one is the beginning of the other.
 pub fn one_front_begins_the_other()
     ensures { (text : List ℕ) (one other : List (List ℕ)) (state state' : State)
         (rest rest' : List ℕ)
@@ -32,7 +32,7 @@ pub fn each_text_is_judged()
     ensures { (text : List ℕ) → (fault : Option KrlFault) × IsFirstFault text fault }
 {}
 
-/// A text of bytes has no fault just where a header and sections spell it within the limit.
+/// A text of bytes has no fault exactly if a header and sections spell it within the limit.
 pub fn no_fault_where_spelled()
     ensures spelled { (text : List ℕ) (header : Header) (sections : List SpelledSection)
         → IsBytes text → Spells text header sections → length text ≤ limit
@@ -42,8 +42,8 @@ pub fn no_fault_where_spelled()
         × ((header : Header) × ((sections : List SpelledSection) × Spells text header sections)) }
 {}
 
-/// A spelled list within the limit that is cut short at any byte is itself spelled, so that it has
-/// no fault, or ends early.
+/// A prefix of a spelled list within the limit is spelled too, so that it has no fault, or it ends
+/// early.
 pub fn a_cut_ends_early()
     ensures { (text prefix more : List ℕ) (header : Header) (sections : List SpelledSection)
         → IsBytes text → Spells text header sections → length text ≤ limit
@@ -51,15 +51,15 @@ pub fn a_cut_ends_early()
         → IsFirstFault prefix None ⊎ IsFirstFault prefix (Some EndsEarly) }
 {}
 
-/// The header and the sections that a text spells are the only ones.
+/// A text is the spelling of at most one header and one list of sections.
 pub fn one_spelling()
     ensures { (text : List ℕ) (header other : Header) (sections others : List SpelledSection)
         → Spells text header sections → Spells text other others
         → (header ≡ other) × (sections ≡ others) }
 {}
 
-/// What the fields of a front name has at most four intervals of serials for each byte of the
-/// front, summed over the authorities. Of a bitmap that is read in part, the bits that were read
+/// The entries of the fields of a front have at most four intervals of serial numbers for each byte
+/// of the front, summed over the authorities. If a bitmap is read in part, the bits that were read
 /// count too.
 pub fn four_intervals_a_byte()
     ensures { (text : List ℕ) (fields : List (List ℕ)) (state : State) (rest : List ℕ)
@@ -68,8 +68,8 @@ pub fn four_intervals_a_byte()
         → held r ≤ 4 * length (concat fields) }
 {}
 
-/// The number whose bits the bytes of a bitmap are, as `serial_set` is fed them, is that of the
-/// format.
+/// The bytes of a bitmap have the same number by the definition of `serial_set` as by that of the
+/// wire format.
 pub fn one_number_of_a_bitmap()
     ensures { (bytes : List ℕ) → big_endian bytes ≡ number_of bytes }
 {}

@@ -1,4 +1,4 @@
-//! The places of a subsection of a bitmap, and what follows each of its fields.
+//! The places of a bitmap subsection, and the place after each of its fields.
 
 ghost use Rattle.std.specs.Prelude.{◌≡◌, length};
 ghost use Rattle.krl_core.specs.Front.{HasRoom};
@@ -9,7 +9,7 @@ use crate::place::Place;
 use krl_held::{byte_of, u32_of, u64_of};
 use krl_types::KrlFault;
 
-/// A subsection of a bitmap.
+/// The places of a bitmap subsection.
 #[derive(Clone, Copy)]
 pub enum BitmapPlace {
     Length {
@@ -24,7 +24,7 @@ pub enum BitmapPlace {
         left: u32,
         after: u32,
     },
-    /// One of the `left` bytes that remain of a bitmap's `size`, the highest first.
+    /// One byte of a bitmap, with `left` of its `size` bytes left. The highest byte comes first.
     Byte {
         offset: u64,
         size: u32,
@@ -34,7 +34,7 @@ pub enum BitmapPlace {
 }
 
 impl BitmapPlace {
-    // How many bytes the expected field has, and how many are left for it.
+    // Returns the size of the expected field, and the bytes that are left for it.
     #[inline(always)]
     pub(super) fn size_and_room(self) -> (u32, Option<u32>)
         ensures size { result.0 ≡ (bitmap_expected self).size }
@@ -47,7 +47,7 @@ impl BitmapPlace {
         }
     }
 
-    // Judges the whole field that was expected.
+    // Judges the whole field.
     #[inline(always)]
     pub(super) fn after(self, field: &[u8]) -> Result<Place, KrlFault>
         requires whole { length field.now ≡ (bitmap_expected self).size }

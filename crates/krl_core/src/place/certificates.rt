@@ -1,4 +1,4 @@
-//! The places of a section of certificates, but for its subsections, and what follows each field.
+//! The places of a section of certificates without its subsections, and the place after each field.
 
 ghost use Rattle.std.specs.Prelude.{◌≡◌, length};
 ghost use Rattle.krl_core.specs.Front.{HasRoom};
@@ -9,7 +9,7 @@ use crate::place::Place;
 use krl_held::{byte_of, u32_of};
 use krl_types::KrlFault;
 
-/// A section of certificates, but for its subsections.
+/// The places of a section of certificates, without those of its subsections.
 #[derive(Clone, Copy)]
 pub enum CertificatesPlace {
     SectionLength,
@@ -21,7 +21,7 @@ pub enum CertificatesPlace {
 }
 
 impl CertificatesPlace {
-    // How many bytes the expected field has, and how many are left for it.
+    // Returns the size of the expected field, and the bytes that are left for it.
     #[inline(always)]
     pub(super) fn size_and_room(self) -> (u32, Option<u32>)
         ensures size { result.0 ≡ (certificates_expected self).size }
@@ -37,7 +37,7 @@ impl CertificatesPlace {
         }
     }
 
-    // Judges the whole field that was expected.
+    // Judges the whole field.
     #[inline(always)]
     pub(super) fn after(self, field: &[u8]) -> Result<Place, KrlFault>
         requires whole { length field.now ≡ (certificates_expected self).size }

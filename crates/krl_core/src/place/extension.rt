@@ -1,4 +1,5 @@
-//! The places of an extension, as a section or a subsection, and what follows each of its fields.
+//! The places of an extension, as a section or a subsection, and the place after each of its
+//! fields.
 
 ghost use Rattle.std.specs.Prelude.{◌≡◌, length};
 ghost use Rattle.krl_core.specs.Front.{HasRoom};
@@ -9,7 +10,7 @@ use crate::place::Place;
 use krl_held::{byte_of, u32_of};
 use krl_types::KrlFault;
 
-/// An extension, as a section or a subsection.
+/// The places of an extension, as a section or a subsection.
 #[derive(Clone, Copy)]
 pub enum ExtensionPlace {
     SectionLength,
@@ -22,7 +23,7 @@ pub enum ExtensionPlace {
 }
 
 impl ExtensionPlace {
-    // How many bytes the expected field has, and how many are left for it.
+    // Returns the size of the expected field, and the bytes that are left for it.
     #[inline(always)]
     pub(super) fn size_and_room(self) -> (u32, Option<u32>)
         ensures size { result.0 ≡ (extension_expected self).size }
@@ -40,7 +41,7 @@ impl ExtensionPlace {
         }
     }
 
-    // Judges the whole field that was expected.
+    // Judges the whole field.
     #[inline(always)]
     pub(super) fn after(self, field: &[u8]) -> Result<Place, KrlFault>
         requires whole { length field.now ≡ (extension_expected self).size }

@@ -1,4 +1,4 @@
-//! The places of the header, and what follows each of its fields.
+//! The places of the header, and the place after each of its fields.
 
 ghost use Rattle.std.specs.Prelude.{◌≡◌, length};
 ghost use Rattle.krl_core.specs.Place.{header_expected};
@@ -9,7 +9,7 @@ use crate::place::Place;
 use krl_held::u32_of;
 use krl_types::KrlFault;
 
-/// All before the first section.
+/// The places of the header.
 #[derive(Clone, Copy)]
 pub enum HeaderPlace {
     Magic,
@@ -24,7 +24,7 @@ pub enum HeaderPlace {
 }
 
 impl HeaderPlace {
-    // How many bytes the expected field has, and how many are left for it.
+    // Returns the size of the expected field, and the bytes that are left for it.
     #[inline(always)]
     pub(super) fn size_and_room(self) -> (u32, Option<u32>)
         ensures size { result.0 ≡ (header_expected self).size }
@@ -38,7 +38,7 @@ impl HeaderPlace {
         }
     }
 
-    // Judges the whole field that was expected.
+    // Judges the whole field.
     #[inline(always)]
     pub(super) fn after(self, field: &[u8]) -> Result<Place, KrlFault>
         requires { length field.now ≡ (header_expected self).size }

@@ -1,4 +1,4 @@
-//! The places of a list of keys, hashes or key IDs, and what follows each of its fields.
+//! The places of a list of keys, hashes or key IDs, and the place after each of its fields.
 
 ghost use Rattle.std.specs.Prelude.{◌≡◌, length};
 ghost use Rattle.krl_core.specs.Front.{HasRoom};
@@ -9,7 +9,7 @@ use crate::place::Place;
 use krl_held::u32_of;
 use krl_types::KrlFault;
 
-/// What the items of a list of strings are.
+/// The kind of the items of a list.
 #[derive(Clone, Copy)]
 pub enum ItemKind {
     Key,
@@ -18,7 +18,7 @@ pub enum ItemKind {
     Id,
 }
 
-/// A list of strings. That of key IDs is a subsection, and the others are sections.
+/// The places of a list of strings. A list of key IDs is a subsection, and the others are sections.
 #[derive(Clone, Copy)]
 pub enum ListPlace {
     SectionLength {
@@ -41,7 +41,7 @@ pub enum ListPlace {
 }
 
 impl ItemKind {
-    /// How many bytes an item has whose length says `size`.
+    /// The size in bytes of an item whose length field contains `size`.
     #[inline(always)]
     pub fn size(self, size: u32) -> u32
         ensures { result ≡ item_size self size }
@@ -55,7 +55,7 @@ impl ItemKind {
 }
 
 impl ListPlace {
-    // How many bytes the expected field has, and how many are left for it.
+    // Returns the size of the expected field, and the bytes that are left for it.
     #[inline(always)]
     pub(super) fn size_and_room(self) -> (u32, Option<u32>)
         ensures size { result.0 ≡ (list_expected self).size }
@@ -68,7 +68,7 @@ impl ListPlace {
         }
     }
 
-    // Judges the whole field that was expected.
+    // Judges the whole field.
     #[inline(always)]
     pub(super) fn after(self, field: &[u8]) -> Result<Place, KrlFault>
         requires whole { length field.now ≡ (list_expected self).size }

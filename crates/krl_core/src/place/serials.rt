@@ -1,4 +1,5 @@
-//! The places of a subsection of serials or of a range, and what follows each of its fields.
+//! The places of a subsection of serial numbers or of a range, and the place after each of its
+//! fields.
 
 ghost use Rattle.std.specs.Prelude.{◌≡◌, length};
 ghost use Rattle.krl_core.specs.Front.{HasRoom};
@@ -9,7 +10,7 @@ use crate::place::Place;
 use krl_held::{u32_of, u64_of};
 use krl_types::KrlFault;
 
-/// A subsection of serials, or of a range.
+/// The places of a subsection of serial numbers or of a range.
 #[derive(Clone, Copy)]
 pub enum SerialsPlace {
     SerialsLength { left: u32 },
@@ -20,7 +21,7 @@ pub enum SerialsPlace {
 }
 
 impl SerialsPlace {
-    // How many bytes the expected field has, and how many are left for it.
+    // Returns the size of the expected field, and the bytes that are left for it.
     #[inline(always)]
     pub(super) fn size_and_room(self) -> (u32, Option<u32>)
         ensures size { result.0 ≡ (serials_expected self).size }
@@ -34,7 +35,7 @@ impl SerialsPlace {
         }
     }
 
-    // Judges the whole field that was expected.
+    // Judges the whole field.
     #[inline(always)]
     pub(super) fn after(self, field: &[u8]) -> Result<Place, KrlFault>
         requires whole { length field.now ≡ (serials_expected self).size }

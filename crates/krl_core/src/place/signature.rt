@@ -1,4 +1,4 @@
-//! The places of a signature, and what follows each of its fields.
+//! The places of a signature, and the place after each of its fields.
 
 ghost use Rattle.std.specs.Prelude.{◌≡◌, length, Ok};
 ghost use Rattle.krl_core.specs.Place.{signature_expected};
@@ -6,7 +6,7 @@ ghost use Rattle.krl_core.specs.Place.{signature_expected};
 use crate::place::Place;
 use krl_held::u32_of;
 
-/// A signature, after its type byte.
+/// The places of a signature, after its type byte.
 #[derive(Clone, Copy)]
 pub enum SignaturePlace {
     KeyLength,
@@ -16,7 +16,7 @@ pub enum SignaturePlace {
 }
 
 impl SignaturePlace {
-    // How many bytes the expected field has, and how many are left for it.
+    // Returns the size of the expected field, and the bytes that are left for it.
     #[inline(always)]
     pub(super) fn size_and_room(self) -> (u32, Option<u32>)
         ensures size { result.0 ≡ (signature_expected self).size }
@@ -28,7 +28,7 @@ impl SignaturePlace {
         }
     }
 
-    // Judges the whole field that was expected.
+    // Judges the whole field, which is never refused.
     #[inline(always)]
     pub(super) fn after(self, field: &[u8]) -> Place
         requires { length field.now ≡ (signature_expected self).size }

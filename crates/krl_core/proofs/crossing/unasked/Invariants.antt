@@ -1,7 +1,7 @@
 use Rattle.std.proofs.Common.{◌≤◌, length}
 use Rattle.krl_core.proofs.crossing.unasked.Given as goal
 
--- so many bytes are there, and left of the bitmap
+-- there are this many bytes, and the bitmap has as many left
 abbrev pub invariant-halves : goal.invariant-halves
 invariant-halves g l = record {
   there : l.count ≤ length l.bytes;

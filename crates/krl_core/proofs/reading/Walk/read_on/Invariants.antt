@@ -4,7 +4,7 @@ use Rattle.krl_core.proofs.Exists.{weight}
 use Rattle.krl_core.proofs.Whole.{LeadsOn}
 use Rattle.krl_core.proofs.reading.Walk.read_on.Given as goal
 
--- some fields more were read
+-- some more fields were read
 abbrev pub invariant-fields : goal.invariant-fields
 invariant-fields g l = LeadsOn l.fn.self l.walk
 

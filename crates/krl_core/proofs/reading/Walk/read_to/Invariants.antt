@@ -5,7 +5,7 @@ use Rattle.krl_core.proofs.Exists.{weight}
 use Rattle.krl_core.proofs.Whole.{LeadsOn}
 use Rattle.krl_core.proofs.reading.Walk.read_to.Given as goal
 
--- some fields more were read, as far as the bytes that are allowed
+-- some more fields were read, within the bytes that are allowed
 abbrev pub invariant-fields : goal.invariant-fields
 invariant-fields g l =
     LeadsOn l.initial.self l.self × (l.self.pull.failed ≡ false) × IsBounded l.self.pull l.self.keeper
