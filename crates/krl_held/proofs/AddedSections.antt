@@ -1,4 +1,4 @@
--- Additions keep the order of what is held, and mean one entry more.
+-- Additions keep sections in order and mean one entry more.
 use Rattle.std.proofs.Common.{◌≡◌, ℕ, ◌+◌, ◌<◌, ◌≤◌, ◌⊎◌, List, [], ◌∷◌, ◌++◌, ◌↔◌, length, refl, sym, ap, subst, inl, inr, arith}
 use Rattle.std.specs.List.{Contains, All}
 use Rattle.std.proofs.lemmas.List.Elements.{All-cons, All-head, All-tail}
@@ -16,7 +16,7 @@ use Rattle.std.proofs.Math.Logic.Iff as Iff
 use Rattle.krl_held.proofs.BothWays.{contains_middle, iff_or, iff_swap}
 use Rattle.krl_held.proofs.Elements.{contains_none}
 
--- ---- byte strings that are put in
+-- ---- inserted byte strings
 
 pub put_rises : (old : List (List ℕ)) (text : List ℕ) (new : List (List ℕ)) → Puts old text new → Rises old → Rises new
 put_rises old text new p r =
@@ -42,7 +42,7 @@ put_size old text new p =
 
 -- ---- the order of a section
 
--- all that is asked of a section that is listed, but that it holds something
+-- all facts of a listed section, except that it is not empty
 pub record InOrder (section : Section) : Type 0 where
   pub runs : IsRuns section.spans
   pub serials : AreSerials section.spans
@@ -82,7 +82,7 @@ takes_id_listed text from to o t =
       some = inr (has_text to.ids text ((put_held from.ids text to.ids t.put text).1 (inr refl)));
     }
 
--- what holds of each holds of what is in the middle, and of all others
+-- all elements have a property exactly if the middle one and all others have it
 pub all_middle : {X : Type 0} (P : X → Type 0) (front : List X) (x : X) (back : List X) → All P (front ++ x ∷ back) ↔ (P x × All P (front ++ back))
 all_middle P [] x back = (λ h. (All-head P x back h, All-tail P x back h), λ h. All-cons P x back h.0 h.1)
 all_middle P (y ∷ front) x back =

@@ -1,4 +1,4 @@
--- What an addition does to all that is held.
+-- The effect of an addition on all revocations.
 use Rattle.std.proofs.Common.{ℕ, ◌<◌, ◌⊎◌, length, List, [], ◌∷◌, ◌++◌, Bor}
 use Rattle.std.specs.Prelude.{◌↔◌}
 use Rattle.std.specs.List.{All}

@@ -1,4 +1,4 @@
--- How much more an addition holds and stores.
+-- How much an addition increases what is held and what is stored.
 use Rattle.std.proofs.Common.{◌≡◌, ℕ, ◌+◌, ◌≤◌, List, [], ◌∷◌, ◌++◌, Bor, length, map, sym, ap, subst, ◌∙◌, inl, inr, arith}
 use Rattle.std.specs.Prelude.{sum_by}
 use Rattle.std.specs.List.{Contains}
@@ -14,7 +14,7 @@ use Rattle.krl_held.proofs.AddedSections.{put_size}
 use Rattle.krl_held.proofs.SomeSections.{some_middle, sum_middle}
 use Rattle.krl_held.proofs.Elements.{contains_here, contains_later}
 
--- a change of each section that keeps a number keeps the sum
+-- if an addition keeps a number of each section, it keeps the sum of these numbers
 pub sum_stays : (addition : Addition) (b : List ℕ) (old new : List Section) (f : Section → ℕ) → ((from to : Section) → TakesAddition addition from to → f to ≡ f from) → f (empty_section b) ≡ 0 → AddsTo addition b old new → sum_by f new ≡ sum_by f old
 sum_stays addition b old new f step none adds =
     elim adds [
@@ -34,7 +34,7 @@ id_size id from to t =
 pub empty_size : (b : List ℕ) → section_size (empty_section b) ≡ length b
 empty_size b = omega arith
 
--- ---- an authority that is named
+-- ---- named authorities
 
 pub some_contains : (b : List ℕ) (sections : List Section) → SomeSection (λ section. section.authority ≡ b) sections → Contains (map (λ section. section.authority) sections) b
 some_contains b [] h = absurd h

@@ -1,4 +1,4 @@
--- Sections that are held apart.
+-- Sections that are kept apart.
 use Rattle.std.proofs.Common.{◌≡◌, ◌⊎◌, ℕ, false, List, [], ◌∷◌, ◌++◌, refl, sym, ap, subst, ◌∙◌, inl, inr, cond}
 use Rattle.std.specs.Prelude.{Option, Some, None, Result, Ok, Err, MatchResult, IfOk, OnErr}
 use Rattle.std.specs.declared.alloc.AllocError.{AllocError}
@@ -25,7 +25,7 @@ use Rattle.krl_held.proofs.HeldSections.{Mapped, Named, at_name, named_lookup, n
 use Rattle.krl_held.proofs.Ordered.{rises_changed, tied}
 use Rattle.krl_held.proofs.SomeSections.{some_middle}
 
--- ---- another section in the place of one
+-- ---- sections that replace others
 
 -- the place of an authority among some sections
 pub record Place (a : List ℕ) (sections : List Section) : Type 0 where
@@ -72,10 +72,10 @@ place_of a (x ∷ xs) h = by (bytes_cmp a x.authority) refl h (place_of a xs)
     by Greater e (inl here) on = absurd (let c : Greater ≡ Equal = sym e ∙ tied a x.authority here in cc)
     by Greater e (inr later) on = place_later a x xs Greater e refl (on later)
 
--- ---- what is written into a map
+-- ---- values that are written into a map
 
 module _ {S : Type 0} (spans : S → List Span) where
-  -- a value in the place of another is a section in the place of another
+  -- replacing a value replaces a section
   pub set_is_with : (k : List ℕ) (v : HeldSection S) (es : Named S) → sections_of spans (set_value (is_at (bytes_cmp k)) es v) ≡ with_section (section_of spans (k, v)) (sections_of spans es)
   set_is_with k v [] = refl
   set_is_with k v (e ∷ es) = by (bytes_cmp k e.0) refl (set_is_with k v es)
@@ -106,7 +106,7 @@ module _ {S : Type 0} (spans : S → List Span) where
       → sections_of spans (named_sections old) ≡ with_section (section_of spans (k, v)) (sections_of spans (named_sections old))
   puts_nowhere k v old none = with_absent k v (named_sections old) (none_found k (named_sections old) (sym (named_lookup k old) ∙ none))
 
-  -- the place of a value, with others in it
+  -- a value is replaced at its place, and another section can replace it there
   record Sets (k : List ℕ) (was value : HeldSection S) (old new : Named S) : Type 0 where
     front : List Section
     back : List Section
@@ -148,7 +148,7 @@ module _ {S : Type 0} (spans : S → List Span) where
           }
       by Greater c f h = later Greater c refl (h f)
 
-  -- the section that there is takes the addition and is taken out, or was refused it
+  -- the section takes the addition and is taken out, or the addition is refused
   pub takes : (addition : Addition) (k : List ℕ) (result : Result (Option (Apart S)) AllocError) (from to : HeldSection S) (old new : Mapped S) → lookup (is_at (at_name k)) old ≡ Some from → new ≡ set_value (is_at (at_name k)) old to
       → MatchResult result (λ apart. IsTaken addition (section_of spans (k, from)) (apart_of spans apart) (section_of spans (k, to))) (λ _. section_of spans (k, to) ≡ section_of spans (k, from))
       → IfOk result (λ apart. TakesOut addition k (sections_of spans (named_sections old)) (apart_of spans apart) (sections_of spans (named_sections new)))
@@ -188,7 +188,7 @@ in_order section h = record { runs = h.runs; serials = h.serials; ids_rise = h.i
 nothing_listed : (a : List ℕ) → InOrder (empty_section a)
 nothing_listed a = record { runs = tt; serials = λ s n. absurd n; ids_rise = tt }
 
--- another section that is listed, in the place of one
+-- revocations stay in order if a listed section replaces another
 pub changed_orderly : (front back : List Section) (from to : Section) (old new : List Section) (keys sha1s sha256s : List (List ℕ)) → old ≡ front ++ from ∷ back → new ≡ front ++ to ∷ back → from.authority ≡ to.authority → IsListed to
     → IsOrderly (revocations_of old keys sha1s sha256s) → IsOrderly (revocations_of new keys sha1s sha256s)
 changed_orderly front back from to old new keys sha1s sha256s before after same listed o =
@@ -203,7 +203,7 @@ adds_orderly : (addition : Addition) (a : List ℕ) (old new : List Section) (ke
 adds_orderly (Serials near) a old new keys sha1s sha256s one adds o = serials_orderly near a old new keys sha1s sha256s one.0 one.1.0 adds o
 adds_orderly (Id text) a old new keys sha1s sha256s one adds o = id_orderly text a old new keys sha1s sha256s adds o
 
--- what is left where a section was taken out, or where that was refused, is in order
+-- the sections are in order after one is taken out, and after that is refused
 pub left_orderly : {S : Type 0} (spans : S → List Span) (addition : Addition) (a : List ℕ) (result : Result (Option (Apart S)) AllocError) (old new : List Section) (keys sha1s sha256s : List (List ℕ)) → IsOneChange addition
     → IfOk result (λ apart. TakesOut addition a old (apart_of spans apart) new) → OnErr result (new ≡ old) → IsOrderly (revocations_of old keys sha1s sha256s) → IsOrderly (revocations_of new keys sha1s sha256s)
 left_orderly spans addition a (Ok None) old new keys sha1s sha256s one ok err o = adds_orderly addition a old new keys sha1s sha256s one ok o

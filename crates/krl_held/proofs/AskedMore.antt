@@ -1,4 +1,4 @@
--- What is found of what a list's front holds, as more is asked about.
+-- The findings in a list's front when more is asked about.
 use Rattle.std.proofs.Common.{◌≡◌, ℕ, ◌+◌, ◌-◌, ◌<◌, ◌≤◌, ◌⊎◌, ◌↔◌, List, [], ◌∷◌, Ok, Err, refl, sym, ap, ap₂, subst, inl, inr, arith}
 use Rattle.std.specs.Prelude.{Contains, Result, OnOk}
 use Rattle.std.proofs.Math.Logic.{⊎_elim, ⊎_map}
@@ -15,14 +15,14 @@ use Rattle.krl_held.proofs.BothWays.{iff_none, iff_or}
 use Rattle.krl_held.proofs.MeansMore.{means_more_names}
 use Rattle.krl_held.proofs.SerialsGrow.{serials_grow, serials_stay}
 
--- what two facts of a success give
+-- a consequence of two facts about a success
 pub on_ok_with : {T E P Q R : Type 0} (r : Result T E) → (P → Q → R) → OnOk r P → OnOk r Q → OnOk r R
 on_ok_with (Ok x) then p q = then p q
 on_ok_with (Err e) then p q = tt
 
 -- ---- one entry more
 
--- the entry names just this
+-- the entry names exactly this name
 abbrev pub NamesJust : Entry → Name → Type 0
 NamesJust entry only = (name : Name) → EntryNames entry name ↔ (name ≡ only)
 
@@ -64,19 +64,19 @@ just_serial a serial some = names_just (RangeEntry a serial serial) (SerialOf a 
     each (SerialOf b other) h = ap₂ (λ x y. SerialOf x y) (sym h.0) (let same : other ≡ serial = omega (arith, h.1.1.0, h.1.1.1) in same)
     each name h = absurd h
 
--- what is held beside what was held is what the entry names
+-- one entry more adds exactly the names of the entry
 pub one_name : (old new : Revocations) (entry : Entry) → IsOrderly old → MeansMore old new (entry ∷ []) → (name : Name) → HoldsName new name ↔ (HoldsName old name ⊎ EntryNames entry name)
 one_name old new entry orderly means name =
     Iff.trans ((means_more_names old new (entry ∷ []) orderly means).1 name) (iff_or Iff.rfl (Iff.symm (iff_none (λ h. h))))
 
--- ---- what is found
+-- ---- findings
 
--- the front does not hold the name that is sought
+-- the front does not hold the sought name
 pub finds_none : (front old : Revocations) (sought : Name) → (HoldsName front sought → ⊥) → Finds front (λ name. name ≡ sought) old old
 finds_none front old sought none =
     record { orderly = λ was. was; names = λ name. iff_none (λ h. none (subst (HoldsName front) h.1 h.0)) }
 
--- it does, and the name is added
+-- the front holds the sought name, and it is added
 pub finds_one : (front old new : Revocations) (entry : Entry) (sought : Name) → NamesJust entry sought → HoldsName front sought → IsOrderly old → MeansMore old new (entry ∷ []) → Finds front (λ name. name ≡ sought) old new
 finds_one front old new entry sought just held orderly means = record {
   orderly = λ was. (means_more_names old new (entry ∷ []) was means).0;
@@ -86,7 +86,7 @@ finds_one front old new entry sought just held orderly means = record {
   ));
 }
 
--- some names and then others
+-- some names are found, and then others
 pub finds_both : (front old between new : Revocations) (Some Other : Name → Type 0) → Finds front Some old between → Finds front Other between new → Finds front (λ name. Some name ⊎ Other name) old new
 finds_both front old between new Some Other first then = record {
   orderly = λ was. then.orderly (first.orderly was);
@@ -102,7 +102,7 @@ finds_both front old between new Some Other first then = record {
   ));
 }
 
--- more is asked about, and what the front holds of that is found
+-- more is asked about, and the sought names that the front holds are found
 pub finds_more : (front : Revocations) (Sought : Name → Type 0) (old new : Asked) → FindsIn front old → Finds front Sought old.found new.found → AsksMore old.topics new.topics
     → ((name : Name) → IsTopic new.topics name → IsTopic old.topics name ⊎ Sought name) → ((name : Name) → Sought name → IsTopic new.topics name) → FindsIn front new
 finds_more front Sought old new was finds more only sought = record {
@@ -124,9 +124,9 @@ finds_more front Sought old new was finds more only sought = record {
     others : (name : Name) → (HoldsName old.found name → IsTopic old.topics name) → HoldsName new.found name → IsTopic new.topics name
     others name before h = ⊎_elim (λ held. more name (before held)) (λ found. sought name found.1) ((finds.names name).0 h)
 
--- ---- what is asked about
+-- ---- topics
 
--- what is held is a topic still
+-- if every held name stays held, every topic stays one
 pub asks_more : (old new : Revocations) → ((name : Name) → HoldsName old name → HoldsName new name) → AsksMore old new
 asks_more old new stays (SerialOf a s) h = stays (SerialOf a s) h
 asks_more old new stays (IdOf a text) h = stays (IdOf a text) h
@@ -134,11 +134,11 @@ asks_more old new stays (KeyOf blob) h = stays (KeyOf blob) h
 asks_more old new stays (Sha1Of hash) h = (h.0, (stays (KeyOf h.0) h.1.0, h.1.1))
 asks_more old new stays (Sha256Of hash) h = (h.0, (stays (KeyOf h.0) h.1.0, h.1.1))
 
--- an entry more is asked about
+-- an added entry keeps every topic
 pub asks_entry : (old new : Revocations) (entry : Entry) → IsOrderly old → MeansMore old new (entry ∷ []) → AsksMore old new
 asks_entry old new entry orderly means = asks_more old new (λ name h. (one_name old new entry orderly means name).1 (inl h))
 
--- where no key is added, just what the entry names is asked about beside what was
+-- if no key is added, the only new topics are the names of the entry
 pub only_entry : (old new : Revocations) (entry : Entry) → IsOrderly old → MeansMore old new (entry ∷ []) → new.keys ≡ old.keys → (name : Name) → IsTopic new name → IsTopic old name ⊎ EntryNames entry name
 only_entry old new entry orderly means keys (SerialOf a s) h = (one_name old new entry orderly means (SerialOf a s)).0 h
 only_entry old new entry orderly means keys (IdOf a text) h = (one_name old new entry orderly means (IdOf a text)).0 h
@@ -146,7 +146,7 @@ only_entry old new entry orderly means keys (KeyOf blob) h = (one_name old new e
 only_entry old new entry orderly means keys (Sha1Of hash) h = inl (h.0, (subst (λ l. Contains l h.0) keys h.1.0, h.1.1))
 only_entry old new entry orderly means keys (Sha256Of hash) h = inl (h.0, (subst (λ l. Contains l h.0) keys h.1.0, h.1.1))
 
--- just a key's names are
+-- an added key makes only its own names topics
 only_key : (old new : Revocations) (blob : List ℕ) → IsOrderly old → MeansMore old new (KeyEntry blob ∷ []) → (name : Name) → IsTopic new name → IsTopic old name ⊎ IsOfKey blob name
 only_key old new blob orderly means name h = by name h
   where
@@ -162,7 +162,7 @@ only_key old new blob orderly means name h = by name h
     by (Sha256Of hash) (key, (held, is)) =
         ⊎_map (λ was. (key, (was, is))) (λ (same : blob ≡ key). inr (inr (ap Sha256Of (subst (λ x. hash ≡ sha256 x) (sym same) (sym is))))) ((one_name old new (KeyEntry blob) orderly means (KeyOf key)).0 held)
 
--- a key that is asked about is so by each of its names
+-- every name of a key that is asked about is a topic
 key_topics : (topics : Revocations) (blob : List ℕ) → Contains topics.keys blob → (name : Name) → IsOfKey blob name → IsTopic topics name
 key_topics topics blob is name h =
     elim h [
@@ -173,23 +173,23 @@ key_topics topics blob is name h =
       ]
     ]
 
--- what is asked of an authority is so still
+-- topics under an authority stay topics
 pub under_stays : (old new : Revocations) (a id : List ℕ) (serial : ℕ) → AsksMore old new → HasUnder old a id serial → HasUnder new a id serial
 under_stays old new a id serial more h = (more (IdOf a id) h.0, ⊎_map (λ none. none) (more (SerialOf a serial)) h.1)
 
--- ---- both
+-- ---- topics and findings
 
--- what an entry names is held
+-- the names of an added entry are held
 pub now_held : (old new : Revocations) (entry : Entry) (name : Name) → EntryNames entry name → IsOrderly old → MeansMore old new (entry ∷ []) → HoldsName new name
 now_held old new entry name is orderly means = (one_name old new entry orderly means name).1 (inr is)
 
--- a key is asked about
+-- a key is asked about, and its names are looked for
 pub finds_key : (front : Revocations) (old new : Asked) (blob : List ℕ) → IsOrderly old.topics → MeansMore old.topics new.topics (KeyEntry blob ∷ []) → FindsIn front old → Finds front (IsOfKey blob) old.found new.found → FindsIn front new
 finds_key front old new blob orderly means was finds =
     finds_more front (IsOfKey blob) old new was finds (asks_entry old.topics new.topics (KeyEntry blob) orderly means) (only_key old.topics new.topics blob orderly means)
     (key_topics new.topics blob (now_held old.topics new.topics (KeyEntry blob) (KeyOf blob) refl orderly means))
 
--- a key ID is, or a serial number, which is a topic just where it is held
+-- the same for a key ID or a serial number, which is a topic exactly if it is held
 pub finds_name : (front : Revocations) (old new : Asked) (entry : Entry) (sought : Name) → NamesJust entry sought → (HoldsName new.topics sought → IsTopic new.topics sought) → IsOrderly old.topics → MeansMore old.topics new.topics (entry ∷ []) → new.topics.keys ≡ old.topics.keys
     → FindsIn front old → Finds front (λ name. name ≡ sought) old.found new.found → FindsIn front new
 finds_name front old new entry sought just is orderly means keys was finds =

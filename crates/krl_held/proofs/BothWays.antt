@@ -1,4 +1,4 @@
--- One way and back, of one thing or another and of the elements of lists.
+-- Equivalences between alternatives, and for the elements of lists.
 use Rattle.std.proofs.Common.{◌≡◌, ◌⊎◌, ◌↔◌, List, [], ◌∷◌, ◌++◌, subst, inl, inr}
 use Rattle.std.specs.List.{Contains}
 use Rattle.std.proofs.Math.Logic.{⊎_elim, ⊎_map, ⊎_swap}
@@ -15,21 +15,21 @@ iff_swap = (⊎_swap, ⊎_swap)
 pub iff_none : {A B : Type 0} → (B → ⊥) → A ↔ (A ⊎ B)
 iff_none none = (λ a. inl a, λ x. elim x [ inl a ↦ a | inr b ↦ absurd (none b) ])
 
--- the second first
+-- swaps the first two of three alternatives
 pub iff_front : {A B C : Type 0} → (A ⊎ (B ⊎ C)) ↔ (B ⊎ (A ⊎ C))
 iff_front = (
   λ x. elim x [ inl a ↦ inr (inl a) | inr bc ↦ elim bc [ inl b ↦ inl b | inr c ↦ inr (inr c) ] ],
   λ x. elim x [ inl b ↦ inr (inl b) | inr ac ↦ elim ac [ inl a ↦ inl a | inr c ↦ inr (inr c) ] ],
 )
 
--- one of the first two pairs, and one of the second
+-- pairs four alternatives in the other way
 pub iff_across : {A B C D : Type 0} → ((A ⊎ B) ⊎ (C ⊎ D)) ↔ ((A ⊎ C) ⊎ (B ⊎ D))
 iff_across = (λ x. across x, λ x. across x)
   where
     across : {A B C D : Type 0} → ((A ⊎ B) ⊎ (C ⊎ D)) → ((A ⊎ C) ⊎ (B ⊎ D))
     across x = elim x [ inl ab ↦ elim ab [ inl a ↦ inl (inl a) | inr b ↦ inr (inl b) ] | inr cd ↦ elim cd [ inl c ↦ inl (inr c) | inr d ↦ inr (inr d) ] ]
 
--- what both have
+-- a fact that both alternatives have
 pub iff_both : {P A B : Type 0} → ((P × A) ⊎ (P × B)) ↔ (P × (A ⊎ B))
 iff_both = (
   λ x. elim x [ inl a ↦ (a.0, inl a.1) | inr b ↦ (b.0, inr b.1) ],

@@ -1,4 +1,4 @@
--- What is held means its own entries.
+-- Revocations mean their own entries.
 use Rattle.std.proofs.Common.{◌≡◌, ℕ, List, [], ◌∷◌, ◌++◌, map}
 use Rattle.std.specs.Prelude.{◌↔◌}
 use Rattle.std.specs.List.{All, Contains, flat_map}
@@ -25,7 +25,7 @@ texts_named : (f : List ℕ → Entry) (name : Name) (text : List ℕ) → ((t :
 texts_named f name text each [] = (λ h. absurd (contains_none text h), λ h. absurd h)
 texts_named f name text each (t ∷ texts) = Iff.trans (contains_cons t texts text) (iff_or (Iff.symm (each t)) (texts_named f name text each texts))
 
--- entries of another kind
+-- entries of another kind do not name it
 texts_none : (f : List ℕ → Entry) (name : Name) → ((t : List ℕ) → EntryNames (f t) name → ⊥) → (texts : List (List ℕ)) → SomeNames (map f texts) name → ⊥
 texts_none f name none [] h = h
 texts_none f name none (t ∷ texts) h = ⊎_elim (none t) (texts_none f name none texts) h
@@ -62,7 +62,7 @@ sections_named (x ∷ xs) listed name =
     let is : IsListed x = All-head IsListed x xs listed in
     Iff.trans (iff_or (section_named x is.serials name) (sections_named xs (All-tail IsListed x xs listed) name)) (Iff.symm (some_append (section_entries x) (flat_map section_entries xs) name))
 
--- ---- all that is held
+-- ---- everything that is held
 
 module _ (r : Revocations) (o : IsOrderly r) where
   abbrev sections : List Entry

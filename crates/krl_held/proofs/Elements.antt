@@ -1,4 +1,4 @@
--- Elements of lists, and what lists that have some name.
+-- Elements of lists, and entries and sections with a property.
 use Rattle.std.proofs.Common.{◌≡◌, ℕ, zero, suc, ◌<◌, ◌⊎◌, List, [], ◌∷◌, ◌++◌, length, refl, inl}
 use Rattle.std.proofs.Common.{inr}
 use Rattle.std.proofs.Common.{arith}
@@ -28,7 +28,7 @@ pub all_append : {X : Type 0} (P : X → Type 0) (xs ys : List X) → AllByRecur
 all_append P [] ys front back = back
 all_append P (x ∷ xs) ys front back = (front.0, all_append P xs ys front.1 back)
 
--- ---- what is there where a list is not empty
+-- ---- elements of a list that is not empty
 
 pub some_text : (texts : List (List ℕ)) → 0 < length texts → (text : List ℕ) × Contains texts text
 some_text [] some = absurd (omega arith)
@@ -38,7 +38,7 @@ pub some_serial : (spans : List Span) → 0 < length spans → IsRuns spans → 
 some_serial [] some runs = absurd (omega arith)
 some_serial (span ∷ spans) some runs = (span.lo, inl (omega arith, runs.1))
 
--- ---- what some entries name
+-- ---- the names of some entries
 
 pub some_left : (xs ys : List Entry) (name : Name) → SomeNames xs name → SomeNames (xs ++ ys) name
 some_left [] ys name h = absurd h
@@ -61,7 +61,7 @@ some_cases (x ∷ xs) ys name h =
       ]
     ]
 
--- ---- sections of which something holds
+-- ---- sections with a property
 
 pub some_weaker : {P Q : Section → Type 0} → ((section : Section) → P section → Q section)
     → (sections : List Section) → SomeSection P sections → SomeSection Q sections

@@ -1,4 +1,4 @@
--- What an addition makes of a section, by the names of what it holds.
+-- The names that a section holds after an addition.
 use Rattle.std.proofs.Common.{◌≡◌, ℕ, List, [], ◌∷◌, Bor, sym, ap, subst, ◌∙◌, inl, inr}
 use Rattle.std.specs.Prelude.{◌↔◌}
 use Rattle.std.specs.List.{Contains}
@@ -17,7 +17,7 @@ use Rattle.std.proofs.Math.Logic.Iff as Iff
 use Rattle.krl_held.proofs.SomeSections.{HeldIn, Step}
 use Rattle.krl_held.proofs.Elements.{contains_none}
 
--- what an addition leaves as it was is held as before
+-- a part of a section that an addition does not change is held as before
 stays : (addition : Addition) (b a : List ℕ) (Q : Section → Type 0) → ((from to : Section) → TakesAddition addition from to → (to.authority ≡ from.authority) × (Q to ↔ Q from)) → (Q (empty_section b) → ⊥)
     → Step addition b (λ section. (section.authority ≡ a) × Q section) ⊥
 stays addition b a Q same none = record {
@@ -28,12 +28,12 @@ stays addition b a Q same none = record {
 nothing_new : (addition : Addition) (b : List ℕ) → Step addition b (λ section. ⊥) ⊥
 nothing_new addition b = record { one = λ from to under t. iff_none (λ no. no); none = λ h. h }
 
--- the spans name their serials alone
+-- the entries of spans name only serials
 pub runs_name_none : (b : List ℕ) (runs : List Span) (name : Name) → ((lo hi : ℕ) → EntryNames (RangeEntry b lo hi) name → ⊥) → SomeNames (run_entries b runs) name → ⊥
 runs_name_none b [] name none h = h
 runs_name_none b (x ∷ xs) name none h = elim h [ inl here ↦ none x.lo x.hi here | inr later ↦ runs_name_none b xs name none later ]
 
--- where nothing new is held, what names nothing is
+-- an addition that changes nothing here, for an entry that names nothing here
 step_none : (addition : Addition) (b : List ℕ) (P : Section → Type 0) (Q : Type 0) → (Q → ⊥) → Step addition b P ⊥ → Step addition b P Q
 step_none addition b P Q none step = record {
   one = λ from to under t. Iff.trans (step.one from to under t) (Iff.trans (Iff.symm (iff_none (λ no. no))) (iff_none none));

@@ -26,7 +26,7 @@ use Rattle.krl_held.proofs.Members.{absent_parts}
 use Rattle.krl_held.proofs.Elements.{contains_cases, contains_here, contains_later, contains_none}
 use Rattle.krl_held.specs.Texts.{bytes_of, texts_of}
 
--- ---- where a byte string goes
+-- ---- the place of a byte string
 
 sorted : (texts : List (Vec ℕ)) → RisesBy bytes_of texts → IsSortedBy (λ a b. is_lt (bytes_cmp (bytes_of a) (bytes_of b))) texts
 sorted [] r k d low h = absurd (omega arith)
@@ -52,7 +52,7 @@ module _ {X : Type 0} (P : X → Type 0) where
   all_after (x ∷ xs) zero all = (all 0 x (omega arith) (omega arith), all_after xs zero (λ k d low lt. all (suc k) d (omega arith) (omega arith)))
   all_after (x ∷ xs) (suc at) all = all_after xs at (λ k d low lt. all (suc k) d (omega arith) (omega arith))
 
--- a binary search ends at the byte string, or where it goes
+-- a binary search ends at the byte string, or at the index where it belongs
 pub searched : (texts : List (Vec ℕ)) (id : List ℕ) (r : Result ℕ ℕ) → RisesBy bytes_of texts → IsSearchInRange r (length texts) → IsBinarySearchResult (λ t. bytes_cmp (bytes_of t) id) texts r
     → MatchOption (result_err r) (Contains (texts_of texts) id) (λ at. GoesTo at id texts)
 searched texts id (Ok at) rise within equal = contained texts at id within (λ d. exact_bytes _ id (equal d))
@@ -68,7 +68,7 @@ pub not_there : (at : ℕ) (bytes : List ℕ) (texts : List (Vec ℕ)) → GoesT
 not_there at bytes texts g there =
     absent_parts bytes_of bytes (take at texts) (drop at texts) g.below g.above (subst (λ l. Contains (texts_of l) bytes) (sym (take-append-drop at texts)) there)
 
--- ---- one more of a few
+-- ---- one byte string more
 
 pub goes_in : (at : ℕ) (x : Vec ℕ) (texts grown new : List (Vec ℕ)) (id : List ℕ) → RisesBy bytes_of texts → GoesTo at id texts → x.items ≡ id → grown ≡ texts → new ≡ insert grown at x
     → RisesBy bytes_of new × Puts (texts_of texts) id (texts_of new)
@@ -98,7 +98,7 @@ module _ {X : Type 0} (key : X → List ℕ) where
   shown bytes [] m = absurd (contains_none bytes m)
   shown bytes (x ∷ xs) m = elim (contains_cases (key x) bytes (map key xs) m) [ inl here ↦ (x, here) | inr later ↦ shown bytes xs later ]
 
--- clones have the bytes of what they were cloned from
+-- clones have the bytes of their originals
 pub cloned : (texts copies : List (Vec ℕ)) → AllZip (λ (t c : Vec ℕ). AllZip (λ x y. y ≡ x) t.items c.items × (vec_len c ≡ vec_len t)) texts copies → texts_of copies ≡ texts_of texts
 cloned [] [] all = refl
 cloned [] (c ∷ cs) all = absurd all

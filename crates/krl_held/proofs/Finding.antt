@@ -35,7 +35,7 @@ section_cases P [] back h = inr h
 section_cases P (x ∷ front) back h =
     elim h [ inl here ↦ inl (inl here) | inr later ↦ ⊎_map inr (λ r. r) (section_cases P front back later) ]
 
--- what holds under an authority holds of its section
+-- a property under an authority is a property of its section
 one_under : (sections : List Section) (section : Section) (P : Section → Type 0) → Under section.authority P → Stands key sections section → SomeSection P sections ↔ P section
 one_under sections section P under s = (
   λ h. elim ((some_middle P s.front section s.back).0 (subst (SomeSection P) s.parts h)) [
@@ -64,7 +64,7 @@ no_id_under sections a id absent h = absent (some_weaker (λ s at. at.0) section
 pub no_serial_under : (sections : List Section) (a : List ℕ) (serial : ℕ) → (SomeSection (λ s. s.authority ≡ a) sections → ⊥) → HoldsSerial sections a serial → ⊥
 no_serial_under sections a serial absent h = absent (some_weaker (λ s at. at.0) sections h)
 
--- what is held under the authority of a section is what this holds
+-- everything under the authority of a section is in that section
 pub under_section : (sections : List Section) (section : Section) (a id : List ℕ) (serial : ℕ) → section.authority ≡ a → Stands (λ s. s.authority) sections section → HoldsUnder sections a id serial ↔ (Contains section.ids id ⊎ Covers section.spans serial)
 unfolding Under
 under_section sections section a id serial same stands =

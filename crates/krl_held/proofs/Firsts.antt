@@ -8,7 +8,7 @@ use Rattle.serial_set.proofs.Rising.{names_from}
 use Rattle.serial_set.proofs.Walking.{since_from, since_runs, since_to}
 use Rattle.krl_held.specs.Questions.{IsFirst}
 
--- the first of the same numbers
+-- properties of the same numbers have the same first number
 pub first_as : (Member Other : ℕ → Type 0) (lo hi : ℕ) (first : Option ℕ) → ((s : ℕ) → Other s ↔ Member s) → IsFirst Member lo hi first → IsFirst Other lo hi first
 first_as Member Other lo hi None same h = λ s low high is. h s low high ((same s).0 is)
 first_as Member Other lo hi (Some first) same h = (h.0, h.1, (same first).1 h.2, λ s low below is. h.3 s low below ((same s).0 is))

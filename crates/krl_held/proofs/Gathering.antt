@@ -1,4 +1,4 @@
--- What is held of a list after an addition under an authority.
+-- The revocations of a list after an addition under an authority.
 use Rattle.std.proofs.Common.{◌≡◌, ℕ, ◌+◌, ◌<◌, ◌≤◌, List, ◌∷◌, [], ◌++◌, Bor, length, refl, sym, ap, subst, inl, inr, arith}
 use Rattle.std.specs.Prelude.{Some, Result, Ok, Err, MatchResult, OnOk, OnErr}
 use Rattle.std.specs.declared.alloc.AllocError.{AllocError}
@@ -17,15 +17,15 @@ use Rattle.krl_held.proofs.Apart.{changed_orderly, in_order, place_of, takes_lis
 use Rattle.krl_held.proofs.HeldSections.{takes_authority}
 use Rattle.krl_held.proofs.SomeSections.{sum_adds}
 
--- ---- the section that is held apart
+-- ---- the section that is kept apart
 
--- what is held is in order, with the section that is held apart
+-- the revocations are in order, including the section that is kept apart
 pub whole_orderly : (section : Section) (rest : Revocations) → HasPlace (Some section) rest → IsOrderly rest → IsOrderly (whole (Some section) rest)
 whole_orderly section rest h o =
     let p = place_of section.authority rest.sections h.0 in
     changed_orderly p.front p.back p.from section rest.sections (with_section section rest.sections) rest.keys rest.sha1s rest.sha256s p.before (p.with_other section refl) p.under h.1 o
 
--- it takes an addition
+-- the section takes an addition
 pub apart_adds : (addition : Addition) (a : List ℕ) (from to : Section) (rest : Revocations) → HasPlace (Some from) rest → from.authority ≡ a → TakesAddition addition from to → AddsUnder addition a (whole (Some from) rest) (whole (Some to) rest)
 apart_adds addition a from to rest h name t =
     let p = place_of from.authority rest.sections h.0 in
@@ -43,7 +43,7 @@ apart_adds addition a from to rest h name t =
       same = refl;
     }
 
--- and keeps its place
+-- the section keeps its place
 pub apart_place : (addition : Addition) (result : Result (Unit {0}) AllocError) (from to : Section) (rest : Revocations) → IsOneChange addition → HasPlace (Some from) rest
     → MatchResult result (λ _. TakesAddition addition from to) (λ _. to ≡ from) → HasPlace (Some to) rest
 apart_place addition (Ok done) from to rest one h t =
@@ -55,7 +55,7 @@ pub apart_done : (addition : Addition) (a : List ℕ) (result : Result (Unit {0}
 apart_done addition a (Ok done) from to rest h name t = apart_adds addition a from to rest h name t
 apart_done addition a (Err fault) from to rest h name same = tt
 
--- what contracts see where it is held apart
+-- what contracts see while the section is kept apart
 abbrev pub with_one : Section → Revocations → Gathered
 with_one section rest = record { contents = whole (Some section) rest; apart = Some section.authority }
 
@@ -64,12 +64,12 @@ pub apart_refused : (addition : Addition) (result : Result (Unit {0}) AllocError
 apart_refused addition (Ok done) from to rest t = tt
 apart_refused addition (Err fault) from to rest same = ap (λ (s : Section). with_one s rest) same
 
--- what is held stays where an addition is refused
+-- the contents stay the same if an addition is refused
 pub contents_stay : (result : Result (Unit {0}) AllocError) (old new : Gathered) → OnErr result (new ≡ old) → OnErr result (new.contents ≡ old.contents)
 contents_stay (Ok done) old new same = tt
 contents_stay (Err fault) old new same = ap (λ (g : Gathered). g.contents) same
 
--- ---- what an addition means, and how much it is
+-- ---- the meaning and the size of an addition
 
 pub serials_mean_more : (near : Bor (List Span)) (a : List ℕ) (old new : Revocations) → 0 < length near.now → All IsInterval near.now → AddsUnder (Serials near) a old new → MeansMore old new (run_entries a near.now)
 serials_mean_more near a old new some intervals u entries m =
@@ -79,7 +79,7 @@ pub id_means_more : (id : Bor (List ℕ)) (a : List ℕ) (old new : Revocations)
 id_means_more id a old new u entries m =
     subst (λ r. Means r (entries ++ IdEntry a id.now ∷ [])) (sym u.same) (id_mean id a old.sections new.sections old.keys old.sha1s old.sha256s entries u.adds m)
 
--- an addition that makes a section larger by at most so many bytes
+-- an addition that adds at most `more` bytes to a section adds at most as many in all
 stored_more : (addition : Addition) (a : List ℕ) (old new : Revocations) (more : ℕ) → ((from to : Section) → TakesAddition addition from to → section_size to ≤ section_size from + more) → AddsUnder addition a old new
     → (n : ℕ) → IsStoredWithin a old n → IsStoredWithin a new (n + more)
 stored_more addition a old new more step u n w = record {

@@ -6,7 +6,7 @@ use Rattle.krl_held.specs.Questions.{HashesOf}
 use Rattle.krl_held.proofs.AddedSections.{put_held}
 use Rattle.krl_held.proofs.Elements.{contains_cases, contains_here, contains_later, contains_none}
 
--- the keys so far are hashed, and the others are left
+-- each key is hashed or left, and each hash is one of a key
 pub record AreHashedSoFar (hash : List ℕ → List ℕ) (keys hashes left : List (List ℕ)) : Type 0 where
   pub all : (blob : List ℕ) → Contains keys blob → Contains hashes (hash blob) ⊎ Contains left blob
   pub only : (text : List ℕ) → Contains hashes text → (key : List ℕ) × (Contains keys key × (hash key ≡ text))

@@ -1,4 +1,4 @@
--- What an addition to one section does to all of them.
+-- The effect of an addition to one section on all sections.
 use Rattle.std.proofs.Common.{◌≡◌, ℕ, List, [], ◌∷◌, ◌++◌, map, refl, sym, ap, subst, ◌∙◌, inl, inr, cond}
 use Rattle.std.specs.Prelude.{Option, Some, None, MatchOption, Result, Ok, Err, MatchResult, OnErr, OnOk}
 use Rattle.std.specs.declared.alloc.AllocError.{AllocError}
@@ -88,7 +88,7 @@ module _ {S : Type 0} where
       by Equal h = refl
       by Greater h = ap (λ l. (e.0.items, e.1) ∷ l) h
 
-  -- ---- what a search finds, and what is written there
+  -- ---- the result of a search, and a value that is written there
 
   record Swaps (k : List ℕ) (was value : HeldSection S) (old new : Named S) : Type 0 where
     front : Named S
@@ -124,7 +124,7 @@ module _ {S : Type 0} where
       by Equal c f h = absurd (cc f)
       by Greater c f h = (λ same. (let e : Greater ≡ Equal = sym c ∙ tied k e.0 same in cc), h f)
 
-  -- an entry more
+  -- one entry more
   record Splits (k : List ℕ) (v : HeldSection S) (old new : Named S) : Type 0 where
     front : Named S
     back : Named S
@@ -141,7 +141,7 @@ module _ {S : Type 0} where
       by Equal c s = absurd (none.0 (sym (exact_bytes k e.0 c)))
       by Greater c s = record { front = e ∷ s.front; back = s.back; before = ap (λ l. e ∷ l) s.before; after = ap (λ l. e ∷ l) s.after }
 
-  -- ---- the sections of all
+  -- ---- the sections of all authorities
 
   module _ (spans : S → List Span) where
     none_named : (k : List ℕ) (es : Named S) → AllByRecursion (λ e. e.0 ≡ k → ⊥) es → SomeSection (λ section. section.authority ≡ k) (sections_of spans es) → ⊥
@@ -170,7 +170,7 @@ module _ {S : Type 0} where
     found (Some section) k es r is =
         section_stands k section.now section.now (named_sections es) _ r (set_swaps k section.now section.now (named_sections es) (sym (is ∙ named_lookup k es)))
 
-    -- another held section of an authority is another section
+    -- replacing a held section of an authority replaces a section
     changes_one : (Change : Section → Section → Type 0) (k : List ℕ) (from to : HeldSection S) (old new : Mapped S) → lookup (is_at (at_name k)) old ≡ Some from → new ≡ set_value (is_at (at_name k)) old to
         → Change (section_of spans (k, from)) (section_of spans (k, to)) → ChangesOne Change k (sections_of spans (named_sections old)) (sections_of spans (named_sections new))
     changes_one Change k from to old new was is changed =
@@ -186,7 +186,7 @@ module _ {S : Type 0} where
           changed = changed;
         }
 
-    -- the section that there is takes the addition, or was refused it and holds what it did
+    -- the section takes the addition, or the addition is refused and the section stays the same
     pub adds : (addition : Addition) (k : List ℕ) (result : Result (Unit {0}) AllocError) (from to : HeldSection S) (old new : Mapped S) → lookup (is_at (at_name k)) old ≡ Some from → new ≡ set_value (is_at (at_name k)) old to
         → MatchResult result (λ _. TakesAddition addition (section_of spans (k, from)) (section_of spans (k, to))) (λ _. section_of spans (k, to) ≡ section_of spans (k, from))
         → OnOk result (AddsTo addition k (sections_of spans (named_sections old)) (sections_of spans (named_sections new))) × OnErr result (sections_of spans (named_sections new) ≡ sections_of spans (named_sections old))
@@ -194,7 +194,7 @@ module _ {S : Type 0} where
     adds addition k (Err fault) from to old new was is same =
         (tt, changes_none k (sections_of spans (named_sections old)) (sections_of spans (named_sections new)) (changes_one (λ from to. to ≡ from) k from to old new was is same))
 
-    -- a section that was not there
+    -- a new section
     pub starts : (addition : Addition) (k : Vec ℕ) (section : HeldSection S) (old new : Mapped S) → lookup (is_at (at_name k.items)) old ≡ None → new ≡ insert_entry by_bytes old k section → RisesBy name_of (named_sections new)
         → TakesAddition addition (empty_section k.items) (section_of spans (k.items, section)) → AddsTo addition k.items (sections_of spans (named_sections old)) (sections_of spans (named_sections new))
     starts addition k section old new none is r takes =

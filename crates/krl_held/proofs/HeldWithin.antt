@@ -31,7 +31,7 @@ held_small topics found t within =
 
 -- ---- authorities
 
--- under an authority that is named a run begins, or there is a key ID
+-- a named authority has a run or a key ID
 by_item : (sections : List Section) (b : List ℕ) (C : Type 0) → All IsListed sections → SomeSection (λ section. section.authority ≡ b) sections
     → ((s : ℕ) → SomeSection (λ section. (section.authority ≡ b) × Contains (starts section.spans) s) sections → C) → ((text : List ℕ) → HoldsId sections b text → C) → C
 by_item [] b C listed named run id = absurd named
@@ -80,7 +80,7 @@ hashes_small hash n hashes keys rises size of_key =
     let count : length hashes ≤ length keys = omega (arith, fewer, sum_ones hashes, sum_ones (map hash keys), length-map keys hash) in
     omega (arith, sum_by-le length n hashes (All-weaker (λ h. length h ≡ n) (λ h. length h ≤ n) (λ h e. omega (arith, e)) hashes size), mul-le-mul_right n count)
 
--- ---- all that is stored
+-- ---- everything that is stored
 
 sections_size : (sections : List Section) → sum_by section_size sections ≡ sum_by (λ section. length section.authority) sections + sum_by (λ section. size_of section.ids) sections
 sections_size [] = refl
@@ -101,7 +101,7 @@ stored_small topics found within =
       hashes_small sha256 32 found.sha256s topics.keys f.sha256s_rise f.sha256_size within.sha256s,
     )
 
--- what is found of some topics is small
+-- the findings for some topics are small
 pub small_within : (topics found : Revocations) → IsOrderly topics → IsWithin topics found → IsSmall topics found
 small_within topics found t within = record { held_is = held_small topics found t within; stored_is = stored_small topics found within }
 

@@ -1,4 +1,4 @@
--- Intervals that have just the serials of an entry.
+-- Intervals with exactly the serials of an entry.
 use Rattle.std.proofs.Common.{◌≡◌, ℕ, zero, suc, ◌+◌, ◌-◌, ◌<◌, ◌≤◌, ◌⊎◌, ◌↔◌, List, [], ◌∷◌, ◌++◌, length, refl, sym, subst, inl, inr, arith, length-append}
 use Rattle.std.specs.Int.{bit_at}
 use Rattle.std.specs.List.{Contains}
@@ -16,9 +16,9 @@ use Rattle.krl_held.proofs.Elements.{contains_none}
 use Rattle.krl_held.specs.Entry.{Entry, SerialsEntry, RangeEntry, BitmapEntry}
 use Rattle.krl_held.specs.Naming.{EntryNames, SerialOf}
 
--- ---- numbers in a row
+-- ---- consecutive numbers
 
--- the serials from one number to another: 0 is none
+-- the serials from one number to another; 0 is no serial
 pub serials_between : ℕ → ℕ → List Span
 serials_between zero max = record { lo = 1; hi = max } ∷ []
 serials_between (suc min) max = record { lo = suc min; hi = max } ∷ []
@@ -33,7 +33,7 @@ unfolding serials_between
 length-between zero max = refl
 length-between (suc min) max = refl
 
--- ---- the bits of a byte, two and two
+-- ---- the bits of a byte, in pairs
 
 pub pair : (first low high : ℕ) → List Span
 pair first zero zero = []
@@ -94,7 +94,7 @@ pair_named base byte at s h from to =
       ⊎_map (λ low. (omega (arith, h.1, low), bit at (omega (arith, low)))) (λ high. (omega (arith, h.1, high), bit (at + 1) (omega (arith, high)))) (cases_lt (s - base) (at + 1)),
     )
 
--- a serial of the byte is one of one of its pairs
+-- a serial of the byte is a serial of one of its pairs
 in_byte : (base byte s : ℕ) → Covers (of_byte base byte) s
     ↔ (Covers (pair_at base byte 0) s ⊎ (Covers (pair_at base byte 2) s ⊎ (Covers (pair_at base byte 4) s ⊎ Covers (pair_at base byte 6) s)))
 unfolding of_byte
@@ -171,7 +171,7 @@ intervals_of (RangeEntry authority min max) = serials_between min max
 intervals_of (BitmapEntry authority offset number) = of_byte offset number
 intervals_of _ = []
 
--- how many intervals an entry has at most
+-- the largest number of intervals of an entry
 abbrev pub most : Entry → ℕ
 most (SerialsEntry authority numbers) = length numbers
 most (RangeEntry authority min max) = 1

@@ -1,4 +1,4 @@
--- What a key or a hash more means, in all that is held.
+-- The meaning of one more key or hash.
 use Rattle.std.proofs.Common.{◌≡◌, ℕ, ◌⊎◌, List, [], ◌∷◌, ◌++◌, length, sym, subst, inl, inr}
 use Rattle.std.specs.Prelude.{◌↔◌}
 use Rattle.std.specs.List.{All}
@@ -10,7 +10,7 @@ use Rattle.krl_held.proofs.AddedSections.{all_middle, put_held, put_rises}
 use Rattle.krl_held.proofs.BothWays.{iff_none}
 use Rattle.krl_held.proofs.SameMeaning.{means_more}
 
--- what holds of each byte string holds of one more
+-- if all byte strings and a new one have a property, all have it after the insertion
 put_all : (P : List ℕ → Type 0) (old : List (List ℕ)) (text : List ℕ) (new : List (List ℕ)) → Puts old text new → P text → All P old → All P new
 put_all P old text new put h a =
     elim put [

@@ -1,4 +1,4 @@
--- What is held before and after it means some entries more, of all names and of those in scope.
+-- Revocations that mean some entries more, for all names and for those in scope.
 use Rattle.std.proofs.Common.{List}
 use Rattle.std.specs.Prelude.{◌⊎◌, ◌↔◌}
 use Rattle.std.proofs.Math.Logic.Iff as Iff
@@ -12,7 +12,7 @@ use Rattle.krl_held.proofs.BothWays.{iff_or}
 use Rattle.krl_held.proofs.Canonical.{means_itself}
 use Rattle.krl_held.proofs.Same.{some_append, some_first}
 
--- it is in order, and holds just what the entries name beside what was held
+-- the new revocations are in order, and add exactly the names of the entries
 pub means_more_names : (old new : Revocations) (more : List Entry) → IsOrderly old → MeansMore old new more
     → IsOrderly new × ((name : Name) → HoldsName new name ↔ (HoldsName old name ⊎ SomeNames more name))
 means_more_names old new more orderly means =
@@ -28,7 +28,7 @@ means_more_within scope old new more means entries m =
       names = λ name within. Iff.trans (now.1 name) (Iff.trans (iff_or (m.names name within) Iff.rfl) (Iff.symm (some_append entries more name)));
     }
 
--- entries that name nothing in scope
+-- entries that name nothing in scope add nothing
 pub nothing_more_within : (scope : Scope) (r : Revocations) (more : List Entry) → ((name : Name) → InScope scope name → SomeNames more name → ⊥) → MeansMoreWithin scope r r more
 nothing_more_within scope r more none entries m =
     record { orderly = m.orderly; names = λ name within. Iff.trans (m.names name within) (some_first entries more name (none name within)) }

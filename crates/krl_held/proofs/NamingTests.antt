@@ -1,4 +1,4 @@
--- Entries revoke just what their test says.
+-- The test of entries is true exactly for what they revoke.
 use Rattle.std.proofs.Common.{◌≡◌, ℕ, ◌≤◌, ◌-◌, false, List, [], ◌∷◌, arith}
 use Rattle.std.specs.Prelude.{◌↔◌, ◌==◌, ◌||◌, ◌&&◌, nat_lt, nat_le, Option, Some, None, IsTrue}
 use Rattle.std.specs.Int.{bit_at}
@@ -81,7 +81,7 @@ unfolding is_revoked
 revoked_tested entries subject =
     Decides-or (key_named entries subject.plain) (cert_named entries subject.cert) (key_tested entries subject.plain) (cert_tested entries subject.cert)
 
--- of what was asked about, what was found revokes just what the entries do
+-- the findings revoke what was asked about exactly if the entries do
 pub found_tested : (topics found : Revocations) (entries : List Entry) → MeansWithin (Some topics) found entries → (subject : Subject) → Asks topics subject
     → revokes found subject ≡ is_revoked entries subject
 found_tested topics found entries m subject asks =
@@ -89,7 +89,7 @@ found_tested topics found entries m subject asks =
     let same = Iff.trans found_is (Iff.symm (revoked_tested entries subject)) in
     both_ways (revokes found subject) (is_revoked entries subject) same.0 same.1
 
--- what is held revokes just what the entries do that it means
+-- revocations revoke exactly what the entries that they mean revoke
 pub meant_tested : (r : Revocations) (entries : List Entry) → Means r entries → (subject : Subject) → revokes r subject ≡ is_revoked entries subject
 meant_tested r entries m subject =
     let same = Iff.trans (revokes_meant r entries m subject) (Iff.symm (revoked_tested entries subject)) in

@@ -1,5 +1,5 @@
--- Lists in which nothing stands twice: a sum over one is at most that over a list with all its
--- elements.
+-- Lists in which each element occurs once. A sum over such a list is at most the sum over any list
+-- with all its elements.
 use Rattle.std.proofs.Common.{◌≡◌, ℕ, ◌≤◌, List, [], ◌∷◌, ◌++◌, length, map, map-id, refl, sym, ap, subst, inl, inr, arith}
 use Rattle.std.specs.Prelude.{⊤, sum_by}
 use Rattle.std.specs.List.{Contains}
@@ -11,7 +11,7 @@ use Rattle.krl_held.proofs.BothWays.{contains_middle}
 use Rattle.krl_held.proofs.Members.{absent_above}
 use Rattle.krl_held.proofs.Elements.{contains_cases, contains_here, contains_later, contains_none}
 
--- each element stands once
+-- each element occurs once
 abbrev pub Once : {X : Type 0} → List X → Type 0
 Once [] = ⊤
 Once (x ∷ xs) = (Contains xs x → ⊥) × Once xs
@@ -56,7 +56,7 @@ sum_within weight (x ∷ xs) ys once within =
     ((contains_middle p.front x p.back z).0 (subst (λ l. Contains l z) p.parts (within z (contains_later x z xs h))))) in
     omega (arith, rest, ap (sum_by weight) p.parts, sum_by-cons weight x xs, sum_by-cons weight x p.back, sum_by-append weight p.front (x ∷ p.back), sum_by-append weight p.front p.back)
 
--- how many there are, as a sum
+-- the length of a list, as a sum
 pub sum_ones : {X : Type 0} (xs : List X) → sum_by (λ x. 1) xs ≡ length xs
 sum_ones [] = refl
 sum_ones (x ∷ xs) = omega (arith, sum_by-cons (λ x. 1) x xs, sum_ones xs)

@@ -1,4 +1,4 @@
--- What is held is one for the entries that it means.
+-- Revocations that mean the same entries are equal.
 use Rattle.std.proofs.Common.{◌≡◌, ℕ, List, [], ◌∷◌, refl, sym, ap, subst, ◌∙◌, inl, inr, arith}
 use Rattle.std.specs.Prelude.{◌↔◌}
 use Rattle.std.specs.List.{Contains, All}
@@ -23,7 +23,7 @@ use Rattle.krl_held.proofs.Elements.{contains_cases, contains_here, contains_lat
 
 -- ---- the order of two byte strings
 
--- of two byte strings one comes first, or they are the same
+-- one of two byte strings comes first, or they are equal
 data Placed (a b : List ℕ) : Type 0 where
   first : bytes_cmp a b ≡ Less → Placed a b
   same : a ≡ b → Placed a b
@@ -80,17 +80,17 @@ same_texts (x ∷ xs) (y ∷ ys) r t both =
 abbrev pub section_authority : Section → List ℕ
 section_authority section = section.authority
 
--- some authority of sections that come after it
+-- an authority comes before that of any later section
 pub above_named : (a b : List ℕ) (xs : List Section) → AllAbove section_authority a xs → SomeSection (λ section. section.authority ≡ b) xs → bytes_cmp a b ≡ Less
 above_named a b [] above h = absurd h
 above_named a b (x ∷ xs) above h =
     ⊎_elim (λ here. subst (λ (t : List ℕ). bytes_cmp a t ≡ Less) here above.0) (above_named a b xs above.1) h
 
--- something is held under it
+-- the same for an authority under which something is held
 pub above_held : (P : Section → Type 0) (a b : List ℕ) (xs : List Section) → AllAbove section_authority a xs → SomeSection (λ section. (section.authority ≡ b) × P section) xs → bytes_cmp a b ≡ Less
 above_held P a b xs above h = above_named a b xs above (some_weaker (λ section both. both.0) xs h)
 
--- what is held under the authority of the first section is held in it
+-- everything under the authority of the first section is held in it
 pub held_first : (P : Section → Type 0) (a : List ℕ) (x : Section) (xs : List Section) → x.authority ≡ a → AllAbove section_authority x.authority xs → SomeSection (λ section. (section.authority ≡ a) × P section) (x ∷ xs) ↔ P x
 held_first P a x xs e above = (
   λ h. elim h [
@@ -100,7 +100,7 @@ held_first P a x xs e above = (
   λ h. inl (e, h),
 )
 
--- what is held under a later authority is held in a later section
+-- everything under a later authority is held in a later section
 held_later : (P : Section → Type 0) (x y : Section) (xs ys : List Section) (a : List ℕ) → x.authority ≡ y.authority → AllAbove section_authority x.authority xs
     → (SomeSection (λ section. (section.authority ≡ a) × P section) (x ∷ xs) → SomeSection (λ section. (section.authority ≡ a) × P section) (y ∷ ys))
     → SomeSection (λ section. (section.authority ≡ a) × P section) xs → SomeSection (λ section. (section.authority ≡ a) × P section) ys
@@ -110,11 +110,11 @@ held_later P x y xs ys a e above to h =
       | inr later ↦ later
     ]
 
--- the same is held under each authority
+-- the sections of two lists hold the same under each authority
 abbrev Alike : List Section → List Section → Type 0
 Alike xs ys = (name : Name) → SomeSection (HeldIn name) xs ↔ SomeSection (HeldIn name) ys
 
--- a section holds something
+-- a listed section holds something, so its authority has a section in the other list
 some_held : (x : Section) (xs ys : List Section) → IsListed x → Alike (x ∷ xs) ys → SomeSection (λ section. section.authority ≡ x.authority) ys
 some_held x xs ys is alike =
     elim is.some [
@@ -122,7 +122,7 @@ some_held x xs ys is alike =
       | inr ids ↦ let t = some_text x.ids ids in some_weaker (λ section both. both.0) ys ((alike (IdOf x.authority t.0)).0 (inl (refl, t.1)))
     ]
 
--- a section that comes before all others has nothing that they have
+-- no listed section comes before all sections of a list that holds the same
 not_listed : (x y : Section) (xs ys : List Section) → IsListed x → RisesBy section_authority (y ∷ ys) → Alike (x ∷ xs) (y ∷ ys) → bytes_cmp x.authority y.authority ≡ Less → ⊥
 not_listed x y xs ys is rise alike less =
     let above : AllAbove section_authority x.authority (y ∷ ys) = (less, AllAbove-earlier section_authority x.authority y.authority ys less rise.0) in
@@ -161,7 +161,7 @@ same_sections (x ∷ xs) (y ∷ ys) r t p q alike =
       | second less ↦ absurd (not_listed y x ys xs is' r (λ name. Iff.symm (alike name)) less)
     ]
 
--- ---- all that is held
+-- ---- everything that is held
 
 pub one_meaning : (r other : Revocations) (entries : List Entry) → Means r entries → Means other entries → r ≡ other
 one_meaning r other entries m n =

@@ -1,4 +1,4 @@
--- Rising lists: what comes before and after an element.
+-- Rising lists: the elements before and after one.
 use Rattle.std.proofs.Common.{◌≡◌, ℕ, List, [], ◌∷◌, ◌++◌, map, sym, ap, subst, ◌∙◌}
 use Rattle.std.specs.declared.cmp.Ordering.TheVariants.{Less, Equal, Greater}
 use Rattle.std.specs.Ordering.{ordering_reverse}
@@ -45,7 +45,7 @@ module _ {X : Type 0} (key : X → List ℕ) where
   below_map f bytes [] a = tt
   below_map f bytes (y ∷ ys) a = (a.0, below_map f bytes ys a.1)
 
-  -- a value is put into a list as what it shows is put into what the list shows
+  -- a value that is inserted into a list is inserted into its image too
   pub inserts_map : {Y : Type 0} (f : Y → X) (old : List Y) (value : Y) (new : List Y) → Inserts (λ y. key (f y)) old value new → Inserts key (map f old) (f value) (map f new)
   inserts_map f old value new i =
       record {
@@ -61,7 +61,7 @@ module _ {X : Type 0} (key : X → List ℕ) where
   above_changed bytes [] from to back same a = (subst (λ k. bytes_cmp bytes k ≡ Less) same a.0, a.1)
   above_changed bytes (x ∷ front) from to back same a = (a.0, above_changed bytes front from to back same a.1)
 
-  -- a value with the same bytes in place of another
+  -- a value that replaces one with the same bytes
   pub rises_changed : (front : List X) (from to : X) (back : List X) → key from ≡ key to → RisesBy key (front ++ from ∷ back) → RisesBy key (front ++ to ∷ back)
   rises_changed [] from to back same r = (subst (λ k. AllAbove key k back) same r.0, r.1)
   rises_changed (x ∷ front) from to back same r = (above_changed (key x) front from to back same r.0, rises_changed front from to back same r.1)

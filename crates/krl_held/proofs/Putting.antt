@@ -1,4 +1,4 @@
--- What is put to what was found.
+-- Additions to the findings.
 use Rattle.std.proofs.Common.{◌≡◌, ℕ, ◌+◌, ◌<◌, ◌≤◌, List, [], ◌∷◌, ◌++◌, length, take, Result, Ok, Err, refl, sym, ap, subst, ◌∙◌, append_assoc, arith, inl, inr, get_or, zero, suc}
 use Rattle.std.specs.Prelude.{◌↔◌, OnErr, OnOk, Some}
 use Rattle.std.specs.declared.alloc.AllocError.{AllocError}
@@ -18,13 +18,13 @@ use Rattle.krl_held.proofs.MeansMore.{means_more_within}
 use Rattle.krl_held.proofs.Same.{some_append}
 use Rattle.krl_held.proofs.Within.{IsAbout, within_with}
 
--- an entry that is about a topic was added, or nothing was
+-- an entry about a topic was added, or nothing was
 pub within_or_same : (result : Result (Unit {0}) AllocError) (topics old new : Revocations) (entry : Entry) → OnOk result (MeansMore old new (entry ∷ [])) → OnErr result (new ≡ old)
     → IsAbout topics entry → IsWithin topics old → IsWithin topics new
 within_or_same (Ok done) topics old new entry means same about within = within_with topics old new entry within means about
 within_or_same (Err fault) topics old new entry means same about within = subst (IsWithin topics) (sym same) within
 
--- entries that name the same of what is in scope were added
+-- entries that name the same in scope were added
 more_as : (scope : Scope) (old new : Revocations) (more other : List Entry) → ((name : Name) → InScope scope name → SomeNames more name ↔ SomeNames other name)
     → MeansMoreWithin scope old new more → MeansMoreWithin scope old new other
 more_as scope old new more other same means entries m =
@@ -34,7 +34,7 @@ more_as scope old new more other same means entries m =
       names = λ name is. Iff.trans (now.names name is) (Iff.trans (some_append entries more name) (Iff.trans (iff_or Iff.rfl (same name is)) (Iff.symm (some_append entries other name))));
     }
 
--- the numbers before the first that is asked about are not asked about
+-- a range that begins with the first topic names the same topics
 same_from : (topics : Revocations) (a : List ℕ) (lo first hi : ℕ) → lo ≤ first → ((s : ℕ) → lo ≤ s → s < first → HoldsSerial topics.sections a s → ⊥)
     → (name : Name) → InScope (Some topics) name → SomeNames (RangeEntry a first hi ∷ []) name ↔ SomeNames (RangeEntry a lo hi ∷ []) name
 same_from topics a lo first hi le none (SerialOf b s) is = (
@@ -57,7 +57,7 @@ more_from topics old new a lo first hi le none means =
 
 -- ---- one span after another
 
--- the first spans were put
+-- the first `count` spans were put
 pub record PutsFirst (a : List ℕ) (old : Asked) (near : List Span) (count : ℕ) (new : Asked) : Type 0 where
   pub means : MeansMoreWithin (Some old.topics) old.found new.found (run_entries a (take count near))
   pub topics_is : new.topics ≡ old.topics

@@ -1,4 +1,4 @@
--- What is asked of a list while it is read, and what its entries say of that.
+-- Questions about a list while it is read, and the answers of its entries.
 use Rattle.std.proofs.Common.{◌≡◌, ℕ, ◌≤◌, ◌⊎◌, Bool, List, [], ◌∷◌, Option, Some, None, refl, sym, subst, ◌∙◌, arith, inl, inr}
 use Rattle.std.specs.Prelude.{◌↔◌, IsTrue}
 use Rattle.std.specs.List.{Contains}
@@ -85,7 +85,7 @@ same_cert topics kept entries same (Some cert) is =
     (iff_or (iff_or (same (IdOf cert.authority cert.key_id) is.1.1.0) (same (IdOf [] cert.key_id) is.1.0.0))
     (iff_or (same_serials topics kept entries same cert.authority cert.serial is.1.1.1) (same_serials topics kept entries same [] cert.serial is.1.0.1)))
 
--- what is found revokes what was asked about exactly where the entries do
+-- the findings revoke what was asked about exactly if the entries do
 pub answer_within : (topics found : Revocations) (subject : Subject) (answer : Bool) → Asks topics subject
     → ((entries : List Entry) → Means found entries → IsTrue answer ↔ Revoked entries subject)
     → (entries : List Entry) → MeansWithin (Some topics) found entries → IsTrue answer ↔ Revoked entries subject

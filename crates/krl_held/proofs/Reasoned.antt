@@ -1,4 +1,4 @@
--- The reasons why something is revoked are exactly those that their tests find.
+-- The tests find exactly the reasons why something is revoked.
 use Rattle.std.proofs.Common.{◌≡◌, ℕ, Bool, false, List, [], ◌∷◌, Option, Some, None, refl, sym, ap, ◌∙◌, subst, inl, inr}
 use Rattle.std.specs.Prelude.{◌↔◌, ◌&&◌, IsTrue}
 use Rattle.std.specs.Cmp.{both_ways}
@@ -50,7 +50,7 @@ name_tested r (KeyOf blob) = among_tested r.keys blob
 name_tested r (Sha1Of hash) = among_tested r.sha1s hash
 name_tested r (Sha256Of hash) = among_tested r.sha256s hash
 
--- what was found out about a name is its test
+-- an answer about a name equals its test
 pub name_is : (r : Revocations) (name : Name) (answer : Bool) → (IsTrue answer ↔ HoldsName r name) → answer ≡ holds_name r name
 name_is r name answer asked = let tested = Iff.trans asked (Iff.symm (name_tested r name)) in both_ways answer (holds_name r name) tested.0 tested.1
 
@@ -65,7 +65,7 @@ both_are r one other a b own all = rw (name_is r one a own, name_is r other b al
 
 -- ---- the test of a reason
 
--- where a test of names finds what the entries name
+-- the reasons by a test that finds exactly the names of the entries
 pub reason_by : (names : Name → Bool) (entries : List Entry) → ((name : Name) → IsTrue (names name) ↔ SomeNames entries name) → (subject : Subject) (reason : Reason)
     → IsTrue (has_reason (reasons_by names subject) reason) ↔ IsReason entries subject reason
 unfolding reasons_by
@@ -102,11 +102,11 @@ reasons_named entries subject reason = reason_by (some_names entries) entries (s
 pub reasons_meant : (r : Revocations) (entries : List Entry) → Means r entries → (subject : Subject) (reason : Reason) → IsTrue (has_reason (held_reasons r subject) reason) ↔ IsReason entries subject reason
 reasons_meant r entries m subject reason = reason_by (holds_name r) entries (λ name. Iff.trans (name_tested r name) (m.names name)) subject reason
 
--- the answer says what the entries do
+-- the answer gives exactly the reasons of the entries
 pub reasons_answer : (r : Revocations) (entries : List Entry) → Means r entries → (subject : Subject) (answer : Reasons) → answer ≡ held_reasons r subject → (reason : Reason) → IsTrue (has_reason answer reason) ↔ IsReason entries subject reason
 reasons_answer r entries m subject answer is reason = subst (λ (all : Reasons). IsTrue (has_reason all reason) ↔ IsReason entries subject reason) (sym is) (reasons_meant r entries m subject reason)
 
--- ---- how the reasons are found
+-- ---- the search for reasons
 
 pub found_none : (names : Name → Bool) (key : KeyReasons) (plain : List ℕ) (cert : Option CertNames) → key ≡ key_reasons names plain → cert ≡ None
     → (let found : Reasons = record { key = key; authority = no_key_reasons; serial = no_name_reasons; key_id = no_name_reasons } in found) ≡ reasons_by names (record { plain = plain; cert = cert })
@@ -118,7 +118,7 @@ pub found_some : (names : Name → Bool) (key : KeyReasons) (plain : List ℕ) (
 unfolding reasons_by
 found_some names key plain cert some found is is_some same = same ∙ ap (λ (k : KeyReasons). with_cert names k (Some some)) is ∙ ap (with_cert names (key_reasons names plain)) (sym is_some)
 
--- ---- what was found of what was asked about
+-- ---- the reasons of the findings
 
 -- entries that name the same topics give the same reasons for what is asked about
 same_reason : (topics : Revocations) (kept entries : List Entry) → NamesSameTopics topics kept entries → (subject : Subject) → Asks topics subject → (reason : Reason) → IsReason kept subject reason ↔ IsReason entries subject reason
@@ -147,7 +147,7 @@ reasons_within topics found subject answer asks is entries m reason =
     let same : NamesSameTopics topics kept entries = λ name topic. Iff.trans (Iff.symm (itself.names name)) (m.names name topic) in
     Iff.trans (reasons_answer found kept itself subject answer is reason) (same_reason topics kept entries same subject asks reason)
 
--- ---- one set of reasons
+-- ---- equal reasons
 
 same_flag : (a b : Reasons) → ((reason : Reason) → IsTrue (has_reason a reason) ↔ IsTrue (has_reason b reason)) → (reason : Reason) → has_reason a reason ≡ has_reason b reason
 same_flag a b same reason = let both = same reason in both_ways (has_reason a reason) (has_reason b reason) both.0 both.1
@@ -160,14 +160,14 @@ same_reasons a b same =
     let key_id : a.key_id ≡ b.key_id = rw (same reasons.KeyId, same reasons.KeyIdOfAll) refl in
     rw (key, authority, serial, key_id) refl
 
--- what was found gives the reasons that the entries give
+-- the findings give the reasons that the entries give
 pub found_reasons : (topics found : Revocations) (entries : List Entry) → MeansWithin (Some topics) found entries → (subject : Subject) → Asks topics subject → held_reasons found subject ≡ reasons_of entries subject
 found_reasons topics found entries m subject asks =
     same_reasons (held_reasons found subject) (reasons_of entries subject)
     (same_flag (held_reasons found subject) (reasons_of entries subject)
     (λ reason. Iff.trans (reasons_within topics found subject (held_reasons found subject) asks refl entries m reason) (Iff.symm (reasons_named entries subject reason))))
 
--- what is held gives those that the entries give which it means
+-- revocations give the reasons of the entries that they mean
 pub meant_reasons : (r : Revocations) (entries : List Entry) → Means r entries → (subject : Subject) → held_reasons r subject ≡ reasons_of entries subject
 meant_reasons r entries m subject =
     same_reasons (held_reasons r subject) (reasons_of entries subject)
@@ -184,7 +184,7 @@ any_is_revoked entries subject = by subject.cert
     by None = refl
     by (Some cert) = refl
 
--- it is revoked where and only where there is a reason
+-- something is revoked exactly if there is a reason
 pub reason_of_revoked : (entries : List Entry) (subject : Subject) → Revoked entries subject ↔ ((reason : Reason) × IsReason entries subject reason)
 reason_of_revoked entries subject = by subject.cert
   where

@@ -1,4 +1,4 @@
--- The entries that runs of serials are.
+-- The entries of runs of serials.
 use Rattle.std.proofs.Common.{◌≡◌, ℕ, ◌<◌, ◌≤◌, ◌↔◌, List, [], ◌∷◌, ◌++◌, refl, ap}
 use Rattle.std.proofs.Math.Logic.Iff as Iff
 use Rattle.serial_set.specs.declared.span.Span.{Span}

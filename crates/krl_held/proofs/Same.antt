@@ -14,7 +14,7 @@ pub some_append : (xs ys : List Entry) (name : Name) → SomeNames (xs ++ ys) na
 some_append xs ys name =
     (some_cases xs ys name, λ h. elim h [ inl k ↦ some_left xs ys name k | inr k ↦ some_right xs ys name k ])
 
--- entries before or after that do not name it
+-- entries that do not name it, before or after
 pub some_first : (xs ys : List Entry) (name : Name) → (SomeNames ys name → ⊥) → SomeNames xs name ↔ SomeNames (xs ++ ys) name
 some_first xs ys name none = Iff.trans (iff_none none) (Iff.symm (some_append xs ys name))
 
@@ -41,7 +41,7 @@ same_append xs ys xs' ys' h k name =
 pub same_swap : (xs ys : List Entry) → NamesSame (xs ++ ys) (ys ++ xs)
 same_swap xs ys name = Iff.trans (some_append xs ys name) (Iff.trans iff_swap (Iff.symm (some_append ys xs name)))
 
--- more entries in front of the last ones
+-- more entries before the last ones
 pub same_between : (xs ys zs others : List Entry) → NamesSame (xs ++ ys) others → NamesSame ((xs ++ zs) ++ ys) (others ++ zs)
 same_between xs ys zs others h =
     let one = same_is ((xs ++ zs) ++ ys) (xs ++ (zs ++ ys)) (append_assoc xs zs ys) in
@@ -85,14 +85,14 @@ same_serials xs ys h k serials name = (λ n. absurd (serials_only xs name h n), 
 
 -- ---- one entry for another
 
--- entries of one kind each name what stands for it
+-- one of the entries made from some values names it exactly if the value is among them
 pub mapped_name : {X : Type 0} (f : X → Entry) (name : Name) (P : Type 0) (x : X) → ((y : X) → EntryNames (f y) name ↔ (P × (y ≡ x))) → (xs : List X) → SomeNames (map f xs) name ↔ (P × Contains xs x)
 mapped_name f name P x each [] = (λ h. absurd h, λ h. absurd (contains_none x h.1))
 mapped_name f name P x each (y ∷ xs) =
     let here : (P × ((y ≡ x) ⊎ Contains xs x)) ↔ (P × Contains (y ∷ xs) x) = Iff.and Iff.rfl (Iff.symm (contains_cons y xs x)) in
     Iff.trans (iff_or (each y) (mapped_name f name P x each xs)) (Iff.trans iff_both here)
 
--- one entry of serials for another, and one that names none
+-- an entry of serials that names the same as another, and one that names none
 pub same_one : (x y : Entry) → IsSerials x → IsSerials y → ((a : List ℕ) (s : ℕ) → EntryNames x (SerialOf a s) ↔ EntryNames y (SerialOf a s)) → NamesSame (x ∷ []) (y ∷ [])
 same_one x y h k each = same_serials (x ∷ []) (y ∷ []) (h, tt) (k, tt) (λ a s. iff_or (each a s) Iff.rfl)
 

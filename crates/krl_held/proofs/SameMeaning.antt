@@ -1,4 +1,4 @@
--- Lists of entries that name the same, and what is held.
+-- Revocations, and lists of entries that name the same.
 use Rattle.std.proofs.Common.{List, ◌++◌, ◌∷◌, [], rules}
 use Rattle.std.specs.Prelude.{◌↔◌, ◌⊎◌}
 use Rattle.std.proofs.Math.Logic.Iff as Iff
@@ -15,19 +15,19 @@ same_meaning r entries others m same = record { orderly = m.orderly; names = λ 
 pub same_naming : (r : Revocations) (entries others : List Entry) → Means r entries → Means r others → NamesSame entries others
 same_naming r entries others m n name = Iff.trans (Iff.symm (m.names name)) (n.names name)
 
--- what is held means some entries more where just what they name is held beside it
+-- if revocations gain exactly the names of some entries, they mean these entries too
 pub means_all : (old new : Revocations) (entries more : List Entry) → IsOrderly new → ((name : Name) → HoldsName new name ↔ (HoldsName old name ⊎ SomeNames more name)) → Means old entries → Means new (entries ++ more)
 means_all old new entries more orderly gains m = record {
   orderly = orderly;
   names = λ name. Iff.trans (gains name) (Iff.trans (iff_or (m.names name) Iff.rfl) (Iff.symm (some_append entries more name)));
 }
 
--- what is held means one entry more where just what that one names is held beside it
+-- the same for one entry
 pub means_more : (old new : Revocations) (entries : List Entry) (entry : Entry) → IsOrderly new → ((name : Name) → HoldsName new name ↔ (HoldsName old name ⊎ EntryNames entry name)) → Means old entries → Means new (entries ++ entry ∷ [])
 means_more old new entries entry orderly gains m =
     means_all old new entries (entry ∷ []) orderly (λ name. Iff.trans (gains name) (iff_or Iff.rfl (iff_none (λ none. none)))) m
 
--- without entries nothing is held
+-- no entries mean no revocations
 pub nothing_meant : Means nothing []
 nothing_meant = record { orderly = search rules; names = names }
   where

@@ -1,4 +1,4 @@
--- The serial numbers that are held, as one list.
+-- The held serial numbers, as one list.
 use Rattle.std.proofs.Common.{◌≡◌, ℕ, zero, suc, ◌+◌, ◌-◌, ◌<◌, ◌≤◌, List, [], ◌∷◌, ap, ◌∙◌, arith}
 use Rattle.std.specs.Prelude.{◌↔◌, sum_by}
 use Rattle.std.specs.List.{Contains, flat_map, range_with_len}
@@ -15,7 +15,7 @@ use Rattle.krl_held.proofs.Once.{Once, once_append, sum_ones}
 use Rattle.krl_held.proofs.Under.{in_under, once_under, some_listed, sum_under, under}
 use Rattle.krl_held.proofs.Elements.{contains_none}
 
--- ---- numbers in a row
+-- ---- consecutive numbers
 
 in_row : (a n s : ℕ) → Contains (range_with_len a n) s ↔ ((a ≤ s) × (s < a + n))
 in_row a n s = (
@@ -50,7 +50,7 @@ once_numbers least (x ∷ xs) runs =
 count_numbers : (spans : List Span) → sum_by (λ s. 1) (numbers spans) ≡ sum_by span_size spans
 count_numbers spans = sum_ones (numbers spans) ∙ length-flat_map row spans ∙ ap (λ f. sum_by f spans) (λ i span. length-range_with_len span.lo (span_size span) i)
 
--- ---- what is held
+-- ---- held serial numbers
 
 -- each serial number, under its authority
 abbrev pub serials_of : List Section → List (List ℕ × ℕ)

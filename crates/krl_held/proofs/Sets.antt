@@ -1,4 +1,4 @@
--- Byte strings in a set of the standard library: as its keys, or read of them.
+-- Byte strings in a set of the standard library, which are its keys or are read from them.
 use Rattle.std.proofs.Common.{◌≡◌, ℕ, List, [], ◌∷◌, ◌++◌, ◌||◌, map, Bool, refl, sym, ap, subst, ◌∙◌, inl, inr}
 use Rattle.std.specs.Prelude.{◌⊎◌, IsTrue, ◌↔◌}
 use Rattle.std.specs.List.{AllByRecursion, Contains, list_any}
@@ -81,7 +81,7 @@ any_listed k (x ∷ ks) =
 pub set_has : (k : List ℕ) (ks : List (List ℕ)) (b : Bool) → b ≡ list_any (is_at (bytes_cmp k)) ks → IsTrue b ↔ Contains ks k
 set_has k ks b is = subst (λ (x : Bool). IsTrue x ↔ Contains ks k) (sym is) (any_listed k ks)
 
--- ---- byte strings that are read of the keys
+-- ---- byte strings that are read from the keys
 
 module _ {K : Type 0} (read : K → List ℕ) where
   abbrev pub by_read : K → K → Ordering

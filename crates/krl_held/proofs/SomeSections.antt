@@ -1,4 +1,4 @@
--- What holds of some section after an addition, how much is held, and in what order.
+-- Properties of some section after an addition, and how much is held and in what order.
 use Rattle.std.proofs.Common.{◌≡◌, ℕ, ◌+◌, ◌≤◌, ◌⊎◌, List, [], ◌∷◌, ◌++◌, refl, sym, ap, subst, inl, inr, arith}
 use Rattle.std.specs.Prelude.{◌↔◌, sum_by}
 use Rattle.std.proofs.lemmas.List.Sums.{sum_by-cons, sum_by-append}
@@ -13,7 +13,7 @@ use Rattle.krl_held.proofs.BothWays.{iff_across, iff_front, iff_none, iff_or, if
 
 -- ---- some section
 
--- a serial number or a key ID is held in the section, under just its authority
+-- the section holds a serial number or a key ID under exactly its authority
 abbrev pub HeldIn : Name → Section → Type 0
 HeldIn (SerialOf a s) section = (section.authority ≡ a) × Covers section.spans s
 HeldIn (IdOf a text) section = (section.authority ≡ a) × Contains section.ids text
@@ -27,7 +27,8 @@ pub some_middle : (P : Section → Type 0) (front : List Section) (section : Sec
 some_middle P [] section back = Iff.rfl
 some_middle P (x ∷ front) section back = Iff.trans (iff_or Iff.rfl (some_middle P front section back)) iff_front
 
--- what an addition makes of a section decides what it makes of all
+-- After the addition a section of the authority has the property P exactly if it had P or Q is
+-- true. An empty section does not have P.
 pub record Step (addition : Addition) (authority : List ℕ) (P : Section → Type 0) (Q : Type 0) : Type 0 where
   pub one : (from to : Section) → from.authority ≡ authority → TakesAddition addition from to → P to ↔ (P from ⊎ Q)
   pub none : P (empty_section authority) → ⊥
@@ -52,7 +53,8 @@ pub sum_middle : (f : Section → ℕ) (front : List Section) (section : Section
 sum_middle f front section back =
     omega (arith, sum_by-append f front (section ∷ back), sum_by-cons f section back, sum_by-append f front back)
 
--- an addition that makes a section larger by at most so much makes all so much larger
+-- an addition that increases a number of each section by at most `more` increases the sum by at
+-- most `more` and the number of an empty section
 pub sum_adds : (addition : Addition) (authority : List ℕ) (old new : List Section) (f : Section → ℕ) (more : ℕ) → ((from to : Section) → TakesAddition addition from to → f to ≤ f from + more) → AddsTo addition authority old new → sum_by f new ≤ sum_by f old + f (empty_section authority) + more
 sum_adds addition authority old new f more step adds =
     elim adds [

@@ -39,7 +39,7 @@ once_starts : (least : ℕ) (spans : List Span) → RunsFrom least spans → Onc
 once_starts least [] runs = tt
 once_starts least (x ∷ xs) runs = (λ h. omega (arith, runs.1, names_from (x.hi + 2) xs x.lo runs.2 (start_covered (x.hi + 2) xs runs.2 x.lo h)), once_starts (x.hi + 2) xs runs.2)
 
--- ---- what is held
+-- ---- held runs
 
 begins : (sections : List Section) → RisesBy section_authority sections → All IsListed sections → (a : List ℕ) (s : ℕ)
     → SomeSection (λ section. (section.authority ≡ a) × Contains (starts section.spans) s) sections → HoldsSerial sections a (s - 1) → ⊥
@@ -55,7 +55,7 @@ begins (x ∷ xs) rises listed a s h before =
       | inr later ↦ ⊎_elim (λ k. here k.0) (begins xs rises.1 (All-tail IsListed x xs listed) a s later) before
     ]
 
--- the first of each run, under its authority
+-- the first serial number of each run, under its authority
 abbrev pub starts_of : List Section → List (List ℕ × ℕ)
 starts_of sections = under (λ section. starts section.spans) sections
 

@@ -1,4 +1,4 @@
--- What is held revokes just what its test says.
+-- The test of revocations is true exactly for what they revoke.
 use Rattle.std.proofs.Common.{◌≡◌, ℕ, Bool, true, false, ◌⊎◌, List, [], ◌∷◌, sym, ap, ◌∙◌, inl, inr, subst}
 use Rattle.std.specs.Prelude.{◌↔◌, ◌||◌, Option, Some, None, IsTrue}
 use Rattle.std.specs.List.{Contains}
@@ -28,7 +28,7 @@ among_tested [] text = (λ yes. absurd cc, λ found. absurd (contains_none text 
 among_tested (first ∷ texts) text =
     Iff.trans (Decides-or (bytes_eq first text) (is_among texts text) (bytes_eq-Decides first text) (among_tested texts text)) (Iff.symm (contains_cons first texts text))
 
--- ---- what is held
+-- ---- names that are held
 
 key_tested : (r : Revocations) (blob : List ℕ) → IsTrue (holds_key r blob) ↔ HoldsKey r blob
 key_tested r blob =
@@ -74,7 +74,7 @@ pub tested_some : (r : Revocations) (cert : Option CertNames) (names : CertNames
 tested_some r cert names answer some asked =
     let tested = Iff.trans asked (Iff.symm (cert_tested r names)) in both_ways answer (holds_cert r (Some names)) tested.0 tested.1 ∙ ap (holds_cert r) (sym some)
 
--- ---- what is named
+-- ---- names that entries give
 
 key_meant : (r : Revocations) (entries : List Entry) → Means r entries → (blob : List ℕ) → IsTrue (holds_key r blob) ↔ KeyNamed entries blob
 key_meant r entries m blob =
@@ -94,6 +94,6 @@ pub revokes_meant : (r : Revocations) (entries : List Entry) → Means r entries
 unfolding revokes
 revokes_meant r entries m subject = Decides-or (holds_key r subject.plain) (holds_cert r subject.cert) (key_meant r entries m subject.plain) (cert_meant r entries m subject.cert)
 
--- the test's answer says what is revoked
+-- the answer of the test says what is revoked
 pub answer_meant : (r : Revocations) (entries : List Entry) → Means r entries → (subject : Subject) (answer : Bool) → answer ≡ revokes r subject → IsTrue answer ↔ Revoked entries subject
 answer_meant r entries m subject answer is = subst (λ (b : Bool). IsTrue b ↔ Revoked entries subject) (sym is) (revokes_meant r entries m subject)

@@ -1,4 +1,4 @@
--- The bytes that are looked at before they are crossed.
+-- Serial numbers at the front of some bytes that are skipped.
 use Rattle.std.proofs.Common.{◌≡◌, ℕ, ◌+◌, ◌-◌, ◌*◌, ◌%◌, ◌<◌, ◌≤◌, inl, inr, List, [], ◌∷◌, length, take, drop, refl, sym, ap, ◌∙◌, subst, arith, get_or, zero, suc}
 use Rattle.std.proofs.lemmas.Bool.{cases_lt}
 use Rattle.std.proofs.lemmas.List.{drop-take}
@@ -12,7 +12,7 @@ take_fewer (suc n) zero xs le = absurd (omega arith)
 take_fewer (suc n) (suc m) [] le = refl
 take_fewer (suc n) (suc m) (x ∷ xs) le = ap (λ (l : List ℕ). x ∷ l) (take_fewer n m xs (omega arith))
 
--- a number below the end of the first bytes is the same in them
+-- a serial number that lies within the first bytes is the same in them
 pub serial_within : (bytes : List ℕ) (k count : ℕ) → 8 * k + 8 ≤ count → serial_at bytes k ≡ serial_at (take count bytes) k
 serial_within bytes k count fits =
     let parts : 8 * k + (count - 8 * k) ≡ count = omega arith in
@@ -20,12 +20,12 @@ serial_within bytes k count fits =
     ap (λ (n : ℕ). drop (8 * k) (take n bytes)) (sym parts) ∙ drop-take (8 * k) (count - 8 * k) bytes in
     ap number_of (sym (ap (take 8) front ∙ take_fewer 8 (count - 8 * k) (drop (8 * k) bytes) (omega arith)))
 
--- the first byte is a number
+-- the first byte as a number
 pub first_byte : (bytes : List ℕ) (bound : ℕ) → 0 < length bytes → get_or bytes 0 0 < bound → number_of (take 1 bytes) < bound
 first_byte [] bound some lt = absurd (omega arith)
 first_byte (b ∷ bs) bound some lt = omega (arith, number_of-one b)
 
--- one number more of which nothing holds
+-- one more serial number without the property
 pub none_more : (Holds : ℕ → Type 0) (bytes : List ℕ) (at value : ℕ) → at % 8 ≡ 0 → value ≡ number_of (take (at + 8 - at) (drop at bytes)) → (Holds value → ⊥)
     → NoneHolds Holds bytes at → NoneHolds Holds bytes (at + 8)
 none_more Holds bytes at value whole is other none k fits holds =

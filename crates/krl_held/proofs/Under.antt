@@ -1,4 +1,4 @@
--- What the sections hold, as one list: each thing with the authority under which it stands.
+-- The contents of all sections as one list: each item with its authority.
 use Rattle.std.proofs.Common.{◌≡◌, ℕ, ◌+◌, List, [], ◌∷◌, map, refl, ap, ap₂, arith}
 use Rattle.std.specs.Prelude.{◌↔◌, sum_by}
 use Rattle.std.specs.List.{All, Contains, flat_map}
@@ -44,13 +44,13 @@ module _ {Y : Type 0} (items : Section → List Y) where
       (once_under xs rises.1 (All-tail (λ section. Once (items section)) x xs once))
       (λ p here later. less_apart x.authority p.0 (above_held (λ section. Contains (items section) p.1) x.authority p.0 xs rises.0 ((in_under xs p.0 p.1).0 later)) ((in_one x.authority p.0 (items x) p.1).0 here).0)
 
-  -- a sum over what each section has, as one sum
+  -- the sum over this list is a sum over the sections
   pub sum_under : (weight : Y → ℕ) (size : Section → ℕ) → ((section : Section) → sum_by weight (items section) ≡ size section) → (sections : List Section) → sum_by (λ p. weight p.1) (under sections) ≡ sum_by size sections
   sum_under weight size is [] = refl
   sum_under weight size is (x ∷ xs) =
       omega (arith, sum_by-append (λ p. weight p.1) (under_one x.authority (items x)) (under xs), fold-map (λ (n : ℕ) (p : List ℕ × Y). n + weight p.1) (λ y. (x.authority, y)) 0 (items x), is x, sum_under weight size is xs, sum_by-cons size x xs)
 
--- what holds of some section in order
+-- a property of some listed section that implies another
 pub some_listed : {P Q : Section → Type 0} → ((section : Section) → IsListed section → P section → Q section) → (sections : List Section) → All IsListed sections → SomeSection P sections → SomeSection Q sections
 some_listed to [] listed h = absurd h
 some_listed to (x ∷ xs) listed h = ⊎_map (to x (All-head IsListed x xs listed)) (some_listed to xs (All-tail IsListed x xs listed)) h

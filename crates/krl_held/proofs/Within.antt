@@ -1,4 +1,4 @@
--- What is held stays within some topics where what is added is about them.
+-- Revocations stay within some topics if the additions are about them.
 use Rattle.std.proofs.Common.{◌≡◌, ◌-◌, ◌<◌, List, [], ◌∷◌, subst, subst₂, inl, inr, arith}
 use Rattle.std.specs.Prelude.{◌⊎◌, ◌↔◌, Contains}
 use Rattle.std.proofs.Math.Logic.{⊎_elim}
@@ -12,7 +12,7 @@ use Rattle.krl_held.proofs.MeansMore.{means_more_names}
 
 -- ---- some entries more
 
--- the serial number goes on from the one before it
+-- the entries name the serial number before this one too
 abbrev pub GoesOn : List Entry → Name → Type 0
 GoesOn entries (SerialOf a s) = SomeNames entries (SerialOf a (s - 1))
 GoesOn entries name = ⊥

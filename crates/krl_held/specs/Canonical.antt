@@ -1,4 +1,4 @@
--- The entries of just what is held.
+-- One entry for each thing that revocations hold.
 use Rattle.std.specs.Prelude.{List, ◌++◌, map}
 use Rattle.std.specs.List.{flat_map}
 use Rattle.krl_held.specs.Changes.{run_entries}

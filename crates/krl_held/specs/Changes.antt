@@ -1,4 +1,4 @@
--- What an addition changes.
+-- How an addition changes revocations.
 use Rattle.std.specs.Prelude.{◌≡◌, ℕ, ◌+◌, ◌<◌, ◌≤◌, ◌⊎◌, List, [], ◌∷◌, ◌++◌, length, All, Contains, ⊤}
 use Rattle.serial_set.specs.declared.span.Span.{Span}
 use Rattle.serial_set.specs.BitRuns.{IsInterval}
@@ -10,38 +10,39 @@ use Rattle.krl_held.specs.Revocations.{Revocations, Means, Section, section_with
 use Rattle.krl_held.specs.Entry.{Entry, RangeEntry}
 use Rattle.krl_held.specs.Inserting.{Inserts}
 
--- the list with the bytes, which stay where they were or are put in
+-- the list already contains the bytes and stays the same, or the bytes are inserted
 abbrev pub Puts : (old : List (List ℕ)) (text : List ℕ) (new : List (List ℕ)) → Type 0
 Puts old text new = ((new ≡ old) × Contains old text) ⊎ Inserts (λ bytes. bytes) old text new
 
--- the section with the serials of some spans
+-- a section takes the serials of some spans
 pub record TakesSerials (more : List Span) (from to : Section) : Type 0 where
   pub same : to ≡ record from { spans = to.spans }
   pub runs : AddsSpans from.spans more to.spans
   pub serials : AreSerials to.spans
   pub as_many_more : length to.spans ≤ length from.spans + length more
 
--- the section with the key ID
+-- a section takes a key ID
 pub record TakesId (text : List ℕ) (from to : Section) : Type 0 where
   pub same : to ≡ record from { ids = to.ids }
   pub put : Puts from.ids text to.ids
 
--- the section with what is added
+-- a section takes an addition
 abbrev pub TakesAddition : Addition → Section → Section → Type 0
 TakesAddition (Serials near) from to = TakesSerials near.now from to
 TakesAddition (Id text) from to = TakesId text.now from to
 
--- one change makes the addition: there are spans, and they lie near each other
+-- one change can make the addition: it is a key ID, or at least one span, and the spans lie near
+-- each other
 abbrev pub IsOneChange : Addition → Type 0
 IsOneChange (Serials near) =
     (0 < length near.now) × (All IsInterval near.now × AreNear near.now)
 IsOneChange (Id text) = ⊤
 
--- a section without anything
+-- an empty section
 abbrev pub empty_section : List ℕ → Section
 empty_section authority = section_with authority [] []
 
--- one section under the authority is changed, and the others stay
+-- one section of the authority changes, and the others stay the same
 pub record ChangesOne (Change : Section → Section → Type 0) (authority : List ℕ)
     (old new : List Section) : Type 0 where
   pub front : List Section
@@ -53,13 +54,13 @@ pub record ChangesOne (Change : Section → Section → Type 0) (authority : Lis
   pub under : from.authority ≡ authority
   pub changed : Change from to
 
--- a section that holds just the addition is put in
+-- a section that holds only the addition is inserted
 pub record Starts (addition : Addition) (authority : List ℕ) (old new : List Section) : Type 0 where
   pub section : Section
   pub takes : TakesAddition addition (empty_section authority) section
   pub put : Inserts (λ section. section.authority) old section new
 
--- what is added stands under the authority, in the section that there was or in a new one
+-- the addition goes to the section that the authority has, or to a new one
 abbrev pub AddsTo : Addition → List ℕ → (old new : List Section) → Type 0
 AddsTo addition authority old new =
     ChangesOne (TakesAddition addition) authority old new ⊎ Starts addition authority old new
@@ -70,6 +71,6 @@ run_entries authority [] = []
 run_entries authority (run ∷ runs) =
     RangeEntry authority run.lo run.hi ∷ run_entries authority runs
 
--- What is held means these entries more.
+-- If the old revocations mean some entries, the new ones mean them and these entries.
 abbrev pub MeansMore : (old new : Revocations) (more : List Entry) → Type 0
 MeansMore old new more = (entries : List Entry) → Means old entries → Means new (entries ++ more)

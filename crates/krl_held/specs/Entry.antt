@@ -1,9 +1,9 @@
--- What a list or a line of a specification file names (PROTOCOL.krl; ssh-keygen(1), KEY REVOCATION
--- LISTS).
+-- The entries of a list, or of a line of a specification file (PROTOCOL.krl; ssh-keygen(1), KEY
+-- REVOCATION LISTS).
 use Rattle.std.specs.Prelude.{ℕ, List}
 
--- What is named. A serial number and a key ID stand under an authority, named by its bytes, or
--- under all authorities where there are none.
+-- An entry. A serial number or a key ID is under an authority, given by its bytes. No bytes mean
+-- all authorities.
 pub data Entry : Type 0 where
   -- each of the numbers
   SerialsEntry : (authority numbers : List ℕ) → Entry

@@ -1,4 +1,4 @@
--- What is held of a list while it is read.
+-- The revocations of a list while it is read.
 use Rattle.std.specs.Prelude.{◌≡◌, ℕ, List, [], ◌∷◌, ◌++◌, Option, Some, None, IfSome, ⊤, cond}
 use Rattle.std.specs.Ordering.{is_eq}
 use Rattle.krl_held.specs.declared.addition.Addition.{Addition}
@@ -6,42 +6,42 @@ use Rattle.krl_held.specs.Changes.{AddsTo, TakesAddition, empty_section}
 use Rattle.krl_held.specs.Revocations.{IsListed, IsNamed, Revocations, Section}
 use Rattle.krl_held.specs.Rising.{bytes_cmp}
 
--- what is held, and the authority whose section is held apart, if one is
+-- the revocations, and the authority whose section is kept apart, if there is one
 pub record Gathered : Type 0 where
   pub contents : Revocations
   pub apart : Option (List ℕ)
 
--- no section is held apart but that of this authority
+-- no section is kept apart, or only that of this authority
 abbrev pub IsAt : Gathered → (authority : List ℕ) → Type 0
 IsAt gathered authority = IfSome gathered.apart (λ name. name ≡ authority)
 
--- the sections, with this one in the place of that under its authority
+-- the sections, where this one replaces the section of its authority
 abbrev pub with_section : Section → List Section → List Section
 with_section section [] = []
 with_section section (other ∷ others) =
     cond (is_eq (bytes_cmp section.authority other.authority))
     (section ∷ others) (other ∷ with_section section others)
 
--- the sections, with the one that is held apart in its place
+-- the sections, where the one that is kept apart replaces the section of its authority
 abbrev pub with_apart : Option Section → List Section → List Section
 with_apart None sections = sections
 with_apart (Some section) sections = with_section section sections
 
--- all that is held, with the section that is held apart
+-- all revocations, including the section that is kept apart
 abbrev pub whole : Option Section → Revocations → Revocations
 whole apart rest = record rest { sections = with_apart apart rest.sections }
 
--- the authority of a section that is held apart
+-- the authority of the section that is kept apart
 abbrev pub name_of : Option Section → Option (List ℕ)
 name_of None = None
 name_of (Some section) = Some section.authority
 
--- a section that is held apart has a place, and holds something
+-- a section that is kept apart has a place among the others, is in order and is not empty
 abbrev pub HasPlace : Option Section → Revocations → Type 0
 HasPlace None rest = ⊤
 HasPlace (Some section) rest = IsNamed rest section.authority × IsListed section
 
--- A section takes the addition and is taken out, and one with just the addition is left.
+-- A section takes the addition and is taken out. A section with only the addition is left.
 abbrev pub IsTaken : Addition → (from : Section) → (taken : Option Section) → (left : Section)
     → Type 0
 IsTaken addition from None left = ⊥
@@ -49,7 +49,7 @@ IsTaken addition from (Some taken) left =
     TakesAddition addition from taken
     × TakesAddition addition (empty_section from.authority) left
 
--- the same of the section under an authority, among all of them
+-- the same for the section of an authority, among all sections
 pub record Opens (addition : Addition) (authority : List ℕ) (old : List Section) (taken : Section)
     (rest : List Section) : Type 0 where
   pub front : List Section
@@ -63,13 +63,14 @@ pub record Opens (addition : Addition) (authority : List ℕ) (old : List Sectio
   pub takes : TakesAddition addition from taken
   pub stands_in : TakesAddition addition (empty_section authority) left
 
--- What is added stands under the authority: in the section that was taken out, or in a new one.
+-- If a section is taken out, the addition is in it. Otherwise the addition is in a section that
+-- stays.
 abbrev pub TakesOut : Addition → List ℕ → (old : List Section) → Option Section
     → (rest : List Section) → Type 0
 TakesOut addition authority old None rest = AddsTo addition authority old rest
 TakesOut addition authority old (Some taken) rest = Opens addition authority old taken rest
 
--- what is added stands under the authority, and all else is the same
+-- the addition goes to a section of the authority, and everything else stays the same
 pub record AddsUnder (addition : Addition) (authority : List ℕ) (old new : Revocations)
     : Type 0 where
   pub adds : AddsTo addition authority old.sections new.sections

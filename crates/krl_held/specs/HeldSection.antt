@@ -1,4 +1,4 @@
--- What is held under one authority, as contracts see it.
+-- The section of one authority, as contracts see it.
 use Rattle.std.specs.Prelude.{ℕ, List, map, Option, Some, None}
 use Rattle.std.specs.Global.{Vec}
 use Rattle.serial_set.specs.declared.span.Span.{Span}
@@ -7,16 +7,16 @@ use Rattle.krl_held.specs.declared.held_section.HeldSection.{HeldSection}
 use Rattle.krl_held.specs.Revocations.{Section}
 
 module _ {S : Type 0} where
-  -- the bytes of the authority that a held section is of
+  -- the authority of a held section, as bytes
   abbrev pub name_of : List ℕ × HeldSection S → List ℕ
   name_of entry = entry.0
 
-  -- the held sections of a map, by the bytes of their authorities
+  -- the held sections of a map, with the bytes of their authorities
   abbrev pub named_sections : List (Vec ℕ × HeldSection S) → List (List ℕ × HeldSection S)
   named_sections entries = map (λ entry. (entry.0.items, entry.1)) entries
 
 module _ {S : Type 0} (spans : S → List Span) where
-  -- the section that contracts see under an authority, where `spans` reads its set of serials
+  -- the section that contracts see, where `spans` gives the spans of a set of serials
   abbrev pub section_of : List ℕ × HeldSection S → Section
   section_of entry = record {
     authority = entry.0;
@@ -27,7 +27,7 @@ module _ {S : Type 0} (spans : S → List Span) where
   abbrev pub sections_of : List (List ℕ × HeldSection S) → List Section
   sections_of named = map section_of named
 
-  -- a section that is held apart, with its authority
+  -- the section that is kept apart, with its authority
   abbrev pub apart_of : Option (Apart S) → Option Section
   apart_of None = None
   apart_of (Some apart) = Some (section_of (apart.name.items, apart.section))

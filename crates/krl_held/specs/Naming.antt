@@ -1,4 +1,4 @@
--- What entries name: serial numbers, key IDs and keys.
+-- The names in entries: serial numbers, key IDs and keys.
 use Rattle.std.specs.Prelude.{◌≡◌, ℕ, ◌<◌, ◌≤◌, ◌⊎◌, ◌↔◌, List, [], ◌∷◌, Contains}
 use Rattle.sha1.specs.Sha1.{sha1}
 use Rattle.sha2.specs.Sha256.{sha256}
@@ -6,8 +6,8 @@ use Rattle.serial_set.specs.BitRuns.{BitNames}
 use Rattle.krl_held.specs.Entry.{Entry, SerialsEntry, RangeEntry, BitmapEntry, IdEntry, KeyEntry}
 use Rattle.krl_held.specs.Entry.{Sha1Entry, Sha256Entry}
 
--- What an entry may name: a serial number or a key ID under just one authority, which is empty for
--- all authorities, or a key, by its blob or by a hash of it.
+-- A name: a serial number or a key ID under exactly one authority, which is empty for all
+-- authorities, or a key, by its blob or by one of its hashes.
 pub data Name : Type 0 where
   SerialOf : (authority : List ℕ) (serial : ℕ) → Name
   IdOf : (authority text : List ℕ) → Name
@@ -15,7 +15,7 @@ pub data Name : Type 0 where
   Sha1Of : (hash : List ℕ) → Name
   Sha256Of : (hash : List ℕ) → Name
 
--- The entry names just this. The serial number 0 names no certificate.
+-- The entry names it. The serial number 0 names no certificate.
 abbrev pub EntryNames : Entry → Name → Type 0
 EntryNames (SerialsEntry b numbers) (SerialOf a s) = (b ≡ a) × ((0 < s) × Contains numbers s)
 EntryNames (RangeEntry b min max) (SerialOf a s) = (b ≡ a) × ((0 < s) × ((min ≤ s) × (s ≤ max)))
@@ -26,7 +26,7 @@ EntryNames (Sha1Entry of_key) (Sha1Of hash) = of_key ≡ hash
 EntryNames (Sha256Entry of_key) (Sha256Of hash) = of_key ≡ hash
 EntryNames _ _ = ⊥
 
--- some entry names just this
+-- some entry names it
 abbrev pub SomeNames : List Entry → Name → Type 0
 SomeNames [] name = ⊥
 SomeNames (entry ∷ entries) name = EntryNames entry name ⊎ SomeNames entries name
@@ -35,15 +35,15 @@ SomeNames (entry ∷ entries) name = EntryNames entry name ⊎ SomeNames entries
 abbrev pub NamesSame : (entries others : List Entry) → Type 0
 NamesSame entries others = (name : Name) → SomeNames entries name ↔ SomeNames others name
 
--- some entry names the serial number, under the authority or under all
+-- some entry names the serial number, under the authority or under all authorities
 abbrev pub SomeNamesSerial : List Entry → (authority : List ℕ) (serial : ℕ) → Type 0
 SomeNamesSerial entries a s = SomeNames entries (SerialOf a s) ⊎ SomeNames entries (SerialOf [] s)
 
--- some entry names the key ID, under the authority or under all
+-- some entry names the key ID, under the authority or under all authorities
 abbrev pub SomeNamesId : List Entry → (authority text : List ℕ) → Type 0
 SomeNamesId entries a text = SomeNames entries (IdOf a text) ⊎ SomeNames entries (IdOf [] text)
 
--- some entry names the key, by its blob or by a hash of it
+-- some entry names the key, by its blob or by one of its hashes
 abbrev pub KeyNamed : List Entry → (blob : List ℕ) → Type 0
 KeyNamed entries blob =
     SomeNames entries (KeyOf blob)

@@ -1,4 +1,4 @@
--- What entries name and what a list revokes, as tests.
+-- Tests of whether entries name something, and of whether they revoke a key or a certificate.
 use Rattle.std.specs.Prelude.{ℕ, ◌-◌, ◌==◌, ◌||◌, ◌&&◌, nat_lt, nat_le, Bool, false, List, [], Option, Some, None}
 use Rattle.std.specs.Int.{bit_at}
 use Rattle.std.specs.List.{list_any}
@@ -10,7 +10,7 @@ use Rattle.krl_held.specs.Entry.{Entry, SerialsEntry, RangeEntry, BitmapEntry, I
 use Rattle.krl_held.specs.Entry.{Sha1Entry, Sha256Entry}
 use Rattle.krl_held.specs.Naming.{IdOf, KeyOf, Name, SerialOf, Sha1Of, Sha256Of}
 
--- the entry names just this
+-- the entry names it
 abbrev pub entry_names : Entry → Name → Bool
 entry_names (SerialsEntry b numbers) (SerialOf a s) =
     bytes_eq b a && (nat_lt 0 s && list_any (λ n. n == s) numbers)

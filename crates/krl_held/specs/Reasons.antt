@@ -17,7 +17,7 @@ use Rattle.krl_held.specs.NamingTests.{some_names}
 use Rattle.krl_held.specs.Revocations.{Revocations}
 use Rattle.krl_held.specs.Tested.{is_among}
 
--- what holds of a certificate's names, where it is one
+-- a property of the names of a certificate, which no plain key has
 abbrev pub OfCert : Option CertNames → (CertNames → Type 0) → Type 0
 OfCert None Holds = ⊥
 OfCert (Some cert) Holds = Holds cert
@@ -67,7 +67,7 @@ any_reason all =
     any_of_key all.key
     || (any_of_key all.authority || (any_of_name all.key_id || any_of_name all.serial))
 
--- by a test of names, which of those of a key pass
+-- which names of a key pass a test
 abbrev pub key_reasons : (Name → Bool) → (blob : List ℕ) → KeyReasons
 key_reasons names blob = record {
   blob = names (KeyOf blob);
@@ -78,7 +78,7 @@ key_reasons names blob = record {
 abbrev pub no_key_reasons : KeyReasons
 no_key_reasons = record { blob = false; sha1 = false; sha256 = false }
 
--- under which authority a serial number or a key ID passes
+-- under which authorities a serial number or a key ID passes a test
 abbrev pub serial_reasons : (Name → Bool) → (authority : List ℕ) (serial : ℕ) → NameReasons
 serial_reasons names authority serial = record {
   own = names (SerialOf authority serial);
@@ -94,7 +94,7 @@ id_reasons names authority text = record {
 abbrev pub no_name_reasons : NameReasons
 no_name_reasons = record { own = false; all = false }
 
--- and which of those of a certificate, beside its plain key
+-- which names of a certificate pass a test, together with the reasons of its plain key
 abbrev pub cert_reasons : (Name → Bool) → KeyReasons → CertNames → Reasons
 cert_reasons names key cert = record {
   key = key;
@@ -125,10 +125,10 @@ holds_name r (KeyOf blob) = is_among r.keys blob
 holds_name r (Sha1Of hash) = is_among r.sha1s hash
 holds_name r (Sha256Of hash) = is_among r.sha256s hash
 
--- the reasons by what is held
+-- the reasons that revocations give
 abbrev pub held_reasons : Revocations → Subject → Reasons
 held_reasons r = reasons_by (holds_name r)
 
--- the reasons by entries
+-- the reasons that entries give
 abbrev pub reasons_of : List Entry → Subject → Reasons
 reasons_of entries = reasons_by (some_names entries)

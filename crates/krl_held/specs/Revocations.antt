@@ -1,4 +1,4 @@
--- What revocations hold, as lists, and which entries they mean.
+-- The contents of revocations, as lists, and the entries that they mean.
 use Rattle.std.specs.Prelude.{◌≡◌, ℕ, ◌+◌, ◌-◌, ◌<◌, ◌≤◌, ◌⊎◌, ◌↔◌, List, [], ◌∷◌, length, sum_by, All}
 use Rattle.std.specs.Prelude.{Contains}
 use Rattle.serial_set.specs.declared.span.Span.{Span}
@@ -7,7 +7,7 @@ use Rattle.krl_held.specs.Entry.{Entry}
 use Rattle.krl_held.specs.Naming.{IdOf, KeyOf, Name, SerialOf, Sha1Of, Sha256Of, SomeNames}
 use Rattle.krl_held.specs.Rising.{Rises, RisesBy}
 
--- what is held under one authority, by its bytes, or under all where there are none
+-- the section of one authority, given by its bytes; no bytes mean all authorities
 pub record Section : Type 0 where
   pub authority : List ℕ
   pub spans : List Span
@@ -16,7 +16,7 @@ pub record Section : Type 0 where
 abbrev pub section_with : (authority : List ℕ) → List Span → (ids : List (List ℕ)) → Section
 section_with authority spans ids = record { authority = authority; spans = spans; ids = ids }
 
--- all that is held
+-- everything that is held
 pub record Revocations : Type 0 where
   pub sections : List Section
   pub keys : List (List ℕ)
@@ -27,32 +27,32 @@ abbrev pub revocations_of : List Section → (keys sha1s sha256s : List (List �
 revocations_of sections keys sha1s sha256s =
     record { sections = sections; keys = keys; sha1s = sha1s; sha256s = sha256s }
 
--- nothing is held
+-- no revocations
 abbrev pub nothing : Revocations
 nothing = revocations_of [] [] [] []
 
--- ---- what is held under an authority
+-- ---- the section of an authority
 
--- something holds of some section
+-- some section has a property
 abbrev pub SomeSection : (Section → Type 0) → List Section → Type 0
 SomeSection P [] = ⊥
 SomeSection P (section ∷ sections) = P section ⊎ SomeSection P sections
 
--- the spans under just this authority have the number s in them
+-- the spans of exactly this authority cover the number s
 abbrev pub HoldsSerial : List Section → List ℕ → ℕ → Type 0
 HoldsSerial sections a s =
     SomeSection (λ section. (section.authority ≡ a) × Covers section.spans s) sections
 
--- the text is a key ID under just this authority
+-- the text is a key ID under exactly this authority
 abbrev pub HoldsId : List Section → List ℕ → List ℕ → Type 0
 HoldsId sections a text =
     SomeSection (λ section. (section.authority ≡ a) × Contains section.ids text) sections
 
--- some section stands under just this authority
+-- this authority has a section
 abbrev pub IsNamed : Revocations → List ℕ → Type 0
 IsNamed r a = SomeSection (λ section. section.authority ≡ a) r.sections
 
--- ---- the order of what is held
+-- ---- order
 
 -- the spans are the runs of their serials, the IDs are in order, and there is a span or an ID
 pub record IsListed (section : Section) : Type 0 where
@@ -61,8 +61,8 @@ pub record IsListed (section : Section) : Type 0 where
   pub ids_rise : Rises section.ids
   pub some : (0 < length section.spans) ⊎ (0 < length section.ids)
 
--- Each authority stands once and by its bytes, so that all authorities come first. Keys and hashes
--- stand by their bytes, each once.
+-- Authorities are in the order of their bytes, each once, so the section for all authorities comes
+-- first. Keys and hashes are in the order of their bytes, each once.
 pub record IsOrderly (r : Revocations) : Type 0 where
   pub authorities_rise : RisesBy (λ section. section.authority) r.sections
   pub listed : All IsListed r.sections
@@ -72,9 +72,9 @@ pub record IsOrderly (r : Revocations) : Type 0 where
   pub sha1_size : All (λ hash. length hash ≡ 20) r.sha1s
   pub sha256_size : All (λ hash. length hash ≡ 32) r.sha256s
 
--- ---- what it means
+-- ---- meaning
 
--- it is held
+-- the name is held
 abbrev pub HoldsName : Revocations → Name → Type 0
 HoldsName r (SerialOf a s) = HoldsSerial r.sections a s
 HoldsName r (IdOf a text) = HoldsId r.sections a text
@@ -82,12 +82,12 @@ HoldsName r (KeyOf blob) = Contains r.keys blob
 HoldsName r (Sha1Of hash) = Contains r.sha1s hash
 HoldsName r (Sha256Of hash) = Contains r.sha256s hash
 
--- just what the entries name is held, in order
+-- exactly the names of the entries are held, in order
 pub record Means (r : Revocations) (entries : List Entry) : Type 0 where
   pub orderly : IsOrderly r
   pub names : (name : Name) → HoldsName r name ↔ SomeNames entries name
 
--- ---- how much it is
+-- ---- size
 
 -- how many spans are held
 abbrev pub held : Revocations → ℕ
@@ -114,7 +114,8 @@ abbrev pub stored : Revocations → ℕ
 stored r =
     sum_by section_size r.sections + size_of r.keys + size_of r.sha1s + size_of r.sha256s
 
--- What is stored has at most n bytes, and so it has where the authority at hand is counted too.
+-- At most n bytes are stored, and the bytes of the current authority fit too if it has no section
+-- yet.
 pub record IsStoredWithin (authority : List ℕ) (r : Revocations) (n : ℕ) : Type 0 where
   pub now : stored r ≤ n
   pub next : IsNamed r authority ⊎ (stored r + length authority ≤ n)

@@ -1,4 +1,4 @@
--- Which names what is held answers for: all, or those that are asked about.
+-- The scope of revocations: the names that they answer for, which are all names or some topics.
 use Rattle.std.specs.Prelude.{◌≡◌, ℕ, ◌+◌, ◌-◌, ◌*◌, ◌≤◌, ◌↔◌, List, [], ◌++◌, take, drop}
 use Rattle.std.specs.Prelude.{Option, Some, None, Contains, length, ⊤}
 use Rattle.sha1.specs.Sha1.{sha1}
@@ -29,29 +29,30 @@ abbrev pub InScope : Scope → Name → Type 0
 InScope None name = ⊤
 InScope (Some topics) name = IsTopic topics name
 
--- Of the names in scope, just what the entries name is held, in order.
+-- A name in scope is held exactly if some entry names it. All that is held is in order.
 pub record MeansWithin (scope : Scope) (r : Revocations) (entries : List Entry) : Type 0 where
   pub orderly : IsOrderly r
   pub names : (name : Name) → InScope scope name → HoldsName r name ↔ SomeNames entries name
 
--- What is held means these entries more, of the names in scope.
+-- If the old revocations mean some entries within the scope, the new ones mean them and these
+-- entries.
 abbrev pub MeansMoreWithin : Scope → (old new : Revocations) (more : List Entry) → Type 0
 MeansMoreWithin scope old new more =
     (entries : List Entry) → MeansWithin scope old entries → MeansWithin scope new (entries ++ more)
 
--- What is kept of a list's comment: nothing, where just some topics are in scope.
+-- The part of a list's comment that is kept: nothing if only some topics are in scope.
 abbrev pub kept_comment : Scope → List ℕ → List ℕ
 kept_comment None comment = comment
 kept_comment (Some topics) comment = []
 
--- ---- how much is held
+-- ---- the amount that is held
 
--- a run of the serial numbers held under just this authority begins with the number
+-- a run of serial numbers that is held under exactly this authority begins with the number
 abbrev pub BeginsRun : Revocations → (authority : List ℕ) (serial : ℕ) → Type 0
 BeginsRun r a s = HoldsSerial r.sections a s × (HoldsSerial r.sections a (s - 1) → ⊥)
 
--- Nothing is held but what is asked about, in order. A run of serial numbers may go on past the one
--- that is asked about, with which it begins.
+-- Only topics are held, in order. A run of serial numbers begins with a topic and may continue past
+-- it.
 pub record IsWithin (topics r : Revocations) : Type 0 where
   pub orderly : IsOrderly r
   pub runs : (a : List ℕ) (s : ℕ) → BeginsRun r a s → HoldsSerial topics.sections a s
@@ -60,29 +61,29 @@ pub record IsWithin (topics r : Revocations) : Type 0 where
   pub sha1s : (hash : List ℕ) → Contains r.sha1s hash → IsTopic topics (Sha1Of hash)
   pub sha256s : (hash : List ℕ) → Contains r.sha256s hash → IsTopic topics (Sha256Of hash)
 
--- What is held is small beside what is asked about: at most a run for each serial number, and no
--- more bytes than it has and, for each key, its two hashes.
+-- The revocations are small compared with the topics: at most one run for each serial number, and
+-- at most the bytes of the topics and of two hashes for each key.
 pub record IsSmall (topics r : Revocations) : Type 0 where
   pub held_is : held r ≤ serials_in topics.sections
   pub stored_is : stored r ≤ stored topics + 52 * length topics.keys
 
--- what is held is within the scope
+-- the revocations are within the scope
 abbrev pub WithinScope : Scope → Revocations → Type 0
 WithinScope None r = ⊤
 WithinScope (Some topics) r = IsWithin topics r
 
--- What is held is small, where just some topics are in scope, which are in order.
+-- The revocations are small if only some topics are in scope and the topics are in order.
 abbrev pub IsSmallIn : Scope → Revocations → Type 0
 IsSmallIn None r = ⊤
 IsSmallIn (Some topics) r = IsOrderly topics → IsSmall topics r
 
--- ---- serial numbers that nobody asks about
+-- ---- serial numbers that are no topics
 
--- the serial number that stands after so many others
+-- the serial number at this index, where each is eight bytes long
 abbrev pub serial_at : List ℕ → ℕ → ℕ
 serial_at bytes count = number_of (take 8 (drop (8 * count) bytes))
 
--- something holds of none of the serial numbers in the first bytes
+-- none of the serial numbers in the first bytes has a property
 abbrev pub NoneHolds : (ℕ → Type 0) → (bytes : List ℕ) → (count : ℕ) → Type 0
 NoneHolds Holds bytes count = (k : ℕ) → 8 * k + 8 ≤ count → Holds (serial_at bytes k) → ⊥
 

@@ -1,4 +1,4 @@
--- Byte strings that are held, and what a walk over them has left.
+-- Held byte strings, and those that a walk over them has not returned yet.
 use Rattle.std.specs.Prelude.{ℕ, List, map}
 use Rattle.std.specs.Global.{Vec}
 use Rattle.krl_held.specs.declared.texts.Origin.{Origin}

@@ -1,4 +1,4 @@
-//! What can be added under an authority.
+//! Additions to the section of an authority.
 
 use serial_set::Span;
 

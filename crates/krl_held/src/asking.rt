@@ -18,7 +18,7 @@ use sha2::{Digest, Sha256};
 use std::collections::BTreeSet;
 
 impl<S: Spans> Revocations<S> {
-    /// All that is held, which is in order.
+    /// Returns the revocations unchanged. They are in order.
     pub fn in_order(&self) -> &Self
         ensures same { result.now ≡ self.now }
         ensures orderly { IsOrderly self.now }
@@ -48,21 +48,21 @@ impl<S: Spans> Revocations<S> {
         has_sha256(&self.sha256s, blob)
     }
 
-    // Whether a key ID is held under just this authority.
+    // Whether a key ID is held under exactly this authority.
     pub(crate) fn has_id(&self, authority: &[u8], id: &[u8]) -> bool
         ensures { IsTrue result ↔ HoldsId self.now.sections authority.now id.now }
     {
         has_id(&self.sections, authority, id)
     }
 
-    // Whether a serial number is held under just this authority.
+    // Whether a serial number is held under exactly this authority.
     pub(crate) fn has_serial(&self, authority: &[u8], serial: u64) -> bool
         ensures { IsTrue result ↔ HoldsSerial self.now.sections authority.now serial }
     {
         has_serial(&self.sections, authority, serial)
     }
 
-    // Whether some serial number from `lo` to `hi` may be held under just this authority.
+    // Whether some serial number from `lo` to `hi` may be held under exactly this authority.
     pub(crate) fn may_have(&self, authority: &[u8], lo: u64, hi: u64) -> bool
         ensures { result ≡ false → (s : ℕ) → lo ≤ s → s ≤ hi
             → HoldsSerial self.now.sections authority.now s → ⊥ }
@@ -70,15 +70,15 @@ impl<S: Spans> Revocations<S> {
         may_have(&self.sections, authority, lo, hi)
     }
 
-    // The first serial number from `lo` to `hi` that is held under just this authority.
+    // The first serial number from `lo` to `hi` that is held under exactly this authority.
     pub(crate) fn first_serial(&self, authority: &[u8], lo: u64, hi: u64) -> Option<u64>
         ensures { IsFirst (HoldsSerial self.now.sections authority.now) lo hi result }
     {
         first_serial(&self.sections, authority, lo, hi)
     }
 
-    // How many bytes at the front of some serial numbers, of eight bytes each, are of those that
-    // are not held under just this authority.
+    // How many bytes at the front of some serial numbers belong to numbers that are not held under
+    // exactly this authority. Each number is eight bytes long.
     pub(crate) fn unheld(&self, authority: &[u8], serials: &[u8]) -> usize
         ensures within { result ≤ length serials.now }
         ensures whole { result % 8 ≡ 0 }
@@ -88,7 +88,7 @@ impl<S: Spans> Revocations<S> {
     }
 }
 
-// Whether the SHA-1 of the bytes is among the hashes. It is not computed where there are none.
+// Whether the SHA-1 of the bytes is among the hashes. It is not computed if there are no hashes.
 fn has_sha1(hashes: &BTreeSet<[u8; 20]>, bytes: &[u8]) -> bool
     ensures { IsTrue result ↔ Contains hashes.now.keys (sha1 bytes.now) }
 {
@@ -98,7 +98,7 @@ fn has_sha1(hashes: &BTreeSet<[u8; 20]>, bytes: &[u8]) -> bool
     hashes.contains(&Sha1::digest(bytes))
 }
 
-// Whether the SHA-256 of the bytes is among the hashes. It is not computed where there are none.
+// Whether the SHA-256 of the bytes is among the hashes. It is not computed if there are no hashes.
 fn has_sha256(hashes: &BTreeSet<[u8; 32]>, bytes: &[u8]) -> bool
     ensures { IsTrue result ↔ Contains hashes.now.keys (sha256 bytes.now) }
 {
@@ -108,7 +108,7 @@ fn has_sha256(hashes: &BTreeSet<[u8; 32]>, bytes: &[u8]) -> bool
     hashes.contains(&Sha256::digest(bytes))
 }
 
-// Whether a key ID is held under just this authority.
+// Whether a key ID is held under exactly this authority.
 fn has_id<S: Spans>(sections: &HeldSections<S>, authority: &[u8], id: &[u8]) -> bool
     ensures { IsTrue result ↔ HoldsId sections.now authority.now id.now }
 {
@@ -118,7 +118,7 @@ fn has_id<S: Spans>(sections: &HeldSections<S>, authority: &[u8], id: &[u8]) -> 
     }
 }
 
-// Whether a serial number is held under just this authority.
+// Whether a serial number is held under exactly this authority.
 fn has_serial<S: Spans>(sections: &HeldSections<S>, authority: &[u8], serial: u64) -> bool
     ensures { IsTrue result ↔ HoldsSerial sections.now authority.now serial }
 {
@@ -128,7 +128,7 @@ fn has_serial<S: Spans>(sections: &HeldSections<S>, authority: &[u8], serial: u6
     }
 }
 
-// Whether some serial number from `lo` to `hi` may be held under just this authority.
+// Whether some serial number from `lo` to `hi` may be held under exactly this authority.
 fn may_have<S: Spans>(sections: &HeldSections<S>, authority: &[u8], lo: u64, hi: u64) -> bool
     ensures { result ≡ false → (s : ℕ) → lo ≤ s → s ≤ hi
         → HoldsSerial sections.now authority.now s → ⊥ }
@@ -139,7 +139,7 @@ fn may_have<S: Spans>(sections: &HeldSections<S>, authority: &[u8], lo: u64, hi:
     }
 }
 
-// The first serial number from `lo` to `hi` that is held under just this authority.
+// The first serial number from `lo` to `hi` that is held under exactly this authority.
 fn first_serial<S: Spans>(
     sections: &HeldSections<S>,
     authority: &[u8],
@@ -170,8 +170,8 @@ fn first_from<S: Spans>(set: &S, lo: u64, hi: u64) -> Option<u64>
     if hi < first { None } else { Some(first) }
 }
 
-// How many bytes at the front of some serial numbers are of those that are not held under just this
-// authority.
+// How many bytes at the front of some serial numbers belong to numbers that are not held under
+// exactly this authority.
 fn unheld<S: Spans>(sections: &HeldSections<S>, authority: &[u8], serials: &[u8]) -> usize
     ensures within { result ≤ length serials.now }
     ensures whole { result % 8 ≡ 0 }
@@ -183,7 +183,7 @@ fn unheld<S: Spans>(sections: &HeldSections<S>, authority: &[u8], serials: &[u8]
     }
 }
 
-// How many bytes at the front of some serial numbers are of those that are no members of a set.
+// How many bytes at the front of some serial numbers belong to numbers that are not in a set.
 fn count_others<S: Spans>(set: &S, serials: &[u8]) -> usize
     ensures within { result ≤ length serials.now }
     ensures whole { result % 8 ≡ 0 }

@@ -1,4 +1,4 @@
-//! What a list that passes says of what is asked.
+//! The findings of questions about a list that is streamed.
 
 ghost use Rattle.std.specs.Prelude.{◌≡◌, ◌↔◌, ◌+◌, ◌<◌, ◌≤◌, ◌∷◌, [], ℕ, List, true, IfOk};
 ghost use Rattle.std.specs.Prelude.{IsTrue, OnOk, ⊤};
@@ -29,12 +29,13 @@ use std::alloc::{AllocError, Global};
 use std::collections::BTreeSet;
 use std::marker::Model;
 
-/// What is asked of a list, and what its entries named of that so far. Contracts see both.
+/// The topics that a list is asked about, and what its entries have named of them so far. Contracts
+/// see both.
 #[derive(Drop)]
 pub struct Findings<S: Spans> {
     topics: Revocations<S>,
     found: Revocations<S>,
-    // the hashes of the keys that are asked about, once one was looked for
+    // the hashes of the keys that are asked about, once a hash was looked for
     has_sha1s: bool,
     has_sha256s: bool,
     sha1s: BTreeSet<[u8; 20]>,
@@ -55,8 +56,9 @@ impl<S: Spans> Model for Findings<S> {
 }
 
 impl<S: Spans> Findings<S> {
-    /// What is asked of a list that goes on, and what its front holds of that. The front is passed
-    /// so that nobody without it, as a caller of a walk, gets an answer by it. Takes no memory.
+    /// The findings for the rest of a list, from the questions and what its front holds of them.
+    /// The front is passed so that a caller that does not have it, such as the caller of a walk,
+    /// gets no answer from it. Allocates nothing.
     pub fn of(alloc: Global, front: &Revocations<S>, questions: Questions<S>) -> Findings<S>
         requires { FindsIn front.now questions }
         ensures { result ≡ questions }
@@ -73,7 +75,7 @@ impl<S: Spans> Findings<S> {
         }
     }
 
-    /// Whether a key or a certificate that is asked about is revoked. Takes no memory.
+    /// Whether a key or a certificate that is asked about is revoked. Allocates nothing.
     pub fn answer(&self, subject: &Subject) -> bool
         requires { Asks self.now.topics subject.now }
         ensures meant { (entries : List Entry)
@@ -84,8 +86,8 @@ impl<S: Spans> Findings<S> {
         self.found.query(subject)
     }
 
-    /// Why a key or a certificate that is asked about is revoked: each way in which the list does.
-    /// Takes no memory.
+    /// Why a key or a certificate that is asked about is revoked: every reason in the list.
+    /// Allocates nothing.
     pub fn reasons(&self, subject: &Subject) -> Reasons
         requires { Asks self.now.topics subject.now }
         ensures meant { (entries : List Entry)
@@ -96,7 +98,7 @@ impl<S: Spans> Findings<S> {
         self.found.reasons(subject)
     }
 
-    /// What was found of what is asked.
+    /// The revocations that were found.
     pub fn found(&self) -> &Revocations<S>
         ensures value { result.now ≡ self.now.found }
         ensures orderly { IsOrderly self.now.found }
@@ -104,7 +106,7 @@ impl<S: Spans> Findings<S> {
         self.found.in_order()
     }
 
-    // Whether a key that is asked about has this SHA-1. All are hashed once one is looked for.
+    // Whether a key that is asked about has this SHA-1. The first call hashes all of these keys.
     fn asks_sha1(&mut self, hash: &[u8; 20]) -> Result<bool, AllocError>
         ensures same { self.new ≡ self.old }
         ensures asked { IfOk result (λ asked. IsTrue asked
@@ -114,7 +116,7 @@ impl<S: Spans> Findings<S> {
         Ok(self.sha1s.contains(hash))
     }
 
-    // Whether a key that is asked about has this SHA-256, the same way.
+    // Whether a key that is asked about has this SHA-256. The first call hashes all of these keys.
     fn asks_sha256(&mut self, hash: &[u8; 32]) -> Result<bool, AllocError>
         ensures same { self.new ≡ self.old }
         ensures asked { IfOk result (λ asked. IsTrue asked
@@ -124,7 +126,7 @@ impl<S: Spans> Findings<S> {
         Ok(self.sha256s.contains(hash))
     }
 
-    // Takes the serials of a span from the first that is asked about on.
+    // Takes the serials of a span, from the first one that is asked about.
     fn put_span(&mut self, authority: Option<&[u8]>, span: Span) -> Result<(), AllocError>
         requires interval { IsInterval span }
         requires authority { IsAuthority authority }
@@ -146,7 +148,7 @@ impl<S: Spans> Findings<S> {
     }
 }
 
-// Adds the SHA-1 of each key that is asked about, unless they are there.
+// Adds the SHA-1 of each key that is asked about, unless this was done before.
 fn make_sha1s<S: Spans>(
     topics: &Revocations<S>,
     has: &mut bool,
@@ -176,7 +178,7 @@ fn hash_sha1s(keys: Texts<'_>, hashes: &mut BTreeSet<[u8; 20]>) -> Result<(), Al
     Ok(())
 }
 
-// Adds the SHA-256 of each key that is asked about, unless they are there.
+// Adds the SHA-256 of each key that is asked about, unless this was done before.
 fn make_sha256s<S: Spans>(
     topics: &Revocations<S>,
     has: &mut bool,

@@ -1,4 +1,4 @@
-//! What is held of a list that is read to its end.
+//! The revocations of a list that is read to its end.
 
 ghost use Rattle.std.specs.Prelude.{◌≡◌, None, OnErr, OnOk};
 ghost use Rattle.krl_held.specs.Changes.{IsOneChange};
@@ -14,8 +14,8 @@ use serial_set::{Span, Spans};
 use std::alloc::{AllocError, Global};
 use std::marker::Model;
 
-/// What is held of a list that is read to its end. The section of the authority in force is held
-/// apart, so it is found once for each authority in the list, and not once for each entry.
+/// The revocations of a list that is read to its end. The section of the current authority is kept
+/// apart, so it is searched for once for each authority in the list, not once for each entry.
 #[derive(Drop)]
 pub struct Gathered<S: Spans> {
     alloc: Global,
@@ -38,7 +38,7 @@ impl<S: Spans> Model for Gathered<S> {
 }
 
 impl<S: Spans> Gathered<S> {
-    /// Nothing is held yet. Takes no memory.
+    /// No revocations yet. Allocates nothing.
     pub fn new(alloc: Global) -> Gathered<S>
         ensures nothing { result.contents ≡ nothing }
         ensures none { result.apart ≡ None }
@@ -50,7 +50,7 @@ impl<S: Spans> Gathered<S> {
         }
     }
 
-    /// All that is held.
+    /// Returns all revocations.
     pub fn into_held(self) -> Revocations<S>
         ensures { result ≡ self.contents }
     {
@@ -63,7 +63,7 @@ impl<S: Spans> Gathered<S> {
         rest
     }
 
-    // Adds under an authority, where no section is held apart but its own.
+    // Adds under an authority. No section of another authority is kept apart.
     fn put(&mut self, authority: &[u8], addition: Addition<'_>) -> Result<(), AllocError>
         requires one { IsOneChange addition }
         requires at { IsAt self.old authority.now }
@@ -82,7 +82,7 @@ impl<S: Spans> Gathered<S> {
     }
 }
 
-// Puts the section that is held apart in its place.
+// Puts the section that is kept apart back in its place.
 fn settle<S: Spans>(rest: &mut Revocations<S>, apart: &mut Option<Apart<S>>)
     requires { HasPlace (apart_of S.spans apart.old) rest.old }
     ensures whole { rest.new ≡ whole (apart_of S.spans apart.old) rest.old }

@@ -1,4 +1,4 @@
-//! What is held, in order.
+//! The contents of revocations, in order.
 ghost use Rattle.std.specs.Prelude.{◌≡◌, ◌<◌, length, Some, slice_get, sum_by};
 ghost use Rattle.krl_held.specs.Revocations.{IsOrderly, held};
 
@@ -9,7 +9,8 @@ use crate::texts::Texts;
 use serial_set::Spans;
 
 impl<S: Spans> Revocations<S> {
-    /// How many authorities have a serial or a key ID, all authorities counted as one.
+    /// How many authorities have a serial or a key ID. The section for all authorities counts as
+    /// one.
     pub fn authorities(&self) -> usize
         ensures count { result ≡ length self.now.sections }
         ensures orderly { IsOrderly self.now }
@@ -17,8 +18,9 @@ impl<S: Spans> Revocations<S> {
         self.sections.len()
     }
 
-    /// What is held under the authority at an index below `authorities()`: all authorities first,
-    /// and then by their bytes. A loop over all of them takes `walk_authorities`.
+    /// The section of the authority at an index below `authorities()`. The section for all
+    /// authorities comes first, then the others in the order of their bytes. For a loop over all of
+    /// them use `walk_authorities`.
     pub fn authority_at(&self, index: usize) -> Listed<'_, S>
         requires { index < length self.now.sections }
         ensures { slice_get self.now.sections index ≡ Some result }
@@ -26,14 +28,14 @@ impl<S: Spans> Revocations<S> {
         self.sections.at(index)
     }
 
-    /// A walk over the authorities, all authorities first and then by their bytes.
+    /// A walk over the authorities, in the order of `authority_at`.
     pub fn walk_authorities(&self) -> Authorities<'_, S>
         ensures { result ≡ self.now.sections }
     {
         self.sections.walk()
     }
 
-    /// How many spans of serials are held, over all authorities. It goes over the authorities.
+    /// How many spans of serials all authorities have together. The call visits each authority.
     pub fn held(&self) -> u128
         ensures { result ≡ held self.now }
     {
@@ -47,8 +49,8 @@ impl<S: Spans> Revocations<S> {
         self.keys.len()
     }
 
-    /// The blob of the key at an index below `keys()`, in the order of their bytes. It goes over
-    /// those before it; a loop over all takes `walk_keys`.
+    /// The blob of the key at an index below `keys()`, in the order of their bytes. The call visits
+    /// the keys before it. For a loop over all of them use `walk_keys`.
     pub fn key_at(&self, index: usize) -> &[u8]
         requires { index < length self.now.keys }
         ensures { slice_get self.now.keys index ≡ Some result.now }
@@ -70,8 +72,8 @@ impl<S: Spans> Revocations<S> {
         self.sha1s.len()
     }
 
-    /// The SHA-1 hash, of 20 bytes, at an index below `sha1s()`, in the order of their bytes. It
-    /// goes over those before it; a loop over all takes `walk_sha1s`.
+    /// The SHA-1 hash, 20 bytes long, at an index below `sha1s()`, in the order of their bytes. The
+    /// call visits the hashes before it. For a loop over all of them use `walk_sha1s`.
     pub fn sha1_at(&self, index: usize) -> &[u8]
         requires { index < length self.now.sha1s }
         ensures { slice_get self.now.sha1s index ≡ Some result.now }
@@ -93,8 +95,8 @@ impl<S: Spans> Revocations<S> {
         self.sha256s.len()
     }
 
-    /// The SHA-256 hash, of 32 bytes, at an index below `sha256s()`, in the order of their bytes.
-    /// It goes over those before it; a loop over all takes `walk_sha256s`.
+    /// The SHA-256 hash, 32 bytes long, at an index below `sha256s()`, in the order of their bytes.
+    /// The call visits the hashes before it. For a loop over all of them use `walk_sha256s`.
     pub fn sha256_at(&self, index: usize) -> &[u8]
         requires { index < length self.now.sha256s }
         ensures { slice_get self.now.sha256s index ≡ Some result.now }
@@ -110,7 +112,7 @@ impl<S: Spans> Revocations<S> {
     }
 }
 
-// How many spans all authorities hold together.
+// How many spans all authorities have together.
 fn held_in<S: Spans>(sections: &HeldSections<S>) -> u128
     ensures { result ≡ sum_by (λ section. length section.spans) sections.now }
 {

@@ -1,4 +1,4 @@
-//! What is held under one authority.
+//! The section of one authority.
 ghost use Rattle.std.specs.Prelude.{◌≡◌, ℕ, List, MatchResult, IfOk};
 ghost use Rattle.krl_held.specs.Changes.{TakesAddition, IsOneChange, empty_section};
 ghost use Rattle.krl_held.specs.Gathered.{IsTaken};
@@ -9,14 +9,14 @@ use serial_set::Spans;
 use std::alloc::{AllocError, Global};
 use std::mem;
 
-/// The serials and key IDs under an authority, or under all.
+/// The serials and key IDs under an authority, or under all authorities.
 #[derive(Drop)]
 pub struct HeldSection<S: Spans> {
     pub(crate) spans: S,
     pub(crate) ids: Ids,
 }
 
-// A section that is held apart, with the bytes of its authority.
+// A section that is kept apart, with the bytes of its authority.
 #[derive(Drop)]
 pub(crate) struct Apart<S: Spans> {
     pub(crate) name: Vec<u8>,
@@ -26,7 +26,7 @@ pub(crate) struct Apart<S: Spans> {
 impl<S: Spans> HeldSection<S> {
     ghost use Rattle.krl_held.specs.HeldSection.{apart_of, section_of};
 
-    // A section that holds what is added and no more.
+    // A section that holds only the addition.
     pub(crate) fn with(alloc: Global, addition: Addition<'_>) -> Result<HeldSection<S>, AllocError>
         requires { IsOneChange addition }
         ensures { (authority : List ℕ) → IfOk result (λ section. TakesAddition addition.entry
@@ -40,7 +40,7 @@ impl<S: Spans> HeldSection<S> {
         Ok(section)
     }
 
-    // Adds to the section. Where memory runs out it holds what it did.
+    // Adds to the section. If an allocation fails, the section stays unchanged.
     pub(crate) fn add(&mut self, alloc: Global, addition: Addition<'_>) -> Result<(), AllocError>
         requires { IsOneChange addition }
         ensures { (authority : List ℕ) → MatchResult result
@@ -57,8 +57,9 @@ impl<S: Spans> HeldSection<S> {
             }
         }
     }
-    // Adds to the section, which is under an authority, and takes it out. One with just the
-    // addition stays in its place.
+
+    // Adds to the section of an authority and takes it out. A section with only the addition stays
+    // there.
     pub(crate) fn take(
         &mut self,
         alloc: Global,

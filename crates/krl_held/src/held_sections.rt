@@ -1,4 +1,4 @@
-//! What is held under each authority.
+//! The sections of all authorities.
 ghost use Rattle.std.specs.Prelude.{◌≡◌, ◌<◌, [], IfOk, MatchOption, OnErr, OnOk, Some};
 ghost use Rattle.std.specs.Prelude.{length, slice_get};
 ghost use Rattle.krl_held.specs.Inserting.{Stands};
@@ -15,7 +15,8 @@ use std::alloc::{AllocError, Global};
 use std::collections::BTreeMap;
 use std::marker::Model;
 
-/// The section of each authority, by its bytes. Contracts see them in the order of these.
+/// A map from the bytes of each authority to its section. Contracts see the sections in the order
+/// of these bytes.
 #[derive(Drop)]
 pub struct HeldSections<S: Spans> {
     alloc: Global,
@@ -36,7 +37,7 @@ impl<S: Spans> Model for HeldSections<S> {
 }
 
 impl<S: Spans> HeldSections<S> {
-    // No authority has anything. Takes no memory.
+    // No sections. Allocates nothing.
     pub(crate) fn new(alloc: Global) -> HeldSections<S>
         ensures { result ≡ [] }
     {
@@ -53,7 +54,7 @@ impl<S: Spans> HeldSections<S> {
         self.map.len()
     }
 
-    // The section of an authority.
+    // The section of an authority, if it has one.
     pub(crate) fn find(&self, authority: &[u8]) -> Option<&HeldSection<S>>
         ensures { MatchOption result
             (¬ SomeSection (λ section. section.authority ≡ authority.now) self.now)
@@ -63,7 +64,7 @@ impl<S: Spans> HeldSections<S> {
         self.map.get(authority)
     }
 
-    // What is held under the authority at an index. It goes over those before it.
+    // The section of the authority at an index. The call visits the sections before it.
     pub(crate) fn at(&self, index: usize) -> Listed<'_, S>
         requires { index < length self.now }
         ensures { slice_get self.now index ≡ Some result }
@@ -86,7 +87,7 @@ impl<S: Spans> HeldSections<S> {
         Authorities::over(&self.map)
     }
 
-    // Adds under an authority. A section that is new is made whole before it is put in.
+    // Adds under an authority. A new section is complete before it is inserted.
     pub(crate) fn add(&mut self, authority: &[u8], addition: Addition<'_>) -> Result<(), AllocError>
         requires { IsOneChange addition }
         ensures ok { OnOk result (AddsTo addition.entry authority.now self.old self.new) }
@@ -101,8 +102,8 @@ impl<S: Spans> HeldSections<S> {
         Ok(())
     }
 
-    // Adds under an authority. The section that there is is taken out with the addition, and one
-    // with just the addition stays in its place.
+    // Adds under an authority. If it has a section, that section takes the addition and is taken
+    // out, and a section with only the addition stays there.
     pub(crate) fn take(
         &mut self,
         authority: &[u8],
@@ -122,7 +123,7 @@ impl<S: Spans> HeldSections<S> {
         Ok(None)
     }
 
-    // Puts a section that was taken out in its place.
+    // Puts a section that was taken out back in its place.
     pub(crate) fn put_back(&mut self, apart: Apart<S>)
         ensures { self.new ≡ with_section (section_of S.spans (apart.name.items, apart.section))
             self.old }

@@ -12,20 +12,19 @@ use std::cmp::Ordering;
 use std::collections::BTreeSet;
 use std::marker::Model;
 
-// The most key IDs that lie in one vector. A set to which they come in order is half empty, and
-// takes nearly twice as much memory for as many. Of more than these most have two bytes, so that a
-// list has fewer of them.
+// The largest number of key IDs in one vector. A set that is filled in order is half empty, so the
+// same key IDs take nearly twice as much memory there. Beyond 256 most key IDs have at least two
+// bytes, so a list has room for fewer of them.
 const FEW: usize = 256;
 
-// A few key IDs in order, or a set of more.
+// A few key IDs in order, or more of them in a set.
 #[derive(Drop)]
 pub(crate) enum Representation {
     Few(Vec<Vec<u8>>),
     Many(BTreeSet<Vec<u8>>),
 }
 
-/// A set of key IDs. Most authorities have few of them or none. Contracts see the list of the key
-/// IDs, in order.
+/// A set of key IDs. Most authorities have few or none. Contracts see the list of them, in order.
 #[derive(Drop)]
 pub struct Ids {
     representation: Representation,
@@ -43,7 +42,7 @@ impl Model for Ids {
 }
 
 impl Ids {
-    // No key IDs. Takes no memory.
+    // No key IDs. Allocates nothing.
     pub(crate) fn new(alloc: Global) -> Ids
         ensures { result ≡ [] }
     {
@@ -62,7 +61,7 @@ impl Ids {
         }
     }
 
-    // Whether the key ID is there.
+    // Whether the set contains the key ID.
     pub(crate) fn has(&self, id: &[u8]) -> bool
         ensures { IsTrue result ↔ Contains self.now id.now }
     {
@@ -72,7 +71,7 @@ impl Ids {
         }
     }
 
-    // The key ID at an index. It goes over those before it.
+    // The key ID at an index. If there are many, the call visits those before it.
     pub(crate) fn at(&self, index: usize) -> &[u8]
         requires { index < length self.now }
         ensures { slice_get self.now index ≡ Some result.now }
@@ -93,7 +92,7 @@ impl Ids {
         }
     }
 
-    // Adds a key ID, if it is not there.
+    // Adds a key ID, unless the set contains it.
     pub(crate) fn put(&mut self, alloc: Global, id: &[u8]) -> Result<(), AllocError>
         ensures ok { OnOk result (Puts self.old id.now self.new) }
         ensures refused { OnErr result (self.new ≡ self.old) }
@@ -111,7 +110,7 @@ impl Ids {
     }
 }
 
-// Where a byte string goes among a few in order, if it is not there.
+// The index at which a byte string belongs among a few in order, or `None` if it is one of them.
 fn place_in(few: &[Vec<u8>], id: &[u8]) -> Option<usize>
     requires { RisesBy bytes_of few.now }
     ensures { MatchOption result (Contains (texts_of few.now) id.now)
@@ -125,7 +124,7 @@ fn place_in(few: &[Vec<u8>], id: &[u8]) -> Option<usize>
     .err()
 }
 
-// Puts a key ID into the vector at its place, if it is not there.
+// Inserts a key ID into the vector at its place, unless the vector contains it.
 fn put_few(alloc: Global, few: &mut Vec<Vec<u8>>, id: &[u8]) -> Result<(), AllocError>
     requires { RisesBy bytes_of few.old.items }
     ensures rise { RisesBy bytes_of few.new.items }
@@ -140,8 +139,8 @@ fn put_few(alloc: Global, few: &mut Vec<Vec<u8>>, id: &[u8]) -> Result<(), Alloc
     Ok(())
 }
 
-// Makes room for some more where there is none, a quarter of what there is: such vectors are many,
-// and room in each of them is memory.
+// Makes room for a quarter more, and at least four, if the vector is full. There are many such
+// vectors, so unused room in each of them takes much memory.
 fn grow(few: &mut Vec<Vec<u8>>) -> Result<(), AllocError>
     ensures { few.new.items ≡ few.old.items }
 {
@@ -151,7 +150,7 @@ fn grow(few: &mut Vec<Vec<u8>>) -> Result<(), AllocError>
     Ok(())
 }
 
-// A set of a few byte strings in order, and of one more.
+// A set of a few byte strings in order, and one more.
 fn spread(alloc: Global, few: &[Vec<u8>], id: &[u8]) -> Result<BTreeSet<Vec<u8>>, AllocError>
     requires { RisesBy bytes_of few.now }
     ensures { IfOk result (λ set. Puts (texts_of few.now) id.now (texts_of set.keys)) }
@@ -161,7 +160,7 @@ fn spread(alloc: Global, few: &[Vec<u8>], id: &[u8]) -> Result<BTreeSet<Vec<u8>>
     BTreeSet::from_iter(alloc, texts)
 }
 
-// Both at one lifetime, as the comparison of slices asks.
+// Compares two slices with one lifetime, as the comparison of slices requires.
 fn compare<'a>(left: &'a [u8], right: &'a [u8]) -> Ordering
     ensures { result ≡ bytes_cmp left.now right.now }
 {

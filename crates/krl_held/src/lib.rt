@@ -1,4 +1,4 @@
-//! What key revocation lists name: held, or asked about.
+//! The entries of key revocation lists, held in memory, and queries about them.
 #![tactic(auto)]
 
 mod addition;

@@ -1,4 +1,4 @@
-//! What is held under one authority, lent.
+//! The section of one authority, borrowed.
 ghost use Rattle.std.specs.Prelude.{◌≡◌, ◌<◌, length, Some, slice_get};
 ghost use Rattle.krl_held.specs.Authority.{authority_bytes, IsAuthority};
 
@@ -9,7 +9,7 @@ use std::collections::BTreeMap;
 use std::collections::btree_map::Iter;
 use std::marker::Model;
 
-/// The serials and key IDs that are revoked under one authority, or under all.
+/// The serials and key IDs that are revoked under one authority, or under all authorities.
 #[derive(Drop)]
 pub struct Listed<'a, S: Spans> {
     authority: &'a [u8],
@@ -28,14 +28,14 @@ impl<'a, S: Spans> Model for Listed<'a, S> {
 impl<'a, S: Spans> Listed<'a, S> {
     ghost use Rattle.krl_held.specs.HeldSection.{section_of};
 
-    // What is held under an authority, lent.
+    // Borrows the section of an authority.
     pub(crate) fn new(authority: &'a [u8], section: &'a HeldSection<S>) -> Listed<'a, S>
         ensures { result ≡ section_of S.spans (authority.now, section.now) }
     {
         Listed { authority, section }
     }
 
-    /// The bytes of the authority, or none for all authorities.
+    /// The bytes of the authority, or `None` for all authorities.
     pub fn authority(&self) -> Option<&'a [u8]>
         ensures bytes { authority_bytes result ≡ self.now.authority }
         ensures some { IsAuthority result }
@@ -46,7 +46,7 @@ impl<'a, S: Spans> Listed<'a, S> {
         Some(self.authority)
     }
 
-    /// The bytes of the authority, without any for all authorities: as a list has them.
+    /// The bytes of the authority as a list spells them: empty for all authorities.
     pub fn bytes(&self) -> &'a [u8]
         ensures { result.now ≡ self.now.authority }
     {
@@ -67,8 +67,8 @@ impl<'a, S: Spans> Listed<'a, S> {
         self.section.ids.len()
     }
 
-    /// The key ID at an index below `ids()`, in the order of their bytes. A loop over all of them
-    /// takes `walk_ids`.
+    /// The key ID at an index below `ids()`, in the order of their bytes. For a loop over all of
+    /// them use `walk_ids`.
     pub fn id_at(&self, index: usize) -> &'a [u8]
         requires { index < length self.now.ids }
         ensures { slice_get self.now.ids index ≡ Some result.now }
@@ -84,8 +84,8 @@ impl<'a, S: Spans> Listed<'a, S> {
     }
 }
 
-/// What is held under each authority, all authorities first and then by their bytes: an iterator.
-/// Contracts see it as the list of the sections that are left.
+/// An iterator over the sections. The section for all authorities comes first, then the others in
+/// the order of their authorities' bytes. Contracts see the list of the sections that are left.
 #[derive(Drop)]
 pub struct Authorities<'a, S: Spans> {
     sections: Iter<'a, Vec<u8>, HeldSection<S>>,

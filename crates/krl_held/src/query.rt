@@ -1,4 +1,4 @@
-//! The question of whether a key or a certificate is revoked.
+//! Queries: whether a key or a certificate is revoked.
 ghost use Rattle.std.specs.Prelude.{◌≡◌, ◌↔◌, IsTrue, List};
 ghost use Rattle.krl_held.specs.Query.{HoldsKey, HoldsUnder, HoldsCert};
 ghost use Rattle.krl_held.specs.Revocations.{Means};
@@ -12,8 +12,8 @@ use krl_types::{CertNames, Subject};
 use serial_set::Spans;
 
 impl<S: Spans> Revocations<S> {
-    /// Whether a plain key or a certificate is revoked (ssh-keygen(1), KEY REVOCATION LISTS). Takes
-    /// no memory. A hash is computed only where there are hashes of its kind.
+    /// Whether a plain key or a certificate is revoked (ssh-keygen(1), KEY REVOCATION LISTS).
+    /// Allocates nothing. A hash is computed only if there are hashes of its kind.
     pub fn query(&self, subject: &Subject) -> bool
         ensures revoked { (entries : List Entry) → Means self.now entries
             → (IsTrue result ↔ Revoked entries subject.now) }
@@ -28,8 +28,8 @@ impl<S: Spans> Revocations<S> {
         }
     }
 
-    // Whether a certificate is revoked by its authority, or by its key ID or serial under all
-    // authorities or its own.
+    // Whether a certificate is revoked by its authority's key, or by its key ID or serial number
+    // under all authorities or its own.
     fn has_cert(&self, cert: &CertNames) -> bool
         ensures { IsTrue result ↔ HoldsCert self.now cert.now }
     {
@@ -42,7 +42,7 @@ impl<S: Spans> Revocations<S> {
         has_under(&self.sections, cert.authority, cert.key_id, cert.serial)
     }
 
-    // Whether a plain key is revoked by its blob or a hash of it.
+    // Whether a plain key is revoked by its blob or by one of its hashes.
     fn has_key(&self, blob: &[u8]) -> bool
         ensures { IsTrue result ↔ HoldsKey self.now blob.now }
     {
@@ -56,7 +56,7 @@ impl<S: Spans> Revocations<S> {
     }
 }
 
-// Whether a key ID or a serial number is held under just this authority.
+// Whether a key ID or a serial number is held under exactly this authority.
 fn has_under<S: Spans>(sections: &HeldSections<S>, authority: &[u8], id: &[u8], serial: u64) -> bool
     ensures { IsTrue result
         ↔ HoldsUnder sections.now authority.now id.now serial }

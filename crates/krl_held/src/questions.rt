@@ -1,4 +1,4 @@
-//! What is asked of a list.
+//! Questions about a list.
 
 ghost use Rattle.std.specs.Prelude.{◌≡◌, ◌+◌, ◌<◌, ◌≤◌, Contains, OnOk, Some, length};
 ghost use Rattle.sha1.specs.Sha1.{sha1};
@@ -18,9 +18,9 @@ use sha2::{Digest, Sha256};
 use std::alloc::{AllocError, Global};
 use std::marker::Model;
 
-/// What is asked of a list that is read on after its front, and what the front holds of it.
-/// Contracts see the topics, which are keys, and serial numbers and key IDs under authorities, and
-/// what is found of them.
+/// The questions about a list whose front was read, and what the front holds of them. Contracts see
+/// the topics, which are keys, and serial numbers and key IDs under authorities, and what was found
+/// of them.
 #[derive(Drop)]
 pub struct Questions<S: Spans> {
     pub(crate) topics: Revocations<S>,
@@ -36,7 +36,7 @@ impl<S: Spans> Model for Questions<S> {
 }
 
 impl<S: Spans> Questions<S> {
-    /// Nothing is asked. Takes no memory.
+    /// No questions. Allocates nothing.
     pub fn new(alloc: Global) -> Questions<S>
         ensures topics { result.topics ≡ nothing }
         ensures orderly { IsOrderly result.topics }
@@ -51,8 +51,8 @@ impl<S: Spans> Questions<S> {
         }
     }
 
-    /// Asks about a key or a certificate too, of a list whose front holds this. Fails only where
-    /// memory runs out.
+    /// Asks about a key or a certificate too. `front` is what the front of the list holds. Fails
+    /// only if an allocation fails.
     pub fn ask(&mut self, front: &Revocations<S>, subject: &Subject) -> Result<(), AllocError>
         requires { FindsIn front.now self.old }
         ensures asked { OnOk result (Asks self.new.topics subject.now) }
@@ -125,7 +125,8 @@ impl<S: Spans> Questions<S> {
         self.ask_under(front, Some(cert.authority), cert)
     }
 
-    // Asks about a certificate's key ID and serial number under an authority, or under all.
+    // Asks about a certificate's key ID and serial number under an authority, or under all
+    // authorities.
     fn ask_under(
         &mut self,
         front: &Revocations<S>,
@@ -155,7 +156,7 @@ impl<S: Spans> Questions<S> {
     }
 }
 
-// Finds a key by its blob and its hashes in what a front holds.
+// Looks for a key in a front, by its blob and its hashes.
 fn find_key<S: Spans>(
     front: &Revocations<S>,
     found: &mut Revocations<S>,
@@ -168,7 +169,7 @@ fn find_key<S: Spans>(
     find_sha256(front, found, blob)
 }
 
-// Finds a key by its blob.
+// Looks for a key by its blob.
 fn find_blob<S: Spans>(
     front: &Revocations<S>,
     found: &mut Revocations<S>,
@@ -183,7 +184,7 @@ fn find_blob<S: Spans>(
     found.add_key(blob)
 }
 
-// Finds a key by its SHA-1.
+// Looks for a key by its SHA-1.
 fn find_sha1<S: Spans>(
     front: &Revocations<S>,
     found: &mut Revocations<S>,
@@ -198,7 +199,7 @@ fn find_sha1<S: Spans>(
     found.add_sha1(&Sha1::digest(blob))
 }
 
-// Finds a key by its SHA-256.
+// Looks for a key by its SHA-256.
 fn find_sha256<S: Spans>(
     front: &Revocations<S>,
     found: &mut Revocations<S>,
@@ -213,7 +214,7 @@ fn find_sha256<S: Spans>(
     found.add_sha256(&Sha256::digest(blob))
 }
 
-// Finds a key ID under an authority.
+// Looks for a key ID under an authority.
 fn find_id<S: Spans>(
     front: &Revocations<S>,
     found: &mut Revocations<S>,
@@ -230,7 +231,7 @@ fn find_id<S: Spans>(
     found.add_id(authority, id)
 }
 
-// Finds a serial number under an authority.
+// Looks for a serial number under an authority.
 fn find_serial<S: Spans>(
     front: &Revocations<S>,
     found: &mut Revocations<S>,

@@ -21,9 +21,9 @@ pub enum Reason {
     KeySha256,
     /// An entry is the key of the certificate's authority.
     Authority,
-    /// An entry is the SHA-1 of that.
+    /// An entry is the SHA-1 of the key of the certificate's authority.
     AuthoritySha1,
-    /// An entry is the SHA-256 of that.
+    /// An entry is the SHA-256 of the key of the certificate's authority.
     AuthoritySha256,
     /// An entry names the serial number under the certificate's authority.
     Serial,
@@ -35,7 +35,7 @@ pub enum Reason {
     KeyIdOfAll,
 }
 
-/// Which entries name a key: its blob, or a hash of it.
+/// Whether entries name a key by its blob, and by each of its hashes.
 #[derive(Clone, Copy)]
 pub struct KeyReasons {
     pub blob: bool,
@@ -51,7 +51,8 @@ impl KeyReasons {
     };
 }
 
-/// Under which authority entries name a serial number or a key ID: the certificate's own, and all.
+/// Whether entries name a serial number or a key ID under the certificate's own authority, and
+/// whether they do under all authorities.
 #[derive(Clone, Copy)]
 pub struct NameReasons {
     pub own: bool,
@@ -93,7 +94,7 @@ impl Reasons {
         }
     }
 
-    /// Whether there is one.
+    /// Whether there is a reason.
     pub fn any(self) -> bool
         ensures { result ≡ any_reason self }
     {
@@ -111,8 +112,8 @@ impl Reasons {
 }
 
 impl<S: Spans> Revocations<S> {
-    /// Why a plain key or a certificate is revoked: each way in which entries do. Takes no memory.
-    /// A hash is computed only where there are hashes of its kind.
+    /// Why a plain key or a certificate is revoked: every reason. Allocates nothing. A hash is
+    /// computed only if there are hashes of its kind.
     pub fn reasons(&self, subject: &Subject) -> Reasons
         ensures meant { (entries : List Entry) → Means self.now entries → (reason : ReasonOf)
             → (IsTrue (has_reason result reason) ↔ IsReason entries subject.now reason) }
@@ -130,7 +131,7 @@ impl<S: Spans> Revocations<S> {
         }
     }
 
-    // The names of a certificate that are held, beside its plain key.
+    // The reasons of a certificate, together with those of its plain key.
     fn cert_reasons(&self, key: KeyReasons, cert: &CertNames) -> Reasons
         ensures { result ≡ cert_reasons (holds_name self.now) key cert.now }
     {
@@ -145,7 +146,7 @@ impl<S: Spans> Revocations<S> {
         }
     }
 
-    // The names of a key that are held.
+    // Which names of a key are held.
     fn key_reasons(&self, blob: &[u8]) -> KeyReasons
         ensures { result ≡ key_reasons (holds_name self.now) blob.now }
     {
@@ -159,7 +160,7 @@ impl<S: Spans> Revocations<S> {
         }
     }
 
-    // Under which authority a serial number is held.
+    // Whether a serial number is held under its own authority, and whether it is under all.
     fn serial_reasons(&self, authority: &[u8], serial: u64) -> NameReasons
         ensures { result ≡ serial_reasons (holds_name self.now) authority.now serial }
     {
@@ -168,7 +169,7 @@ impl<S: Spans> Revocations<S> {
         NameReasons { own, all }
     }
 
-    // Under which authority a key ID is held.
+    // Whether a key ID is held under its own authority, and whether it is under all.
     fn id_reasons(&self, authority: &[u8], id: &[u8]) -> NameReasons
         ensures { result ≡ id_reasons (holds_name self.now) authority.now id.now }
     {

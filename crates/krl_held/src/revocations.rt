@@ -1,4 +1,4 @@
-//! What is revoked.
+//! The revocations of keys and certificates.
 ghost use Rattle.std.specs.Prelude.{◌≡◌, ◌+◌, ◌<◌, ◌≤◌, ◌∷◌, [], ℕ, List, length, All, IfOk, OnOk, OnErr, Some};
 ghost use Rattle.serial_set.specs.BitRuns.{IsInterval};
 ghost use Rattle.serial_set.specs.Near.{AreNear};
@@ -17,9 +17,9 @@ use std::alloc::{AllocError, Global};
 use std::collections::BTreeSet;
 use std::marker::Model;
 
-/// What is revoked: serial numbers and key IDs under an authority or under all, and keys by their
-/// blobs or hashes. Contracts see the sections of the authorities and the lists of keys and hashes,
-/// each in the order of their bytes.
+/// Revocations: serial numbers and key IDs under an authority or under all authorities, and keys by
+/// their blobs or hashes. Contracts see the sections of the authorities and the lists of keys and
+/// hashes, each in the order of their bytes.
 #[derive(Drop)]
 pub struct Revocations<S: Spans> {
     alloc: Global,
@@ -43,7 +43,7 @@ impl<S: Spans> Model for Revocations<S> {
 }
 
 impl<S: Spans> Revocations<S> {
-    /// No revocations. Takes no memory.
+    /// No revocations. Allocates nothing.
     pub fn new(alloc: Global) -> Revocations<S>
         ensures nothing { result ≡ nothing }
         ensures means { Means result [] }
@@ -57,9 +57,9 @@ impl<S: Spans> Revocations<S> {
         }
     }
 
-    /// Revokes the serials from `lo` to `hi` of an authority, or of all authorities where there is
-    /// none. `lo` is above 0 and at most `hi`, and an authority has a byte. Fails only where memory
-    /// runs out, and changes nothing then.
+    /// Revokes the serials from `lo` to `hi` of an authority, or of all authorities if it is
+    /// `None`. `lo` is above 0 and at most `hi`, and an authority has at least one byte. Fails only
+    /// if an allocation fails, and then changes nothing.
     pub fn add_serials(
         &mut self,
         authority: Option<&[u8]>,
@@ -86,7 +86,7 @@ impl<S: Spans> Revocations<S> {
     }
 
     // Revokes the serials of some spans, which lie near each other, with one search for the
-    // authority. Fails only where memory runs out, and changes nothing then.
+    // authority. Fails only if an allocation fails, and then changes nothing.
     pub(crate) fn add_near(
         &mut self,
         authority: Option<&[u8]>,
@@ -115,8 +115,9 @@ impl<S: Spans> Revocations<S> {
         Ok(())
     }
 
-    /// Revokes the certificates with a key ID of an authority, or of all authorities where there is
-    /// none. An authority has a byte. Fails only where memory runs out, and changes nothing then.
+    /// Revokes the certificates with a key ID of an authority, or of all authorities if it is
+    /// `None`. An authority has at least one byte. Fails only if an allocation fails, and then
+    /// changes nothing.
     pub fn add_id(&mut self, authority: Option<&[u8]>, id: &[u8]) -> Result<(), AllocError>
         requires { IsAuthority authority }
         ensures means { OnOk result (MeansMore self.old self.new
@@ -138,7 +139,7 @@ impl<S: Spans> Revocations<S> {
         Ok(())
     }
 
-    /// Revokes a key by its blob. Fails only where memory runs out, and changes nothing then.
+    /// Revokes a key by its blob. Fails only if an allocation fails, and then changes nothing.
     pub fn add_key(&mut self, blob: &[u8]) -> Result<(), AllocError>
         ensures means { OnOk result (MeansMore self.old self.new (KeyEntry blob.now ∷ [])) }
         ensures orderly { IsOrderly self.old }
@@ -152,8 +153,8 @@ impl<S: Spans> Revocations<S> {
         Ok(())
     }
 
-    /// Revokes a key by the SHA-1 of its blob. Fails only where memory runs out, and changes
-    /// nothing then.
+    /// Revokes a key by the SHA-1 of its blob. Fails only if an allocation fails, and then changes
+    /// nothing.
     pub fn add_sha1(&mut self, hash: &[u8; 20]) -> Result<(), AllocError>
         ensures means { OnOk result (MeansMore self.old self.new (Sha1Entry hash.now ∷ [])) }
         ensures orderly { IsOrderly self.old }
@@ -166,8 +167,8 @@ impl<S: Spans> Revocations<S> {
         Ok(())
     }
 
-    /// Revokes a key by the SHA-256 of its blob. Fails only where memory runs out, and changes
-    /// nothing then.
+    /// Revokes a key by the SHA-256 of its blob. Fails only if an allocation fails, and then
+    /// changes nothing.
     pub fn add_sha256(&mut self, hash: &[u8; 32]) -> Result<(), AllocError>
         ensures means { OnOk result (MeansMore self.old self.new (Sha256Entry hash.now ∷ [])) }
         ensures orderly { IsOrderly self.old }
@@ -184,8 +185,8 @@ impl<S: Spans> Revocations<S> {
 impl<S: Spans> Revocations<S> {
     ghost use Rattle.krl_held.specs.HeldSection.{apart_of};
 
-    // Adds under an authority, with one search for it. The section that there is is taken out with
-    // the addition, and one with just the addition stays in its place.
+    // Adds under an authority, with one search for it. If it has a section, that section takes the
+    // addition and is taken out, and a section with only the addition stays there.
     pub(crate) fn take(
         &mut self,
         authority: &[u8],
@@ -201,7 +202,7 @@ impl<S: Spans> Revocations<S> {
         self.sections.take(authority, addition)
     }
 
-    // Puts a section that was taken out in its place.
+    // Puts a section that was taken out back in its place.
     pub(crate) fn put_back(&mut self, apart: Apart<S>)
         requires { HasPlace (apart_of S.spans (Some apart)) self.old }
         ensures { self.new ≡ whole (apart_of S.spans (Some apart)) self.old }
@@ -210,7 +211,7 @@ impl<S: Spans> Revocations<S> {
     }
 }
 
-// The bytes of an authority, and none for all authorities.
+// The bytes of an authority, or none for all authorities.
 pub(crate) fn bytes_or_none<'a>(authority: Option<&'a [u8]>) -> &'a [u8]
     ensures { result.now ≡ authority_bytes authority.entry }
 {

@@ -1,4 +1,4 @@
-//! What takes the entries of a list while it is read.
+//! Stores, which take the entries of a list while it is read.
 
 ghost use Rattle.std.specs.Prelude.{◌≡◌, ◌+◌, ◌%◌, ◌<◌, ◌≤◌, ◌∷◌, [], ℕ, List, length, All};
 ghost use Rattle.std.specs.Prelude.{OnOk, false, ⊤};
@@ -16,28 +16,28 @@ use crate::revocations::Revocations;
 use serial_set::{Span, Spans};
 use std::alloc::AllocError;
 
-/// What takes the entries of a list while it is read. Of the names in its scope it holds just those
-/// that some entry names. An addition fails only where memory runs out.
+/// A store takes the entries of a list while it is read. It holds a name in its scope exactly if
+/// some entry names it. An addition fails only if an allocation fails.
 pub trait Store: Drop {
     ghost use Rattle.krl_held.specs.Revocations.{Revocations};
     ghost use Rattle.krl_held.specs.Scope.{Scope};
 
-    // what is held
+    // the revocations that it holds
     ghost contents: { Self → Revocations };
 
-    // which names it answers for
+    // the names that it answers for
     ghost scope: { Self → Scope };
 
-    // whether it takes entries under this authority, before it is told of another
+    // whether it takes entries under this authority; after `leave` it takes those under any
     ghost is_at: { Self → List ℕ → Type 0 };
 
-    /// The entries that follow may be under another authority.
+    /// Leaves the current authority: the entries that follow may be under another one.
     fn leave(&mut self)
         ensures contents { contents self.new ≡ contents self.old }
         ensures scope { scope self.new ≡ scope self.old }
         ensures any { (authority : List ℕ) → is_at self.new authority };
 
-    /// What is kept of the list's comment: all or nothing of it.
+    /// The part of the list's comment that is kept: all of it or nothing.
     fn kept_comment<'a>(&self, comment: &'a [u8]) -> &'a [u8]
         ensures { result.now ≡ kept_comment (scope self.now) comment.now };
 
@@ -47,15 +47,15 @@ pub trait Store: Drop {
         ensures { result ≡ false → (s : ℕ) → lo ≤ s → s ≤ hi
             → InScope (scope self.now) (SerialOf authority.now s) → ⊥ };
 
-    /// How many bytes at the front of some serial numbers, of eight bytes each, are of those that
-    /// are not in scope under this authority.
+    /// How many bytes at the front of some serial numbers belong to numbers that are not in scope
+    /// under this authority. Each number is eight bytes long.
     fn unwanted(&self, authority: &[u8], serials: &[u8]) -> usize
         ensures within { result ≤ length serials.now }
         ensures whole { result % 8 ≡ 0 }
         ensures unwanted { AreUnwanted (scope self.now) authority.now serials.now result };
 
-    /// Takes serials under an authority, or under all where there is none: spans that lie near each
-    /// other.
+    /// Takes serials under an authority, or under all authorities if it is `None`. The serials are
+    /// spans that lie near each other.
     fn put_serials(&mut self, authority: Option<&[u8]>, near: &[Span]) -> Result<(), AllocError>
         requires some { 0 < length near.now }
         requires intervals { All IsInterval near.now }
@@ -73,7 +73,7 @@ pub trait Store: Drop {
             → IsStoredWithin (authority_bytes authority.entry) (contents self.old) n
             → IsStoredWithin (authority_bytes authority.entry) (contents self.new) n };
 
-    /// Takes a key ID under an authority, or under all where there is none.
+    /// Takes a key ID under an authority, or under all authorities if it is `None`.
     fn put_id(&mut self, authority: Option<&[u8]>, id: &[u8]) -> Result<(), AllocError>
         requires authority { IsAuthority authority }
         requires at { is_at self.old (authority_bytes authority) }

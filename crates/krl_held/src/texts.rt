@@ -16,7 +16,7 @@ pub(crate) fn has_text(set: &BTreeSet<Vec<u8>>, text: &[u8]) -> bool
     set.contains(text)
 }
 
-// Puts a byte string into a set, if it is not there.
+// Adds a byte string to a set, unless the set contains it.
 pub(crate) fn put_text(
     alloc: Global,
     set: &mut BTreeSet<Vec<u8>>,
@@ -29,7 +29,7 @@ pub(crate) fn put_text(
     Ok(())
 }
 
-// Where the byte strings come from.
+// The source of the byte strings.
 #[derive(Drop)]
 pub(crate) enum Origin<'a> {
     Few(&'a [Vec<u8>]),
@@ -38,7 +38,7 @@ pub(crate) enum Origin<'a> {
     Sha256s(Iter<'a, [u8; 32]>),
 }
 
-/// Byte strings, in order: an iterator. Contracts see it as the list of those that are left.
+/// An iterator over byte strings, in order. Contracts see the list of those that are left.
 #[derive(Drop)]
 pub struct Texts<'a> {
     origin: Origin<'a>,
@@ -90,7 +90,7 @@ impl<'a> Texts<'a> {
         }
     }
 
-    // The byte string at an index. It goes over those before it.
+    // The byte string at an index. The call visits those before it.
     pub(crate) fn at(self, index: usize) -> &'a [u8]
         requires { index < length self }
         ensures { slice_get self.entry index ≡ Some result.now }

@@ -1,4 +1,4 @@
-//! Laws of what is asked. Each function does nothing: its contract is the law.
+//! Laws of queries and of reasons.
 
 ghost use Rattle.std.specs.Prelude.{◌≡◌, ◌↔◌, IsTrue, List, Some};
 ghost use Rattle.krl_types.specs.Subject.{Subject};
@@ -12,27 +12,27 @@ ghost use Rattle.krl_held.specs.Scope.{IsSmall, IsWithin, MeansWithin};
 ghost use Rattle.krl_held.specs.Tested.{revokes};
 ghost use Rattle.krl_held.specs.declared.reasons.Reason.{Reason as ReasonOf};
 
-/// The test of what is held says what is revoked by any entries that it means.
+/// If revocations mean some entries, their test is true exactly for what these entries revoke.
 pub fn revokes_what_is_meant()
     ensures { (r : Revocations) (entries : List Entry) (subject : Subject) → Means r entries
         → (IsTrue (revokes r subject) ↔ Revoked entries subject) }
 {}
 
-/// The test of entries says what they revoke.
+/// The test of entries is true exactly for what they revoke.
 pub fn revokes_what_is_named()
     ensures { (entries : List Entry) (subject : Subject)
         → (IsTrue (is_revoked entries subject) ↔ Revoked entries subject) }
 {}
 
-/// What was found of the topics revokes what was asked about just where the entries do.
+/// The findings revoke a key or a certificate that was asked about exactly if the entries do.
 pub fn revokes_what_was_found()
     ensures { (topics found : Revocations) (entries : List Entry) (subject : Subject)
         → MeansWithin (Some topics) found entries → Asks topics subject
         → revokes found subject ≡ is_revoked entries subject }
 {}
 
-/// What is found of some topics is small: at most a run for each serial number that is a topic, and
-/// no more bytes than the topics have and, for each key, its two hashes.
+/// The findings are small: at most one run for each serial number among the topics, and at most the
+/// bytes of the topics and of two hashes for each key.
 pub fn what_is_found_is_small()
     ensures { (topics found : Revocations) → IsOrderly topics → IsWithin topics found
         → IsSmall topics found }
@@ -45,7 +45,8 @@ pub fn reasons_are_ways()
         ↔ IsReason entries subject reason) }
 {}
 
-/// Something is revoked exactly where there is a reason, and the test of one finds so.
+/// A key or a certificate is revoked exactly if there is a reason, and the test of reasons agrees
+/// with the test of the entries.
 pub fn revoked_for_a_reason()
     ensures reason { (entries : List Entry) (subject : Subject)
         → (Revoked entries subject ↔ ((reason : ReasonOf) × IsReason entries subject reason)) }
@@ -53,7 +54,7 @@ pub fn revoked_for_a_reason()
         → any_reason (reasons_of entries subject) ≡ is_revoked entries subject }
 {}
 
-/// What was found of the topics gives the reasons of the entries for what was asked about.
+/// The findings give the reasons of the entries for a key or a certificate that was asked about.
 pub fn reasons_of_what_was_found()
     ensures { (topics found : Revocations) (entries : List Entry) (subject : Subject)
         → MeansWithin (Some topics) found entries → Asks topics subject

@@ -1,23 +1,23 @@
-//! What is held, and the entries that it means.
+//! Laws of revocations and the entries that they mean.
 
 ghost use Rattle.std.specs.Prelude.{◌≡◌, List};
 ghost use Rattle.krl_held.specs.Revocations.{Revocations, Means};
 ghost use Rattle.krl_held.specs.Entry.{Entry};
 ghost use Rattle.krl_held.specs.Naming.{NamesSame};
 
-/// What is held means any other list of entries that names the same.
+/// Revocations mean any other list of entries that names the same.
 pub fn naming_decides_meaning()
     ensures { (r : Revocations) (entries others : List Entry) → Means r entries
         → NamesSame entries others → Means r others }
 {}
 
-/// What is held is one for all lists of entries: those that it means name the same.
+/// All lists of entries that revocations mean name the same.
 pub fn meaning_decides_naming()
     ensures { (r : Revocations) (entries others : List Entry) → Means r entries → Means r others
         → NamesSame entries others }
 {}
 
-/// The entries decide what is held: what means the same entries is the same.
+/// The entries decide the revocations: any two that mean the same entries are equal.
 pub fn entries_decide_what_is_held()
     ensures { (r other : Revocations) (entries : List Entry) → Means r entries → Means other entries
         → r ≡ other }

@@ -1,4 +1,4 @@
--- What was found of what is asked about gives the reasons of the entries.
+-- The findings give the reasons of the entries.
 use Rattle.krl_held.proofs.Reasoned.{reasons_within}
 use Rattle.krl_held.proofs.findings.Findings.reasons.Goals as goal
 

@@ -1,4 +1,4 @@
--- What is asked about first stays so.
+-- Topics that are added first stay topics.
 use Rattle.std.proofs.Common.{[]}
 use Rattle.krl_held.specs.Naming.{KeyOf}
 use Rattle.krl_held.proofs.AskedMore.{on_ok_with, under_stays}

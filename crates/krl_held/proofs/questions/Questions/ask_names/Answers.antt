@@ -1,4 +1,4 @@
--- The plain key is asked about still, after the names of the certificate.
+-- The plain key stays a topic when the names of the certificate are added.
 use Rattle.std.proofs.Common.{sym, subst}
 use Rattle.krl_held.specs.Naming.{KeyOf}
 use Rattle.krl_held.specs.Questions.{HasCert}

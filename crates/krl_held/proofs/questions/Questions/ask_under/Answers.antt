@@ -1,4 +1,4 @@
--- The key ID is asked about, and then the serial number where there is one.
+-- The key ID becomes a topic, and then the serial number if there is one.
 use Rattle.std.proofs.Common.{◌≤◌, ◌<◌, refl, inl, inr, arith}
 use Rattle.std.proofs.lemmas.Result.{on_ok_weaker}
 use Rattle.krl_held.specs.Authority.{authority_bytes}

@@ -1,4 +1,4 @@
--- Under the authority, and under all.
+-- A key ID under its own authority, and under all authorities.
 use Rattle.std.proofs.Common.{[]}
 use Rattle.krl_held.specs.Naming.{IdOf}
 use Rattle.krl_held.proofs.Reasoned.{both_are}
