@@ -18,3 +18,4 @@ pub mod ContainerReads
 pub mod SecretRows
 pub mod Markers
 pub mod Halves
+pub mod Sizes

@@ -1,7 +1,7 @@
 //! Laws that hold for every text, each the contract of a function that does nothing. `read_line`,
 //! `parse_fingerprint` and `read_private` return the same as the readers named here.
 
-ghost use Rattle.std.specs.Prelude.{◌≡◌, ◌<◌, ◌↔◌, ℕ, List, Err, Ok, Some, length};
+ghost use Rattle.std.specs.Prelude.{◌≡◌, ◌+◌, ◌*◌, ◌<◌, ◌≤◌, ◌↔◌, ℕ, List, Err, Ok, Some, length};
 ghost use Rattle.sha2.specs.Sha256.{sha256};
 ghost use Rattle.key_text.specs.Blanks.{IsWord};
 ghost use Rattle.key_text.specs.Container.{IsContainer, IsPrivateFault};
@@ -39,6 +39,12 @@ pub fn marked_line_is_read()
 /// The base64 of a key is always a word, so every key has a key line, whatever its bytes are.
 pub fn base64_is_word()
     ensures { (blob : List ℕ) → 0 < length blob → IsWord (base64 blob) }
+{}
+
+/// A key line has room for its type word, a blank and the base64 of its key.
+pub fn line_has_room()
+    ensures { (text word blob comment : List ℕ) → IsKeyLine text word blob comment
+        → 4 * length blob + 24 ≤ 3 * length text }
 {}
 
 /// Reading reports a fault exactly if it is the first fault of the text.

@@ -37,7 +37,7 @@ use Rattle.krl_types.specs.declared.krl_fault.KrlFault.TheVariants as faults
 use Rattle.key_files.specs.Keys.{Named, FileKey, GivesKey, IsRefused, key_of_container, content_keys, file_name, key_in, keys_from, keys_of, key_of_line}
 use Rattle.key_files.specs.declared.file_fault.FileFault.{FileFault}
 use Rattle.key_files.specs.declared.file_fault.FileFault.TheVariants as files
-use Rattle.krl_spec.proofs.KeyRoom.{key_room}
+use Rattle.ssh_key.proofs.Sizes.{key_room}
 use Rattle.krl_spec.specs.Lines.{ReadsSpec, StopsAt, lines_of}
 use Rattle.key_files.specs.declared.spec_cause.SpecCause.{SpecCause}
 use Rattle.key_files.specs.declared.spec_cause.SpecCause.TheVariants as specs

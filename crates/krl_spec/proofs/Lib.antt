@@ -1,4 +1,3 @@
-pub mod KeyRoom
 pub mod Digits
 pub mod Growth
 pub mod ReadLines

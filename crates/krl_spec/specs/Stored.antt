@@ -1,6 +1,5 @@
 -- By how much the stored bytes grow by reading a specification file.
-use Rattle.std.specs.Prelude.{◌≡◌, ℕ, ◌+◌, ◌≤◌, ◌⊎◌, List, length, Option, Some, None}
-use Rattle.krl_types.specs.Subject.{CertNames, Subject}
+use Rattle.std.specs.Prelude.{◌≡◌, ℕ, ◌+◌, ◌≤◌, ◌⊎◌, List, length, Option}
 use Rattle.krl_held.specs.Revocations.{Revocations, IsStoredWithin}
 use Rattle.krl_spec.specs.Under.{bytes_under}
 use Rattle.krl_held.specs.Entry.{Entry, RangeEntry, IdEntry, KeyEntry, Sha1Entry}
@@ -29,14 +28,3 @@ Fits at_hand size (KeyEntry blob) = length blob ≤ size
 Fits at_hand size (Sha1Entry hash) = 20 ≤ size
 Fits at_hand size (Sha256Entry hash) = 32 ≤ size
 Fits at_hand size entry = ⊥
-
--- how many bytes a subject can store: those of a plain key, or of the names of a certificate
-abbrev pub asked_size : List ℕ → Option CertNames → ℕ
-asked_size plain None = length plain
-asked_size plain (Some names) = length names.authority + length names.key_id
-
--- A subject has no more bytes than its blob, and no blob is shorter than that of the shortest key.
-pub record IsWithinBlob (blob : List ℕ) (asked : Subject) : Type 0 where
-  pub asked_is : asked_size asked.plain asked.cert ≤ length blob
-  pub plain_is : length asked.plain ≤ length blob
-  pub least : 19 ≤ length blob

@@ -5,11 +5,11 @@ ghost use Rattle.ssh_wire.specs.Reading.{Answers, in_fault};
 ghost use Rattle.key_text.specs.FingerprintReading.{fingerprint_at};
 ghost use Rattle.key_text.specs.LineReading.{content_of, line_at};
 ghost use Rattle.krl_types.specs.Subject.{Subject};
+ghost use Rattle.ssh_cert.specs.Sizes.{IsWithinBlob};
 ghost use Rattle.ssh_cert.specs.SubjectReading.{subject_of};
 ghost use Rattle.krl_spec.specs.Adding.{Reports};
 ghost use Rattle.krl_spec.specs.Entries.{HasAuthority};
 ghost use Rattle.krl_spec.specs.Keys.{line_cause, plain_in, subject_cause};
-ghost use Rattle.krl_spec.specs.Stored.{IsWithinBlob};
 ghost use Rattle.key_files.specs.declared.spec_cause.SpecCause.TheVariants.{Fingerprint};
 
 use key_files::{KeyCause, SpecCause};

@@ -7,3 +7,4 @@ pub mod Certs
 pub mod OptionLists
 pub mod Asked
 pub mod Cuts
+pub mod Sizes

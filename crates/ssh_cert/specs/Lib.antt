@@ -12,3 +12,4 @@ pub mod AnyKey
 pub mod Laws
 pub mod Validity
 pub mod Escape
+pub mod Sizes

@@ -6,3 +6,4 @@ pub mod Numbers
 pub mod Keys
 pub mod FirstFaults
 pub mod Cuts
+pub mod Sizes

@@ -1,5 +1,6 @@
 -- The subject is that of a key or of a certificate.
-use Rattle.krl_spec.proofs.Sizes.{asked_room, has_authority}
+use Rattle.ssh_cert.proofs.Sizes.{asked_room}
+use Rattle.krl_spec.proofs.Sizes.{has_authority}
 use Rattle.krl_spec.proofs.keys.ask.Goals as goal
 
 pub returns-in-Ok-clause-authority : goal.returns-in-Ok-clause-authority

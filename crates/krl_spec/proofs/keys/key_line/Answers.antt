@@ -1,5 +1,5 @@
 -- The line has room for its key.
-use Rattle.krl_spec.proofs.Sizes.{line_room}
+use Rattle.key_text.proofs.Sizes.{line_room}
 use Rattle.krl_spec.proofs.keys.key_line.Goals as goal
 
 pub returns-in-Ok-clause-room : goal.returns-in-Ok-clause-room

@@ -1,7 +1,7 @@
 -- A fingerprint is longer than its digest.
 use Rattle.std.proofs.Common.{arith}
 use Rattle.key_text.proofs.FingerprintLaws.{fingerprint_found}
-use Rattle.krl_spec.proofs.Sizes.{fingerprint_room}
+use Rattle.key_text.proofs.Sizes.{fingerprint_room}
 use Rattle.krl_spec.proofs.keys.read_hash.Goals as goal
 
 pub returns-in-Ok-clause-room : goal.returns-in-Ok-clause-room

@@ -1,10 +1,10 @@
--- The least length of keys in bytes.
+-- The least length of keys and of their names in bytes.
 use Rattle.std.proofs.Common.{ℕ, ◌+◌, ◌*◌, ◌≤◌, List, [], ◌∷◌, length, ap, arith}
 use Rattle.std.proofs.lemmas.List.{length-append}
 use Rattle.ssh_wire.specs.Wire.{complement, mpint, string}
 use Rattle.ssh_wire.proofs.Fields.{length-string}
 use Rattle.ssh_key.specs.Key.{AreValues, IsKey, PublicKey, field_text, fields_text}
-use Rattle.ssh_key.specs.Kind.{Field, Positive, Curve, Point, Sized, Application, fields_of, type_name}
+use Rattle.ssh_key.specs.Kind.{Field, Positive, Curve, Point, Sized, Application, certificate_name, fields_of, type_name}
 use Rattle.ssh_key.specs.declared.kind.Kind.{Kind}
 use Rattle.ssh_key.specs.declared.kind.Kind.TheVariants.{Rsa, Dsa, Ecdsa256, Ecdsa384}
 use Rattle.ssh_key.specs.declared.kind.Kind.TheVariants.{Ecdsa521, Ed25519, EcdsaSk, Ed25519Sk}
@@ -47,3 +47,14 @@ key_room blob key is =
       length-append (string (type_name key.kind)) key.fields,
       length-string (type_name key.kind),
     )
+
+-- the names of a kind
+pub name_room : (kind : Kind) → (7 ≤ length (type_name kind)) × (length (type_name kind) ≤ length (certificate_name kind))
+name_room Rsa = (omega arith, omega arith)
+name_room Dsa = (omega arith, omega arith)
+name_room Ecdsa256 = (omega arith, omega arith)
+name_room Ecdsa384 = (omega arith, omega arith)
+name_room Ecdsa521 = (omega arith, omega arith)
+name_room Ed25519 = (omega arith, omega arith)
+name_room EcdsaSk = (omega arith, omega arith)
+name_room Ed25519Sk = (omega arith, omega arith)
