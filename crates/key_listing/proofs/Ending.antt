@@ -78,7 +78,8 @@ pub ends_sent : {A : Type 0} (result : Result A RunFault) (run : List Item) (bef
 ends_sent (Ok value) run before stop old new revoked kept reaches sends same = rw same (ends_whole run before stop old new kept reaches (sends (works before run stop old kept reaches)))
 ends_sent (Err fault) run before stop old new revoked kept reaches sends same = ends_cut run before fault old new (front_of before run stop old kept reaches) (sends (works before run stop old kept reaches))
 
--- A run ended as its printer reports: the final state of the printer's writer is that of the writer.
+-- A run ended as its printer reports: the final state of the printer's writer is that of the
+-- writer.
 pub ends_known : {A : Type 0} (run : List Item) (result : Result A RunFault) (before taken taken' : Option (List ℕ)) (writer : ℕ) (failed failed' : Bool) (mid : Printer) (stop : Option RunFault) (status : ℕ) (fault : Option RunFault)
     → Carries run result (nothing_printed before false writer) mid → stop ≡ result_err result
     → ((before : Option (List ℕ)) (run : List Item) → Reaches before run stop mid → Ends run before taken failed status fault)

@@ -110,7 +110,8 @@ abbrev pub many : Option ℕ → Option ℕ
 many None = None
 many (Some count) = if nat_lt 1 count then Some count else None
 
--- A file without a key in which several lines are not read is treated as one unread file: the number of these lines.
+-- A file without a key in which several lines are not read is treated as one unread file: the
+-- number of these lines.
 unfoldable pub keyless : List Outcome → Option ℕ
 keyless lines = many (unread_alone lines)
 
@@ -155,8 +156,8 @@ content_of (Err refusal) = Err refusal
 abbrev pub JudgesAs : Judge → (Subject → Reasons) → Type 0
 JudgesAs judge reasons = (asked : Subject) → held_reasons judge.list.now asked ≡ reasons asked
 
--- Exactly the items of these lines, of which the first has this number, were printed after the earlier ones, and all
--- lines were counted; or the audit was stopped within them.
+-- Exactly the items of these lines, of which the first has this number, were printed after the
+-- earlier ones, and all lines were counted; or the audit was stopped within them.
 pub record Told (reasons : Subject → Reasons) (shown : Shown) (name : List ℕ) (number : ℕ)
     (lines : List Outcome) (result : Result (Unit {0}) RunFault) (old new : Printer)
     (before after : Counts) : Type 0 where

@@ -27,8 +27,8 @@ pub record IsListOf (list : List ℕ) (entries : List Entry) : Type 0 where
   pub within : length list ≤ limit
   pub entries_are : entries ≡ entries_of sections
 
--- Each authority of the list is empty or a key in its one spelling, so a certificate's authority can be compared with
--- it.
+-- Each authority of the list is empty or a key in its one spelling, so a certificate's authority
+-- can be compared with it.
 pub record IsCompared (list : List ℕ) (entries : List Entry) : Type 0 where
   pub is : IsListOf list entries
   pub keys : AuthoritiesAreKeys is.sections
@@ -76,8 +76,9 @@ pub data AnswersLine (entries : List Entry) (text : List ℕ) (number : ℤ) : T
       → AnswersLine entries text number
   line_ran_out : number ≡ no_memory → AnswersLine entries text number
 
--- The answer of a list, by the answer of its entries. The answer of a refused list is its first fault. A list that is
--- read, but has an authority that cannot be compared, has a number of its own.
+-- The answer of a list, by the answer of its entries. The answer of a refused list is its first
+-- fault. A list that is read, but has an authority that cannot be compared, has a number of its
+-- own.
 pub data AnswersBy (Says : List Entry → ℤ → Type 0) (list : List ℕ) (number : ℤ) : Type 0 where
   answered : (entries : List Entry) → IsCompared list entries → Says entries number
       → AnswersBy Says list number

@@ -22,9 +22,10 @@ pub record AnswersHeld (Says : List Entry → ℤ → Type 0) (kept : Kept) (num
 abbrev pub unloaded : Kept
 unloaded = record { loaded = false; list = nothing }
 
--- The result of reading a list into a handle: the stored list means the entries of the list, and has at most four
--- intervals of serials for each of its bytes, and no more bytes than it. If the list is refused for its first fault, a
--- failed allocation or an authority, the stored list stays unchanged.
+-- The result of reading a list into a handle: the stored list means the entries of the list, and
+-- has at most four intervals of serials for each of its bytes, and no more bytes than it. If the
+-- list is refused for its first fault, a failed allocation or an authority, the stored list stays
+-- unchanged.
 pub data Loads (list : List ℕ) (old new : Kept) (number : ℤ) : Type 0 where
   loaded : (entries : List Entry) → IsCompared list entries → Holds new.loaded new.list entries
       → HoldsAll list new.list entries → number ≡ fine → Loads list old new number

@@ -11,7 +11,7 @@ pub record Loan : Type 0 where
   pub life : Lft
   pub share : Share
 
--- The value is at the pointer, only to be read, and the lifetime lasts. Many may have such a loan at the same time,
--- each with a share.
+-- The value is at the pointer, only to be read, and the lifetime lasts. Many may have such a loan
+-- at the same time, each with a share.
 abbrev pub is_lent : Ptr → Loan → Fml
 is_lent at loan = fsep (flft loan.life loan.share) (lent_at the_row at loan.kept loan.life)

@@ -5,8 +5,8 @@ use Rattle.krl_held.specs.Questions.{Asked, subject_size}
 use Rattle.krl_held.specs.Revocations.{serials_in, stored}
 use Rattle.krl_held.specs.Scope.{IsWithin}
 
--- Only the subject of the query is stored: at most two serial numbers, two keys, and the bytes of the key or
--- certificate.
+-- Only the subject of the query is stored: at most two serial numbers, two keys, and the bytes of
+-- the key or certificate.
 pub record KeepsAsked (subject : Subject) (asked : Asked) : Type 0 where
   pub within : IsWithin asked.topics asked.found
   pub serials : serials_in asked.topics.sections ≤ 2

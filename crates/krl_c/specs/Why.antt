@@ -25,7 +25,8 @@ place_of reasons.SerialOfAll = 7
 place_of reasons.KeyId = 8
 place_of reasons.KeyIdOfAll = 9
 
--- Each bit says whether the entries revoke the key of the query for its reason. There are no other bits.
+-- Each bit says whether the entries revoke the key of the query for its reason. There are no other
+-- bits.
 pub record HasReasons (entries : List Entry) (asked : Subject) (bits : ℕ) : Type 0 where
   pub reasons_are : (reason : Reason)
       → (bit_at bits (place_of reason) ≡ 1 ↔ IsReason entries asked reason)

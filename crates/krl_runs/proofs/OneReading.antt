@@ -11,7 +11,8 @@ said_by fault text left (ran_out is some works) = inl is
 said_by fault text left (failed_read is fails) = let failed = fails.failed_is in absurd (cc)
 said_by fault text left (first is works) = inr is
 
--- The known contents of a text are unique, and only a text without a fault has them. A text has one first fault.
+-- The known contents of a text are unique, and only a text without a fault has them. A text has one
+-- first fault.
 pub record HasOne {K : Type 0} (Knows : List ℕ → K → Type 0) : Type 0 where
   pub known : (text : List ℕ) (one other : K) → Knows text one → Knows text other → one ≡ other
   pub no_fault : (text : List ℕ) (known : K) → Knows text known → IsFirstFault text None

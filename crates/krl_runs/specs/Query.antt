@@ -69,8 +69,8 @@ pub record HasEntries (text : List ℕ) (entries : List Entry) : Type 0 where
   pub no_fault : IsFirstFault text None
   pub entries_are : entries ≡ entries_of sections
 
--- The text is a list without a fault, these are its known contents, and the answers are exactly those of the entries of
--- its sections.
+-- The text is a list without a fault, these are its known contents, and the answers are exactly
+-- those of the entries of its sections.
 pub record IsHeld (text : List ℕ) (known : Known) : Type 0 where
   pub list : IsList text known.header known.contents
   pub no_fault : IsFirstFault text None
@@ -85,22 +85,22 @@ IsRead = IsReadAs IsHeld
 abbrev pub IsListRead : Option (List ℕ) → Result Known KrlFault → Bool → Option (List ℕ) → Type 0
 IsListRead = IsReadingOf IsHeld
 
--- The list's first fault ends the run immediately. Otherwise its contents are printed if requested, and then each key
--- of each file gives one line, up to the first fault.
+-- The list's first fault ends the run immediately. Otherwise its contents are printed if requested,
+-- and then each key of each file gives one line, up to the first fault.
 unfoldable pub query_run_of : List ℕ → Result Known KrlFault → Bool → List Named → List Item
 query_run_of name (Err fault) dump files = Stopped (run_fault_of name (krl_cause fault)) ∷ []
 query_run_of name (Ok known) dump files =
     Passed name ∷ (contents_items name dump known ++ files_items (ask known.contents) files)
 
--- The list's first fault ends the run immediately. Otherwise each key of each file gives one line, up to the first
--- fault.
+-- The list's first fault ends the run immediately. Otherwise each key of each file gives one line,
+-- up to the first fault.
 unfoldable pub asked_run_of : List ℕ → Result (List Entry) KrlFault → List Named → List Item
 asked_run_of name (Err fault) files = Stopped (run_fault_of name (krl_cause fault)) ∷ []
 asked_run_of name (Ok entries) files =
     Passed name ∷ files_items (ask_by (is_revoked entries)) files
 
--- The lines of the run and the place where it stops: by the list's contents if these are printed, otherwise by the
--- answers alone.
+-- The lines of the run and the place where it stops: by the list's contents if these are printed,
+-- otherwise by the answers alone.
 pub data IsRun (name : List ℕ) (files : List Named) (before : Option (List ℕ)) (dump failed : Bool)
     (left : Option (List ℕ)) (items : List Item) : Type 0 where
   dumped : (reading : Result Known KrlFault) → dump ≡ true

@@ -1,5 +1,5 @@
--- Which words ask for which job (ssh-keygen(1), SYNOPSIS), and the faults of the command line: their numbers, and their
--- exit statuses.
+-- Which words ask for which job (ssh-keygen(1), SYNOPSIS), and the faults of the command line:
+-- their numbers, and their exit statuses.
 use Rattle.std.specs.Prelude.{◌≡◌, ◌≢◌, ℕ, ⊤, Bool, true, false, List, [], None, Some, Result, Ok}
 use Rattle.std.specs.Prelude.{Err}
 use Rattle.clap.specs.Faults.{fault_of}
@@ -51,8 +51,8 @@ ReportsError error (Words help text) =
 ReportsError error Usage = ⊥
 ReportsError error NoMemory = ⊤
 
--- The result of words that follow the program's name: if they can be parsed, the job that they ask for or Usage;
--- otherwise why they cannot.
+-- The result of words that follow the program's name: if they can be parsed, the job that they ask
+-- for or Usage; otherwise why they cannot.
 abbrev pub IsCommand : List (List ℕ) → Result Job CommandFault → Type 0
 IsCommand words (Ok job) =
     (fault_of program words ≡ []) × AsksFor (given_in words) (Ok job)

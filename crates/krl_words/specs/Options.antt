@@ -62,8 +62,8 @@ abbrev pub with_rules : App → List Rule → App
 with_rules app [] = app
 with_rules app (rule ∷ rules) = with_rules (with_rule app rule) rules
 
--- The program without its options. A use of an option overrides an earlier use of the same option: the last of several
--- values counts, and an option without a value counts once.
+-- The program without its options. A use of an option overrides an earlier use of the same option:
+-- the last of several values counts, and an option without a value counts once.
 abbrev pub bare : App
 bare = record {
   top = record (new_shape (codes "krl-keygen")) {

@@ -23,7 +23,8 @@ fn an_audit_goes_on_past_what_it_cannot_read(rt: HostRuntime) {
         "gone: unread: No such file or directory
 home/\\x1bbob:3: revoked: ssh-ed25519 {ALICE_PRINT} by its key: alice@laptop
 home/\\x1bbob:4: unread: no key type stands there
-home/\\x1bbob:5: revoked: ssh-ed25519-cert-v01@openssh.com {BOB_PRINT} by key ID \"bob\" of CA {AUTHORITY_PRINT}: bob@desk
+home/\\x1bbob:5: revoked: ssh-ed25519-cert-v01@openssh.com {BOB_PRINT} \
+by key ID \"bob\" of CA {AUTHORITY_PRINT}: bob@desk
 pipe: unread: no regular file\n"
     );
     let wanted = wanted.expect(&rt, "there is memory");
@@ -65,7 +66,8 @@ fn of_a_private_key_file_the_public_half_is_asked_about(rt: HostRuntime) {
         &[
             b"id:1: revoked: ssh-ed25519 ",
             GITHUB_PRINT,
-            b" by its key: a\ncut:1: unread: the private key file is cut or misspelt: private 1 Armour\n",
+            b" by its key: a\n\
+cut:1: unread: the private key file is cut or misspelt: private 1 Armour\n",
         ],
     );
     let wanted = wanted.expect(&rt, "there is memory");

@@ -10,7 +10,7 @@ use parts_for_tests::{Taker, joined};
 use std::alloc::Global;
 use std::process::Abort;
 
-// What is said of one file.
+// The objects that an audit prints for one file.
 fn objects_of(
     rt: &impl Abort,
     alloc: Global,

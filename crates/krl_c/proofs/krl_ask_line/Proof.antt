@@ -72,8 +72,8 @@ krl_ask_line_spec 𝓤 𝓛 𝓜 𝓡 wired =
     in_a_block ! p (λ s. lent_at K s loan.kept loan.life) (fst∗ 𝓤 (never 𝓤) (sem 𝓛 (shared_of K loan.kept 0 0 loan.life))) (λ b o eq. fsplit ! $ drop ! $ hide ! $
     regoal ! (λ s. prop (WpFn 𝓤 𝓛.H 𝓣.C 𝓣.Λ code.function ((g ∷ []) ++ (rawptr_vals s ++ (shr_slice_vals line ++ []))) (W.post (At (g ∷ []) (rawptr_vals s) (shr_slice_vals line))))) eq refl $
     enter ! _ _ _ _ _ $ alloc_all ! (λ l. pass_all ! refl (tg, ((tt, tt), ((tt, (tt, (record { fits = are.1.1.0.0.1.0 }, tt))), tt))) $
-    -- [the borrowed value; the same again; the token; the line; nothing; the allocator; the line's token; nothing; the
-    -- locals]
+    -- [the borrowed value; the same again; the token; the line; nothing; the allocator; the line's
+    -- token; nothing; the locals]
     sets ! (of_opd ! (get ! refl)) refl tg $
     first ! $ blocks ! $
     sets ! (of_opd ! (get ! refl)) refl (tt, tt) $

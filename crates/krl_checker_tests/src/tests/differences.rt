@@ -91,11 +91,13 @@ const AUTHORITIES: [(&[u8], Option<Difference>); 4] = [
     (b"", None),
     (b"abc", Some(Difference::Authority)),
     (
-        b"\0\0\0\x1ask-ssh-ed25519@openssh.com\0\0\0\x20abcdefghijklmnopabcdefghijklmnop\0\0\0\x04ssh:",
+        b"\0\0\0\x1ask-ssh-ed25519@openssh.com\0\0\0\x20abcdefghijklmnopabcdefghijklmnop\
+\0\0\0\x04ssh:",
         None,
     ),
     (
-        b"\0\0\0\x1ask-ssh-ed25519@openssh.com\0\0\0\x20abcdefghijklmnopabcdefghijklmnop\0\0\0\x05ssh:\0",
+        b"\0\0\0\x1ask-ssh-ed25519@openssh.com\0\0\0\x20abcdefghijklmnopabcdefghijklmnop\
+\0\0\0\x05ssh:\0",
         Some(Difference::Authority),
     ),
 ];

@@ -1,4 +1,5 @@
--- The answer is whether the list names the key of the query; otherwise it is the list's first fault, or the blob's.
+-- The answer is whether the list names the key of the query; otherwise it is the list's first
+-- fault, or the blob's.
 use Rattle.std.proofs.Common.{refl, sym, rules, ◌∙◌}
 use Rattle.std.proofs.lemmas.Bool.{false≢true}
 use mir.Syntax.{w32}

@@ -1,4 +1,5 @@
--- The list is queried for the key of the line; otherwise the answer is the list's first fault, or the line's.
+-- The list is queried for the key of the line; otherwise the answer is the list's first fault, or
+-- the line's.
 use Rattle.std.proofs.Common.{rules, ◌∙◌}
 use mir.Syntax.{w32}
 use mir.Val.{SFits}

@@ -1,4 +1,5 @@
--- The findings are those of the query, or the list's first fault is reported: borrowed bytes do not fail.
+-- The findings are those of the query, or the list's first fault is reported: borrowed bytes do not
+-- fail.
 use Rattle.std.proofs.Common.{[]}
 use Rattle.krl_core.specs.Entries.{entries_of}
 use Rattle.krl_c.proofs.Saying.{first_of, of_list}

@@ -71,7 +71,8 @@ swap_spec 𝓤 𝓛 𝓜 𝓡 wired =
     let word = lowers.val_is h ws is ∙ ap (λ (p : Ptr). lowers.lowered (record h { at = p }) ∷ []) e in
     let Cell = λ (xs : List Val). ‵ (cell_at full_share R.mir xs b o) in
     rewrite ! 3 Cell word refl $
-    -- [what the old value owns; its cell; the fields; the struct's cell; the open borrow, in three; the rest of krl; what kept owns]
+    -- [what the old value owns; its cell; the fields; the struct's cell; the open borrow, in three;
+    -- the rest of krl; what kept owns]
     sets ! (of_opd ! (load ! (through ! refl (fld ! refl (stop !))) (look_in ! 3 (sub ! 0 refl (whole !))))) refl (tt, tt) $
     sets ! (of_opd ! (get ! refl)) refl (tt, tt) $
     first ! $ blocks ! $
@@ -85,8 +86,8 @@ swap_spec 𝓤 𝓛 𝓜 𝓡 wired =
     rewrite ! 3 Cell (sym word) refl $
     move ! (1 ∷ 8 ∷ []) $ use2 𝓛 (‵ (part_at K full_share kept b' o')) (part_in 𝓛 K refl full_share kept b' o' u) $
     rewrite ! 0 (λ (p : Ptr). ‵ (lies_at K full_share p kept)) (sym e) refl $
-    -- [kept at the pointer; what the old value owns; the fields; the struct's cell; the open borrow, in three; the rest
-    -- of krl]
+    -- [kept at the pointer; what the old value owns; the fields; the struct's cell; the open
+    -- borrow, in three; the rest of krl]
     move ! (2 ∷ 0 ∷ []) $ fjoin ! $ move ! (2 ∷ 0 ∷ 3 ∷ 4 ∷ 5 ∷ []) $ closes ! tt R (record h { held = kept }) ws b o $
     returns ! (look_at ! 0 refl) $ free_all ! refl $
     -- [krl, but for its first part, in two; the token; what the old value owns; the first part]

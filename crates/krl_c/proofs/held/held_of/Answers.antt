@@ -1,4 +1,5 @@
--- The list is read, and its authorities are checked, or its first fault is reported: borrowed bytes do not fail.
+-- The list is read, and its authorities are checked, or its first fault is reported: borrowed bytes
+-- do not fail.
 use Rattle.std.proofs.Common.{sym, ◌∙◌}
 use Rattle.std.proofs.lemmas.Bool.{false≢true}
 use Rattle.krl_core.specs.Entries.{entries_of}

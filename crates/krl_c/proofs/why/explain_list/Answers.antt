@@ -1,4 +1,5 @@
--- The answer is why the list names the key of the query; otherwise it is the list's first fault, or the blob's.
+-- The answer is why the list names the key of the query; otherwise it is the list's first fault, or
+-- the blob's.
 use Rattle.std.proofs.Common.{◌<◌, ◌^◌, sym, subst, rules, ◌∙◌, arith}
 use Rattle.std.proofs.lemmas.Int.{to_z_pos}
 use mir.Syntax.{w32}
