@@ -14,7 +14,6 @@ use Rattle.krl_held.proofs.Ordered.{inserts_rise}
 use Rattle.krl_held.proofs.HeldSections.{changes_rise}
 use Rattle.std.proofs.Math.Logic.Iff as Iff
 use Rattle.krl_held.proofs.BothWays.{contains_middle, iff_or, iff_swap}
-use Rattle.krl_held.proofs.Elements.{contains_none}
 
 -- ---- inserted byte strings
 
@@ -52,10 +51,6 @@ has_span : (spans : List Span) (s : ℕ) → Covers spans s → 0 < length spans
 has_span [] s n = absurd n
 has_span (x ∷ xs) s n = omega arith
 
-has_text : (texts : List (List ℕ)) (t : List ℕ) → Contains texts t → 0 < length texts
-has_text [] t h = absurd (contains_none t h)
-has_text (x ∷ xs) t h = omega arith
-
 -- a span that is not empty has a number
 some_covered : (spans : List Span) → 0 < length spans → All IsInterval spans → (s : ℕ) × Covers spans s
 some_covered [] some intervals = absurd (omega arith)
@@ -75,11 +70,12 @@ takes_serials_listed more from to some intervals o t =
 pub takes_id_listed : (text : List ℕ) (from to : Section) → InOrder from → TakesId text from to → IsListed to
 takes_id_listed text from to o t =
     let spans : to.spans ≡ from.spans = ap (λ (s : Section). s.spans) t.same in
+    let at = (put_held from.ids text to.ids t.put text).1 (inr refl) in
     record {
       runs = subst IsRuns (sym spans) o.runs;
       serials = subst AreSerials (sym spans) o.serials;
       ids_rise = put_rises from.ids text to.ids t.put o.ids_rise;
-      some = inr (has_text to.ids text ((put_held from.ids text to.ids t.put text).1 (inr refl)));
+      some = inr (omega (arith, at.1));
     }
 
 -- all elements have a property exactly if the middle one and all others have it

@@ -16,7 +16,7 @@ use Rattle.krl_held.specs.declared.held_section.Apart.{Apart}
 use Rattle.krl_held.specs.declared.held_section.HeldSection.{HeldSection}
 use Rattle.krl_held.specs.Rising.{bytes_cmp, RisesBy}
 use Rattle.krl_held.specs.Changes.{AddsTo, IsOneChange, TakesAddition, empty_section}
-use Rattle.krl_held.specs.Gathered.{HasPlace, IsTaken, Opens, TakesOut, with_apart, with_section}
+use Rattle.krl_held.specs.Gathered.{HasPlace, IsTaken, TakesOut, with_section}
 use Rattle.krl_held.specs.HeldSection.{apart_of, section_of, sections_of, named_sections}
 use Rattle.krl_held.specs.Revocations.{IsListed, IsOrderly, Section, SomeSection, revocations_of}
 use Rattle.krl_held.proofs.AddedSections.{InOrder, all_middle, takes_id_listed, takes_serials_listed}
@@ -214,10 +214,6 @@ left_orderly spans addition a (Err fault) old new keys sha1s sha256s one ok err 
 
 -- ---- the section that was taken out
 
-pub takes_out_adds : (addition : Addition) (a : List ℕ) (old : List Section) (apart : Option Section) (rest : List Section) → TakesOut addition a old apart rest → AddsTo addition a old (with_apart apart rest)
-takes_out_adds addition a old None rest t = t
-takes_out_adds addition a old (Some section) rest t = inl (record { front = t.front; back = t.back; from = t.from; to = section; before = t.before; after = t.with_taken; under = t.under; changed = t.takes })
-
 pub takes_out_place : (addition : Addition) (a : List ℕ) (old : List Section) (apart : Option Section) (rest : List Section) (keys sha1s sha256s : List (List ℕ)) → IsOneChange addition → All IsListed old → TakesOut addition a old apart rest
     → HasPlace apart (revocations_of rest keys sha1s sha256s)
 takes_out_place addition a old None rest keys sha1s sha256s one listed t = tt
@@ -229,6 +225,3 @@ takes_out_place addition a old (Some section) rest keys sha1s sha256s one listed
       subst (SomeSection P) (sym t.after) ((some_middle P t.front t.left t.back).1 (inl left)),
       takes_listed addition t.from section one (in_order t.from was.0) t.takes,
     )
-
-pub takes_out_name : (addition : Addition) (a : List ℕ) (old : List Section) (section : Section) (rest : List Section) → Opens addition a old section rest → section.authority ≡ a
-takes_out_name addition a old section rest t = takes_authority addition t.from section t.takes ∙ t.under

@@ -1,16 +1,11 @@
 -- Serial numbers at the front of some bytes that are skipped.
-use Rattle.std.proofs.Common.{◌≡◌, ℕ, ◌+◌, ◌-◌, ◌*◌, ◌%◌, ◌<◌, ◌≤◌, inl, inr, List, [], ◌∷◌, length, take, drop, refl, sym, ap, ◌∙◌, subst, arith, get_or, zero, suc}
+use Rattle.std.proofs.Common.{◌≡◌, ℕ, ◌+◌, ◌-◌, ◌*◌, ◌%◌, ◌<◌, ◌≤◌, inl, inr, List, [], ◌∷◌, length, take, drop, sym, ap, ◌∙◌, subst, arith, get_or}
 use Rattle.std.proofs.lemmas.Bool.{cases_lt}
-use Rattle.std.proofs.lemmas.List.{drop-take}
+use Rattle.std.proofs.lemmas.List.{drop-take, take-take}
+pub use Rattle.std.proofs.lemmas.List.{take-take as take_fewer}
 use Rattle.ssh_wire.specs.Wire.{number_of}
 use Rattle.krl_held.specs.Scope.{NoneHolds, serial_at}
 use Rattle.krl_held.proofs.Numbers.{number_of-one}
-
-pub take_fewer : (n m : ℕ) (xs : List ℕ) → n ≤ m → take n (take m xs) ≡ take n xs
-take_fewer zero m xs le = refl
-take_fewer (suc n) zero xs le = absurd (omega arith)
-take_fewer (suc n) (suc m) [] le = refl
-take_fewer (suc n) (suc m) (x ∷ xs) le = ap (λ (l : List ℕ). x ∷ l) (take_fewer n m xs (omega arith))
 
 -- a serial number that lies within the first bytes is the same in them
 pub serial_within : (bytes : List ℕ) (k count : ℕ) → 8 * k + 8 ≤ count → serial_at bytes k ≡ serial_at (take count bytes) k
@@ -18,7 +13,7 @@ serial_within bytes k count fits =
     let parts : 8 * k + (count - 8 * k) ≡ count = omega arith in
     let front : drop (8 * k) (take count bytes) ≡ take (count - 8 * k) (drop (8 * k) bytes) =
     ap (λ (n : ℕ). drop (8 * k) (take n bytes)) (sym parts) ∙ drop-take (8 * k) (count - 8 * k) bytes in
-    ap number_of (sym (ap (take 8) front ∙ take_fewer 8 (count - 8 * k) (drop (8 * k) bytes) (omega arith)))
+    ap number_of (sym (ap (take 8) front ∙ take-take 8 (count - 8 * k) (drop (8 * k) bytes) (omega arith)))
 
 -- the first byte as a number
 pub first_byte : (bytes : List ℕ) (bound : ℕ) → 0 < length bytes → get_or bytes 0 0 < bound → number_of (take 1 bytes) < bound

@@ -3,6 +3,8 @@
 ghost use Rattle.std.specs.Prelude.{◌≡◌, length};
 ghost use Rattle.ssh_wire.specs.Wire.{number_of};
 
+use byteorder::{BigEndian, ByteOrder};
+
 /// The value of a field that is one byte long.
 pub fn byte_of(field: &[u8]) -> u8
     requires { length field.now ≡ 1 }
@@ -16,7 +18,7 @@ pub fn u32_of(field: &[u8]) -> u32
     requires { length field.now ≡ 4 }
     ensures { result ≡ number_of field.now }
 {
-    u32::from_be_bytes([field[0], field[1], field[2], field[3]])
+    BigEndian::read_u32(field)
 }
 
 /// The number that a field eight bytes long spells.
@@ -24,7 +26,5 @@ pub fn u64_of(field: &[u8]) -> u64
     requires { length field.now ≡ 8 }
     ensures { result ≡ number_of field.now }
 {
-    u64::from_be_bytes([
-        field[0], field[1], field[2], field[3], field[4], field[5], field[6], field[7],
-    ])
+    BigEndian::read_u64(field)
 }
