@@ -4,3 +4,4 @@ pub mod Named
 pub mod RunFault
 pub mod Keys
 pub mod FileKeys
+pub mod Sizes

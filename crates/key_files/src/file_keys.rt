@@ -1,6 +1,6 @@
 //! The keys of a file, one after another.
 
-ghost use Rattle.std.specs.Prelude.{◌≡◌, ◌<◌, ◌+◌, ◌^◌, ℕ, Err, IfErr, IfOk, List};
+ghost use Rattle.std.specs.Prelude.{◌≡◌, ◌<◌, ◌≤◌, ◌+◌, ◌*◌, ◌^◌, ℕ, Err, IfErr, IfOk, List, length};
 ghost use Rattle.ssh_cert.specs.AnyKey.{IsReadAs};
 ghost use Rattle.ssh_cert.specs.SubjectReading.{subject_of};
 ghost use Rattle.ssh_cert.specs.declared.subject_fault.SubjectFault.{SubjectFault as FaultOf};
@@ -8,6 +8,7 @@ ghost use Rattle.key_text.specs.ContainerReading.{private_at};
 ghost use Rattle.key_text.specs.LineReading.{line_at};
 ghost use Rattle.key_files.specs.FileKeys.{HasRoom, IsNextLine, keys_left, line_room};
 ghost use Rattle.key_files.specs.Keys.{GivesKey, GivesNext, key_of_container, keys_of, key_of_line, run_fault_in, text_keys};
+ghost use Rattle.key_files.specs.Sizes.{file_size, keys_room};
 
 use crate::cause::Cause;
 use crate::file_fault::FileFault;
@@ -185,7 +186,8 @@ impl<'a> Iterator for FileKeys<'a> {
 /// The keys of a file.
 #[tactic(auto, unfolding(crate::specs::Keys::keys_of))]
 pub fn keys_of<'a>(alloc: Global, file: &'a Named<'a>) -> FileKeys<'a>
-    ensures { result ≡ keys_of file.entry.now }
+    ensures keys { result ≡ keys_of file.entry.now }
+    ensures room { keys_room result ≤ 3 * file_size file.entry.now }
 {
     let left = match &file.content {
         Ok(text) => text_left(text.as_slice()),
@@ -201,6 +203,7 @@ pub fn keys_of<'a>(alloc: Global, file: &'a Named<'a>) -> FileKeys<'a>
 // The whole of a text is left.
 fn text_left(text: &[u8]) -> Left<'_>
     ensures keys { (name : List ℕ) → keys_left name result ≡ text_keys name text.now }
+    ensures size { (name : List ℕ) → keys_room (keys_left name result) ≤ 3 * length text.now }
     ensures room { HasRoom result }
 {
     if is_container(text) {

@@ -70,7 +70,7 @@ armour_again text body is = grind (arith, common_steps, body_again)
 
 -- ---- the joined lines of bytes are bytes
 
-AllBytes : List (List ℕ) → Type 0
+unfoldable pub AllBytes : List (List ℕ) → Type 0
 AllBytes [] = Unit {0}
 AllBytes (part ∷ parts) = IsBytes part × AllBytes parts
 
@@ -79,7 +79,7 @@ unfolding AllBytes
 onto_bytes byte [] lt all = (IsBytes-cons byte [] lt IsBytes-nil, tt)
 onto_bytes byte (part ∷ parts) lt all = (IsBytes-cons byte part lt all.0, all.1)
 
-split_bytes : (text : List ℕ) → IsBytes text → AllBytes (slice_split is_newline text)
+pub split_bytes : (text : List ℕ) → IsBytes text → AllBytes (slice_split is_newline text)
 unfolding AllBytes
 split_bytes [] fits = (IsBytes-nil, tt)
 split_bytes (byte ∷ text) fits = elim (cases_Bool (is_newline byte)) [

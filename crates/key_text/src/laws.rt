@@ -94,6 +94,12 @@ pub fn private_read_where_spelled()
         ↔ IsContainer text blob comment }
 {}
 
+/// A container has room for its first line and the base64 of its key.
+pub fn container_has_room()
+    ensures { (text blob comment : List ℕ) → IsContainer text blob comment
+        → 4 * length blob + 24 ≤ 3 * length text }
+{}
+
 /// Reading reports a fault exactly if it is the first fault of the text as a container.
 pub fn private_refused_by_first_fault()
     ensures { (text : List ℕ) (fault : PrivateFault) → IsBytes text

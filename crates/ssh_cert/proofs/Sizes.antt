@@ -7,6 +7,9 @@ use Rattle.ssh_wire.proofs.Fields.{length-number, length-string}
 use Rattle.ssh_key.specs.Kind.{certificate_name, type_name}
 use Rattle.ssh_key.proofs.Sizes.{key_room, name_room}
 use Rattle.krl_types.specs.Subject.{Subject}
+use Rattle.ssh_cert.specs.AnyKey.{IsReadAs, asked_of}
+use Rattle.ssh_cert.specs.declared.any_key.AnyKey.{AnyKey}
+use Rattle.ssh_cert.specs.declared.any_key.AnyKey.TheVariants.{Plain, Certified}
 use Rattle.ssh_cert.specs.Cert.{Cert, IsCertificate, certificate_parts}
 use Rattle.ssh_cert.specs.Sizes.{IsWithinBlob}
 use Rattle.ssh_cert.specs.SubjectReading.{IsSubject, plain_key, certified, of_certificate}
@@ -30,7 +33,7 @@ certificate_room blob certificate is =
     let authority = length-string certificate.authority in
     record {
       asked_is = omega (arith, size, id, authority);
-      plain_is = omega (arith, size, name, (name_room kind).1, length-append (string (type_name kind)) certificate.key.fields, length-string (type_name kind));
+      together = omega (arith, size, name, id, authority, (name_room kind).1, length-append (string (type_name kind)) certificate.key.fields, length-string (type_name kind));
       least = omega (arith, size, name, id, authority, length-number 8 certificate.serial, length-number 8 certificate.after);
     }
 
@@ -39,5 +42,12 @@ certificate_room blob certificate is =
 -- A subject is no longer than its blob.
 pub asked_room : (blob : List ℕ) (asked : Subject) → IsSubject blob asked → IsWithinBlob blob asked
 asked_room blob asked (plain_key key is same) =
-    rw same (record { asked_is = omega arith; plain_is = omega arith; least = key_room blob key is })
+    rw same (record { asked_is = omega arith; together = omega arith; least = key_room blob key is })
 asked_room blob asked (certified certificate is same) = rw same (certificate_room blob certificate is)
+
+-- The same of what was read of a blob.
+pub read_room : (blob : List ℕ) (any : AnyKey) → IsReadAs blob any → IsWithinBlob blob (asked_of any)
+read_room blob (Plain key) read =
+    let same = ap length read.spelled.spelled in
+    record { asked_is = omega (arith, same); together = omega (arith, same); least = key_room blob key read.spelled }
+read_room blob (Certified certificate) read = certificate_room blob certificate read.spelled

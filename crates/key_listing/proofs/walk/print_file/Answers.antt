@@ -8,7 +8,7 @@ use Rattle.key_listing.proofs.Answerable.{first_expected, rest_expected}
 use Rattle.key_listing.proofs.walk.print_file.Goals as goal
 
 pub loop-next-init : goal.loop-next-init
-loop-next-init g c = rw (c.into_iter-next-iterator.ensures.into_iter_gives, c.keys_of-next-items.ensures) (λ answering _. none_reached answering c.args.file.now c.args.run.now.printer, c.requires)
+loop-next-init g c = rw (c.into_iter-next-iterator.ensures.into_iter_gives, c.keys_of-next-items.ensures.keys) (λ answering _. none_reached answering c.args.file.now c.args.run.now.printer, c.requires)
 
 pub returns-in_err-key : goal.returns-in_err-key
 returns-in_err-key g c =
