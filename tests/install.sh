@@ -157,8 +157,18 @@ runs 'the program of the package' "$root/usr/bin/krl-keygen"
 holds 'what the package holds' \
   $(of krl-keygen usr | grep -v -e sha256 -e /man1/ | sed 's|site-functions|vendor-completions|') \
   ./usr/share/man/man1/krl-keygen.1.gz ./usr/share/man/man1/krl.1.gz \
-  $(printf './usr/share/doc/krl-keygen/%s\n' README.md NEWS.gz changelog.gz copyright docs/RECIPES.md) \
-  $(cd "$top" && find examples/ansible examples/systemd -type f -printf './usr/share/doc/krl-keygen/%p\n')
+  $(printf './usr/share/doc/krl-keygen/%s\n' README.md NEWS.gz changelog.gz copyright \
+    docs/{DECISIONS,FORMATS,GLOSSARY,RECIPES,THEOREMS}.md bench/{README.md,libkrl.md,time.svg}) \
+  $(cd "$top" && find examples/ansible examples/systemd -type f -printf './usr/share/doc/krl-keygen/%p\n') \
+  $(cd "$top" && find demo -type f \( ! -name '*.krl' -o -path 'demo/audit/*' \) \
+    -printf './usr/share/doc/krl-keygen/examples/%p\n')
+documents=$root/usr/share/doc/krl-keygen
+judge 'each link of its documents leads to a file of it' "$(python3 -B "$tests/lib/links.py" "$documents")"
+judge 'its documents name a file that only the sources have' \
+  "$(grep -q 'CONTRIBUTING.md of the sources' "$documents/README.md" || echo '  they do not')"
+cp -r "$documents/examples/demo" demo && cd demo || exit 1
+program=$root/usr/bin/krl-keygen expect 'a list is made of its demo files' 0 '' '' -k -f r.krl -s ca.pub revoked
+cd .. && rm -r demo
 dpkg-deb --control "$package" "$scratch/control"
 judge 'the package has the sum of each of its files' "$(
   cd "$root" && md5sum --quiet --check "$scratch/control/md5sums" 2>&1
@@ -187,7 +197,7 @@ judge 'a caller is linked with the static library' "$(differs answer 7 $?)"
 rm -r "$root" "$scratch"/*.deb
 
 # A repository of two commits: a package has the number, the time and the name of the commit that it is made of.
-mkdir two && cp -r "$top"/{packaging,docs,completions,examples,library,README.md,CHANGELOG.md} two
+mkdir two && cp -r "$top"/{packaging,docs,completions,examples,library,demo,bench,README.md,CHANGELOG.md,.gitignore} two
 commit() {
   git -C two add . && GIT_COMMITTER_DATE="@$1 +0000" git -C two -c user.name=me -c user.email=me@here commit -q -m "$1"
 }
@@ -203,6 +213,8 @@ for time in 1000000000 1000000001; do
     differs file "krl-keygen_${wanted}_amd64.deb" "$(basename "$package")"
   )"
   cp "$package" first
+  # Git ignores a list that a user made, and so does the package.
+  echo 'a list' >two/demo/made.krl
   PROGRAM=$binary two/packaging/deb "$scratch" >"$scratch/output" 2>&1
   judge 'a commit makes one package' "$(cmp first "$package" 2>&1)"
 done
