@@ -11,7 +11,7 @@ transcript() {
 }
 
 timeless() {
-  sed 's/^# Generated at .*/# Generated at TIME/'
+  sed -e 's/^# Generated at .*/# Generated at TIME/' -e '/^krl audit: / s/, [-0-9T:]*Z)$/, TIME)/'
 }
 
 # Each command of the transcript, and below it what it prints now.
