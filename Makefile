@@ -4,7 +4,7 @@ LIBDIR = lib
 # The name under which the program is installed. Under ssh-keygen it would hide OpenSSH's program where
 # its folder stands first on the PATH.
 NAME = krl-keygen
-# How long make fuzz goes on.
+# How many seconds make fuzz runs.
 SECONDS = 60
 
 .PHONY: build test test_library fault_injection fuzz bench install uninstall deb library \

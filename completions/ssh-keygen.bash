@@ -1,6 +1,6 @@
 # What bash offers for the words of ssh-keygen, as its manual page has them.
 
-# The options of the words before the one at hand: their letters in seen, and in open the letter of
+# The options of the words before the current one: their letters in seen, and in open the letter of
 # the option whose value comes next, if one does.
 _krl_keygen_seen() {
   local word

@@ -10,7 +10,7 @@ use parts_for_tests::{Taker, joined};
 use std::alloc::Global;
 use std::process::Abort;
 
-// The objects that an audit prints for one file.
+// The objects about one file.
 fn objects_of(
     rt: &impl Abort,
     alloc: Global,

@@ -11,7 +11,7 @@ use span_sets::Held;
 use std::alloc::Global;
 use std::process::Abort;
 
-/// One condition of a check of a list.
+/// A condition that a list is checked for.
 #[derive(Clone, Copy)]
 pub enum Asked<'a> {
     /// These bytes, which OpenSSH is to read.
@@ -34,7 +34,7 @@ pub fn check<'a, W: Sink>(
     }
 }
 
-// The output of the checks of a list that revokes the published key, and their status.
+// The output and the status of checks of a list that revokes the published key.
 fn said(rt: &impl Abort, alloc: Global, asked: &[Asked<'_>]) -> (Vec<u8>, u8) {
     let mut list: Revocations<Held> = Revocations::new(alloc);
     list.add_key(GITHUB).expect(rt, "there is memory");
@@ -58,7 +58,7 @@ fn said_into<W: Sink>(
     checker.finish(None).status
 }
 
-/// A checker of a list.
+/// A checker of the list.
 pub fn checker_of<'q, 'w, W: Sink>(
     alloc: Global,
     list: &'q Revocations<Held>,
@@ -106,8 +106,7 @@ keep: f: 1 of 1 keys are revoked, 0 lines are not read\n",
     ),
     (
         Asked::Keys(Role::Keep, "id", Ok(CONTAINER)),
-        b"id:1: revoked: ssh-ed25519 SHA256:+DiY3wvvV6TuJJhbpZisF/zLDA0zPMSvHdkr4UvCOqU \
-by its key: a
+        b"id:1: revoked: ssh-ed25519 SHA256:+DiY3wvvV6TuJJhbpZisF/zLDA0zPMSvHdkr4UvCOqU by its key: a
 keep: id: 1 of 1 keys are revoked, 0 lines are not read\n",
         1,
     ),

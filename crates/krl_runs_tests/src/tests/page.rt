@@ -16,7 +16,7 @@ use span_sets::Held;
 use ssh_cert::subject;
 use std::alloc::Global;
 
-/// What the lines of a specification file revoke, under all authorities.
+/// The entries of a specification file, under all authorities.
 fn revoked_by(alloc: Global, lines: &[u8]) -> Result<Revocations<Held>, SpecFault> {
     let mut held = Revocations::new(alloc);
     read_spec(alloc, &mut held, Under::All, lines)?;

@@ -88,7 +88,7 @@ fn findings_are_said_as_objects(rt: HostRuntime) {
     match stop {
         None => assert!(rt; said.text() == OBJECTS),
         Some(stop) => {
-            // What was said before memory ran out is right.
+            // The output before memory ran out is right.
             assert!(rt; stop.cause == Cause::NoMemory && OBJECTS.starts_with(said.text()));
             ran_out(&rt);
         }

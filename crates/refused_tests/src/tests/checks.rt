@@ -16,7 +16,7 @@ use std::alloc::{AllocError, Global};
 const SIGNED: &[u8] = b"SSHKRL\n\0\0\0\0\x01\0\0\0\0\0\0\0\x01\0\0\0\0\0\0\0\0\
 \0\0\0\0\0\0\0\0\0\0\0\0\0\0\0\0\x04\0\0\0\0\0\0\0\0";
 
-// What is said of the conditions of `checked`.
+// The output about the conditions of `checked`.
 const SAID: &[u8] = b"openssh: r.krl: it has a signature
 version: r.krl: 1 is below 2
 f:1: revoked: ssh-ed25519 SHA256:+DiY3wvvV6TuJJhbpZisF/zLDA0zPMSvHdkr4UvCOqU by its key
@@ -71,7 +71,7 @@ fn each_condition_is_checked(rt: HostRuntime) {
     match stop {
         None => assert!(rt; said.text() == SAID),
         Some(stop) => {
-            // What was said before memory ran out is right.
+            // The output before memory ran out is right.
             assert!(rt; stop.cause == Cause::NoMemory && SAID.starts_with(said.text()));
             ran_out(&rt);
         }
