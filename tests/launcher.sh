@@ -331,6 +331,41 @@ report <(cat waited && echo "$(grep -c ^ok waited) passed, $(grep -c '^not ok' w
 judge 'library/build: it says that it waits' "$(differs 'first line' \
   'library/build: libkrl is being built: waiting for that' "$(head -n 1 "$scratch/error")")"
 
+# make build, make library and make deb say the same.
+cp "$top/Makefile" away/
+judge 'make deb builds both programs and the library first' "$(differs commands './ssh-keygen -h >/dev/null
+./krl -h >/dev/null
+library/build' "$(command make -s -n -C away deb | grep -v '^packaging/')")"
+# make_of TARGET..: makes these.
+make_of() {
+  PATH=$scratch/here/kit/bin:/usr/bin:/bin "${one[@]}" make -s -C away "$@" >said 2>"$scratch/error"
+}
+rm -rf away/built "$store"
+make_of build library
+judge 'make: how far it is' "$(
+  differs 'exit status' 0 $?
+  differs 'standard error' 'ssh-keygen: proving and building, this once: 5 crates
+ssh-keygen: proving krl_tool: 4 of 5 are proved
+krl: proving and building, this once: 2 crates
+krl: proving krl: 1 of 2 are proved
+library/build: proving and building, this once: 3 crates
+library/build: proving krl_c: 2 of 3 are proved' "$(grep -e 'this once' -e 'proving krl' "$scratch/error")"
+)"
+for it in build:ssh-keygen library:library/build; do
+  sleep 0.1 && touch away/crates.txt
+  exec 8>away/built/lock && flock 8
+  : >"$scratch/error"
+  (exec 8>&- && make_of "${it%:*}") &
+  await [ -s "$scratch/error" ]
+  flock -u 8
+  wait $!
+  judge "make ${it%:*} says that it waits" "$(
+    differs 'exit status' 0 $?
+    differs 'standard error' "${it#*:}: another build is at work in this folder: waiting for that" "$(cat "$scratch/error")"
+  )"
+  exec 8>&-
+done
+
 # In make test rt ci has left libraries, without a stamp. Those that rt check keeps have one.
 left=away/crates/low/out/rlib
 mkdir -p $left/low.rlib away/crates/side/out/rlib/side.rlib
