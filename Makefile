@@ -1,8 +1,8 @@
 PREFIX = /usr/local
 # The folder of libraries below it, as lib/x86_64-linux-gnu below /usr on Debian.
 LIBDIR = lib
-# The name under which the program is installed. Under ssh-keygen it would hide OpenSSH's program where
-# its folder stands first on the PATH.
+# The name under which the program is installed. Under ssh-keygen it would hide OpenSSH's program
+# where its folder stands first on the PATH.
 NAME = krl-keygen
 # How many seconds make fuzz runs.
 SECONDS = 60
@@ -36,8 +36,8 @@ fuzz: build library
 bench: build
 	bench/run
 
-# The built programs, their manual pages and their completions: they need nothing of this folder. A program
-# that is not ours is left as it is, unless FORCE=1 is given.
+# The built programs, their manual pages and their completions: they need nothing of this folder. A
+# program that is not ours is left as it is, unless FORCE=1 is given.
 install: build
 	packaging/install '$(DESTDIR)' '$(PREFIX)' '$(NAME)' '$(FORCE)'
 	packaging/install '$(DESTDIR)' '$(PREFIX)' krl '$(FORCE)'

@@ -1,14 +1,16 @@
 #!/usr/bin/env python3
-"""Proves a crate and all crates below it, and writes the program or the static library that is made of them.
+"""Proves a crate and all crates below it, and writes the program or the static library that is made
+of them.
 
     build.py CALLER CRATE FILE
 
 The launcher and library/build call this. CALLER is the name that each message begins with.
 
-Each library is built as statements, without its proofs, by `rattle build` with the words that rt itself takes from the
-kit's rtlib.py. The user's cache keeps each proved library by a checksum of the kit, of the crate's files and of the
-libraries below. So a build that was interrupted continues where it stopped, and each clone of the repository uses the
-proofs of the others. rt keeps its own work in crates/NAME/out, and build.py writes nothing there.
+Each library is built as statements, without its proofs, by `rattle build` with the words that rt
+itself takes from the kit's rtlib.py. The user's cache keeps each proved library by a checksum of
+the kit, of the crate's files and of the libraries below. So a build that was interrupted continues
+where it stopped, and each clone of the repository uses the proofs of the others. rt keeps its own
+work in crates/NAME/out, and build.py writes nothing there.
 """
 
 import contextlib
@@ -87,13 +89,18 @@ def load_kit():
 
 
 def make_store():
-    """Returns the folder that keeps what is proved: in the user's cache, or one of this user's temporary folders."""
+    """Returns the folder that keeps what is proved: in the user's cache, or one of this user's
+    temporary folders."""
     cache = os.environ.get("XDG_CACHE_HOME") or os.path.expanduser("~/.cache")
     for folder in (f"{cache}/krl-keygen", f"{tempfile.gettempdir()}/krl-keygen-{os.geteuid()}"):
         with contextlib.suppress(OSError):
             os.makedirs(folder, 0o700, exist_ok=True)
             found = os.lstat(folder)
-            if stat.S_ISDIR(found.st_mode) and found.st_uid == os.geteuid() and os.access(folder, os.W_OK | os.X_OK):
+            if (
+                stat.S_ISDIR(found.st_mode)
+                and found.st_uid == os.geteuid()
+                and os.access(folder, os.W_OK | os.X_OK)
+            ):
                 return os.path.abspath(folder)
     return refuse(f"nothing can be kept in {cache}: name another folder in XDG_CACHE_HOME")
 
@@ -112,7 +119,8 @@ def shrink(store):
 
 
 def free_memory():
-    """Returns the free memory in bytes, also under the limits of the process and of its control group."""
+    """Returns the free memory in bytes, also under the limits of the process and of its control
+    group."""
     free = [1024 * int(re.search(rb"MemAvailable:\s+(\d+)", read("/proc/meminfo"))[1])]
     limit = resource.getrlimit(resource.RLIMIT_AS)[0]
     free += [limit] if limit != resource.RLIM_INFINITY else []
@@ -128,18 +136,22 @@ def free_memory():
 
 
 def count_lanes():
-    """Returns how many processes prove at the same time: one a processor with memory, or the number in RT_JOBS."""
+    """Returns how many processes prove at the same time: one a processor with memory, or the number
+    in RT_JOBS."""
     fixed = os.environ.get("RT_JOBS", "")
     if re.fullmatch("[1-9][0-9]*", fixed):
         return int(fixed)
     free = free_memory()
     if free < NEED:
-        refuse(f"proving takes {NEED // 1_000_000:,} MB of memory, and {free // 1_000_000:,} MB are free")
+        refuse(
+            f"proving takes {NEED // 1_000_000:,} MB of memory, and {free // 1_000_000:,} MB are free"
+        )
     return min(len(os.sched_getaffinity(0)), free // NEED)
 
 
 class Task:
-    """A crate of the build: the crates that it depends on, and the place of its library in the cache."""
+    """A crate of the build: the crates that it depends on, and the place of its library in the
+    cache."""
 
     def __init__(self, crate, below):
         self.crate, self.name, self.below = crate, crate.name, below
@@ -150,11 +162,16 @@ class Task:
         self.seconds = 10 + lines / 10 + 5 * len(below)
 
     def files(self):
-        walked = [it for part in ("src", "specs", "proofs") for it in os.walk(f"{self.crate.folder}/{part}")]
+        walked = [
+            it
+            for part in ("src", "specs", "proofs")
+            for it in os.walk(f"{self.crate.folder}/{part}")
+        ]
         return sorted(os.path.join(at, name) for at, _, names in walked for name in names)
 
     def state(self):
-        """Returns data that shows whether a file was changed meanwhile, even if it was changed back."""
+        """Returns data that shows whether a file was changed meanwhile, even if it was changed
+        back."""
         found = []
         for it in self.files():
             with contextlib.suppress(FileNotFoundError):
@@ -168,7 +185,8 @@ class Task:
         return f"lib{self.name}.a" if self.crate.is_static else f"{self.name}.rlib"
 
     def look(self, store, kit_sum):
-        """Finds the place in the cache of these files over these libraries, and returns whether it is filled."""
+        """Finds the place in the cache of these files over these libraries, and returns whether it
+        is filled."""
         self.read_at = self.state()
         texts = [(os.path.relpath(it, self.crate.folder), read(it)) for it in self.files()]
         # A library's file `format` has a checksum of its other files.
@@ -189,7 +207,11 @@ class Build:
         self.store, self.lanes = store, None
         self.kit, self.rtlib = load_kit()
         tools = [os.stat(f"{self.kit}/bin/{it}") for it in TOOLS]
-        named = [read(f"{self.kit}/{it}") for it in ("WHAT", "KIT-ID") if os.path.isfile(f"{self.kit}/{it}")]
+        named = [
+            read(f"{self.kit}/{it}")
+            for it in ("WHAT", "KIT-ID")
+            if os.path.isfile(f"{self.kit}/{it}")
+        ]
         self.kit_sum = repr((named, [(it.st_size, it.st_mtime_ns) for it in tools]))
         tasks = {}
         with words_of_kit():
@@ -201,7 +223,8 @@ class Build:
         if os.environ.get("AFTER_CI"):
             for it in self.tasks[:-1]:
                 it.made = it.crate.rlib if os.path.isfile(f"{it.crate.rlib}/format") else None
-        # How many seconds are left from the beginning of a crate to the end of all that waits for it.
+        # How many seconds are left from the beginning of a crate to the end of all that waits for
+        # it.
         self.chain = {}
         for it in reversed(self.tasks):
             above = [self.chain[other] for other in self.chain if it in other.below]
@@ -210,8 +233,14 @@ class Build:
     def run(self):
         """Returns the file that was made, once all is proved."""
         while self.last.made is None:
-            ready = [it for it in self.tasks if not it.made and not it.process and all(at.made for at in it.below)]
-            if not any([it.take() if it.place else it.look(self.store, self.kit_sum) for it in ready]):
+            ready = [
+                it
+                for it in self.tasks
+                if not it.made and not it.process and all(at.made for at in it.below)
+            ]
+            if not any(
+                [it.take() if it.place else it.look(self.store, self.kit_sum) for it in ready]
+            ):
                 self.begin_some(sorted(ready, key=self.chain.get, reverse=True))
                 time.sleep(0.1)
             for it in self.tasks:
@@ -220,8 +249,9 @@ class Build:
         return self.last.made
 
     def begin_some(self, ready):
-        """Begins to prove the crates that are ready, the longest chain first. A second process in a crate repeats parts
-        of the work, so a crate gets one only if no other can use the processor, or its chain is by far the longest."""
+        """Begins to prove the crates that are ready, the longest chain first. A second process in a
+        crate repeats parts of the work, so a crate gets one only if no other can use the processor,
+        or its chain is by far the longest."""
         if self.lanes is None:
             self.lanes = count_lanes()
             say(f"proving and building, this once: {len(self.tasks)} crates")
@@ -239,7 +269,8 @@ class Build:
                 idle -= it.jobs
 
     def begin(self, it):
-        """Begins to prove a crate, and returns whether it did: another build may be proving it, or has proved it."""
+        """Begins to prove a crate, and returns whether it did: another build may be proving it, or
+        has proved it."""
         it.lock = it.lock or open(f"{self.store}/{it.name}.lock", "w")
         try:
             fcntl.flock(it.lock, fcntl.LOCK_EX | fcntl.LOCK_NB)
@@ -251,13 +282,20 @@ class Build:
         if it.look(self.store, self.kit_sum):
             self.release(it)
             return False
-        say(f"proving {it.name}: {sum(at.made is not None for at in self.tasks)} of {len(self.tasks)} are proved")
+        say(
+            f"proving {it.name}: {sum(at.made is not None for at in self.tasks)} of {len(self.tasks)} are proved"
+        )
         self.release_place(it)
         os.mkdir(f"{it.place}.new")
         with words_of_kit():
             words = [*self.rtlib.guarded(), *self.words(it)]
         with open(f"{BUILT}/{it.name}.log", "w") as log:
-            how = {"cwd": it.crate.folder, "stdin": subprocess.DEVNULL, "stdout": log, "stderr": log}
+            how = {
+                "cwd": it.crate.folder,
+                "stdin": subprocess.DEVNULL,
+                "stdout": log,
+                "stderr": log,
+            }
             it.process = subprocess.Popen(words, **how)
         return True
 
@@ -268,8 +306,15 @@ class Build:
             return [*words, "--statements", "-o", made]
         words += ["--backend", "llvm", "--toolchain", f"{self.kit}/toolchain"]
         if it.crate.is_program:
-            # Unchanged functions are not proved again. This does not work for a library that is built as statements.
-            return [*words, "--incremental", f"{self.store}/{it.name}.incremental", "-o", f"{made}.o"]
+            # Unchanged functions are not proved again. This does not work for a library that is
+            # built as statements.
+            return [
+                *words,
+                "--incremental",
+                f"{self.store}/{it.name}.incremental",
+                "-o",
+                f"{made}.o",
+            ]
         return [*words, "-o", made]
 
     def finish(self, it):
@@ -286,7 +331,9 @@ class Build:
         if not it.made:
             it.place = None
         if status == -signal.SIGKILL and not it.was_killed:
-            say(f"the process that proves {it.name} was killed, most likely for memory: once more, alone")
+            say(
+                f"the process that proves {it.name} was killed, most likely for memory: once more, alone"
+            )
             it.was_killed = True
         elif status:
             self.give_up(it, status)
@@ -296,7 +343,9 @@ class Build:
         words += ["--toolchain", f"{self.kit}/toolchain", "-o", program, f"{program}.o"]
         words += [f"{self.kit}/c/libos_c.a", f"{self.kit}/c/liblibc_c.a"]
         with open(f"{BUILT}/{it.name}.log", "a") as log:
-            return subprocess.run(words, stdin=subprocess.DEVNULL, stdout=log, stderr=log).returncode
+            return subprocess.run(
+                words, stdin=subprocess.DEVNULL, stdout=log, stderr=log
+            ).returncode
 
     def give_up(self, it, status):
         log = f"{BUILT}/{it.name}.log"
@@ -314,12 +363,15 @@ class Build:
         it.lock, it.is_waiting = None, False
 
     def end(self):
-        """Ends all processes that are left. Each is in a group of the kit's, with those that it started."""
+        """Ends all processes that are left. Each is in a group of the kit's, with those that it
+        started."""
         left = [it for it in self.tasks if it.process]
         for it in left:
             with contextlib.suppress(ProcessLookupError):
                 group = os.getpgid(it.process.pid)
-                os.kill(it.process.pid, signal.SIGKILL) if group == os.getpgrp() else os.killpg(group, signal.SIGKILL)
+                os.kill(it.process.pid, signal.SIGKILL) if group == os.getpgrp() else os.killpg(
+                    group, signal.SIGKILL
+                )
         for it in left:
             it.process.wait()
             self.release_place(it)
@@ -341,7 +393,8 @@ def by_rt(top):
 
 def build(top):
     """Returns the file that was made of the crate."""
-    # Libraries that rt kept in out/ have a stamp and hold their proofs, so only rt builds over them.
+    # Libraries that rt kept in out/ have a stamp and hold their proofs, so only rt builds over
+    # them.
     if os.environ.get("AFTER_CI") and glob.glob(f"{TOP}/crates/*/out/rlib/stamp"):
         return by_rt(top)
     made = None

@@ -13,7 +13,8 @@ LONGEST = 16 << 20
 
 
 def tree(root):
-    """Folders of home directories, each with an authorized_keys file of three keys or four. All files of it."""
+    """Folders of home directories, each with an authorized_keys file of three keys or four. All
+    files of it."""
     names = []
     for number in range(FILES):
         folder = os.path.join(root, "%03d" % (number // 100), "%02d" % (number % 100))
@@ -30,7 +31,8 @@ def ratio(name, one, other):
 
 
 def auditing():
-    """An audit reads the list once, and so does what prints it; a question about all keys reads it once more."""
+    """An audit reads the list once, and so does what prints it; a question about all keys reads it
+    once more."""
     build_audit()
     print("%-48s %6s %15s" % ("krl audit", "ratio", "seconds, MiB"))
     names = tree("tree")
@@ -46,18 +48,26 @@ def auditing():
         audited = least([AUDIT, "audit", "-f", "list.krl", "tree"])
         both = printed[0] + asked[0], printed[1]
         ratio("%d files, %d keys, 4 MiB of %s" % (FILES, KEYS, shape), audited, both)
-        print("%-48s %6.1f MiB more than -Q -l" % ("", (audited[1] - printed[1]) / 1024), flush=True)
+        print(
+            "%-48s %6.1f MiB more than -Q -l" % ("", (audited[1] - printed[1]) / 1024), flush=True
+        )
     with open("list.krl", "wb") as out:
         out.write(lists.HEADER)
     with open("long.pub", "w") as out:
         out.write("#" * (LONGEST - 1))
-    print("%-48s %6s %s" % ("a line of 16 MiB", "", own(least([AUDIT, "audit", "-f", "list.krl", "long.pub"]))))
+    print(
+        "%-48s %6s %s"
+        % ("a line of 16 MiB", "", own(least([AUDIT, "audit", "-f", "list.krl", "long.pub"])))
+    )
     for count in 250_000, 1_000_000:
         os.mkdir("many")
         for number in range(count):
             os.close(os.open("many/file %d" % number, os.O_CREAT))
         taken = least([AUDIT, "audit", "-f", "list.krl", "many"])
-        print("%-48s %6s %s" % ("a directory of %d files that are not read" % count, "", own(taken)), flush=True)
+        print(
+            "%-48s %6s %s" % ("a directory of %d files that are not read" % count, "", own(taken)),
+            flush=True,
+        )
         for entry in os.scandir("many"):
             os.remove(entry.path)
         os.rmdir("many")

@@ -44,7 +44,8 @@ def children_seconds():
 
 
 def measure(words, statuses=(0, 1)):
-    """The processor seconds and the most memory, in KiB, of a command; none where it took too long."""
+    """The processor seconds and the most memory, in KiB, of a command; none where it took too
+    long."""
     # GNU time starts the command from a small process, so that this one's memory is not counted.
     timed = ["timeout", str(LIMIT), "time", "--quiet", "-f", "%M", "-o", "memory"] + words
     errors = subprocess.DEVNULL if 255 in statuses else None

@@ -42,13 +42,16 @@ def three_byte_ids(size):
 
 
 def two_byte_ids(count, falling=False):
-    """Authorities of three bytes, each with `count` key IDs, in the order of their bytes or in reverse."""
+    """Authorities of three bytes, each with `count` key IDs, in the order of their bytes or in
+    reverse."""
 
     def shape(size):
         ids = sorted((struct.pack(">H", at) for at in range(count)), reverse=falling)
         part = b"\x23" + string(b"".join(map(string, ids)))
         number = size // len(certificates(b"abc", part))
-        return HEADER + b"".join(certificates(struct.pack(">I", at)[1:], part) for at in range(number))
+        return HEADER + b"".join(
+            certificates(struct.pack(">I", at)[1:], part) for at in range(number)
+        )
 
     return shape
 
@@ -142,7 +145,8 @@ def lying_bitmap(size):
     return HEADER + head + b"\x55" * size
 
 
-# The lists that take the most memory for a byte: many intervals in few bytes, or few in windows of their own.
+# The lists that take the most memory for a byte: many intervals in few bytes, or few in windows of
+# their own.
 BITMAPS = {
     "bitmaps of 0x55, in no order": large_bitmaps(b"\x55" * BITMAP),
     "bitmaps of 0x55, in order": large_bitmaps(b"\x55" * BITMAP, order=range),

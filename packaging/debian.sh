@@ -1,12 +1,12 @@
-# The shared code of the scripts that make Debian packages. $top is the repository, $folder takes the packages, and
-# $number is the version of the packed program or library.
+# The shared code of the scripts that make Debian packages. $top is the repository, $folder takes
+# the packages, and $number is the version of the packed program or library.
 
 architecture=$(dpkg --print-architecture)
 mail=maintainers@users.noreply.yezhirop.example
 # The maintainer of the packages: the environment may name another in DEBFULLNAME and DEBEMAIL.
 maintainer="${DEBFULLNAME:-Yezhirop maintainers} <${DEBEMAIL:-$mail}>"
-# One commit makes one package: its time is that of the commit. If files were changed since, or there is no
-# commit, it is the current time.
+# One commit makes one package: its time is that of the commit. If files were changed since, or
+# there is no commit, it is the current time.
 commit=$(git -C "$top" rev-parse --short HEAD 2>/dev/null || echo none)
 if [ -z "$(git -C "$top" status --porcelain 2>&1)" ]; then
   SOURCE_DATE_EPOCH=$(git -C "$top" log -1 --format=%ct)
@@ -17,8 +17,9 @@ fi
 export SOURCE_DATE_EPOCH
 version=$number+$(date -u -d "@$SOURCE_DATE_EPOCH" +%Y%m%d.%H%M%S).$commit
 
-# package ROOT SECTION DEPENDS FIELD: makes a package with the name of the folder ROOT and one additional field,
-# replaces the one that was there, and says where it is. Standard input is its description.
+# package ROOT SECTION DEPENDS FIELD: makes a package with the name of the folder ROOT and one
+# additional field, replaces the one that was there, and says where it is. Standard input is its
+# description.
 package() {
   name=$(basename "$1")
   documents=$1/usr/share/doc/$name

@@ -1,5 +1,5 @@
-# Runs a program of this repository. If it is not built, or a source has changed since, it is proved and built
-# first. The launchers ./ssh-keygen and ./krl read this.
+# Runs a program of this repository. If it is not built, or a source has changed since, it is proved
+# and built first. The launchers ./ssh-keygen and ./krl read this.
 
 # launch NAME CRATE WORD..: runs the program of this name, which that crate makes.
 launch() {

@@ -1,5 +1,6 @@
-# The shared code of installing and uninstalling. Files are put below $root, and recorded with their checksums in
-# $root/$note. A file without such a record belongs to another program: it is neither overwritten nor removed.
+# The shared code of installing and uninstalling. Files are put below $root, and recorded with their
+# checksums in $root/$note. A file without such a record belongs to another program: it is neither
+# overwritten nor removed.
 
 say() {
   printf "packaging/$(basename "$0"): %s\n" "$@" >&2
@@ -10,7 +11,8 @@ refuse() {
   exit 1
 }
 
-# line_of FOLDER FILE: its line in a note: the checksum of its bytes, or of where it leads, and its name.
+# line_of FOLDER FILE: its line in a note: the checksum of its bytes, or of where it leads, and its
+# name.
 line_of() (
   cd "$1" && if [ -L "$2" ]; then readlink "$2"; else cat "$2"; fi | sha256sum | sed "s|-\$|$2|"
 )
@@ -23,8 +25,8 @@ is_ours() {
   [ -f "$root/$note" ] && grep -qxF -e "$(line_of "$root" "$1")" "$root/$note"
 }
 
-# place FOLDER FORCE: installs the files of the folder, or nothing if that would overwrite another program's file
-# and FORCE is not given.
+# place FOLDER FORCE: installs the files of the folder, or nothing if that would overwrite another
+# program's file and FORCE is not given.
 place() {
   files=$(cd "$1" && find . ! -type d | sort)
   others=

@@ -1,4 +1,5 @@
-# The playbook of examples/ansible, with ansible-playbook, for hosts that are folders of the test's own.
+# The playbook of examples/ansible, with ansible-playbook, for hosts that are folders of the test's
+# own.
 
 krl=$(realpath -- "${KRL:-$top/krl}")
 if ! need ansible-playbook ansible-core || ! need sshd openssh-server; then
@@ -33,7 +34,8 @@ krl_source=$PWD/revoked.krl
 krl_canary=$PWD/canary.pub
 END_OF_FILE
 
-# version NUMBER [FILE ..]: the list has this version, and revokes the canary and the keys of the files.
+# version NUMBER [FILE ..]: the list has this version, and revokes the canary and the keys of the
+# files.
 version() {
   echo "sha256: $(cat canary.pub)" >spec
   "$program" -k -f revoked.krl -z "$1" spec "${@:2}" >/dev/null
@@ -63,7 +65,8 @@ in_force() {
   differs 'versions in force' "$*" "${got:1}"
 }
 
-# plays_ill NAME TEXT VERSION..: the playbook ends at the first host, with this text, and these lists are in force.
+# plays_ill NAME TEXT VERSION..: the playbook ends at the first host, with this text, and these
+# lists are in force.
 plays_ill() {
   judge "$1" "$(
     plays 2
@@ -119,7 +122,8 @@ judge 'a damaged list is replaced' "$(plays 0 && in_force 30 30)"
 printf 'Match User nobody\n  RevokedKeys /dev/null\n' >>first/etc/ssh/sshd_config
 plays_ill 'a Match block that switches the list off is found' 'RevokedKeys /dev/null' 30 30
 
-# A folder again, behind a real sshd that uses the list of the folder: the playbook logs in anew after a change.
+# A folder again, behind a real sshd that uses the list of the folder: the playbook logs in anew
+# after a change.
 . "$tests/lib/sshd/serving.sh"
 host third
 made_key login ed25519

@@ -13,7 +13,8 @@ no_type='unread: no key type stands there'
 lines_of() {
   [ $# = 0 ] || printf '%s\n' "$@"
 }
-# audits NAME STATUS COUNTS OUTPUT WORD..: an audit with the list r.krl, whose time is the first second of 1970.
+# audits NAME STATUS COUNTS OUTPUT WORD..: an audit with the list r.krl, whose time is the first
+# second of 1970.
 audits() {
   local name=$1 status=$2 counts=$3 output=$4
   shift 4
@@ -215,7 +216,8 @@ done
 "$program" audit -f r.krl marked 2>&- >"$scratch/output"
 judge 'an error output that is closed' "$(differs status 1 $?; differs output "marked:1: $by_g" "$(cat "$scratch/output")")"
 
-# JSON. The expected objects are made from the same values as the lines above, and another reader reads them.
+# JSON. The expected objects are made from the same values as the lines above, and another reader
+# reads them.
 # objects NAME STATUS WANTED WORD..: each line is one object, and the objects are these.
 objects() {
   local name=$1 status=$2 wanted=$3 got

@@ -1,12 +1,12 @@
-# The facts of certificates beside OpenSSH: its ssh-keygen signs keys of every kind that it makes, and
-# both programs list each certificate: its type, key, authority, key ID, serial number, time, principals,
-# options and extensions.
+# The facts of certificates beside OpenSSH: its ssh-keygen signs keys of every kind that it makes,
+# and both programs list each certificate: its type, key, authority, key ID, serial number, time,
+# principals, options and extensions.
 
 export TZ=UTC
 
-# facts: the listing of OpenSSH, in the words of ours. It names no line, says no zone of times (they are
-# in UTC here), leaves a blank after the label of a list, and says of an option that it does not know
-# whether it has data.
+# facts: the listing of OpenSSH, in the words of ours. It names no line, says no zone of times (they
+# are in UTC here), leaves a blank after the label of a list, and says of an option that it does not
+# know whether it has data.
 facts() {
   sed -E -e '1s/:$/:1:/' \
     -e '/^        Valid: /s/([0-9]{4}-[0-9]{2}-[0-9]{2}T[0-9:]{8})/\1Z/g' \
@@ -91,8 +91,8 @@ now 'valid to a past day' no listed-cert.pub
 certified 'valid from a later day on' $key ed25519 -I id -V 20990101Z:forever
 now 'valid from a later day on' no listed-cert.pub
 
-# A file of plain keys has no certificate; in a file of both the certificates are listed, each by its
-# line.
+# A file of plain keys has no certificate; in a file of both the certificates are listed, each by
+# its line.
 expect 'a plain key' 255 '' "ssh-keygen: $key.pub: file 6 NoCertificate"$'\n' -L -f "$key.pub"
 "$openssh" -q -s authority-rsa -I one "$key.pub" 2>"$scratch/error"
 { cat "$key.pub" && echo '# a comment' && cat "$key-cert.pub" "$key.pub" "$key-cert.pub"; } >both

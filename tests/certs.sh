@@ -1,5 +1,5 @@
-# Certificates beside OpenSSH: its ssh-keygen signs keys of every kind that it makes, and both programs
-# list them, and ask lists of explicit keys about them.
+# Certificates beside OpenSSH: its ssh-keygen signs keys of every kind that it makes, and both
+# programs list them, and ask lists of explicit keys about them.
 
 # authority NAME TYPE [BITS]
 authority() {

@@ -1,5 +1,5 @@
-# krl check: each condition both ways, lists that OpenSSH refuses or reads as other names, truncated lists,
-# statuses, and files that are missing.
+# krl check: each condition both ways, lists that OpenSSH refuses or reads as other names, truncated
+# lists, statuses, and files that are missing.
 
 keygen=$program
 program=$krl
@@ -83,7 +83,8 @@ certificates() {
   printf 01
   string "$(string "$1")$(words '')$2"
 }
-# beside NAME WHY DIGITS..: the list that the digits spell. WHY is empty where OpenSSH takes the list.
+# beside NAME WHY DIGITS..: the list that the digits spell. WHY is empty where OpenSSH takes the
+# list.
 beside() {
   local name=$1 why=$2 status=0 refused
   shift 2

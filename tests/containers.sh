@@ -1,6 +1,6 @@
 # Private key files beside OpenSSH: its ssh-keygen makes keys of every kind that it can, without a
-# passphrase and with one. Both programs list the files without; those with one are refused. Lists of
-# the keys revoke them in private files as in public ones.
+# passphrase and with one. Both programs list the files without; those with one are refused. Lists
+# of the keys revoke them in private files as in public ones.
 
 containers=()
 
@@ -29,8 +29,8 @@ for size in $(seq 0 16); do
   container ed25519 256 "$(printf 'x%.0s' $(seq $size))"
 done
 
-# listing WORD..: what OpenSSH lists. It leaves the place of an empty comment free, where we say that
-# there is none.
+# listing WORD..: what OpenSSH lists. It leaves the place of an empty comment free, where we say
+# that there is none.
 listing() {
   "$openssh" -l "$@" | sed -E 's/^([0-9]+ [^ ]+)  (\([A-Z0-9]+\))$/\1 no comment \2/'
 }

@@ -4,7 +4,8 @@ type=ssh-ed25519-cert-v01@openssh.com
 published='SHA256:+DiY3wvvV6TuJJhbpZisF/zLDA0zPMSvHdkr4UvCOqU'
 none=('Principals: (none)' 'Critical Options: (none)' 'Extensions: (none)')
 
-# shown NUMBER SERIAL VALID NOW LINE..: what is printed of a certificate of G, by G, with the key ID a.
+# shown NUMBER SERIAL VALID NOW LINE..: what is printed of a certificate of G, by G, with the key ID
+# a.
 shown() {
   printf 'c.pub:%s:\n' "$1"
   printf '        %s\n' "Type: $type user certificate" "Public key: ED25519-CERT $published" \

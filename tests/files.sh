@@ -84,7 +84,8 @@ without_end() {
   bytes "$(repeat 20000 "$2")" >piece
   bytes "$1" && while cat piece; do :; done 2>/dev/null
 }
-# endless NAME DIGITS DIGITS: a list that repeats the second digits without end is refused once it is too long.
+# endless NAME DIGITS DIGITS: a list that repeats the second digits without end is refused once it
+# is too long.
 endless() {
   fails "$1 without end" '' '/dev/stdin: krl 12 TooLong' -Q -f /dev/stdin < <(without_end "$2" "$3")
 }

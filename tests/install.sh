@@ -196,7 +196,8 @@ cc -o caller caller.c "$root/usr/lib/x86_64-linux-gnu/libkrl.a" && ./caller
 judge 'a caller is linked with the static library' "$(differs answer 7 $?)"
 rm -r "$root" "$scratch"/*.deb
 
-# A repository of two commits: a package has the number, the time and the name of the commit that it is made of.
+# A repository of two commits: a package has the number, the time and the name of the commit that it
+# is made of.
 mkdir two && cp -r "$top"/{packaging,docs,completions,examples,library,demo,bench,README.md,CHANGELOG.md,.gitignore} two
 commit() {
   git -C two add . && GIT_COMMITTER_DATE="@$1 +0000" git -C two -c user.name=me -c user.email=me@here commit -q -m "$1"

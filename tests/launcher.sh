@@ -1,5 +1,6 @@
-# The launchers ./ssh-keygen and ./krl: from anywhere, by links, and without the toolchain once the program is
-# built; and what it does where the program is not built, over a toolchain that proves nothing.
+# The launchers ./ssh-keygen and ./krl: from anywhere, by links, and without the toolchain once the
+# program is built; and what it does where the program is not built, over a toolchain that proves
+# nothing.
 
 launcher=$top/ssh-keygen
 line ssh-ed25519 "$G" >g.pub
@@ -187,7 +188,8 @@ judge 'the second of two uses at once' "$(
   differs 'standard error' "$waiting" "$(cat "$scratch/waiting")"
 )"
 
-# A source that changes while another crate is proved, and one that changes while it is proved itself.
+# A source that changes while another crate is proved, and one that changes while it is proved
+# itself.
 hold krl_tool "${one[@]}"
 seq 7 >away/crates/low/src/lib.rt
 go

@@ -48,7 +48,8 @@ for job in "${jobs[@]}"; do
         differs 'the list' "$(digits old.krl)" "$(digits made.krl)"
       )
     elif [ $status = 139 ] && [ $answered = 0 ]; then
-      # Within a few KiB of the limit the heap takes the rest, the stack has no room, and the system ends the run.
+      # Within a few KiB of the limit the heap takes the rest, the stack has no room, and the system
+      # ends the run.
       stopped=$((stopped + 1))
       wrong+=$(differs 'the list' "$(digits old.krl)" "$(digits made.krl)")
     else

@@ -1,5 +1,5 @@
-# Lists that the program makes: to the byte, but for their time, and asked beside those that OpenSSH's
-# ssh-keygen makes of the same files.
+# Lists that the program makes: to the byte, but for their time, and asked beside those that
+# OpenSSH's ssh-keygen makes of the same files.
 
 make_asked
 highest=18446744073709551615
@@ -24,7 +24,8 @@ makes() {
   run -k -f made.krl "$@" spec
   made "$wanted"
 }
-# holds NAME LINES DIGITS: the same for version 1 under all authorities, the digits being subsections.
+# holds NAME LINES DIGITS: the same for version 1 under all authorities, the digits being
+# subsections.
 holds() {
   makes "$1" "$2" "${H}01$(string "$(words '' '')$3")" -s none -z 1
 }
@@ -41,7 +42,8 @@ is_present() {
   judge "$1" "$([ $moment -le "$now" ] && [ $moment -gt $((now - 600)) ] || echo "  at $now the list says $moment")"
 }
 is_present 'its time is the present one'
-# dated VALUE DIGITS: a list that is made or updated under this value of the environment has this time.
+# dated VALUE DIGITS: a list that is made or updated under this value of the environment has this
+# time.
 dated() {
   local SOURCE_DATE_EPOCH=$1
   export SOURCE_DATE_EPOCH
@@ -235,7 +237,8 @@ keeps 'a list that would be too long' 'made.krl: run 3 TextTooLong' large.krl -u
 rm -f large*
 
 # Beside OpenSSH: both programs query each list.
-# agree NAME: both programs give for both lists the answer of OpenSSH's to its own, and ours is no larger.
+# agree NAME: both programs give for both lists the answer of OpenSSH's to its own, and ours is no
+# larger.
 agree() {
   local output status krl
   output=$("$openssh" -Q -f theirs.krl "${asked[@]}")

@@ -1,4 +1,5 @@
-# The manual page: well formed, with the forms of use that --help prints, and examples that were run.
+# The manual page: well formed, with the forms of use that --help prints, and examples that were
+# run.
 
 page=$top/docs/ssh-keygen.1
 

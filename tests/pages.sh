@@ -1,6 +1,6 @@
-# The pages of the crates: each library and each program has one, and the map links to it. A crate of tests
-# proves and runs the caller that a library's page shows, in the same words. The program prints the output
-# that its page shows. The crates have the names that THEOREMS.md cites.
+# The pages of the crates: each library and each program has one, and the map links to it. A crate
+# of tests proves and runs the caller that a library's page shows, in the same words. The program
+# prints the output that its page shows. The crates have the names that THEOREMS.md cites.
 
 # shown LANGUAGE PAGE: what the page shows in it.
 shown() {

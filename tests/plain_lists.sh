@@ -1,5 +1,5 @@
-# A plain file of public keys as RevokedKeys of a real sshd: whom it refuses for each form of a line. The table of
-# docs/FORMATS.md states the rules.
+# A plain file of public keys as RevokedKeys of a real sshd: whom it refuses for each form of a
+# line. The table of docs/FORMATS.md states the rules.
 
 if ! need sshd openssh-server; then
   echo '# plain_lists is skipped: sshd is missing, and could not be installed'

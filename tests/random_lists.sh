@@ -1,5 +1,5 @@
-# Lists that OpenSSH's ssh-keygen makes from random specification files, of every sort of entry and in
-# every shape of serials: both programs say the same of keys and certificates.
+# Lists that OpenSSH's ssh-keygen makes from random specification files, of every sort of entry and
+# in every shape of serials: both programs say the same of keys and certificates.
 
 make_asked
 RANDOM=4711

@@ -1,5 +1,6 @@
-# The README as a new user follows it: the walk, and each recipe of it, of RECIPES.md and of the manual page, in folders
-# of the test's own. Those for sshd and ssh are followed with real ones, for which such a folder is /etc/ssh.
+# The README as a new user follows it: the walk, and each recipe of it, of RECIPES.md and of the
+# manual page, in folders of the test's own. Those for sshd and ssh are followed with real ones, for
+# which such a folder is /etc/ssh.
 
 mkdir walk && cp -r "$top/demo" walk && ln -s "$program" walk/ssh-keygen && ln -s "$krl" walk/krl &&
   cd walk || exit 1
@@ -41,7 +42,8 @@ cat >tools/ssh <<END
 #!/bin/sh
 exec '$(command -v ssh)' -T -F '$room/ssh_config' "\$@"
 END
-# It is reloaded once it listens again. The process that the test knows is that of timeout, which forwards one signal.
+# It is reloaded once it listens again. The process that the test knows is that of timeout, which
+# forwards one signal.
 cat >tools/systemctl <<END
 #!/bin/sh
 [ "\$*" = 'reload ssh' ] || { echo "\$*" >>'$room/systemctl' && exit; }

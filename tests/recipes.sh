@@ -65,7 +65,8 @@ if command -v systemd-analyze >/dev/null; then
   judge 'systemd finds nothing in the units' "$(systemd-analyze verify "$room"/units/krl-pull.* 2>&1)"
 fi
 
-# pulls NAME STATUS VERSION: what is on the web is fetched, with this status, and then this version is in force.
+# pulls NAME STATUS VERSION: what is on the web is fetched, with this status, and then this version
+# is in force.
 pulls() {
   local status
   PATH=$PWD/tools:$PATH KRL_SIGNERS=$room/krl_signers "$room/local/sbin/krl-pull" "file://$PWD/web/revoked.krl" \

@@ -17,7 +17,8 @@ within() {
 least=1024
 until within $least -Q -f r.krl; do least=$((least + 256)); done
 
-# ended STATUS WHOLE LIST: what is wrong with a run that says WHOLE and makes the list, or is refused.
+# ended STATUS WHOLE LIST: what is wrong with a run that says WHOLE and makes the list, or is
+# refused.
 ended() {
   case $(cat "$scratch/error") in
     '')

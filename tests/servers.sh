@@ -1,5 +1,5 @@
-# The servers of examples/ in Go and in Python, which ask libkrl: OpenSSH's client logs in to them with keys and
-# certificates, while lists revoke some of them.
+# The servers of examples/ in Go and in Python, which ask libkrl: OpenSSH's client logs in to them
+# with keys and certificates, while lists revoke some of them.
 
 if [ -z "${LIBRARY:-}" ]; then
   "$top/library/build" >"$scratch/output" 2>&1 || judge 'the library is built' "$(cat "$scratch/output")"
@@ -19,7 +19,8 @@ done
 cat one.pub two.pub three.pub >allowed
 everybody='one two three cert-5 cert-6'
 
-# enters NAME: whether the server lets in a client with this key, or with the key user and this certificate.
+# enters NAME: whether the server lets in a client with this key, or with the key user and this
+# certificate.
 enters() {
   local words=(-i "$1")
   [ -f "$1" ] || words=(-i user -o CertificateFile="$1.pub")

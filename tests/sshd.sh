@@ -1,5 +1,5 @@
-# A real sshd on the loopback, whose RevokedKeys are lists that the program made: who logs in with a key
-# or a certificate is let in or refused as -Q answers about it.
+# A real sshd on the loopback, whose RevokedKeys are lists that the program made: who logs in with a
+# key or a certificate is let in or refused as -Q answers about it.
 
 . "$tests/lib/sshd/serving.sh"
 made_key one ed25519
@@ -8,7 +8,8 @@ made_key user ed25519
 made_key ca-a ed25519
 made_key ca-b ecdsa
 highest=18446744073709551615
-# Certificates of one key, which is let in by them alone: NAME is that of its authority and its serial.
+# Certificates of one key, which is let in by them alone: NAME is that of its authority and its
+# serial.
 for name in a0 a5 a6 a7 a300 a$highest b5 b6; do
   "$openssh" -q -s "$room/ca-${name:0:1}" -I "id of $name" -z "${name:1}" -n "$user" "$room/user.pub"
   mv "$room/user-cert.pub" "$room/$name.pub"
@@ -19,7 +20,8 @@ cat "$room/one.pub" "$room/two.pub" >"$room/allowed"
 configure "TrustedUserCAKeys $room/authorities" "RevokedKeys $room/revoked.krl"
 serve
 
-# login NAME STATUS KEY: -Q ends with this status for the key, and sshd lets in exactly the keys with status 0.
+# login NAME STATUS KEY: -Q ends with this status for the key, and sshd lets in exactly the keys
+# with status 0.
 login() {
   local got answer
   "$program" -Q -f "$room/revoked.krl" "$room/$3.pub" >"$scratch/answer" 2>&1

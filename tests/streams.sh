@@ -5,8 +5,8 @@ line ssh-ed25519 "$A" >a
 bytes "$H" "$(section "$G")" >old.krl
 cp a spec
 
-# closed NAME STATUS OUTPUT ERROR STREAMS WORD..: the run with those of the three streams closed that
-# are named by their numbers. The list r.krl is as in old.krl before.
+# closed NAME STATUS OUTPUT ERROR STREAMS WORD..: the run with those of the three streams closed
+# that are named by their numbers. The list r.krl is as in old.krl before.
 closed() {
   local name=$1 status=$2 output=$3 error=$4 streams=$5 got
   shift 5

@@ -1,6 +1,7 @@
-//! The yardstick: reads a revocation list (PROTOCOL.krl) as one would in plain Rust, and looks up keys by
-//! their blobs. `plain hold LIST [KEYS]` puts the list into the standard library's ordered maps first, and
-//! `plain pass LIST [KEYS]` looks at each entry as it passes; both print a line for each key.
+//! The yardstick: reads a revocation list (PROTOCOL.krl) as one would in plain Rust, and looks up
+//! keys by their blobs. `plain hold LIST [KEYS]` puts the list into the standard library's ordered
+//! maps first, and `plain pass LIST [KEYS]` looks at each entry as it passes; both print a line for
+//! each key.
 
 use std::collections::{BTreeMap, BTreeSet, HashSet};
 use std::fs::File;

@@ -1,7 +1,7 @@
 // Package krl asks OpenSSH key revocation lists (KRLs) about keys and certificates, by libkrl.
 //
-// Let a key in where a check returns nil, and in no other case. Signatures, the dates of a certificate and whether its
-// authority is trusted are not checked here.
+// Let a key in where a check returns nil, and in no other case. Signatures, the dates of a
+// certificate and whether its authority is trusted are not checked here.
 package krl
 
 /*

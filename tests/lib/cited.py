@@ -2,9 +2,9 @@
 
     cited.py TOP
 
-Each line of the output is a name that is not there. A name is a public function, a type, the name of a clause, a
-definition of specs/, or a crate. Each name that a row cites is looked up in the crates that the section's heading, or
-the name itself, gives; definitions also in the other crates.
+Each line of the output is a name that is not there. A name is a public function, a type, the name
+of a clause, a definition of specs/, or a crate. Each name that a row cites is looked up in the
+crates that the section's heading, or the name itself, gives; definitions also in the other crates.
 """
 
 import os
@@ -33,7 +33,9 @@ class Crate:
         page = source.get(name + "/src/lib.rt", source.get(name + "/src/main.rt", ""))
         exported = set(re.findall(r"\w+", " ".join(re.findall(r"(?s)\bpub use [^;]*;", page))))
         self.types = set(re.findall(r"\bpub (?:struct|enum|trait|type) (\w+)", whole)) & exported
-        self.functions = set(re.findall(r"(?m)^pub (?:unsafe )?(?:extern \"C\" )?fn (\w+)", whole)) & exported
+        self.functions = (
+            set(re.findall(r"(?m)^pub (?:unsafe )?(?:extern \"C\" )?fn (\w+)", whole)) & exported
+        )
         self.laws = set()
         if re.search(r"\bpub mod laws;", page):
             laws = (text for path, text in source.items() if "/src/laws" in path)
@@ -74,7 +76,10 @@ def spread(cited):
     group = re.search(r"\{([^}]*)\}", cited)
     if not group:
         return [cited]
-    return [cited[: group.start()] + it.strip() + cited[group.end() :] for it in group.group(1).split(",")]
+    return [
+        cited[: group.start()] + it.strip() + cited[group.end() :]
+        for it in group.group(1).split(",")
+    ]
 
 
 def stands(name, crates, every):
@@ -92,9 +97,9 @@ def stands(name, crates, every):
     if len(parts) == 2:
         return any(parts[0] in crate.types and tuple(parts) in crate.methods for crate in crates)
     it = parts[0]
-    return any(it in crate.types | crate.functions | crate.clauses | crate.definitions for crate in crates) or any(
-        it in crate.definitions for crate in every.values()
-    )
+    return any(
+        it in crate.types | crate.functions | crate.clauses | crate.definitions for crate in crates
+    ) or any(it in crate.definitions for crate in every.values())
 
 
 def rows(path):
@@ -109,13 +114,17 @@ def rows(path):
 
 
 def main():
-    names = [it for it in sorted(os.listdir(CRATES)) if os.path.isdir(os.path.join(CRATES, it, "src"))]
+    names = [
+        it for it in sorted(os.listdir(CRATES)) if os.path.isdir(os.path.join(CRATES, it, "src"))
+    ]
     every = {name: Crate(name) for name in names if not name.endswith("_tests")}
     cited = 0
     for number, heading, column in rows("docs/THEOREMS.md"):
         if "`" not in heading:
             continue
-        crates = [every[it] for it in re.findall(r"`(\w+)`", heading) if it in every] or list(every.values())
+        crates = [every[it] for it in re.findall(r"`(\w+)`", heading) if it in every] or list(
+            every.values()
+        )
         for name in re.findall(r"`([^`]+)`", column):
             # Files, commands, and what the standard library names.
             if re.match(r"(docs|tests|specs)/|make ", name) or name == "Display":

@@ -47,9 +47,10 @@ section() {
   string "$(for blob; do string "$blob"; done)"
 }
 
-# certificate KEY AUTHORITY SERIAL ID [PRINCIPALS AFTER BEFORE CRITICAL EXTENSIONS]: a certificate of a
-# user. KEY and AUTHORITY are Ed25519 blobs, ID is a text; the serial number and the times have sixteen
-# digits, and the last two and PRINCIPALS are rows of strings. Without the last five it is for ever.
+# certificate KEY AUTHORITY SERIAL ID [PRINCIPALS AFTER BEFORE CRITICAL EXTENSIONS]: a certificate
+# of a user. KEY and AUTHORITY are Ed25519 blobs, ID is a text; the serial number and the times have
+# sixteen digits, and the last two and PRINCIPALS are rows of strings. Without the last five it is
+# for ever.
 certificate() {
   words ssh-ed25519-cert-v01@openssh.com ''
   printf '00000020%s%s00000001' "${1: -64}" "$3"

@@ -2,7 +2,8 @@
 
     links.py FOLDER
 
-Each line of the output is a link of a page below the folder that leads to no file there, or to no heading of its page.
+Each line of the output is a link of a page below the folder that leads to no file there, or to no
+heading of its page.
 """
 
 import os

@@ -1,7 +1,7 @@
 # Other programs that the tests run.
 
-# need COMMAND PACKAGE: whether the command is there, or a file by its whole name; root installs the package of
-# it where it is not, without starting what it offers, one package at a time.
+# need COMMAND PACKAGE: whether the command is there, or a file by its whole name; root installs the
+# package of it where it is not, without starting what it offers, one package at a time.
 need() {
   is_there "$1" && return
   if [ "$(id -u)" = 0 ]; then

@@ -1,6 +1,7 @@
 # The recipes of the documents: commands that are shown without what they print.
 
-# manual_blocks: the literal displays of the manual page, each after a line of its own with a form feed.
+# manual_blocks: the literal displays of the manual page, each after a line of its own with a form
+# feed.
 manual_blocks() {
   sed 's/\\e/\\/g' "$top/docs/ssh-keygen.1" |
     awk '/^\.Bd -literal/ { on = 1; printf "\f\n"; next } /^\.Ed/ { on = 0 } on'
@@ -12,7 +13,8 @@ page_blocks() {
     /^    / { if (!on) printf "\f\n"; on = 1; print substr($0, 5); next } { on = 0 }' "$1"
 }
 
-# recipes_of: standard input has such displays; those that are recipes. Forms of use and transcripts are none.
+# recipes_of: standard input has such displays; those that are recipes. Forms of use and transcripts
+# are none.
 recipes_of() {
   awk 'BEGIN { RS = "\f\n" } NF && !/^(\$|make |apt |krl-keygen [^\n]*[[])/ { printf "\f\n%s", $0 }'
 }
@@ -37,7 +39,8 @@ recipe() {
   recipes | awk -v beginning="$1" 'BEGIN { RS = "\f\n" } index($0, beginning) == 1 { printf "%s", $0 }'
 }
 
-# begin_recipes: makes the folder tools, which has the programs that recipes call. The folder $room is their /etc/ssh.
+# begin_recipes: makes the folder tools, which has the programs that recipes call. The folder $room
+# is their /etc/ssh.
 begin_recipes() {
   mkdir -p tools "$room"/{sshd_config.d,ssh_config.d,units}
   ln -s "$program" tools/krl-keygen
@@ -50,7 +53,8 @@ begin_recipes() {
   followed=0
 }
 
-# in_room TEXT: the text, with folders of the test's own for those of the system, and without krl where that is missing.
+# in_room TEXT: the text, with folders of the test's own for those of the system, and without krl
+# where that is missing.
 in_room() {
   local words=(-e "s|/etc/ssh/ssh_host_ed25519_key|$room/host|g; s|/etc/ssh|$room|g; s|/usr/local|$room/local|g")
   words+=(-e "s|/etc/systemd/system|$room/units|g; s|/home|$PWD/home|g")
@@ -64,8 +68,8 @@ try_recipe() {
   PATH=$PWD/tools:$PATH bash -c "$(in_room "$(recipe "$1")")" 2>&1
 }
 
-# follows NAME BEGINNING STATUS OUTPUT [again]: the recipe ends with the status and prints this. Where OUTPUT is a star,
-# it may print anything. The first time counts.
+# follows NAME BEGINNING STATUS OUTPUT [again]: the recipe ends with the status and prints this.
+# Where OUTPUT is a star, it may print anything. The first time counts.
 follows() {
   local got wanted
   wanted=$4${4:+$'\n'}status\ $3
@@ -78,7 +82,8 @@ follows() {
   [ "${5:-}" = again ] || followed=$((followed + 1))
 }
 
-# has_krl: whether the program krl is there. A recipe that only it can follow counts where it is not.
+# has_krl: whether the program krl is there. A recipe that only it can follow counts where it is
+# not.
 has_krl() {
   [ -e tools/krl ]
 }

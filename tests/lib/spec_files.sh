@@ -2,7 +2,8 @@
 
 highest=18446744073709551615
 
-# make_asked: the keys and certificates, whose names are the array asked. They are the same in each run.
+# make_asked: the keys and certificates, whose names are the array asked. They are the same in each
+# run.
 make_asked() {
   local name authority serial
   RANDOM=4711

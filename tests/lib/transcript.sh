@@ -1,7 +1,8 @@
 # Runs the examples of documents as they are written there.
 
-# transcript NAME: standard input has lines that begin with '$ ', each followed by its output. One shell runs
-# them in the current folder, where the programs are called ssh-keygen and krl. Times may differ.
+# transcript NAME: standard input has lines that begin with '$ ', each followed by its output. One
+# shell runs them in the current folder, where the programs are called ssh-keygen and krl. Times may
+# differ.
 transcript() {
   local wanted got
   wanted=$(timeless)

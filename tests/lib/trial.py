@@ -1,5 +1,5 @@
-"""The shared code of the programs of tests/: the program that is tested, the count of tests, and libraries
-that are loaded before a program, and change what its calls do."""
+"""The shared code of the programs of tests/: the program that is tested, the count of tests, and
+libraries that are loaded before a program, and change what its calls do."""
 
 import os
 import subprocess

@@ -1,11 +1,11 @@
-// Server is an SSH server that lets in the keys of an authorized_keys file and the certificates of some authorities,
-// but none that a list revokes.
+// Server is an SSH server that lets in the keys of an authorized_keys file and the certificates of
+// some authorities, but none that a list revokes.
 //
-//	go mod tidy && go build ./server
-//	./server PORT HOST_KEY authorized_keys authorities revoked.krl
+// 	go mod tidy && go build ./server
+// 	./server PORT HOST_KEY authorized_keys authorities revoked.krl
 //
-// It listens on the loopback, and says "let in" to each client that asks it to run a command. Your own server
-// needs the code before the comment "The server": it decides about the key.
+// It listens on the loopback, and says "let in" to each client that asks it to run a command. Your
+// own server needs the code before the comment "The server": it decides about the key.
 package main
 
 import (
@@ -19,8 +19,8 @@ import (
 	"yezhirop.example/krl"
 )
 
-// keys reads the keys of a file in the form of authorized_keys. Lines with options are skipped, since this server knows
-// none.
+// keys reads the keys of a file in the form of authorized_keys. Lines with options are skipped,
+// since this server knows none.
 func keys(name string) (map[string]bool, error) {
 	found := map[string]bool{}
 	rest, err := os.ReadFile(name)
@@ -37,8 +37,8 @@ func keys(name string) (map[string]bool, error) {
 
 type decision func(ssh.ConnMetadata, ssh.PublicKey) (*ssh.Permissions, error)
 
-// decides lets in a key or a certificate, or not. The list is read at each login, so a new one counts immediately. A
-// list that cannot be read lets nobody in.
+// decides lets in a key or a certificate, or not. The list is read at each login, so a new one
+// counts immediately. A list that cannot be read lets nobody in.
 func decides(allowed, authorities map[string]bool, revoked string) decision {
 	certificates := &ssh.CertChecker{
 		IsUserAuthority: func(key ssh.PublicKey) bool { return authorities[string(key.Marshal())] },

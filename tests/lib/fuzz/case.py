@@ -133,7 +133,8 @@ class Maker:
 
 
 def is_single(content):
-    """Whether exactly one line of it could be a key, and that line has only printable ASCII characters."""
+    """Whether exactly one line of it could be a key, and that line has only printable ASCII
+    characters."""
     lines = [it.lstrip(b" \t").rstrip(b" \t\r") for it in content.split(b"\n")]
     lines = [it for it in lines if it and not it.startswith(b"#")]
     return len(lines) == 1 and all(0x20 <= it < 0x7F for it in lines[0])

@@ -252,7 +252,8 @@ def change_list(source, content, other):
 
 
 def change_certificates(source, inner, other):
-    """The content of a section of certificates, with a change of its authority or of a subsection."""
+    """The content of a section of certificates, with a change of its authority or of a
+    subsection."""
     (authority, reserved), rest = (fields_of(inner)[0] + [b"", b""])[:2], None
     rest = inner[8 + len(authority) + len(reserved) :]
     subsections, last = pieces_of(rest, False)

@@ -23,8 +23,8 @@ LABEL = (
 )
 CERT = re.compile(rb".*:\d+:|        (" + LABEL + rb"):.*|                .*")
 
-# A carriage return at the end of a key ID in a specification file, which OpenSSH's program keeps, so
-# that its list names no certificate by this ID.
+# A carriage return at the end of a key ID in a specification file, which OpenSSH's program keeps,
+# so that its list names no certificate by this ID.
 RETURN_AFTER_ID = re.compile(rb"^[ \t]*id:[^#\n]*\r[ \t\r]*(#|$)", re.IGNORECASE | re.MULTILINE)
 
 # Faults for which this program refuses what OpenSSH's takes, each with its reason.

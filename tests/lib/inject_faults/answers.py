@@ -1,4 +1,5 @@
-"""The answers that are allowed when a call of a run failed, compared with the answer when no call fails.
+"""The answers that are allowed when a call of a run failed, compared with the answer when no call
+fails.
 
 Each function returns None, or what is wrong."""
 
@@ -81,14 +82,15 @@ def unopened(run, ample, got):
 
 
 def in_place(run, ample, got):
-    """The folder takes no lock, and so no new file: a list that was there is written in place. Where
-    it takes the lock, and then not the new file, the list stays."""
+    """The folder takes no lock, and so no new file: a list that was there is written in place.
+    Where it takes the lock, and then not the new file, the list stays."""
     is_taken = run.before is None or got.counts["CREATE"].called > 1
     return (unopened if is_taken else same)(run, ample, got)
 
 
 def unwritten(run, ample, got):
-    """The new file did not get the name of the list: the old list is unchanged, and 0 bytes are reported."""
+    """The new file did not get the name of the list: the old list is unchanged, and 0 bytes are
+    reported."""
     if got.error != WRITE % (b"made.krl", 0):
         return "standard error"
     return stopped(run, ample, got)

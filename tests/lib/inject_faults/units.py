@@ -1,5 +1,6 @@
-"""The tests of refused_tests, each for each of its allocations: a call answers as with ample memory,
-or the test says that memory ran out, and it says so only where an allocation was refused."""
+"""The tests of refused_tests, each for each of its allocations: a call answers as with ample
+memory, or the test says that memory ran out, and it says so only where an allocation was
+refused."""
 
 import os
 import subprocess

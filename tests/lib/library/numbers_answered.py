@@ -77,7 +77,8 @@ BLOBS.update({-300 - it: plain(*key) for it, key in KEYS.items()})
 BLOBS.update({-500 - it: certified(*key) for it, key in KEYS.items() if it not in (2, 7, 11)})
 BLOBS[-511] = certified(*ED25519)[: len(strings("ssh-ed25519-cert-v01@openssh.com", b"nonce")) + 9]
 BLOBS.update({-600 - it: certified(*ED25519, plain(*key)) for it, key in KEYS.items()})
-# Numbers of faults that no call answers: reading borrowed bytes does not fail, and see above for the others.
+# Numbers of faults that no call answers: reading borrowed bytes does not fail, and see above for
+# the others.
 NEVER = {-113, -402, -502, -507}
 
 

@@ -78,7 +78,9 @@ def faults(tests, library):
     good, wrong = HEADER + section(2, string(OTHER)), []
     asked = [(it, KEY) for it in LISTS.values()] + [(good, it) for it in BLOBS.values()]
     for content, blob in asked:
-        answers = why(library, content, blob), library.krl_check(content, len(content), blob, len(blob))
+        answers = why(library, content, blob), library.krl_check(
+            content, len(content), blob, len(blob)
+        )
         if answers[0] != answers[1] or answers[0] >= 0:
             wrong.append("%d, and %d by krl_check" % answers)
     tests.judge("%d faults" % len(asked), wrong)

@@ -31,8 +31,8 @@ def fillers(size):
 
 
 def list_of(size, front=0):
-    """A list `size` bytes long, of which only the last ones revoke the keys of the queries. Its first
-    `front` bytes are a list too, which revokes none of them."""
+    """A list `size` bytes long, of which only the last ones revoke the keys of the queries. Its
+    first `front` bytes are a list too, which revokes none of them."""
     begun = HEADER + (fillers(front - len(HEADER)) if front else b"")
     return begun + fillers(size - len(begun) - len(LAST)) + LAST
 

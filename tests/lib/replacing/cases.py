@@ -1,4 +1,5 @@
-"""Lists in all kinds of places: behind links, with a mode, without permission, as a pipe or a device."""
+"""Lists in all kinds of places: behind links, with a mode, without permission, as a pipe or a
+device."""
 
 import os
 import stat

@@ -1,4 +1,5 @@
-# Logins with a revoked key while its list is updated, by a new file and in place. A part of sshd.sh.
+# Logins with a revoked key while its list is updated, by a new file and in place. A part of
+# sshd.sh.
 
 need cc gcc || judge 'a C compiler is there' '  install gcc'
 mkdir "$room/closed"

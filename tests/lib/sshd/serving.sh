@@ -62,7 +62,8 @@ ends() {
   trap 'rm -rf "$scratch"' EXIT
 }
 
-# enters NAME: whether sshd lets in a client with this key, or with the key user and this certificate.
+# enters NAME: whether sshd lets in a client with this key, or with the key user and this
+# certificate.
 enters() {
   local words=(-i "$room/$1")
   [ -f "$room/$1" ] || words=(-i "$room/user" -o CertificateFile="$room/$1.pub")

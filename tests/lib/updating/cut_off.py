@@ -27,8 +27,8 @@ def is_refused(place):
 
 
 def by_rename(place, made):
-    """The folder has the old list or the new one, and beside it at most the new file and the lock, which
-    no one else may read. The next update takes over the lock."""
+    """The folder has the old list or the new one, and beside it at most the new file and the lock,
+    which no one else may read. The next update takes over the lock."""
     steps = Steps(place)
     place.enter()
     calls, _ = steps.calls()

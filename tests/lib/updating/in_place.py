@@ -13,7 +13,8 @@ CHANGES = ("write", "ftruncate")
 
 
 def between(place, name, old, words, wanted):
-    """Before each call the folder has the old list, one that every reader refuses, or the new one."""
+    """Before each call the folder has the old list, one that every reader refuses, or the new
+    one."""
     user = closed(place, old)
     steps = Steps(place, words, user)
     calls, _ = steps.calls()
@@ -44,7 +45,8 @@ def synced(place):
 
 
 def failing(place, made):
-    """Each change and each sync fails in turn: the fault is reported, and the list is refused or is the old one."""
+    """Each change and each sync fails in turn: the fault is reported, and the list is refused or is
+    the old one."""
     calls, _ = Steps(place, user=closed(place, OLD)).calls()
     wrong = []
     for name in CHANGES + ("fsync",):

@@ -1,4 +1,5 @@
-"""The lock of an update: the file beside the list, who can hold it, and how long is waited for it."""
+"""The lock of an update: the file beside the list, who can hold it, and how long is waited for
+it."""
 
 import contextlib
 import fcntl
@@ -60,7 +61,8 @@ def is_locked_out(place, done, calls, says=WAITS + LOCKED):
 
 
 def by_readers(place, made):
-    """A user who may only read the list cannot delay an update for more than a second by a lock on it."""
+    """A user who may only read the list cannot delay an update for more than a second by a lock on
+    it."""
     user = NOBODY if os.geteuid() == 0 else None
     for words, wanted in ((UPDATE, made), (ANEW, None)):
         place.enter()
@@ -130,7 +132,8 @@ def real_minute(place):
 
 
 def waits(place, made):
-    """After a second an update says once that it waits. It continues if the lock ends before the minute is over."""
+    """After a second an update says once that it waits. It continues if the lock ends before the
+    minute is over."""
     for words, old in ((UPDATE, OLD), (ANEW, OLD), (ANEW, None)):
         place.enter(old=old)
         with open(LOCK, "wb") as lock:
@@ -258,8 +261,8 @@ def shown_files(place, made):
 
 
 def of_others(place, made):
-    """In a folder where all may make files, a lock of another user blocks an update, since that user
-    could remove it while it is held. A lock of root or of the list's owner is taken over."""
+    """In a folder where all may make files, a lock of another user blocks an update, since that
+    user could remove it while it is held. A lock of root or of the list's owner is taken over."""
     if os.geteuid():
         print("# only root makes files for others, so no lock of another user is tried")
         return

@@ -1,8 +1,8 @@
 """Which file each call of an update belongs to, and in which order they come.
 
 The rows are what the manual page promises: the lock is there before the list is read, until all is
-done; the new file has the list's group, owner and mode, and all of its bytes, when it is synced; then
-it takes the name; then the folder is synced, and the name followed once more."""
+done; the new file has the list's group, owner and mode, and all of its bytes, when it is synced;
+then it takes the name; then the folder is synced, and the name followed once more."""
 
 import errno
 import os
@@ -19,11 +19,16 @@ WRITER = "2"
 
 def changes(calls):
     """The calls that change or lock something, of the list and what is beside it, each as a line;
-    writes that follow each other once, the first read of the list, and the last look at the name."""
+    writes that follow each other once, the first read of the list, and the last look at the name.
+    """
     lines = []
     for it in calls:
         path = NEW.sub("NEW", it.path).replace(os.getcwd(), ".")
-        if it.name in KINDS or (it.name, path) in (("write", "NEW"), ("write", LIST), ("read", LIST)):
+        if it.name in KINDS or (it.name, path) in (
+            ("write", "NEW"),
+            ("write", LIST),
+            ("read", LIST),
+        ):
             line = " ".join((it.name, path, it.more.replace(os.getcwd() + "/", ""))).rstrip()
             if lines[-1:] != [line] and not (line.startswith("read") and line in lines):
                 lines.append(line)
@@ -130,7 +135,9 @@ def interrupted(place, made):
                 done = steps.run(FAIL="%s:1-%d:%d" % (name, 1 << 62, errno.EINTR))
                 if done.returncode != 255:
                     wrong.append("%s without end: %s" % (name, shown(done)))
-        place.judge("calls that are interrupted 900 times%s" % (", in place" if user else ""), wrong)
+        place.judge(
+            "calls that are interrupted 900 times%s" % (", in place" if user else ""), wrong
+        )
 
 
 def refused_modes(place):

@@ -69,7 +69,8 @@ def groups(place, made):
 
 
 def owners(place, made):
-    """A user who becomes the owner of another user's list does not keep the set-user-ID or set-group-ID bit."""
+    """A user who becomes the owner of another user's list does not keep the set-user-ID or
+    set-group-ID bit."""
     for mode, wanted in ((0o4666, 0o666), (0o6666, 0o666), (0o1666, 0o1666)):
         begin(place, mode, (STRANGER, STRANGER))
         update = Update(place, STRANGER)

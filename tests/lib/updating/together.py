@@ -109,7 +109,8 @@ def first(place, count, rounds):
 
 
 def slow_lines(place):
-    """An update that waits for lines blocks no other one, and adds them to the list as it is then."""
+    """An update that waits for lines blocks no other one, and adds them to the list as it is
+    then."""
     place.enter()
     slow = started(place, *WORDS)
     lines = [b"serial: %d\n" % it for it in (1, 3, 5)]

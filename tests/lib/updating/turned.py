@@ -136,7 +136,8 @@ def fed(path):
 
 
 def pipe_for_list(place):
-    """Bytes that were read from a pipe go into no list, whenever a list takes the name of the pipe."""
+    """Bytes that were read from a pipe go into no list, whenever a list takes the name of the
+    pipe."""
     steps = Steps(place)
 
     def begin():
@@ -163,7 +164,8 @@ def pipe_for_list(place):
 
 
 def list_for_pipe(place):
-    """Bytes that were read from a list go into no pipe, whenever a pipe takes the name of the list."""
+    """Bytes that were read from a list go into no pipe, whenever a pipe takes the name of the
+    list."""
     steps = Steps(place)
     place.enter()
     found, _ = steps.seen()
