@@ -144,7 +144,8 @@ def count_lanes():
     free = free_memory()
     if free < NEED:
         refuse(
-            f"proving takes {NEED // 1_000_000:,} MB of memory, and {free // 1_000_000:,} MB are free"
+            f"proving takes {NEED // 1_000_000:,} MB of memory,"
+            f" and {free // 1_000_000:,} MB are free"
         )
     return min(len(os.sched_getaffinity(0)), free // NEED)
 
@@ -282,9 +283,8 @@ class Build:
         if it.look(self.store, self.kit_sum):
             self.release(it)
             return False
-        say(
-            f"proving {it.name}: {sum(at.made is not None for at in self.tasks)} of {len(self.tasks)} are proved"
-        )
+        proved = sum(at.made is not None for at in self.tasks)
+        say(f"proving {it.name}: {proved} of {len(self.tasks)} are proved")
         self.release_place(it)
         os.mkdir(f"{it.place}.new")
         with words_of_kit():
@@ -332,7 +332,8 @@ class Build:
             it.place = None
         if status == -signal.SIGKILL and not it.was_killed:
             say(
-                f"the process that proves {it.name} was killed, most likely for memory: once more, alone"
+                f"the process that proves {it.name} was killed, most likely for memory:"
+                " once more, alone"
             )
             it.was_killed = True
         elif status:

@@ -5,7 +5,8 @@ _krl() {
   COMPREPLY=()
   if [ "$COMP_CWORD" = 1 ]; then
     offered=$(compgen -W 'audit check --help --version' -- "$word")
-  elif [[ $word != -* || $before == --@(files0-from|newer-than|keep|canary) || $before == -*f ]]; then
+  elif [[ $word != -* || $before == -*f ||
+    $before == --@(files0-from|newer-than|keep|canary) ]]; then
     offered=$(compgen -f -- "$word")
     compopt -o filenames 2>/dev/null
   elif [ "${COMP_WORDS[1]}" = check ]; then

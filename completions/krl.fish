@@ -5,7 +5,8 @@ set -l checks '__fish_seen_subcommand_from check'
 
 complete -c krl -f
 complete -c krl -n "not $audits; and not $checks" -a audit -d 'Find revoked keys in files'
-complete -c krl -n "not $audits; and not $checks" -a check -d 'Check a list before it is put in force'
+complete -c krl -n "not $audits; and not $checks" -a check \
+  -d 'Check a list before it is put in force'
 complete -c krl -s h -l help -d 'Print the options'
 complete -c krl -s V -l version -d 'Print the name and version'
 complete -c krl -n "$audits" -F
@@ -17,5 +18,6 @@ complete -c krl -n "$audits" -l files0-from -rF -d 'Read names of files'
 complete -c krl -n "$checks" -F
 complete -c krl -n "$checks" -l newer-than -rF -d 'Refuse a version below that of this list'
 complete -c krl -n "$checks" -l keep -rF -d 'Refuse a list that revokes a key of this file'
-complete -c krl -n "$checks" -l canary -rF -d 'Refuse a list that does not revoke the key of this file'
+complete -c krl -n "$checks" -l canary -rF \
+  -d 'Refuse a list that does not revoke the key of this file'
 complete -c krl -n "$checks" -l print-version -d 'Print the version of the list alone'

@@ -16,13 +16,19 @@ end
 complete -c ssh-keygen -f
 complete -c ssh-keygen -n '__krl_keygen_has k Q' -F
 complete -c ssh-keygen -n '__krl_keygen_lacks l L k Q E f u s z' -s h -l help -d 'Print the options'
-complete -c ssh-keygen -n '__krl_keygen_lacks l L k Q E f u s z' -l version -d 'Print the name and version'
+complete -c ssh-keygen -n '__krl_keygen_lacks l L k Q E f u s z' -l version \
+  -d 'Print the name and version'
 complete -c ssh-keygen -n '__krl_keygen_lacks l L k u s z' -s l -d 'List the keys of a file'
-complete -c ssh-keygen -n '__krl_keygen_lacks l L k Q u s z' -s L -d 'Print the certificates of a file'
+complete -c ssh-keygen -n '__krl_keygen_lacks l L k Q u s z' -s L \
+  -d 'Print the certificates of a file'
 complete -c ssh-keygen -n '__krl_keygen_lacks l L k Q E' -s k -d 'Make a revocation list'
-complete -c ssh-keygen -n '__krl_keygen_lacks L k Q E u s z' -s Q -d 'Ask a revocation list about keys'
-complete -c ssh-keygen -n '__krl_keygen_lacks k Q u s z' -s E -x -a 'md5 sha256' -d 'Hash of fingerprints'
+complete -c ssh-keygen -n '__krl_keygen_lacks L k Q E u s z' -s Q \
+  -d 'Ask a revocation list about keys'
+complete -c ssh-keygen -n '__krl_keygen_lacks k Q u s z' -s E -x -a 'md5 sha256' \
+  -d 'Hash of fingerprints'
 complete -c ssh-keygen -s f -rF -d 'The key file, or the revocation list'
-complete -c ssh-keygen -n '__krl_keygen_lacks l L Q E u' -s u -d 'Keep what the list revokes already'
-complete -c ssh-keygen -n '__krl_keygen_lacks l L Q E' -s s -rF -a none -d 'Authority of serial numbers'
+complete -c ssh-keygen -n '__krl_keygen_lacks l L Q E u' -s u \
+  -d 'Keep what the list revokes already'
+complete -c ssh-keygen -n '__krl_keygen_lacks l L Q E' -s s -rF -a none \
+  -d 'Authority of serial numbers'
 complete -c ssh-keygen -n '__krl_keygen_lacks l L Q E' -s z -x -d 'Version number of the list'

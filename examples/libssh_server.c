@@ -4,7 +4,8 @@
  *   ./libssh_server PORT HOST_KEY authorized_keys revoked.krl
  *
  * It listens on the loopback, and answers "let in" to a client that asks it to run a command. Your
- * own server with libssh needs the code before the comment "The server": it decides about the key. */
+ * own server with libssh needs the code before the comment "The server", which decides about the
+ * key. */
 #define _GNU_SOURCE
 #include <krl.h>
 #include <libssh/callbacks.h>
@@ -39,8 +40,8 @@ static bool is_not_revoked(const char *line) {
     return answer == KRL_OK;
 }
 
-/* Whether a line of the file begins with this one, a type and a key. Lines with options are skipped,
- * since this server knows none. */
+/* Whether a line of the file begins with this one, a type and a key. Lines with options are
+ * skipped, since this server knows none. */
 static bool is_allowed(const char *line) {
     FILE *file = fopen(allowed, "r");
     size_t length = strlen(line), room = 0;

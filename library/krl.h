@@ -102,7 +102,8 @@ int32_t krl_check_line(const uint8_t *list, size_t list_length,
 int32_t krl_why(const uint8_t *list, size_t list_length,
                 const uint8_t *blob, size_t blob_length);
 
-/* The reasons. An entry of the list is the key, or a hash of it; for a certificate, its plain key. */
+/* The reasons. An entry of the list is the key, or a hash of it. The key of a certificate is its
+ * plain key. */
 #define KRL_WHY_KEY 1
 #define KRL_WHY_KEY_SHA1 2
 #define KRL_WHY_KEY_SHA256 4

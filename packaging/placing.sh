@@ -34,7 +34,8 @@ place() {
     ! is_there "$file" || is_ours "$file" || others="$others $root/${file#./}"
   done
   [ -z "$others" ] || [ -n "$2" ] ||
-    refuse 'these were not installed from here, or were changed since, and are left as they are:' $others \
+    refuse 'these were not installed from here, or were changed since, and are left as they are:' \
+      $others \
       'to replace them give FORCE=1; to install beside them give another name or PREFIX'
   for file in $files; do
     mkdir -p "$root/$(dirname "$file")"

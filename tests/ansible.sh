@@ -21,7 +21,8 @@ host() {
   mkdir -p "$ssh"/ssh{,d}_config.d
   "$openssh" -q -t ed25519 -N '' -C "$1" -f "$ssh/ssh_host_ed25519_key"
   cp user-ca.pub "$ssh/user_ca.pub"
-  printf '%s\n' "Include $ssh/sshd_config.d/*.conf" "HostKey $ssh/ssh_host_ed25519_key" >"$ssh/sshd_config"
+  printf '%s\n' "Include $ssh/sshd_config.d/*.conf" "HostKey $ssh/ssh_host_ed25519_key" \
+    >"$ssh/sshd_config"
   echo "Include $ssh/ssh_config.d/*.conf" >"$ssh/ssh_config"
   echo "$1 krl_root=$PWD/$1" >>inventory
 }
@@ -45,8 +46,10 @@ version() {
 plays() {
   local wanted=$1
   shift
-  PATH=$PWD/tools:$PATH HOME=$PWD ANSIBLE_CONFIG=$PWD/ansible.cfg ANSIBLE_NOCOLOR=1 ANSIBLE_PIPELINING=1 \
-    timeout 300 ansible-playbook -i "${inventory:-inventory}" -e '{"krl_serial": [1, "100%"]}' "$@" "$top/examples/ansible/krl.yml" \
+  PATH=$PWD/tools:$PATH HOME=$PWD ANSIBLE_CONFIG=$PWD/ansible.cfg ANSIBLE_NOCOLOR=1 \
+    ANSIBLE_PIPELINING=1 \
+    timeout 300 ansible-playbook -i "${inventory:-inventory}" -e '{"krl_serial": [1, "100%"]}' \
+    "$@" "$top/examples/ansible/krl.yml" \
     >output 2>&1 </dev/null
   differs 'status' "$wanted" $?
 }
@@ -60,7 +63,8 @@ recap() {
 in_force() {
   local name got=
   for name in first second; do
-    got+=" $(od -An -j 12 -N 8 -t u8 --endian=big $name/etc/ssh/revoked.krl 2>/dev/null | tr -d ' ')"
+    got+=" $(od -An -j 12 -N 8 -t u8 --endian=big $name/etc/ssh/revoked.krl \
+      2>/dev/null | tr -d ' ')"
   done
   differs 'versions in force' "$*" "${got:1}"
 }
@@ -78,7 +82,8 @@ plays_ill() {
 
 # What the playbook must never touch: the configuration of this machine.
 of_machine() {
-  find /etc/ssh /usr/local/bin /usr/local/sbin -type f -printf '%p %m %T@ ' -exec sha256sum {} + 2>/dev/null
+  find /etc/ssh /usr/local/bin /usr/local/sbin -type f -printf '%p %m %T@ ' -exec sha256sum {} \
+    + 2>/dev/null
 }
 before=$(of_machine)
 
@@ -96,12 +101,15 @@ judge 'a list is put in force' "$(
   differs 'steps' 2 "$(grep -c '^PLAY \[' output)"
   for name in first second; do
     differs 'mode' 644 "$(stat -c %a $name/etc/ssh/revoked.krl)"
-    differs 'sshd' "RevokedKeys $PWD/$name/etc/ssh/revoked.krl" "$(cat $name/etc/ssh/sshd_config.d/*)"
-    differs 'ssh' "RevokedHostKeys $PWD/$name/etc/ssh/revoked.krl" "$(cat $name/etc/ssh/ssh_config.d/*)"
+    differs 'sshd' "RevokedKeys $PWD/$name/etc/ssh/revoked.krl" \
+      "$(cat $name/etc/ssh/sshd_config.d/*)"
+    differs 'ssh' "RevokedHostKeys $PWD/$name/etc/ssh/revoked.krl" \
+      "$(cat $name/etc/ssh/ssh_config.d/*)"
     grep -q "$name has version 10" output || echo "  the version of $name is not reported"
   done
 )"
-judge 'the same list again changes nothing' "$(plays 0 && differs 'changed' 'first=0 second=0' "$(recap changed)")"
+judge 'the same list again changes nothing' \
+  "$(plays 0 && differs 'changed' 'first=0 second=0' "$(recap changed)")"
 version 20 leaver.pub
 judge 'a check changes nothing' "$(plays 0 --check && in_force 10 10)"
 judge 'a newer list is put in force' "$(plays 0 && in_force 20 20)"
@@ -138,7 +146,8 @@ serve
   sed -n '/^\[all:vars/,$p' inventory | grep -v ansible_connection
   echo "ansible_ssh_private_key_file=$room/login"
   echo "ansible_remote_tmp=$PWD/remote"
-  echo "ansible_ssh_common_args=-F none -o StrictHostKeyChecking=no -o UserKnownHostsFile=/dev/null -o IdentityAgent=none"
+  echo 'ansible_ssh_common_args=-F none -o StrictHostKeyChecking=no' \
+    '-o UserKnownHostsFile=/dev/null -o IdentityAgent=none'
 } >by_ssh
 inventory=by_ssh
 version 40

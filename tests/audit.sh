@@ -27,7 +27,9 @@ audits() {
 says() {
   printf '# a file\n%s\n%s\n' "$2" "$b" >file
   "$program" audit -a -f r.krl file >"$scratch/output" 2>"$scratch/error"
-  judge "$1" "$(differs 'what is said' "$(lines_of ${3:+"file:2: $3"} "file:3: $ok_b")" "$(cat "$scratch/output")")"
+  judge "$1" \
+    "$(differs 'what is said' "$(lines_of ${3:+"file:2: $3"} "file:3: $ok_b")" \
+    "$(cat "$scratch/output")")"
 }
 says 'a plain key' "$g" "$by_g"
 says 'a key with a comment' "$g a comment" "$by_g: a comment"
@@ -49,7 +51,8 @@ says 'a type that is not known' 'ssh-ed448 AAAA' "$no_type"
 says 'base64 that is cut' "${g:0:58}" 'unread: the key is not whole base64'
 says 'no base64' 'ssh-ed25519 !!!!' 'unread: the key is not whole base64'
 says 'a key of another type' "ssh-rsa ${g#* }" 'unread: the key is of another type'
-dsa=$(words ssh-dss)$(string 00"$(repeat 128 81)")$(string 00"$(repeat 20 81)")$(string 03)$(string 05)
+dsa=$(words ssh-dss)$(string 00"$(repeat 128 81)")$(string 00"$(repeat 20 81)")
+dsa+=$(string 03)$(string 05)
 says 'a DSA key' "$(line ssh-dss "$dsa")" "ok: ssh-dss $(fingerprint "$dsa")"
 device=$(words sk-ssh-ed25519@openssh.com)$(string "$(repeat 32 33)")$(words ssh:)
 says 'a security key' "$(line sk-ssh-ed25519@openssh.com "$device")" \
@@ -70,20 +73,23 @@ audits 'an empty file' 0 '1 file, 0 keys: 0 revoked in 0 files, 0 unread' '' emp
 cert=$(certificate "$B" "$A" 0000000000000007 'a "b"')
 line ssh-ed25519-cert-v01@openssh.com "$cert" me >cert
 audits 'a certificate of a CA that is revoked' 1 '1 file, 1 key: 1 revoked in 1 file, 0 unread' \
-  "cert:1: revoked: ssh-ed25519-cert-v01@openssh.com $(fingerprint "$B") by the key of its CA: me" cert
+  "cert:1: revoked: ssh-ed25519-cert-v01@openssh.com $(fingerprint "$B") by the key of its CA: me" \
+  cert
 line ssh-ed25519 "$A" >a.pub
 printf 'serial: 7\nid: a "b"\n' >of_one
 printf 'serial: 7\nid: a "b"\nsha1: %s\nsha256: %s\nkey: %s\n' "$b" "$b" "$b" >of_all
 "$openssh" -q -k -f every.krl -s a.pub of_one && "$openssh" -q -k -u -f every.krl -s none of_all
 said=$("$program" audit -f every.krl cert 2>/dev/null)
-wanted="cert:1: revoked: ssh-ed25519-cert-v01@openssh.com $(fingerprint "$B") by its key, by its SHA-1, by its SHA-256"
+wanted="cert:1: revoked: ssh-ed25519-cert-v01@openssh.com $(fingerprint "$B")"
+wanted+=' by its key, by its SHA-1, by its SHA-256'
 for it in 'serial 7' 'key ID "a \"b\""'; do
   wanted+=", by $it of CA $(fingerprint "$A"), by $it of all CAs"
 done
 judge 'all reasons at once' "$(differs 'what is said' "$wanted: me" "$said")"
 
 # Files and directories.
-"$openssh" -q -t ed25519 -N '' -C me -f private && "$openssh" -q -t ed25519 -N secret -C me -f locked
+"$openssh" -q -t ed25519 -N '' -C me -f private && "$openssh" -q -t ed25519 -N secret \
+  -C me -f locked
 mkdir -p home/.ssh home/B home/a home/linked
 for it in authorized_keys authorized_keys2 known_hosts known_hosts2 ssh_known_hosts x.pub; do
   echo "$g" >"home/.ssh/$it"
@@ -97,7 +103,8 @@ ln -s "$PWD/home/B" home/linked/B
 key_of() {
   echo "ok: ssh-ed25519 $("$openssh" -lf "$1.pub" | cut -d ' ' -f 2)"
 }
-audits 'a directory' 1 '11 files, 11 keys: 8 revoked in 8 files, 0 unread' "home/.ssh/authorized_keys:1: $by_g
+audits 'a directory' 1 '11 files, 11 keys: 8 revoked in 8 files, 0 unread' \
+  "home/.ssh/authorized_keys:1: $by_g
 home/.ssh/authorized_keys2:1: $by_g
 home/.ssh/id_plain:1: $(key_of private): me
 home/.ssh/known_hosts:1: $by_g
@@ -110,7 +117,8 @@ home/a/link.pub:1: $by_g: \\x9b1m\\xff
 home/a/x.pub:1: $ok_b" -a home
 audits 'a directory that a link names' 1 '1 file, 1 key: 1 revoked in 1 file, 0 unread' \
   "home/linked/B/known_hosts:1: $by_a" home/linked/B
-audits 'a slash at the end' 1 '1 file, 1 key: 1 revoked in 1 file, 0 unread' "home/B/known_hosts:1: $by_a" home/B/
+audits 'a slash at the end' 1 '1 file, 1 key: 1 revoked in 1 file, 0 unread' \
+  "home/B/known_hosts:1: $by_a" home/B/
 audits 'a file of another name that is named' 1 '1 file, 1 key: 1 revoked in 1 file, 0 unread' \
   "home/.ssh/key:1: $by_g" home/.ssh/key
 audits 'a file twice' 1 '2 files, 2 keys: 2 revoked in 2 files, 0 unread' "marked:1: $by_g
@@ -130,7 +138,8 @@ audits 'a file of 16 MiB' 1 '1 file, 1 key: 1 revoked in 1 file, 0 unread' "long
 mkdir odd && cd odd || exit 1
 mkfifo authorized_keys id_pipe pipe
 python3 -c 'import socket; socket.socket(socket.AF_UNIX).bind("known_hosts")'
-ln -s loop.pub loop.pub && ln -s gone dangling.pub && ln -s ../nothing directory.pub && ln -s ../high id_link
+ln -s loop.pub loop.pub && ln -s gone dangling.pub && ln -s ../nothing directory.pub &&
+  ln -s ../high id_link
 mkdir $'\x1b[31m' && echo "$g" >$'\x1b[31m/a\nb\rc.pub'
 echo "$g" >$'\xe9.pub' && echo "$g" >$'caf\xe9'
 cd ..
@@ -143,7 +152,8 @@ odd/known_hosts: unread: no regular file
 odd/loop.pub: unread: Too many levels of symbolic links
 odd/\\xe9.pub: unread: it cannot be opened" odd
 cp "$(realpath -- "${KRL:-$top/built/krl}")" built
-mkdir -p closed/in && echo "$g" >closed/x.pub && echo "$g" >closed/in/x.pub && chmod 000 closed/x.pub closed/in
+mkdir -p closed/in && echo "$g" >closed/x.pub && echo "$g" >closed/in/x.pub &&
+  chmod 000 closed/x.pub closed/in
 chmod 755 "$scratch" built
 ask=(./built)
 [ "$(id -u)" != 0 ] || ask=(setpriv --reuid=65534 --regid=65534 --clear-groups ./built)
@@ -151,7 +161,8 @@ said=$("${ask[@]}" audit -f r.krl closed 2>&1)
 judge 'what may not be read' "$(differs status 3 $?
   differs 'what is said' 'closed/in: unread: Permission denied
 closed/x.pub: unread: Permission denied
-krl audit: 2 files, 0 keys: 0 revoked in 0 files, 2 unread (list version 1, 1970-01-01T00:00:00Z)' "$said")"
+krl audit: 2 files, 0 keys: 0 revoked in 0 files, 2 unread (list version 1, 1970-01-01T00:00:00Z)' \
+  "$said")"
 chmod 755 closed/in
 # A directory in a directory, as deep as a path can be, and deeper than Linux opens one.
 python3 - <<'END'
@@ -167,7 +178,8 @@ judge 'directories too deep to be opened' "$(differs status 3 $?
   differs lines 2 "$(wc -l <"$scratch/output")")"
 rm -rf deep
 mkdir many && (cd many && seq -f 'k%.0f.pub' 3000 | xargs touch && echo "$g" >k1500.pub)
-audits 'many files' 1 '3000 files, 1 key: 1 revoked in 1 file, 0 unread' "many/k1500.pub:1: $by_g" many
+audits 'many files' 1 '3000 files, 1 key: 1 revoked in 1 file, 0 unread' \
+  "many/k1500.pub:1: $by_g" many
 
 # Names from a file.
 printf '%s\0' marked home/B gone odd/authorized_keys $'\xe9' >names
@@ -180,8 +192,10 @@ audits 'names of standard input, the last without its end' 1 \
   '3 files, 2 keys: 2 revoked in 2 files, 0 unread' "marked:1: $by_g
 home/B/known_hosts:1: $by_a" --files0-from - home/B < <(printf 'marked\0empty')
 audits 'no name' 0 '0 files, 0 keys: 0 revoked in 0 files, 0 unread' '' --files0-from empty
-expect 'names that cannot be opened' 255 '' $'krl: none/names: file 1 Open\n' audit -f r.krl --files0-from none/names
-expect 'names that cannot be read' 255 '' $'krl: nothing: file 2 Read\n' audit -f r.krl --files0-from nothing
+expect 'names that cannot be opened' 255 '' $'krl: none/names: file 1 Open\n' audit -f r.krl \
+  --files0-from none/names
+expect 'names that cannot be read' 255 '' $'krl: nothing: file 2 Read\n' audit -f r.krl \
+  --files0-from nothing
 
 # Options and statuses.
 audits 'nothing is revoked' 0 '1 file, 1 key: 0 revoked in 0 files, 0 unread' '' home/a/x.pub
@@ -195,7 +209,8 @@ expect 'a list that is not there' 255 '' $'krl: no.krl: file 1 Open\n' audit -f 
 expect 'a list that is none' 255 '' $'krl: marked: krl 1 Magic\n' audit -f marked marked
 bytes "$H" 02 >cut.krl
 expect 'a list that is cut' 255 '' $'krl: cut.krl: krl 3 EndsEarly\n' audit -f cut.krl gone
-expect 'a list of a name that moves the terminal' 255 '' $'krl: \\x1b[2J: file 1 Open\n' audit -f $'\e[2J' a
+expect 'a list of a name that moves the terminal' 255 '' $'krl: \\x1b[2J: file 1 Open\n' audit \
+  -f $'\e[2J' a
 expect_text 'no words' 2 error
 expect_text 'no list' 2 error audit marked
 expect_text 'nothing to audit' 2 error audit -f r.krl
@@ -203,7 +218,8 @@ expect_text 'an option that is not known' 2 error audit -f r.krl -Q marked
 expect_text 'help' 0 output -h
 expect_text 'help for audit' 0 output audit --help
 expect 'the version' 0 "krl $("$keygen" --version | sed 's/.* //')"$'\n' '' --version
-judge 'no word of a refusal moves the terminal' "$("$program" audit -f r.krl $'--\e[2J' 2>&1 | grep -n $'\e')"
+judge 'no word of a refusal moves the terminal' \
+  "$("$program" audit -f r.krl $'--\e[2J' 2>&1 | grep -n $'\e')"
 for it in /dev/full closed; do
   if [ $it = closed ]; then
     "$program" audit -f r.krl marked >&- 2>"$scratch/error"
@@ -214,7 +230,8 @@ for it in /dev/full closed; do
     differs 'standard error' 'krl: output: output 1 Write after 0 bytes' "$(cat "$scratch/error")")"
 done
 "$program" audit -f r.krl marked 2>&- >"$scratch/output"
-judge 'an error output that is closed' "$(differs status 1 $?; differs output "marked:1: $by_g" "$(cat "$scratch/output")")"
+judge 'an error output that is closed' \
+  "$(differs status 1 $?; differs output "marked:1: $by_g" "$(cat "$scratch/output")")"
 
 # JSON. The expected objects are made from the same values as the lines above, and another reader
 # reads them.
@@ -236,26 +253,30 @@ END
   )"
 }
 key_g="\"type\":\"ssh-ed25519\",\"fingerprint\":\"$(fingerprint "$G")\""
-list_of_g="\"list\":{\"file\":\"r.krl\",\"version\":\"1\",\"generated\":\"1970-01-01T00:00:00Z\",\"sha256\":\"$(
-  sha256sum r.krl | cut -d ' ' -f 1)\"}"
+list_of_g='"list":{"file":"r.krl","version":"1","generated":"1970-01-01T00:00:00Z",'
+list_of_g+="\"sha256\":\"$(sha256sum r.krl | cut -d ' ' -f 1)\"}"
 ends_with() {
   echo "{\"status\":\"done\",\"files\":$1,\"keys\":$2,\"revoked\":$3,\"unread\":$4,$list_of_g}"
 }
 by_key='"reasons":[{"by":"key"}]'
 printf 'no-pty %s \xc3\xa9"\\\n\n# none\ngarbage\n' "$g" >authorized_keys
-objects 'objects of lines' 1 "{\"file\":\"authorized_keys\",\"line\":1,\"status\":\"revoked\",$key_g,\
+objects 'objects of lines' 1 \
+  "{\"file\":\"authorized_keys\",\"line\":1,\"status\":\"revoked\",$key_g,\
 \"comment\":\"\u00e9\\\"\\\\\",\"options\":\"no-pty\",$by_key}
 {\"file\":\"authorized_keys\",\"line\":4,\"status\":\"unread\",\"fault\":\"line 1 NoKey\",\
 \"why\":\"no key type stands there\"}
 $(ends_with 1 1 1 1)" -f r.krl authorized_keys
 printf '@cert-authority a.example,b.example %s\n' "$g" >known_hosts
-objects 'an object of a known host' 1 "{\"file\":\"known_hosts\",\"line\":1,\"status\":\"revoked\",$key_g,\
+objects 'an object of a known host' 1 \
+  "{\"file\":\"known_hosts\",\"line\":1,\"status\":\"revoked\",$key_g,\
 \"comment\":\"\",\"marker\":\"@cert-authority\",\"hosts\":\"a.example,b.example\",$by_key}
 $(ends_with 1 1 1 0)" -f r.krl known_hosts
-objects 'a comment that is not UTF-8 in base64' 1 "{\"file\":\"high\",\"line\":1,\"status\":\"revoked\",$key_g,\
+objects 'a comment that is not UTF-8 in base64' 1 \
+  "{\"file\":\"high\",\"line\":1,\"status\":\"revoked\",$key_g,\
 \"comment_base64\":\"$(printf '\x9b1m\xff' | base64)\",$by_key}
 $(ends_with 1 1 1 0)" -f r.krl high
-objects 'an object of a file' 3 "{\"file\":\"gone\",\"status\":\"unread\",\"fault\":\"file 1 Open\",\
+objects 'an object of a file' 3 \
+  "{\"file\":\"gone\",\"status\":\"unread\",\"fault\":\"file 1 Open\",\
 \"why\":\"No such file or directory\"}
 $(ends_with 1 0 0 1)" -f r.krl gone
 objects 'no file at all' 0 "$(ends_with 0 0 0 0)" -f r.krl nothing
@@ -269,7 +290,8 @@ by_names='{"by":"serial","serial":"7","authority":A},{"by":"serial","serial":"7"
 {"by":"id","id":"a \"b\"","authority":A},{"by":"id","id":"a \"b\"","authority":"all"}'
 by_names=${by_names//A\}/"\"$(fingerprint "$A")\"}"}
 "$program" audit --json -f every.krl cert 2>/dev/null | head -n 1 >"$scratch/output"
-judge 'the object of a certificate' "$(python3 - "$scratch/output" "$by_names" "$(fingerprint "$A")" <<'END'
+judge 'the object of a certificate' \
+  "$(python3 - "$scratch/output" "$by_names" "$(fingerprint "$A")" <<'END'
 import json, sys
 got = json.loads(open(sys.argv[1]).read())
 reasons = [{"by": "key"}, {"by": "sha1"}, {"by": "sha256"}] + json.loads("[%s]" % sys.argv[2])
@@ -283,7 +305,8 @@ END
 # The example of the manual page.
 cp -r "$top/demo/audit" demo && cd demo || exit 1
 manual=$top/docs/krl.1
-example=$(sed 's/\\e/\\/g' "$manual" | awk '/^\.Bd -literal/ { on = 1; next } /^\.Ed/ { on = 0 } on' |
+example=$(sed 's/\\e/\\/g' "$manual" |
+  awk '/^\.Bd -literal/ { on = 1; next } /^\.Ed/ { on = 0 } on' |
   awk '/^\$ / { on = 1 } on; /^1$/ { exit }')
 program=$keygen transcript 'the example of the manual page' <<<"$example"
 cd ..

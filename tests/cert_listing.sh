@@ -36,12 +36,15 @@ listed() {
 # now NAME ANSWER FILE: whether the certificate is valid now.
 now() {
   run -L -f "$3"
-  judge "$1" "$(differs 'valid now' "        Valid now: $2" "$(printf %s "$got_output" | grep '^        Valid now: ')")"
+  judge "$1" \
+    "$(differs 'valid now' "        Valid now: $2" \
+    "$(printf %s "$got_output" | grep '^        Valid now: ')")"
 }
 
 for kind in rsa:2048 ecdsa:384 ed25519:256; do
   rm -f "authority-${kind%:*}"*
-  "$openssh" -q -t "${kind%:*}" -b "${kind#*:}" -N '' -C '' -f "authority-${kind%:*}" >"$scratch/error" 2>&1 ||
+  "$openssh" -q -t "${kind%:*}" -b "${kind#*:}" -N '' -C '' -f "authority-${kind%:*}" \
+    >"$scratch/error" 2>&1 ||
     judge "OpenSSH makes an authority of ${kind%:*}" "  $(cat "$scratch/error")"
 done
 
@@ -61,10 +64,12 @@ certified() {
 for kind in rsa:1024 rsa:3072 dsa:1024 ecdsa:256 ecdsa:384 ecdsa:521 ed25519:256; do
   key=listed-${kind/:/-}
   rm -f "$key"*
-  "$openssh" -q -t "${kind%:*}" -b "${kind#*:}" -N '' -C 'a comment' -f "$key" >"$scratch/error" 2>&1 || continue
+  "$openssh" -q -t "${kind%:*}" -b "${kind#*:}" -N '' -C 'a comment' -f "$key" >"$scratch/error" \
+    2>&1 || continue
   for authority in rsa ecdsa ed25519; do
     certified "$key for a user by $authority" "$key" $authority -I "id of $key"
-    certified "$key for a host by $authority" "$key" $authority -h -I 'a "b" \c' -n host.example,10.0.0.1 -z 7
+    certified "$key for a host by $authority" "$key" $authority -h -I 'a "b" \c' \
+      -n host.example,10.0.0.1 -z 7
   done
 done
 
@@ -75,7 +80,8 @@ certified 'many principals' $key ed25519 -I id -n "$(seq -s, 1 200)"
 certified 'options and extensions' $key ed25519 -I id -O force-command='ls -l' \
   -O source-address=10.0.0.0/8,::1 -O no-pty -O no-agent-forwarding
 certified 'no extension' $key ed25519 -I id -O clear
-certified 'unknown options' $key ed25519 -I id -O clear -O critical:a@b=c -O extension:d@e -O extension:f@g=h
+certified 'unknown options' $key ed25519 -I id -O clear -O critical:a@b=c -O extension:d@e \
+  -O extension:f@g=h
 for algorithm in rsa-sha2-256 rsa-sha2-512; do
   certified "signed by $algorithm" $key rsa -I id -t $algorithm
 done

@@ -27,7 +27,8 @@ sign() {
 keys=()
 # subject NAME TYPE [BITS]: a key to be signed. Not every version makes every type.
 subject() {
-  if "$openssh" -q -t "$2" ${3:+-b "$3"} -N '' -C "the comment of $1" -f "$1" >"$scratch/error" 2>&1; then
+  if "$openssh" -q -t "$2" ${3:+-b "$3"} -N '' -C "the comment of $1" \
+    -f "$1" >"$scratch/error" 2>&1; then
     keys+=("$1")
   fi
 }
@@ -57,7 +58,8 @@ sign ecdsa256 ca-rsa -I long -z 3 -n "$(printf 'x%.0s' {1..900})" -t rsa-sha2-51
 
 for cert in "${certs[@]}"; do
   for hash in sha256 md5; do
-    expect "$cert listed by $hash" 0 "$("$openssh" -l -E $hash -f "$cert")"$'\n' '' -l -E $hash -f "$cert"
+    expect "$cert listed by $hash" 0 "$("$openssh" -l -E $hash -f "$cert")"$'\n' '' \
+      -l -E $hash -f "$cert"
   done
 done
 

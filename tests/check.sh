@@ -28,7 +28,8 @@ canary: b.pub: 0 of 1 keys are revoked, $zeros" --canary b.pub r.krl
 cat b.pub g.pub >both
 checks 'a file with one revoked key of two' 1 "both:2: $by_g
 keep: both: 1 of 2 keys are revoked, $zeros" --keep both r.krl
-checks 'a canary of two keys, of which one is revoked' 1 "both:1: ok: ssh-ed25519 $(fingerprint "$B"): bob
+checks 'a canary of two keys, of which one is revoked' 1 \
+  "both:1: ok: ssh-ed25519 $(fingerprint "$B"): bob
 canary: both: 1 of 2 keys are revoked, $zeros" --canary both r.krl
 cat g.pub a.pub >two
 checks 'a canary of two keys' 0 '' --canary two r.krl
@@ -36,14 +37,17 @@ checks 'a canary of two keys' 0 '' --canary two r.krl
 checks 'a file with a line that is not read' 1 "wrong:2: unread: no key type stands there
 keep: wrong: 0 of 1 keys are revoked, 1 lines are not read" --keep wrong r.krl
 { cat a.pub && echo garbage; } >wrong
-checks 'a canary with a line that is not read' 1 'canary: wrong: 1 of 1 keys are revoked, 1 lines are not read' \
+checks 'a canary with a line that is not read' 1 \
+  'canary: wrong: 1 of 1 keys are revoked, 1 lines are not read' \
   --canary wrong r.krl
 echo '# nobody' >none
 for word in keep canary; do
-  checks "no key in the file of --$word" 1 "$word: none: 0 of 0 keys are revoked, $zeros" --$word none r.krl
+  checks "no key in the file of --$word" 1 "$word: none: 0 of 0 keys are revoked, $zeros" \
+    --$word none r.krl
 done
 printf '@revoked * %s\n' "$(cat g.pub)" >marked
-checks 'a canary that its line calls revoked' 1 "canary: marked: 0 of 1 keys are revoked, $zeros" --canary marked r.krl
+checks 'a canary that its line calls revoked' 1 "canary: marked: 0 of 1 keys are revoked, $zeros" \
+  --canary marked r.krl
 checks 'a file that is missing' 255 "gone: unread: No such file or directory
 keep: gone: 0 of 0 keys are revoked, 1 lines are not read
 canary: gone: 0 of 0 keys are revoked, 1 lines are not read" --keep gone --canary gone r.krl
@@ -63,7 +67,8 @@ version ffffffffffffffff >last.krl
 checks 'a version above' 0 '' --newer-than 7.krl 8.krl
 checks 'the same version' 0 '' --newer-than 8.krl 8.krl
 checks 'a version below' 1 'version: 7.krl: 7 is below 8' --newer-than 8.krl 7.krl
-checks 'the lowest below the highest' 1 'version: r.krl: 1 is below 18446744073709551615' --newer-than last.krl r.krl
+checks 'the lowest below the highest' 1 'version: r.krl: 1 is below 18446744073709551615' \
+  --newer-than last.krl r.krl
 checks 'the version alone' 0 18446744073709551615 --print-version last.krl
 checks 'the version of another list' 0 7 --print-version 7.krl
 
@@ -72,7 +77,8 @@ bytes "${H:0:80}00000001" >cut.krl
 expect 'a list that is cut' 255 '' $'krl: cut.krl: krl 3 EndsEarly\n' check cut.krl
 expect 'its version' 255 '' $'krl: cut.krl: krl 3 EndsEarly\n' check --print-version cut.krl
 expect 'a list that is missing' 255 '' $'krl: no.krl: file 1 Open\n' check no.krl
-expect 'another list that is missing' 255 '' $'krl: no.krl: file 1 Open\n' check --newer-than no.krl r.krl
+expect 'another list that is missing' 255 '' $'krl: no.krl: file 1 Open\n' check \
+  --newer-than no.krl r.krl
 expect 'a list of plain keys' 255 '' $'krl: two: krl 1 Magic\n' check two
 expect_text 'no list' 2 error check
 expect_text 'two lists' 2 error check r.krl r.krl
@@ -104,11 +110,14 @@ beside 'serial numbers 1 and 0' "$zero" "$(certificates "$A" "20$(string $first$
 beside 'a range from 1' '' "$(certificates "$A" "21$(string ${first}ffffffffffffffff)")"
 beside 'a range from 0' "$zero" "$(certificates "$A" "21$(string $none$first)")"
 beside 'a bitmap of number 1' '' "$(certificates "$A" "22$(string "$none$(string 02)")")"
-beside 'a bitmap of numbers 0 and 1' "$zero" "$(certificates "$A" "22$(string "$none$(string 03)")")"
-beside 'a bitmap of 2,048 bytes' '' "$(certificates "$A" "22$(string "$first$(string "$(repeat 2048 01)")")")"
+beside 'a bitmap of numbers 0 and 1' "$zero" \
+  "$(certificates "$A" "22$(string "$none$(string 03)")")"
+beside 'a bitmap of 2,048 bytes' '' \
+  "$(certificates "$A" "22$(string "$first$(string "$(repeat 2048 01)")")")"
 beside 'a zero byte and a bitmap of 2,048 bytes' '' \
   "$(certificates "$A" "22$(string "$first$(string "00$(repeat 2048 ff)")")")"
-beside 'a bitmap of 2,049 bytes' "$long" "$(certificates "$A" "22$(string "$first$(string "$(repeat 2049 01)")")")"
+beside 'a bitmap of 2,049 bytes' "$long" \
+  "$(certificates "$A" "22$(string "$first$(string "$(repeat 2049 01)")")")"
 beside 'two zero bytes and a bitmap of 2,048 bytes' "$long" \
   "$(certificates "$A" "22$(string "$first$(string "0000$(repeat 2048 01)")")")"
 beside 'a key ID' '' "$(certificates '' "23$(string "$(words bob '')")")"
@@ -122,10 +131,14 @@ beside 'an authority of no bytes' '' "$(certificates '' "20$(string $first)")"
 beside 'an authority that is no key' "$other" "$(certificates abcd '')"
 beside 'bytes after an authority' "$other" "$(certificates "${A}00" '')"
 exponent=$(string 010001)
-beside 'an RSA key of 1,024 bits' '' "$(certificates "$(rsa "$exponent" "$(string 0080"$(repeat 127 01)")")" '')"
-beside 'an RSA key of 1,023 bits' "$size" "$(certificates "$(rsa "$exponent" "$(string 7f"$(repeat 127 01)")")" '')"
-beside 'an RSA key of 16,384 bits' '' "$(certificates "$(rsa "$exponent" "$(string 0080"$(repeat 2047 01)")")" '')"
-beside 'an RSA key of 16,385 bits' "$size" "$(certificates "$(rsa "$exponent" "$(string 01"$(repeat 2048 01)")")" '')"
+beside 'an RSA key of 1,024 bits' '' \
+  "$(certificates "$(rsa "$exponent" "$(string 0080"$(repeat 127 01)")")" '')"
+beside 'an RSA key of 1,023 bits' "$size" \
+  "$(certificates "$(rsa "$exponent" "$(string 7f"$(repeat 127 01)")")" '')"
+beside 'an RSA key of 16,384 bits' '' \
+  "$(certificates "$(rsa "$exponent" "$(string 0080"$(repeat 2047 01)")")" '')"
+beside 'an RSA key of 16,385 bits' "$size" \
+  "$(certificates "$(rsa "$exponent" "$(string 01"$(repeat 2048 01)")")" '')"
 beside 'an explicit key of no bytes' '' "$(section '')"
 beside 'an explicit key that is none' '' "$(section abcd)"
 
@@ -142,9 +155,12 @@ reads_others() {
 reads_others 'a zero byte at the end of a key ID' 'a key ID has a zero byte' \
   "$(certificates '' "23$(string "$(string "$(text bob)00")")")"
 reads_others 'an authority with a needless zero byte' "$other" \
-  "$(certificates "$(rsa "$(string 00010001)" "$(string 0080"$(repeat 127 01)")")" "20$(string $first)")"
+  "$(certificates "$(rsa "$(string 00010001)" "$(string 0080"$(repeat 127 01)")")" \
+  "20$(string $first)")"
 reads_others 'a zero byte after an application' "$other" \
-  "$(certificates "$(words sk-ssh-ed25519@openssh.com)$(string "$(repeat 32 33)")$(string "$(text ssh:)00")" "20$(string $first)")"
+  "$(certificates \
+  "$(words sk-ssh-ed25519@openssh.com)$(string "$(repeat 32 33)")$(string "$(text ssh:)00")" \
+  "20$(string $first)")"
 
 # Comments.
 for it in '' 61 6100 00; do
@@ -156,7 +172,8 @@ checks 'a zero byte within a comment' 1 'openssh: made.krl: its comment has a ze
 
 # A list of each sort of section, whose last one has the canary. It never passes if it is truncated.
 printf 'serial: 5-100\nserial: 7000\nid: bob\nkey: %s\n' "$(cat g.pub)" >spec
-"$keygen" -k -f whole.krl -s b.pub spec && echo "sha256: $(cat a.pub)" | "$keygen" -k -u -f whole.krl -
+"$keygen" -k -f whole.krl -s b.pub spec && echo "sha256: $(cat a.pub)" |
+  "$keygen" -k -u -f whole.krl -
 checks 'a whole list with its canary' 0 '' --canary a.pub whole.krl
 size=$(stat -c %s whole.krl)
 passed_when_cut=
@@ -164,7 +181,8 @@ for ((at = 0; at < size; at++)); do
   head -c $at whole.krl >made.krl
   "$program" check --canary a.pub made.krl >/dev/null 2>&1 && passed_when_cut+=" $at"
 done
-judge "a list that is cut at each of its $size bytes never passes" "${passed_when_cut:+  it passes at$passed_when_cut}"
+judge "a list that is cut at each of its $size bytes never passes" \
+  "${passed_when_cut:+  it passes at$passed_when_cut}"
 run check --keep b.pub --canary a.pub whole.krl >/dev/full
 judge 'nothing is printed of a list that passes' "$(differs 'its status' 0 $got_status)"
 "$program" check --keep g.pub whole.krl >/dev/full 2>"$scratch/error"

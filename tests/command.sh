@@ -125,7 +125,8 @@ for name in krl-keygen ssh-keygen 'a name' é; do
 done
 for name in '' links/; do
   judge "help of a command called '$name'" "$(
-    differs help "${help//ssh-keygen/krl-keygen}" "$(bash -c 'exec -a "$0" "$1" -h' "$name" "$binary" 2>&1)"
+    differs help "${help//ssh-keygen/krl-keygen}" \
+      "$(bash -c 'exec -a "$0" "$1" -h' "$name" "$binary" 2>&1)"
   )"
 done
 judge 'a command that is called by a name with an escape' "$(
@@ -137,7 +138,8 @@ judge 'an unknown option of a command called krl-keygen' "$(
     "$(links/krl-keygen -Z 2>&1 | grep ^Usage)"
 )"
 judge 'a fault of a command called krl-keygen' \
-  "$(differs 'standard error' 'ssh-keygen: none: file 1 Open' "$(links/krl-keygen -l -f none 2>&1)")"
+  "$(differs 'standard error' 'ssh-keygen: none: file 1 Open' \
+  "$(links/krl-keygen -l -f none 2>&1)")"
 
 version=$("$program" --version 2>/dev/null)
 judge 'the version has three numbers' \
@@ -168,7 +170,8 @@ says_plainly() {
     differs 'standard output' '' "$got_output"
     differs 'bytes that are no letters' '' "$said"
     ! grep -n '^fake' "$scratch/error" || echo '  a word begins a line'
-    [ -z "${wanted:-}" ] || grep -qF -- "$wanted" "$scratch/error" || echo "  it does not say $wanted"
+    [ -z "${wanted:-}" ] || grep -qF -- "$wanted" "$scratch/error" ||
+      echo "  it does not say $wanted"
   )"
 }
 for letter in $'\e' $'\r' $'\n' $'\x7f' $'\u9b'; do
@@ -177,7 +180,8 @@ for letter in $'\e' $'\r' $'\n' $'\x7f' $'\u9b'; do
     -Q -f r.krl "--x${letter}fake.pub: ok$letter"
   says_plainly "letters of options with $shown" "-l${letter}fake"
   says_plainly "a value with $shown for help" "--help=${letter}fake"
-  says_plainly "a file name with $shown beside an option" -l --no "${letter}fake" -f "a${letter}fake"
+  says_plainly "a file name with $shown beside an option" -l --no "${letter}fake" \
+    -f "a${letter}fake"
 done
 # A pattern matches such files too: --x.. is taken for an option.
 touch -- $'--x\nfake.pub (bob@desk): ok\n'

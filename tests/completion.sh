@@ -48,7 +48,8 @@ cd ..
 offers_krl() {
   local name=$1 wanted=$2 got
   shift 2
-  got=$(bash --norc -c '. "$0" && COMP_WORDS=("$@") COMP_CWORD=$(($# - 1)) && _krl && printf "%s\n" "${COMPREPLY[@]}"' \
+  got=$(bash --norc -c '. "$0" && COMP_WORDS=("$@") COMP_CWORD=$(($# - 1)) && _krl &&
+    printf "%s\n" "${COMPREPLY[@]}"' \
     "$top/completions/krl.bash" krl "$@" 2>&1 | sort | paste -sd ,)
   judge "bash is offered $name" "$(differs words "$wanted" "$got")"
 }
@@ -59,7 +60,8 @@ offers_krl 'the options of an audit' --files0-from,--help,--json,--version,-a,-f
 offers_krl 'a list' two.krl audit -f t
 offers_krl 'files to audit' "$every" audit -f two.krl ''
 offers_krl 'a file of names' one.pub audit -f two.krl --files0-from o
-offers_krl 'the options of a check' --canary,--help,--keep,--newer-than,--print-version,--version check -
+offers_krl 'the options of a check' --canary,--help,--keep,--newer-than,--print-version,--version \
+  check -
 offers_krl 'a file to be kept' one.pub check --keep o
 offers_krl 'a list to check' two.krl check --keep one.pub t
 cd ..

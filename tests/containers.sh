@@ -56,9 +56,11 @@ for file in "${containers[@]:0:6}"; do
   { cat "$file" && echo 'text after the end' && cat "$file"; } >longer
   expect "$file with text after its end" 0 "$listed" '' -l -f longer
   sed '$d' "$file" >endless
-  expect "$file without its last line" 255 '' 'ssh-keygen: endless: private 1 Armour'$'\n' -l -f endless
+  expect "$file without its last line" 255 '' 'ssh-keygen: endless: private 1 Armour'$'\n' \
+    -l -f endless
   sed '2s/./=/' "$file" >other
-  expect "$file with a byte that is no base64" 255 '' 'ssh-keygen: other: private 2 Base64'$'\n' -l -f other
+  expect "$file with a byte that is no base64" 255 '' \
+    'ssh-keygen: other: private 2 Base64'$'\n' -l -f other
 done
 
 # The first byte of a private number is changed, so that it is not that of the public key: found by

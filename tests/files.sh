@@ -53,7 +53,8 @@ touch closed && chmod 000 closed
 cp "$binary" built && chmod 755 "$scratch" built
 ask=(./built)
 [ "$(id -u)" != 0 ] || ask=(setpriv --reuid=65534 --regid=65534 --clear-groups ./built)
-program=${ask[0]} fails 'a file without leave to read' '' 'closed: file 1 Open' "${ask[@]:1}" -l -f closed
+program=${ask[0]} fails 'a file without leave to read' '' 'closed: file 1 Open' "${ask[@]:1}" \
+  -l -f closed
 
 control=$'a\tb\x1b\x7f'
 cp g.pub "$control"
@@ -121,7 +122,8 @@ full 'a query of no revoked key on a full device' 255 "$fault" -Q -f r.krl a
 full 'a missing file, reported to a full device' 255 "$fault" -Q -f r.krl g.pub none
 full 'nothing to write on a full device' 0 '' -Q -f r.krl
 full 'help on a full device' 255 "$fault" -h
-expect 'a file whose name has no bytes' 255 '' $'ssh-keygen: : file 1 Open\n' -k -u -f r.krl -s none ''
+expect 'a file whose name has no bytes' 255 '' $'ssh-keygen: : file 1 Open\n' \
+  -k -u -f r.krl -s none ''
 expect 'the same in a query' 255 '' $'ssh-keygen: : file 1 Open\n' -Q -f r.krl ''
 expect 'the same of a list' 255 '' $'ssh-keygen: : file 1 Open\n' -k -u -f '' -s none g.pub
 expect 'the same of an authority' 255 '' $'ssh-keygen: : file 1 Open\n' -k -u -f r.krl -s '' g.pub

@@ -10,7 +10,8 @@ made() {
   shift 2
   PROGRAM=$binary command make -s -C "$top" -o build "$@" DESTDIR="$root" >"$scratch/output" 2>&1
   got=$?
-  judge "$name" "$(differs 'exit status' "$wanted" $got; [ $got = "$wanted" ] || cat "$scratch/output")"
+  judge "$name" \
+    "$(differs 'exit status' "$wanted" $got; [ $got = "$wanted" ] || cat "$scratch/output")"
 }
 # runs NAME PROGRAM: the program that was installed answers.
 runs() {
@@ -18,26 +19,31 @@ runs() {
 }
 # holds NAME FILE..: exactly these files are there.
 holds() {
-  judge "$1" "$(differs files "$(printf '%s\n' "${@:2}" | sort)" "$(cd "$root" && find . -type f | sort)")"
+  judge "$1" \
+    "$(differs files "$(printf '%s\n' "${@:2}" | sort)" "$(cd "$root" && find . -type f | sort)")"
 }
 # of NAME PREFIX: the files that are installed, which are those of krl too.
 of() {
   local it
   for it in "$1" krl; do
     printf "./$2/%s\n" "bin/$it" "share/man/man1/$it.1" "share/bash-completion/completions/$it" \
-      "share/zsh/site-functions/_$it" "share/fish/vendor_completions.d/$it.fish" "share/krl-keygen/$it.sha256"
+      "share/zsh/site-functions/_$it" "share/fish/vendor_completions.d/$it.fish" \
+      "share/krl-keygen/$it.sha256"
   done
 }
 
 made 'make install' 0 install
 holds 'what is installed' $(of krl-keygen usr/local)
 runs 'the installed program' "$root/usr/local/bin/krl-keygen"
+counts='1 file, 1 key: 1 revoked in 1 file, 0 unread'
 program=$root/usr/local/bin/krl expect 'the installed krl' 1 \
   "g.pub:1: revoked: ssh-ed25519 $(fingerprint "$G") by its key"$'\n' \
-  $'krl audit: 1 file, 1 key: 1 revoked in 1 file, 0 unread (list version 1, 1970-01-01T00:00:00Z)\n' audit -f r.krl g.pub
-judge 'the manual page of krl' "$(cmp "$top/docs/krl.1" "$root/usr/local/share/man/man1/krl.1" 2>&1)"
+  "krl audit: $counts (list version 1, 1970-01-01T00:00:00Z)"$'\n' audit -f r.krl g.pub
+judge 'the manual page of krl' \
+  "$(cmp "$top/docs/krl.1" "$root/usr/local/share/man/man1/krl.1" 2>&1)"
 judge 'the manual page has the name of the program' \
-  "$(grep -n -e 'Nm ssh-keygen' -e 'SSH-KEYGEN' -e 'ssh-keygen -[a-zA-Z]' "$root/usr/local/share/man/man1/krl-keygen.1")"
+  "$(grep -n -e 'Nm ssh-keygen' -e 'SSH-KEYGEN' -e 'ssh-keygen -[a-zA-Z]' \
+  "$root/usr/local/share/man/man1/krl-keygen.1")"
 for file in bash-completion/completions/krl-keygen zsh/site-functions/_krl-keygen \
   fish/vendor_completions.d/krl-keygen.fish; do
   judge "the name of the program in $file" "$(grep -n ssh-keygen "$root/usr/local/share/$file")"
@@ -60,30 +66,37 @@ rm -r "$root"
 
 mkdir -p "$root/usr/bin" && echo another >"$root/usr/bin/ssh-keygen"
 made 'make install beside OpenSSH' 0 install PREFIX=/usr
-judge 'the program of OpenSSH is left' "$(differs content another "$(cat "$root/usr/bin/ssh-keygen")")"
+judge 'the program of OpenSSH is left' \
+  "$(differs content another "$(cat "$root/usr/bin/ssh-keygen")")"
 holds 'what is installed beside OpenSSH' ./usr/bin/ssh-keygen $(of krl-keygen usr)
 made 'make uninstall beside OpenSSH' 0 uninstall PREFIX=/usr
 made 'make install over another program' 2 install PREFIX=/usr NAME=ssh-keygen
 judge 'the other program and where it is are named' \
-  "$(grep -q "^packaging/install: $root/usr/bin/ssh-keygen$" "$scratch/output" || cat "$scratch/output")"
+  "$(grep -q "^packaging/install: $root/usr/bin/ssh-keygen$" "$scratch/output" ||
+  cat "$scratch/output")"
 judge 'the other program is left' "$(differs content another "$(cat "$root/usr/bin/ssh-keygen")")"
 holds 'nothing beside the other program' ./usr/bin/ssh-keygen
-made 'make install over another program where FORCE says so' 0 install PREFIX=/usr NAME=ssh-keygen FORCE=1
+made 'make install over another program where FORCE says so' 0 install PREFIX=/usr \
+  NAME=ssh-keygen FORCE=1
 runs 'the program in place of the other' "$root/usr/bin/ssh-keygen"
 rm -r "$root"
 
 # A link of another's at the place of the program: what it leads to stays as it is.
-mkdir -p "$root/usr/bin" && echo another >"$root/usr/bin/real" && ln -s real "$root/usr/bin/ssh-keygen"
+mkdir -p "$root/usr/bin" && echo another >"$root/usr/bin/real" &&
+  ln -s real "$root/usr/bin/ssh-keygen"
 made 'make install over a link' 2 install PREFIX=/usr NAME=ssh-keygen
 made 'make install over a link where FORCE says so' 0 install PREFIX=/usr NAME=ssh-keygen FORCE=1
 judge 'what the link led to is left' "$(differs content another "$(cat "$root/usr/bin/real")")"
-judge 'the program is in place of the link' "$([ ! -L "$root/usr/bin/ssh-keygen" ] || echo '  a link is there')"
+judge 'the program is in place of the link' \
+  "$([ ! -L "$root/usr/bin/ssh-keygen" ] || echo '  a link is there')"
 runs 'the program in place of a link' "$root/usr/bin/ssh-keygen"
 rm -r "$root"
 
 # modes NAME FOLDER: all folders and files there are for everybody to read.
 modes() {
-  judge "$1" "$(find "$2" ! -type l ! \( -type d -perm 755 -o -type f -perm 644 -o -type f -path '*/bin/*' -perm 755 \))"
+  judge "$1" \
+    "$(find "$2" ! -type l ! \( -type d -perm 755 -o -type f -perm 644 \
+    -o -type f -path '*/bin/*' -perm 755 \))"
 }
 mkdir "$root" && chmod 755 "$root"
 umask 077
@@ -99,14 +112,17 @@ done
 cp "$note" note
 echo mine >"$root/usr/local/share/krl-keygen/changed"
 made 'make install over an older version' 0 install
-holds 'what is installed over an older version' $(of krl-keygen usr/local) ./usr/local/share/krl-keygen/changed
+holds 'what is installed over an older version' $(of krl-keygen usr/local) \
+  ./usr/local/share/krl-keygen/changed
 cp note "$note"
 made 'make uninstall of an older version' 0 uninstall
 holds 'the file that its user changed' ./usr/local/share/krl-keygen/changed
 rm -r "$root"
 
 # A library with the calls of krl.h, each of which answers 7, and one of the C library.
-for it in 'cc gcc' 'pkg-config pkg-config'; do need $it || judge "${it% *} is there" "  install ${it#* }"; done
+for it in 'cc gcc' 'pkg-config pkg-config'; do
+  need $it || judge "${it% *} is there" "  install ${it#* }"
+done
 version=$(sed -n 's/^#define KRL_VERSION_[A-Z]* //p' "$top/library/krl.h" | paste -s -d .)
 calls=$(sed -n 's/^[a-z].*\(krl_[a-z_]*\)(.*/\1/p' "$top/library/krl.h")
 export LIBRARY=$scratch/library
@@ -124,9 +140,11 @@ judge 'pkg-config says so' "$(differs words '-L/usr/local/lib64 -lkrl' \
   "$(PKG_CONFIG_PATH=$root/usr/local/lib64/pkgconfig pkg-config --libs krl | sed 's/ *$//')")"
 rm -r "$root"
 
-need lintian lintian || judge 'lintian is there' '  install it, on Debian by apt-get install lintian'
+need lintian lintian ||
+  judge 'lintian is there' '  install it, on Debian by apt-get install lintian'
 need strip binutils || judge 'strip is there' '  install it, on Debian by apt-get install binutils'
-need dpkg-shlibdeps dpkg-dev || judge 'dpkg-shlibdeps is there' '  install it, on Debian by apt-get install dpkg-dev'
+need dpkg-shlibdeps dpkg-dev ||
+  judge 'dpkg-shlibdeps is there' '  install it, on Debian by apt-get install dpkg-dev'
 # packed: makes the package.
 packed() {
   PROGRAM=$binary "$top/packaging/deb" "$scratch" >"$scratch/output" 2>&1
@@ -143,14 +161,18 @@ judge 'the name of the package' "$(differs name krl-keygen "$(field Package)")"
 number=$("$binary" --version | sed 's/.* //')
 judge 'its version has the number of the program, the time and the commit' "$(
   commit=$(git -C "$top" rev-parse --short HEAD)
-  [[ "$(field Version)" =~ ^"$number"[+][0-9]{8}[.][0-9]{6}[.]"$commit"([.]changed)?$ ]] || field Version
+  [[ "$(field Version)" =~ ^"$number"[+][0-9]{8}[.][0-9]{6}[.]"$commit"([.]changed)?$ ]] ||
+    field Version
 )"
-judge 'it needs the C library of a version' "$([[ "$(field Depends)" =~ ^'libc6 (>= '[0-9.]+')'$ ]] || field Depends)"
+judge 'it needs the C library of a version' \
+  "$([[ "$(field Depends)" =~ ^'libc6 (>= '[0-9.]+')'$ ]] || field Depends)"
 # The kit decides how it compiles and links, and some bytes of the code look like misspelt words.
 judge 'lintian finds nothing in the package, but for the code of the program' \
   "$(lintian --allow-root --display-info "$package" 2>&1 |
-    grep -v -e '^N:' -e '^I: krl-keygen: hardening-no-' -e '^I: krl-keygen: spelling-error-in-binary')"
-judge 'apt would install it' "$(apt-get --simulate install "$package" >"$scratch/output" 2>&1 || cat "$scratch/output")"
+    grep -v -e '^N:' -e '^I: krl-keygen: hardening-no-' \
+    -e '^I: krl-keygen: spelling-error-in-binary')"
+judge 'apt would install it' \
+  "$(apt-get --simulate install "$package" >"$scratch/output" 2>&1 || cat "$scratch/output")"
 dpkg-deb --extract "$package" "$root"
 modes 'everybody may read what the package has' "$root/usr"
 runs 'the program of the package' "$root/usr/bin/krl-keygen"
@@ -159,15 +181,18 @@ holds 'what the package holds' \
   ./usr/share/man/man1/krl-keygen.1.gz ./usr/share/man/man1/krl.1.gz \
   $(printf './usr/share/doc/krl-keygen/%s\n' README.md NEWS.gz changelog.gz copyright \
     docs/{DECISIONS,FORMATS,GLOSSARY,RECIPES,THEOREMS}.md bench/{README.md,libkrl.md,time.svg}) \
-  $(cd "$top" && find examples/ansible examples/systemd -type f -printf './usr/share/doc/krl-keygen/%p\n') \
+  $(cd "$top" && find examples/ansible examples/systemd -type f \
+  -printf './usr/share/doc/krl-keygen/%p\n') \
   $(cd "$top" && find demo -type f \( ! -name '*.krl' -o -path 'demo/audit/*' \) \
     -printf './usr/share/doc/krl-keygen/examples/%p\n')
 documents=$root/usr/share/doc/krl-keygen
-judge 'each link of its documents leads to a file of it' "$(python3 -B "$tests/lib/links.py" "$documents")"
+judge 'each link of its documents leads to a file of it' \
+  "$(python3 -B "$tests/lib/links.py" "$documents")"
 judge 'its documents name a file that only the sources have' \
   "$(grep -q 'CONTRIBUTING.md of the sources' "$documents/README.md" || echo '  they do not')"
 cp -r "$documents/examples/demo" demo && cd demo || exit 1
-program=$root/usr/bin/krl-keygen expect 'a list is made of its demo files' 0 '' '' -k -f r.krl -s ca.pub revoked
+program=$root/usr/bin/krl-keygen expect 'a list is made of its demo files' 0 '' '' -k -f r.krl \
+  -s ca.pub revoked
 cd .. && rm -r demo
 dpkg-deb --control "$package" "$scratch/control"
 judge 'the package has the sum of each of its files' "$(
@@ -180,7 +205,8 @@ sleep 1
 packed
 judge 'packages of files that were changed differ' \
   "$([[ $first != *.changed ]] || [ "$first" != "$(field Version)" ] || echo "  both are $first")"
-judge 'the folder has the last package alone' "$(differs packages "$package" "$(echo "$scratch"/*.deb)")"
+judge 'the folder has the last package alone' \
+  "$(differs packages "$package" "$(echo "$scratch"/*.deb)")"
 rm "$package"
 
 # The static library of the package can be linked.
@@ -198,9 +224,12 @@ rm -r "$root" "$scratch"/*.deb
 
 # A repository of two commits: a package has the number, the time and the name of the commit that it
 # is made of.
-mkdir two && cp -r "$top"/{packaging,docs,completions,examples,library,demo,bench,README.md,CHANGELOG.md,.gitignore} two
+mkdir two &&
+  cp -r "$top"/{packaging,docs,completions,examples,library,demo,bench} two &&
+  cp "$top"/{README.md,CHANGELOG.md,.gitignore} two
 commit() {
-  git -C two add . && GIT_COMMITTER_DATE="@$1 +0000" git -C two -c user.name=me -c user.email=me@here commit -q -m "$1"
+  git -C two add . && GIT_COMMITTER_DATE="@$1 +0000" git -C two -c user.name=me \
+    -c user.email=me@here commit -q -m "$1"
 }
 git init -q two
 for time in 1000000000 1000000001; do
@@ -222,4 +251,5 @@ done
 echo more >>two/README.md
 PROGRAM=$binary two/packaging/deb "$scratch" >"$scratch/output" 2>&1
 package=$(tail -n 1 "$scratch/output")
-judge 'the package of files that were changed since says so' "$([[ $(field Version) == *.changed ]] || field Version)"
+judge 'the package of files that were changed since says so' \
+  "$([[ $(field Version) == *.changed ]] || field Version)"

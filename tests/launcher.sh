@@ -21,11 +21,13 @@ PATH=/usr/bin:/bin launch 'the launcher without the toolchain' "$launcher"
 # A repository of small crates, in which proving takes a step for each line, and a kit for them.
 away=$scratch/here/away
 mkdir -p away kit/bin kit/c
-cp "$launcher" "$top/krl" "$top/build.py" away/ && mkdir away/packaging && cp "$top/packaging/launch.sh" away/packaging/
+cp "$launcher" "$top/krl" "$top/build.py" away/ && mkdir away/packaging &&
+  cp "$top/packaging/launch.sh" away/packaging/
 cp -r "$top/library" away/
 cp "$top"/tests/lib/kit/* kit/bin/
 echo 'the kit of the tests' >kit/WHAT
-printf '%s\n' 'low: byteorder' 'low_tests: low' side: 'upper: low side' 'aside: low' 'krl_tool: upper aside' \
+printf '%s\n' 'low: byteorder' 'low_tests: low' side: 'upper: low side' 'aside: low' \
+  'krl_tool: upper aside' \
   'krl: low' 'krl_c staticlib: low' >away/crates.txt
 for it in low:6 low_tests:1 side:4 upper:6 aside:3 krl_tool:2 krl:2 krl_c:2; do
   mkdir -p "away/crates/${it%:*}"/{src,specs,proofs}
@@ -49,7 +51,9 @@ said_by() {
 }
 # made_of LOW SIDE: what the program prints, where these are the last lines of the two crates.
 made_of() {
-  echo "made of aside:1,2,3 krl_tool:1,2 low:$(seq -s , "$1") side:$(seq -s , "$2") upper:1,2,3,4,5,6"
+  local low side
+  low=$(seq -s , "$1") side=$(seq -s , "$2")
+  echo "made of aside:1,2,3 krl_tool:1,2 low:$low side:$side upper:1,2,3,4,5,6"
 }
 # proved: which crates were proved since this was asked before, in the order of their ends.
 proved() {
@@ -71,7 +75,8 @@ build() {
 every='low side upper aside krl_tool '
 : >calls
 all=$(said_by 'proving and building, this once: 5 crates' 'proving low: 0 of 5 are proved' \
-  'proving side: 1 of 5 are proved' 'proving upper: 2 of 5 are proved' 'proving aside: 3 of 5 are proved' \
+  'proving side: 1 of 5 are proved' 'proving upper: 2 of 5 are proved' \
+  'proving aside: 3 of 5 are proved' \
   'proving krl_tool: 4 of 5 are proved')
 
 (use "${one[@]}") >said 2>"$scratch/error"
@@ -90,7 +95,8 @@ PATH=$scratch/here/kit/bin:/usr/bin:/bin "${one[@]}" away/krl >said 2>"$scratch/
 judge 'the first use of krl proves what is left' "$(
   differs 'exit status' 0 $?
   differs 'standard output' 'made of krl:1,2 low:1,2,3,4,5,6' "$(cat said)"
-  differs 'standard error' "$(said_by 'proving and building, this once: 2 crates' 'proving krl: 1 of 2 are proved' |
+  differs 'standard error' \
+    "$(said_by 'proving and building, this once: 2 crates' 'proving krl: 1 of 2 are proved' |
     sed 's/^ssh-keygen/krl/')" "$(cat "$scratch/error")"
   differs 'what is proved' 'krl ' "$(proved)"
 )"
@@ -159,7 +165,8 @@ at_work() {
 whole() {
   judge "$1" "$(
     differs 'standard output' "$(made_of 6 4)" "$(cat said)"
-    differs 'what is proved' "$(printf '%s\n' $every | sort)" "$(proved | tr ' ' '\n' | sed '/^$/d' | sort)"
+    differs 'what is proved' "$(printf '%s\n' $every | sort)" \
+      "$(proved | tr ' ' '\n' | sed '/^$/d' | sort)"
     nothing_left
   )"
 }
@@ -193,7 +200,8 @@ judge 'the second of two uses at once' "$(
 hold krl_tool "${one[@]}"
 seq 7 >away/crates/low/src/lib.rt
 go
-build 'a source that changed during the build' 0 "$(made_of 7 4)" any 'low upper aside krl_tool ' "${one[@]}"
+build 'a source that changed during the build' 0 "$(made_of 7 4)" any \
+  'low upper aside krl_tool ' "${one[@]}"
 hold low "${one[@]}"
 seq 6 >away/crates/low/src/lib.rt
 go
@@ -236,7 +244,8 @@ hold low "${one[@]}"
 await grep -qs 'another build is proving low: waiting for that' "$scratch/waiting"
 go
 whole 'the first of two clones at once'
-judge 'the second of two clones at once' "$(differs 'standard output' "$(made_of 6 4)" "$(cat second)")"
+judge 'the second of two clones at once' \
+  "$(differs 'standard output' "$(made_of 6 4)" "$(cat second)")"
 
 anew taskset -c "$(taskset -cp $$ | sed 's/.*[ ,-]//')"
 wait
@@ -254,7 +263,8 @@ judge 'it is proved alone' "$(awk '/begins/ && alone { print "  " $1 " begins be
   /^side begins/ { alone = ++times == 2 } /^side ends/ { alone = 0 }' calls)"
 whole 'a process that is killed for memory'
 judge 'it is proved once more' \
-  "$(grep -q 'ssh-keygen: the process that proves side was killed' "$scratch/error" || cat "$scratch/error")"
+  "$(grep -q 'ssh-keygen: the process that proves side was killed' "$scratch/error" ||
+  cat "$scratch/error")"
 anew env XDG_CACHE_HOME=/dev/null/cache TMPDIR="$scratch/here"
 wait
 judge 'no cache in the home folder' "$(differs 'standard output' "$(made_of 6 4)" "$(cat said)"
@@ -279,7 +289,9 @@ PATH=/usr/bin:/bin program=$away/ssh-keygen expect 'no toolchain and no program'
   'install the Rattle kit that README.md names, and put its folder bin on the PATH')"$'\n'
 
 # library/build, over the same kit: krl_check answers the number in the source of low.
-for it in 'cc gcc' 'objcopy binutils'; do need $it || judge "${it% *} is there" "  install ${it#* }"; done
+for it in 'cc gcc' 'objcopy binutils'; do
+  need $it || judge "${it% *} is there" "  install ${it#* }"
+done
 echo 'void *krl_malloc(unsigned long size) { return (void *)size; }' >heap.pic.c
 cc -fPIC -c heap.pic.c && ar rcs kit/c/liblibc_c.a heap.pic.o
 shared=$away/built/libkrl.so.1.0.0
@@ -296,7 +308,8 @@ library() {
 }
 echo 6 >away/crates/low/src/lib.rt
 library 'the first time' 0 6 'low krl_c '
-judge 'library/build: how far it is' "$(differs 'standard error' 'library/build: proving and building, this once: 2 crates
+judge 'library/build: how far it is' \
+  "$(differs 'standard error' 'library/build: proving and building, this once: 2 crates
 library/build: proving low: 0 of 2 are proved
 library/build: proving krl_c: 1 of 2 are proved' "$(cat "$scratch/error")")"
 library 'nothing changed' 0 6 ''
@@ -335,7 +348,8 @@ judge 'library/build: it says that it waits' "$(differs 'first line' \
 
 # make build, make library and make deb say the same.
 cp "$top/Makefile" away/
-judge 'make deb builds both programs and the library first' "$(differs commands './ssh-keygen -h >/dev/null
+judge 'make deb builds both programs and the library first' \
+  "$(differs commands './ssh-keygen -h >/dev/null
 ./krl -h >/dev/null
 library/build' "$(command make -s -n -C away deb | grep -v '^packaging/')")"
 # make_of TARGET..: makes these.
@@ -351,7 +365,8 @@ ssh-keygen: proving krl_tool: 4 of 5 are proved
 krl: proving and building, this once: 2 crates
 krl: proving krl: 1 of 2 are proved
 library/build: proving and building, this once: 3 crates
-library/build: proving krl_c: 2 of 3 are proved' "$(grep -e 'this once' -e 'proving krl' "$scratch/error")"
+library/build: proving krl_c: 2 of 3 are proved' \
+  "$(grep -e 'this once' -e 'proving krl' "$scratch/error")"
 )"
 for it in build:ssh-keygen library:library/build; do
   sleep 0.1 && touch away/crates.txt
@@ -363,7 +378,8 @@ for it in build:ssh-keygen library:library/build; do
   wait $!
   judge "make ${it%:*} says that it waits" "$(
     differs 'exit status' 0 $?
-    differs 'standard error' "${it#*:}: another build is at work in this folder: waiting for that" "$(cat "$scratch/error")"
+    differs 'standard error' "${it#*:}: another build is at work in this folder: waiting for that" \
+      "$(cat "$scratch/error")"
   )"
   exec 8>&-
 done

@@ -23,7 +23,8 @@ reads 'bytes that are no UTF-8 in a comment' $'\xff\xc0' 'ssh-ed25519 %s \377\30
 reads 'options' c 'no-pty,command="a b" ssh-ed25519 %s c\n'
 reads 'a quote within options' 'no comment' 'command="a \\" b" ssh-ed25519 %s\n'
 reads 'an escaped quote outside quotes' 'no comment' 'a\\"b ssh-ed25519 %s\n'
-reads 'comment lines and empty lines' comment '# first\n\n \t\r\n  # ssh-rsa\nssh-ed25519 %s comment\n#\n\n'
+reads 'comment lines and empty lines' comment \
+  '# first\n\n \t\r\n  # ssh-rsa\nssh-ed25519 %s comment\n#\n\n'
 
 # refuses_line FAULT NAME FORMAT: the text's first line is refused so.
 refuses_line() {
@@ -43,13 +44,16 @@ refuses_line '2 Base64' 'padding too many' 'ssh-ed25519 %s=\n'
 refuses_line '2 Base64' 'unused bits that are not zero' 'ssh-ed25519 %sAB==\n'
 refuses_line '2 Base64' 'a byte that is no digit of base64' 'ssh-ed25519 %s#\n'
 refuses_line '3 WordDiffers' 'another type name' 'ssh-rsa %s\n'
-refuses_line '3 WordDiffers' 'a certificate type before a plain key' 'ssh-ed25519-cert-v01@openssh.com %s\n'
+refuses_line '3 WordDiffers' 'a certificate type before a plain key' \
+  'ssh-ed25519-cert-v01@openssh.com %s\n'
 refuses_line '3 WordDiffers' 'a blob of less than a string' 'ssh-ed25519 AAAA\n'
 
-printf '# one\n\nssh-ed25519 %s first\n  \nssh-rsa %s second\nssh-ed25519 %s third\n' "$word" "$word" "$word" >key
+printf '# one\n\nssh-ed25519 %s first\n  \nssh-rsa %s second\nssh-ed25519 %s third\n' "$word" \
+  "$word" "$word" >key
 expect 'the lines before a fault stand' 255 "$listed first (ED25519)"$'\n' \
   $'ssh-keygen: key: line 5: line 3 WordDiffers\n' -l -f key
 printf 'ssh-ed25519 %s\nssh-ed25519 %s b\n' "$word" "$word" >key
-expect 'a file of two keys is listed' 0 "$listed no comment (ED25519)"$'\n'"$listed b (ED25519)"$'\n' '' -l -f key
+expect 'a file of two keys is listed' 0 \
+  "$listed no comment (ED25519)"$'\n'"$listed b (ED25519)"$'\n' '' -l -f key
 printf 'ssh-ed25519 A' >key
 expect 'a fault in standard input' 255 '' $'ssh-keygen: -: line 1: line 2 Base64\n' -l -f - <key

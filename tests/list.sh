@@ -38,7 +38,8 @@ lists $type "$(words $type && string "$github" && words '')" '256 ED25519-SK'
 refuses() {
   line "$3" "$4" >key
   expect "a key with $2" 255 '' "ssh-keygen: key: line 1: subject $1"$'\n' -l -f key
-  expect "a query of a key with $2" 255 '' "ssh-keygen: key: line 1: subject $1"$'\n' -Q -f h.krl key
+  expect "a query of a key with $2" 255 '' "ssh-keygen: key: line 1: subject $1"$'\n' \
+    -Q -f h.krl key
 }
 
 # refuses_key FAULT NAME TYPE DIGITS: the same, of a plain key.
@@ -50,14 +51,16 @@ refuses_key '1 Wire, wire 1 Short' 'its last byte cut off' ssh-ed25519 "${G%??}"
 refuses_key '1 Wire, wire 2 Negative' 'a negative number' ssh-rsa "$(rsa $three 00000001ff)"
 refuses_key '1 Wire, wire 3 NotShortest' 'a needless zero byte' ssh-rsa "$(rsa $three 00000002007f)"
 refuses_key '1 Wire, wire 3 NotShortest' 'a zero of one byte' ssh-rsa "$(rsa $three 0000000100)"
-refuses_key '3 Curve' 'another curve' ecdsa-sha2-nistp256 "$(ecdsa 256 "04$(repeat 64 5a)" nistp384)"
+refuses_key '3 Curve' 'another curve' ecdsa-sha2-nistp256 \
+  "$(ecdsa 256 "04$(repeat 64 5a)" nistp384)"
 refuses_key '4 Point' 'a compressed point' ecdsa-sha2-nistp256 "$(ecdsa 256 "02$(repeat 64 5a)")"
 refuses_key '4 Point' 'a short point' ecdsa-sha2-nistp256 "$(ecdsa 256 "04$(repeat 63 5a)")"
 refuses_key '5 Length' '31 bytes' ssh-ed25519 "$(ed25519 "${github:2}")"
 refuses_key '6 Number' 'exponent zero' ssh-rsa "$(rsa 00000000 0000000200ff)"
 refuses_key '7 Trailing' 'one more byte' ssh-ed25519 "${G}00"
 refuses_key '8 TooLong' '65,537 bytes' ssh-rsa "$(rsa $three "0000ffed01$(repeat 65516 00)")"
-for type in ssh-rsa ssh-dss ecdsa-sha2-nistp256 ecdsa-sha2-nistp384 ecdsa-sha2-nistp521 ssh-ed25519 \
+for type in ssh-rsa ssh-dss ecdsa-sha2-nistp256 ecdsa-sha2-nistp384 ecdsa-sha2-nistp521 \
+  ssh-ed25519 \
   sk-ecdsa-sha2-nistp256 sk-ssh-ed25519; do
   type=$type-cert-v01@openssh.com
   refuses '2 Cert, cert 1 Wire' "the type $type alone" $type "$(words $type)"

@@ -39,7 +39,9 @@ time_of_list() {
 is_present() {
   local moment=$((16#$(time_of_list))) now
   now=$(date +%s)
-  judge "$1" "$([ $moment -le "$now" ] && [ $moment -gt $((now - 600)) ] || echo "  at $now the list says $moment")"
+  judge "$1" \
+    "$([ $moment -le "$now" ] && [ $moment -gt $((now - 600)) ] ||
+    echo "  at $now the list says $moment")"
 }
 is_present 'its time is the present one'
 # dated VALUE DIGITS: a list that is made or updated under this value of the environment has this
@@ -62,14 +64,17 @@ dated $highest ffffffffffffffff
 for moment in 1600000000 253370764799; do
   dated $moment "$(printf %016x $moment)"
   judge "a list at the time $moment: what -Q -l says" "$(
-    differs time "# Generated at $(date -u -d @$moment +%Y-%m-%dT%H:%M:%SZ)" "$("$program" -Q -l -f made.krl | sed -n 2p)"
+    differs time "# Generated at $(date -u -d @$moment +%Y-%m-%dT%H:%M:%SZ)" \
+      "$("$program" -Q -l -f made.krl | sed -n 2p)"
   )"
 done
-for moment in '' now ' 5' '5 ' +5 -5 5.0 0x10 5e3 18446744073709551616 000000000000000000005 ٥ $'\xff'; do
+for moment in '' now ' 5' '5 ' +5 -5 5.0 0x10 5e3 18446744073709551616 000000000000000000005 \
+  ٥ $'\xff'; do
   SOURCE_DATE_EPOCH=$moment expect "a list at no time, '$moment'" 0 '' '' -k -f made.krl
   is_present "a list at no time, '$moment': its time is the present one"
 done
-line ssh-ed25519-cert-v01@openssh.com "$(certificate "$G" "$A" 0000000000000007 a '' '' 000000005f5e1000)" >past-cert
+line ssh-ed25519-cert-v01@openssh.com \
+  "$(certificate "$G" "$A" 0000000000000007 a '' '' 000000005f5e1000)" >past-cert
 SOURCE_DATE_EPOCH=0 run -L -f past-cert
 judge 'whether a certificate is valid is asked of the clock' \
   "$(differs 'valid now' '        Valid now: no' "$(printf %s "$got_output" | grep 'Valid now')")"
@@ -80,13 +85,15 @@ holds 'a hexadecimal and an octal number' 'serial: 0x10-020\n' 20000000080000000
 holds 'a number three times' 'serial: 5\nserial: 5\nserial: 1-9\n' \
   220000000e00000000000000010000000201ff
 holds 'an interval' 'serial: 1-9\n' 220000000e00000000000000010000000201ff
-holds 'two pairs' 'serial: 1\nserial: 2\nserial: 4\nserial: 5\n' 220000000d0000000000000001000000011b
+holds 'two pairs' 'serial: 1\nserial: 2\nserial: 4\nserial: 5\n' \
+  220000000d0000000000000001000000011b
 holds 'the number 1' 'serial: 1\n' 20000000080000000000000001
 holds 'the numbers 1 and 2' 'serial: 1-2\n' 220000000d00000000000000010000000103
 holds 'a range that a bitmap would not beat' 'serial: 1-24\n' \
   210000001000000000000000010000000000000018
 holds 'a range' 'serial: 1-10000\n' 210000001000000000000000010000000000002710
-holds 'two numbers far apart' 'serial: 1000000\nserial: 1\n' 2000000010000000000000000100000000000f4240
+holds 'two numbers far apart' 'serial: 1000000\nserial: 1\n' \
+  2000000010000000000000000100000000000f4240
 holds '128 odd numbers' "$(seq -f 'serial: %.0f\n' -s '' 1 2 255)" \
   220000002c000000000000000100000020"$(repeat 32 55)"
 holds 'a list and a bitmap' "serial: 1\n$(seq -f 'serial: %.0f\n' -s '' 1000000 2 1000014)" \
@@ -117,7 +124,8 @@ makes 'a certificate' "$(cat cert-7-a)" \
   "${H}01$(string "$(string "$A")$(words '')20000000080000000000000007")" -z 1
 makes 'the key of a certificate' "key: $(cat cert-0-a)" "$H$(section "$G")" -z 1
 makes 'a key, a comment after it' "$(cat g.pub) # c\n" "$H$(section "$G")" -z 1
-makes 'keys in order, each once' "$(cat g.pub)\nkey: $(cat a)\n$(cat g.pub)\n" "$H$(section "$A" "$G")" -z 1
+makes 'keys in order, each once' "$(cat g.pub)\nkey: $(cat a)\n$(cat g.pub)\n" \
+  "$H$(section "$A" "$G")" -z 1
 makes 'the hashes of a key' "SHA1: $(cat a)\nsha256: $(cat a)\n" \
   "${H}03$(string "$(string "$(bytes "$A" | sha1sum | cut -c1-40)")")05$(
     string "$(string "$(bytes "$A" | sha256sum | cut -c1-64)")"
@@ -133,7 +141,8 @@ done
 printf 'id: a\n' >spec
 name='standard input'
 run -k -f made.krl -s none -z 1 g.pub - spec <<<'serial: 5'
-made "${H}01$(string "$(words '' '')2000000008000000000000000523$(string "$(words a)")")$(section "$G")"
+certificates=01$(string "$(words '' '')2000000008000000000000000523$(string "$(words a)")")
+made "$H$certificates$(section "$G")"
 
 # updates NAME LIST LINES DIGITS WORD..: the list with the lines added has these bytes.
 updates() {
@@ -220,20 +229,25 @@ keeps 'an old list of the highest version' 'made.krl: run 2 VersionFull' full.kr
 keeps 'the first fault, of the old list' 'made.krl: krl 1 Magic' a -u -s ca none.spec
 keeps 'the first fault, of the authority' 'ca: file 1 Open' five.krl -u -s ca none.spec
 rm -f made.krl
-expect 'an old list that is missing' 255 '' $'ssh-keygen: made.krl: file 1 Open\n' -k -u -f made.krl -s none spec
+expect 'an old list that is missing' 255 '' $'ssh-keygen: made.krl: file 1 Open\n' \
+  -k -u -f made.krl -s none spec
 judge 'an old list that is missing: none is made' "$([ ! -e made.krl ] || echo '  there is one')"
-expect 'a list in a folder that is missing' 255 '' $'ssh-keygen: no/made.krl: file 1 Open\n' -k -f no/made.krl
-expect 'a list on a full device' 255 '' $'ssh-keygen: /dev/full: output 1 Write after 0 bytes\n' -k -f /dev/full
+expect 'a list in a folder that is missing' 255 '' $'ssh-keygen: no/made.krl: file 1 Open\n' \
+  -k -f no/made.krl
+expect 'a list on a full device' 255 '' $'ssh-keygen: /dev/full: output 1 Write after 0 bytes\n' \
+  -k -f /dev/full
 
 # Lists near the greatest length: of a key ID that fills its file, several times.
 for number in 1 2 3 4 5; do
   { printf 'id: ' && head -c 16777211 /dev/zero | tr '\0' $number; } >large-$number
 done
 run -k -f made.krl -s none large-1
-judge 'a key ID of 16 MiB' "$(differs 'size of the list' $((16777211 + 44 + 22)) "$(wc -c <made.krl)")"
+judge 'a key ID of 16 MiB' \
+  "$(differs 'size of the list' $((16777211 + 44 + 22)) "$(wc -c <made.krl)")"
 for number in 2 3; do run -k -u -f made.krl -s none large-$number; done
 cp made.krl large.krl
-keeps 'a list that would be too long' 'made.krl: run 3 TextTooLong' large.krl -u -s none large-4 large-5
+keeps 'a list that would be too long' 'made.krl: run 3 TextTooLong' large.krl -u -s none \
+  large-4 large-5
 rm -f large*
 
 # Beside OpenSSH: both programs query each list.
@@ -269,7 +283,8 @@ swap() {
   mv ours.krl other.krl && mv theirs.krl ours.krl && mv other.krl theirs.krl
 }
 RANDOM=815
-for sort in dense sparse clustered ranges mixed ends top ids keys authority both forms bare hashes; do
+for sort in dense sparse clustered ranges mixed ends top ids keys authority both forms \
+  bare hashes; do
   rm -f ours.krl theirs.krl
   both "a list of $sort" $sort -s ca-one.pub -z $((RANDOM % 100))
   smaller "a list of $sort"

@@ -6,7 +6,8 @@ page=$top/docs/ssh-keygen.1
 need mandoc mandoc || judge 'mandoc is there' '  install it, on Debian by apt-get install mandoc'
 # The test does not depend on other installed pages.
 judge 'mandoc finds nothing in the manual pages' \
-  "$(mandoc -T lint "$page" "$top/docs/krl.1" 2>&1 | grep -v -e 'referenced manual not found' -e 'outdated mandoc.db')"
+  "$(mandoc -T lint "$page" "$top/docs/krl.1" 2>&1 |
+    grep -v -e 'referenced manual not found' -e 'outdated mandoc.db')"
 
 # rendered SECTION: the text of a section of the page, without its indentation.
 rendered() {
@@ -20,5 +21,6 @@ judge 'the synopsis is what --help says' "$(differs 'forms of use' "$forms" "$(r
 
 # Its recipes are followed by readme.sh.
 cp -r "$top/demo" demo && cd demo || exit 1
-transcript 'the examples of the manual page' < <(manual_blocks | awk 'BEGIN { RS = "\f\n"; ORS = "" } /^\$/')
+transcript 'the examples of the manual page' \
+  < <(manual_blocks | awk 'BEGIN { RS = "\f\n"; ORS = "" } /^\$/')
 cd ..

@@ -15,16 +15,19 @@ stands() {
   done
   return 1
 }
-for crate in $(sed -n 's/^\([a-z0-9_]*\)\( staticlib\)\{0,1\}:.*/\1/p' "$top/crates.txt" | grep -v '_tests$'); do
+for crate in $(sed -n 's/^\([a-z0-9_]*\)\( staticlib\)\{0,1\}:.*/\1/p' "$top/crates.txt" |
+  grep -v '_tests$'); do
   page=$top/crates/$crate/README.md
   judge "the page of $crate" "$(
     [ -e "$page" ] || echo '  there is none'
-    grep -qF "(../crates/$crate/README.md)" "$top/docs/ARCHITECTURE.md" || echo '  the map does not lead to it'
+    grep -qF "(../crates/$crate/README.md)" "$top/docs/ARCHITECTURE.md" ||
+      echo '  the map does not lead to it'
   )"
   # The program's use is shown below; what C calls is tried by tests/library.
   [[ $crate == krl_tool || $crate == krl || $crate == krl_c ]] && continue
   caller=$(shown rust "$page")
-  judge "the caller on the page of $crate" "$([ -n "$caller" ] && stands "$caller" || echo '  no module page has it')"
+  judge "the caller on the page of $crate" \
+    "$([ -n "$caller" ] && stands "$caller" || echo '  no module page has it')"
 done
 cp -r "$top/demo" demo && cd demo || exit 1
 for it in krl_tool:. krl:audit; do
@@ -34,6 +37,7 @@ for it in krl_tool:. krl:audit; do
 done
 cd ../..
 
-judge 'each link of a page leads to a file and a heading' "$(python3 -B "$tests/lib/links.py" "$top" 2>&1)"
+judge 'each link of a page leads to a file and a heading' \
+  "$(python3 -B "$tests/lib/links.py" "$top" 2>&1)"
 judge 'the names that THEOREMS.md cites stand in the crates' \
   "$(python3 -B "$tests/lib/cited.py" "$top" 2>&1)"

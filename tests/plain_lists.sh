@@ -11,7 +11,8 @@ for name in two ca-b; do made_key $name ecdsa; done
 made_key rsa rsa
 # Certificates of the key user, which is let in by them alone, and one whose key is an authority's.
 for name in a5 a6 b5; do
-  "$openssh" -q -s "$room/ca-${name:0:1}" -I "id of $name" -z "${name:1}" -n "$user" "$room/user.pub"
+  "$openssh" -q -s "$room/ca-${name:0:1}" -I "id of $name" -z "${name:1}" -n "$user" \
+    "$room/user.pub"
   mv "$room/user-cert.pub" "$room/$name.pub"
 done
 "$openssh" -q -s "$room/ca-b" -I 'an authority' "$room/ca-a.pub"
@@ -28,8 +29,10 @@ serve
 
 # accepts NAME: whether sshd would accept a signature of this key.
 accepts() {
-  timeout 20 ssh -v -F none -p "$port" -o IdentitiesOnly=yes -o IdentityAgent=none -o BatchMode=yes \
-    -o StrictHostKeyChecking=no -o UserKnownHostsFile=/dev/null -i "$room/$1.pub" "$user@127.0.0.1" true \
+  timeout 20 ssh -v -F none -p "$port" -o IdentitiesOnly=yes -o IdentityAgent=none \
+    -o BatchMode=yes -o StrictHostKeyChecking=no -o UserKnownHostsFile=/dev/null \
+    -i "$room/$1.pub" \
+    "$user@127.0.0.1" true \
     2>&1 </dev/null | grep -q 'Server accepts key'
 }
 
@@ -66,7 +69,8 @@ plain 'a line feed' "$nobody" '\n'
 plain 'a comment without a line feed' "$nobody" '# a comment'
 plain 'a key' "$first" '%s\n' "$one"
 plain 'a key without a line feed' "$first" '%s' "$one"
-plain 'two keys, the last without a line feed' 'one=revoked two=revoked rsa=in' '%s\n%s' "$one" "$two"
+plain 'two keys, the last without a line feed' 'one=revoked two=revoked rsa=in' '%s\n%s' \
+  "$one" "$two"
 plain 'blank lines, comments, a key' "$first" '# c\n\n  \n\t\n \t # c\n%s\n' "$one"
 plain 'blanks before a key and tabs in it' "$first" ' \tssh-ed25519\t\t%s\tcomment\n' "$word"
 plain 'a key and CR LF' "$first" '# c\r\n%s\r\n' "$one"
@@ -75,7 +79,8 @@ plain 'an empty line of CR LF' "$all" '\r\n'
 plain 'a line of a blank and CR LF' "$all" ' \r\n'
 plain 'a key and an empty line of CR LF' 'one=revoked two=fault' '%s\r\n\r\n' "$one"
 plain 'CR alone between lines' "$all" '%s\r%s\r' "$one" "$two"
-plain 'CR and VT within base64' "$first" 'ssh-ed25519 %s\r%s\v%s\n' "${word:0:20}" "${word:20:20}" "${word:40}"
+plain 'CR and VT within base64' "$first" 'ssh-ed25519 %s\r%s\v%s\n' "${word:0:20}" "${word:20:20}" \
+  "${word:40}"
 plain 'VT before a key' "$all" '\v%s\n' "$one"
 plain 'a byte order mark before a comment' "$all" '\xef\xbb\xbf# c\n'
 plain 'a long comment' "$first" '%s %s\n' "$one" "$(head -c 300000 /dev/zero | tr '\0' x)"
@@ -119,7 +124,8 @@ modulus() {
 plain 'an RSA key below 1,024 bits' "$first" '%s\n%s\n' "$(modulus 127)" "$one"
 plain 'an RSA key of 1,024 bits' "$first" '%s\n%s\n' "$(modulus 128)" "$one"
 plain 'an RSA key above 16,384 bits' "$all" '%s\n%s\n' "$(modulus 2049)" "$one"
-plain 'an RSA key by the name of its signatures' 'rsa=revoked one=in' 'rsa-sha2-256 %s\n' "$(key rsa | cut -d ' ' -f 2)"
+plain 'an RSA key by the name of its signatures' 'rsa=revoked one=in' 'rsa-sha2-256 %s\n' \
+  "$(key rsa | cut -d ' ' -f 2)"
 blob=$(key rsa | cut -d ' ' -f 2 | base64 -d | od -An -v -tx1 | tr -d ' \n')
 plain 'an RSA key with a needless zero byte' 'rsa=revoked one=in' '%s\n' \
   "$(line ssh-rsa "${blob/00000003010001/0000000400010001}")"
@@ -138,7 +144,8 @@ plain 'a key of a device with a zero byte more' 'ed25519-sk=revoked ecdsa-sk=in'
 plain 'a certificate' 'a5=revoked a6=revoked b5=revoked one=in' '%s\n' "$(cat "$room/a5.pub")"
 plain 'the key of certificates' 'a5=revoked a6=revoked b5=revoked one=in' '%s\n' "$(key user)"
 plain 'the key of an authority' 'a5=revoked a6=revoked b5=in one=in' '%s\n' "$(key ca-a)"
-plain 'a certificate of an authority' 'a5=revoked b5=in one=in' '%s\n' "$(cat "$room/ca-a-cert.pub")"
+plain 'a certificate of an authority' 'a5=revoked b5=in one=in' '%s\n' \
+  "$(cat "$room/ca-a-cert.pub")"
 plain 'an old certificate' "$first" '%s\n' "$(cat "$room/old.pub")"
 blob=$(key a5 | cut -d ' ' -f 2 | base64 -d | od -An -v -tx1 | tr -d ' \n')
 last=00

@@ -25,7 +25,8 @@ accepts 'an empty section of keys' "$H" "$(section)"
 accepts 'a key of no bytes' "$H" "$(section '')"
 accepts 'a key that is a part of another' "$H" "$(section "${A:0:100}" "${A}00")"
 accepts 'flags, a reserved string and a comment' \
-  5353484b524c0a00 00000001 ffffffffffffffff ffffffffffffffff 8000000000000001 "$(words reserved comment)"
+  5353484b524c0a00 00000001 ffffffffffffffff ffffffffffffffff 8000000000000001 \
+  "$(words reserved comment)"
 bytes "$H" "$(section "$G")" "$(section)" "$(section 00 "$A")" >made.krl
 expect 'a key of a later section' 1 $'a (x y): REVOKED\n' '' -Q -f made.krl a
 
@@ -80,15 +81,18 @@ names SHA-1 03 sha1sum
 names SHA-256 05 sha256sum
 refuses '5 UnknownCertSection' 'subsection type 0x24' "$H" "$(certificates 24)"
 refuses '6 Length' 'a serial that is cut' "$H" "$(certificates "20$(string 00)")"
-refuses '7 RangeReversed' 'a range that ends before it begins' "$H" "$(certificates "21$(string $last$first)")"
-refuses '8 BitmapNegative' 'a bitmap below zero' "$H" "$(certificates "22$(string "$first$(string 80)")")"
+refuses '7 RangeReversed' 'a range that ends before it begins' "$H" \
+  "$(certificates "21$(string $last$first)")"
+refuses '8 BitmapNegative' 'a bitmap below zero' "$H" \
+  "$(certificates "22$(string "$first$(string 80)")")"
 refuses '9 BitmapWraps' 'a bitmap past the greatest serial' "$H" \
   "$(certificates "22$(string "$last$(string 02)")")"
 refuses '10 HashLength' 'a SHA-1 of 19 bytes' "$H" "03$(string "$(string "$(repeat 19 00)")")"
 refuses '10 HashLength' 'a SHA-256 of 20 bytes' "$H" "05$(string "$(string "$(repeat 20 00)")")"
 refuses '11 AfterSignature' 'keys after a signature' "$H" "$signature" "$(section "$G")"
 refuses '15 CriticalExtension' 'a critical extension' "$H" "ff$critical"
-refuses '15 CriticalExtension' 'a critical extension of certificates' "$H" "$(certificates "39$critical")"
+refuses '15 CriticalExtension' 'a critical extension of certificates' "$H" \
+  "$(certificates "39$critical")"
 
 for ((size = 0; size <= 104; size++)); do
   head -c "$size" r.krl >cut.krl

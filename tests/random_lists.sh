@@ -7,7 +7,8 @@ RANDOM=4711
 # make_list SORT AUTHORITY [-u]
 make_list() {
   lines "$1" >spec
-  "$openssh" -q -k ${3:-} -f made.krl -s "$2" -z $((RANDOM % 100 + 1)) spec >"$scratch/error" 2>&1 ||
+  "$openssh" -q -k ${3:-} -f made.krl -s "$2" -z $((RANDOM % 100 + 1)) \
+    spec >"$scratch/error" 2>&1 ||
     judge "OpenSSH makes the list $1 $2" "  $(cat "$scratch/error")"
 }
 for sort in dense sparse clustered ranges mixed ends top ids keys authority both; do

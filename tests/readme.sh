@@ -25,7 +25,8 @@ made_key user ed25519
 for name in user-ca host-ca; do "$openssh" -q -t ed25519 -N '' -C "$name" -f $name; done
 # Two certificates of one key, each with its own key ID, and one of the host.
 for name in alice other; do
-  "$openssh" -q -s user-ca -I "$name" -z 1 -n "$user" "$room/user.pub" && mv "$room/user-cert.pub" "$room/$name.pub"
+  "$openssh" -q -s user-ca -I "$name" -z 1 -n "$user" "$room/user.pub" &&
+    mv "$room/user-cert.pub" "$room/$name.pub"
 done
 "$openssh" -q -s host-ca -I host -z 7 -h -n 127.0.0.1 "$room/host.pub"
 cat "$room"/{one,two,user}.pub >"$room/allowed"
@@ -75,7 +76,8 @@ judge 'the configuration is as before' "$(ls "$room/sshd_config.d")"
 follows 'both programs take a list' "$both" 0 ''
 follows 'a list is put in place' "$check" 0 ''
 follows 'the list is named in the configuration' "$named" 0 "revokedkeys $room/revoked.krl"
-follows 'one line names it' "$lines" 0 "$room/sshd_config.d/01-revoked.conf:RevokedKeys $room/revoked.krl"
+follows 'one line names it' "$lines" 0 \
+  "$room/sshd_config.d/01-revoked.conf:RevokedKeys $room/revoked.krl"
 refuses 'a key of the list' one
 lets_in 'another key' two
 "$program" -k -f revoked.krl "$room/two.pub"
@@ -86,13 +88,15 @@ cp "$room/revoked.krl" in-force
 head -c 60 in-force >revoked.krl
 follows 'a truncated list is not put in place' "$check" 255 '*' again
 stays 'the list in force stays' "$room/revoked.krl"
-follows 'both programs refuse a truncated list' "$both" 255 'ssh-keygen: revoked.krl: krl 3 EndsEarly' again
+follows 'both programs refuse a truncated list' "$both" 255 \
+  'ssh-keygen: revoked.krl: krl 3 EndsEarly' again
 : >revoked.krl
 judge 'an empty file is not put in place' "$(try_recipe "$check" >/dev/null && echo '  it is')"
 # OpenSSH 9.2 refuses any extension.
 { cat in-force && bytes "ff$(string "$(words name)00$(words contents)")"; } >revoked.krl
 judge 'the program reads a list with an extension' "$("$program" -Q -f revoked.krl 2>&1)"
-judge 'a list that OpenSSH refuses is not put in place' "$(try_recipe "$check" >/dev/null && echo '  it is')"
+judge 'a list that OpenSSH refuses is not put in place' \
+  "$(try_recipe "$check" >/dev/null && echo '  it is')"
 judge 'both programs refuse it together' "$(try_recipe "$both" >/dev/null && echo '  they do not')"
 stays 'the list in force stays, too' "$room/revoked.krl"
 
@@ -115,7 +119,8 @@ printf 'Match User %s\n  RevokedKeys none\n' "$user" >>"$room/config"
 tools/systemctl reload ssh
 settled 'a Match block with another list'
 judge 'sshd -T does not show it' \
-  "$(differs 'the configuration' "revokedkeys $room/revoked.krl" "$(tools/sshd -T 2>&1 | grep -i revokedkeys)")"
+  "$(differs 'the configuration' "revokedkeys $room/revoked.krl" \
+  "$(tools/sshd -T 2>&1 | grep -i revokedkeys)")"
 follows 'a second line is found' "$lines" 0 "$room/sshd_config:  RevokedKeys none
 $room/sshd_config.d/01-revoked.conf:RevokedKeys $room/revoked.krl" again
 refuses 'all keys of a user for whom there is no list' one two
@@ -149,13 +154,15 @@ refuses 'the key, and all certificates of it, of a person who is locked out' use
 lets_in 'another key again' one
 
 for name in user-5 user-7 host-5 host-7; do
-  "$openssh" -q -s ${name%-*}-ca -I "id of $name" -z ${name#*-} "$room/one.pub" && mv "$room/one-cert.pub" $name.pub
+  "$openssh" -q -s ${name%-*}-ca -I "id of $name" -z ${name#*-} "$room/one.pub" &&
+    mv "$room/one-cert.pub" $name.pub
 done
 # answers NAME REVOKED..: the list revokes exactly these certificates.
 answers() {
   local it wanted=
   for it in user-5 user-7 host-5 host-7; do
-    [[ " ${*:2} " == *" $it "* ]] && wanted+="$it.pub (one): REVOKED"$'\n' || wanted+="$it.pub (one): ok"$'\n'
+    [[ " ${*:2} " == *" $it "* ]] && wanted+="$it.pub (one): REVOKED"$'\n' ||
+      wanted+="$it.pub (one): ok"$'\n'
   done
   expect "$1" $(($# > 1)) "$wanted" '' -Q -f revoked.krl user-5.pub user-7.pub host-5.pub host-7.pub
 }
@@ -171,7 +178,8 @@ sleep 2
 sed -i 1d users
 follows 'a revocation is taken back' "$anew" 0 '' again
 answers 'what was taken back is fine, and all else revoked' user-7 host-7
-judge 'the version number rises' "$([ "$(version)" -gt "$first" ] || echo "  it is $(version) after $first")"
+judge 'the version number rises' \
+  "$([ "$(version)" -gt "$first" ] || echo "  it is $(version) after $first")"
 cp revoked.krl in-force
 echo 'serial: 9-7' >hosts
 follows 'a wrong line in the second file' "$anew" 255 '*' again
@@ -180,11 +188,13 @@ stays 'the list stays, with the entries of both' revoked.krl
 # ---- a canary
 
 echo 'serial: 7' >hosts
-printf 'serial: 5\nid: someone\nkey: %s\nsha1: %s\n' "$(cat "$room/one.pub")" "$(cat "$room/two.pub")" >users
+printf 'serial: 5\nid: someone\nkey: %s\nsha1: %s\n' "$(cat "$room/one.pub")" \
+  "$(cat "$room/two.pub")" >users
 follows 'a canary' "ssh-keygen -q -t ed25519 -N '' -C canary" 0 ''
 judge 'its private key is gone' "$([ ! -e canary ] || echo '  it is there')"
 follows 'a list with a canary' "$anew" 0 '' again
-expect 'the list revokes the canary' 1 $'canary.pub (canary): REVOKED\n' '' -Q -f revoked.krl canary.pub
+expect 'the list revokes the canary' 1 $'canary.pub (canary): REVOKED\n' '' \
+  -Q -f revoked.krl canary.pub
 judge 'no truncated list that can be read revokes the canary' "$(
   taken=0
   size=$(stat -c %s revoked.krl)
@@ -209,14 +219,16 @@ reaches() {
     -o IdentityAgent=none -o IdentityFile=none \
     "$user@127.0.0.1" true >"$scratch/output" 2>&1 </dev/null
   grep -q 'Permission denied (publickey' "$scratch/output" || got=no
-  judge "ssh and a host: $1" "$(differs 'it goes on' "$2" $got && [ $got = "$2" ] || cat "$scratch/output")"
+  judge "ssh and a host: $1" \
+    "$(differs 'it goes on' "$2" $got && [ $got = "$2" ] || cat "$scratch/output")"
 }
 umask 077
 "$program" -k -f "$room/revoked.krl" "$room/one.pub"
 follows 'ssh is told of the list' 'echo RevokedHostKeys' 0 "revokedhostkeys $room/revoked.krl"
 umask 022
 judge 'all users may read the list and the line that names it' \
-  "$(differs modes $'644\n644' "$(stat -c %a "$room/revoked.krl" "$room/ssh_config.d/01-revoked.conf")")"
+  "$(differs modes $'644\n644' \
+  "$(stat -c %a "$room/revoked.krl" "$room/ssh_config.d/01-revoked.conf")")"
 reaches 'a list of other keys' yes
 known=$room/known_authority
 reaches 'a list of other keys, by the authority' yes
@@ -249,7 +261,8 @@ reaches 'no list' no
 "$program" -k -f revoked.krl alice.pub
 mkdir -p of_root/.ssh home/{a,b,c,d}/.ssh
 cat user-ca.pub >of_root/.ssh/authorized_keys
-{ printf '# mine\n\n' && cat host-ca.pub && printf '  \t\n# hers\n' && sed 's/^/no-pty /' alice.pub; } \
+{ printf '# mine\n\n' && cat host-ca.pub && printf '  \t\n# hers\n' &&
+  sed 's/^/no-pty /' alice.pub; } \
   >home/a/.ssh/authorized_keys
 { cat host-ca.pub && echo 'ssh-mldsa65 AAAA' && cat alice.pub; } >home/b/.ssh/authorized_keys
 cat alice.pub >home/d/.ssh/authorized_keys

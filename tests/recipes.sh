@@ -5,7 +5,8 @@ begin_recipes
 for name in user-ca host-ca alice canary; do "$openssh" -q -t ed25519 -N '' -C $name -f $name; done
 "$openssh" -q -t ed25519 -N '' -C host -f "$room/host"
 for serial in 5 7; do
-  "$openssh" -q -s user-ca -I "id of $serial" -z $serial alice.pub && mv alice-cert.pub user-$serial.pub
+  "$openssh" -q -s user-ca -I "id of $serial" -z $serial alice.pub &&
+    mv alice-cert.pub user-$serial.pub
 done
 
 # ---- a rollout is guarded
@@ -62,26 +63,30 @@ judge 'systemd is told' "$(
 if command -v systemd-analyze >/dev/null; then
   # Without the program it finds one fault.
   sed -i "s|^ExecStart=/usr/local|ExecStart=$room/local|" "$room/units/krl-pull.service"
-  judge 'systemd finds nothing in the units' "$(systemd-analyze verify "$room"/units/krl-pull.* 2>&1)"
+  judge 'systemd finds nothing in the units' \
+    "$(systemd-analyze verify "$room"/units/krl-pull.* 2>&1)"
 fi
 
 # pulls NAME STATUS VERSION: what is on the web is fetched, with this status, and then this version
 # is in force.
 pulls() {
   local status
-  PATH=$PWD/tools:$PATH KRL_SIGNERS=$room/krl_signers "$room/local/sbin/krl-pull" "file://$PWD/web/revoked.krl" \
+  PATH=$PWD/tools:$PATH KRL_SIGNERS=$room/krl_signers "$room/local/sbin/krl-pull" \
+    "file://$PWD/web/revoked.krl" \
     "$room/revoked.krl" user-ca.pub >output 2>&1
   status=$?
   judge "krl-pull: $1" "$(
     differs status "$2" $status && [ $status = "$2" ] || cat output
-    differs 'the version in force' "$3" "$(od -An -j 12 -N 8 -t u8 --endian=big "$room/revoked.krl" | tr -d ' ')"
+    differs 'the version in force' "$3" \
+      "$(od -An -j 12 -N 8 -t u8 --endian=big "$room/revoked.krl" | tr -d ' ')"
     differs 'files beside the list' '' "$(ls -A "$room" | grep krl-pull)"
   )"
 }
 
 # publish VERSION [FILE ..]: a signed list of this version is on the web.
 publish() {
-  "$program" -k -f revoked.krl -z "$1" -s user-ca.pub users "${@:2}" && try_recipe 'rm -f revoked.krl.sig' &&
+  "$program" -k -f revoked.krl -z "$1" -s user-ca.pub users "${@:2}" &&
+    try_recipe 'rm -f revoked.krl.sig' &&
     cp revoked.krl revoked.krl.sig web
 }
 if has_krl && need curl curl; then
@@ -118,7 +123,8 @@ echo "serial: 9 # until $(date +%F), and lost" >>users
 echo 'id: host' >hosts
 follows 'entries that expire' 'awk -v today' 0 ''
 judge 'what is over is left out' \
-  "$(differs entries $'id: host\nserial: 6-9' "$("$program" -Q -l -f revoked.krl | grep -v '^#' | sort)")"
+  "$(differs entries $'id: host\nserial: 6-9' \
+  "$("$program" -Q -l -f revoked.krl | grep -v '^#' | sort)")"
 
 # ---- what changed
 
@@ -133,7 +139,8 @@ mkdir lists && cp old.krl lists/r.krl && (
   cd lists && git init -q && echo '*.krl diff=krl' >.gitattributes && git add . &&
     git -c user.name=n -c user.email=e@x commit -qm one
 )
-cd lists && ln -s ../tools tools && follows 'git is told how lists are shown' 'git config' 0 '' && cd ..
+cd lists && ln -s ../tools tools &&
+  follows 'git is told how lists are shown' 'git config' 0 '' && cd ..
 cp revoked.krl lists/r.krl
 got=$(cd lists && PATH=$PWD/tools:$PATH git diff | grep '^[-+][^-+#]')
 judge 'git shows what changed' "$(differs 'the change' '+serial: 99' "$got")"
@@ -166,7 +173,8 @@ follows 'a command that fails' 'set -o pipefail' 1 ''
 judge 'the list stays' "$(cmp old.krl revoked.krl 2>&1)"
 printf '#!/bin/sh\necho serial: 7\n' >tools/leavers
 follows 'a command that ends well' 'set -o pipefail' 0 '' again
-expect 'the list is that of its lines' 1 $'user-5.pub (alice): ok\nuser-7.pub (alice): REVOKED\n' '' \
+expect 'the list is that of its lines' 1 \
+  $'user-5.pub (alice): ok\nuser-7.pub (alice): REVOKED\n' '' \
   -Q -f revoked.krl user-5.pub user-7.pub
 
 # That for all keys of a host is followed by readme.sh, beside krl audit.

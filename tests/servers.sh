@@ -2,7 +2,8 @@
 # with keys and certificates, while lists revoke some of them.
 
 if [ -z "${LIBRARY:-}" ]; then
-  "$top/library/build" >"$scratch/output" 2>&1 || judge 'the library is built' "$(cat "$scratch/output")"
+  "$top/library/build" >"$scratch/output" 2>&1 ||
+    judge 'the library is built' "$(cat "$scratch/output")"
 fi
 library=$(realpath -- "${LIBRARY:-$top/built}")
 export LD_LIBRARY_PATH=$library
@@ -24,8 +25,9 @@ everybody='one two three cert-5 cert-6'
 enters() {
   local words=(-i "$1")
   [ -f "$1" ] || words=(-i user -o CertificateFile="$1.pub")
-  [ "$(timeout 20 ssh -F none -p "$port" -o IdentitiesOnly=yes -o IdentityAgent=none -o BatchMode=yes \
-    -o StrictHostKeyChecking=no -o GSSAPIAuthentication=no -o UserKnownHostsFile=/dev/null -o LogLevel=ERROR \
+  [ "$(timeout 20 ssh -F none -p "$port" -o IdentitiesOnly=yes -o IdentityAgent=none \
+    -o BatchMode=yes -o StrictHostKeyChecking=no -o GSSAPIAuthentication=no \
+    -o UserKnownHostsFile=/dev/null -o LogLevel=ERROR \
     "${words[@]}" somebody@127.0.0.1 true 2>error </dev/null)" = 'let in' ]
 }
 
@@ -83,17 +85,20 @@ tries() {
 
 # Go: the package and the server are built as Debian has x/crypto, without the network.
 crypto=/usr/share/gocode/src/golang.org/x/crypto
-if need go golang-go && need $crypto/ssh/server.go golang-golang-x-crypto-dev && need pkg-config pkg-config; then
+if need go golang-go && need $crypto/ssh/server.go golang-golang-x-crypto-dev &&
+  need pkg-config pkg-config; then
   mkdir -p go/src/yezhirop.example
   cp -r "$top/examples/go" go/src/yezhirop.example/krl
   sed -e "s|@PREFIX@|/usr|; s|@LIBDIR@|lib|; s|@VERSION@|1|; s|^Libs:.*|Libs: -L$library -lkrl|" \
     -e "s|^Cflags:.*|Cflags: -I$top/library|" "$top/library/krl.pc.in" >krl.pc
-  export GO111MODULE=off GOPATH=$PWD/go:/usr/share/gocode GOCACHE=$PWD/cache GOFLAGS=-p=2 PKG_CONFIG_PATH=$PWD
+  export GO111MODULE=off GOPATH=$PWD/go:/usr/share/gocode GOCACHE=$PWD/cache GOFLAGS=-p=2 \
+    PKG_CONFIG_PATH=$PWD
   judge 'the package in Go' "$(go test yezhirop.example/krl >output 2>&1 || cat output)"
-  judge 'the server in Go is built' "$(go build -o go_server yezhirop.example/krl/server 2>&1 || echo '  it is not')"
+  judge 'the server in Go is built' \
+    "$(go build -o go_server yezhirop.example/krl/server 2>&1 || echo '  it is not')"
   tries 'the server in Go' ./go_server
 else
-  echo '# the server in Go is skipped: go or golang.org/x/crypto is missing, and could not be installed'
+  echo '# the server in Go is skipped: go or golang.org/x/crypto could not be installed'
 fi
 
 # Python: that of Debian, which has asyncssh, or another that has it.

@@ -11,7 +11,8 @@ highest=18446744073709551615
 # Certificates of one key, which is let in by them alone: NAME is that of its authority and its
 # serial.
 for name in a0 a5 a6 a7 a300 a$highest b5 b6; do
-  "$openssh" -q -s "$room/ca-${name:0:1}" -I "id of $name" -z "${name:1}" -n "$user" "$room/user.pub"
+  "$openssh" -q -s "$room/ca-${name:0:1}" -I "id of $name" -z "${name:1}" -n "$user" \
+    "$room/user.pub"
   mv "$room/user-cert.pub" "$room/$name.pub"
 done
 cat "$room/ca-a.pub" "$room/ca-b.pub" >"$room/authorities"
@@ -58,7 +59,8 @@ lists 'a serial number' 'serial: 5' a5 'a6 b5 a0' "${under_a[@]}"
 lists 'a range' 'serial: 5-100' 'a5 a7' 'a300 b5' "${under_a[@]}"
 lists 'a bitmap' "$(seq -f 'serial: %g' 1 2 299)" 'a5 a7' 'a6 a300' "${under_a[@]}"
 lists 'an update of it' 'serial: 0x6' 'a6 a5' a300 -u "${under_a[@]}"
-lists 'an update of that, with another authority' 'serial: 6' 'b6 a5' 'b5 a300' -u -s "$room/ca-b.pub"
+lists 'an update of that, with another authority' 'serial: 6' 'b6 a5' 'b5 a300' \
+  -u -s "$room/ca-b.pub"
 lists 'all authorities' 'serial: 5' 'a5 b5' 'a6 b6' -s none
 lists "an authority's own key" "$(cat "$room/ca-a.pub")" 'a0 a5' 'b5 one'
 lists "the SHA-256 of an authority's key" "sha256: $(cat "$room/ca-b.pub")" b5 a5

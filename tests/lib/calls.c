@@ -1,12 +1,13 @@
-/* Loaded before the C library of a program, this counts its calls on files in one sequence. At one of the
-   calls it stops the program, ends it, or lets the call fail. The environment says:
+/* Loaded before the C library of a program, this counts its calls on files in one sequence. At one
+   of the calls it stops the program, ends it, or lets the call fail. The environment says:
 
-     CALLS=FILE            the calls are written there, one on a line, in their order: the name, the path that
-                           it was given or that of its file, and its other arguments, with tabs between
+     CALLS=FILE            the calls are written there, one on a line, in their order: the name, the
+                           path that it was given or that of its file, and its other arguments, with
+                           tabs between
      AT=K                  before the K-th call, counted from 1,
      SIGNAL=N              the program sends itself this signal
-     FAIL=NAME:K-L:ERRNO   the K-th to the L-th call of this name fail so; of NAME@END only those count whose
-                           path ends so. There may be several, with commas between
+     FAIL=NAME:K-L:ERRNO   the K-th to the L-th call of this name fail so; of NAME@END only those
+                           count whose path ends so. There may be several, with commas between
      HURRY=1               no time is slept
      NUMBER=N              random bytes all have this value
      LONGEST=N             no file is opened whose name in its folder has more bytes */
@@ -153,7 +154,9 @@ ssize_t write(int descriptor, const void *from, size_t size) {
 }
 
 ssize_t pwrite(int descriptor, const void *from, size_t size, off_t offset) {
-  return fails("pwrite", descriptor, "") ? -1 : syscall(SYS_pwrite64, descriptor, from, size, offset);
+  return fails("pwrite", descriptor, "")
+             ? -1
+             : syscall(SYS_pwrite64, descriptor, from, size, offset);
 }
 
 off_t lseek(int descriptor, off_t offset, int whence) {
@@ -165,11 +168,15 @@ int ftruncate(int descriptor, off_t length) {
 }
 
 int fchown(int descriptor, uid_t owner, gid_t group) {
-  return fails_by("fchown", descriptor, "%ld:%ld", (int)owner, (int)group) ? -1 : syscall(SYS_fchown, descriptor, owner, group);
+  return fails_by("fchown", descriptor, "%ld:%ld", (int)owner, (int)group)
+             ? -1
+             : syscall(SYS_fchown, descriptor, owner, group);
 }
 
 int fchmod(int descriptor, mode_t mode) {
-  return fails_by("fchmod", descriptor, "%lo", mode, 0) ? -1 : syscall(SYS_fchmod, descriptor, mode);
+  return fails_by("fchmod", descriptor, "%lo", mode, 0)
+             ? -1
+             : syscall(SYS_fchmod, descriptor, mode);
 }
 
 int fsync(int descriptor) {

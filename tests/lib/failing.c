@@ -1,14 +1,15 @@
-/* Loaded before the C library of a program, this makes its allocations, reads, writes and what it does to
-   files fail in turn, as they do on a machine without memory, a disk that is full and one that is broken.
-   The environment says what fails:
+/* Loaded before the C library of a program, this makes its allocations, reads, writes and what it
+   does to files fail in turn, as they do on a machine without memory, a disk that is full and one
+   that is broken. The environment says what fails:
 
      MEMORY=K-L              the K-th to the L-th allocation (a growth of one counts too) is refused
-     READ=K-L:HOW:PIECE      the same of reads, and WRITE of writes; HOW is the error's number, or 0 for a
-                             call that ends well and moves nothing, or -1 for one that moves one byte. All
-                             other calls move at most PIECE bytes
-     CREATE=K-L:HOW          the same of openings that may create a file, MODE of changes of a mode, OWNER
-                             of those of an owner, SYNC of syncs, CLOSE of the closing of files that were
-                             opened so, RENAME and REMOVE of those of a name, LINK of a second name
+     READ=K-L:HOW:PIECE      the same of reads, and WRITE of writes; HOW is the error's number, or 0
+                             for a call that ends well and moves nothing, or -1 for one that moves
+                             one byte. All other calls move at most PIECE bytes
+     CREATE=K-L:HOW          the same of openings that may create a file, MODE of changes of a mode,
+                             OWNER of those of an owner, SYNC of syncs, CLOSE of the closing of
+                             files that were opened so, RENAME and REMOVE of those of a name, LINK
+                             of a second name
      KILL=K                  the K-th write moves half of its bytes, and then the program is killed
      MOMENT=N                the clock shows N seconds since 1970, before it where N is negative
      REPORT=FILE             the counts of calls and of failed calls are written there at the end */
@@ -106,7 +107,7 @@ void *malloc(size_t size) {
   return fails(MEMORY, 0) ? refused() : __libc_malloc(size);
 }
 
-/* A piece of memory that becomes smaller is none that grows, but it may be moved, so it may be refused. */
+/* A piece of memory that becomes smaller may be moved, so it may be refused. */
 void *realloc(void *held, size_t size) {
   return fails(MEMORY, 0) ? refused() : __libc_realloc(held, size);
 }

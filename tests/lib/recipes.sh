@@ -36,7 +36,8 @@ manual_recipes() {
 
 # recipe BEGINNING: the recipe that begins so.
 recipe() {
-  recipes | awk -v beginning="$1" 'BEGIN { RS = "\f\n" } index($0, beginning) == 1 { printf "%s", $0 }'
+  recipes | awk -v beginning="$1" \
+    'BEGIN { RS = "\f\n" } index($0, beginning) == 1 { printf "%s", $0 }'
 }
 
 # begin_recipes: makes the folder tools, which has the programs that recipes call. The folder $room
@@ -48,7 +49,7 @@ begin_recipes() {
   if [ -x "$krl" ]; then
     ln -s "$krl" tools/krl
   else
-    echo '# there is no program krl: both other programs check lists, and what only krl does is skipped'
+    echo '# there is no program krl: both others check lists, and what only it does is skipped'
   fi
   followed=0
 }
@@ -56,10 +57,12 @@ begin_recipes() {
 # in_room TEXT: the text, with folders of the test's own for those of the system, and without krl
 # where that is missing.
 in_room() {
-  local words=(-e "s|/etc/ssh/ssh_host_ed25519_key|$room/host|g; s|/etc/ssh|$room|g; s|/usr/local|$room/local|g")
+  local words=(-e "s|/etc/ssh/ssh_host_ed25519_key|$room/host|g; s|/etc/ssh|$room|g")
+  words+=(-e "s|/usr/local|$room/local|g")
   words+=(-e "s|/etc/systemd/system|$room/units|g; s|/home|$PWD/home|g")
   words+=(-e "s|~root/|$PWD/of_root/|g; s|/root |$PWD/of_root |g")
-  [ -e tools/krl ] || words+=(-e 's/krl check \([^ ]*\) &&/krl-keygen -Q -f \1 \&\& ssh-keygen -Q -f \1 \&\&/')
+  [ -e tools/krl ] ||
+    words+=(-e 's/krl check \([^ ]*\) &&/krl-keygen -Q -f \1 \&\& ssh-keygen -Q -f \1 \&\&/')
   sed "${words[@]}" <<<"$1"
 }
 
@@ -90,7 +93,8 @@ has_krl() {
 
 # all_followed PAGE: each recipe of the page was.
 all_followed() {
-  judge "all recipes of $1 were followed" "$(differs recipes "$(recipes_in "$1" | grep -c $'\f')" $followed)"
+  judge "all recipes of $1 were followed" \
+    "$(differs recipes "$(recipes_in "$1" | grep -c $'\f')" $followed)"
 }
 
 # stays NAME FILE: the file is the list in-force.

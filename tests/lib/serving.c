@@ -1,13 +1,14 @@
-/* Loaded before the C library of a program, this starts it once and lets it run many times: it waits where
-   main would begin, and for each request a copy of the process runs main with the words of the request.
-   So a run costs no start of a program and no linking. Where SERVE_LATE is in the environment it waits
-   where main asks for the name of the host, as OpenSSH's ssh-keygen does once its cryptography is set up
-   and before it reads its words; the words of a request are then as many as those of the process.
+/* Loaded before the C library of a program, this starts it once and lets it run many times: it
+   waits where main would begin, and for each request a copy of the process runs main with the words
+   of the request. So a run costs no start of a program and no linking. Where SERVE_LATE is in the
+   environment it waits where main asks for the name of the host, as OpenSSH's ssh-keygen does once
+   its cryptography is set up and before it reads its words; the words of a request are then as many
+   as those of the process.
 
-   A request on standard input is its length in four bytes of this machine, and texts that zero bytes end:
-   the seconds of a processor that the run may take, the KiB of memory, the files of its standard output
-   and standard error, and the words. Its answer on standard output is the status as a shell has it, in
-   four bytes; a first answer says that it waits. */
+   A request on standard input is its length in four bytes of this machine, and texts that zero
+   bytes end: the seconds of a processor that the run may take, the KiB of memory, the files of its
+   standard output and standard error, and the words. Its answer on standard output is the status as
+   a shell has it, in four bytes; a first answer says that it waits. */
 #define _GNU_SOURCE
 #include <dlfcn.h>
 #include <fcntl.h>
@@ -120,7 +121,7 @@ int gethostname(char *name, size_t size) {
   return library(name, size);
 }
 
-/* OpenSSH's program takes longer to free the memory of its libraries at the end than for most runs. */
+/* OpenSSH's program takes longer to free its libraries' memory at the end than for most runs. */
 void exit(int status) {
   fflush(NULL);
   if (is_late_copy)

@@ -50,7 +50,8 @@ forms() {
   local i at
   for ((i = 0; i < $1; i++)); do
     at=$((1 + RANDOM % 300))
-    printf 'serial:%d\nserial:  0x%x # %d\n\nSerial: 0%o-%d\n' $at $((at + 2)) $i $((at + 9)) $((at + 12))
+    printf 'serial:%d\nserial:  0x%x # %d\n\nSerial: 0%o-%d\n' $at $((at + 2)) $i $((at + 9)) \
+      $((at + 12))
   done
 }
 printed() {
@@ -64,7 +65,8 @@ lines() {
     clustered) dense 20 12 1 && dense 20 12 250 && dense 20 12 995 && echo 'serial: 70000' ;;
     ranges) ranges 8 400 ;;
     mixed) dense 10 300 1 && ranges 3 300 && ids 2 ;;
-    ends) echo 'serial: 1' && echo "serial: 9223372036854775800-9223372036854775808" && echo "serial: $highest" ;;
+    ends) echo 'serial: 1' && echo "serial: 9223372036854775800-9223372036854775808" &&
+      echo "serial: $highest" ;;
     top) echo "serial: 1000-$highest" ;;
     ids) ids 4 ;;
     keys) named one.pub && named ca-three.pub ;;

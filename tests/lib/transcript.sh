@@ -6,7 +6,8 @@
 transcript() {
   local wanted got
   wanted=$(timeless)
-  mkdir -p "$scratch/bin" && ln -sfn "$program" "$scratch/bin/ssh-keygen" && ln -sfn "$krl" "$scratch/bin/krl"
+  mkdir -p "$scratch/bin" && ln -sfn "$program" "$scratch/bin/ssh-keygen" &&
+    ln -sfn "$krl" "$scratch/bin/krl"
   got=$(PATH=$scratch/bin:$PATH follow <<<"$wanted" | timeless)
   judge "$1" "$(diff <(printf '%s\n' "$wanted") <(printf '%s\n' "$got"))"
 }

@@ -95,7 +95,8 @@ int main(int argc, char **argv) {
     long asks = sweep(ask, held, held), checks = sweep(check, check(), held);
     long whys = sweep(why, why(), held), loads = sweep(load_other, KRL_OK, held);
     krl_unload(&handle);
-    printf("%ld allocations of a question, %ld of a check, %ld of a reading, %ld of the reasons\n", asks,
-           checks, loads, whys);
-    return asks <= 0 || checks <= 0 || loads <= 0 || whys <= 0 || blocks != 0 || ask() != KRL_NOT_LOADED;
+    printf("%ld allocations of a question, %ld of a check, %ld of a reading, %ld of the reasons\n",
+           asks, checks, loads, whys);
+    return asks <= 0 || checks <= 0 || loads <= 0 || whys <= 0 || blocks != 0 ||
+           ask() != KRL_NOT_LOADED;
 }

@@ -1,5 +1,5 @@
-/* threads ROUNDS LIST LINE..: eight threads ask the same bytes and the same handle at the same time, for
- * this number of rounds, and compare the answers with those of one thread. */
+/* threads ROUNDS LIST LINE..: eight threads ask the same bytes and the same handle at the same
+ * time, for this number of rounds, and compare the answers with those of one thread. */
 #include <krl.h>
 #include <pthread.h>
 #include <stdio.h>

@@ -26,7 +26,8 @@ waits_for() {
 
 # The effect of a list that is emptied before it is written, as other programs do.
 : >"$room/revoked.krl"
-echo "# sshd $(enters one && echo lets in || echo refuses) a revoked key where the list has no bytes"
+does=$(enters one && echo 'lets in' || echo refuses)
+echo "# sshd $does a revoked key where the list has no bytes"
 rm "$room/revoked.krl"
 
 # The program is stopped before each of its calls on files.
@@ -73,7 +74,8 @@ meanwhile() {
   wait $(jobs -p | grep -vx "$server")
   judge "$name: $(tried) logins with a revoked key" "$(
     printf %s "$wrong"
-    [ ! -s "$room/let-in-1" ] && [ ! -s "$room/let-in-2" ] && [ ! -s "$room/let-in-3" ] || echo '  it is let in'
+    [ ! -s "$room/let-in-1" ] && [ ! -s "$room/let-in-2" ] && [ ! -s "$room/let-in-3" ] ||
+      echo '  it is let in'
     [ "$(tried)" -ge 20 ] || echo '  they are too few'
   )"
 }

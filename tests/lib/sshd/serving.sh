@@ -1,6 +1,7 @@
 # A sshd of the test's own on the loopback, and logins at it. A part of the scripts that source it.
 
-need sshd openssh-server || judge 'sshd is there' '  install it, on Debian by apt-get install openssh-server'
+need sshd openssh-server ||
+  judge 'sshd is there' '  install it, on Debian by apt-get install openssh-server'
 daemon=$(command -v sshd || echo /usr/sbin/sshd)
 room=$scratch/sshd
 mkdir -p "$room"
@@ -68,7 +69,8 @@ enters() {
   local words=(-i "$room/$1")
   [ -f "$room/$1" ] || words=(-i "$room/user" -o CertificateFile="$room/$1.pub")
   timeout 20 ssh -F none -p "$port" -o IdentitiesOnly=yes -o IdentityAgent=none -o BatchMode=yes \
-    -o StrictHostKeyChecking=no -o GSSAPIAuthentication=no -o UserKnownHostsFile=/dev/null -o LogLevel=ERROR \
+    -o StrictHostKeyChecking=no -o GSSAPIAuthentication=no -o UserKnownHostsFile=/dev/null \
+    -o LogLevel=ERROR \
     "${words[@]}" "$user@127.0.0.1" true >"$scratch/output" 2>"$scratch/error" </dev/null
   [ "$(cat "$scratch/output")" = 'let in' ]
 }
