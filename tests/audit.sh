@@ -181,6 +181,15 @@ mkdir many && (cd many && seq -f 'k%.0f.pub' 3000 | xargs touch && echo "$g" >k1
 audits 'many files' 1 '3000 files, 1 key: 1 revoked in 1 file, 0 unread' \
   "many/k1500.pub:1: $by_g" many
 
+mkdir -p above/other
+if unshare -m mount -t tmpfs none above/other 2>/dev/null; then
+  said=$(unshare -m sh -c 'mount -t tmpfs none above/other && echo "$1" >above/other/x.pub &&
+    "$2" audit -f r.krl above' sh "$g" "$program" 2>/dev/null)
+  judge 'another file system' "$(differs findings "above/other/x.pub:1: $by_g" "$said")"
+else
+  echo '# no file system can be mounted here, so none is entered'
+fi
+
 # Names from a file.
 printf '%s\0' marked home/B gone odd/authorized_keys $'\xe9' >names
 audits 'names of a file' 1 '5 files, 2 keys: 2 revoked in 2 files, 3 unread' "marked:1: $by_g
@@ -309,5 +318,39 @@ example=$(sed 's/\\e/\\/g' "$manual" |
   awk '/^\.Bd -literal/ { on = 1; next } /^\.Ed/ { on = 0 } on' |
   awk '/^\$ / { on = 1 } on; /^1$/ { exit }')
 program=$keygen transcript 'the example of the manual page' <<<"$example"
+
+# Its other examples, in this folder. ssh runs the command here, and vim says where it is.
+# try_example BEGINNING: runs the example that begins so.
+try_example() {
+  sed 's/\\e/\\/g' "$manual" |
+    awk '/^\.Bd -literal/ { on = 1; printf "\f\n"; next } /^\.Ed/ { on = 0 } on' |
+    awk -v beginning="$1" 'BEGIN { RS = "\f\n" } index($0, beginning) == 1 { printf "%s", $0 }' |
+    sed -e 's|find /|find .|; s|/etc/ssh/revoked|revoked|; s| /etc/ssh| etc|; s| /root||' \
+      -e 's| /home| home|; s|~/.ssh|home/bob|; s|^vim|vim -es -u NONE -S at|' >example
+  PATH=$PWD/tools:$PATH bash example 2>/dev/null
+}
+mkdir tools && ln -s "$program" tools/krl && printf '#!/bin/sh\nshift 2 && exec "$@"\n' >tools/ssh
+chmod +x tools/ssh && echo one >hosts
+findings=$(sed -n 's/: \(revoked\|unread\):.*/: \1/p' <<<"$example" | sort)
+judge 'the example with find' "$(differs findings "$(grep -v known_hosts <<<"$findings")" \
+  "$(try_example find | sed 's|^./||; s/: \(revoked\|unread\):.*/: \1/' | sort)")"
+try_example while
+judge 'the example with ssh' "$(differs findings "$(sed 's/^/one: /' <<<"$findings")" \
+  "$(sed 's/: \(revoked\|unread\):.*/: \1/' audit | sort)")"
+need jq jq || judge 'jq is there' '  install it, on Debian by apt-get install jq'
+judge 'the example with jq' "$(differs rows \
+  "$(sed -n 's/^\(home.*\):\([0-9]*\): revoked: [^ ]* \([^ ]*\) .*/\1\t\2\t\3/p' <<<"$example")" \
+  "$(try_example 'krl audit --json')")"
+sed -n 3p home/bob/.ssh/authorized_keys >canary.pub
+echo "$b" >user_ca.pub
+judge 'the example of a check' "$(try_example 'krl check' || echo '  the list is refused')"
+if command -v vim >/dev/null; then
+  echo 'call writefile([bufname("%") . ":" . line(".")], "where")' >at && echo qa! >>at
+  try_example vim
+  judge 'the example with vim' \
+    "$(differs place home/bob/.ssh/authorized_keys:3 "$(cat where 2>&1)")"
+else
+  echo '# vim is missing, and its example is skipped'
+fi
 cd ..
 program=$keygen

@@ -3,11 +3,13 @@ than those of the old list."""
 
 import os
 import stat
+import struct
 
 from replacing.folder import LIST, OLD
 from updating.steps import UPDATE, Steps, same, content, shown
 
 OWNER, MEMBER, STRANGER, GROUP = 65531, 65530, 65529, 65528
+ACCESS, DEFAULT = "system.posix_acl_access", "system.posix_acl_default"
 
 
 class Update(Steps):
@@ -119,6 +121,49 @@ def closed_modes(place, made):
     place.judge("a list that is only read", wrong)
 
 
+def entries(mode, rights, group):
+    """The access control list of a mode, as the system keeps it, with rights for one user more and
+    for the group. The middle bits of the mode bound both."""
+    user, most, others = mode >> 6 & 7, mode >> 3 & 7, mode & 7
+    none = 0xFFFFFFFF
+    rows = (
+        (1, user, none),
+        (2, rights, STRANGER),
+        (4, group, none),
+        (0x10, most, none),
+        (0x20, others, none),
+    )
+    return struct.pack("<I", 2) + b"".join(struct.pack("<HHI", *it) for it in rows)
+
+
+def attributes(place, made):
+    """The new list has no extended attribute and no access control list of the old one, which its
+    other hard links keep. It gets the default one of the folder, bounded by the bits of its group.
+    """
+    begin(place, 0o640, (0, 0))
+    os.link(LIST, "../other")
+    try:
+        os.setxattr(LIST, ACCESS, entries(0o640, 4, 4))
+    except OSError as error:
+        print("# no access control list can be set here: %s" % error)
+        os.remove("../other")
+        return
+    os.setxattr(LIST, "user.note", b"a note")
+    kept(place, "a list with attributes", Update(place, 0), (OWNER, GROUP, 0o640), made)
+    wrong = ["it has %s" % os.listxattr(LIST)] if os.listxattr(LIST) else []
+    if sorted(os.listxattr("../other")) != [ACCESS, "user.note"]:
+        wrong.append("its other link has %s" % os.listxattr("../other"))
+    with open("../other", "rb") as other:
+        wrong += [] if other.read() == OLD else ["its other link is changed"]
+    place.judge("the attributes of a list", wrong)
+    os.remove("../other")
+    begin(place, 0o640, (0, 0))
+    os.setxattr(".", DEFAULT, entries(0o775, 6, 5))
+    kept(place, "a folder with a default list", Update(place, 0), (OWNER, GROUP, 0o640), made)
+    got = os.getxattr(LIST, ACCESS)
+    place.judge("the default list", [] if got == entries(0o640, 6, 5) else ["it is %s" % got.hex()])
+
+
 def all_of_them(place):
     if os.geteuid():
         print("# only root takes the place of other users, so no rights of theirs are tried")
@@ -128,3 +173,4 @@ def all_of_them(place):
     owners(place, made)
     at_each_call(place, made)
     closed_modes(place, made)
+    attributes(place, made)
