@@ -1,6 +1,6 @@
 -- Crossing fields: reading them from a reader's buffer without the reader.
 use Rattle.std.specs.Prelude.{◌≡◌, ℕ, ◌+◌, ◌-◌, ◌*◌, ◌≤◌, ◌<◌, Bool, true, List, ◌++◌, length, take, Result}
-use Rattle.std.specs.Prelude.{IfOk, OnOk}
+use Rattle.std.specs.Prelude.{IfOk, OnOk, Option, Some, None}
 use Rattle.std.specs.List.{concat}
 use Rattle.std.specs.declared.alloc.AllocError.{AllocError}
 use Rattle.ssh_wire.specs.Wire.{IsBytes, number_of}
@@ -46,6 +46,13 @@ pub record CrossesField (bytes : List ℕ) (empty : Bool) (size : ℕ)
   pub passes : IfOk result (λ next. Passes place (take size bytes) next)
   pub keeps : IfOk result (λ next. KeepsField place (take size bytes) next old new)
   pub grows : GrowsWithin size old new
+
+-- The field at the front of the bytes was crossed, or none was and nothing changed.
+abbrev pub CrossesNext : (bytes : List ℕ) (empty : Bool) → Option (ℕ × Result Place AllocError)
+    → Place → (old new : Keeper) → Type 0
+CrossesNext bytes empty None place old new = new ≡ old
+CrossesNext bytes empty (Some (size, result)) place old new =
+    CrossesField bytes empty size result place old new
 
 -- ---- fields that name nothing in scope
 

@@ -1,8 +1,8 @@
 //! Crossing fields: reading them from a reader's buffer without the reader.
 
-ghost use Rattle.std.specs.Prelude.{◌≡◌, ◌+◌, ◌*◌, ◌%◌, ◌^◌, ◌≤◌, ◌<◌, IsTrue, IfSome, None, false, length};
+ghost use Rattle.std.specs.Prelude.{◌≡◌, ◌+◌, ◌*◌, ◌%◌, ◌^◌, ◌≤◌, ◌<◌, IsTrue, IfSome, false, length};
 ghost use Rattle.std.specs.Prelude.{take};
-ghost use Rattle.krl_core.specs.Crossing.{AreUnasked, CrossesField, CrossesSome, MayPass};
+ghost use Rattle.krl_core.specs.Crossing.{AreUnasked, CrossesNext, CrossesSome, MayPass};
 ghost use Rattle.krl_held.specs.Scope.{AreUnwanted};
 ghost use Rattle.krl_core.specs.Front.{Passes};
 ghost use Rattle.krl_core.specs.Keeper.{InStep};
@@ -171,8 +171,25 @@ fn cross_each<T: Store>(
     (at, Ok(()))
 }
 
-// Crosses the expected field. Each arm names its place, so that the compiler generates separate
-// code for each field and does not test the place again.
+// Crosses the field at a place of one kind, by an arm for each of these places. An arm names its
+// place, so that the compiler generates separate code for each field and does not test the place
+// again.
+macro_rules! cross_named {
+    ($kind:ident($at:ident), $keeper:ident, $bytes:ident, $empty:ident:
+        $($type:ident::$variant:ident $({ $($part:ident),* })?),* $(; _ => $rest:expr)?) => {
+        match $at {
+            $($type::$variant $({ $($part),* })? => cross_field(
+                Place::$kind($type::$variant $({ $($part),* })?),
+                $keeper,
+                $bytes,
+                $empty,
+            ),)*
+            $(_ => $rest,)?
+        }
+    };
+}
+
+// Crosses the expected field.
 #[inline(always)]
 fn cross_next<T: Store>(
     place: Place,
@@ -181,137 +198,41 @@ fn cross_next<T: Store>(
     empty: bool,
 ) -> Option<(usize, Result<Place, AllocError>)>
     requires { InStep place keeper.old.bitmap }
-    ensures none { result ≡ None → keeper.new ≡ keeper.old }
-    ensures some { IfSome result (λ field. CrossesField bytes.now empty field.0 field.1 place
-        keeper.old keeper.new) }
+    ensures { CrossesNext bytes.now empty result place keeper.old keeper.new }
 {
     match place {
         Place::SectionType { signed } => {
             cross_field(Place::SectionType { signed }, keeper, bytes, empty)
         }
-        Place::Certificates(at) => match at {
-            CertificatesPlace::SectionLength => cross_field(
-                Place::Certificates(CertificatesPlace::SectionLength),
-                keeper,
-                bytes,
-                empty,
-            ),
-            CertificatesPlace::AuthorityLength { left } => cross_field(
-                Place::Certificates(CertificatesPlace::AuthorityLength { left }),
-                keeper,
-                bytes,
-                empty,
-            ),
-            CertificatesPlace::Authority { size, after } => cross_field(
-                Place::Certificates(CertificatesPlace::Authority { size, after }),
-                keeper,
-                bytes,
-                empty,
-            ),
-            CertificatesPlace::ReservedLength { left } => cross_field(
-                Place::Certificates(CertificatesPlace::ReservedLength { left }),
-                keeper,
-                bytes,
-                empty,
-            ),
-            CertificatesPlace::Reserved { size, after } => cross_field(
-                Place::Certificates(CertificatesPlace::Reserved { size, after }),
-                keeper,
-                bytes,
-                empty,
-            ),
-            CertificatesPlace::SubsectionType { left } => cross_field(
-                Place::Certificates(CertificatesPlace::SubsectionType { left }),
-                keeper,
-                bytes,
-                empty,
-            ),
+        Place::Certificates(at) => cross_named! {
+            Certificates(at), keeper, bytes, empty:
+            CertificatesPlace::SectionLength,
+            CertificatesPlace::AuthorityLength { left },
+            CertificatesPlace::Authority { size, after },
+            CertificatesPlace::ReservedLength { left },
+            CertificatesPlace::Reserved { size, after },
+            CertificatesPlace::SubsectionType { left }
         },
-        Place::Serials(at) => match at {
-            SerialsPlace::SerialsLength { left } => cross_field(
-                Place::Serials(SerialsPlace::SerialsLength { left }),
-                keeper,
-                bytes,
-                empty,
-            ),
-            SerialsPlace::Serial { left, after } => cross_field(
-                Place::Serials(SerialsPlace::Serial { left, after }),
-                keeper,
-                bytes,
-                empty,
-            ),
-            SerialsPlace::RangeLength { left } => cross_field(
-                Place::Serials(SerialsPlace::RangeLength { left }),
-                keeper,
-                bytes,
-                empty,
-            ),
-            SerialsPlace::RangeMin { after } => cross_field(
-                Place::Serials(SerialsPlace::RangeMin { after }),
-                keeper,
-                bytes,
-                empty,
-            ),
-            SerialsPlace::RangeMax { min, after } => cross_field(
-                Place::Serials(SerialsPlace::RangeMax { min, after }),
-                keeper,
-                bytes,
-                empty,
-            ),
+        Place::Serials(at) => cross_named! {
+            Serials(at), keeper, bytes, empty:
+            SerialsPlace::SerialsLength { left },
+            SerialsPlace::Serial { left, after },
+            SerialsPlace::RangeLength { left },
+            SerialsPlace::RangeMin { after },
+            SerialsPlace::RangeMax { min, after }
         },
-        Place::Bitmap(at) => match at {
-            BitmapPlace::Length { left } => cross_field(
-                Place::Bitmap(BitmapPlace::Length { left }),
-                keeper,
-                bytes,
-                empty,
-            ),
-            BitmapPlace::Offset { left, after } => cross_field(
-                Place::Bitmap(BitmapPlace::Offset { left, after }),
-                keeper,
-                bytes,
-                empty,
-            ),
-            BitmapPlace::Size {
-                offset,
-                left,
-                after,
-            } => cross_field(
-                Place::Bitmap(BitmapPlace::Size {
-                    offset,
-                    left,
-                    after,
-                }),
-                keeper,
-                bytes,
-                empty,
-            ),
-            BitmapPlace::Byte { .. } => cross_field(place, keeper, bytes, empty),
+        Place::Bitmap(at) => cross_named! {
+            Bitmap(at), keeper, bytes, empty:
+            BitmapPlace::Length { left },
+            BitmapPlace::Offset { left, after },
+            BitmapPlace::Size { offset, left, after };
+            _ => cross_field(place, keeper, bytes, empty)
         },
-        Place::List(at) => match at {
-            ListPlace::ItemLength { kind, left, after } => cross_field(
-                Place::List(ListPlace::ItemLength { kind, left, after }),
-                keeper,
-                bytes,
-                empty,
-            ),
-            ListPlace::Item {
-                kind,
-                size,
-                left,
-                after,
-            } => cross_field(
-                Place::List(ListPlace::Item {
-                    kind,
-                    size,
-                    left,
-                    after,
-                }),
-                keeper,
-                bytes,
-                empty,
-            ),
-            _ => cross_field(place, keeper, bytes, empty),
+        Place::List(at) => cross_named! {
+            List(at), keeper, bytes, empty:
+            ListPlace::ItemLength { kind, left, after },
+            ListPlace::Item { kind, size, left, after };
+            _ => cross_field(place, keeper, bytes, empty)
         },
         _ => cross_field(place, keeper, bytes, empty),
     }
@@ -326,9 +247,7 @@ fn cross_field<T: Store>(
     empty: bool,
 ) -> Option<(usize, Result<Place, AllocError>)>
     requires { InStep place keeper.old.bitmap }
-    ensures none { result ≡ None → keeper.new ≡ keeper.old }
-    ensures some { IfSome result (λ field. CrossesField bytes.now empty field.0 field.1 place
-        keeper.old keeper.new) }
+    ensures { CrossesNext bytes.now empty result place keeper.old keeper.new }
 {
     let (size, next) = passes(place, bytes)?;
     if size == 0 && !empty {
