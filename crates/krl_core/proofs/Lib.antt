@@ -17,12 +17,12 @@ pub mod Completes
 pub mod CompletesParts
 pub mod Fields
 pub mod Lists
-pub mod Goes
+pub mod PlaceRows
 pub mod Spelled
 pub mod SpelledLists
 pub mod Cuts
 pub mod Skipping
-pub mod Eights
+pub mod SerialFields
 pub mod OneSpelling
 pub mod FourAByte
-pub mod AtOnce
+pub mod UnwantedFields

@@ -28,7 +28,7 @@ use Rattle.std.proofs.lemmas.Nat.{pow-add}
 use Rattle.std.proofs.lemmas.Nat.Bits.{bit_at_above, bit_at_cat_low, bit_at_cat_high}
 use Rattle.krl_core.proofs.Bitmaps.{number_of-byte, low_more, low_none}
 use Rattle.krl_core.proofs.Bits.{highest_around}
-use Rattle.krl_core.proofs.Goes.{Goes, goes_none, goes_one, goes_then, goes_from}
+use Rattle.krl_core.proofs.PlaceRows.{Goes, goes_none, goes_one, goes_then, goes_from}
 use Rattle.krl_core.proofs.Lists.{header_parts}
 use Rattle.krl_held.proofs.Numbers.{number_again4, number_again8, number_of-one}
 use Rattle.krl_core.proofs.Rests.{IsItem}

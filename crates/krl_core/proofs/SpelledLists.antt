@@ -23,7 +23,7 @@ use Rattle.krl_core.specs.Krl.{SpelledSection, Certificates, Keys, Sha1s, Sha256
 use Rattle.krl_core.specs.Place.{expected, next_item, next_subsection}
 use Rattle.krl_core.specs.Reading.{Says, ran_out, failed_read, first}
 use Rattle.krl_core.proofs.Fronts.{first_fault_is, one_reported}
-use Rattle.krl_core.proofs.Goes.{Goes, goes_none, goes_one, goes_then, goes_from, arrives}
+use Rattle.krl_core.proofs.PlaceRows.{Goes, goes_none, goes_one, goes_then, goes_from, arrives}
 use Rattle.krl_core.proofs.Rests.{LastFor, IsItem}
 use Rattle.krl_core.proofs.Spelled.{string_goes, content_goes, within_is, header_goes, items_go, any_size, extension_goes, subsections_go}
 

@@ -4,7 +4,7 @@ use Rattle.krl_core.specs.declared.place.bitmap.BitmapPlace.{BitmapPlace}
 use Rattle.krl_core.specs.declared.place.bitmap.BitmapPlace.TheVariants as bitmaps
 use Rattle.krl_core.specs.declared.place.serials.SerialsPlace.{SerialsPlace}
 use Rattle.krl_core.specs.declared.place.serials.SerialsPlace.TheVariants as serials
-use Rattle.krl_core.proofs.AtOnce.{bits_crossed, serials_crossed}
+use Rattle.krl_core.proofs.UnwantedFields.{bits_crossed, serials_crossed}
 use Rattle.krl_core.proofs.crossing.cross_unasked.Goals as goal
 
 pub returns-else-count-eq0 : goal.returns-else-count-eq0

@@ -14,7 +14,7 @@ use Rattle.krl_core.specs.Crossing.{AreUnasked, Crosses, CrossesSome, MayPass}
 use Rattle.krl_held.specs.Scope.{AreUnwanted}
 use Rattle.krl_core.specs.Keeper.{InStep, Keeper, Skips, StaysWithin, held_with_open}
 use Rattle.krl_core.specs.Place.{next_bits, next_serial}
-use Rattle.krl_core.proofs.Eights.{crosses_serials}
+use Rattle.krl_core.proofs.SerialFields.{crosses_serials}
 use Rattle.krl_core.proofs.Keeping.{stored_same}
 use Rattle.krl_core.proofs.Skipping.{crosses_bits, stays_grow}
 use Rattle.krl_held.proofs.Unasked.{take_fewer}
