@@ -2,8 +2,8 @@
 use Rattle.std.proofs.Common.{◌≡◌, ℕ, ◌+◌, ◌-◌, ◌*◌, ◌<◌, ◌≤◌, List, [], ◌∷◌, ◌++◌, length, take, drop, zero, suc, inl, inr, refl, sym, ap, subst, ◌∙◌, append_assoc, arith, length-drop}
 use Rattle.std.specs.Prelude.{None}
 use Rattle.std.specs.List.{concat}
-use Rattle.std.proofs.lemmas.List.{append-nil, length-take-le}
-use Rattle.std.proofs.Math.Seq.{drop-nil, take-add}
+use Rattle.std.proofs.lemmas.List.{append-nil, drop-drop, length-take-le}
+use Rattle.std.proofs.Math.Seq.{take-add}
 use Rattle.serial_set.specs.BitRuns.{BitRuns}
 use Rattle.ssh_wire.specs.Wire.{IsBytes, number_of}
 use Rattle.ssh_wire.proofs.Digits.{IsBytes-take}
@@ -87,16 +87,11 @@ leads_serials (suc count) state left after bytes at there within =
           ∙ append_assoc state.entries (E ∷ []) (serial_entries a count (drop 8 bytes));
     }
 
-drop_drop : (n m : ℕ) (xs : List ℕ) → drop m (drop n xs) ≡ drop (n + m) xs
-drop_drop zero m xs = let same : m ≡ 0 + m = omega arith in subst (λ (k : ℕ). drop m xs ≡ drop k xs) same refl
-drop_drop (suc n) m [] = drop-nil m ∙ sym (drop-nil (suc n + m))
-drop_drop (suc n) m (x ∷ xs) = let same : suc (n + m) ≡ suc n + m = omega arith in subst (λ (k : ℕ). drop m (drop n xs) ≡ drop k (x ∷ xs)) same (drop_drop n m xs)
-
 -- the serial number after one more
 serial_later : (bytes : List ℕ) (k : ℕ) → serial_at (drop 8 bytes) k ≡ serial_at bytes (suc k)
 serial_later bytes k =
     let more : 8 * suc k ≡ 8 + 8 * k = omega arith in
-    ap (λ (l : List ℕ). number_of (take 8 l)) (drop_drop 8 (8 * k) bytes ∙ ap (λ (n : ℕ). drop n bytes) (sym more))
+    ap (λ (l : List ℕ). number_of (take 8 l)) (drop-drop (8 * k) 8 bytes ∙ ap (λ (n : ℕ). drop n bytes) (sym more))
 
 -- none of the serial numbers is in scope
 serials_unwanted : (count : ℕ) (scope : Scope) (a bytes : List ℕ) → AreUnwanted scope a bytes (8 * count)

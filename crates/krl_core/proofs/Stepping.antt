@@ -2,6 +2,7 @@
 use Rattle.std.proofs.Common.{◌≡◌, ℕ, ◌+◌, ◌-◌, ◌<◌, ◌≤◌, ◌⊎◌, Bool, true, false, ltb, List, [], ◌∷◌, ◌++◌, length, take, Option, Some, None, Err, refl, sym, ap, subst, ◌∙◌, append_assoc, arith, inl, inr, IsSome}
 use Rattle.std.specs.List.{concat}
 use Rattle.std.specs.Io.KnownBytes.{Consumes, IsAtEnd, Keeps}
+use Rattle.std.proofs.KnownBytes.{Keeps-refl}
 use Rattle.std.proofs.lemmas.Bool.{le-ltb, lt-ltb}
 use Rattle.std.proofs.lemmas.List.{append-nil, length-append, take_all}
 use Rattle.std.proofs.lemmas.List.Folds.{concat-append}
@@ -256,10 +257,6 @@ bounded_more old mid new keeper field b looks takes grows =
 
 -- ---- the parts of a step
 
-pub keeps_refl : (a : Option (List ℕ)) → Keeps a a
-keeps_refl None = tt
-keeps_refl (Some xs) = refl
-
 -- the reader failed at the test for the end
 pub end_refused : (old : Walk) (new : Pull) (fault : KrlFault) → IsBounded old.pull old.keeper → fault ≡ faults.Read
     → can_end old.place ≡ true → Refuses old.pull 1 pulls.Read new → Refused fault old new
@@ -267,4 +264,4 @@ end_refused old new fault bounded is may r text fields h =
     let one : (expected old.place).size ≡ 1 = end_size old.place may in
     let refuses : Refuses old.pull (expected old.place).size pulls.Read new = subst (λ (n : ℕ). Refuses old.pull n pulls.Read new) (sym one) r in
     subst (λ (f : KrlFault). Says f text new.failed new.source) (sym is)
-    (says_read old old.pull new text fields bounded (come h) (keeps_refl (left_of old.pull)) refl refl (end_room old.place may) refuses)
+    (says_read old old.pull new text fields bounded (come h) (Keeps-refl (left_of old.pull)) refl refl (end_room old.place may) refuses)
