@@ -1,8 +1,8 @@
 -- The entries of a byte of a bitmap.
-use Rattle.std.proofs.Common.{◌≡◌, ℕ, ◌+◌, ◌-◌, ◌*◌, ◌^◌, ◌<◌, ◌≤◌, ◌↔◌, Bool, true, false, not, cond, eqb, ltb, leb, leb-false, eq-eqb, zero, suc, Option, None, List, [], ◌∷◌, ◌++◌, length, reverse, Ok, Err, refl, sym, ap, subst, ◌∙◌, append_assoc, arith, inl, inr}
+use Rattle.std.proofs.Common.{◌≡◌, ℕ, ◌+◌, ◌-◌, ◌*◌, ◌^◌, ◌<◌, ◌≤◌, ◌↔◌, Bool, true, false, not, cond, eqb, ltb, leb, leb-false, eq-eqb, zero, suc, Option, None, List, [], ◌∷◌, ◌++◌, length, reverse, Ok, Err, refl, sym, ap, subst, ◌∙◌, append_assoc, arith}
 use Rattle.std.specs.Option.{option_to_list}
-use Rattle.std.specs.Int.{bit_at}
-use Rattle.std.proofs.lemmas.Bool.{cases_lt, cases_Bool, eqb-true, ne_eqb, ltb-true, lt-ltb, le-ltb}
+use Rattle.std.specs.Int.{bit_at, leading_zeros, w8}
+use Rattle.std.proofs.lemmas.Bool.{ne_eqb, ltb-true}
 use Rattle.std.proofs.lemmas.List.{append-nil, length-append, length-reverse, reverse-append}
 use Rattle.std.proofs.lemmas.Nat.Bits.{bit_at-zero}
 use Rattle.serial_set.specs.declared.span.Span.{Span}
@@ -22,7 +22,7 @@ use Rattle.ssh_wire.specs.Wire.{number_of}
 use Rattle.krl_core.specs.declared.place.Place.TheVariants as places
 use Rattle.krl_core.specs.declared.place.bitmap.BitmapPlace.TheVariants as bitmaps
 use Rattle.krl_core.specs.Place.{base_of, bits_judged, judge, next_bits, next_subsection, passes_end, highest_bit}
-use Rattle.serial_set.proofs.Bits.{bit_below}
+use Rattle.serial_set.proofs.Bits.{highest_bit as top_bit}
 use Rattle.serial_set.proofs.Rising.{covers_append}
 use Rattle.krl_held.proofs.Same.{same_serials, same_append, same_refl, same_is, same_then, same_swap, some_append, one_more, IsSerials}
 use Rattle.krl_held.proofs.Runs.{run_entries-name, run_entries-serials}
@@ -149,37 +149,14 @@ fed_grows old mid new last byte finished fed rest more stored less after =
 
 -- ---- a byte that passes its judgement shows no fault
 
--- a number that is not 0 is at least this bit, and a byte is less than twice the bit
-abbrev IsAround : (byte bit : ℕ) → Type 0
-IsAround byte bit = (0 < byte → 2 ^ bit ≤ byte) × (byte < 256 → byte < 2 ^ (bit + 1))
-
-around_next : (byte bound bit rest : ℕ) → (byte < bound → IsAround byte bit) → (bound ≤ byte → IsAround byte rest) → IsAround byte (cond (ltb byte bound) bit rest)
-around_next byte bound bit rest low high = elim (cases_lt byte bound) [ inl lt ↦ rw (lt-ltb byte bound lt) (low lt) | inr le ↦ rw (le-ltb byte bound le) (high le) ]
-
--- each byte is in this way around its highest bit
-pub highest_around : (byte : ℕ) → (0 < byte → 2 ^ highest_bit byte ≤ byte) × (byte < 256 → byte < 2 ^ (highest_bit byte + 1))
-highest_around byte =
-    around_next byte 2 0 _ (λ b. (λ some. omega arith, λ small. omega arith)) (λ a1.
-    around_next byte 4 1 _ (λ b. (λ some. omega arith, λ small. omega arith)) (λ a2.
-    around_next byte 8 2 _ (λ b. (λ some. omega arith, λ small. omega arith)) (λ a3.
-    around_next byte 16 3 _ (λ b. (λ some. omega arith, λ small. omega arith)) (λ a4.
-    around_next byte 32 4 _ (λ b. (λ some. omega arith, λ small. omega arith)) (λ a5.
-    around_next byte 64 5 _ (λ b. (λ some. omega arith, λ small. omega arith)) (λ a6.
-    around_next byte 128 6 7 (λ b. (λ some. omega arith, λ small. omega arith)) (λ a7. (λ some. omega arith, λ small. omega arith))))))))
-
 pub not_past_at : (base byte : ℕ) → byte < 256 → passes_end base byte ≡ false → (k : ℕ) → bit_at byte k ≡ 1 → base + k < 2 ^ 64
-not_past_at base byte h passes k bit =
-    elim (cases_Bool (eqb byte 0)) [
-      | inl none ↦
-          let z = bit_at-zero k in
-          let o : bit_at 0 k ≡ 1 = subst (λ (n : ℕ). bit_at n k ≡ 1) (eqb-true byte 0 none) bit in
-          absurd (omega (arith, z, o))
-      | inr some ↦
-          let low : leb 18446744073709551616 (base + highest_bit byte) ≡ false = rw some at passes in
-          let top = bit_below byte (highest_bit byte + 1) k ((highest_around byte).1 h) bit in
-          let lt : base + highest_bit byte < 18446744073709551616 = leb-false 18446744073709551616 (base + highest_bit byte) low in
-          omega (arith, top, lt)
-    ]
+not_past_at base zero h passes k bit = let z = bit_at-zero k in absurd (omega (arith, z, bit))
+not_past_at base (suc b) h passes k bit =
+    let byte = suc b in
+    let low : leb 18446744073709551616 (base + highest_bit byte) ≡ false = rw (ne_eqb byte 0 (λ e. absurd (omega arith))) at passes in
+    let lt : base + highest_bit byte < 18446744073709551616 = leb-false 18446744073709551616 (base + highest_bit byte) low in
+    let most = (top_bit byte (leading_zeros w8 byte) (omega arith) h refl).1 k bit in
+    omega (arith, most, lt)
 
 pub judged_parts : (first sign_free past : Bool) (next place : Place)
     → cond first (cond sign_free (judge (not past) faults.BitmapWraps place) (Err faults.BitmapNegative)) (judge (not past) faults.BitmapWraps place) ≡ Ok next

@@ -1,7 +1,7 @@
 -- A walk goes through all fields of a spelling.
 use Rattle.std.proofs.Common.{◌≡◌, ℕ, zero, suc, ◌+◌, ◌-◌, ◌*◌, ◌%◌, ◌==◌, ◌<◌, ◌≤◌, ◌^◌, Bool, true, false, not, cond, eqb, ltb, leb, eq-eqb, List, [], ◌∷◌, ◌++◌, length, Result, Ok, Err, refl, sym, ap, subst, ◌∙◌, append_assoc, arith, inl, inr}
 use Rattle.std.specs.List.{AllByRecursion}
-use Rattle.std.specs.Int.{bit_at}
+use Rattle.std.specs.Int.{bit_at, leading_zeros, w8}
 use Rattle.std.proofs.lemmas.Bool.{cases_lt, cases_Bool, ne_eqb, le-ltb, lt-ltb, le-leb, lt-leb, eqb-true}
 use Rattle.std.proofs.lemmas.List.{length-append}
 use Rattle.ssh_wire.specs.Wire.{IsBytes, number, number_of, string, strings}
@@ -23,11 +23,9 @@ use Rattle.krl_core.specs.declared.place.extension.ExtensionPlace.TheVariants as
 use Rattle.krl_core.specs.Front.{HasRoom}
 use Rattle.krl_core.specs.Krl.{Subsection, Serials, Range, Bitmap, Ids, SubsectionExtension, SpellsEach, SpellsSubsection, SpellsExtension, IsPositive, magic, header_text, numbers_text}
 use Rattle.krl_core.specs.Place.{Expected, expected, judge, length_within, within, item_size, next_item, next_subsection, next_serial, next_bits, base_of, bits_judged, passes_end, highest_bit}
-use Rattle.std.proofs.Math.Nat.{div-eq_of_lt-le}
-use Rattle.std.proofs.lemmas.Nat.{pow-add}
 use Rattle.std.proofs.lemmas.Nat.Bits.{bit_at_above, bit_at_cat_low, bit_at_cat_high}
 use Rattle.krl_core.proofs.Bitmaps.{number_of-byte, low_more, low_none}
-use Rattle.krl_core.proofs.Bits.{highest_around}
+use Rattle.serial_set.proofs.Bits.{highest_bit as top_bit}
 use Rattle.krl_core.proofs.PlaceRows.{Goes, goes_none, goes_one, goes_then, goes_from}
 use Rattle.krl_core.proofs.Lists.{header_parts}
 use Rattle.krl_held.proofs.Numbers.{number_again4, number_again8, number_of-one}
@@ -133,22 +131,11 @@ serials_go (n ∷ items) total left after rest e =
 
 -- ---- the bytes of a bitmap
 
--- the highest set bit is set
-highest_set : (byte : ℕ) → 0 < byte → byte < 256 → bit_at byte (highest_bit byte) ≡ 1
-highest_set byte pos lt =
-    let j = highest_bit byte in
-    let low = (highest_around byte).0 pos in
-    let high = (highest_around byte).1 lt in
-    let one : 1 * 2 ^ j ≤ byte = omega (arith, low) in
-    let double : 2 ^ (j + 1) ≡ 2 * 2 ^ j = pow-add 2 j 1 ∙ (let e : 2 ^ j * 2 ^ 1 ≡ 2 * 2 ^ j = omega arith in e) in
-    let two : byte < (1 + 1) * 2 ^ j = omega (arith, high, double) in
-    ap (λ (q : ℕ). q % 2) (div-eq_of_lt-le {k = 1} (2 ^ j) {m = byte} one two)
-
 -- no set bit is the bit of a number past the last one
 not_passes : (base byte : ℕ) → byte < 256 → ((k : ℕ) → bit_at byte k ≡ 1 → base + k < 2 ^ 64) → passes_end base byte ≡ false
 not_passes base zero lt within = refl
 not_passes base (suc b) lt within =
-    let top = within (highest_bit (suc b)) (highest_set (suc b) (omega arith) lt) in
+    let top = within (highest_bit (suc b)) (top_bit (suc b) (leading_zeros w8 (suc b)) (omega arith) lt refl).0 in
     rw (ne_eqb (suc b) 0 (λ e. absurd (omega arith)), lt-leb 18446744073709551616 (base + highest_bit (suc b)) (omega (arith, top))) refl
 
 bits_pass : (offset size left after byte : ℕ) → (left ≡ size → byte < 128) → passes_end (base_of offset left) byte ≡ false

@@ -3,6 +3,7 @@
 use Rattle.std.specs.Prelude.{ℕ, zero, suc, ◌+◌, ◌-◌, ◌*◌, ◌%◌, ◌==◌, nat_lt, nat_le, if◌then◌else◌}
 use Rattle.std.specs.Prelude.{Bool, true, false, not, List, [], ◌∷◌, Option, Some, None, Result, Ok}
 use Rattle.std.specs.Prelude.{Err}
+use Rattle.std.specs.Int.{leading_zeros, w8}
 use Rattle.std.specs.Str.{bytes_eq}
 use Rattle.ssh_wire.specs.Wire.{number_of}
 use Rattle.krl_types.specs.declared.krl_fault.KrlFault.{KrlFault}
@@ -145,12 +146,9 @@ subsection_of_type left type_byte =
     else if type_byte == 0x39 then Ok (places.Extension (extensions.SubsectionLength left))
     else Err faults.UnknownCertSection
 
--- the index of the highest set bit of a byte
+-- the index of the highest set bit of a byte that is not 0
 abbrev pub highest_bit : ℕ → ℕ
-highest_bit byte =
-    if nat_lt byte 2 then 0 else if nat_lt byte 4 then 1 else if nat_lt byte 8 then 2
-    else if nat_lt byte 16 then 3 else if nat_lt byte 32 then 4 else if nat_lt byte 64 then 5
-    else if nat_lt byte 128 then 6 else 7
+highest_bit byte = 7 - leading_zeros w8 byte
 
 -- Whether a set bit of the byte is the bit of a number past 2^64-1. The lowest bit is that of
 -- `base`.

@@ -3,7 +3,7 @@
 ghost use Rattle.std.specs.Prelude.{◌≡◌, ◌-◌, ◌<◌, ◌≤◌};
 ghost use Rattle.krl_core.specs.Place.{judge as judged_by, within as within_of, base_of};
 ghost use Rattle.krl_core.specs.Place.{bits_judged as bits_judged_of, passes_end as passes_end_of};
-ghost use Rattle.krl_core.specs.Place.{highest_bit as highest_bit_of, next_bits as bits_after};
+ghost use Rattle.krl_core.specs.Place.{next_bits as bits_after};
 ghost use Rattle.krl_core.specs.Place.{next_item as item_after, next_serial as serial_after};
 ghost use Rattle.krl_core.specs.Place.{next_subsection as subsection_after};
 ghost use Rattle.krl_core.specs.Place.{section_of_type as section_of};
@@ -159,23 +159,9 @@ pub(crate) fn bits_judged(
 pub(crate) fn passes_end(offset: u64, left: u32, byte: u8) -> bool
     ensures { result ≡ passes_end_of (base_of offset left) byte }
 {
-    let place = 8 * u64::from(left.saturating_sub(1));
-    byte != 0 && place + highest_bit(byte) > u64::MAX - offset
-}
-
-// The index of the highest set bit.
-pub(crate) fn highest_bit(byte: u8) -> u64
-    ensures value { result ≡ highest_bit_of byte }
-    ensures below { result < 8 }
-{
-    match byte {
-        0..2 => 0,
-        2..4 => 1,
-        4..8 => 2,
-        8..16 => 3,
-        16..32 => 4,
-        32..64 => 5,
-        64..128 => 6,
-        _ => 7,
+    if byte == 0 {
+        return false;
     }
+    let highest = 8 * u64::from(left.saturating_sub(1)) + u64::from(7 - byte.leading_zeros());
+    highest > u64::MAX - offset
 }
