@@ -3,3 +3,4 @@ pub mod Asking
 pub mod Expecting
 pub mod OneReading
 pub mod Printing
+pub mod Bounds

@@ -1,16 +1,18 @@
 //! Queries of a list for the keys of files. After the list's front, only the answers are stored.
 
-ghost use Rattle.std.specs.Prelude.{◌≡◌, ◌≤◌, ℕ, IfSome, List, None, Option, Result, false};
+ghost use Rattle.std.specs.Prelude.{◌≡◌, ◌*◌, ◌≤◌, ℕ, IfSome, List, None, Option, Result, false};
 ghost use Rattle.key_files.specs.Keys.{Named as NamedOf};
+ghost use Rattle.key_files.specs.Sizes.{files_size};
 ghost use Rattle.krl_held.specs.Entry.{Entry as EntryOf};
 ghost use Rattle.krl_held.specs.Questions.{Asks};
-ghost use Rattle.krl_held.specs.Revocations.{IsOrderly};
-ghost use Rattle.krl_held.specs.Scope.{IsSmall};
+ghost use Rattle.krl_held.specs.Revocations.{IsOrderly, nothing};
 ghost use Rattle.krl_core.specs.Reading.{HasReadOf, IsReadingOf};
 ghost use Rattle.krl_types.specs.declared.krl_fault.KrlFault.{KrlFault as FaultOf};
 ghost use Rattle.key_listing.specs.Carries.{Carries};
 ghost use Rattle.key_listing.specs.Expected.{AllExpected};
+ghost use Rattle.key_listing.specs.Run.{Answering as AnsweringOf, files_items};
 ghost use Rattle.krl_runs.specs.Query.{AnswersAbout, HasEntries, asked_run_of};
+ghost use Rattle.krl_runs.specs.Questions.{AsksWithin, IsFewFor};
 
 use crate::query::{Known, ask_held, query_line};
 use crate::questions::ask_about;
@@ -22,12 +24,10 @@ use span_sets::Held;
 use ssh_cert::AnyKey;
 use std::alloc::{AllocError, Global};
 
-// The answers of a list that was streamed, for each key. Its stored entries are few compared with
-// the queries.
+// The answers of a list that was streamed, for each key.
 #[derive(Drop)]
 struct Passed<'q> {
     findings: &'q Findings<Held>,
-    ghost small: { IsSmall findings.now.topics findings.now.found },
 }
 
 impl<'q> Answers for Passed<'q> {
@@ -141,6 +141,8 @@ fn pass<'a, R: Source + Drop, W: Sink>(
     requires working { walk.fault ≡ None }
     requires asked { IfSome walk.keeper.scope (λ topics. AllExpected (Asks topics) files.now) }
     requires orderly { IfSome walk.keeper.scope IsOrderly }
+    requires within { IfSome walk.keeper.scope
+        (AsksWithin (3 * files_size files.now) nothing) }
     ensures { (before : Option (List ℕ)) → HasReadOf before walk
         → (reading : Result (List EntryOf) FaultOf)
         × IsReadingOf HasEntries before reading (R.has_failed result.1) (R.left result.1)
@@ -152,13 +154,25 @@ fn pass<'a, R: Source + Drop, W: Sink>(
         Ok((header, findings)) => {
             let _header = header;
             let _found = findings.found();
-            let passed = Passed {
-                findings: &findings,
-            };
-            (print_files(run, &passed, files), reader)
+            (print_passed(run, &findings, files), reader)
         }
         Err(fault) => (Err(RunFault::whole(krl_name, cause_of(fault))), reader),
     }
+}
+
+// Prints the answer for each key of the files. Few entries of the list were stored for that.
+fn print_passed<'a, W: Sink>(
+    run: &mut Run<W>,
+    findings: &Findings<Held>,
+    files: &'a [Named<'a>],
+) -> Result<(), RunFault<'a>>
+    requires asked { AllExpected (Asks findings.now.topics) files.now }
+    requires few { IsFewFor (files_size files.now) findings.now.found }
+    ensures { (answering : AnsweringOf)
+        → AnswersAbout findings.now.topics findings.now.found answering
+        → Carries (files_items answering files.now) result run.old.printer run.new.printer }
+{
+    print_files(run, &Passed { findings }, files)
 }
 
 // Streams the rest of a list without queries, because an allocation failed.

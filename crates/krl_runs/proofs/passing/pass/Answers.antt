@@ -2,6 +2,8 @@
 use Rattle.std.proofs.Common.{Ok, Err}
 use Rattle.krl_held.specs.NamingTests.{is_revoked}
 use Rattle.krl_runs.specs.Query.{ask_by}
+use Rattle.key_files.specs.Sizes.{files_size}
+use Rattle.krl_runs.proofs.Bounds.{few_found}
 use Rattle.krl_runs.proofs.Asking.{asked_run, asked_refused, passed_answers, passed_list}
 use Rattle.krl_runs.proofs.passing.pass.Goals as goal
 
@@ -14,8 +16,8 @@ returns-in-Ok g c = λ before begun.
     (λ text e. let h = begun text e in read.found text h.0 h.1) (λ text e. let h = begun text e in read.no_fault text h.0 h.1) in (
       Ok answers.0,
       record { failure = read.failure; read = answers.1 },
-      asked_run c.args.krl_name.now c.args.files.now answers.0 c.print_files.result _ _
-          (c.print_files.ensures (ask_by (is_revoked answers.0)) (passed_answers topics found answers.0 answers.2)),
+      asked_run c.args.krl_name.now c.args.files.now answers.0 c.print_passed.result _ _
+          (c.print_passed.ensures (ask_by (is_revoked answers.0)) (passed_answers topics found answers.0 answers.2)),
     )
 
 pub returns-in-Err : goal.returns-in-Err
@@ -26,7 +28,14 @@ returns-in-Err g c = λ before begun.
       rw (c.whole.ensures, c.cause_of.ensures) (asked_refused c.args.krl_name.now c.args.files.now c.in-Err.fault _),
     )
 
-pub print_files-requires : goal.print_files-requires
-print_files-requires g c =
+pub print_passed-requires-clause-asked : goal.print_passed-requires-clause-asked
+print_passed-requires-clause-asked g c =
     let read = rw c.in-Ok.is at c.read_on-read.ensures in
     rw (← read.scope) at c.requires.asked
+
+pub print_passed-requires-clause-few : goal.print_passed-requires-clause-few
+print_passed-requires-clause-few g c =
+    let read = rw c.in-Ok.is at c.read_on-read.ensures in
+    let orderly = rw (← read.scope) at c.requires.orderly in
+    let within = rw (← read.scope) at c.requires.within in
+    few_found (files_size c.args.files.now) c.in-Ok.findings.topics c.in-Ok.findings.found within (read.within.asked_is orderly)

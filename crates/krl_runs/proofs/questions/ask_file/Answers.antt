@@ -7,6 +7,7 @@ use Rattle.key_files.specs.declared.cause.Cause.TheVariants.{NoMemory}
 use Rattle.krl_held.specs.Questions.{Asks}
 use Rattle.krl_held.proofs.AskedMore.{on_ok_with}
 use Rattle.key_listing.specs.Expected.{AreExpected}
+use Rattle.krl_runs.proofs.Bounds.{room_next}
 use Rattle.krl_runs.proofs.Expecting.{fault_expected, key_expected}
 use Rattle.krl_runs.proofs.questions.ask_file.Goals as goal
 
@@ -14,30 +15,38 @@ pub loop-next-preserved-else-not-branch : goal.loop-next-preserved-else-not-bran
 loop-next-preserved-else-not-branch g c =
     let asked = c.in_ok-ask_key-in-Ok.ensures in
     let given = rw c.in-Ok.is at c.in-Some.ensures.steps in
-    let before = rw (given.1.0 ∙ ap (λ (next : Result FileKey RunFault). next ∷ c.next.new.self) given.1.1) at c.loop-next.invariant.3 in (
-      asked.found,
-      asked.orderly,
-      (λ name h. asked.more name (c.loop-next.invariant.2 name h)),
-      λ later more rest. before later (λ name h. more name (asked.more name h))
-          (key_expected c.ask_key.new.questions.topics later c.in-Ok.key c.next.new.self more asked.asked rest),
-    )
+    let first = given.1.0 ∙ ap (λ (next : Result FileKey RunFault). next ∷ c.next.new.self) given.1.1 in
+    let before = rw first at c.loop-next.invariant.asked in
+    let within = rw first at c.loop-next.invariant.within in
+    record {
+      found = asked.found;
+      orderly = asked.orderly;
+      more = λ name h. asked.more name (c.loop-next.invariant.more name h);
+      asked = λ later more rest. before later (λ name h. more name (asked.more name h))
+          (key_expected c.ask_key.new.questions.topics later c.in-Ok.key c.next.new.self more asked.asked rest);
+      within = room_next _ c.in-Ok.key c.next.new.self _ _ _ within asked.within;
+    }
 
 pub loop-next-preserved : goal.loop-next-preserved
 loop-next-preserved g c =
     let asked = c.in_ok-ask_key-in-Ok.ensures in
     let given = rw c.in-Ok.is at c.in-Some.ensures.steps in
-    let before = rw (given.1.0 ∙ ap (λ (next : Result FileKey RunFault). next ∷ c.next.new.self) given.1.1) at c.loop-next.invariant.3 in (
-      asked.found,
-      asked.orderly,
-      (λ name h. asked.more name (c.loop-next.invariant.2 name h)),
-      λ later more rest. before later (λ name h. more name (asked.more name h))
-          (key_expected c.ask_key.new.questions.topics later c.in-Ok.key c.next.new.self more asked.asked rest),
-    )
+    let first = given.1.0 ∙ ap (λ (next : Result FileKey RunFault). next ∷ c.next.new.self) given.1.1 in
+    let before = rw first at c.loop-next.invariant.asked in
+    let within = rw first at c.loop-next.invariant.within in
+    record {
+      found = asked.found;
+      orderly = asked.orderly;
+      more = λ name h. asked.more name (c.loop-next.invariant.more name h);
+      asked = λ later more rest. before later (λ name h. more name (asked.more name h))
+          (key_expected c.ask_key.new.questions.topics later c.in-Ok.key c.next.new.self more asked.asked rest);
+      within = room_next _ c.in-Ok.key c.next.new.self _ _ _ within asked.within;
+    }
 
 pub returns-in-Err-clause-asked : goal.returns-in-Err-clause-asked
 returns-in-Err-clause-asked g c =
     let given = rw c.in-Err.is at c.in-Some.ensures.steps in
-    let before = rw given.1.0 at c.loop-next.invariant.3 in
+    let before = rw given.1.0 at c.loop-next.invariant.asked in
     let topics = c.loop-next.questions.topics in
     let cause : c.stop.inside.cause ≡ c.in-Err.stop.cause = ap (λ (stop : RunFault). stop.cause) c.stop.view_is in
     let known = rw cause at c.stopped_by.ensures in
@@ -46,5 +55,5 @@ returns-in-Err-clause-asked g c =
 
 pub returns-clause-asked : goal.returns-clause-asked
 returns-clause-asked g c =
-    let before = rw c.in-None.ensures.steps.0 at c.loop-next.invariant.3 in
+    let before = rw c.in-None.ensures.steps.0 at c.loop-next.invariant.asked in
     before c.loop-next.questions.topics (λ name h. h) tt

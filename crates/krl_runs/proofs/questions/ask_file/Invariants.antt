@@ -1,11 +1,18 @@
--- If all keys that are left are in the queries, all keys of the file are.
+-- If all keys that are left are in the queries, all keys of the file are. The file has room for the queries and for the
+-- keys that are left.
 use Rattle.key_files.specs.Keys.{keys_of}
+use Rattle.key_files.specs.Sizes.{file_size}
 use Rattle.krl_held.specs.Revocations.{IsOrderly, Revocations}
 use Rattle.krl_held.specs.Questions.{Asks, AsksMore, FindsIn}
 use Rattle.key_listing.specs.Expected.{AreExpected}
+use Rattle.krl_runs.proofs.Bounds.{LeavesRoom}
 use Rattle.krl_runs.proofs.questions.ask_file.Given as goal
 
 abbrev pub invariant-loop-next : goal.invariant-loop-next
-invariant-loop-next g l =
-    FindsIn l.front.keeper.contents l.questions × IsOrderly l.questions.topics × AsksMore l.initial.questions.topics l.questions.topics
-    × ((later : Revocations) → AsksMore l.questions.topics later → AreExpected (Asks later) l.next-iterator → AreExpected (Asks later) (keys_of l.file))
+invariant-loop-next g l = record {
+  found : FindsIn l.front.keeper.contents l.questions;
+  orderly : IsOrderly l.questions.topics;
+  more : AsksMore l.initial.questions.topics l.questions.topics;
+  asked : (later : Revocations) → AsksMore l.questions.topics later → AreExpected (Asks later) l.next-iterator → AreExpected (Asks later) (keys_of l.file);
+  within : LeavesRoom (file_size l.file) l.next-iterator l.initial.questions.topics l.questions.topics;
+}
