@@ -42,11 +42,11 @@ program=$root/usr/local/bin/krl expect 'the installed krl' 1 \
 judge 'the manual page of krl' \
   "$(cmp "$top/docs/krl.1" "$root/usr/local/share/man/man1/krl.1" 2>&1)"
 judge 'the manual page has the name of the program' \
-  "$(grep -n -e 'Nm ssh-keygen' -e 'SSH-KEYGEN' -e 'ssh-keygen -[a-zA-Z]' \
-  "$root/usr/local/share/man/man1/krl-keygen.1")"
+  "$(asks 1 grep -n -e 'Nm ssh-keygen' -e 'SSH-KEYGEN' -e 'ssh-keygen -[a-zA-Z]' \
+    "$root/usr/local/share/man/man1/krl-keygen.1")"
 for file in bash-completion/completions/krl-keygen zsh/site-functions/_krl-keygen \
   fish/vendor_completions.d/krl-keygen.fish; do
-  judge "the name of the program in $file" "$(grep -n ssh-keygen "$root/usr/local/share/$file")"
+  judge "the name of the program in $file" "$(asks 1 grep -n ssh-keygen "$root/usr/local/share/$file")"
 done
 made 'make install once more' 0 install
 made 'make install under the name ssh-keygen' 0 install PREFIX=/opt/krl NAME=ssh-keygen
@@ -94,9 +94,8 @@ rm -r "$root"
 
 # modes NAME FOLDER: all folders and files there are for everybody to read.
 modes() {
-  judge "$1" \
-    "$(find "$2" ! -type l ! \( -type d -perm 755 -o -type f -perm 644 \
-    -o -type f -path '*/bin/*' -perm 755 \))"
+  judge "$1" "$(asks 0 find "$2" ! -type l \
+    ! \( -type d -perm 755 -o -type f -perm 644 -o -type f -path '*/bin/*' -perm 755 \))"
 }
 mkdir "$root" && chmod 755 "$root"
 umask 077

@@ -85,10 +85,10 @@ judge 'the first use builds' "$(
   differs 'standard output' "$(made_of 6 4)" "$(cat said)"
   differs 'standard error' "$all" "$(cat "$scratch/error")"
 )"
-judge 'one crate after the other' "$(awk '
+judge 'one crate after the other' "$(asks 0 awk '
   /begins/ && at { print "  " $1 " begins within " at }
   { at = /begins/ ? $1 : "" }' calls)"
-judge 'one process in each crate' "$(grep begins calls | grep -v ' with 1$')"
+judge 'one process in each crate' "$(asks 0 awk '/begins/ && !/ with 1$/' calls)"
 judge 'each crate is proved once' "$(differs crates "$every" "$(proved)")"
 build 'the second use only runs' 0 "$(made_of 6 4)" '' ''
 PATH=$scratch/here/kit/bin:/usr/bin:/bin "${one[@]}" away/krl >said 2>"$scratch/error"
@@ -259,7 +259,7 @@ whole 'memory for one process'
 touch away/crates/side/src/killed
 anew "${two[@]}"
 wait
-judge 'it is proved alone' "$(awk '/begins/ && alone { print "  " $1 " begins beside it" }
+judge 'it is proved alone' "$(asks 0 awk '/begins/ && alone { print "  " $1 " begins beside it" }
   /^side begins/ { alone = ++times == 2 } /^side ends/ { alone = 0 }' calls)"
 whole 'a process that is killed for memory'
 judge 'it is proved once more' \

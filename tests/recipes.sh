@@ -63,8 +63,7 @@ judge 'systemd is told' "$(
 if command -v systemd-analyze >/dev/null; then
   # Without the program it finds one fault.
   sed -i "s|^ExecStart=/usr/local|ExecStart=$room/local|" "$room/units/krl-pull.service"
-  judge 'systemd finds nothing in the units' \
-    "$(systemd-analyze verify "$room"/units/krl-pull.* 2>&1)"
+  judge 'systemd finds nothing in the units' "$(asks 0 systemd-analyze verify "$room"/units/krl-pull.*)"
 fi
 
 # pulls NAME STATUS VERSION: what is on the web is fetched, with this status, and then this version

@@ -57,6 +57,16 @@ judge() {
   fi
 }
 
+# asks MOST COMMAND..: what a command says that judges, and one line more where its status is above MOST. So a judge
+# that failed is not taken for one that found nothing.
+asks() {
+  local most=$1 status
+  shift
+  "$@" 2>&1
+  status=$?
+  [ $status -le "$most" ] || printf '  %s ended with status %d\n' "$1" $status
+}
+
 # digits FILE: the bytes of a list in hexadecimal, with zeros instead of its time.
 digits() {
   local all

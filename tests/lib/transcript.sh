@@ -9,7 +9,8 @@ transcript() {
   mkdir -p "$scratch/bin" && ln -sfn "$program" "$scratch/bin/ssh-keygen" &&
     ln -sfn "$krl" "$scratch/bin/krl"
   got=$(PATH=$scratch/bin:$PATH follow <<<"$wanted" | timeless)
-  judge "$1" "$(diff <(printf '%s\n' "$wanted") <(printf '%s\n' "$got"))"
+  judge "$1" "$([[ $wanted == '$ '* ]] || echo '  there is no command'
+    asks 0 diff <(printf '%s\n' "$wanted") <(printf '%s\n' "$got"))"
 }
 
 timeless() {
