@@ -9,5 +9,5 @@ mod summary;
 
 pub use names::{Reading, is_audited, reading_of};
 pub use order::sort_names;
-pub use paths::{escaped_name, path_in};
+pub use paths::path_in;
 pub use summary::{Summary, push_summary};

@@ -2,9 +2,9 @@
 
 use crate::loading::{begins_private, open, read, refusal_of};
 use crate::stop::Stop;
-use audit_tree::{Reading, escaped_name, is_audited, path_in, reading_of, sort_names};
+use audit_tree::{Reading, is_audited, path_in, reading_of, sort_names};
 use byte_streams::ToWrite;
-use krl_audit::{Auditor, Refusal};
+use krl_audit::{Auditor, Refusal, visible_name};
 use std::alloc::AllocError;
 use std::fs::{self, Files};
 use std::io::{BufRead, BufReader, ErrorKind, Read, Stdout};
@@ -59,7 +59,7 @@ impl<'a, 'q, 'w> Rounds<'a, 'q, 'w> {
     // Audits a file or a directory of a list of names.
     fn audit_one_listed<'s>(&mut self, name: &[u8]) -> Result<(), Stop<'s>> {
         let Ok(name) = str::from_utf8(name) else {
-            let shown = escaped_name(self.rt.alloc(), name)?;
+            let shown = visible_name(self.rt.alloc(), name)?;
             return self.audit(shown.as_str(), Err(Refusal::Open));
         };
         if name == "-" {
@@ -141,7 +141,7 @@ impl<'a, 'q, 'w> Rounds<'a, 'q, 'w> {
     fn audit_entry<'s>(&mut self, path: &str, name: &[u8]) -> Result<Option<String>, Stop<'s>> {
         let alloc = self.rt.alloc();
         let Ok(name) = str::from_utf8(name) else {
-            let shown = escaped_name(alloc, name)?;
+            let shown = visible_name(alloc, name)?;
             let path = path_in(alloc, path, shown.as_str())?;
             self.audit(path.as_str(), Err(Refusal::Open))?;
             return Ok(None);

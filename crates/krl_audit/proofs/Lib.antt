@@ -6,3 +6,4 @@ pub mod Files
 pub mod Spelled
 pub mod Private
 pub mod Shallow
+pub mod AsciiNames

@@ -19,7 +19,9 @@ visible_char quoted code =
 unfoldable pub visible_byte : Bool → ℕ → List ℕ
 visible_byte quoted byte = if nat_lt byte 128 then visible_char quoted byte else numbered byte
 
+abbrev pub visible_bytes : Bool → List ℕ → List ℕ
+visible_bytes quoted text = flat_map (visible_byte quoted) text
+
 unfoldable pub visible : Bool → List ℕ → List ℕ
 visible quoted text =
-    if is_utf8 text then flat_map (visible_char quoted) (chars text)
-    else flat_map (visible_byte quoted) text
+    if is_utf8 text then flat_map (visible_char quoted) (chars text) else visible_bytes quoted text

@@ -24,4 +24,5 @@ pub use counts::{Counts, Kind};
 pub use done::ListFacts;
 pub use judge::{Form, Judge, Shown};
 pub use outcome::{Found, Outcome, read_outcome};
+pub use visible::visible_name;
 pub use why::{Refusal, Why};

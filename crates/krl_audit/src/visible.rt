@@ -1,11 +1,11 @@
 //! Texts that anyone may have written, as they are printed.
 
-ghost use Rattle.std.specs.Prelude.{◌≡◌, ◌++◌, ◌<◌, OnOk};
+ghost use Rattle.std.specs.Prelude.{◌≡◌, ◌++◌, ◌<◌, IfOk, OnOk, false, string_bytes};
 ghost use Rattle.std.specs.List.{flat_map};
 ghost use Rattle.std.specs.Str.{chars};
-ghost use Rattle.krl_audit.specs.Visible.{numbered, visible, visible_byte, visible_char};
+ghost use Rattle.krl_audit.specs.Visible.{numbered, visible, visible_byte, visible_bytes, visible_char};
 
-use std::alloc::AllocError;
+use std::alloc::{AllocError, Global};
 use std::str;
 
 const DIGITS: &[u8; 16] = b"0123456789abcdef";
@@ -23,6 +23,16 @@ pub(crate) fn push_visible(out: &mut Vec<u8>, text: &[u8], quoted: bool) -> Resu
     }
 }
 
+/// The name of a file that is not UTF-8, as ASCII: each control character and each byte from 0x80 on
+/// as `\x` and two hexadecimal digits.
+pub fn visible_name(alloc: Global, name: &[u8]) -> Result<String, AllocError>
+    ensures { IfOk result (λ shown. string_bytes shown ≡ visible_bytes false name.now) }
+{
+    let mut shown = Vec::new(alloc);
+    push_bytes(&mut shown, name, false)?;
+    Ok(String::from_utf8(shown).unwrap())
+}
+
 // Appends the characters.
 fn push_chars(out: &mut Vec<u8>, text: &str, quoted: bool) -> Result<(), AllocError>
     ensures { OnOk result (out.new.items
@@ -37,7 +47,7 @@ fn push_chars(out: &mut Vec<u8>, text: &str, quoted: bool) -> Result<(), AllocEr
 // Appends the bytes of a text that is not UTF-8.
 fn push_bytes(out: &mut Vec<u8>, text: &[u8], quoted: bool) -> Result<(), AllocError>
     ensures { OnOk result (out.new.items
-        ≡ out.old.items ++ flat_map (visible_byte quoted) text.now) }
+        ≡ out.old.items ++ visible_bytes quoted text.now) }
 {
     for byte in text {
         push_byte(out, *byte, quoted)?;

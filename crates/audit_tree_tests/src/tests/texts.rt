@@ -1,6 +1,6 @@
 //! The order and the paths of names, and the last line.
 
-use audit_tree::{Summary, escaped_name, path_in, push_summary, sort_names};
+use audit_tree::{Summary, path_in, push_summary, sort_names};
 use krl_audit::Counts;
 use std::test::Fail;
 
@@ -25,8 +25,6 @@ fn paths(rt: HostRuntime) -> Result<(), Fail> {
         let path = path_in(rt.alloc(), directory, "x")?;
         assert!(rt; path.as_str() == wanted);
     }
-    let name = escaped_name(rt.alloc(), b"caf\xe9 \\\x1b")?;
-    assert!(rt; name.as_str() == "caf\\xe9 \\\x1b");
     Ok(())
 }
 

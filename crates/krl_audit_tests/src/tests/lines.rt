@@ -2,6 +2,7 @@
 
 use crate::tests::keys::{ALICE, ALICE_PRINT, AUTHORITY, AUTHORITY_PRINT, BOB, BOB_PRINT};
 use crate::tests::made::{ALL, FINDINGS, NOTHING, alice_and_bob, all_of_bob, nothing, said_of};
+use krl_audit::visible_name;
 use parts_for_tests::joined;
 use std::alloc::Global;
 use std::process::Abort;
@@ -63,6 +64,12 @@ fn a_comment_that_is_not_utf8_is_shown_by_numbers(rt: HostRuntime) {
     );
     let wanted = wanted.expect(&rt, "there is memory");
     assert_eq!(rt; found.text.as_slice(), wanted.as_bytes());
+}
+
+#[test]
+fn a_name_that_is_not_utf8_is_shown_by_numbers(rt: HostRuntime) {
+    let name = visible_name(rt.alloc(), b"caf\xe9 \"\\\x1b\n").expect(&rt, "there is memory");
+    assert!(rt; name.as_str() == "caf\\xe9 \"\\\\x1b\\x0a");
 }
 
 // Lines for which nothing is printed, whatever their keys: blank lines, comments, and keys that are

@@ -1,8 +1,8 @@
 //! Paths of directories, names that are shown, and the last line of an audit.
 
 use crate::tests::answered::answered;
-use audit_tree::{Summary, escaped_name, path_in, push_summary};
-use krl_audit::Counts;
+use audit_tree::{Summary, path_in, push_summary};
+use krl_audit::{Counts, visible_name};
 use std::alloc::AllocError;
 
 #[test]
@@ -14,7 +14,7 @@ fn a_path(rt: HostRuntime) {
 
 #[test]
 fn a_name_that_is_not_utf8(rt: HostRuntime) {
-    if let Some(name) = answered(&rt, escaped_name(rt.alloc(), b"caf\xe9"), AllocError) {
+    if let Some(name) = answered(&rt, visible_name(rt.alloc(), b"caf\xe9"), AllocError) {
         assert!(rt; name.as_str() == "caf\\xe9");
     }
 }
