@@ -128,7 +128,9 @@ both 'a key ID without a letter' 'id:\n' 'id: ' '*'
 both 'a carriage return after a key ID' 'id: bob\r\n' 'id: bob\015' 'id: bob'
 both 'a carriage return alone in a line' 'id: bob\n\r\n' '*' 'id: bob'
 both 'a carriage return after a number' 'serial: 5\r\n' '*' 'serial: 5'
-both 'a carriage return after a hash' "hash: $fingerprint\r\n" '*' "hash: $fingerprint"
+# OpenSSH's program prints the hash itself in hexadecimal digits.
+digits=$(cut -d ' ' -f 2 one.pub | base64 -d | sha256sum | cut -c 1-64)
+both 'a carriage return after a hash' "hash: $fingerprint\r\n" '*' "hash: SHA256:$digits"
 both 'options before a key' "no-pty $(cat one.pub)\n" '*' "hash: $fingerprint # ssh-ed25519"
 made_by "$openssh" 'serial: 5\n' -z 7
 judge 'OpenSSH: -k prints a line' "$(grep -q 'Revoking from' "$scratch/output" || echo '  none')"
