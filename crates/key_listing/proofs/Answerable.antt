@@ -7,7 +7,6 @@ use Rattle.ssh_cert.specs.SubjectReading.{subject_of}
 use Rattle.ssh_cert.specs.declared.subject_fault.SubjectFault.{SubjectFault}
 use Rattle.key_files.specs.Keys.{FileKey}
 use Rattle.key_files.specs.RunFault.{RunFault}
-use Rattle.key_files.specs.declared.cause.Cause.TheVariants as causes
 use Rattle.key_listing.specs.Expected.{AreExpected}
 
 -- if everything is expected, each key is

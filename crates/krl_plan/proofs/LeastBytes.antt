@@ -1,5 +1,6 @@
--- The runs of a plan take at least 17 bytes for every 64 of them, as in a bitmap of every other serial.
-use Rattle.std.proofs.Common.{◌≡◌, ℕ, ◌+◌, ◌*◌, ◌≤◌, List, [], ◌∷◌, length, take, drop, arith, zero, suc}
+-- The runs of a plan take at least 17 bytes for every 64 of them, as in a bitmap of every other
+-- serial.
+use Rattle.std.proofs.Common.{ℕ, ◌+◌, ◌*◌, ◌≤◌, List, [], ◌∷◌, length, take, drop, arith, zero, suc}
 use Rattle.std.proofs.lemmas.List.{length-drop, length-take-le}
 use Rattle.serial_set.specs.declared.span.Span.{Span}
 use Rattle.serial_set.specs.Span.{IsRuns, RunsFrom}

@@ -1,6 +1,6 @@
 //! The best list of serials at the front of some runs.
 
-ghost use Rattle.std.specs.Prelude.{◌≡◌, ℕ, ◌+◌, ◌^◌, ◌<◌, ◌≤◌, List, [], ◌∷◌, OnOk};
+ghost use Rattle.std.specs.Prelude.{ℕ, ◌+◌, ◌^◌, ◌<◌, ◌≤◌, List, [], ◌∷◌, OnOk};
 ghost use Rattle.serial_set.specs.declared.span.Span.{Span};
 ghost use Rattle.krl_plan.specs.declared.group.Sort.TheVariants.{Serials};
 ghost use Rattle.krl_plan.specs.Search.{IsBestOf, IsCell};
