@@ -1,3 +1,4 @@
 pub mod Names
 pub mod Paths
+pub mod Progress
 pub mod Summary

@@ -1,13 +1,15 @@
-//! Which files of directories an audit reads and in which order, how they are named, and the last
-//! line of an audit.
+//! Which files of directories an audit reads and in which order, how they are named, how far an
+//! audit is, and its last line.
 #![tactic(auto)]
 
 mod names;
 mod order;
 mod paths;
+mod progress;
 mod summary;
 
 pub use names::{Reading, is_audited, reading_of};
 pub use order::sort_names;
 pub use paths::path_in;
+pub use progress::{push_progress, push_wipe};
 pub use summary::{Summary, push_summary};

@@ -32,8 +32,8 @@ pub fn push_summary(alloc: Global, summary: &Summary, text: &mut Vec<u8>) -> Res
     push_list(alloc, summary, text)
 }
 
-// Appends the numbers of files and of keys.
-fn push_inputs(summary: &Summary, text: &mut Vec<u8>) -> Result<(), AllocError>
+/// Appends the numbers of files and of keys.
+pub(crate) fn push_inputs(summary: &Summary, text: &mut Vec<u8>) -> Result<(), AllocError>
     ensures { OnOk result (text.new.items ≡ text.old.items ++ inputs_text summary.now) }
 {
     text.extend_from_slice(b"krl audit: ")?;
@@ -55,8 +55,8 @@ fn push_findings(summary: &Summary, text: &mut Vec<u8>) -> Result<(), AllocError
     Ok(())
 }
 
-// Appends the number of lines and files that were not read.
-fn push_unread(summary: &Summary, text: &mut Vec<u8>) -> Result<(), AllocError>
+/// Appends the number of lines and files that were not read.
+pub(crate) fn push_unread(summary: &Summary, text: &mut Vec<u8>) -> Result<(), AllocError>
     ensures { OnOk result (text.new.items ≡ text.old.items ++ unread_text summary.now) }
 {
     push_number(summary.counts.unread, text)?;

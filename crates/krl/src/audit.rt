@@ -3,9 +3,9 @@
 use crate::ending::{end, fail, print_line};
 use crate::list::{List, read_list};
 use crate::rounds::Rounds;
+use crate::screen::{Screen, has_colours};
 use crate::stop::Stop;
-use audit_tree::{Summary, push_summary};
-use byte_streams::ToWrite;
+use audit_tree::push_summary;
 use key_files::{Cause, FileFault, RunFault};
 use key_listing::{Printer, Run};
 use krl_arguments::Audit;
@@ -53,17 +53,17 @@ fn audit_by(rt: &HostRuntime, task: &Audit, list: List) -> u8 {
     } = list;
     drop(bytes);
     let alloc = rt.alloc();
-    let mut out = ToWrite::new(rt.stdout());
+    let mut screen = Screen::new(rt);
     let mut buffer = Vec::new(alloc);
     let run = Run {
         alloc,
-        printer: Printer::new(&mut buffer, &mut out),
+        printer: Printer::new(&mut buffer, &mut screen),
         line: Vec::new(alloc),
     };
     let shown = Shown {
         findings: !task.quiet,
         fine: task.all && !task.quiet,
-        form: if task.json { Form::Json } else { Form::Text },
+        form: form_of(rt, task),
     };
     let auditor = Auditor {
         judge: Judge {
@@ -79,16 +79,30 @@ fn audit_by(rt: &HostRuntime, task: &Audit, list: List) -> u8 {
         ends_at_revoked: task.quiet,
         files: 0,
         revoked_files: 0,
+        version: known.version,
+        date: known.date,
     };
     let stop = match audit_all(&mut rounds, task, known) {
         Ok(()) => None,
         Err(stop) => stop.fault(),
     };
+    rounds.auditor.run.printer.out.wipe();
     let done = rounds.auditor.finish(stop);
     if done.fault.is_none() {
-        print_summary(rt, &rounds, known);
+        print_summary(rt, &rounds);
     }
     end(rt, &done)
+}
+
+// The form of the findings. No object is in colour, since programs read them.
+fn form_of(rt: &HostRuntime, task: &Audit) -> Form {
+    if task.json {
+        Form::Json
+    } else if has_colours(rt) {
+        Form::Colour
+    } else {
+        Form::Text
+    }
 }
 
 // Audits all that the task names, first what a file names, and prints the last object if there is
@@ -148,16 +162,9 @@ fn audit_names<'a>(rounds: &mut Rounds, from: &'a str) -> Result<bool, Stop<'a>>
 
 // Prints on standard error what was counted. Where there is no memory for the line, nothing is
 // printed.
-fn print_summary(rt: &HostRuntime, rounds: &Rounds, known: Known) {
-    let summary = Summary {
-        files: rounds.files,
-        revoked_files: rounds.revoked_files,
-        counts: rounds.auditor.counts,
-        version: known.version,
-        date: known.date,
-    };
+fn print_summary(rt: &HostRuntime, rounds: &Rounds) {
     let mut line = Vec::new(rt.alloc());
-    if push_summary(rt.alloc(), &summary, &mut line).is_ok() {
+    if push_summary(rt.alloc(), &rounds.summary(), &mut line).is_ok() {
         print_line(rt, line.as_slice());
     }
 }

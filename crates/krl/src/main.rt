@@ -7,6 +7,7 @@ mod ending;
 mod list;
 mod loading;
 mod rounds;
+mod screen;
 mod stop;
 
 use crate::audit::audit;

@@ -1,13 +1,13 @@
 //! The files and directories that an audit goes over (krl(1), FILES THAT ARE READ).
 
 use crate::loading::{begins_private, open, read, refusal_of};
+use crate::screen::Screen;
 use crate::stop::Stop;
-use audit_tree::{Reading, is_audited, path_in, reading_of, sort_names};
-use byte_streams::ToWrite;
+use audit_tree::{Reading, Summary, is_audited, path_in, reading_of, sort_names};
 use krl_audit::{Auditor, Refusal, visible_name};
 use std::alloc::AllocError;
 use std::fs::{self, Files};
-use std::io::{BufRead, BufReader, ErrorKind, Read, Stdout};
+use std::io::{BufRead, BufReader, ErrorKind, Read};
 use std::str;
 
 // How many directories are entered one in the other. Linux opens no path of more than 4,096 bytes,
@@ -20,16 +20,37 @@ const BUFFER: usize = 8_192;
 #[derive(Drop)]
 pub struct Rounds<'a, 'q, 'w> {
     pub rt: &'a HostRuntime,
-    pub auditor: Auditor<'q, 'w, ToWrite<Stdout>>,
+    pub auditor: Auditor<'q, 'w, Screen<'a>>,
     /// Whether the audit ends at the first file with a revoked key.
     pub ends_at_revoked: bool,
     /// How many files were audited, read or not.
     pub files: u64,
     /// In how many of them a key is revoked.
     pub revoked_files: u64,
+    /// The version of the list.
+    pub version: u64,
+    /// When it was made, in seconds since 1970.
+    pub date: u64,
 }
 
 impl<'a, 'q, 'w> Rounds<'a, 'q, 'w> {
+    /// The counts so far.
+    pub fn summary(&self) -> Summary {
+        Summary {
+            files: self.files,
+            revoked_files: self.revoked_files,
+            counts: self.auditor.counts,
+            version: self.version,
+            date: self.date,
+        }
+    }
+
+    // Shows the counts so far.
+    fn show(&mut self) {
+        let summary = self.summary();
+        self.auditor.run.printer.out.show(&summary);
+    }
+
     /// Audits a file or a directory that the command names. A pipe is waited for.
     pub fn audit_named<'s>(&mut self, name: &str) -> Result<(), Stop<'s>> {
         if name == "-" {
@@ -91,7 +112,7 @@ impl<'a, 'q, 'w> Rounds<'a, 'q, 'w> {
     // The names of a directory that may be read, in their order. A link to a directory is followed
     // where it has a slash at its end, which one gets that is named.
     fn names_in(
-        &self,
+        &mut self,
         path: &str,
         named: bool,
     ) -> Result<Result<Vec<Vec<u8>>, Refusal>, AllocError> {
@@ -113,6 +134,7 @@ impl<'a, 'q, 'w> Rounds<'a, 'q, 'w> {
             if self.is_wanted(path, name.as_slice())? {
                 names.push(name)?;
             }
+            self.show();
         }
         sort_names(&mut names);
         Ok(Ok(names))
@@ -215,14 +237,13 @@ impl<'a, 'q, 'w> Rounds<'a, 'q, 'w> {
             return Err(Stop::within(fault.cause));
         }
         self.files = self.files.saturating_add(1);
-        if self.auditor.counts.revoked == before {
-            return Ok(());
+        if self.auditor.counts.revoked > before {
+            self.revoked_files = self.revoked_files.saturating_add(1);
+            if self.ends_at_revoked {
+                return Err(Stop::Revoked);
+            }
         }
-        self.revoked_files = self.revoked_files.saturating_add(1);
-        if self.ends_at_revoked {
-            Err(Stop::Revoked)
-        } else {
-            Ok(())
-        }
+        self.show();
+        Ok(())
     }
 }

@@ -6,4 +6,6 @@ pub mod Files
 pub mod Spelled
 pub mod Private
 pub mod Shallow
+pub mod Escapes
+pub mod Painted
 pub mod AsciiNames

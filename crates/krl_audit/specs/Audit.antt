@@ -56,12 +56,15 @@ says shown kinds.Unread = shown.findings
 -- the line of a key, for people or as a JSON object
 abbrev pub key_said : Form → List ℕ → ℕ → Found → Reasons → List ℕ
 key_said forms.Text name number found all =
-    key_line name number found.blob found.comment found.asked all
+    key_line false name number found.blob found.comment found.asked all
+key_said forms.Colour name number found all =
+    key_line true name number found.blob found.comment found.asked all
 key_said forms.Json name number found all = json_line (key_object name number found all)
 
 -- the line for a line or file that is not read
 abbrev pub unread_said : Form → List ℕ → ℕ → Why → List ℕ
-unread_said forms.Text name number why = unread_line name number why
+unread_said forms.Text name number why = unread_line false name number why
+unread_said forms.Colour name number why = unread_line true name number why
 unread_said forms.Json name number why = json_line (unread_object name number why)
 
 -- the line that is printed for an outcome

@@ -7,3 +7,4 @@ pub mod Text
 pub mod Objects
 pub mod ReasonNames
 pub mod Audit
+pub mod Colour

@@ -9,6 +9,7 @@ use Rattle.krl_held.specs.Reasons.{any_reason}
 use Rattle.krl_held.specs.declared.reasons.KeyReasons.{KeyReasons}
 use Rattle.krl_held.specs.declared.reasons.NameReasons.{NameReasons}
 use Rattle.krl_held.specs.declared.reasons.Reasons.{Reasons}
+use Rattle.krl_audit.specs.Colour.{unread_word, verdict_word}
 use Rattle.krl_audit.specs.Visible.{visible}
 use Rattle.krl_audit.specs.Why.{why_text}
 use Rattle.krl_audit.specs.declared.why.Why.{Why}
@@ -74,10 +75,6 @@ reasons_text asked all = drop 1 (reason_parts asked all)
 
 -- ---- lines
 
-abbrev pub verdict_word : Bool → List ℕ
-verdict_word true = codes ": revoked: "
-verdict_word false = codes ": ok: "
-
 abbrev pub name_in : Result (List ℕ × List ℕ) WireFault → List ℕ
 name_in (Ok (name, rest)) = name
 name_in (Err fault) = []
@@ -94,15 +91,15 @@ abbrev pub comment_words : List ℕ → List ℕ
 comment_words [] = []
 comment_words (byte ∷ bytes) = codes ": " ++ visible false (byte ∷ bytes)
 
--- the line of a key, revoked or not
-abbrev pub key_line : List ℕ → ℕ → (blob comment : List ℕ) → Subject → Reasons → List ℕ
-key_line name number blob comment asked all =
+-- the line of a key, revoked or not, in colour or not
+abbrev pub key_line : Bool → List ℕ → ℕ → (blob comment : List ℕ) → Subject → Reasons → List ℕ
+key_line coloured name number blob comment asked all =
     place_text name number
-    ++ (verdict_word (any_reason all)
+    ++ (verdict_word coloured (any_reason all)
     ++ (key_words blob asked
     ++ (reasons_text asked all ++ (comment_words comment ++ 10 ∷ []))))
 
--- the line for a line or file that is not read
-abbrev pub unread_line : List ℕ → ℕ → Why → List ℕ
-unread_line name number why =
-    place_text name number ++ (codes ": unread: " ++ (why_text why ++ 10 ∷ []))
+-- the line for a line or file that is not read, in colour or not
+abbrev pub unread_line : Bool → List ℕ → ℕ → Why → List ℕ
+unread_line coloured name number why =
+    place_text name number ++ (unread_word coloured ++ (why_text why ++ 10 ∷ []))

@@ -23,6 +23,8 @@ use std::alloc::{AllocError, Global};
 pub enum Form {
     /// For people.
     Text,
+    /// For people at a terminal: the word for whether a key is revoked is in colour.
+    Colour,
     /// A JSON object on each line.
     Json,
 }

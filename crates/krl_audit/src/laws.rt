@@ -16,9 +16,11 @@ ghost use Rattle.krl_held.specs.Revoked.{Revoked};
 ghost use Rattle.krl_held.specs.declared.reasons.Reasons.{Reasons};
 ghost use Rattle.json_lines.specs.ReadBack.{IsReadBack};
 ghost use Rattle.krl_audit.specs.Audit.{kind_of};
+ghost use Rattle.krl_audit.specs.Colour.{IsCount, IsPainted};
 ghost use Rattle.krl_audit.specs.Front.{front_of};
 ghost use Rattle.krl_audit.specs.Objects.{done_object, key_object, unread_object};
 ghost use Rattle.krl_audit.specs.Outcome.{Blank, Found, Key, Unread, asked_outcome, outcome_of};
+ghost use Rattle.krl_audit.specs.Text.{key_line, unread_line};
 ghost use Rattle.krl_audit.specs.declared.counts.Counts.{Counts as CountsOf};
 ghost use Rattle.krl_audit.specs.declared.counts.Kind.TheVariants as kinds;
 ghost use Rattle.krl_audit.specs.declared.done.ListFacts.{ListFacts as ListFactsOf};
@@ -28,6 +30,7 @@ ghost use Rattle.krl_audit.specs.declared.why.Why.TheVariants.{Line};
 use json_lines::laws::lines_are_read_back;
 use key_text::laws::{line_read_where_spelled, line_refused_by_first_fault, marked_line_is_read};
 use ssh_cert::laws::asked_where_spelled;
+use ssh_wire::laws::string_is_read_back;
 
 /// A line that is neither blank nor a comment has a key if it spells one, with or without its
 /// marker; otherwise its first fault, after a marker too.
@@ -70,4 +73,19 @@ pub fn objects_are_read_back()
         → IsReadBack (done_object files counts list) }
 {
     lines_are_read_back();
+}
+
+/// A finding in colour is the plain finding with one word in a colour. The plain finding has no
+/// escape sequence, whatever the name of the file, the key ID and the comment are. So a terminal
+/// obeys nothing but the colour of that word.
+pub fn one_word_is_in_colour()
+    ensures key { (name blob comment : List ℕ) (number : ℕ) (asked : Subject) (all : Reasons)
+        → number < 2 ^ 64 → IsBytes blob → IsSubject blob asked
+        → IsPainted (key_line false name number blob comment asked all)
+        (key_line true name number blob comment asked all) }
+    ensures unread { (name : List ℕ) (number : ℕ) (why : WhyOf) → number < 2 ^ 64
+        → IsCount why
+        → IsPainted (unread_line false name number why) (unread_line true name number why) }
+{
+    string_is_read_back();
 }

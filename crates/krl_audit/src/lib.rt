@@ -3,6 +3,7 @@
 #![tactic(auto)]
 
 mod auditor;
+mod colour;
 mod counts;
 mod done;
 mod fault_text;

@@ -23,7 +23,8 @@ pub(crate) fn say_key(
         (found_as verdict.now.found.now verdict.now.subject.now) verdict.now.reasons) }
 {
     match form {
-        Form::Text => write_key(alloc, place, verdict, line),
+        Form::Text => write_key(alloc, false, place, verdict, line),
+        Form::Colour => write_key(alloc, true, place, verdict, line),
         Form::Json => write_key_object(alloc, place, verdict, line),
     }
 }
@@ -40,7 +41,8 @@ pub(crate) fn say_unread(
         ≡ unread_said form place.entry.name.now place.entry.number why) }
 {
     match form {
-        Form::Text => write_unread(alloc, place, why, line),
+        Form::Text => write_unread(alloc, false, place, why, line),
+        Form::Colour => write_unread(alloc, true, place, why, line),
         Form::Json => write_unread_object(alloc, place, why, line),
     }
 }

@@ -1,9 +1,9 @@
 //! The lines of findings.
 
 ghost use Rattle.std.specs.Prelude.{◌≡◌, ◌++◌, OnOk};
-ghost use Rattle.krl_held.specs.Reasons.{any_reason};
-ghost use Rattle.krl_audit.specs.Text.{comment_words, key_line, key_words, place_text, type_of, unread_line, verdict_word};
+ghost use Rattle.krl_audit.specs.Text.{comment_words, key_line, key_words, place_text, type_of, unread_line};
 
+use crate::colour::{push_unread, push_verdict};
 use crate::outcome::Found;
 use crate::reasons::push_reasons;
 use crate::visible::push_visible;
@@ -31,54 +31,45 @@ pub(crate) struct Verdict<'a> {
     pub(crate) reasons: Reasons,
 }
 
-/// Makes the line for a line or file that is not read, with its line feed.
+/// Makes the line for a line or file that is not read, with its line feed, in colour or not.
 pub(crate) fn write_unread(
     alloc: Global,
+    coloured: bool,
     place: Place<'_>,
     why: Why,
     line: &mut Vec<u8>,
 ) -> Result<(), AllocError>
     ensures { OnOk result (line.new.items
-        ≡ unread_line place.entry.name.now place.entry.number why) }
+        ≡ unread_line coloured place.entry.name.now place.entry.number why) }
 {
     line.clear();
     push_place(line, place)?;
-    line.extend_from_slice(b": unread: ")?;
+    push_unread(line, coloured)?;
     push_why(alloc, line, why)?;
     line.push(b'\n')?;
     Ok(())
 }
 
-/// Makes the line of a key, with its line feed.
+/// Makes the line of a key, with its line feed, in colour or not.
 pub(crate) fn write_key(
     alloc: Global,
+    coloured: bool,
     place: Place<'_>,
     verdict: &Verdict<'_>,
     line: &mut Vec<u8>,
 ) -> Result<(), AllocError>
-    ensures { OnOk result (line.new.items ≡ key_line place.entry.name.now place.entry.number
-        verdict.now.found.now.blob verdict.now.found.now.comment.now verdict.now.subject.now
-        verdict.now.reasons) }
+    ensures { OnOk result (line.new.items ≡ key_line coloured place.entry.name.now
+        place.entry.number verdict.now.found.now.blob verdict.now.found.now.comment.now
+        verdict.now.subject.now verdict.now.reasons) }
 {
     line.clear();
     push_place(line, place)?;
-    line.extend_from_slice(verdict_word(verdict.reasons))?;
+    push_verdict(line, coloured, verdict.reasons.any())?;
     push_key(alloc, line, verdict.found.blob.as_slice(), verdict.subject)?;
     push_reasons(alloc, line, verdict.subject, verdict.reasons)?;
     push_comment(line, verdict.found.comment)?;
     line.push(b'\n')?;
     Ok(())
-}
-
-// The printed word for whether a key is revoked.
-fn verdict_word(reasons: Reasons) -> &'static [u8]
-    ensures { result.now ≡ verdict_word (any_reason reasons) }
-{
-    if reasons.any() {
-        b": revoked: "
-    } else {
-        b": ok: "
-    }
 }
 
 // Appends the name of a file, and the number of a line of it.

@@ -1,6 +1,6 @@
-//! The order and the paths of names, and the last line.
+//! The order and the paths of names, how far an audit is, and its last line.
 
-use audit_tree::{Summary, path_in, push_summary, sort_names};
+use audit_tree::{Summary, path_in, push_progress, push_summary, push_wipe, sort_names};
 use krl_audit::Counts;
 use std::test::Fail;
 
@@ -46,6 +46,11 @@ fn last_lines(rt: HostRuntime) -> Result<(), Fail> {
     push_summary(rt.alloc(), &summary, &mut text)?;
     let wanted = b"krl audit: 4 files, 8 keys: 5 revoked in 3 files, 1 unread \
 (list version 12, 2026-11-26T23:15:11Z)\n";
+    assert!(rt; text.as_slice() == wanted.as_slice());
+    text.clear();
+    push_progress(&summary, &mut text)?;
+    push_wipe(3, &mut text)?;
+    let wanted = b"\rkrl audit: 4 files, 8 keys: 5 revoked, 1 unread\r   \r";
     assert!(rt; text.as_slice() == wanted.as_slice());
     summary.files = 1;
     summary.counts.keys = 1;

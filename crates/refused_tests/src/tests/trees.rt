@@ -1,7 +1,7 @@
-//! Paths of directories, names that are shown, and the last line of an audit.
+//! Paths of directories, names that are shown, how far an audit is, and its last line.
 
 use crate::tests::answered::answered;
-use audit_tree::{Summary, path_in, push_summary};
+use audit_tree::{Summary, path_in, push_progress, push_summary, push_wipe};
 use krl_audit::{Counts, visible_name};
 use std::alloc::AllocError;
 
@@ -19,17 +19,32 @@ fn a_name_that_is_not_utf8(rt: HostRuntime) {
     }
 }
 
+// One file without a key.
+const SUMMARY: Summary = Summary {
+    files: 1,
+    revoked_files: 0,
+    counts: Counts::NONE,
+    version: 12,
+    date: 1_795_734_911,
+};
+
+#[test]
+fn how_far_an_audit_is(rt: HostRuntime) {
+    let mut text = Vec::new(rt.alloc());
+    let shown = answered(&rt, push_progress(&SUMMARY, &mut text), AllocError);
+    if shown.is_none() {
+        return;
+    }
+    if let Some(()) = answered(&rt, push_wipe(2, &mut text), AllocError) {
+        let wanted = b"\rkrl audit: 1 file, 0 keys: 0 revoked, 0 unread\r  \r";
+        assert!(rt; text.as_slice() == wanted.as_slice());
+    }
+}
+
 #[test]
 fn a_last_line(rt: HostRuntime) {
-    let summary = Summary {
-        files: 1,
-        revoked_files: 0,
-        counts: Counts::NONE,
-        version: 12,
-        date: 1_795_734_911,
-    };
     let mut text = Vec::new(rt.alloc());
-    let pushed = push_summary(rt.alloc(), &summary, &mut text);
+    let pushed = push_summary(rt.alloc(), &SUMMARY, &mut text);
     if let Some(()) = answered(&rt, pushed, AllocError) {
         let wanted = b"krl audit: 1 file, 0 keys: 0 revoked in 0 files, 0 unread \
 (list version 12, 2026-11-26T23:15:11Z)\n";

@@ -1,0 +1,250 @@
+-- A line in colour is a plain line with one word in a colour.
+use Rattle.std.proofs.Common.{◌≡◌, ℕ, ◌<◌, ◌^◌, Bool, true, false, List, [], ◌∷◌, ◌++◌, append_assoc, codes, decimal, if◌then◌else◌, length, nat_lt, Option, Some, None, refl, sym, ap, subst, ◌∙◌, arith}
+use Rattle.ssh_wire.specs.Laws.{ReadsJust}
+use Rattle.ssh_wire.specs.Reading.{string_at}
+use Rattle.ssh_wire.specs.Wire.{IsBytes, string}
+use Rattle.ssh_wire.specs.declared.fault.WireFault.{WireFault}
+use Rattle.ssh_wire.specs.declared.fault.WireFault.TheVariants as wires
+use Rattle.ssh_key.specs.KeyFault.{key_fault_text}
+use Rattle.ssh_key.specs.Kind.{certificate_name, type_name}
+use Rattle.ssh_key.specs.declared.fault.KeyFault.{KeyFault}
+use Rattle.ssh_key.specs.declared.fault.KeyFault.TheVariants as keys
+use Rattle.ssh_key.specs.declared.kind.Kind.{Kind}
+use Rattle.ssh_key.specs.declared.kind.Kind.TheVariants as kinds
+use Rattle.ssh_wire.specs.Fault.{fault_text}
+use Rattle.ssh_cert.specs.CertFault.{cert_fault_text}
+use Rattle.ssh_cert.specs.SubjectFault.{subject_fault_text}
+use Rattle.ssh_cert.specs.SubjectReading.{IsSubject, certified, plain_key}
+use Rattle.ssh_cert.specs.declared.fault.CertFault.{CertFault}
+use Rattle.ssh_cert.specs.declared.fault.CertFault.TheVariants as certs
+use Rattle.ssh_cert.specs.declared.subject_fault.SubjectFault.{SubjectFault}
+use Rattle.ssh_cert.specs.declared.subject_fault.SubjectFault.TheVariants as subjects
+use Rattle.key_text.specs.Fingerprints.{fingerprint_text}
+use Rattle.key_text.specs.PrivateFault.{private_fault_text}
+use Rattle.key_text.specs.declared.hash.Hash.TheVariants.{Sha256}
+use Rattle.key_text.specs.declared.line_fault.LineFault.{LineFault}
+use Rattle.key_text.specs.declared.line_fault.LineFault.TheVariants as lines
+use Rattle.key_text.specs.declared.private_fault.PrivateFault.{PrivateFault}
+use Rattle.key_text.specs.declared.private_fault.PrivateFault.TheVariants as privates
+use Rattle.krl_types.specs.Subject.{CertNames, Subject}
+use Rattle.krl_held.specs.Reasons.{any_reason}
+use Rattle.krl_held.specs.declared.reasons.KeyReasons.{KeyReasons}
+use Rattle.krl_held.specs.declared.reasons.NameReasons.{NameReasons}
+use Rattle.krl_held.specs.declared.reasons.Reasons.{Reasons}
+use Rattle.krl_audit.specs.Colour.{HasNoEscape, IsCount, IsPainted, in_colour, painted, verdict_word, word_text}
+use Rattle.krl_audit.specs.Text.{authority_parts, cert_parts, comment_words, id_words, key_line, key_parts, key_words, name_parts, of_all, of_authority, place_text, reason_parts, reasons_text, serial_words, type_of, unread_line, with_cert_parts, word_if}
+use Rattle.krl_audit.specs.Visible.{visible}
+use Rattle.krl_audit.specs.Why.{line_why, refusal_why, why_text}
+use Rattle.krl_audit.specs.declared.why.Refusal.{Refusal}
+use Rattle.krl_audit.specs.declared.why.Refusal.TheVariants as refusals
+use Rattle.krl_audit.specs.declared.why.Why.{Why}
+use Rattle.krl_audit.specs.declared.why.Why.TheVariants as whys
+use Rattle.krl_audit.proofs.Escapes.{decimal_free, fingerprint_free, free_append, free_drop, visible_free}
+
+-- ---- one word in a colour
+
+moved : (place a word b tail : List ℕ) → place ++ ((a ++ (word ++ b)) ++ tail) ≡ (place ++ a) ++ (word ++ (b ++ tail))
+moved place a word b tail =
+    ap (λ (t : List ℕ). place ++ t) (append_assoc a (word ++ b) tail ∙ ap (λ (t : List ℕ). a ++ t) (append_assoc word b tail))
+    ∙ sym (append_assoc place a (word ++ (b ++ tail)))
+
+one_word : (place tail colour word : List ℕ) → HasNoEscape place → HasNoEscape word → HasNoEscape tail
+    → IsPainted (place ++ (word_text false colour word ++ tail)) (place ++ (word_text true colour word ++ tail))
+unfolding painted
+one_word place tail colour word before free after = record {
+  front = place ++ codes ": ";
+  colour = colour;
+  word = word;
+  rest = codes ": " ++ tail;
+  plain_is = moved place (codes ": ") word (codes ": ") tail;
+  coloured_is = moved place (codes ": ") (in_colour colour word) (codes ": ") tail;
+  no_escape = free_append place ((codes ": " ++ (word ++ codes ": ")) ++ tail) before
+      (free_append (codes ": " ++ (word ++ codes ": ")) tail (free_append (codes ": ") (word ++ codes ": ") refl (free_append word (codes ": ") free refl)) after);
+}
+
+verdict_painted : (place tail : List ℕ) (revoked : Bool) → HasNoEscape place → HasNoEscape tail
+    → IsPainted (place ++ (verdict_word false revoked ++ tail)) (place ++ (verdict_word true revoked ++ tail))
+verdict_painted place tail true before after = one_word place tail (codes "31") (codes "revoked") before refl after
+verdict_painted place tail false before after = one_word place tail (codes "32") (codes "ok") before refl after
+
+-- ---- the place, and the comment
+
+number_free : (number : ℕ) (some : Bool) → number < 2 ^ 64 → HasNoEscape (if some then codes ":" ++ decimal number else [])
+number_free number true small = free_append (codes ":") (decimal number) refl (decimal_free number small)
+number_free number false small = refl
+
+place_free : (name : List ℕ) (number : ℕ) → number < 2 ^ 64 → HasNoEscape (place_text name number)
+place_free name number small =
+    free_append (visible false name) (if nat_lt 0 number then codes ":" ++ decimal number else []) (visible_free false name) (number_free number (nat_lt 0 number) small)
+
+comment_free : (comment : List ℕ) → HasNoEscape (comment_words comment)
+comment_free [] = refl
+comment_free (byte ∷ bytes) = free_append (codes ": ") (visible false (byte ∷ bytes)) refl (visible_free false (byte ∷ bytes))
+
+-- ---- reasons
+
+if_free : (said : Bool) (words : List ℕ) → HasNoEscape words → HasNoEscape (word_if said words)
+unfolding word_if
+if_free true words free = free
+if_free false words free = refl
+
+three_free : (a b c : List ℕ) → HasNoEscape a → HasNoEscape b → HasNoEscape c → HasNoEscape (a ++ (b ++ c))
+three_free a b c first second third = free_append a (b ++ c) first (free_append b c second third)
+
+ifs_free : (a b c : Bool) (x y z : List ℕ) → HasNoEscape x → HasNoEscape y → HasNoEscape z → HasNoEscape (word_if a x ++ (word_if b y ++ word_if c z))
+ifs_free a b c x y z first second third = three_free (word_if a x) (word_if b y) (word_if c z) (if_free a x first) (if_free b y second) (if_free c z third)
+
+key_parts_free : (key : KeyReasons) → HasNoEscape (key_parts key)
+key_parts_free key = ifs_free key.blob key.sha1 key.sha256 (codes ", by its key") (codes ", by its SHA-1") (codes ", by its SHA-256") refl refl refl
+
+authority_parts_free : (key : KeyReasons) → HasNoEscape (authority_parts key)
+authority_parts_free key = ifs_free key.blob key.sha1 key.sha256 (codes ", by the key of its CA") (codes ", by the SHA-1 of its CA") (codes ", by the SHA-256 of its CA") refl refl refl
+
+name_parts_free : (words print : List ℕ) (reasons : NameReasons) → HasNoEscape words → HasNoEscape print → HasNoEscape (name_parts words print reasons)
+name_parts_free words print reasons free printed =
+    free_append (word_if reasons.own (of_authority words print)) (word_if reasons.all (of_all words))
+    (if_free reasons.own (of_authority words print) (three_free words (codes " of CA ") print free refl printed)) (if_free reasons.all (of_all words) (free_append words (codes " of all CAs") free refl))
+
+cert_parts_free : (cert : CertNames) (all : Reasons) → cert.serial < 2 ^ 64 → HasNoEscape (cert_parts cert all)
+cert_parts_free cert all small =
+    let print = fingerprint_text Sha256 cert.authority in
+    three_free (authority_parts all.authority) (name_parts (serial_words cert.serial) print all.serial) (name_parts (id_words cert.key_id) print all.key_id)
+    (authority_parts_free all.authority)
+    (name_parts_free (serial_words cert.serial) print all.serial (free_append (codes ", by serial ") (decimal cert.serial) refl (decimal_free cert.serial small)) (fingerprint_free cert.authority))
+    (name_parts_free (id_words cert.key_id) print all.key_id
+    (three_free (codes ", by key ID \"") (visible true cert.key_id) (codes "\"") refl (visible_free true cert.key_id) refl) (fingerprint_free cert.authority))
+
+-- the serial number of a certificate has eight bytes
+abbrev IsSmall : Option CertNames → Type 0
+IsSmall None = Unit {0}
+IsSmall (Some cert) = cert.serial < 2 ^ 64
+
+with_cert_free : (cert : Option CertNames) (all : Reasons) → IsSmall cert → HasNoEscape (with_cert_parts cert all)
+with_cert_free None all small = refl
+with_cert_free (Some cert) all small = cert_parts_free cert all small
+
+reasons_free : (asked : Subject) (all : Reasons) → IsSmall asked.cert → HasNoEscape (reasons_text asked all)
+reasons_free asked all small =
+    free_drop (reason_parts asked all) (free_append (key_parts all.key) (with_cert_parts asked.cert all) (key_parts_free all.key) (with_cert_free asked.cert all small))
+
+-- ---- the type of a key
+
+type_name_free : (kind : Kind) → HasNoEscape (type_name kind) × (length (type_name kind) < 2 ^ 32)
+type_name_free kinds.Rsa = (refl, omega arith)
+type_name_free kinds.Dsa = (refl, omega arith)
+type_name_free kinds.Ecdsa256 = (refl, omega arith)
+type_name_free kinds.Ecdsa384 = (refl, omega arith)
+type_name_free kinds.Ecdsa521 = (refl, omega arith)
+type_name_free kinds.Ed25519 = (refl, omega arith)
+type_name_free kinds.EcdsaSk = (refl, omega arith)
+type_name_free kinds.Ed25519Sk = (refl, omega arith)
+
+certificate_name_free : (kind : Kind) → HasNoEscape (certificate_name kind) × (length (certificate_name kind) < 2 ^ 32)
+certificate_name_free kinds.Rsa = (refl, omega arith)
+certificate_name_free kinds.Dsa = (refl, omega arith)
+certificate_name_free kinds.Ecdsa256 = (refl, omega arith)
+certificate_name_free kinds.Ecdsa384 = (refl, omega arith)
+certificate_name_free kinds.Ecdsa521 = (refl, omega arith)
+certificate_name_free kinds.Ed25519 = (refl, omega arith)
+certificate_name_free kinds.EcdsaSk = (refl, omega arith)
+certificate_name_free kinds.Ed25519Sk = (refl, omega arith)
+
+small_serial : (blob : List ℕ) (asked : Subject) → IsSubject blob asked → IsSmall asked.cert
+small_serial blob asked (plain_key key is same) = subst (λ (s : Subject). IsSmall s.cert) (sym same) tt
+small_serial blob asked (certified certificate is same) = subst (λ (s : Subject). IsSmall s.cert) (sym same) is.lengths.serial_fits
+
+module _ (reads : ReadsJust string_at string (λ (text : List ℕ). length text < 2 ^ 32)) where
+  named_free : (blob name rest : List ℕ) → IsBytes blob → blob ≡ string name ++ rest → HasNoEscape name × (length name < 2 ^ 32) → HasNoEscape (type_of blob)
+  unfolding type_of
+  named_free blob name rest bytes is free = rw ((reads blob name rest bytes).1 (is, free.1)) free.0
+
+  type_free : (blob : List ℕ) (asked : Subject) → IsBytes blob → IsSubject blob asked → HasNoEscape (type_of blob)
+  type_free blob asked bytes (plain_key key is same) = named_free blob (type_name key.kind) key.fields bytes is.spelled (type_name_free key.kind)
+  type_free blob asked bytes (certified certificate is same) = named_free blob (certificate_name certificate.key.kind) _ bytes is.spelled (certificate_name_free certificate.key.kind)
+
+  key_tail_free : (blob comment : List ℕ) (asked : Subject) (all : Reasons) → HasNoEscape (type_of blob) → IsSmall asked.cert
+      → HasNoEscape (key_words blob asked ++ (reasons_text asked all ++ (comment_words comment ++ 10 ∷ [])))
+  key_tail_free blob comment asked all typed small =
+      three_free (key_words blob asked) (reasons_text asked all) (comment_words comment ++ 10 ∷ [])
+      (three_free (type_of blob) (codes " ") (fingerprint_text Sha256 asked.plain) typed refl (fingerprint_free asked.plain)) (reasons_free asked all small)
+      (free_append (comment_words comment) (10 ∷ []) (comment_free comment) refl)
+
+  pub key_painted : (name blob comment : List ℕ) (number : ℕ) (asked : Subject) (all : Reasons) → number < 2 ^ 64 → IsBytes blob → IsSubject blob asked
+      → IsPainted (key_line false name number blob comment asked all) (key_line true name number blob comment asked all)
+  key_painted name blob comment number asked all small bytes is =
+      verdict_painted (place_text name number) (key_words blob asked ++ (reasons_text asked all ++ (comment_words comment ++ 10 ∷ []))) (any_reason all)
+      (place_free name number small) (key_tail_free blob comment asked all (type_free blob asked bytes is) (small_serial blob asked is))
+
+-- ---- why a line or a file is not read
+
+wire_free : (fault : WireFault) → HasNoEscape (fault_text fault)
+wire_free wires.Short = refl
+wire_free wires.Negative = refl
+wire_free wires.NotShortest = refl
+
+key_fault_free : (fault : KeyFault) → HasNoEscape (key_fault_text fault)
+key_fault_free (keys.Wire fault) = free_append (codes "key 1 Wire, ") (fault_text fault) refl (wire_free fault)
+key_fault_free keys.UnknownType = refl
+key_fault_free keys.Curve = refl
+key_fault_free keys.Point = refl
+key_fault_free keys.Length = refl
+key_fault_free keys.Number = refl
+key_fault_free keys.Trailing = refl
+key_fault_free keys.TooLong = refl
+
+cert_fault_free : (fault : CertFault) → HasNoEscape (cert_fault_text fault)
+cert_fault_free certs.Wire = refl
+cert_fault_free certs.UnknownType = refl
+cert_fault_free (certs.Key fault) = free_append (codes "cert 3 Key, ") (key_fault_text fault) refl (key_fault_free fault)
+cert_fault_free certs.CertType = refl
+cert_fault_free certs.Options = refl
+cert_fault_free certs.Principals = refl
+cert_fault_free (certs.Authority fault) = free_append (codes "cert 7 Authority, ") (key_fault_text fault) refl (key_fault_free fault)
+cert_fault_free certs.Signature = refl
+cert_fault_free certs.Trailing = refl
+
+subject_free : (fault : SubjectFault) → HasNoEscape (subject_fault_text fault)
+subject_free (subjects.Key fault) = free_append (codes "subject 1 Key, ") (key_fault_text fault) refl (key_fault_free fault)
+subject_free (subjects.Cert fault) = free_append (codes "subject 2 Cert, ") (cert_fault_text fault) refl (cert_fault_free fault)
+subject_free subjects.NoMemory = refl
+
+private_free : (fault : PrivateFault) → HasNoEscape (private_fault_text fault)
+private_free privates.Armour = refl
+private_free privates.Base64 = refl
+private_free privates.Magic = refl
+private_free privates.Encrypted = refl
+private_free privates.KeyCount = refl
+private_free privates.Check = refl
+private_free (privates.Key fault) = free_append (codes "private 7 Key, ") (key_fault_text fault) refl (key_fault_free fault)
+private_free privates.PublicDiffers = refl
+private_free privates.Padding = refl
+private_free privates.Trailing = refl
+private_free (privates.Wire fault) = free_append (codes "private 11 Wire, ") (fault_text fault) refl (wire_free fault)
+private_free privates.NoMemory = refl
+
+line_free : (fault : LineFault) → HasNoEscape (line_why fault)
+line_free lines.NoKey = refl
+line_free lines.Base64 = refl
+line_free lines.WordDiffers = refl
+line_free lines.NoMemory = refl
+
+refusal_free : (refusal : Refusal) → HasNoEscape (refusal_why refusal)
+refusal_free refusals.Missing = refl
+refusal_free refusals.Denied = refl
+refusal_free refusals.Irregular = refl
+refusal_free refusals.Loop = refl
+refusal_free refusals.Open = refl
+refusal_free refusals.Read = refl
+refusal_free refusals.TooLong = refl
+
+why_free : (why : Why) → IsCount why → HasNoEscape (why_text why)
+why_free (whys.Line fault) small = line_free fault
+why_free (whys.Subject fault) small = free_append (codes "the key is cut or misspelt: ") (subject_fault_text fault) refl (subject_free fault)
+why_free (whys.Private fault) small = free_append (codes "the private key file is cut or misspelt: ") (private_fault_text fault) refl (private_free fault)
+why_free (whys.File refusal) small = refusal_free refusal
+why_free (whys.NoKeys lines) small = three_free (codes "none of its ") (decimal lines) (codes " lines is a key") refl (decimal_free lines small) refl
+
+pub unread_painted : (name : List ℕ) (number : ℕ) (why : Why) → number < 2 ^ 64 → IsCount why → IsPainted (unread_line false name number why) (unread_line true name number why)
+unread_painted name number why small few =
+    one_word (place_text name number) (why_text why ++ 10 ∷ []) (codes "33") (codes "unread") (place_free name number small) refl
+    (free_append (why_text why) (10 ∷ []) (why_free why few) refl)
