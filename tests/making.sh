@@ -231,6 +231,8 @@ keeps 'the first fault, of the authority' 'ca: file 1 Open' five.krl -u -s ca no
 rm -f made.krl
 expect 'an old list that is missing' 255 '' $'ssh-keygen: made.krl: file 1 Open\n' \
   -k -u -f made.krl -s none spec
+expect 'an old list that is missing, as the other files are' 255 '' \
+  $'ssh-keygen: made.krl: file 1 Open\n' -k -u -f made.krl -s ca none.spec
 judge 'an old list that is missing: none is made' "$([ ! -e made.krl ] || echo '  there is one')"
 expect 'a list in a folder that is missing' 255 '' $'ssh-keygen: no/made.krl: file 1 Open\n' \
   -k -f no/made.krl
