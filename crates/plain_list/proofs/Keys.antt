@@ -1,0 +1,171 @@
+-- The key of a line is read as the line spells it.
+use Rattle.std.proofs.Common.{◌≡◌, ◌↔◌, ℕ, ◌==◌, not, true, false, List, Option, Result, Ok, Err, refl, sym, ◌∙◌, inl, inr}
+use Rattle.std.proofs.lemmas.Bool.{cases_Bool}
+use Rattle.ssh_wire.specs.Reading.{◌>>=◌, in_fault}
+use Rattle.ssh_wire.specs.Wire.{IsBytes}
+use Rattle.ssh_wire.proofs.Digits.{IsBytes-drop, IsBytes-take}
+use Rattle.ssh_wire.proofs.Steps.{bind_err, bind_ok, in_fault_err, in_fault_ok}
+use Rattle.ssh_key.specs.Key.{IsKey, PublicKey, blob_of}
+use Rattle.ssh_key.specs.KeyReading.{key_at}
+use Rattle.std.specs.List.{prefix_len}
+use Rattle.key_text.specs.Blanks.{after_blanks, is_blank}
+use Rattle.key_text.specs.KeyLine.{IsKeyLine}
+use Rattle.key_text.specs.LineFaults.{IsFirstLineFault}
+use Rattle.key_text.specs.LineReading.{Content, content, line_at}
+use Rattle.key_text.specs.declared.line_fault.LineFault.{LineFault}
+use Rattle.krl_types.specs.Subject.{Subject}
+use Rattle.ssh_cert.specs.SubjectReading.{IsSubject, IsSubjectFault, certified, plain_key, subject_of}
+use Rattle.ssh_cert.specs.declared.subject_fault.SubjectFault.{SubjectFault}
+use Rattle.plain_list.specs.Line.{before_zero, begins_with_key, content_of, is_remark}
+use Rattle.plain_list.specs.Key.{blob_key, by_size, key_cause, key_line_key, line_key, sized_key, text_key}
+use Rattle.plain_list.specs.Size.{size_of}
+use Rattle.plain_list.specs.Spelled.{BeginsWithKey, HasKey, IsLineFault, Revokes, long, no_blob, no_line, no_name, one_key, remark, short}
+use Rattle.plain_list.specs.declared.fault.LineCause.{LineCause}
+use Rattle.plain_list.specs.declared.fault.LineCause.TheVariants as causes
+use Rattle.plain_list.specs.declared.size.Size.{Size}
+use Rattle.plain_list.specs.declared.size.Size.TheVariants.{Fits, Long, Short}
+
+-- the laws of key lines, of subjects and of keys
+pub record Laws : Type 0 where
+  pub line_read : (text word blob comment : List ℕ) → IsKeyLine text word blob comment
+      → line_at text ≡ Ok (content word blob comment)
+  pub line_found : (text : List ℕ) (line : Content) → IsBytes text → line_at text ≡ Ok line
+      → IsKeyLine text line.word line.blob line.comment
+  pub line_refused : (text : List ℕ) (fault : LineFault) → IsBytes text
+      → (line_at text ≡ Err fault) ↔ IsFirstLineFault text fault
+  pub asked : (blob : List ℕ) (asked : Subject) → IsBytes blob
+      → (subject_of blob ≡ Ok asked) ↔ IsSubject blob asked
+  pub not_asked : (blob : List ℕ) (fault : SubjectFault) → IsBytes blob
+      → (subject_of blob ≡ Err fault) ↔ IsSubjectFault blob fault
+  pub read_back : (blob : List ℕ) (key : PublicKey) → IsKey blob key
+      → (blob_of key ≡ blob) × (key_at (blob_of key) ≡ Ok key)
+
+-- ---- the parts of a line
+
+content_fits : (line : List ℕ) → IsBytes line → IsBytes (content_of line)
+unfolding before_zero after_blanks
+content_fits line fits = IsBytes-drop (prefix_len is_blank (before_zero line)) (before_zero line) (IsBytes-take (prefix_len (λ byte. not (byte == 0)) line) line fits)
+
+-- a subject has a key
+key_in : (blob : List ℕ) (asked : Subject) → IsSubject blob asked → (key : PublicKey) × IsKey asked.plain key
+key_in blob asked (plain_key key is same) = (key, rw same is)
+key_in blob asked (certified certificate is same) = (certificate.key, rw same is.key)
+
+key_is_read : Laws → (plain : List ℕ) (key : PublicKey) → IsKey plain key → key_at plain ≡ Ok key
+key_is_read laws plain key is = let back = laws.read_back plain key is in rw (← back.0) back.1
+
+-- A line with a key is read up to the size of the key.
+line_with_key : Laws → (line : List ℕ) (key : PublicKey) → HasKey line key → line_key line ≡ sized_key key
+unfolding line_key text_key blob_key
+line_with_key laws line key has =
+    rw (has.begins.no_remark, has.begins.begins, laws.line_read _ _ _ _ has.is_line, (laws.asked has.blob has.asked has.is_line.bytes).1 has.asks, key_is_read laws has.asked.plain key has.is_key) refl
+
+-- and so is the content of a line that begins with a key
+begins_so : (line : List ℕ) → BeginsWithKey line → line_key line ≡ key_line_key (content_of line)
+unfolding line_key text_key
+begins_so line begins = rw (begins.no_remark, begins.begins) refl
+
+-- ---- what was read
+
+-- A line begins with a key, is empty or a comment, or something is before its key.
+data Starts (line : List ℕ) : Type 0 where
+  remarks : is_remark (content_of line) ≡ true → Starts line
+  other_start : is_remark (content_of line) ≡ false → begins_with_key (content_of line) ≡ false → Starts line
+  at_key : BeginsWithKey line → Starts line
+
+starts : (line : List ℕ) → Starts line
+starts line = elim (cases_Bool (is_remark (content_of line))) [
+  | inl is ↦ remarks is
+  | inr text ↦ elim (cases_Bool (begins_with_key (content_of line))) [
+    | inl is ↦ at_key (record { no_remark = text; begins = is })
+    | inr other ↦ other_start text other
+  ]
+]
+
+-- the subject of the blob, and its key
+abbrev keyed : Subject → Result (Option (List ℕ)) LineCause
+keyed asked = in_fault key_cause (key_at asked.plain) >>= sized_key
+
+abbrev blobbed : Content → Result (Option (List ℕ)) LineCause
+blobbed read = blob_key read.blob
+
+sized_found : (line : List ℕ) (key : PublicKey) (given : Option (List ℕ)) (size : Size) → HasKey line key → size_of key.kind key.bits ≡ size
+    → by_size size (blob_of key) ≡ Ok given → Revokes line given
+sized_found line key given Short has is e = short key has is (cc)
+sized_found line key given Fits has is e = one_key key has is (cc)
+sized_found line key given Long has is e = absurd (cc)
+
+sized_refused : (line : List ℕ) (key : PublicKey) (cause : LineCause) (size : Size) → HasKey line key → size_of key.kind key.bits ≡ size
+    → by_size size (blob_of key) ≡ Err cause → IsLineFault line cause
+sized_refused line key cause Short has is e = absurd (cc)
+sized_refused line key cause Fits has is e = absurd (cc)
+sized_refused line key cause Long has is e = long key has is (cc)
+
+-- a key line with a subject has a key
+has_key : Laws → (line : List ℕ) (read : Content) (asked : Subject) → BeginsWithKey line → IsKeyLine (content_of line) read.word read.blob read.comment
+    → IsSubject read.blob asked → (key : PublicKey) × HasKey line key
+has_key laws line read asked begins is_line asks =
+    let key = key_in read.blob asked asks in
+    (key.0, record { begins = begins; word = read.word; blob = read.blob; comment = read.comment; is_line = is_line; asked = asked; asks = asks; is_key = key.1 })
+
+key_found : Laws → (line : List ℕ) (given : Option (List ℕ)) → IsBytes line → BeginsWithKey line → key_line_key (content_of line) ≡ Ok given → Revokes line given
+unfolding blob_key
+key_found laws line given fits begins e =
+    let read = bind_ok (in_fault causes.Line (line_at (content_of line))) blobbed given e in
+    let is_line = laws.line_found (content_of line) read.0 (content_fits line fits) (in_fault_ok causes.Line (line_at (content_of line)) read.0 read.1) in
+    let asked = bind_ok (in_fault causes.Subject (subject_of read.0.blob)) keyed given read.2 in
+    let asks = (laws.asked read.0.blob asked.0 is_line.bytes).0 (in_fault_ok causes.Subject (subject_of read.0.blob) asked.0 asked.1) in
+    let key = has_key laws line read.0 asked.0 begins is_line asks in
+    sized_found line key.0 given (size_of key.0.kind key.0.bits) key.1 refl (sym (line_with_key laws line key.0 key.1) ∙ (begins_so line begins ∙ e))
+
+pub line_found : Laws → (line : List ℕ) (given : Option (List ℕ)) → IsBytes line → line_key line ≡ Ok given → Revokes line given
+unfolding line_key text_key
+line_found laws line given fits e = elim (starts line) [
+  | remarks is ↦ remark is (let here = rw is at e in cc)
+  | other_start text other ↦ absurd (let here = rw (text, other) at e in cc)
+  | at_key is ↦ key_found laws line given fits is (sym (begins_so line is) ∙ e)
+]
+
+pub line_again : Laws → (line : List ℕ) (given : Option (List ℕ)) → Revokes line given → line_key line ≡ Ok given
+unfolding line_key
+line_again laws line given (remark is none) = rw (is, none) refl
+line_again laws line given (short key has is none) = line_with_key laws line key has ∙ rw (is, none) refl
+line_again laws line given (one_key key has is some) = line_with_key laws line key has ∙ rw (is, some) refl
+
+-- ---- why a line is refused
+
+key_refused : Laws → (line : List ℕ) (cause : LineCause) → IsBytes line → BeginsWithKey line → key_line_key (content_of line) ≡ Err cause → IsLineFault line cause
+unfolding blob_key
+key_refused laws line cause fits begins e = elim (bind_err (in_fault causes.Line (line_at (content_of line))) blobbed cause e) [
+  | inl refused ↦
+      let why = in_fault_err causes.Line (line_at (content_of line)) cause refused in
+      no_line why.0 begins ((laws.line_refused (content_of line) why.0 (content_fits line fits)).0 why.1) why.2
+  | inr read ↦
+      let is_line = laws.line_found (content_of line) read.0 (content_fits line fits) (in_fault_ok causes.Line (line_at (content_of line)) read.0 read.1) in
+      elim (bind_err (in_fault causes.Subject (subject_of read.0.blob)) keyed cause read.2) [
+        | inl refused ↦
+            let why = in_fault_err causes.Subject (subject_of read.0.blob) cause refused in
+            no_blob read.0.word read.0.blob read.0.comment why.0 begins is_line ((laws.not_asked read.0.blob why.0 is_line.bytes).0 why.1) why.2
+        | inr asked ↦
+            let asks = (laws.asked read.0.blob asked.0 is_line.bytes).0 (in_fault_ok causes.Subject (subject_of read.0.blob) asked.0 asked.1) in
+            let key = has_key laws line read.0 asked.0 begins is_line asks in
+            sized_refused line key.0 cause (size_of key.0.kind key.0.bits) key.1 refl (sym (line_with_key laws line key.0 key.1) ∙ (begins_so line begins ∙ e))
+      ]
+]
+
+pub line_refused : Laws → (line : List ℕ) (cause : LineCause) → IsBytes line → line_key line ≡ Err cause → IsLineFault line cause
+unfolding line_key text_key
+line_refused laws line cause fits e = elim (starts line) [
+  | remarks is ↦ absurd (let here = rw is at e in cc)
+  | other_start text other ↦ no_name text other (let here = rw (text, other) at e in cc)
+  | at_key is ↦ key_refused laws line cause fits is (sym (begins_so line is) ∙ e)
+]
+
+pub fault_met : Laws → (line : List ℕ) (cause : LineCause) → IsBytes line → IsLineFault line cause → line_key line ≡ Err cause
+unfolding line_key text_key blob_key
+fault_met laws line cause fits (no_name text other is) = rw (text, other, is) refl
+fault_met laws line cause fits (no_line fault begins first is) =
+    begins_so line begins ∙ rw (is, (laws.line_refused (content_of line) fault (content_fits line fits)).1 first) refl
+fault_met laws line cause fits (no_blob word blob comment fault begins is_line first is) =
+    begins_so line begins ∙ rw (is, laws.line_read _ _ _ _ is_line, (laws.not_asked blob fault is_line.bytes).1 first) refl
+fault_met laws line cause fits (long key has is same) = line_with_key laws line key has ∙ rw (is, same) refl

@@ -1,0 +1,3 @@
+pub mod LinesRead
+pub mod Keys
+pub mod Revoked

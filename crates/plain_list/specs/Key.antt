@@ -1,0 +1,66 @@
+-- The key that a line of a plain list revokes, read from left to right.
+use Rattle.std.specs.Prelude.{◌≡◌, ℕ, if◌then◌else◌, List, Option, Some, None, Result, Ok, Err, ⊤}
+use Rattle.ssh_wire.specs.Reading.{◌>>=◌, in_fault}
+use Rattle.ssh_key.specs.Key.{PublicKey, blob_of}
+use Rattle.ssh_key.specs.KeyReading.{key_at}
+use Rattle.ssh_key.specs.declared.fault.KeyFault.{KeyFault}
+use Rattle.ssh_key.specs.declared.fault.KeyFault.TheVariants as keys
+use Rattle.key_text.specs.LineReading.{line_at}
+use Rattle.key_text.specs.declared.line_fault.LineFault.TheVariants as lines
+use Rattle.ssh_cert.specs.SubjectReading.{subject_of}
+use Rattle.ssh_cert.specs.declared.subject_fault.SubjectFault.TheVariants as subjects
+use Rattle.plain_list.specs.Line.{begins_with_key, content_of, is_remark}
+use Rattle.plain_list.specs.Size.{size_of}
+use Rattle.plain_list.specs.declared.fault.LineCause.{LineCause}
+use Rattle.plain_list.specs.declared.fault.LineCause.TheVariants as causes
+use Rattle.plain_list.specs.declared.fault.PlainFault.{PlainFault}
+use Rattle.plain_list.specs.declared.fault.PlainFault.TheVariants as faults
+use Rattle.plain_list.specs.declared.size.Size.{Size}
+use Rattle.plain_list.specs.declared.size.Size.TheVariants.{Fits, Long, Short}
+
+-- The line of a short key is skipped, and a long key is a fault.
+abbrev pub by_size : Size → List ℕ → Result (Option (List ℕ)) LineCause
+by_size Short blob = Ok None
+by_size Fits blob = Ok (Some blob)
+by_size Long blob = Err (causes.Subject (subjects.Key keys.TooLong))
+
+abbrev pub sized_key : PublicKey → Result (Option (List ℕ)) LineCause
+sized_key key = by_size (size_of key.kind key.bits) (blob_of key)
+
+abbrev pub key_cause : KeyFault → LineCause
+key_cause fault = causes.Subject (subjects.Key fault)
+
+-- the plain key of a blob, or that of its certificate
+unfoldable pub blob_key : List ℕ → Result (Option (List ℕ)) LineCause
+blob_key blob = do
+  asked ← in_fault causes.Subject (subject_of blob)
+  key ← in_fault key_cause (key_at asked.plain)
+  sized_key key
+
+-- the key of a key line
+abbrev pub key_line_key : List ℕ → Result (Option (List ℕ)) LineCause
+key_line_key content = do
+  read ← in_fault causes.Line (line_at content)
+  blob_key read.blob
+
+-- the key of the content of a line
+unfoldable pub text_key : List ℕ → Result (Option (List ℕ)) LineCause
+text_key content =
+    if begins_with_key content then key_line_key content else Err (causes.Line lines.NoKey)
+
+-- the key that a line revokes, if it revokes one
+unfoldable pub line_key : List ℕ → Result (Option (List ℕ)) LineCause
+line_key line = if is_remark (content_of line) then Ok None else text_key (content_of line)
+
+-- The fault is the cause that reading the line gives, with the line's number, or an allocation
+-- failed.
+abbrev pub Reports : {A : Type 0} → ℕ → PlainFault → Result A LineCause → Type 0
+Reports number faults.TooLong read = ⊥
+Reports number (faults.Line at cause) read = (at ≡ number) × (read ≡ Err cause)
+Reports number faults.NoMemory read = ⊤
+
+-- The key that reading the line gives was returned, or why there is none.
+abbrev pub Gives : ℕ → Result (Option (List ℕ)) PlainFault → Result (Option (List ℕ)) LineCause
+    → Type 0
+Gives number (Ok key) read = read ≡ Ok key
+Gives number (Err fault) read = Reports number fault read

@@ -1,0 +1,68 @@
+-- What the lines of a plain list spell.
+use Rattle.std.specs.Prelude.{◌≡◌, ℕ, true, false, ◌⊎◌, List, [], ◌∷◌, Option, Some, None}
+use Rattle.ssh_key.specs.Key.{IsKey, PublicKey, blob_of}
+use Rattle.ssh_key.specs.declared.fault.KeyFault.TheVariants as keys
+use Rattle.key_text.specs.KeyLine.{IsKeyLine}
+use Rattle.key_text.specs.LineFaults.{IsFirstLineFault}
+use Rattle.key_text.specs.declared.line_fault.LineFault.{LineFault}
+use Rattle.key_text.specs.declared.line_fault.LineFault.TheVariants as lines
+use Rattle.krl_types.specs.Subject.{Subject}
+use Rattle.ssh_cert.specs.SubjectReading.{IsSubject, IsSubjectFault}
+use Rattle.ssh_cert.specs.declared.subject_fault.SubjectFault.{SubjectFault}
+use Rattle.ssh_cert.specs.declared.subject_fault.SubjectFault.TheVariants as subjects
+use Rattle.krl_held.specs.Reasons.{OfCert}
+use Rattle.plain_list.specs.Line.{begins_with_key, content_of, is_remark}
+use Rattle.plain_list.specs.Size.{size_of}
+use Rattle.plain_list.specs.declared.fault.LineCause.{LineCause}
+use Rattle.plain_list.specs.declared.fault.LineCause.TheVariants as causes
+use Rattle.plain_list.specs.declared.size.Size.TheVariants.{Fits, Long, Short}
+
+-- The content of a line is neither empty nor a comment, and begins with the type name of a key.
+pub record BeginsWithKey (line : List ℕ) : Type 0 where
+  pub no_remark : is_remark (content_of line) ≡ false
+  pub begins : begins_with_key (content_of line) ≡ true
+
+-- The line is a key line with this plain key, or with a certificate of it.
+pub record HasKey (line : List ℕ) (key : PublicKey) : Type 0 where
+  pub begins : BeginsWithKey line
+  pub word : List ℕ
+  pub blob : List ℕ
+  pub comment : List ℕ
+  pub is_line : IsKeyLine (content_of line) word blob comment
+  pub asked : Subject
+  pub asks : IsSubject blob asked
+  pub is_key : IsKey asked.plain key
+
+-- The key that a line revokes, if it revokes one.
+pub data Revokes (line : List ℕ) (given : Option (List ℕ)) : Type 0 where
+  remark : is_remark (content_of line) ≡ true → given ≡ None → Revokes line given
+  short : (key : PublicKey) → HasKey line key → size_of key.kind key.bits ≡ Short → given ≡ None
+      → Revokes line given
+  one_key : (key : PublicKey) → HasKey line key → size_of key.kind key.bits ≡ Fits
+      → given ≡ Some (blob_of key) → Revokes line given
+
+-- Why a line is refused: something is before its key, it is no key line, its blob is no key, or the
+-- key is too long.
+pub data IsLineFault (line : List ℕ) (cause : LineCause) : Type 0 where
+  no_name : is_remark (content_of line) ≡ false → begins_with_key (content_of line) ≡ false
+      → cause ≡ causes.Line lines.NoKey → IsLineFault line cause
+  no_line : (fault : LineFault) → BeginsWithKey line → IsFirstLineFault (content_of line) fault
+      → cause ≡ causes.Line fault → IsLineFault line cause
+  no_blob : (word blob comment : List ℕ) (fault : SubjectFault) → BeginsWithKey line
+      → IsKeyLine (content_of line) word blob comment → IsSubjectFault blob fault
+      → cause ≡ causes.Subject fault → IsLineFault line cause
+  long : (key : PublicKey) → HasKey line key → size_of key.kind key.bits ≡ Long
+      → cause ≡ causes.Subject (subjects.Key keys.TooLong) → IsLineFault line cause
+
+-- ---- what the list revokes
+
+-- Some line revokes this key.
+abbrev pub IsOnLine : List (List ℕ) → (blob : List ℕ) → Type 0
+IsOnLine [] blob = ⊥
+IsOnLine (line ∷ lines) blob = Revokes line (Some blob) ⊎ IsOnLine lines blob
+
+-- A plain key, or the plain key of a certificate, is on a line; or the key of the certificate's
+-- authority is.
+abbrev pub IsListed : List (List ℕ) → Subject → Type 0
+IsListed lines subject =
+    IsOnLine lines subject.plain ⊎ OfCert subject.cert (λ cert. IsOnLine lines cert.authority)

@@ -1,0 +1,37 @@
+//! Why a plain list is refused.
+
+ghost use Rattle.std.specs.Prelude.{◌≡◌};
+ghost use Rattle.plain_list.specs.declared.fault.PlainFault.TheVariants.{NoMemory};
+
+use key_text::LineFault;
+use ssh_cert::SubjectFault;
+use std::alloc::AllocError;
+
+/// Why a line of a plain list is refused.
+#[derive(Clone, Copy, PartialEq, Eq)]
+pub enum LineCause {
+    /// It is not a key line, or something is before the key.
+    Line(LineFault),
+    /// Its blob is neither that of a plain key nor of a certificate, or the key has more than
+    /// 16,384 bits, which is `TooLong`.
+    Subject(SubjectFault),
+}
+
+/// Why a plain list is refused: its length, or its first line that is refused.
+#[derive(Clone, Copy, PartialEq, Eq)]
+pub enum PlainFault {
+    /// It has more than 67,108,864 bytes.
+    TooLong,
+    /// A line, counted from 1, is neither empty nor a comment nor a key.
+    Line { number: u64, cause: LineCause },
+    /// An allocation failed.
+    NoMemory,
+}
+
+impl From<AllocError> for PlainFault {
+    ghost from_gives = { λ _ fault. fault ≡ NoMemory };
+
+    fn from(_refused: AllocError) -> PlainFault {
+        PlainFault::NoMemory
+    }
+}

@@ -1,0 +1,78 @@
+//! The key of a line.
+
+ghost use Rattle.plain_list.specs.Key.{Gives, blob_key, line_key, sized_key, text_key};
+
+use crate::fault::{LineCause, PlainFault};
+use crate::line::{begins_with_key, content_of, is_remark};
+use crate::size::{Size, size_of};
+use key_text::{LineFault, read_line};
+use ssh_cert::{SubjectFault, read_any};
+use ssh_key::{KeyFault, PublicKey, plain_blob};
+use ssh_wire::Bytes;
+use std::alloc::Global;
+
+/// The key that a line with this number revokes, if it revokes one.
+#[tactic(auto, unfolding(crate::specs::Key::line_key))]
+pub(crate) fn key_of_line(
+    alloc: Global,
+    number: u64,
+    line: &[u8],
+) -> Result<Option<Bytes>, PlainFault>
+    ensures { Gives number result (line_key line.now) }
+{
+    let content = content_of(line);
+    if is_remark(content) {
+        return Ok(None);
+    }
+    key_of_text(alloc, number, content)
+}
+
+// The same for the content of a line that is neither empty nor a comment.
+#[tactic(auto, unfolding(crate::specs::Key::text_key))]
+fn key_of_text(alloc: Global, number: u64, content: &[u8]) -> Result<Option<Bytes>, PlainFault>
+    ensures { Gives number result (text_key content.now) }
+{
+    if !begins_with_key(content) {
+        let cause = LineCause::Line(LineFault::NoKey);
+        return Err(PlainFault::Line { number, cause });
+    }
+    match read_line(alloc, content) {
+        Ok(line) => key_of_blob(alloc, number, line.blob.as_slice()),
+        Err(LineFault::NoMemory) => Err(PlainFault::NoMemory),
+        Err(fault) => Err(PlainFault::Line {
+            number,
+            cause: LineCause::Line(fault),
+        }),
+    }
+}
+
+// The same for the blob of a line: its plain key, or that of its certificate.
+#[tactic(auto, unfolding(crate::specs::Key::blob_key))]
+fn key_of_blob(alloc: Global, number: u64, blob: &[u8]) -> Result<Option<Bytes>, PlainFault>
+    ensures { Gives number result (blob_key blob.now) }
+{
+    match read_any(blob) {
+        Ok(any) => sized_key(alloc, number, any.plain()),
+        Err(fault) => Err(PlainFault::Line {
+            number,
+            cause: LineCause::Subject(fault),
+        }),
+    }
+}
+
+// The same for a plain key, by its size.
+fn sized_key(alloc: Global, number: u64, key: &PublicKey) -> Result<Option<Bytes>, PlainFault>
+    ensures { Gives number result (sized_key key.now) }
+{
+    match size_of(key.kind(), key.bits()) {
+        Size::Short => Ok(None),
+        Size::Fits => match plain_blob(alloc, key) {
+            Ok(blob) => Ok(Some(Bytes::from_vec(blob))),
+            Err(_) => Err(PlainFault::NoMemory),
+        },
+        Size::Long => Err(PlainFault::Line {
+            number,
+            cause: LineCause::Subject(SubjectFault::Key(KeyFault::TooLong)),
+        }),
+    }
+}

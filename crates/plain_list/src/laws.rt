@@ -1,0 +1,37 @@
+//! Laws of plain lists. Each function does nothing: its contract is the law.
+
+ghost use Rattle.std.specs.Prelude.{◌≡◌, ◌↔◌, ℕ, List, All, Err, Ok, Option};
+ghost use Rattle.ssh_wire.specs.Wire.{IsBytes};
+ghost use Rattle.krl_held.specs.Revoked.{Revoked};
+ghost use Rattle.krl_types.specs.Subject.{Subject};
+ghost use Rattle.plain_list.specs.Key.{line_key};
+ghost use Rattle.plain_list.specs.List.{entries_of};
+ghost use Rattle.plain_list.specs.Spelled.{IsLineFault, IsListed, Revokes};
+ghost use Rattle.plain_list.specs.declared.fault.LineCause.{LineCause};
+
+use key_text::laws::{line_read_where_spelled, line_refused_by_first_fault};
+use ssh_cert::laws::{asked_where_spelled, not_asked_by_first_fault};
+use ssh_key::laws::blob_read_back;
+
+/// A line revokes exactly the key that it spells, or none.
+pub fn line_read_as_spelled()
+    ensures read { (line : List ℕ) (key : Option (List ℕ)) → IsBytes line
+        → (line_key line ≡ Ok key) ↔ Revokes line key }
+    ensures refused { (line : List ℕ) (cause : LineCause) → IsBytes line
+        → (line_key line ≡ Err cause) ↔ IsLineFault line cause }
+{
+    line_read_where_spelled();
+    line_refused_by_first_fault();
+    asked_where_spelled();
+    not_asked_by_first_fault();
+    blob_read_back();
+}
+
+/// The entries of a plain list revoke exactly the keys on its lines, and the certificates of these
+/// keys and of these authorities.
+pub fn revokes_the_keys_on_its_lines()
+    ensures { (lines : List (List ℕ)) (subject : Subject) → All IsBytes lines
+        → Revoked (entries_of lines) subject ↔ IsListed lines subject }
+{
+    line_read_as_spelled();
+}

@@ -1,0 +1,13 @@
+//! Plain lists of public keys, which sshd(8) also takes as `RevokedKeys`: what their lines revoke.
+#![tactic(auto)]
+
+mod fault;
+mod key;
+pub mod laws;
+mod line;
+mod reading;
+mod size;
+
+pub use fault::{LineCause, PlainFault};
+pub use reading::read_plain;
+pub use size::Size;

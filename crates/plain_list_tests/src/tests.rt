@@ -1,0 +1,5 @@
+//! What no contract says: what a real sshd answered about lists, and calls with ample memory.
+
+mod lists;
+mod page;
+mod sizes;

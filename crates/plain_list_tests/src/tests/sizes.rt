@@ -1,0 +1,68 @@
+//! RSA and DSA keys of each size.
+
+use crate::tests::lists::asked;
+use base64::engine::general_purpose::STANDARD;
+use parts_for_tests::{GITHUB_LINE, joined, strings};
+use plain_list::{LineCause, PlainFault};
+use ssh_cert::SubjectFault;
+use ssh_key::KeyFault;
+use std::alloc::Global;
+use std::process::Abort;
+
+// A number of so many bytes, of which the first is this one.
+fn number(rt: &impl Abort, alloc: Global, first: u8, size: usize) -> Vec<u8> {
+    let mut bytes = vec![in alloc; 0x55; size].expect(rt, "there is memory");
+    bytes[0] = first;
+    if first < 128 {
+        return bytes;
+    }
+    joined(alloc, &[b"\0", &bytes]).expect(rt, "there is memory")
+}
+
+// A key line with the key of these numbers.
+fn key_line(rt: &impl Abort, alloc: Global, word: &[u8], numbers: &[&[u8]]) -> Vec<u8> {
+    let name = strings(alloc, &[word]).expect(rt, "there is memory");
+    let fields = strings(alloc, numbers).expect(rt, "there is memory");
+    let blob = joined(alloc, &[&name, &fields]).expect(rt, "there is memory");
+    let text = STANDARD.encode(alloc, &blob).expect(rt, "there is memory");
+    joined(alloc, &[word, b" ", text.as_bytes()]).expect(rt, "there is memory")
+}
+
+// Whether a list of a line and of the published key revokes both, or why it is refused.
+fn revokes(rt: &impl Abort, alloc: Global, line: &[u8]) -> Result<(bool, bool), PlainFault> {
+    let list = joined(alloc, &[line, b"\n", GITHUB_LINE]).expect(rt, "there is memory");
+    let first = asked(rt, alloc, &list, line)?;
+    let second = asked(rt, alloc, &list, GITHUB_LINE)?;
+    Ok((first, second))
+}
+
+// The first byte of the modulus, its number of bytes, and whether the key is skipped, revoked or
+// refused.
+const SIZES: [(u8, usize, Option<bool>); 4] = [
+    (0x7f, 128, Some(false)),
+    (0x80, 128, Some(true)),
+    (0xff, 2_048, Some(true)),
+    (0x01, 2_049, None),
+];
+
+#[test]
+fn keys_of_each_size(rt: HostRuntime) {
+    let alloc = rt.alloc();
+    let cause = LineCause::Subject(SubjectFault::Key(KeyFault::TooLong));
+    let refused = PlainFault::Line { number: 1, cause };
+    for (i, (first, size, wanted)) in SIZES.iter().enumerate() {
+        let modulus = number(&rt, alloc, *first, *size);
+        let rsa = key_line(&rt, alloc, b"ssh-rsa", &[b"\x01\0\x01", &modulus]);
+        let dsa = key_line(
+            &rt,
+            alloc,
+            b"ssh-dss",
+            &[&modulus, b"\x03", b"\x02", b"\x05"],
+        );
+        let wanted = wanted.ok_or(refused);
+        let of_rsa = wanted.map(|revoked| (revoked, true));
+        let of_dsa = wanted.map(|_| (true, true));
+        assert!(rt; revokes(&rt, alloc, &rsa) == of_rsa, "RSA in case {i}");
+        assert!(rt; revokes(&rt, alloc, &dsa) == of_dsa, "DSA in case {i}");
+    }
+}
