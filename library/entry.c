@@ -6,6 +6,7 @@
 #include "krl.h"
 
 int32_t proved_krl_check(const uint8_t *, size_t, const uint8_t *, size_t);
+int32_t proved_krl_check_any(const uint8_t *, size_t, const uint8_t *, size_t);
 int32_t proved_krl_check_line(const uint8_t *, size_t, const uint8_t *, size_t);
 int32_t proved_krl_why(const uint8_t *, size_t, const uint8_t *, size_t);
 int32_t proved_krl_load(krl *, const uint8_t *, size_t);
@@ -23,6 +24,12 @@ int32_t krl_check(const uint8_t *list, size_t list_length,
                   const uint8_t *blob, size_t blob_length) {
     return proved_krl_check(bytes(list, list_length), list_length,
                             bytes(blob, blob_length), blob_length);
+}
+
+int32_t krl_check_any(const uint8_t *list, size_t list_length,
+                      const uint8_t *blob, size_t blob_length) {
+    return proved_krl_check_any(bytes(list, list_length), list_length,
+                                bytes(blob, blob_length), blob_length);
 }
 
 int32_t krl_check_line(const uint8_t *list, size_t list_length,

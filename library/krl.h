@@ -1,12 +1,11 @@
 /* krl.h: whether an OpenSSH key revocation list (KRL) revokes a key or a certificate.
  *
- * A RevokedKeys file of sshd can be a KRL or a plain file of public keys. These calls read KRLs:
- * they answer -101 for a plain file, as for anything else that is no KRL, or -103 if the file
- * has less than 8 bytes. A server that takes plain files too has to look for the keys in them
- * itself.
+ * A RevokedKeys file of sshd can be a KRL or a plain list, a file of public keys. krl_check_any
+ * takes both. The other calls read KRLs alone: they answer -101 for a plain list, as for anything
+ * else that is no KRL, or -103 if the file has less than 8 bytes.
  *
- * Fail closed: let a key in if krl_check, krl_check_line, krl_ask or krl_ask_line answers
- * KRL_OK for it, and in no other case. KRL_OK of krl_load says only that the list was read.
+ * Fail closed: let a key in if krl_check, krl_check_any, krl_check_line, krl_ask or krl_ask_line
+ * answers KRL_OK for it, and in no other case. KRL_OK of krl_load says only that the list was read.
  *
  * The calls do not check the signatures of a list, of a certificate or of a login, whether a
  * certificate's authority is trusted, or whether the certificate is valid now. Check these too.
@@ -44,7 +43,7 @@ extern "C" {
 #define KRL_NO_MEMORY (-1) /* malloc gave none: the same call may succeed later */
 #define KRL_NOT_LOADED (-2) /* no list was read into the handle */
 
-/* -101 to -116: the list is refused. -101 to -115 are its first fault, by the last two digits;
+/* -101 to -117: the list is refused. -101 to -115 are its first fault, by the last two digits;
  * -113 and -114 are never answered. */
 #define KRL_LIST_MAGIC (-101) /* no KRL */
 #define KRL_LIST_FORMAT_VERSION (-102) /* not format version 1 */
@@ -65,6 +64,10 @@ extern "C" {
  * certificates that a comparison of bytes does not find. So let nobody in. */
 #define KRL_LIST_AUTHORITY (-116)
 
+/* A line of a plain list is neither empty nor a comment nor a key. sshd refuses every key while
+ * its list has such a line. */
+#define KRL_LIST_LINE (-117)
+
 /* -201 to -203: the line has no key. */
 #define KRL_LINE_NO_KEY (-201)
 #define KRL_LINE_BASE64 (-202)
@@ -77,7 +80,7 @@ extern "C" {
  * 65,536 bytes, and of a field: 11 it ends early, 12 a negative number, 13 a number with a
  * needless zero byte. -402, -502 and -507 are never answered: the type of a certificate is known
  * before it is read, and other fields follow its key. */
-#define KRL_IS_LIST_FAULT(answer) ((answer) <= -101 && (answer) >= -116)
+#define KRL_IS_LIST_FAULT(answer) ((answer) <= -101 && (answer) >= -117)
 #define KRL_IS_KEY_FAULT(answer) ((answer) <= -201)
 
 /* Whether a list revokes the key of a blob.
@@ -91,7 +94,28 @@ extern "C" {
 int32_t krl_check(const uint8_t *list, size_t list_length,
                   const uint8_t *blob, size_t blob_length);
 
-/* The same for the key of a line, as in a .pub or an authorized_keys file: options or none, the
+/* The same for a list that is a KRL or a plain list, as the RevokedKeys file of sshd: a list that
+ * begins with the 8 bytes of the magic of a KRL is one, and every other list is a plain list, also
+ * an empty one.
+ *
+ * Each line of a plain list is empty, a comment, or a key as in a .pub file, with nothing before
+ * it. It revokes this key and each certificate of it; the key of an authority also revokes each
+ * certificate of that authority. The line of a certificate is as the line of its plain key. The
+ * line of an RSA key of fewer than 1,024 bits revokes nothing. If any other text is on a line, the
+ * answer is KRL_LIST_LINE for every key. A few lines that sshd reads get it too: base64 with a
+ * carriage return in it, a key under the name of its signatures, numbers with a needless zero
+ * byte.
+ *
+ * The call checks neither the signature of a certificate on the list, nor whether the point of an
+ * ECDSA key is on its curve: sshd refuses every key if one is wrong. The call keeps all keys of a
+ * plain list in memory while it runs.
+ *
+ * A list without a key, also one of no bytes, revokes nobody: so never pass it in place of a file
+ * that was not read to its end. */
+int32_t krl_check_any(const uint8_t *list, size_t list_length,
+                      const uint8_t *blob, size_t blob_length);
+
+/* krl_check for the key of a line, as in a .pub or an authorized_keys file: options or none, the
  * name of the type, the key in base64, and a comment or none. The line has no line feed. */
 int32_t krl_check_line(const uint8_t *list, size_t list_length,
                        const uint8_t *line, size_t line_length);
@@ -154,7 +178,8 @@ void krl_unload(krl *handle);
 /* The words for an answer of any call but krl_why, and for an answer of krl_why below zero. For a
  * fault they are those that krl-keygen prints, such as "krl 3 EndsEarly", "line 2 Base64" and
  * "subject 1 Key, key 4 Point". The other answers have the words "ok", "revoked", "no memory",
- * "no list is loaded" and "an authority of the list is no key in its one spelling". A number that
+ * "no list is loaded", "an authority of the list is no key in its one spelling" and
+ * "a line of the plain list is no key". A number that
  * has no words gets "unknown answer".
  *
  * The call writes them as snprintf does: as many bytes as leave room for a zero byte, and that

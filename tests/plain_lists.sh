@@ -1,5 +1,5 @@
 # A plain file of public keys as RevokedKeys of a real sshd: whom it refuses for each form of a
-# line. The table of docs/FORMATS.md states the rules.
+# line, and what libkrl answers by the same file. The tables of docs/FORMATS.md state the rules.
 
 if ! need sshd openssh-server; then
   echo '# plain_lists is skipped: sshd is missing, and could not be installed'
@@ -26,6 +26,7 @@ echo "$ed25519_sk" >"$room/ed25519-sk.pub"
 cat "$room"/{one,two,rsa,ecdsa-sk,ed25519-sk}.pub >"$room/allowed"
 configure "TrustedUserCAKeys $room/authorities" "RevokedKeys $room/revoked"
 serve
+"$top/library/build" || judge 'libkrl is built' '  it is not'
 
 # accepts NAME: whether sshd would accept a signature of this key.
 accepts() {
@@ -49,13 +50,55 @@ verdict() {
   fi
 }
 
-# plain NAME WANTED FORMAT [WORD..]: the list that printf writes. WANTED has an answer for each key.
+# sshd_says NAME WANTED: WANTED has an answer for each key.
+sshd_says() {
+  local it got=
+  for it in $2; do got+=" ${it%=*}=$(verdict "${it%=*}")"; done
+  judge "$1" "$(differs 'the answers' "$2" "${got:1}")"
+}
+
+# library_says KEY..: the answers of krl_check_any.
+library_says() {
+  python3 "$tests/lib/library/asked_any" "$room/revoked" "${@/%/.pub}"
+}
+
+# refused NAME WANTED: libkrl gives no answer by the list, whatever the key is.
+refused() {
+  local it keys=() numbers=
+  for it in $2; do keys+=("$room/${it%=*}") numbers+=' -117'; done
+  judge "$1: libkrl" "$(differs 'the answers' "${numbers:1}" "$(library_says "${keys[@]}")")"
+}
+
+# read_so NAME WANTED: libkrl gives these answers.
+read_so() {
+  local it keys=() numbers=
+  for it in $2; do keys+=("$room/${it%=*}") numbers+=" $([[ $it == *=in ]]; echo $?)"; done
+  judge "$1: libkrl" "$(differs 'the answers' "${numbers:1}" "$(library_says "${keys[@]}")")"
+}
+
+# plain NAME WANTED FORMAT [WORD..]: the list that printf writes. libkrl refuses it where sshd refuses all keys.
 plain() {
-  local name=$1 wanted=$2 it got=
+  local name=$1 wanted=$2
   shift 2
   printf "$@" >"$room/revoked"
-  for it in $wanted; do got+=" ${it%=*}=$(verdict "${it%=*}")"; done
-  judge "$name" "$(differs 'the answers' "$wanted" "${got:1}")"
+  sshd_says "$name" "$wanted"
+  if [[ $wanted == *=fault* ]]; then refused "$name" "$wanted"; else read_so "$name" "$wanted"; fi
+}
+# stricter NAME WANTED FORMAT [WORD..]: a list that sshd reads, and libkrl refuses.
+stricter() {
+  local name=$1 wanted=$2
+  shift 2
+  printf "$@" >"$room/revoked"
+  sshd_says "$name" "$wanted"
+  refused "$name" "$wanted"
+}
+# milder NAME OTHERS FORMAT [WORD..]: a list for which sshd refuses all keys, and by which libkrl answers so.
+milder() {
+  local name=$1 others=$2
+  shift 2
+  printf "$@" >"$room/revoked"
+  sshd_says "$name" "$all"
+  read_so "$name" "$others"
 }
 key() {
   cut -d ' ' -f 1,2 "$room/$1.pub"
@@ -79,8 +122,8 @@ plain 'an empty line of CR LF' "$all" '\r\n'
 plain 'a line of a blank and CR LF' "$all" ' \r\n'
 plain 'a key and an empty line of CR LF' 'one=revoked two=fault' '%s\r\n\r\n' "$one"
 plain 'CR alone between lines' "$all" '%s\r%s\r' "$one" "$two"
-plain 'CR and VT within base64' "$first" 'ssh-ed25519 %s\r%s\v%s\n' "${word:0:20}" "${word:20:20}" \
-  "${word:40}"
+stricter 'CR and VT within base64' "$first" 'ssh-ed25519 %s\r%s\v%s\n' "${word:0:20}" \
+  "${word:20:20}" "${word:40}"
 plain 'VT before a key' "$all" '\v%s\n' "$one"
 plain 'a byte order mark before a comment' "$all" '\xef\xbb\xbf# c\n'
 plain 'a long comment' "$first" '%s %s\n' "$one" "$(head -c 300000 /dev/zero | tr '\0' x)"
@@ -124,20 +167,20 @@ modulus() {
 plain 'an RSA key below 1,024 bits' "$first" '%s\n%s\n' "$(modulus 127)" "$one"
 plain 'an RSA key of 1,024 bits' "$first" '%s\n%s\n' "$(modulus 128)" "$one"
 plain 'an RSA key above 16,384 bits' "$all" '%s\n%s\n' "$(modulus 2049)" "$one"
-plain 'an RSA key by the name of its signatures' 'rsa=revoked one=in' 'rsa-sha2-256 %s\n' \
+stricter 'an RSA key by the name of its signatures' 'rsa=revoked one=in' 'rsa-sha2-256 %s\n' \
   "$(key rsa | cut -d ' ' -f 2)"
 blob=$(key rsa | cut -d ' ' -f 2 | base64 -d | od -An -v -tx1 | tr -d ' \n')
-plain 'an RSA key with a needless zero byte' 'rsa=revoked one=in' '%s\n' \
+stricter 'an RSA key with a needless zero byte' 'rsa=revoked one=in' '%s\n' \
   "$(line ssh-rsa "${blob/00000003010001/0000000400010001}")"
 plain 'a point of Ed25519 that is not on the curve' "$first" '%s\n%s\n' \
   "$(line ssh-ed25519 "$(ed25519 "$(repeat 32 ff)")")" "$one"
-plain 'a point of ECDSA that is not on the curve' "$all" '%s\n%s\n' \
+milder 'a point of ECDSA that is not on the curve' "$first" '%s\n%s\n' \
   "$(line ecdsa-sha2-nistp256 "$(ecdsa 256 "04$(repeat 64 11)")")" "$one"
 plain 'a byte after a key' "$all" '%s\n' "$(line ssh-ed25519 "${G}00")"
 plain 'a key of a device' 'ed25519-sk=revoked ecdsa-sk=in' '%s\n' "$ed25519_sk"
-plain 'another key of a device' 'ed25519-sk=in ecdsa-sk=revoked' 'webauthn-%s\n' "$ecdsa_sk"
+stricter 'a key of a device by the name of its signatures' 'ed25519-sk=in ecdsa-sk=revoked' 'webauthn-%s\n' "$ecdsa_sk"
 sk=sk-ssh-ed25519@openssh.com
-plain 'a key of a device with a zero byte more' 'ed25519-sk=revoked ecdsa-sk=in' '%s\n' \
+stricter 'a key of a device with a zero byte more' 'ed25519-sk=revoked ecdsa-sk=in' '%s\n' \
   "$(line $sk "$(words $sk)$(string $github)$(string "$(text ssh:)00")")"
 
 # Certificates, their keys and their authorities.
@@ -150,7 +193,7 @@ plain 'an old certificate' "$first" '%s\n' "$(cat "$room/old.pub")"
 blob=$(key a5 | cut -d ' ' -f 2 | base64 -d | od -An -v -tx1 | tr -d ' \n')
 last=00
 [ "${blob: -2}" != 00 ] || last=01
-plain 'a certificate with a wrong signature' "$all" '%s\n' \
+milder 'a certificate with a wrong signature' 'a5=revoked one=in two=in' '%s\n' \
   "$(line ssh-ed25519-cert-v01@openssh.com "${blob%??}$last")"
 
 # A missing file, and names that are not files.

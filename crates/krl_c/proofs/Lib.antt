@@ -3,3 +3,4 @@ pub mod Once
 pub mod Printed
 pub mod Saying
 pub mod Explaining
+pub mod OncePlain

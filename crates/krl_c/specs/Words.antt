@@ -29,7 +29,8 @@ list_words n =
     (if n == 13 then Some (fault_text lists.Read) else
     (if n == 15 then Some (fault_text lists.CriticalExtension) else
     (if n == 16 then Some (codes "an authority of the list is no key in its one spelling") else
-    None))))))))))))))
+    (if n == 17 then Some (codes "a line of the plain list is no key") else
+    None)))))))))))))))
 
 -- by the number of a line's fault
 abbrev pub line_words : ℕ → Option (List ℕ)

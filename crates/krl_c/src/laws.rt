@@ -14,6 +14,7 @@ ghost use Rattle.krl_types.specs.KrlFault.{fault_text};
 ghost use Rattle.krl_types.specs.declared.krl_fault.KrlFault.{KrlFault};
 ghost use Rattle.krl_types.specs.declared.krl_fault.KrlFault.TheVariants as lists;
 ghost use Rattle.krl_c.specs.Answer.{Answers, AnswersOfLine, HasOne};
+ghost use Rattle.krl_c.specs.Any.{AnswersAny};
 ghost use Rattle.krl_c.specs.Loan.{Loan, is_lent};
 ghost use Rattle.krl_c.specs.Number.{line_number, list_number, no_memory, subject_number};
 ghost use Rattle.krl_c.specs.Words.{words};
@@ -38,6 +39,17 @@ pub fn one_answer()
         → (one ≡ other) ⊎ ((one ≡ no_memory) ⊎ (other ≡ no_memory)) }
 {
     one_list();
+    asked_where_spelled();
+    not_asked_by_first_fault();
+}
+
+/// The same holds for a list that may be a plain list.
+pub fn one_answer_of_any_list()
+    ensures { (list blob : List ℕ) (one other : ℤ) → IsBytes list → IsBytes blob
+        → AnswersAny list blob one → AnswersAny list blob other
+        → (one ≡ other) ⊎ ((one ≡ no_memory) ⊎ (other ≡ no_memory)) }
+{
+    one_answer();
     asked_where_spelled();
     not_asked_by_first_fault();
 }

@@ -6,6 +6,7 @@ ghost use Rattle.std.specs.Borrow.{sem};
 ghost use denote.Param.{layout};
 ghost use prog.Memory.{capped, size};
 ghost use Rattle.krl_c.specs.Answer.{Answers, AnswersBlob, AnswersLine, AnswersOfLine};
+ghost use Rattle.krl_c.specs.Any.{AnswersAny};
 ghost use Rattle.krl_c.specs.Kept.{AnswersHeld, Loads, unloaded};
 ghost use Rattle.krl_c.specs.Loan.{Loan, is_lent};
 ghost use Rattle.krl_c.specs.Why.{Explains};
@@ -13,6 +14,7 @@ ghost use Rattle.krl_c.specs.contracts.kept.Kept.{the_row};
 ghost use Rattle.krl_c.specs.Words.{words};
 ghost use Rattle.krl_c.specs.Written.{written};
 
+mod any;
 mod check;
 mod handle;
 mod held;
@@ -26,6 +28,7 @@ mod why;
 mod words;
 mod written;
 
+use any::ask_any;
 use check::{ask_list, ask_list_of_line};
 use handle::{Handle, Krl, swap};
 use held::held_of;
@@ -45,7 +48,15 @@ pub extern "C" fn krl_check(alloc: Global, list: &[u8], blob: &[u8]) -> i32
     ask_list(alloc, list, blob)
 }
 
-/// The same for the key or the certificate of a line, in the format of an authorized keys file.
+/// The same for a list that may also be a plain list of public keys, which sshd(8) takes too.
+#[unsafe(no_mangle)]
+pub extern "C" fn krl_check_any(alloc: Global, list: &[u8], blob: &[u8]) -> i32
+    ensures { AnswersAny list.now blob.now result }
+{
+    ask_any(alloc, list, blob)
+}
+
+/// The same as `krl_check` for the key or the certificate of a line, in the format of an authorized keys file.
 #[unsafe(no_mangle)]
 pub extern "C" fn krl_check_line(alloc: Global, list: &[u8], line: &[u8]) -> i32
     ensures { AnswersOfLine list.now line.now result }

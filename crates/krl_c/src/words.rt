@@ -94,6 +94,7 @@ fn list_words(number: u32) -> Option<&'static str>
         13 => Some("krl 13 Read"),
         15 => Some("krl 15 CriticalExtension"),
         16 => Some("an authority of the list is no key in its one spelling"),
+        17 => Some("a line of the plain list is no key"),
         _ => None,
     }
 }

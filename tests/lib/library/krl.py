@@ -29,7 +29,7 @@ def loaded():
     for call in library.krl_load, library.krl_ask, library.krl_ask_line:
         call.argtypes = [ctypes.POINTER(Krl), ctypes.c_char_p, ctypes.c_size_t]
         call.restype = ctypes.c_int32
-    for call in library.krl_check, library.krl_check_line, library.krl_why:
+    for call in library.krl_check, library.krl_check_any, library.krl_check_line, library.krl_why:
         call.argtypes = [ctypes.c_char_p, ctypes.c_size_t] * 2
         call.restype = ctypes.c_int32
     library.krl_fault_text.argtypes = [ctypes.c_int32, ctypes.c_char_p, ctypes.c_size_t]

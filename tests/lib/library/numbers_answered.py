@@ -23,6 +23,7 @@ LISTS = {
     -115: HEADER + section(255, strings("name"), b"\1", strings("contents")),
     OTHER_SPELLING: under(b"a", serials(7)),
 }
+OTHER_LINE = -117
 LINES = {
     -201: b"no key",
     -202: b"ssh-ed25519 AAAA=",
@@ -93,8 +94,19 @@ def numbers(tests):
     found.update({it: of_line(good, asked) for it, asked in LINES.items()})
     for it, blob in BLOBS.items():
         found[it] = library.krl_check(good, len(good), blob, len(blob))
+    def of_any(content):
+        return library.krl_check_any(content, len(content), OTHER, len(OTHER))
+
+    found[OTHER_LINE] = of_any(LISTS[-101])
     wrong = ["%d is answered as %d" % it for it in sorted(found.items()) if it[0] != it[1]]
-    named = set(krl.FAULTS) | {OTHER_SPELLING}
+    # A list that has the magic has one answer; one without it is a plain list.
+    others = {it: of_any(content) for it, content in LISTS.items() if content.startswith(HEADER[:8])}
+    wrong += ["%d is answered as %d for any list" % it for it in sorted(others.items()) if it[0] != it[1]]
+    for it, content in (0, b""), (0, b"# none\n"), (1, text), (-112, b"\n" * ((1 << 26) + 1)):
+        if of_any(content) != it:
+            wrong.append("%d is answered as %d for a plain list" % (it, of_any(content)))
+    wrong += ["%d of a blob" % it for it, blob in BLOBS.items() if library.krl_check_any(text, len(text), blob, len(blob)) != it]
+    named = set(krl.FAULTS) | {OTHER_SPELLING, OTHER_LINE}
     wrong += ["%d has no input" % it for it in sorted(named - set(found) - NEVER)]
     wrong += ["%d is no number of the header" % it for it in sorted(set(found) - named)]
     tests.judge("an input for each of %d numbers" % len(found), wrong)

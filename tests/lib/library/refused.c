@@ -64,6 +64,10 @@ static int32_t check(void) {
     return krl_check_line(other.at, other.length, line.at, line.length);
 }
 
+static int32_t check_any(void) {
+    return krl_check_any(line.at, line.length, blob.at, blob.length);
+}
+
 static int32_t why(void) {
     return krl_why(other.at, other.length, blob.at, blob.length);
 }
@@ -93,10 +97,12 @@ int main(int argc, char **argv) {
 
     int32_t held = ask();
     long asks = sweep(ask, held, held), checks = sweep(check, check(), held);
+    long plains = sweep(check_any, KRL_REVOKED, held);
     long whys = sweep(why, why(), held), loads = sweep(load_other, KRL_OK, held);
     krl_unload(&handle);
-    printf("%ld allocations of a question, %ld of a check, %ld of a reading, %ld of the reasons\n",
-           asks, checks, loads, whys);
-    return asks <= 0 || checks <= 0 || loads <= 0 || whys <= 0 || blocks != 0 ||
+    printf("%ld allocations of a question, %ld of a check, %ld of a plain list, %ld of a reading, "
+           "%ld of the reasons\n",
+           asks, checks, plains, loads, whys);
+    return asks <= 0 || checks <= 0 || plains <= 0 || loads <= 0 || whys <= 0 || blocks != 0 ||
            ask() != KRL_NOT_LOADED;
 }

@@ -118,10 +118,15 @@ def of_32_bits(tests):
         case("krl_check_line, list", found, -104)
         case("krl_check, list", library.krl_check(content.at, size, KEY, len(KEY)), -104)
         case("krl_why, list", library.krl_why(content.at, size, KEY, len(KEY)), -104)
+        # Behind the line come zero bytes.
+        plain = Far(text + b"\n")
+        found = library.krl_check_any(plain.at, FAR + more + len(text), KEY, len(KEY))
+        case("krl_check_any, list", found, -112)
         case("krl_load", library.krl_load(handle.krl, content.at, size), -104)
         case("krl_load of the list alone", handle.load(small), 0)
         size = FAR + more + len(KEY)
         case("krl_check, blob", library.krl_check(small, len(small), blob.at, size), -308)
+        case("krl_check_any, blob", library.krl_check_any(small, len(small), blob.at, size), -308)
         case("krl_why, blob", library.krl_why(small, len(small), blob.at, size), -308)
         case("krl_ask", library.krl_ask(handle.krl, blob.at, size), -308)
         # So many bytes of the line have its key in part.

@@ -1,0 +1,19 @@
+-- The keys on the lines are asked, or the list is refused.
+use Rattle.std.proofs.Common.{rules, ◌∙◌}
+use mir.Syntax.{w32}
+use mir.Val.{SFits}
+use Rattle.plain_list.specs.List.{entries_of, lines_of}
+use Rattle.krl_c.specs.Any.{no_plain, plain}
+use Rattle.krl_c.proofs.Saying.{same}
+use Rattle.krl_c.proofs.any.ask_plain.Goals as goal
+
+pub returns-in-Ok : goal.returns-in-Ok
+returns-in-Ok c =
+    let fits : SFits w32 c.ask_held.result = search rules in
+    let read = c.in-Ok.ensures in
+    rw (same c.ask_held.result fits) (plain read.within read.only (c.ask_held.ensures (entries_of (lines_of c.args.list.now)) read.found))
+
+pub returns-in-Err : goal.returns-in-Err
+returns-in-Err c =
+    let fits : SFits w32 c.of_plain.result = search rules in
+    no_plain c.in-Err.fault c.in-Err.ensures.fault (same c.of_plain.result fits ∙ c.of_plain.ensures)
