@@ -215,11 +215,17 @@ audits 'quietly, up to the first revoked key' 1 '2 files, 1 key: 1 revoked in 1 
 audits 'quietly, where nothing is revoked' 3 '2 files, 1 key: 0 revoked in 0 files, 1 unread' '' \
   -q gone home/a/x.pub
 expect 'a list that is not there' 255 '' $'krl: no.krl: file 1 Open\n' audit -f no.krl marked
-expect 'a list that is none' 255 '' $'krl: marked: krl 1 Magic\n' audit -f marked marked
+expect 'a list that is none' 255 '' $'krl: marked: line 1: line 1 NoKey\n' audit -f marked marked
 bytes "$H" 02 >cut.krl
 expect 'a list that is cut' 255 '' $'krl: cut.krl: krl 3 EndsEarly\n' audit -f cut.krl gone
 expect 'a list of a name that moves the terminal' 255 '' $'krl: \\x1b[2J: file 1 Open\n' audit \
   -f $'\e[2J' a
+echo "$a" >plain
+expect 'a plain list' 1 "plain:1: $by_a"$'\n' \
+  $'krl audit: 2 files, 2 keys: 1 revoked in 1 file, 0 unread (plain list)\n' \
+  audit -f plain home/a/x.pub plain
+expect 'a plain list of no key' 0 '' \
+  $'krl audit: 1 file, 1 key: 0 revoked in 0 files, 0 unread (plain list)\n' audit -f empty plain
 expect_text 'no words' 2 error
 expect_text 'no list' 2 error audit marked
 expect_text 'nothing to audit' 2 error audit -f r.krl
@@ -380,6 +386,10 @@ objects 'objects of lines' 1 \
 \"why\":\"no key type stands there\"}
 $(ends_with 1 1 1 1)" -f r.krl authorized_keys
 printf '@cert-authority a.example,b.example %s\n' "$g" >known_hosts
+objects 'objects by a plain list' 0 \
+  "{\"status\":\"done\",\"files\":1,\"keys\":1,\"revoked\":0,\"unread\":0,\
+\"list\":{\"file\":\"plain\",\"sha256\":\"$(sha256sum plain | cut -d ' ' -f 1)\"}}" \
+  -f plain home/a/x.pub
 objects 'an object of a known host' 1 \
   "{\"file\":\"known_hosts\",\"line\":1,\"status\":\"revoked\",$key_g,\
 \"comment\":\"\",\"marker\":\"@cert-authority\",\"hosts\":\"a.example,b.example\",$by_key}

@@ -1,5 +1,6 @@
 # A plain file of public keys as RevokedKeys of a real sshd: whom it refuses for each form of a
-# line, and what libkrl answers by the same file. The tables of docs/FORMATS.md state the rules.
+# line, and what krl and libkrl answer by the same file. The tables of docs/FORMATS.md state the
+# rules.
 
 if ! need sshd openssh-server; then
   echo '# plain_lists is skipped: sshd is missing, and could not be installed'
@@ -62,21 +63,39 @@ library_says() {
   python3 "$tests/lib/library/asked_any" "$room/revoked" "${@/%/.pub}"
 }
 
-# refused NAME WANTED: libkrl gives no answer by the list, whatever the key is.
+# refused NAME WANTED: krl names a line of the list, and libkrl gives no answer by it, whatever the key is.
 refused() {
   local it keys=() numbers=
   for it in $2; do keys+=("$room/${it%=*}") numbers+=' -117'; done
-  judge "$1: libkrl" "$(differs 'the answers' "${numbers:1}" "$(library_says "${keys[@]}")")"
+  judge "$1: krl and libkrl" "$(
+    for it in "check $room/revoked" "audit -f $room/revoked ${keys[0]}.pub"; do
+      "$krl" $it >"$scratch/output" 2>"$scratch/error"
+      differs "status of krl ${it%% *}" 255 $?
+      differs 'standard output' '' "$(cat "$scratch/output")"
+      grep -qE '^krl: [^ ]+: line [0-9]+: (line|subject) [0-9]' "$scratch/error" || cat "$scratch/error"
+    done
+    differs libkrl "${numbers:1}" "$(library_says "${keys[@]}")"
+  )"
 }
 
-# read_so NAME WANTED: libkrl gives these answers.
+# read_so NAME WANTED: krl and libkrl give these answers. A list that revokes nobody is not to be put in force.
 read_so() {
-  local it keys=() numbers=
-  for it in $2; do keys+=("$room/${it%=*}") numbers+=" $([[ $it == *=in ]]; echo $?)"; done
-  judge "$1: libkrl" "$(differs 'the answers' "${numbers:1}" "$(library_says "${keys[@]}")")"
+  local it got= keys=() numbers= status=0
+  [[ $2 == *=revoked* ]] || status=1
+  for it in $2; do
+    keys+=("$room/${it%=*}") numbers+=" $([[ $it == *=in ]]; echo $?)"
+    "$krl" audit -q -f "$room/revoked" "$room/${it%=*}.pub" 2>"$scratch/error"
+    case $? in 0) got+=" ${it%=*}=in" ;; 1) got+=" ${it%=*}=revoked" ;; *) got+=" $(cat "$scratch/error")" ;; esac
+  done
+  judge "$1: krl and libkrl" "$(
+    differs 'krl audit' "$2" "${got:1}"
+    "$krl" check "$room/revoked" >"$scratch/output" 2>&1
+    differs 'krl check' $status $?
+    differs libkrl "${numbers:1}" "$(library_says "${keys[@]}")"
+  )"
 }
 
-# plain NAME WANTED FORMAT [WORD..]: the list that printf writes. libkrl refuses it where sshd refuses all keys.
+# plain NAME WANTED FORMAT [WORD..]: the list that printf writes. krl and libkrl refuse it where sshd refuses all keys.
 plain() {
   local name=$1 wanted=$2
   shift 2
@@ -84,7 +103,7 @@ plain() {
   sshd_says "$name" "$wanted"
   if [[ $wanted == *=fault* ]]; then refused "$name" "$wanted"; else read_so "$name" "$wanted"; fi
 }
-# stricter NAME WANTED FORMAT [WORD..]: a list that sshd reads, and libkrl refuses.
+# stricter NAME WANTED FORMAT [WORD..]: a list that sshd reads, and krl and libkrl refuse.
 stricter() {
   local name=$1 wanted=$2
   shift 2
@@ -92,7 +111,7 @@ stricter() {
   sshd_says "$name" "$wanted"
   refused "$name" "$wanted"
 }
-# milder NAME OTHERS FORMAT [WORD..]: a list for which sshd refuses all keys, and by which libkrl answers so.
+# milder NAME OTHERS FORMAT [WORD..]: a list for which sshd refuses all keys, and by which krl and libkrl answer so.
 milder() {
   local name=$1 others=$2
   shift 2

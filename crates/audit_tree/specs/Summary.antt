@@ -1,6 +1,7 @@
 -- The last line of an audit.
-use Rattle.std.specs.Prelude.{ℕ, ◌==◌, List, [], ◌++◌, codes, decimal, if◌then◌else◌}
+use Rattle.std.specs.Prelude.{ℕ, ◌==◌, List, [], ◌++◌, codes, decimal, if◌then◌else◌, Option, Some, None}
 use Rattle.cert_listing.specs.Time.{instant_text}
+use Rattle.krl_audit.specs.declared.done.Stated.{Stated}
 use Rattle.audit_tree.specs.declared.summary.Summary.{Summary}
 
 -- a number, and the noun that it counts
@@ -8,11 +9,16 @@ abbrev pub amount_text : ℕ → List ℕ → List ℕ
 amount_text count word =
     decimal count ++ (codes " " ++ (word ++ (if count == 1 then [] else codes "s")))
 
--- the list that was queried
-abbrev pub list_text : Summary → List ℕ
-list_text summary =
+-- the version and the date of a list
+abbrev pub stated_text : Stated → List ℕ
+stated_text stated =
     codes " (list version "
-    ++ (decimal summary.version ++ (codes ", " ++ (instant_text summary.date ++ codes ")\n")))
+    ++ (decimal stated.version ++ (codes ", " ++ (instant_text stated.generated ++ codes ")\n")))
+
+-- the list that was queried
+abbrev pub list_text : Option Stated → List ℕ
+list_text None = codes " (plain list)\n"
+list_text (Some stated) = stated_text stated
 
 -- the numbers of files and of keys
 abbrev pub inputs_text : Summary → List ℕ
@@ -34,4 +40,4 @@ findings_text summary =
     ++ (codes ", " ++ unread_text summary)))
 
 abbrev pub summary_text : Summary → List ℕ
-summary_text summary = inputs_text summary ++ (findings_text summary ++ list_text summary)
+summary_text summary = inputs_text summary ++ (findings_text summary ++ list_text summary.stated)

@@ -1,11 +1,11 @@
 //! The last line of an audit.
 
 ghost use Rattle.std.specs.Prelude.{◌≡◌, ◌++◌, OnOk};
-ghost use Rattle.audit_tree.specs.Summary.{amount_text, findings_text, inputs_text, list_text, summary_text, unread_text};
+ghost use Rattle.audit_tree.specs.Summary.{amount_text, findings_text, inputs_text, list_text, stated_text, summary_text, unread_text};
 
 use cert_listing::time_text;
 use key_listing::push_number;
-use krl_audit::Counts;
+use krl_audit::{Counts, Stated};
 use std::alloc::{AllocError, Global};
 
 /// The counts of an audit, and the list that it queried.
@@ -17,10 +17,8 @@ pub struct Summary {
     pub revoked_files: u64,
     /// The counts of their lines.
     pub counts: Counts,
-    /// The version of the list.
-    pub version: u64,
-    /// When the list was made, in seconds since 1970.
-    pub date: u64,
+    /// The version and the date of the list. A plain list has none.
+    pub stated: Option<Stated>,
 }
 
 /// Appends the last line of an audit, with its line feed.
@@ -65,11 +63,21 @@ pub(crate) fn push_unread(summary: &Summary, text: &mut Vec<u8>) -> Result<(), A
 
 // Appends the list that was queried.
 fn push_list(alloc: Global, summary: &Summary, text: &mut Vec<u8>) -> Result<(), AllocError>
-    ensures { OnOk result (text.new.items ≡ text.old.items ++ list_text summary.now) }
+    ensures { OnOk result (text.new.items ≡ text.old.items ++ list_text summary.now.stated) }
 {
-    let time = time_text(alloc, summary.date)?;
+    match summary.stated {
+        None => text.extend_from_slice(b" (plain list)\n"),
+        Some(stated) => push_stated(alloc, stated, text),
+    }
+}
+
+// Appends the version and the date of the list.
+fn push_stated(alloc: Global, stated: Stated, text: &mut Vec<u8>) -> Result<(), AllocError>
+    ensures { OnOk result (text.new.items ≡ text.old.items ++ stated_text stated) }
+{
+    let time = time_text(alloc, stated.generated)?;
     text.extend_from_slice(b" (list version ")?;
-    push_number(summary.version, text)?;
+    push_number(stated.version, text)?;
     text.extend_from_slice(b", ")?;
     text.extend_from_slice(time.as_slice())?;
     text.extend_from_slice(b")\n")?;

@@ -1,6 +1,6 @@
 //! `krl audit`: files of keys, audited by a list.
 
-use crate::ending::{end, fail, print_line};
+use crate::ending::{end, fail_by, print_line};
 use crate::list::{List, read_list};
 use crate::rounds::Rounds;
 use crate::screen::{Screen, has_colours};
@@ -9,7 +9,7 @@ use audit_tree::push_summary;
 use key_files::{Cause, FileFault, RunFault};
 use key_listing::{Printer, Run};
 use krl_arguments::Audit;
-use krl_audit::{Auditor, Counts, Form, Judge, ListFacts, Shown};
+use krl_audit::{Auditor, Counts, Form, Judge, ListFacts, Shown, Stated};
 use sha2::{Digest, Sha256};
 use std::fs;
 
@@ -17,15 +17,14 @@ use std::fs;
 pub fn audit(rt: &HostRuntime, task: &Audit) -> u8 {
     match read_list(rt, task.list) {
         Ok(list) => audit_by(rt, task, list),
-        Err(cause) => fail(rt, task.list, cause),
+        Err(fault) => fail_by(rt, fault),
     }
 }
 
 // The facts about a list that the last line prints, and its SHA-256 if the last object has it.
 #[derive(Clone, Copy)]
 struct Known {
-    version: u64,
-    date: u64,
+    stated: Option<Stated>,
     sha256: Option<[u8; 32]>,
 }
 
@@ -37,8 +36,7 @@ fn known_of(task: &Audit, list: &List) -> Known {
         None
     };
     Known {
-        version: list.header.version,
-        date: list.header.date,
+        stated: list.stated,
         sha256,
     }
 }
@@ -79,8 +77,7 @@ fn audit_by(rt: &HostRuntime, task: &Audit, list: List) -> u8 {
         ends_at_revoked: task.quiet,
         files: 0,
         revoked_files: 0,
-        version: known.version,
-        date: known.date,
+        stated: known.stated,
     };
     let stop = match audit_all(&mut rounds, task, known) {
         Ok(()) => None,
@@ -136,8 +133,7 @@ fn print_last<'a>(
 ) -> Result<(), Stop<'a>> {
     let facts = ListFacts {
         name,
-        version: known.version,
-        generated: known.date,
+        stated: known.stated,
         sha256,
     };
     match rounds.auditor.say_done(rounds.files, &facts) {

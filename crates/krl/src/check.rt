@@ -1,6 +1,6 @@
 //! `krl check`: a list, checked before it is put in force.
 
-use crate::ending::{end, fail};
+use crate::ending::{end, fail_by, fail_in_words};
 use crate::list::{List, read_list};
 use crate::loading::{open, read};
 use byte_streams::ToWrite;
@@ -8,23 +8,32 @@ use key_files::{Cause, RunFault};
 use key_listing::{Printer, Run, push_number};
 use krl_arguments::Check;
 use krl_audit::{Auditor, Counts, Form, Judge, Shown};
-use krl_checker::{Checker, Role};
-use krl_core::Revocations;
-use span_sets::Held;
+use krl_checker::{Checker, PlainRefusal, Role};
 use std::alloc::AllocError;
 use std::io::Stdout;
 
 /// Checks what the task names. Answers the exit status.
 pub fn check(rt: &HostRuntime, task: &Check) -> u8 {
     match read_list(rt, task.list) {
-        Ok(list) if task.print_version => print_version(rt, task.list, list.header.version),
+        Ok(list) if task.print_version => print_version(rt, task.list, version_of(&list)),
         Ok(list) => check_beside(rt, task, &list),
-        Err(cause) => fail(rt, task.list, cause),
+        Err(fault) => fail_by(rt, fault),
     }
 }
 
-// Prints the version of the list of this name.
-fn print_version(rt: &HostRuntime, name: &str, version: u64) -> u8 {
+// The version of a list. A plain list has none.
+fn version_of(list: &List) -> Option<u64> {
+    match list.stated {
+        Some(stated) => Some(stated.version),
+        None => None,
+    }
+}
+
+// Prints the version of the list of this name, if it has one.
+fn print_version(rt: &HostRuntime, name: &str, version: Option<u64>) -> u8 {
+    let Some(version) = version else {
+        return fail_in_words(rt, name, b"a plain list has no version");
+    };
     let mut out = ToWrite::new(rt.stdout());
     let mut buffer = Vec::new(rt.alloc());
     let mut run = Run {
@@ -44,41 +53,36 @@ fn push_line(number: u64, line: &mut Vec<u8>) -> Result<(), AllocError> {
     Ok(())
 }
 
-// The bytes of a list, its version, and the version that it must not be below.
+// A list whose version the checked one must not be below.
 #[derive(Clone, Copy)]
-struct Known<'a> {
-    bytes: &'a [u8],
-    version: u64,
-    least: u64,
+struct Other<'a> {
+    name: &'a str,
+    version: Option<u64>,
 }
 
 // Checks a list beside the one whose version it must not be below, if there is one.
-fn check_beside(rt: &HostRuntime, task: &Check, list: &List) -> u8 {
-    let least = match task.newer_than {
-        None => 0,
+fn check_beside<'a>(rt: &HostRuntime, task: &Check<'a>, list: &List) -> u8 {
+    match task.newer_than {
+        None => check_by(rt, task, list, None),
         Some(name) => match read_list(rt, name) {
-            Ok(other) => other.header.version,
-            Err(cause) => return fail(rt, name, cause),
+            Ok(other) => {
+                let version = version_of(&other);
+                check_by(rt, task, list, Some(Other { name, version }))
+            }
+            Err(fault) => fail_by(rt, fault),
         },
-    };
-    let known = Known {
-        bytes: list.bytes.as_slice(),
-        version: list.header.version,
-        least,
-    };
-    check_by(rt, task, known, &list.revocations)
+    }
 }
 
 // The checker of a list, which reads the files of keys.
 #[derive(Drop)]
-struct Round<'a, 'k, 'q, 'w> {
+struct Round<'a, 'q, 'w> {
     rt: &'a HostRuntime,
-    known: Known<'k>,
     checker: Checker<'q, 'w, ToWrite<Stdout>>,
 }
 
-// Checks a list by what it revokes and what is known of it.
-fn check_by(rt: &HostRuntime, task: &Check, known: Known, list: &Revocations<Held>) -> u8 {
+// Checks a list that was read.
+fn check_by<'a>(rt: &HostRuntime, task: &Check<'a>, list: &List, other: Option<Other<'a>>) -> u8 {
     let mut out = ToWrite::new(rt.stdout());
     let mut buffer = Vec::new(rt.alloc());
     let run = Run {
@@ -92,7 +96,10 @@ fn check_by(rt: &HostRuntime, task: &Check, known: Known, list: &Revocations<Hel
         form: Form::Text,
     };
     let auditor = Auditor {
-        judge: Judge { list, shown },
+        judge: Judge {
+            list: &list.revocations,
+            shown,
+        },
         run,
         counts: Counts::NONE,
     };
@@ -101,19 +108,21 @@ fn check_by(rt: &HostRuntime, task: &Check, known: Known, list: &Revocations<Hel
         refused: false,
         unread: false,
     };
-    let mut round = Round { rt, known, checker };
-    let stop = check_all(&mut round, task).err();
+    let mut round = Round { rt, checker };
+    let stop = check_all(&mut round, task, list, other).err();
     let done = round.checker.finish(stop);
     end(rt, &done)
 }
 
 // Checks each condition.
-fn check_all<'t, 'a>(round: &mut Round, task: &'t Check<'a>) -> Result<(), RunFault<'a>> {
-    let known = round.known;
-    round.checker.check_openssh(task.list, known.bytes)?;
-    round
-        .checker
-        .check_version(task.list, known.version, known.least)?;
+fn check_all<'t, 'a>(
+    round: &mut Round,
+    task: &'t Check<'a>,
+    list: &List,
+    other: Option<Other<'a>>,
+) -> Result<(), RunFault<'a>> {
+    round.check_format(task.list, list)?;
+    round.check_version(task.list, version_of(list), other)?;
     for name in &task.keep {
         round.check_file(Role::Keep, *name)?;
     }
@@ -123,7 +132,38 @@ fn check_all<'t, 'a>(round: &mut Round, task: &'t Check<'a>) -> Result<(), RunFa
     Ok(())
 }
 
-impl<'a, 'k, 'q, 'w> Round<'a, 'k, 'q, 'w> {
+impl<'a, 'q, 'w> Round<'a, 'q, 'w> {
+    // Checks that OpenSSH reads a list alike. A plain list that was read is read alike, and must
+    // have a key.
+    fn check_format<'s>(&mut self, name: &'s str, list: &List) -> Result<(), RunFault<'s>> {
+        match list.stated {
+            Some(_) => self.checker.check_openssh(name, list.bytes.as_slice()),
+            None if list.revocations.keys() == 0 => {
+                self.checker.refuse_plain(name, PlainRefusal::NoKey)
+            }
+            None => Ok(()),
+        }
+    }
+
+    // Checks that the version of a list is not below that of the other one, if there is one.
+    fn check_version<'s>(
+        &mut self,
+        name: &'s str,
+        version: Option<u64>,
+        other: Option<Other<'s>>,
+    ) -> Result<(), RunFault<'s>> {
+        let Some(other) = other else {
+            return Ok(());
+        };
+        match (version, other.version) {
+            (Some(version), Some(least)) => self.checker.check_version(name, version, least),
+            (Some(_), None) => self
+                .checker
+                .refuse_plain(other.name, PlainRefusal::NoVersion),
+            (None, _) => self.checker.refuse_plain(name, PlainRefusal::NoVersion),
+        }
+    }
+
     // Checks the keys of a file.
     fn check_file<'s>(&mut self, role: Role, name: &'s str) -> Result<(), RunFault<'s>> {
         let content = match open(self.rt, name) {

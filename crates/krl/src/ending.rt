@@ -5,7 +5,7 @@ ghost use Rattle.krl_arguments.specs.Command.{command_fault_status};
 
 use byte_streams::{ToWrite, send};
 use key_files::{Cause, RunFault};
-use key_listing::{Done, FAILED};
+use key_listing::{Done, FAILED, push_number};
 use krl_arguments::CommandFault;
 use ssh_cert::push_escaped;
 use std::alloc::{AllocError, Global};
@@ -29,14 +29,30 @@ pub fn end(rt: &HostRuntime, done: &Done) -> u8
 pub fn fail(rt: &HostRuntime, name: &str, cause: Cause) -> u8
     ensures { result ≡ 255 }
 {
-    let fault = Some(RunFault::whole(name, cause));
+    fail_by(rt, RunFault::whole(name, cause))
+}
+
+/// Ends a run that this fault stopped before it began.
+pub fn fail_by(rt: &HostRuntime, fault: RunFault) -> u8
+    ensures { result ≡ 255 }
+{
     end(
         rt,
         &Done {
             status: FAILED,
-            fault,
+            fault: Some(fault),
         },
     )
+}
+
+/// Ends a run that cannot do what it was asked about this file, and says why.
+pub fn fail_in_words(rt: &HostRuntime, name: &str, why: &[u8]) -> u8
+    ensures { result ≡ 255 }
+{
+    if let Ok(line) = words_line(rt.alloc(), name, why) {
+        print_line(rt, line.as_slice());
+    }
+    FAILED
 }
 
 /// Prints help or the version, or why the words are refused, and gives the status. Help that cannot
@@ -86,7 +102,22 @@ fn fault_line(alloc: Global, fault: &RunFault) -> Result<Vec<u8>, AllocError> {
     push_escaped(&mut text, fault.name.as_bytes())?;
     let cause = fault.cause.to_string(alloc)?;
     text.extend_from_slice(b": ")?;
+    if let Some(number) = fault.line {
+        text.extend_from_slice(b"line ")?;
+        push_number(number, &mut text)?;
+        text.extend_from_slice(b": ")?;
+    }
     text.extend_from_slice(cause.as_bytes())?;
+    text.push(b'\n')?;
+    Ok(text)
+}
+
+// The line about a file, in words.
+fn words_line(alloc: Global, name: &str, why: &[u8]) -> Result<Vec<u8>, AllocError> {
+    let mut text = Vec::from_slice(alloc, b"krl: ")?;
+    push_escaped(&mut text, name.as_bytes())?;
+    text.extend_from_slice(b": ")?;
+    text.extend_from_slice(why)?;
     text.push(b'\n')?;
     Ok(text)
 }

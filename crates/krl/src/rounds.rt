@@ -4,7 +4,7 @@ use crate::loading::{begins_private, open, read, refusal_of};
 use crate::screen::Screen;
 use crate::stop::Stop;
 use audit_tree::{Reading, Summary, is_audited, path_in, reading_of, sort_names};
-use krl_audit::{Auditor, Refusal, visible_name};
+use krl_audit::{Auditor, Refusal, Stated, visible_name};
 use std::alloc::AllocError;
 use std::fs::{self, Files};
 use std::io::{BufRead, BufReader, ErrorKind, Read};
@@ -27,10 +27,8 @@ pub struct Rounds<'a, 'q, 'w> {
     pub files: u64,
     /// In how many of them a key is revoked.
     pub revoked_files: u64,
-    /// The version of the list.
-    pub version: u64,
-    /// When it was made, in seconds since 1970.
-    pub date: u64,
+    /// The version and the date of the list. A plain list has none.
+    pub stated: Option<Stated>,
 }
 
 impl<'a, 'q, 'w> Rounds<'a, 'q, 'w> {
@@ -40,8 +38,7 @@ impl<'a, 'q, 'w> Rounds<'a, 'q, 'w> {
             files: self.files,
             revoked_files: self.revoked_files,
             counts: self.auditor.counts,
-            version: self.version,
-            date: self.date,
+            stated: self.stated,
         }
     }
 

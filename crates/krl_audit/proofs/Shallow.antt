@@ -15,12 +15,13 @@ use Rattle.json.specs.Json.{Json}
 use Rattle.json_lines.specs.Field.{Field, number_field, text_field, word_field}
 use Rattle.json_lines.proofs.Shallow.{FieldsFit, Fits, ValuesFit, array_fits, deeper, digits_fit, fields_fit, number_fits, object_fits, text_fits, values_fit, word_fits}
 use Rattle.krl_audit.specs.Front.{has_hosts}
-use Rattle.krl_audit.specs.Objects.{authority_values, by_value, cert_field, cert_fields, cert_names, cert_values, count_fields, done_object, front_fields, front_word, id_field, key_fields, key_object, key_values, line_fields, list_facts, list_field, list_fields, marker_fields, name_value, name_values, of_value, place_fields, reason_values, reasons_field, serial_field, status_word, unread_object, value_if, why_fault, why_fields, with_cert_values}
+use Rattle.krl_audit.specs.Objects.{authority_values, by_value, cert_field, cert_fields, cert_names, cert_values, count_fields, done_object, front_fields, front_word, id_field, key_fields, key_object, key_values, line_fields, list_facts, list_field, list_fields, marker_fields, name_value, name_values, of_value, place_fields, reason_values, reasons_field, serial_field, stated_fields, status_word, unread_object, value_if, version_fields, why_fault, why_fields, with_cert_values}
 use Rattle.krl_audit.specs.Outcome.{Found}
 use Rattle.krl_audit.specs.Text.{type_of}
 use Rattle.krl_audit.specs.Why.{why_text}
 use Rattle.krl_audit.specs.declared.counts.Counts.{Counts}
 use Rattle.krl_audit.specs.declared.done.ListFacts.{ListFacts}
+use Rattle.krl_audit.specs.declared.done.Stated.{Stated}
 use Rattle.krl_audit.specs.declared.why.Why.{Why}
 
 -- ---- reasons
@@ -117,9 +118,18 @@ unread_object_fits name number why small =
     object_fits 2 (place_fields name number ++ why_fields why) (fields_fit 2 (place_fields name number) (why_fields why) (place_fits name number small)
     (word_fits 2 (codes "status") (codes "unread"), (word_fits 2 (codes "fault") (why_fault why), (text_fits 2 (codes "why") (why_text why), tt))))
 
+version_fit : (stated : Stated) → FieldsFit 0 (version_fields stated)
+version_fit stated = (digits_fit 0 (codes "version") stated.version, (text_fits 0 (codes "generated") (instant_text stated.generated), tt))
+
+stated_fit : (stated : Option Stated) → FieldsFit 0 (stated_fields stated)
+stated_fit None = tt
+stated_fit (Some stated) = version_fit stated
+
 facts_fit : (list : ListFacts) → FieldsFit 0 (list_facts list)
-facts_fit list =
-    (word_fits 0 (codes "file") list.name.now, (digits_fit 0 (codes "version") list.version, (text_fits 0 (codes "generated") (instant_text list.generated), (word_fits 0 (codes "sha256") (encode_lower list.sha256), tt))))
+facts_fit list = (
+  word_fits 0 (codes "file") list.name.now,
+  fields_fit 0 (stated_fields list.stated) (word_field (codes "sha256") (encode_lower list.sha256) ∷ []) (stated_fit list.stated) (word_fits 0 (codes "sha256") (encode_lower list.sha256), tt),
+)
 
 list_field_fits : (list : ListFacts) → FieldsFit 2 (list_field list ∷ [])
 list_field_fits list = (deeper 1 2 (list_field list).value (omega arith) (object_fits 0 (list_facts list) (facts_fit list)), tt)

@@ -25,6 +25,7 @@ use Rattle.krl_audit.specs.Text.{type_of}
 use Rattle.krl_audit.specs.Why.{why_text}
 use Rattle.krl_audit.specs.declared.counts.Counts.{Counts}
 use Rattle.krl_audit.specs.declared.done.ListFacts.{ListFacts}
+use Rattle.krl_audit.specs.declared.done.Stated.{Stated}
 use Rattle.krl_audit.specs.declared.why.Refusal.{Refusal}
 use Rattle.krl_audit.specs.declared.why.Refusal.TheVariants as refusals
 use Rattle.krl_audit.specs.declared.why.Why.{Why}
@@ -183,13 +184,21 @@ unread_object name number why = object_of (place_fields name number ++ why_field
 
 -- ---- the end
 
+abbrev pub version_fields : Stated → List Field
+version_fields stated =
+    digits_field (codes "version") stated.version
+    ∷ text_field (codes "generated") (instant_text stated.generated) ∷ []
+
+-- A plain list has neither a version nor a date.
+abbrev pub stated_fields : Option Stated → List Field
+stated_fields None = []
+stated_fields (Some stated) = version_fields stated
+
 -- the list of the audit: its name, version and date, and the SHA-256 of its bytes
 abbrev pub list_facts : ListFacts → List Field
 list_facts list =
     word_field (codes "file") list.name.now
-    ∷ digits_field (codes "version") list.version
-    ∷ text_field (codes "generated") (instant_text list.generated)
-    ∷ word_field (codes "sha256") (encode_lower list.sha256) ∷ []
+    ∷ (stated_fields list.stated ++ word_field (codes "sha256") (encode_lower list.sha256) ∷ [])
 
 abbrev pub list_field : ListFacts → Field
 list_field list = field (codes "list") (object_of (list_facts list))

@@ -2,7 +2,7 @@
 
 ghost use Rattle.std.specs.Prelude.{◌≡◌, ◌∷◌, ◌++◌, [], OnOk};
 ghost use Rattle.json_lines.specs.Field.{fields_tokens, json_line};
-ghost use Rattle.krl_audit.specs.Objects.{count_fields, done_object, list_field};
+ghost use Rattle.krl_audit.specs.Objects.{count_fields, done_object, list_field, stated_fields, version_fields};
 
 use crate::counts::Counts;
 use cert_listing::time_text;
@@ -10,15 +10,22 @@ use json::Token;
 use json_lines::{LineWriter, put_digits, put_number, put_text, put_word};
 use std::alloc::{AllocError, Global};
 
+/// The version of a key revocation list, and when it was made.
+#[derive(Clone, Copy)]
+pub struct Stated {
+    /// The version.
+    pub version: u64,
+    /// When the list was made, in seconds since 1970.
+    pub generated: u64,
+}
+
 /// The facts about the list of the audit.
 #[derive(Clone, Copy)]
 pub struct ListFacts<'a> {
     /// The name of its file.
     pub name: &'a str,
-    /// Its version.
-    pub version: u64,
-    /// When it was made, in seconds since 1970.
-    pub generated: u64,
+    /// Its version and its date. A plain list has none.
+    pub stated: Option<Stated>,
     /// The SHA-256 of its bytes.
     pub sha256: [u8; 32],
 }
@@ -60,14 +67,33 @@ fn put_list_facts(
 ) -> Result<(), AllocError>
     ensures { OnOk result (out.new ≡ out.old ++ fields_tokens (list_field list.now ∷ [])) }
 {
-    let generated = time_text(alloc, list.generated)?;
     let sha256 = hex::encode(alloc, list.sha256)?;
     out.token(Token::Key("list"))?;
     out.token(Token::BeginObject)?;
     put_word(out, "file", list.name)?;
-    put_digits(out, "version", list.version)?;
-    put_text(alloc, out, "generated", &generated)?;
+    put_stated(alloc, out, list.stated)?;
     put_word(out, "sha256", sha256.as_str())?;
     out.token(Token::EndObject)?;
+    Ok(())
+}
+
+// Writes the version and the date of a list, if it has them.
+#[tactic(auto, unfolding(json_lines::specs::Field::fields_tokens))]
+fn put_stated(alloc: Global, out: &mut LineWriter, stated: Option<Stated>) -> Result<(), AllocError>
+    ensures { OnOk result (out.new ≡ out.old ++ fields_tokens (stated_fields stated)) }
+{
+    match stated {
+        None => Ok(()),
+        Some(stated) => put_version(alloc, out, stated),
+    }
+}
+
+// Writes the version and the date of a list.
+fn put_version(alloc: Global, out: &mut LineWriter, stated: Stated) -> Result<(), AllocError>
+    ensures { OnOk result (out.new ≡ out.old ++ fields_tokens (version_fields stated)) }
+{
+    let generated = time_text(alloc, stated.generated)?;
+    put_digits(out, "version", stated.version)?;
+    put_text(alloc, out, "generated", &generated)?;
     Ok(())
 }

@@ -22,7 +22,7 @@ mod why;
 
 pub use auditor::Auditor;
 pub use counts::{Counts, Kind};
-pub use done::ListFacts;
+pub use done::{ListFacts, Stated};
 pub use judge::{Form, Judge, Shown};
 pub use outcome::{Found, Outcome, read_outcome};
 pub use visible::visible_name;

@@ -5,6 +5,8 @@ use Rattle.krl_audit.specs.declared.counts.Counts.{Counts}
 use Rattle.krl_openssh.specs.Difference.{difference_words}
 use Rattle.krl_openssh.specs.declared.difference.Difference.{Difference}
 use Rattle.krl_checker.specs.Role.{role_word}
+use Rattle.krl_checker.specs.declared.plain.PlainRefusal.{PlainRefusal}
+use Rattle.krl_checker.specs.declared.plain.PlainRefusal.TheVariants as refusals
 use Rattle.krl_checker.specs.declared.role.Role.{Role}
 
 abbrev pub difference_line : List ℕ → Difference → List ℕ
@@ -24,3 +26,15 @@ file_line role name counts =
     ++ (codes " of " ++ (decimal counts.keys
     ++ (codes " keys are revoked, " ++ (decimal counts.unread
     ++ codes " lines are not read\n")))))))
+
+abbrev pub plain_word : PlainRefusal → List ℕ
+plain_word refusals.NoVersion = codes "version: "
+plain_word refusals.NoKey = codes "key: "
+
+abbrev pub plain_why : PlainRefusal → List ℕ
+plain_why refusals.NoVersion = codes "a plain list has no version"
+plain_why refusals.NoKey = codes "a plain list without a key revokes nobody"
+
+abbrev pub plain_line : List ℕ → PlainRefusal → List ℕ
+plain_line name why =
+    plain_word why ++ (escaped name ++ (codes ": " ++ (plain_why why ++ 10 ∷ [])))

@@ -12,9 +12,11 @@ ghost use Rattle.krl_openssh.specs.Difference.{first_difference};
 ghost use Rattle.krl_openssh.specs.Fields.{HasFields};
 ghost use Rattle.krl_checker.specs.Check.{ChecksFile, EndsCheck, check_status, difference_items, version_items, counts_items};
 ghost use Rattle.krl_checker.specs.Role.{is_met};
+ghost use Rattle.krl_checker.specs.Text.{plain_line};
 
+use crate::plain::PlainRefusal;
 use crate::role::Role;
-use crate::text::{write_difference, write_file, write_version};
+use crate::text::{write_difference, write_file, write_plain, write_version};
 use byte_streams::Sink;
 use key_files::RunFault;
 use key_listing::Done;
@@ -73,6 +75,18 @@ impl<'q, 'w, W: Sink> Checker<'q, 'w, W> {
             return Ok(());
         }
         let made = write_version(&mut self.auditor.run.line, name, version, other);
+        self.refuse(name, made)
+    }
+
+    /// Refuses a plain list.
+    pub fn refuse_plain<'a>(&mut self, name: &'a str, why: PlainRefusal) -> Result<(), RunFault<'a>>
+        ensures carries { Carries (said_of name.now (plain_line name.now why) ∷ []) result
+            self.old.auditor.run.printer self.new.auditor.run.printer }
+        ensures refused { self.new.refused ≡ true }
+        ensures unread { self.new.unread ≡ self.old.unread }
+        ensures judge { self.new.auditor.judge ≡ self.old.auditor.judge }
+    {
+        let made = write_plain(&mut self.auditor.run.line, name, why);
         self.refuse(name, made)
     }
 

@@ -4,8 +4,10 @@
 
 mod checker;
 pub mod laws;
+mod plain;
 mod role;
 mod text;
 
 pub use checker::Checker;
+pub use plain::PlainRefusal;
 pub use role::Role;

@@ -1,8 +1,9 @@
 //! The lines that are printed for a condition that fails, and why it fails.
 
 ghost use Rattle.std.specs.Prelude.{◌≡◌, OnOk};
-ghost use Rattle.krl_checker.specs.Text.{difference_line, file_line, version_line};
+ghost use Rattle.krl_checker.specs.Text.{difference_line, file_line, plain_line, version_line};
 
+use crate::plain::PlainRefusal;
 use crate::role::Role;
 use key_listing::push_number;
 use krl_audit::Counts;
@@ -43,6 +44,23 @@ pub(crate) fn write_version(
     push_number(version, line)?;
     line.extend_from_slice(b" is below ")?;
     push_number(other, line)?;
+    line.push(b'\n')?;
+    Ok(())
+}
+
+/// Makes the line for a plain list.
+pub(crate) fn write_plain(
+    line: &mut Vec<u8>,
+    name: &str,
+    why: PlainRefusal,
+) -> Result<(), AllocError>
+    ensures { OnOk result (line.new.items ≡ plain_line name.now why) }
+{
+    line.clear();
+    line.extend_from_slice(why.word())?;
+    push_escaped(line, name.as_bytes())?;
+    line.extend_from_slice(b": ")?;
+    line.extend_from_slice(why.why())?;
     line.push(b'\n')?;
     Ok(())
 }

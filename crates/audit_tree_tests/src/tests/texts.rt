@@ -1,7 +1,7 @@
 //! The order and the paths of names, how far an audit is, and its last line.
 
 use audit_tree::{Summary, path_in, push_progress, push_summary, push_wipe, sort_names};
-use krl_audit::Counts;
+use krl_audit::{Counts, Stated};
 use std::test::Fail;
 
 #[test]
@@ -39,8 +39,10 @@ fn last_lines(rt: HostRuntime) -> Result<(), Fail> {
         files: 4,
         revoked_files: 3,
         counts,
-        version: 12,
-        date: 1_795_734_911,
+        stated: Some(Stated {
+            version: 12,
+            generated: 1_795_734_911,
+        }),
     };
     let mut text = Vec::new(rt.alloc());
     push_summary(rt.alloc(), &summary, &mut text)?;
@@ -58,5 +60,9 @@ fn last_lines(rt: HostRuntime) -> Result<(), Fail> {
     text.clear();
     push_summary(rt.alloc(), &summary, &mut text)?;
     assert!(rt; text.starts_with(b"krl audit: 1 file, 1 key: 5 revoked in 1 file, 1 unread ("));
+    summary.stated = None;
+    text.clear();
+    push_summary(rt.alloc(), &summary, &mut text)?;
+    assert!(rt; text.ends_with(b" 1 unread (plain list)\n"));
     Ok(())
 }

@@ -5,7 +5,7 @@ use crate::tests::made::{Listed, OBJECTS, alice_and_bob, all_of_bob, blob_of, no
 use byte_streams::{Sink, ToWrite};
 use key_listing::{Printer, Run};
 use key_text::{sha1_of, sha256_of};
-use krl_audit::{Auditor, Counts, Judge, ListFacts, Refusal};
+use krl_audit::{Auditor, Counts, Judge, ListFacts, Refusal, Stated};
 use parts_for_tests::{Taker, joined};
 use std::alloc::Global;
 use std::process::Abort;
@@ -263,8 +263,10 @@ fn the_last_object_has_the_counts_and_the_list(rt: HostRuntime) {
     let mut taker = Taker::whole(rt.alloc());
     let facts = ListFacts {
         name: "revoked.krl",
-        version: u64::MAX,
-        generated: 1_795_734_911,
+        stated: Some(Stated {
+            version: u64::MAX,
+            generated: 1_795_734_911,
+        }),
         sha256: [0xab; 32],
     };
     say_last(
@@ -279,4 +281,25 @@ fn the_last_object_has_the_counts_and_the_list(rt: HostRuntime) {
 \"version\":\"18446744073709551615\",\"generated\":\"2026-11-26T23:15:11Z\",\
 \"sha256\":\"abababababababababababababababababababababababababababababababab\"}}\n";
     assert_eq!(rt; taker.taken.as_slice(), wanted.as_slice());
+}
+
+#[test]
+fn the_last_object_of_a_plain_list(rt: HostRuntime) {
+    let list = nothing(rt.alloc());
+    let mut taker = Taker::whole(rt.alloc());
+    let facts = ListFacts {
+        name: "revoked",
+        stated: None,
+        sha256: [0xab; 32],
+    };
+    say_last(
+        &rt,
+        rt.alloc(),
+        &list,
+        &facts,
+        &mut ToWrite::new(&mut taker),
+    );
+    let wanted = b"\"list\":{\"file\":\"revoked\",\
+\"sha256\":\"abababababababababababababababababababababababababababababababab\"}}\n";
+    assert!(rt; taker.taken.ends_with(wanted));
 }

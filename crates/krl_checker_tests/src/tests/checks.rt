@@ -4,7 +4,7 @@ use byte_streams::{Sink, ToWrite};
 use key_files::RunFault;
 use key_listing::{Printer, Run};
 use krl_audit::{Auditor, Counts, Form, Judge, Refusal, Shown};
-use krl_checker::{Checker, Role};
+use krl_checker::{Checker, PlainRefusal, Role};
 use krl_held::Revocations;
 use parts_for_tests::{CONTAINER, FIVE, GITHUB, GITHUB_LINE, HEADER, OTHER_LINE, Taker, joined};
 use span_sets::Held;
@@ -20,6 +20,8 @@ pub enum Asked<'a> {
     Version(u64, u64),
     /// A file of keys.
     Keys(Role, &'a str, Result<&'a [u8], Refusal>),
+    /// That it is a plain list that is refused.
+    Plain(PlainRefusal),
 }
 
 /// Checks a list.
@@ -31,6 +33,7 @@ pub fn check<'a, W: Sink>(
         Asked::OpenSsh(bytes) => checker.check_openssh("r.krl", bytes),
         Asked::Version(version, other) => checker.check_version("r.krl", version, other),
         Asked::Keys(role, name, content) => checker.check_keys(role, name, content),
+        Asked::Plain(why) => checker.refuse_plain("r.krl", why),
     }
 }
 
@@ -86,7 +89,7 @@ pub fn checker_of<'q, 'w, W: Sink>(
 }
 
 // One condition, what is said, and the status.
-const CHECKS: [(Asked<'static>, &[u8], u8); 17] = [
+const CHECKS: [(Asked<'static>, &[u8], u8); 19] = [
     (Asked::OpenSsh(&HEADER), b"", 0),
     (Asked::Version(7, 7), b"", 0),
     (Asked::Version(8, 7), b"", 0),
@@ -94,6 +97,16 @@ const CHECKS: [(Asked<'static>, &[u8], u8); 17] = [
     (
         Asked::Version(0, 18_446_744_073_709_551_615),
         b"version: r.krl: 0 is below 18446744073709551615\n",
+        1,
+    ),
+    (
+        Asked::Plain(PlainRefusal::NoVersion),
+        b"version: r.krl: a plain list has no version\n",
+        1,
+    ),
+    (
+        Asked::Plain(PlainRefusal::NoKey),
+        b"key: r.krl: a plain list without a key revokes nobody\n",
         1,
     ),
     (Asked::Keys(Role::Keep, "f", Ok(OTHER_LINE)), b"", 0),

@@ -5,7 +5,7 @@ use crate::tests::buffer::Buffer;
 use byte_streams::{Sink, ToWrite};
 use key_files::{Cause, RunFault};
 use key_listing::{Printer, Run};
-use krl_audit::{Auditor, Counts, Form, Judge, ListFacts, Outcome, Shown, read_outcome};
+use krl_audit::{Auditor, Counts, Form, Judge, ListFacts, Outcome, Shown, Stated, read_outcome};
 use krl_core::Revocations;
 use parts_for_tests::{CERT_LINE, CONTAINER, GITHUB, GITHUB_LINE, joined};
 use span_sets::Held;
@@ -59,8 +59,10 @@ fn said_as_objects<W: Sink>(
     };
     let facts = ListFacts {
         name: "l",
-        version: 1,
-        generated: 0,
+        stated: Some(Stated {
+            version: 1,
+            generated: 0,
+        }),
         sha256: [0; 32],
     };
     let stop = match auditor.audit_file("f", Ok(text)) {

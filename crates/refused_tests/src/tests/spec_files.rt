@@ -1,10 +1,12 @@
-//! Specification files. If an allocation fails, exactly the lines before it are added.
+//! Specification files, and plain lists. If an allocation fails, exactly the lines of a specification
+//! file before it are added.
 
 use crate::tests::answered::{answered, ran_out};
 use crate::tests::holding::size;
 use krl_core::Revocations;
 use krl_spec::{SpecCause, Under, read_spec};
 use parts_for_tests::{CERT_LINE, GITHUB_LINE, GITHUB_PRINT, OTHER_LINE, joined};
+use plain_list::{PlainFault, read_plain};
 use span_sets::Held;
 use std::alloc::AllocError;
 
@@ -39,5 +41,17 @@ fn a_file(rt: HostRuntime) {
             assert!(rt; size(&held).saturating_add(1) == fault.line as u128);
             ran_out(&rt);
         }
+    }
+}
+
+#[test]
+fn a_plain_list(rt: HostRuntime) {
+    let lines: [&[u8]; 6] = [CERT_LINE, b"\n\n", OTHER_LINE, b" c\n# ", OTHER_LINE, b"\n"];
+    let Some(text) = answered(&rt, joined(rt.alloc(), &lines), AllocError) else {
+        return;
+    };
+    let found = read_plain::<Held>(rt.alloc(), &text);
+    if let Some(revoked) = answered(&rt, found, PlainFault::NoMemory) {
+        assert!(rt; size(&revoked) == 2);
     }
 }

@@ -2,7 +2,7 @@
 
 use crate::tests::answered::answered;
 use audit_tree::{Summary, path_in, push_progress, push_summary, push_wipe};
-use krl_audit::{Counts, visible_name};
+use krl_audit::{Counts, Stated, visible_name};
 use std::alloc::AllocError;
 
 #[test]
@@ -24,8 +24,10 @@ const SUMMARY: Summary = Summary {
     files: 1,
     revoked_files: 0,
     counts: Counts::NONE,
-    version: 12,
-    date: 1_795_734_911,
+    stated: Some(Stated {
+        version: 12,
+        generated: 1_795_734_911,
+    }),
 };
 
 #[test]

@@ -1,0 +1,36 @@
+//! Why a plain list is not put in force.
+
+ghost use Rattle.std.specs.Prelude.{◌≡◌};
+ghost use Rattle.krl_checker.specs.Text.{plain_why, plain_word};
+
+/// Why a plain list is not put in force, although sshd(8) reads it.
+#[derive(Clone, Copy, PartialEq, Eq)]
+pub enum PlainRefusal {
+    /// Its version must not be below that of another list, or another list's below its own, and it
+    /// has none.
+    NoVersion,
+    /// It has no key, so it revokes nobody, as a file whose bytes are lost.
+    NoKey,
+}
+
+impl PlainRefusal {
+    /// The word for the condition.
+    pub(crate) fn word(self) -> &'static [u8]
+        ensures { result.now ≡ plain_word self }
+    {
+        match self {
+            PlainRefusal::NoVersion => b"version: ",
+            PlainRefusal::NoKey => b"key: ",
+        }
+    }
+
+    /// The words for people.
+    pub(crate) fn why(self) -> &'static [u8]
+        ensures { result.now ≡ plain_why self }
+    {
+        match self {
+            PlainRefusal::NoVersion => b"a plain list has no version",
+            PlainRefusal::NoKey => b"a plain list without a key revokes nobody",
+        }
+    }
+}
