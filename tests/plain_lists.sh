@@ -66,13 +66,13 @@ library_says() {
 # refused NAME WANTED: krl names a line of the list, and libkrl gives no answer by it, whatever the key is.
 refused() {
   local it keys=() numbers=
-  for it in $2; do keys+=("$room/${it%=*}") numbers+=' -117'; done
+  for it in $2; do keys+=("$room/${it%=*}") numbers+=" ${number:--117}"; done
   judge "$1: krl and libkrl" "$(
     for it in "check $room/revoked" "audit -f $room/revoked ${keys[0]}.pub"; do
       "$krl" $it >"$scratch/output" 2>"$scratch/error"
       differs "status of krl ${it%% *}" 255 $?
       differs 'standard output' '' "$(cat "$scratch/output")"
-      grep -qE '^krl: [^ ]+: line [0-9]+: (line|subject) [0-9]' "$scratch/error" || cat "$scratch/error"
+      grep -qE '^krl: [^ ]+: (line [0-9]+: (line|subject)|krl) [0-9]' "$scratch/error" || cat "$scratch/error"
     done
     differs libkrl "${numbers:1}" "$(library_says "${keys[@]}")"
   )"
@@ -176,7 +176,7 @@ plain 'a zero byte in a comment line' "$first" '# c\0\n%s\n' "$one"
 
 # The magic of a revocation list, or less.
 plain 'the first bytes of the magic' "$all" 'SSHKRL\n'
-plain 'the magic alone' "$all" 'SSHKRL\n\0'
+number=-103 plain 'the magic alone' "$all" 'SSHKRL\n\0'
 plain 'a line feed and the magic' "$all" '\nSSHKRL\n\0'
 
 # Keys.
