@@ -1,5 +1,5 @@
-//! The line of a terminal that says how far an audit is. It has no escape sequence: a carriage return
-//! leads back to its start, and blanks wipe it, as each terminal does it.
+//! The line of a terminal that says how far an audit is. It has no escape sequence: a carriage
+//! return leads back to its start, and blanks wipe it, as each terminal does it.
 
 ghost use Rattle.std.specs.Prelude.{◌≡◌, ◌++◌, OnOk, replicate};
 ghost use Rattle.audit_tree.specs.Progress.{progress_text, wipe_text};

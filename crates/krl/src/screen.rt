@@ -13,8 +13,8 @@ const FIRST: u64 = 1_000;
 
 const NEXT: u64 = 100;
 
-/// Returns true if standard output shows colours: it is a terminal that knows them, and the user has
-/// not switched them off (https://no-color.org).
+/// Returns true if standard output shows colours: it is a terminal that knows them, and the user
+/// has not switched them off (https://no-color.org).
 pub fn has_colours(rt: &HostRuntime) -> bool {
     rt.stdout().is_terminal() && !is_plain(rt) && !is_dumb(rt)
 }

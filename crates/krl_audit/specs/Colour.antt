@@ -33,7 +33,8 @@ unread_word coloured = word_text coloured (codes "33") (codes "unread")
 abbrev pub HasNoEscape : List ℕ → Type 0
 HasNoEscape text = list_any (λ byte. byte == 27) text ≡ false
 
--- A line in colour is a plain line with one word in a colour. The plain line has no escape sequence.
+-- A line in colour is a plain line with one word in a colour. The plain line has no escape
+-- sequence.
 pub record IsPainted (plain coloured : List ℕ) : Type 0 where
   pub front : List ℕ
   pub colour : List ℕ

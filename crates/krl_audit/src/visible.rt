@@ -23,8 +23,8 @@ pub(crate) fn push_visible(out: &mut Vec<u8>, text: &[u8], quoted: bool) -> Resu
     }
 }
 
-/// The name of a file that is not UTF-8, as ASCII: each control character and each byte from 0x80 on
-/// as `\x` and two hexadecimal digits.
+/// The name of a file that is not UTF-8, as ASCII: each control character and each byte from 0x80
+/// on as `\x` and two hexadecimal digits.
 pub fn visible_name(alloc: Global, name: &[u8]) -> Result<String, AllocError>
     ensures { IfOk result (λ shown. string_bytes shown ≡ visible_bytes false name.now) }
 {

@@ -56,7 +56,8 @@ pub extern "C" fn krl_check_any(alloc: Global, list: &[u8], blob: &[u8]) -> i32
     ask_any(alloc, list, blob)
 }
 
-/// The same as `krl_check` for the key or the certificate of a line, in the format of an authorized keys file.
+/// The same as `krl_check` for the key or the certificate of a line, in the format of an authorized
+/// keys file.
 #[unsafe(no_mangle)]
 pub extern "C" fn krl_check_line(alloc: Global, list: &[u8], line: &[u8]) -> i32
     ensures { AnswersOfLine list.now line.now result }

@@ -31,8 +31,8 @@ role_word roles.Canary = codes "canary: "
 
 -- ---- the same of the lines of a file
 
--- A line of this kind may be in the file. A key that its line marks as revoked is not trusted there, so it counts
--- neither as a key to be kept nor as a canary.
+-- A line of this kind may be in the file. A key that its line marks as revoked is not trusted
+-- there, so it counts neither as a key to be kept nor as a canary.
 abbrev pub MayBe : Role → Kind → Type 0
 MayBe role kinds.Blank = Unit {0}
 MayBe role kinds.Unread = ⊥

@@ -1,5 +1,5 @@
-//! Specification files, and plain lists. If an allocation fails, exactly the lines of a specification
-//! file before it are added.
+//! Specification files, and plain lists. If an allocation fails, exactly the lines of a
+//! specification file before it are added.
 
 use crate::tests::answered::{answered, ran_out};
 use crate::tests::holding::size;
