@@ -178,9 +178,8 @@ void krl_unload(krl *handle);
 /* The words for an answer of any call but krl_why, and for an answer of krl_why below zero. For a
  * fault they are those that krl-keygen prints, such as "krl 3 EndsEarly", "line 2 Base64" and
  * "subject 1 Key, key 4 Point". The other answers have the words "ok", "revoked", "no memory",
- * "no list is loaded", "an authority of the list is no key in its one spelling" and
- * "a line of the plain list is no key". A number that
- * has no words gets "unknown answer".
+ * "no list is loaded", "an authority of the list is no key in its one spelling" and "a line of the
+ * plain list is no key". A number that has no words gets "unknown answer".
  *
  * The call writes them as snprintf does: as many bytes as leave room for a zero byte, and that
  * byte; nothing if the size is 0. The result is the length of the words, whatever the size: if it
