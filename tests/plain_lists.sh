@@ -63,7 +63,8 @@ library_says() {
   python3 "$tests/lib/library/asked_any" "$room/revoked" "${@/%/.pub}"
 }
 
-# refused NAME WANTED: krl names a line of the list, and libkrl gives no answer by it, whatever the key is.
+# refused NAME WANTED: krl names a line of the list, and libkrl gives no answer by it, whatever the
+# key is.
 refused() {
   local it keys=() numbers=
   for it in $2; do keys+=("$room/${it%=*}") numbers+=" ${number:--117}"; done
@@ -72,20 +73,26 @@ refused() {
       "$krl" $it >"$scratch/output" 2>"$scratch/error"
       differs "status of krl ${it%% *}" 255 $?
       differs 'standard output' '' "$(cat "$scratch/output")"
-      grep -qE '^krl: [^ ]+: (line [0-9]+: (line|subject)|krl) [0-9]' "$scratch/error" || cat "$scratch/error"
+      grep -qE '^krl: [^ ]+: (line [0-9]+: (line|subject)|krl) [0-9]' "$scratch/error" ||
+        differs 'standard error' 'a fault of the list' "$(cat "$scratch/error")"
     done
     differs libkrl "${numbers:1}" "$(library_says "${keys[@]}")"
   )"
 }
 
-# read_so NAME WANTED: krl and libkrl give these answers. A list that revokes nobody is not to be put in force.
+# read_so NAME WANTED: krl and libkrl give these answers. A list that revokes nobody is not to be
+# put in force.
 read_so() {
   local it got= keys=() numbers= status=0
   [[ $2 == *=revoked* ]] || status=1
   for it in $2; do
     keys+=("$room/${it%=*}") numbers+=" $([[ $it == *=in ]]; echo $?)"
     "$krl" audit -q -f "$room/revoked" "$room/${it%=*}.pub" 2>"$scratch/error"
-    case $? in 0) got+=" ${it%=*}=in" ;; 1) got+=" ${it%=*}=revoked" ;; *) got+=" $(cat "$scratch/error")" ;; esac
+    case $? in
+      0) got+=" ${it%=*}=in" ;;
+      1) got+=" ${it%=*}=revoked" ;;
+      *) got+=" $(cat "$scratch/error")" ;;
+    esac
   done
   judge "$1: krl and libkrl" "$(
     differs 'krl audit' "$2" "${got:1}"
@@ -95,7 +102,8 @@ read_so() {
   )"
 }
 
-# plain NAME WANTED FORMAT [WORD..]: the list that printf writes. krl and libkrl refuse it where sshd refuses all keys.
+# plain NAME WANTED FORMAT [WORD..]: the list that printf writes. krl and libkrl refuse it where
+# sshd refuses all keys.
 plain() {
   local name=$1 wanted=$2
   shift 2
@@ -111,7 +119,8 @@ stricter() {
   sshd_says "$name" "$wanted"
   refused "$name" "$wanted"
 }
-# milder NAME OTHERS FORMAT [WORD..]: a list for which sshd refuses all keys, and by which krl and libkrl answer so.
+# milder NAME OTHERS FORMAT [WORD..]: a list for which sshd refuses all keys, and by which krl and
+# libkrl answer so.
 milder() {
   local name=$1 others=$2
   shift 2
@@ -143,6 +152,7 @@ plain 'a key and an empty line of CR LF' 'one=revoked two=fault' '%s\r\n\r\n' "$
 plain 'CR alone between lines' "$all" '%s\r%s\r' "$one" "$two"
 stricter 'CR and VT within base64' "$first" 'ssh-ed25519 %s\r%s\v%s\n' "${word:0:20}" \
   "${word:20:20}" "${word:40}"
+stricter 'FF within base64' "$first" 'ssh-ed25519 %s\f%s\n' "${word:0:20}" "${word:20}"
 plain 'VT before a key' "$all" '\v%s\n' "$one"
 plain 'a byte order mark before a comment' "$all" '\xef\xbb\xbf# c\n'
 plain 'a long comment' "$first" '%s %s\n' "$one" "$(head -c 300000 /dev/zero | tr '\0' x)"
@@ -180,12 +190,19 @@ number=-103 plain 'the magic alone' "$all" 'SSHKRL\n\0'
 plain 'a line feed and the magic' "$all" '\nSSHKRL\n\0'
 
 # Keys.
+# modulus BYTES [EXPONENT]: the blob of an RSA key.
 modulus() {
-  line ssh-rsa "$(rsa "$(string 03)" "$(string "00$(repeat "$1" c5)")")"
+  rsa "$(string "${2-03}")" "$(string "00$(repeat "$1" c5)")"
 }
-plain 'an RSA key below 1,024 bits' "$first" '%s\n%s\n' "$(modulus 127)" "$one"
-plain 'an RSA key of 1,024 bits' "$first" '%s\n%s\n' "$(modulus 128)" "$one"
-plain 'an RSA key above 16,384 bits' "$all" '%s\n%s\n' "$(modulus 2049)" "$one"
+plain 'an RSA key below 1,024 bits' "$first" '%s\n%s\n' "$(line ssh-rsa "$(modulus 127)")" "$one"
+plain 'an RSA key of 1,024 bits' "$first" '%s\n%s\n' "$(line ssh-rsa "$(modulus 128)")" "$one"
+plain 'an RSA key above 16,384 bits' "$all" '%s\n%s\n' "$(line ssh-rsa "$(modulus 2049)")" "$one"
+stricter 'an RSA key below 1,024 bits and a byte after it' "$first" '%s\n%s\n' \
+  "$(line ssh-rsa "$(modulus 127)00")" "$one"
+stricter 'an RSA key below 1,024 bits by another type' "$first" '%s\n%s\n' \
+  "$(line ssh-ed25519 "$(modulus 127)")" "$one"
+stricter 'an RSA key whose exponent is zero' "$first" '%s\n%s\n' \
+  "$(line ssh-rsa "$(modulus 128 '')")" "$one"
 stricter 'an RSA key by the name of its signatures' 'rsa=revoked one=in' 'rsa-sha2-256 %s\n' \
   "$(key rsa | cut -d ' ' -f 2)"
 blob=$(key rsa | cut -d ' ' -f 2 | base64 -d | od -An -v -tx1 | tr -d ' \n')
@@ -197,7 +214,8 @@ milder 'a point of ECDSA that is not on the curve' "$first" '%s\n%s\n' \
   "$(line ecdsa-sha2-nistp256 "$(ecdsa 256 "04$(repeat 64 11)")")" "$one"
 plain 'a byte after a key' "$all" '%s\n' "$(line ssh-ed25519 "${G}00")"
 plain 'a key of a device' 'ed25519-sk=revoked ecdsa-sk=in' '%s\n' "$ed25519_sk"
-stricter 'a key of a device by the name of its signatures' 'ed25519-sk=in ecdsa-sk=revoked' 'webauthn-%s\n' "$ecdsa_sk"
+stricter 'a key of a device by the name of its signatures' 'ed25519-sk=in ecdsa-sk=revoked' \
+  'webauthn-%s\n' "$ecdsa_sk"
 sk=sk-ssh-ed25519@openssh.com
 stricter 'a key of a device with a zero byte more' 'ed25519-sk=revoked ecdsa-sk=in' '%s\n' \
   "$(line $sk "$(words $sk)$(string $github)$(string "$(text ssh:)00")")"
