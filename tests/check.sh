@@ -86,23 +86,27 @@ checks 'a plain list that revokes a key to be kept' 1 "g.pub:1: $by_g
 keep: g.pub: 1 of 1 keys are revoked, $zeros" --keep g.pub two
 checks 'a plain list without the canary' 1 "b.pub:1: ok: ssh-ed25519 $(fingerprint "$B"): bob
 canary: b.pub: 0 of 1 keys are revoked, $zeros" --canary b.pub two
-for it in empty none; do
-  : >empty
-  checks "a plain list without a key, $it" 1 "key: $it: a plain list without a key revokes nobody" $it
+keyless='a plain list without a key revokes nobody'
+: >empty
+# One that lost its magic begins with a zero byte, which ends its only line.
+tail -c +9 r.krl | tr -d '\n' >magicless
+for it in empty none magicless; do
+  checks "a plain list without a key, $it" 1 "key: $it: $keyless" $it
 done
-checks 'an empty list and a canary' 1 "key: empty: a plain list without a key revokes nobody
+checks 'an empty list and a canary' 1 "key: empty: $keyless
 a.pub:1: ok: ssh-ed25519 $(fingerprint "$A"): alice
 canary: a.pub: 0 of 1 keys are revoked, $zeros" --canary a.pub empty
 { cat two && echo garbage; } >wrong
-expect 'a plain list with a line that is no key' 255 '' $'krl: wrong: line 3: line 1 NoKey\n' check wrong
-expect 'the same, and keys to be kept' 255 '' $'krl: wrong: line 3: line 1 NoKey\n' check --keep b.pub wrong
+no_key=$'krl: wrong: line 3: line 1 NoKey\n'
+expect 'a plain list with a line that is no key' 255 '' "$no_key" check wrong
+expect 'the same, and keys to be kept' 255 '' "$no_key" check --keep b.pub wrong
 unversioned='a plain list has no version'
 checks 'a plain list and a version' 1 "version: two: $unversioned" --newer-than r.krl two
 checks 'two plain lists and a version' 1 "version: two: $unversioned" --newer-than a.pub two
-checks 'a list and the version of a plain list' 1 "version: two: $unversioned" --newer-than two r.krl
-expect 'the version of a plain list' 255 '' $'krl: two: a plain list has no version\n' check --print-version two
-expect 'a plain list to be compared that is wrong' 255 '' $'krl: wrong: line 3: line 1 NoKey\n' \
-  check --newer-than wrong r.krl
+checks 'a list and the version of a plain list' 1 "version: two: $unversioned" \
+  --newer-than two r.krl
+expect 'the version of a plain list' 255 '' "krl: two: $unversioned"$'\n' check --print-version two
+expect 'a plain list to be compared that is wrong' 255 '' "$no_key" check --newer-than wrong r.krl
 expect_text 'no list' 2 error check
 expect_text 'two lists' 2 error check r.krl r.krl
 
