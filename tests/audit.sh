@@ -250,21 +250,23 @@ done
 judge 'an error output that is closed' \
   "$(differs status 1 $?; differs output "marked:1: $by_g" "$(cat "$scratch/output")")"
 
-# At a terminal. The words for the verdicts are in colour on standard output, and how far the audit is is said on
-# standard error after its first second.
+# At a terminal. The words for the verdicts are in colour on standard output. Standard error says
+# how far the audit is, after its first second.
 # at STREAMS WORD..: runs the program at a terminal, with nothing about colours in its environment.
 at() {
   rm -f "$scratch/terminal"
-  env -u NO_COLOR TERM=xterm "${setting[@]}" python3 "$tests/lib/terminal.py" "$scratch/terminal" "$1" \
-    "$program" "${@:2}" >"$scratch/output" 2>"$scratch/error"
+  env -u NO_COLOR TERM=xterm "${setting[@]}" python3 "$tests/lib/terminal.py" \
+    "$scratch/terminal" "$1" "$program" "${@:2}" >"$scratch/output" 2>"$scratch/error"
   got_status=$?
 }
-# painted TEXT: the text, with the words for the verdicts in colour (ECMA-48, SELECT GRAPHIC RENDITION).
+# painted TEXT: the text, with the words for the verdicts in colour (ECMA-48, SELECT GRAPHIC
+# RENDITION).
 painted() {
   sed -e $'s/: revoked: /: \e[31mrevoked\e[0m: /' -e $'s/: ok: /: \e[32mok\e[0m: /' \
     -e $'s/: unread: /: \e[33munread\e[0m: /' <<<"$1"
 }
-# shows NAME STREAMS STATUS TERMINAL OTHER WORD..: what the terminal is sent, and the stream that is none.
+# shows NAME STREAMS STATUS TERMINAL OTHER WORD..: what the terminal is sent, and the stream that is
+# none.
 shows() {
   at "$2" "${@:6}"
   judge "$1" "$(differs status "$3" $got_status
@@ -277,9 +279,11 @@ printf '%s \e[31mred\n%s\nnone\n' "$g" "$b" >$'\e[7mkeys'
 plain='\x1b[7mkeys:1: '"$by_g"': \x1b[31mred
 \x1b[7mkeys:2: '"$ok_b"'
 \x1b[7mkeys:3: '"$no_type"
-summary='krl audit: 1 file, 2 keys: 1 revoked in 1 file, 1 unread (list version 1, 1970-01-01T00:00:00Z)'
+of_list='(list version 1, 1970-01-01T00:00:00Z)'
+summary="krl audit: 1 file, 2 keys: 1 revoked in 1 file, 1 unread $of_list"
 shows 'colours at a terminal' 1 1 "$(painted "$plain")" "$summary" audit -a -f r.krl $'\e[7mkeys'
-shows 'one terminal for both streams' 12 1 "$(painted "$plain")"$'\n'"$summary" '' audit -a -f r.krl $'\e[7mkeys'
+shows 'one terminal for both streams' 12 1 "$(painted "$plain")"$'\n'"$summary" '' \
+  audit -a -f r.krl $'\e[7mkeys'
 shows 'no colour on standard error' 2 1 "$summary" "$plain" audit -a -f r.krl $'\e[7mkeys'
 line ssh-ed25519 "$G" >g.pub
 shows 'no colour of krl check' 1 1 "g.pub:1: $by_g
@@ -294,13 +298,16 @@ for it in NO_COLOR= CLICOLOR=0; do
 done
 setting=()
 "$program" audit --json -a -f r.krl $'\e[7mkeys' >objects 2>/dev/null
-shows 'objects without colours' 1 1 "$(cat objects)" "$summary" audit --json -a -f r.krl $'\e[7mkeys'
+shows 'objects without colours' 1 1 "$(cat objects)" "$summary" \
+  audit --json -a -f r.krl $'\e[7mkeys'
 judge 'they have no escape' "$(asks 1 grep -n $'\e' objects)"
 setting=(CLICOLOR_FORCE=1)
 at 2 audit -a -f r.krl $'\e[7mkeys'
-judge 'no colour where there is no terminal' "$(differs 'standard output' "$plain" "$(cat "$scratch/output")")"
+judge 'no colour where there is no terminal' \
+  "$(differs 'standard output' "$plain" "$(cat "$scratch/output")")"
 setting=()
-# far FILES KEYS REVOKED UNREAD: the line that says how far the audit is, and the blanks that wipe it.
+# far FILES KEYS REVOKED UNREAD: the line that says how far the audit is, and the blanks that wipe
+# it.
 far() {
   local line="krl audit: $1, $2: $3 revoked, $4 unread"
   printf '\r%s\r%*s\r' "$line" ${#line} ''
@@ -311,17 +318,21 @@ slowly() {
 }
 found="marked:1: $by_g
 gone: unread: No such file or directory"
-summary='krl audit: 2 files, 1 key: 1 revoked in 1 file, 1 unread (list version 1, 1970-01-01T00:00:00Z)'
-shows 'how far the audit is, wiped before a finding' 12 1 "$(far '2 files' '1 key' 1 1)$(painted "$found")
-$summary" '' audit -f r.krl --files0-from - < <(slowly)
+summary="krl audit: 2 files, 1 key: 1 revoked in 1 file, 1 unread $of_list"
+shows 'how far the audit is, wiped before a finding' 12 1 \
+  "$(far '2 files' '1 key' 1 1)$(painted "$found")"$'\n'"$summary" '' \
+  audit -f r.krl --files0-from - < <(slowly)
 shows 'how far it is, wiped at the end' 2 1 "$(far '2 files' '1 key' 1 1)$summary" "$found" \
   audit -f r.krl --files0-from - < <(slowly)
+setting=(NO_COLOR=1)
 shows 'how far it is, of a quiet audit with NO_COLOR' 2 3 \
   "$(far '2 files' '1 key' 0 1)${summary/1 revoked in 1 file/0 revoked in 0 files}" '' \
   audit -q -f r.krl --files0-from - < <(printf 'home/a/x.pub\0' && sleep 2 && printf 'gone\0')
+setting=()
 shows 'how far it is is said at a terminal alone' 1 1 "$(painted "$found")" "$summary" \
   audit -f r.krl --files0-from - < <(slowly)
-slowly | python3 "$tests/lib/terminal.py" "$scratch/terminal" 2 "$program" audit -f r.krl --files0-from - >/dev/full
+slowly | python3 "$tests/lib/terminal.py" "$scratch/terminal" 2 \
+  "$program" audit -f r.krl --files0-from - >/dev/full
 judge 'how far it is, wiped before a fault' "$(differs status 255 $?
   differs 'standard error' "$(far '2 files' '1 key' 1 1)krl: output: output 1 Write after 0 bytes" \
     "$(cat "$scratch/terminal")")"
@@ -332,11 +343,10 @@ for _ in 1 2 3 4 5 6 7 8 9; do
   [ $(($(date +%s%N) - began)) -ge 1000000000 ] || break
 done
 judge 'in its first second nothing is said' "$(differs 'standard error' \
-  'krl audit: 1 file, 1 key: 1 revoked in 1 file, 0 unread (list version 1, 1970-01-01T00:00:00Z)' \
-  "$(cat "$scratch/terminal")")"
+  "krl audit: 1 file, 1 key: 1 revoked in 1 file, 0 unread $of_list" "$(cat "$scratch/terminal")")"
 
-# JSON. The expected objects are made from the same values as the lines above, and another reader reads both: jq, or
-# Python where jq is missing and cannot be installed.
+# JSON. The expected objects are made from the same values as the lines above, and another reader
+# reads both: jq, or Python where jq is missing and cannot be installed.
 # read_lines FILE: the object of each line, in one form. It fails where a line is no object.
 if need jq jq; then
   read_lines() {
@@ -409,22 +419,26 @@ $(ends_with 1 1 0 0)" -a -f r.krl home/a/x.pub
 expect 'no objects quietly' 1 '' "krl audit: 1 file, 1 key: 1 revoked in 1 file, 0 unread \
 (list version 1, 1970-01-01T00:00:00Z)
 " audit -q --json -f r.krl known_hosts
-by_names='{"by":"serial","serial":"7","authority":A},{"by":"serial","serial":"7","authority":"all"},'
+by_names='{"by":"serial","serial":"7","authority":A},'
+by_names+='{"by":"serial","serial":"7","authority":"all"},'
 by_names+='{"by":"id","id":"a \"b\"","authority":A},{"by":"id","id":"a \"b\"","authority":"all"}'
 by_names=${by_names//A\}/"\"$(fingerprint "$A")\"}"}
 made=$(date -u -d "@$((16#$(od -An -v -tx1 -j 20 -N 8 every.krl | tr -d ' ')))" +%FT%TZ)
-list_of_g="\"list\":{\"file\":\"every.krl\",\"version\":\"0\",\"generated\":\"$made\",\"sha256\":\"$(
-  sha256sum every.krl | cut -d ' ' -f 1)\"}"
+list_of_g="\"list\":{\"file\":\"every.krl\",\"version\":\"0\",\"generated\":\"$made\","
+list_of_g+="\"sha256\":\"$(sha256sum every.krl | cut -d ' ' -f 1)\"}"
 objects 'the object of a certificate' 1 "{\"file\":\"cert\",\"line\":1,\"status\":\"revoked\",\
-\"type\":\"ssh-ed25519-cert-v01@openssh.com\",\"fingerprint\":\"$(fingerprint "$B")\",\"comment\":\"me\",\
-\"certificate\":{\"serial\":\"7\",\"id\":\"a \\\"b\\\"\",\"authority\":\"$(fingerprint "$A")\"},\
+\"type\":\"ssh-ed25519-cert-v01@openssh.com\",\"fingerprint\":\"$(fingerprint "$B")\",\
+\"comment\":\"me\",\"certificate\":{\"serial\":\"7\",\"id\":\"a \\\"b\\\"\",\
+\"authority\":\"$(fingerprint "$A")\"},\
 \"reasons\":[{\"by\":\"key\"},{\"by\":\"sha1\"},{\"by\":\"sha256\"},$by_names]}
 $(ends_with 1 1 1 0)" -f every.krl cert
 # Names and comments with control characters, quotes, and bytes that are not UTF-8.
-mkdir said && printf '%s \e\r\x7f\t\xc2\x9b"\\\n%s \x9b\xff\ngarbage\e\n' "$g" "$b" >$'said/\e\r\n\t"\\\xc2\x9b.pub'
+mkdir said && printf '%s \e\r\x7f\t\xc2\x9b"\\\n%s \x9b\xff\ngarbage\e\n' "$g" "$b" \
+  >$'said/\e\r\n\t"\\\xc2\x9b.pub'
 echo "$g" >$'said/\x9b\n.pub'
 "$program" audit -a -f r.krl home odd said marked high gone cert >lines 2>/dev/null
-"$program" audit -a --json -f r.krl home odd said marked high gone cert >"$scratch/output" 2>/dev/null
+"$program" audit -a --json -f r.krl home odd said marked high gone cert \
+  >"$scratch/output" 2>/dev/null
 judge 'each line is an object that another reader reads' "$(
   read_lines "$scratch/output" >got.read || echo '  one cannot be read'
   differs 'the objects' $(($(wc -l <lines) + 1)) "$(wc -l <got.read)"
