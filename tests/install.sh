@@ -46,7 +46,8 @@ judge 'the manual page has the name of the program' \
     "$root/usr/local/share/man/man1/krl-keygen.1")"
 for file in bash-completion/completions/krl-keygen zsh/site-functions/_krl-keygen \
   fish/vendor_completions.d/krl-keygen.fish; do
-  judge "the name of the program in $file" "$(asks 1 grep -n ssh-keygen "$root/usr/local/share/$file")"
+  judge "the name of the program in $file" \
+    "$(asks 1 grep -n ssh-keygen "$root/usr/local/share/$file")"
 done
 made 'make install once more' 0 install
 made 'make install under the name ssh-keygen' 0 install PREFIX=/opt/krl NAME=ssh-keygen
@@ -186,7 +187,7 @@ holds 'what the package holds' \
     -printf './usr/share/doc/krl-keygen/examples/%p\n')
 documents=$root/usr/share/doc/krl-keygen
 judge 'each link of its documents leads to a file of it' \
-  "$(python3 -B "$tests/lib/links.py" "$documents")"
+  "$(asks 0 python3 -B "$tests/lib/links.py" "$documents")"
 judge 'its documents name a file that only the sources have' \
   "$(grep -q 'CONTRIBUTING.md of the sources' "$documents/README.md" || echo '  they do not')"
 cp -r "$documents/examples/demo" demo && cd demo || exit 1

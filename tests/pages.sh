@@ -38,6 +38,6 @@ done
 cd ../..
 
 judge 'each link of a page leads to a file and a heading' \
-  "$(python3 -B "$tests/lib/links.py" "$top" 2>&1)"
+  "$(asks 0 python3 -B "$tests/lib/links.py" "$top")"
 judge 'the names that THEOREMS.md cites stand in the crates' \
   "$(asks 0 python3 -B "$tests/lib/cited.py" "$top")"
