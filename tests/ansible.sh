@@ -159,5 +159,7 @@ judge 'a list that lets nobody in any more ends the run' "$(
   grep -qF 'TASK [A new login works]' output || tail -n 20 output
 )"
 ends
-judge 'the configuration of this machine is as before' "$([ -n "$before" ] || echo '  nothing was looked at'
-  asks 0 diff <(echo "$before") <(of_machine))"
+judge 'the configuration of this machine is as before' "$(
+  [ -n "$before" ] || echo '  nothing was looked at'
+  asks 0 diff <(echo "$before") <(of_machine)
+)"

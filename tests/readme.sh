@@ -12,7 +12,8 @@ judge 'each recipe of the manual page is in the README or in RECIPES.md' "$(
   recipes >all-recipes
   manual_recipes >its-recipes
   asks 1 grep -vxF -f all-recipes its-recipes
-  [ "$(grep -c $'\f' all-recipes)" -gt 15 ] && [ "$(grep -c $'\f' its-recipes)" -gt 3 ] || echo '  there are too few'
+  [ "$(grep -c $'\f' all-recipes)" -gt 15 ] && [ "$(grep -c $'\f' its-recipes)" -gt 3 ] ||
+    echo '  there are too few'
 )"
 
 . "$tests/lib/sshd/serving.sh"

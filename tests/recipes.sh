@@ -63,7 +63,8 @@ judge 'systemd is told' "$(
 if command -v systemd-analyze >/dev/null; then
   # Without the program it finds one fault.
   sed -i "s|^ExecStart=/usr/local|ExecStart=$room/local|" "$room/units/krl-pull.service"
-  judge 'systemd finds nothing in the units' "$(asks 0 systemd-analyze verify "$room"/units/krl-pull.*)"
+  judge 'systemd finds nothing in the units' \
+    "$(asks 0 systemd-analyze verify "$room"/units/krl-pull.*)"
 fi
 
 # pulls NAME STATUS VERSION: what is on the web is fetched, with this status, and then this version

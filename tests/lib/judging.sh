@@ -57,8 +57,8 @@ judge() {
   fi
 }
 
-# asks MOST COMMAND..: what a command says that judges, and one line more where its status is above MOST. So a judge
-# that failed is not taken for one that found nothing.
+# asks MOST COMMAND..: what a command says that judges, and one line more where its status is above
+# MOST. So a judge that failed is not taken for one that found nothing.
 asks() {
   local most=$1 status
   shift

@@ -2,8 +2,9 @@
 
     terminal.py FILE STREAMS PROGRAM WORD..
 
-STREAMS are the numbers of the standard streams that are the terminal: 1, 2 or 12. The others, and standard input, are
-those of this script. The terminal changes no byte. The status is that of the program.
+STREAMS are the numbers of the standard streams that are the terminal: 1, 2 or 12. The others, and
+standard input, are those of this script. The terminal changes no byte. The status is that of the
+program.
 """
 
 import errno

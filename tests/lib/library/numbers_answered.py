@@ -90,22 +90,23 @@ def numbers(tests):
     def of_line(content, asked):
         return library.krl_check_line(content, len(content), asked, len(asked))
 
+    def of_any(content, asked=OTHER):
+        return library.krl_check_any(content, len(content), asked, len(asked))
+
     found = {it: of_line(content, text) for it, content in LISTS.items()}
     found.update({it: of_line(good, asked) for it, asked in LINES.items()})
     for it, blob in BLOBS.items():
         found[it] = library.krl_check(good, len(good), blob, len(blob))
-    def of_any(content):
-        return library.krl_check_any(content, len(content), OTHER, len(OTHER))
-
     found[OTHER_LINE] = of_any(LISTS[-101])
     wrong = ["%d is answered as %d" % it for it in sorted(found.items()) if it[0] != it[1]]
     # A list that has the magic has one answer; one without it is a plain list.
-    others = {it: of_any(content) for it, content in LISTS.items() if content.startswith(HEADER[:8])}
-    wrong += ["%d is answered as %d for any list" % it for it in sorted(others.items()) if it[0] != it[1]]
+    for it, content in sorted(LISTS.items()):
+        if content.startswith(HEADER[:8]) and of_any(content) != it:
+            wrong.append("%d is answered as %d for any list" % (it, of_any(content)))
     for it, content in (0, b""), (0, b"# none\n"), (1, text), (-112, b"\n" * ((1 << 26) + 1)):
         if of_any(content) != it:
             wrong.append("%d is answered as %d for a plain list" % (it, of_any(content)))
-    wrong += ["%d of a blob" % it for it, blob in BLOBS.items() if library.krl_check_any(text, len(text), blob, len(blob)) != it]
+    wrong += ["%d of a blob" % it for it, blob in BLOBS.items() if of_any(text, blob) != it]
     named = set(krl.FAULTS) | {OTHER_SPELLING, OTHER_LINE}
     wrong += ["%d has no input" % it for it in sorted(named - set(found) - NEVER)]
     wrong += ["%d is no number of the header" % it for it in sorted(set(found) - named)]
