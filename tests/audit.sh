@@ -329,6 +329,29 @@ shows 'how far it is, of a quiet audit with NO_COLOR' 2 3 \
   "$(far '2 files' '1 key' 0 1)${summary/1 revoked in 1 file/0 revoked in 0 files}" '' \
   audit -q -f r.krl --files0-from - < <(printf 'home/a/x.pub\0' && sleep 2 && printf 'gone\0')
 setting=()
+# A line may be shorter than the one before: "1 file" after "0 files". Nothing of the longer one may
+# stay on the terminal.
+mkdir single && echo "$b" >single/x.pub
+at 2 audit -q -f r.krl --files0-from - \
+  < <(sleep 2 && printf 'single\0' && sleep 1 && printf 'gone\0')
+judge 'how far it is, of fewer characters than before' "$(differs status 3 $got_status
+  python3 - "$scratch/terminal" <<'END' || echo '  what the terminal is sent cannot be read'
+import re, sys
+line, seen = "", []
+for part in open(sys.argv[1], newline="").read().split("\n")[0].split("\r"):
+    line = part + line[len(part):]
+    seen.append(line.rstrip())
+whole = re.compile("(krl audit: [0-9]+ files?, [0-9]+ keys?: [0-9]+ revoked, [0-9]+ unread)?")
+wanted = ["krl audit: 0 files, 0 keys: 0 revoked, 0 unread"]
+wanted += ["krl audit: 2 files, 1 key: 0 revoked, 1 unread"]
+for it in seen[:-1]:
+    if not whole.fullmatch(it):
+        print("  it shows " + it)
+for it in wanted:
+    if it not in seen:
+        print("  it does not show " + it)
+END
+)"
 shows 'how far it is is said at a terminal alone' 1 1 "$(painted "$found")" "$summary" \
   audit -f r.krl --files0-from - < <(slowly)
 slowly | python3 "$tests/lib/terminal.py" "$scratch/terminal" 2 \

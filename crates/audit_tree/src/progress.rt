@@ -1,5 +1,5 @@
 //! The line of a terminal that says how far an audit is. It has no escape sequence: a carriage
-//! return leads back to its start, and blanks wipe it, as each terminal does it.
+//! return leads back to its start, and blanks wipe it on a terminal that is as wide as the line.
 
 ghost use Rattle.std.specs.Prelude.{◌≡◌, ◌++◌, OnOk, replicate};
 ghost use Rattle.audit_tree.specs.Progress.{progress_text, wipe_text};
@@ -8,8 +8,7 @@ use crate::summary::{Summary, push_inputs, push_unread};
 use key_listing::push_number;
 use std::alloc::AllocError;
 
-/// Appends what shows how far an audit is, over what was shown before. It is never shorter than it
-/// was at lower counts.
+/// Appends what shows how far an audit is, from the start of the line.
 pub fn push_progress(summary: &Summary, text: &mut Vec<u8>) -> Result<(), AllocError>
     ensures { OnOk result (text.new.items ≡ text.old.items ++ progress_text summary.now) }
 {

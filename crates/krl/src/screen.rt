@@ -64,7 +64,7 @@ impl<'a> Screen<'a> {
         }
     }
 
-    /// Shows how far the run is, from its first second on.
+    /// Shows how far the run is, after its first second.
     pub fn show(&mut self, summary: &Summary) {
         let Some(next) = self.next else {
             return;
@@ -77,9 +77,14 @@ impl<'a> Screen<'a> {
         }
         let mut line = Vec::new(self.rt.alloc());
         if push_progress(summary, &mut line).is_ok() {
-            self.print(line.as_slice());
             // The line begins with a carriage return.
-            self.shown = line.len().saturating_sub(1);
+            let length = line.len().saturating_sub(1);
+            // A line covers one that is no longer. "1 file" is shorter than "0 files".
+            if length < self.shown {
+                self.wipe();
+            }
+            self.print(line.as_slice());
+            self.shown = length;
         }
         self.next = now.checked_add(Duration::from_millis(NEXT));
     }
