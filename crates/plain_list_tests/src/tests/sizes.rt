@@ -9,10 +9,12 @@ use ssh_key::KeyFault;
 use std::alloc::Global;
 use std::process::Abort;
 
-// A number of so many bytes, of which the first is this one.
+// A number of this many bytes, the first of which is `first`. A zero byte before it keeps the number
+// from being negative.
 fn number(rt: &impl Abort, alloc: Global, first: u8, size: usize) -> Vec<u8> {
-    let mut bytes = vec![in alloc; 0x55; size].expect(rt, "there is memory");
-    bytes[0] = first;
+    let rest = vec![in alloc; 0x55; size.saturating_sub(1)].expect(rt, "there is memory");
+    let head = [first];
+    let bytes = joined(alloc, &[&head, &rest]).expect(rt, "there is memory");
     if first < 128 {
         return bytes;
     }
