@@ -312,28 +312,35 @@ far() {
   local line="krl audit: $1, $2: $3 revoked, $4 unread"
   printf '\r%s\r%*s\r' "$line" ${#line} ''
 }
-# slowly: a name, and the second one after two seconds.
+# read_by_then: waits until what this shell has written to a pipe is read, so the program runs.
+read_by_then() {
+  timeout 60 python3 -c 'import array, fcntl, termios, time
+left = array.array("i", [1])
+while left[0]:
+    time.sleep(0.02)
+    fcntl.ioctl(1, termios.FIONREAD, left)'
+}
+# slowly FIRST SECOND: a name, and the second one two seconds after the first one was read.
 slowly() {
-  printf 'marked\0' && sleep 2 && printf 'gone\0'
+  printf '%s\0' "$1" && read_by_then && sleep 2 && printf '%s\0' "$2"
 }
 found="marked:1: $by_g
 gone: unread: No such file or directory"
 summary="krl audit: 2 files, 1 key: 1 revoked in 1 file, 1 unread $of_list"
 shows 'how far the audit is, wiped before a finding' 12 1 \
   "$(far '2 files' '1 key' 1 1)$(painted "$found")"$'\n'"$summary" '' \
-  audit -f r.krl --files0-from - < <(slowly)
+  audit -f r.krl --files0-from - < <(slowly marked gone)
 shows 'how far it is, wiped at the end' 2 1 "$(far '2 files' '1 key' 1 1)$summary" "$found" \
-  audit -f r.krl --files0-from - < <(slowly)
+  audit -f r.krl --files0-from - < <(slowly marked gone)
 setting=(NO_COLOR=1)
 shows 'how far it is, of a quiet audit with NO_COLOR' 2 3 \
   "$(far '2 files' '1 key' 0 1)${summary/1 revoked in 1 file/0 revoked in 0 files}" '' \
-  audit -q -f r.krl --files0-from - < <(printf 'home/a/x.pub\0' && sleep 2 && printf 'gone\0')
+  audit -q -f r.krl --files0-from - < <(slowly home/a/x.pub gone)
 setting=()
 # A line may be shorter than the one before: "1 file" after "0 files". Nothing of the longer one may
 # stay on the terminal.
-mkdir single && echo "$b" >single/x.pub
-at 2 audit -q -f r.krl --files0-from - \
-  < <(sleep 2 && printf 'single\0' && sleep 1 && printf 'gone\0')
+mkdir single nobody && echo "$b" >single/x.pub
+at 2 audit -q -f r.krl --files0-from - < <(slowly nobody single && sleep 1 && printf 'gone\0')
 judge 'how far it is, of fewer characters than before' "$(differs status 3 $got_status
   python3 - "$scratch/terminal" <<'END' || echo '  what the terminal is sent cannot be read'
 import re, sys
@@ -353,8 +360,8 @@ for it in wanted:
 END
 )"
 shows 'how far it is is said at a terminal alone' 1 1 "$(painted "$found")" "$summary" \
-  audit -f r.krl --files0-from - < <(slowly)
-slowly | python3 "$tests/lib/terminal.py" "$scratch/terminal" 2 \
+  audit -f r.krl --files0-from - < <(slowly marked gone)
+slowly marked gone | python3 "$tests/lib/terminal.py" "$scratch/terminal" 2 \
   "$program" audit -f r.krl --files0-from - >/dev/full
 judge 'how far it is, wiped before a fault' "$(differs status 255 $?
   differs 'standard error' "$(far '2 files' '1 key' 1 1)krl: output: output 1 Write after 0 bytes" \
