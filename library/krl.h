@@ -106,12 +106,13 @@ int32_t krl_check(const uint8_t *list, size_t list_length,
  * carriage return in it, a key under the name of its signatures, numbers with a needless zero
  * byte.
  *
- * The call checks neither the signature of a certificate on the list, nor whether the point of an
- * ECDSA key is on its curve: sshd refuses every key if one is wrong. The call keeps all keys of a
- * plain list in memory while it runs.
+ * Of a certificate on the list the call checks neither the signature, the authority nor the
+ * principals, and of an ECDSA key not whether its point is on its curve. sshd refuses every key if
+ * one of these is wrong, and the call does not. It keeps all keys of a plain list in memory while
+ * it runs.
  *
- * A list without a key, also one of no bytes, revokes nobody: so never pass it in place of a file
- * that was not read to its end. */
+ * A list without a key, also one of no bytes, revokes nobody. If a file could not be read to its
+ * end, do not call with a part of it. */
 int32_t krl_check_any(const uint8_t *list, size_t list_length,
                       const uint8_t *blob, size_t blob_length);
 
