@@ -80,12 +80,13 @@ def turned_in_place(place, made):
     place.judge("in place, a link that is turned at each of %d calls" % len(calls), wrong)
 
 
-def while_it_waits(place, made):
-    """The link is turned while the update waits for the lock beside the first list."""
-    two_lists(place)
+def while_it_waits(place, name, words, old, another, wanted, begin=two_lists):
+    """The link is turned while the update waits for the lock beside the first list: nothing is
+    written there."""
+    begin(place, old, another)
     with open("a/.it.krl.lock", "wb") as lock:
         fcntl.flock(lock, fcntl.LOCK_EX)
-        steps = Steps(place)
+        steps = Steps(place, words)
         calls, _ = steps.calls(HURRY="1")
 
         def go_on():
@@ -95,9 +96,15 @@ def while_it_waits(place, made):
 
         done = steps.stopped(calls.index("sleep") + 1, go_on)
     wrong = place.differs(done, 0, b"")
-    if content("a/it.krl") != OLD or not same(content("b/it.krl"), with_lines(ANOTHER, made)):
+    if not same(content("a/it.krl"), old) or not same(content("b/it.krl"), wanted):
         wrong.append("the update is in the wrong list")
-    place.judge("a link that is turned while an update waits", wrong)
+    place.judge("%s, a link that is turned while it waits" % name, wrong)
+
+
+def one_list(place, old, another):
+    """One list under both names."""
+    two_lists(place, old, None)
+    os.link("a/it.krl", "b/it.krl")
 
 
 def link_for_list(place, made):
@@ -202,7 +209,10 @@ def all_of_them(place):
     turned(place, "a list anew", ANEW, OLD, ANOTHER, (anew, anew))
     turned(place, "a first list", ANEW, None, None, (anew, anew))
     turned_in_place(place, made)
-    while_it_waits(place, made)
+    while_it_waits(place, "an update", UPDATE, OLD, ANOTHER, both[1])
+    while_it_waits(place, "a list anew", ANEW, OLD, ANOTHER, anew)
+    while_it_waits(place, "a first list", ANEW, None, None, anew)
+    while_it_waits(place, "an update of one file", UPDATE, OLD, OLD, made, begin=one_list)
     link_for_list(place, made)
     list_for_pipe(place)
     pipe_for_list(place)
