@@ -11,6 +11,7 @@ ghost use Rattle.krl_held.specs.Revocations.{Revocations, Means, held};
 ghost use Rattle.krl_core.specs.Krl.{SpelledSection, Spells};
 ghost use Rattle.krl_types.specs.declared.krl_fault.KrlFault.{KrlFault};
 ghost use Rattle.krl_core.specs.Front.{State, IsFirstFault, IsFront, limit};
+ghost use Rattle.krl_core.specs.Reading.{HasFixedFields};
 
 /// If a text has two fronts, one is the beginning of the other.
 pub fn one_front_begins_the_other()
@@ -25,6 +26,11 @@ pub fn one_front_begins_the_other()
 pub fn one_first_fault()
     ensures { (text : List ℕ) (fault fault' : Option KrlFault)
         → IsFirstFault text fault → IsFirstFault text fault' → fault ≡ fault' }
+{}
+
+/// A text that begins with the first six fields of a list has their 40 bytes.
+pub fn first_fields_have_forty_bytes()
+    ensures { (text : List ℕ) → HasFixedFields text → 40 ≤ length text }
 {}
 
 /// Each text has a first fault, or is reported to have none.
