@@ -25,12 +25,12 @@ test_library: build library
 
 # Each allocation, read and write of many runs fails in turn; make test does this for fewer of them.
 fault_injection: build
-	tests/inject_faults
+	tests/cases/inject_faults
 
 # Files changed at random, beside OpenSSH, and then libkrl beside the program.
 fuzz: build library
-	tests/fuzz --seconds $(SECONDS)
-	tests/library --seconds $(SECONDS)
+	tests/fuzz/fuzz --seconds $(SECONDS)
+	tests/cases/library --seconds $(SECONDS)
 
 # Time and memory beside OpenSSH, as ratios.
 bench: build

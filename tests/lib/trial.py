@@ -11,8 +11,9 @@ PROGRAM = os.path.abspath(os.environ.get("PROGRAM", os.path.join(TOP, "built", "
 
 
 def built_library(source, folder):
-    """Compiles a C file of this folder into another one."""
-    library = os.path.join(folder, os.path.splitext(source)[0] + ".so")
+    """Compiles a C file of this folder, or of one in it, into another folder."""
+    name = os.path.splitext(os.path.basename(source))[0]
+    library = os.path.join(folder, name + ".so")
     words = ["cc", "-O2", "-shared", "-fPIC", "-o", library, os.path.join(LIB, source)]
     subprocess.run(words, check=True)
     return library

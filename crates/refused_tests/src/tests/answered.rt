@@ -2,8 +2,8 @@
 
 use std::process::Abort;
 
-/// Prints that an allocation failed: `tests/inject_faults` looks for this line, which no test may
-/// print if no allocation failed.
+/// Prints that an allocation failed: `tests/cases/inject_faults` looks for this line, which no test
+/// may print if no allocation failed.
 pub fn ran_out(rt: &(impl AllocGlobal + Abort + Print)) {
     println!(rt; "memory ran out").expect(rt, "standard output takes it");
 }

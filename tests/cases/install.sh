@@ -187,7 +187,7 @@ holds 'what the package holds' \
     -printf './usr/share/doc/krl-keygen/examples/%p\n')
 documents=$root/usr/share/doc/krl-keygen
 judge 'each link of its documents leads to a file of it' \
-  "$(asks 0 python3 -B "$tests/lib/links.py" "$documents")"
+  "$(asks 0 python3 -B "$tests/lib/pages/links.py" "$documents")"
 judge 'its documents name a file that only the sources have' \
   "$(grep -q 'CONTRIBUTING.md of the sources' "$documents/README.md" || echo '  they do not')"
 cp -r "$documents/examples/demo" demo && cd demo || exit 1

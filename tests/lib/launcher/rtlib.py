@@ -1,4 +1,4 @@
-"""The functions of a kit's rtlib that build.py uses, for the crates of tests/launcher.sh."""
+"""The functions of a kit's rtlib that build.py uses, for the crates of tests/cases/launcher.sh."""
 
 import functools
 import os

@@ -64,7 +64,7 @@ for file in "${containers[@]:0:6}"; do
 done
 
 # The first byte of a private number is changed, so that it is not that of the public key: found by
-# tests/fuzz. It is not looked at, and OpenSSH lists by the public part, without the comment.
+# tests/fuzz/fuzz. It is not looked at, and OpenSSH lists by the public part, without the comment.
 for file in "${containers[@]}"; do
   [[ $file == *-ecdsa-521 ]] || continue
   sed '1d;$d' "$file" | base64 -d >raw

@@ -24,7 +24,7 @@ mkdir -p away kit/bin kit/c
 cp "$launcher" "$top/krl" "$top/build.py" away/ && mkdir away/packaging &&
   cp "$top/packaging/launch.sh" away/packaging/
 cp -r "$top/library" away/
-cp "$top"/tests/lib/kit/* kit/bin/
+cp "$top"/tests/lib/launcher/* kit/bin/
 echo 'the kit of the tests' >kit/WHAT
 printf '%s\n' 'low: byteorder' 'low_tests: low' side: 'upper: low side' 'aside: low' \
   'krl_tool: upper aside' \
@@ -281,7 +281,7 @@ sed -i 's/def below/def all_below/' kit/bin/rtlib.py
 build 'an rtlib that has other words' 0 'made by rt' "$other" ''
 rm kit/bin/rtlib.py away/built/ssh-keygen
 build 'a kit without rtlib' 0 'made by rt' "$other" ''
-cp "$top/tests/lib/kit/rtlib.py" kit/bin/
+cp "$top/tests/lib/launcher/rtlib.py" kit/bin/
 
 rm -r away/built
 PATH=/usr/bin:/bin program=$away/ssh-keygen expect 'no toolchain and no program' 255 '' "$(said_by \

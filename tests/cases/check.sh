@@ -80,7 +80,7 @@ expect 'a list that is missing' 255 '' $'krl: no.krl: file 1 Open\n' check no.kr
 expect 'another list that is missing' 255 '' $'krl: no.krl: file 1 Open\n' check \
   --newer-than no.krl r.krl
 
-# Plain lists. tests/plain_lists.sh has each form of a line.
+# Plain lists. tests/cases/plain_lists.sh has each form of a line.
 checks 'a plain list' 0 '' --keep b.pub --canary a.pub two
 checks 'a plain list that revokes a key to be kept' 1 "g.pub:1: $by_g
 keep: g.pub: 1 of 1 keys are revoked, $zeros" --keep g.pub two

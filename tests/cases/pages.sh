@@ -1,6 +1,7 @@
 # The pages of the crates: each library and each program has one, and the map links to it. A crate
 # of tests proves and runs the caller that a library's page shows, in the same words. The program
-# prints the output that its page shows. The crates have the names that THEOREMS.md cites.
+# prints the output that its page shows. The crates have the names that THEOREMS.md cites. The page
+# of the tests has a line for each part.
 
 # shown LANGUAGE PAGE: what the page shows in it.
 shown() {
@@ -23,7 +24,7 @@ for crate in $(sed -n 's/^\([a-z0-9_]*\)\( staticlib\)\{0,1\}:.*/\1/p' "$top/cra
     grep -qF "(../crates/$crate/README.md)" "$top/docs/ARCHITECTURE.md" ||
       echo '  the map does not lead to it'
   )"
-  # The program's use is shown below; what C calls is tried by tests/library.
+  # The program's use is shown below; what C calls is tried by tests/cases/library.
   [[ $crate == krl_tool || $crate == krl || $crate == krl_c ]] && continue
   caller=$(shown rust "$page")
   judge "the caller on the page of $crate" \
@@ -38,6 +39,9 @@ done
 cd ../..
 
 judge 'each link of a page leads to a file and a heading' \
-  "$(asks 0 python3 -B "$tests/lib/links.py" "$top")"
+  "$(asks 0 python3 -B "$tests/lib/pages/links.py" "$top")"
 judge 'the names that THEOREMS.md cites stand in the crates' \
-  "$(asks 0 python3 -B "$tests/lib/cited.py" "$top")"
+  "$(asks 0 python3 -B "$tests/lib/pages/cited.py" "$top")"
+judge 'the page of the tests has a line for each part' \
+  "$(asks 1 diff <(sed -n 's/^| `\([a-z_]*\)` .*/\1/p' "$tests/README.md" | sort) \
+    <(printf '%s\n' "${!parts[@]}" | sort))"
