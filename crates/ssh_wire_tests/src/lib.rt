@@ -1,4 +1,4 @@
-//! The tests of `ssh_wire` and `byte_streams`, through their public items.
+//! The tests of `ssh_wire`, through its public items.
 #![tactic(auto)]
 
 #[cfg(test)]

@@ -1,14 +1,8 @@
-//! Facts that no contract states: the standard's own examples, calls with ample memory, devices
-//! that fail.
+//! Facts that no contract states: the standard's own examples, calls with ample memory.
 
-mod buffer;
 mod cursor;
 mod page;
-mod pull;
 mod put;
-mod reader;
-mod rest;
-mod writer;
 
 use parts_for_tests::misprinted;
 use ssh_wire::{Bytes, PullFault, WireFault};
