@@ -8,7 +8,6 @@ pub mod TextWords
 pub mod LineLaws
 pub mod LineFaults
 pub mod FingerprintLaws
-pub mod RowLaws
 pub mod ListLaws
 pub mod ContainerLaws
 pub mod ArmourLaws

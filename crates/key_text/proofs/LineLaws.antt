@@ -3,7 +3,6 @@ use Rattle.std.proofs.Common.{◌≡◌, ℕ, true, List, Result, Ok, Err, refl,
 use Rattle.std.proofs.lemmas.Slice.Eq.{bytes_eq-Decides}
 use Rattle.ssh_wire.specs.Reading.{string_at}
 use Rattle.ssh_wire.specs.declared.fault.WireFault.{WireFault}
-use Rattle.ssh_key.proofs.Refusals.{string_read}
 use Rattle.key_text.specs.declared.line_fault.LineFault.{LineFault}
 use Rattle.key_text.specs.declared.line_fault.LineFault.TheVariants.{WordDiffers}
 use Rattle.key_text.specs.KeyLine.{HasWords, IsKeyLine, base64}
@@ -12,7 +11,7 @@ use Rattle.key_text.proofs.LineBase64.{decoded_again, decoded_takes}
 use Rattle.key_text.proofs.TextWords.{IsBytes-words, none_or_words, words_read}
 use Rattle.ssh_wire.specs.Wire.{BeginsWith, IsBytes}
 use Rattle.ssh_wire.proofs.Steps.{ok_or_err, passed_ok}
-use Rattle.ssh_wire.proofs.Fields.{string_takes}
+use Rattle.ssh_wire.proofs.Fields.{string_read, string_takes}
 
 -- ---- the first string of a key
 

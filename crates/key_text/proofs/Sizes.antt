@@ -18,7 +18,7 @@ use Rattle.key_text.specs.FingerprintReading.{IsFingerprint}
 use Rattle.key_text.specs.Fingerprints.{unpadded}
 use Rattle.key_text.specs.KeyLine.{AreWords, HasWords, IsKeyLine, base64}
 use Rattle.key_text.specs.Lines.{is_newline}
-use Rattle.key_text.specs.Rows.{Number, part_text}
+use Rattle.ssh_wire.specs.Rows.{Number, part_text}
 use Rattle.key_text.specs.TypeName.{certificate_names, plain_names, type_names}
 use Rattle.key_text.proofs.Trimmed.{length-before_ending, length-trimmed}
 

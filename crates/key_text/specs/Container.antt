@@ -4,6 +4,7 @@ use Rattle.std.specs.List.{range_with_len}
 use Rattle.std.specs.Str.{bytes_eq}
 use Rattle.ssh_wire.specs.Wire.{IsBytes}
 use Rattle.ssh_wire.specs.Reading.{string_at}
+use Rattle.ssh_wire.specs.Rows.{BeginsWithPart, Fails, Leads, Magnitude, Number, Step, Text, fault_unless, passes, step}
 use Rattle.ssh_wire.specs.declared.fault.WireFault.{WireFault}
 use Rattle.ssh_key.specs.Key.{IsKey, PublicKey, fields_text}
 use Rattle.ssh_key.specs.KeyReading.{key_at}
@@ -14,7 +15,6 @@ use Rattle.ssh_key.specs.declared.kind.Kind.{Kind}
 use Rattle.ssh_key.specs.declared.kind.Kind.TheVariants.{Rsa, Dsa, Ecdsa256, Ecdsa384, Ecdsa521, Ed25519, EcdsaSk, Ed25519Sk}
 use Rattle.key_text.specs.Armour.{IsArmour}
 use Rattle.key_text.specs.KeyLine.{base64}
-use Rattle.key_text.specs.Rows.{Fails, Leads, Magnitude, Number, BeginsWithPart, Step, Text, passes, step}
 use Rattle.key_text.specs.declared.private_fault.PrivateFault.{PrivateFault}
 use Rattle.key_text.specs.declared.private_fault.PrivateFault.TheVariants as faults
 
@@ -24,62 +24,53 @@ magic = codes "openssh-key-v1" ++ 0 ∷ []
 
 -- ---- the checks
 
-abbrev pub fault_unless : PrivateFault → Bool → Option PrivateFault
-fault_unless fault holds = if holds then None else Some fault
-
 -- cipher, derivation and options of a container that is not encrypted
 abbrev pub is_plain : List ℕ → List ℕ → List ℕ → Bool
 is_plain cipher derivation options =
     bytes_eq cipher (codes "none")
     && (bytes_eq derivation (codes "none") && length options == 0)
 
-abbrev pub plain : List (List ℕ) → Option PrivateFault
-plain (cipher ∷ derivation ∷ options ∷ []) =
+abbrev pub plain : List (List ℕ) → List ℕ → Option PrivateFault
+plain (cipher ∷ derivation ∷ []) options =
     fault_unless faults.Encrypted (is_plain cipher derivation options)
-plain values = Some faults.Encrypted
+plain before options = Some faults.Encrypted
 
-abbrev pub one_key : List (List ℕ) → Option PrivateFault
-one_key (cipher ∷ kdf ∷ options ∷ count ∷ []) =
-    fault_unless faults.KeyCount (slice_index count 0 == 1)
-one_key values = Some faults.KeyCount
+abbrev pub one_key : List (List ℕ) → List ℕ → Option PrivateFault
+one_key before count = fault_unless faults.KeyCount (slice_index count 0 == 1)
 
 abbrev pub why_no_key : Result PublicKey KeyFault → Option PrivateFault
 why_no_key (Ok key) = None
 why_no_key (Err fault) = Some (faults.Key fault)
 
-abbrev pub public_key : List (List ℕ) → Option PrivateFault
-public_key (cipher ∷ kdf ∷ options ∷ count ∷ blob ∷ []) = why_no_key (key_at blob)
-public_key values = Some faults.KeyCount
+abbrev pub public_key : List (List ℕ) → List ℕ → Option PrivateFault
+public_key before blob = why_no_key (key_at blob)
 
-abbrev pub same_check : List (List ℕ) → Option PrivateFault
-same_check (check ∷ again ∷ []) =
+abbrev pub same_check : List (List ℕ) → List ℕ → Option PrivateFault
+same_check (check ∷ []) again =
     fault_unless faults.Check (slice_index check 0 == slice_index again 0)
-same_check values = Some faults.Check
+same_check before again = Some faults.Check
 
-abbrev pub same_type : Kind → List (List ℕ) → Option PrivateFault
-same_type kind (check ∷ again ∷ name ∷ []) =
-    fault_unless faults.PublicDiffers (bytes_eq name (type_name kind))
-same_type kind values = Some faults.PublicDiffers
+abbrev pub same_type : Kind → List (List ℕ) → List ℕ → Option PrivateFault
+same_type kind before name = fault_unless faults.PublicDiffers (bytes_eq name (type_name kind))
 
 -- the private part of an Ed25519 key
-abbrev pub of_64_bytes : List (List ℕ) → Option PrivateFault
-of_64_bytes (public ∷ secret ∷ []) = fault_unless (faults.Key keys.Length) (length secret == 64)
-of_64_bytes values = Some (faults.Key keys.Length)
+abbrev pub of_64_bytes : List (List ℕ) → List ℕ → Option PrivateFault
+of_64_bytes before secret = fault_unless (faults.Key keys.Length) (length secret == 64)
 
 -- ---- the rows
 
-abbrev pub outer : List Step
+abbrev pub outer : List (Step PrivateFault)
 outer = step Text passes ∷ step Text passes ∷ step Text plain
     ∷ step (Number 4) one_key
     ∷ step Text public_key
     ∷ step Text passes
     ∷ []
 
-abbrev pub beginning : Kind → List Step
+abbrev pub beginning : Kind → List (Step PrivateFault)
 beginning kind =
     step (Number 4) passes ∷ step (Number 4) same_check ∷ step Text (same_type kind) ∷ []
 
-abbrev pub secrets : Kind → List Step
+abbrev pub secrets : Kind → List (Step PrivateFault)
 secrets Rsa =
     step Magnitude passes ∷ step Magnitude passes ∷ step Magnitude passes
     ∷ step Magnitude passes ∷ step Magnitude passes ∷ step Magnitude passes ∷ []
@@ -165,9 +156,11 @@ pub record IsContainer (text blob comment : List ℕ) : Type 0 where
 -- ---- the first fault
 
 pub data IsListFault (key : PublicKey) (list : List ℕ) (fault : PrivateFault) : Type 0 where
-  in_beginning : Fails (beginning key.kind) [] list fault → IsListFault key list fault
+  in_beginning : Fails faults.Wire (beginning key.kind) [] list fault
+      → IsListFault key list fault
   in_secrets : (head : List (List ℕ)) (fields : List ℕ)
-      → Leads (beginning key.kind) [] list head fields → Fails (secrets key.kind) [] fields fault
+      → Leads (beginning key.kind) [] list head fields
+      → Fails faults.Wire (secrets key.kind) [] fields fault
       → IsListFault key list fault
   in_comment : (values : List (List ℕ)) (rest : List ℕ) (why : WireFault)
       → Opens key list values rest → string_at rest ≡ Err why → fault ≡ faults.Wire why
@@ -191,7 +184,8 @@ pub data IsPrivateFault (text : List ℕ) (fault : PrivateFault) : Type 0 where
       → IsPrivateFault text fault
   no_magic : (bytes : List ℕ) → Holds text bytes → ((rest : List ℕ) → bytes ≢ magic ++ rest)
       → fault ≡ faults.Magic → IsPrivateFault text fault
-  in_parts : (inside : List ℕ) → Holds text (magic ++ inside) → Fails outer [] inside fault
+  in_parts : (inside : List ℕ) → Holds text (magic ++ inside)
+      → Fails faults.Wire outer [] inside fault
       → IsPrivateFault text fault
   after_parts : (inside rest : List ℕ) (values : List (List ℕ)) → Holds text (magic ++ inside)
       → Leads outer [] inside values rest → 0 < length rest → fault ≡ faults.Trailing

@@ -5,12 +5,12 @@ use Rattle.std.specs.Str.{bytes_eq}
 use Rattle.base64.specs.Engines.{standard}
 use Rattle.base64.specs.GeneralPurpose.{decode_of}
 use Rattle.ssh_wire.specs.Reading.{in_fault, string_at, ◌>>=◌}
+use Rattle.ssh_wire.specs.Rows.{Magnitude, Number, Part, Step, Text, part_at, part_text, passes, row_at, step}
 use Rattle.ssh_key.specs.Key.{PublicKey}
 use Rattle.ssh_key.specs.KeyReading.{key_at}
 use Rattle.ssh_key.specs.declared.kind.Kind.{Kind}
 use Rattle.key_text.specs.Armour.{armour_at}
 use Rattle.key_text.specs.Container.{all_padding, beginning, magic, outer, public_text, secrets}
-use Rattle.key_text.specs.Rows.{Magnitude, Number, Part, Step, Text, part_at, part_text, passes, row_at, step}
 use Rattle.key_text.specs.declared.container.Private.{Private}
 use Rattle.key_text.specs.declared.container.secrets.Spelling.{Spelling}
 use Rattle.key_text.specs.declared.container.secrets.Spelling.TheVariants as spellings
@@ -34,7 +34,7 @@ ended same comment padding =
 -- whether the public fields among the private ones of a kind are these
 unfoldable pub same_at : Kind → List ℕ → List ℕ → Result (Bool × List ℕ) PrivateFault
 same_at kind fields bytes = do
-  secret ← row_at (secrets kind) [] bytes
+  secret ← row_at faults.Wire (secrets kind) [] bytes
   Ok (bytes_eq (public_text kind secret.0) fields, secret.1)
 
 -- ---- fields that may have any value
@@ -44,7 +44,7 @@ part_of spellings.Number = Magnitude
 part_of spellings.Text = Text
 part_of spellings.Byte = Number 1
 
-abbrev pub row_of : List Spelling → List Step
+abbrev pub row_of : List Spelling → List (Step PrivateFault)
 row_of [] = []
 row_of (spelling ∷ row) = step (part_of spelling) passes ∷ row_of row
 
@@ -76,7 +76,7 @@ pub record HasRows (kind : Kind) (first others : List Spelling) : Type 0 where
 
 unfoldable pub list_at : PublicKey → List ℕ → Result (List ℕ) PrivateFault
 list_at key list = do
-  head ← row_at (beginning key.kind) [] list
+  head ← row_at faults.Wire (beginning key.kind) [] list
   same ← same_at key.kind key.fields head.1
   comment ← in_fault faults.Wire (string_at same.1)
   ended same.0 comment.0 comment.1
@@ -95,7 +95,7 @@ opened values = Err faults.Trailing
 
 unfoldable pub inside_at : List ℕ → Result Opened PrivateFault
 inside_at inside = do
-  parts ← row_at outer [] inside
+  parts ← row_at faults.Wire outer [] inside
   if length parts.1 == 0 then opened parts.0 else Err faults.Trailing
 
 unfoldable pub bytes_at : List ℕ → Result Opened PrivateFault

@@ -11,7 +11,6 @@ pub mod KeyFile
 pub mod PrivateFault
 pub mod Lines
 pub mod Armour
-pub mod Rows
 pub mod Container
 pub mod ContainerReading
 pub mod Marker

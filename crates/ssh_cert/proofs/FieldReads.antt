@@ -5,10 +5,9 @@ use Rattle.ssh_wire.specs.Wire.{IsBytes, number, string, strings}
 use Rattle.ssh_wire.specs.Reading.{◌>>=◌, in_fault, number_at, string_at}
 use Rattle.ssh_key.specs.KeyReading.{key_at, public_at}
 use Rattle.ssh_key.proofs.Keys.{key_again, key_found, public_again, public_found}
-use Rattle.ssh_key.proofs.Refusals.{string_read}
 use Rattle.ssh_key.proofs.Wire.{content_taken}
 use Rattle.ssh_wire.proofs.Digits.{IsBytes-back}
-use Rattle.ssh_wire.proofs.Fields.{HasFront, number_again, number_takes, string_again, string_takes}
+use Rattle.ssh_wire.proofs.Fields.{HasFront, number_again, number_takes, string_again, string_read, string_takes}
 use Rattle.ssh_wire.proofs.Steps.{bind_ok, in_fault_ok, some_ok}
 use Rattle.ssh_cert.specs.declared.fault.CertFault.TheVariants as faults
 use Rattle.ssh_cert.specs.Cert.{role_number}

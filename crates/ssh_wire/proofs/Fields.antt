@@ -13,7 +13,8 @@ use Rattle.byteorder.specs.Numbers.{big_from-lt, big_number-reads_back}
 use Rattle.byteorder.specs.Numbers.{length-bytes_high_first}
 use Rattle.ssh_wire.specs.declared.fault.WireFault.{WireFault}
 use Rattle.ssh_wire.specs.declared.fault.WireFault.TheVariants.{Short}
-use Rattle.ssh_wire.specs.Wire.{IsBytes, IsMagnitude, complement, mpint, number, string}
+use Rattle.ssh_wire.specs.Wire.{BeginsWith, IsBytes, IsMagnitude, complement, mpint, number}
+use Rattle.ssh_wire.specs.Wire.{string}
 use Rattle.ssh_wire.specs.Reading.{Lends, content_at, front_at, magnitude_at, magnitude_before}
 use Rattle.ssh_wire.specs.Reading.{magnitude_of, mpint_at, number_at, string_at}
 use Rattle.ssh_wire.proofs.Digits.{IsBytes-append, IsBytes-back, IsBytes-big, IsBytes-drop}
@@ -168,6 +169,10 @@ string_again text rest lt =
       append_assoc (number 4 (length text)) text rest,
       number_again 4 (length text) (text ++ rest) lt,
     ) (front_again text rest)
+
+pub string_read : (bytes value : List ℕ) (b : BeginsWith bytes value)
+    → string_at bytes ≡ Ok (value, b.rest)
+string_read bytes value b = ap string_at b.spelled ∙ string_again value b.rest b.fits
 
 -- ---- multiple precision integers
 

@@ -3,3 +3,4 @@ pub mod Steps
 pub mod Fields
 pub mod Magnitudes
 pub mod Cut
+pub mod RowLaws

@@ -3,4 +3,5 @@ pub mod Reading
 pub mod Fault
 pub mod Put
 pub mod Laws
+pub mod Rows
 pub mod PullFault

@@ -3,8 +3,12 @@
 //! give, and the `put` functions append the spellings named here.
 
 ghost use Rattle.std.specs.Prelude.{◌≡◌, ◌↔◌, ◌<◌, ◌+◌, ◌*◌, ◌^◌, ℕ, List, [], ◌∷◌, length};
+ghost use Rattle.std.specs.Prelude.{Err, Ok, take};
 ghost use Rattle.ssh_wire.specs.Laws.{HasMpint, IsShortWhereCut, ReadsJust};
 ghost use Rattle.ssh_wire.specs.Reading.{mpint_at, number_at, string_at};
+ghost use Rattle.ssh_wire.specs.Rows.{Fails, Leads, Step, row_at};
+ghost use Rattle.ssh_wire.specs.declared.fault.WireFault.{WireFault};
+ghost use Rattle.ssh_wire.specs.declared.fault.WireFault.TheVariants.{Short};
 ghost use Rattle.ssh_wire.specs.Wire.{IsBytes, IsMagnitude, IsMpint, complement, mpint, number};
 ghost use Rattle.ssh_wire.specs.Wire.{number_of, string};
 
@@ -69,4 +73,30 @@ pub fn cut_string_is_short()
 pub fn cut_mpint_is_short()
     ensures { (magnitude : List ℕ) → length (complement magnitude) < 2 ^ 32
         → IsShortWhereCut mpint_at (mpint magnitude) }
+{}
+
+/// The values of a table are read exactly where it is spelled, whatever the type of its faults is.
+/// Otherwise the first fault is reported, and there is one.
+pub fn table_is_read_back<F>()
+    ensures read { (unread : WireFault → F) (steps : List (Step F)) (before values : List (List ℕ))
+        (bytes rest : List ℕ) → IsBytes bytes
+        → (row_at unread steps before bytes ≡ Ok (values, rest))
+        ↔ Leads steps before bytes values rest }
+    ensures refused { (unread : WireFault → F) (steps : List (Step F)) (before : List (List ℕ))
+        (bytes : List ℕ) (fault : F) → IsBytes bytes
+        → (row_at unread steps before bytes ≡ Err fault)
+        ↔ Fails unread steps before bytes fault }
+    ensures one { (unread : WireFault → F) (steps : List (Step F)) (before : List (List ℕ))
+        (bytes : List ℕ) (a b : F) → Fails unread steps before bytes a
+        → Fails unread steps before bytes b → a ≡ b }
+    ensures none { (unread : WireFault → F) (steps : List (Step F)) (before values : List (List ℕ))
+        (bytes rest : List ℕ) (fault : F) → Leads steps before bytes values rest
+        → Fails unread steps before bytes fault → ⊥ }
+{}
+
+/// A table that is truncated anywhere has the fault of a part that is `Short`.
+pub fn cut_table_is_short<F>()
+    ensures { (unread : WireFault → F) (steps : List (Step F)) (before values : List (List ℕ))
+        (bytes : List ℕ) (n : ℕ) → Leads steps before bytes values [] → n < length bytes
+        → Fails unread steps before (take n bytes) (unread Short) }
 {}

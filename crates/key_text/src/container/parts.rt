@@ -2,10 +2,11 @@
 
 ghost use Rattle.std.specs.Prelude.{◌≡◌, [], IfOk, Ok};
 ghost use Rattle.ssh_wire.specs.Reading.{Gives};
+ghost use Rattle.ssh_wire.specs.Rows.{row_at};
 ghost use Rattle.ssh_key.specs.KeyReading.{key_at};
 ghost use Rattle.key_text.specs.Container.{is_plain, outer};
 ghost use Rattle.key_text.specs.ContainerReading.{bytes_at, inside_at, plain_values};
-ghost use Rattle.key_text.specs.Rows.{row_at};
+ghost use Rattle.key_text.specs.declared.private_fault.PrivateFault.TheVariants.{Wire};
 
 use crate::container::list::read_list;
 use crate::private_fault::PrivateFault;
@@ -68,10 +69,10 @@ fn read_inside<'a>(inside: &'a [u8]) -> Result<Opened<'a>, PrivateFault>
 }
 
 // The fields up to the private list.
-#[tactic(auto, unfolding(crate::specs::Rows::row_at))]
+#[tactic(auto, unfolding(ssh_wire::specs::Rows::row_at))]
 fn read_parts<'a>(cursor: &mut Cursor<'a>) -> Result<Parts<'a>, PrivateFault>
     ensures read { Gives (λ parts. plain_values parts.blob.now parts.list.now) result cursor.new
-        (row_at outer [] cursor.old) }
+        (row_at Wire outer [] cursor.old) }
     ensures key { IfOk result (λ parts. key_at parts.blob.now ≡ Ok parts.key) }
 {
     let cipher = cursor.string()?;

@@ -1,22 +1,44 @@
 //! The caller of the page.
 
-ghost use Rattle.std.specs.Prelude.{◌≡◌, ◌++◌, ℕ, List, IfOk};
-ghost use Rattle.ssh_wire.specs.Wire.{string};
+ghost use Rattle.std.specs.Prelude.{◌≡◌, ◌==◌, ◌∷◌, [], false, length};
+ghost use Rattle.ssh_wire.specs.Reading.{Gives};
+ghost use Rattle.ssh_wire.specs.Rows.{Text, fault_unless, passes, row_at, step};
+ghost use Rattle.ssh_wire_tests.specs.declared.tests.page.SignatureFault.TheVariants.{Length, Wire};
 
-use parts_for_tests::{PUBLISHED, strings};
+use parts_for_tests::strings;
 use ssh_wire::{Cursor, WireFault};
 
-/// The name of the type that a key's blob begins with (RFC 4253 section 6.6).
-fn type_name<'a>(blob: &'a [u8]) -> Result<&'a [u8], WireFault>
-    ensures { IfOk result (λ name. (rest : List ℕ) × (blob.now ≡ string name.now ++ rest)) }
+/// Why bytes do not begin with a signature.
+#[derive(Debug, Drop, PartialEq)]
+enum SignatureFault {
+    Wire(WireFault),
+    Length,
+}
+
+/// The algorithm and the bytes of an Ed25519 signature (RFC 8709 section 6): two strings, of which
+/// the second is 64 bytes long.
+#[tactic(auto, unfolding(ssh_wire::specs::Rows::row_at))]
+fn signature<'a>(cursor: &mut Cursor<'a>) -> Result<(&'a [u8], &'a [u8]), SignatureFault>
+    ensures { Gives (λ s. s.0.now ∷ s.1.now ∷ []) result cursor.new (row_at Wire
+        (step Text passes
+        ∷ step Text (λ before bytes. fault_unless Length (length bytes == 64)) ∷ [])
+        [] cursor.old) }
 {
-    let mut cursor = Cursor::new(blob);
-    cursor.string()
+    let algorithm = cursor.string().map_err(SignatureFault::Wire)?;
+    let bytes = cursor.string().map_err(SignatureFault::Wire)?;
+    if bytes.len() != 64 {
+        return Err(SignatureFault::Length);
+    }
+    Ok((algorithm, bytes))
 }
 
 #[test]
-fn a_key_begins_with_its_type(rt: HostRuntime) {
-    let blob = strings(rt.alloc(), &[b"ssh-ed25519", &PUBLISHED]).expect(&rt, "there is memory");
-    assert!(rt; type_name(&blob) == Ok(b"ssh-ed25519".as_slice()));
-    assert!(rt; type_name(b"\0\0\0\x0bssh") == Err(WireFault::Short));
+fn a_signature_has_its_length(rt: HostRuntime) {
+    let blob = strings(rt.alloc(), &[b"ssh-ed25519", &[7; 64]]).expect(&rt, "there is memory");
+    let read = signature(&mut Cursor::new(&blob));
+    assert!(rt; read == Ok((b"ssh-ed25519".as_slice(), [7; 64].as_slice())));
+    let cut = signature(&mut Cursor::new(&blob[..82]));
+    assert!(rt; cut == Err(SignatureFault::Wire(WireFault::Short)));
+    let other = signature(&mut Cursor::new(b"\0\0\0\0\0\0\0\x01s"));
+    assert!(rt; other == Err(SignatureFault::Length));
 }

@@ -1,5 +1,5 @@
 use Rattle.std.proofs.Common.{rules}
-use Rattle.key_text.specs.Rows.{row_at}
+use Rattle.ssh_wire.specs.Rows.{row_at}
 use Rattle.key_text.proofs.container.list.read_beginning.Goals as goal
 
 pub returns : goal.returns

@@ -2,7 +2,7 @@
 use Rattle.std.proofs.Common.{◌++◌, [], ap, sym, ◌∙◌, append_assoc, arith, subst}
 use Rattle.std.proofs.lemmas.Result.{err_from_is_err_and}
 use Rattle.ssh_wire.specs.Wire.{IsBytes}
-use Rattle.key_text.proofs.RowLaws.{part_takes}
+use Rattle.ssh_wire.proofs.RowLaws.{part_takes}
 use Rattle.key_text.proofs.SecretRows.{all_passed, none_passed, one_passed, one_refused}
 use Rattle.key_text.proofs.container.secrets.pass_over.Goals as goal
 
