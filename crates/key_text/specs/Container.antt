@@ -1,12 +1,12 @@
 -- The private container of one key that is not encrypted (OpenSSH's PROTOCOL.key).
-use Rattle.std.specs.Prelude.{◌≡◌, ◌≢◌, ℕ, ◌==◌, ◌&&◌, ◌<◌, Bool, List, [], ◌∷◌, ◌++◌, codes, length, slice_index, Option, Some, None, Result, Ok, Err, if◌then◌else◌}
+use Rattle.std.specs.Prelude.{◌≡◌, ◌≢◌, ℕ, ◌==◌, ◌&&◌, ◌<◌, Bool, List, [], ◌∷◌, ◌++◌, codes, length, slice_index, Option, Some, None, Result, Ok, Err}
 use Rattle.std.specs.List.{range_with_len}
 use Rattle.std.specs.Str.{bytes_eq}
 use Rattle.ssh_wire.specs.Wire.{IsBytes}
 use Rattle.ssh_wire.specs.Reading.{string_at}
-use Rattle.ssh_wire.specs.Rows.{BeginsWithPart, Fails, Leads, Magnitude, Number, Step, Text, fault_unless, passes, step}
+use Rattle.ssh_wire.specs.Rows.{BeginsWithPart, Fails, Leads, Magnitude, Number, Step, Text, fault_unless, passes, row_text, step}
 use Rattle.ssh_wire.specs.declared.fault.WireFault.{WireFault}
-use Rattle.ssh_key.specs.Key.{IsKey, PublicKey, fields_text}
+use Rattle.ssh_key.specs.Key.{IsKey, PublicKey}
 use Rattle.ssh_key.specs.KeyReading.{key_at}
 use Rattle.ssh_key.specs.Kind.{fields_of, type_name}
 use Rattle.ssh_key.specs.declared.fault.KeyFault.{KeyFault}
@@ -102,7 +102,7 @@ public_values kind values = []
 
 -- the public fields that these values spell
 abbrev pub public_text : Kind → List (List ℕ) → List ℕ
-public_text kind values = fields_text (fields_of kind) (public_values kind values)
+public_text kind values = row_text (fields_of kind) (public_values kind values)
 
 -- ---- the container
 

@@ -1,7 +1,5 @@
 pub mod Names
 pub mod Wire
-pub mod Public
-pub mod Refusals
 pub mod Numbers
 pub mod Keys
 pub mod FirstFaults

@@ -1,31 +1,38 @@
 -- The least length of keys and of their names in bytes.
-use Rattle.std.proofs.Common.{ℕ, ◌+◌, ◌*◌, ◌≤◌, List, [], ◌∷◌, length, ap, arith}
+use Rattle.std.proofs.Common.{ℕ, ◌+◌, ◌≤◌, List, [], ◌∷◌, ◌++◌, length, ap, arith}
+use Rattle.std.specs.Prelude.{slice_index}
 use Rattle.std.proofs.lemmas.List.{length-append}
-use Rattle.ssh_wire.specs.Wire.{complement, mpint, string}
-use Rattle.ssh_wire.proofs.Fields.{length-string}
-use Rattle.ssh_key.specs.Key.{AreValues, IsKey, PublicKey, field_text, fields_text}
-use Rattle.ssh_key.specs.Kind.{Field, Positive, Curve, Point, Sized, Application, certificate_name, fields_of, type_name}
+use Rattle.ssh_wire.specs.Rows.{Leads, Magnitude, Number, Part, Step, Text, part_text}
+use Rattle.ssh_wire.specs.Wire.{string}
+use Rattle.ssh_wire.proofs.Fields.{length-mpint, length-number, length-string}
+use Rattle.ssh_key.specs.Key.{IsKey, PublicKey}
+use Rattle.ssh_key.specs.Kind.{certificate_name, fields_of, type_name}
+use Rattle.ssh_key.specs.declared.fault.KeyFault.{KeyFault}
 use Rattle.ssh_key.specs.declared.kind.Kind.{Kind}
 use Rattle.ssh_key.specs.declared.kind.Kind.TheVariants.{Rsa, Dsa, Ecdsa256, Ecdsa384}
 use Rattle.ssh_key.specs.declared.kind.Kind.TheVariants.{Ecdsa521, Ed25519, EcdsaSk, Ed25519Sk}
 
-field_room : (field : Field) (value : List ℕ) → 4 ≤ length (field_text field value)
-unfolding mpint
-field_room Positive value = omega (arith, length-string (complement value))
-field_room (Curve name) value = omega (arith, length-string value)
-field_room (Point size) value = omega (arith, length-string value)
-field_room (Sized size) value = omega (arith, length-string value)
-field_room Application value = omega (arith, length-string value)
+-- the least length of a part, and of the parts of a table
+abbrev least : Part → ℕ
+least (Number size) = size
+least part = 4
 
-fields_room : (fields : List Field) (values : List (List ℕ)) → AreValues fields values
-    → 4 * length fields ≤ length (fields_text fields values)
-fields_room [] values are = omega arith
-fields_room (field ∷ fields) [] are = absurd are
-fields_room (field ∷ fields) (value ∷ values) are =
-    let later = length-append (field_text field value) (fields_text fields values) in
-    omega (arith, field_room field value, fields_room fields values are.2, later)
+abbrev least_of : List (Step KeyFault) → ℕ
+least_of [] = 0
+least_of (field ∷ fields) = least field.part + least_of fields
 
-kind_room : (kind : Kind) → 15 ≤ length (type_name kind) + 4 * length (fields_of kind)
+part_room : (part : Part) (value : List ℕ) → least part ≤ length (part_text part value)
+part_room (Number size) value = omega (arith, length-number size (slice_index value 0))
+part_room Magnitude value = omega (arith, length-mpint value)
+part_room Text value = omega (arith, length-string value)
+
+fields_room : (fields : List (Step KeyFault)) (before : List (List ℕ)) (bytes : List ℕ) (values : List (List ℕ)) (rest : List ℕ) → Leads fields before bytes values rest → least_of fields + length rest ≤ length bytes
+fields_room [] before bytes values rest l = omega (arith, ap length l.1)
+fields_room (field ∷ fields) before bytes values rest (value, left, stands, passed, l) =
+    let later = fields_room fields (before ++ value ∷ []) left values rest l in
+    omega (arith, part_room field.part value, ap length stands.spelled, length-append (part_text field.part value) left)
+
+kind_room : (kind : Kind) → 15 ≤ length (type_name kind) + least_of (fields_of kind)
 kind_room Rsa = omega arith
 kind_room Dsa = omega arith
 kind_room Ecdsa256 = omega arith
@@ -41,8 +48,7 @@ key_room blob key is =
     omega (
       arith,
       kind_room key.kind,
-      fields_room (fields_of key.kind) is.values is.allowed,
-      ap length is.fields,
+      fields_room (fields_of key.kind) [] key.fields is.values [] is.fields,
       ap length is.spelled,
       length-append (string (type_name key.kind)) key.fields,
       length-string (type_name key.kind),

@@ -1,39 +1,21 @@
--- A test of bytes, numbers above zero, the length of what is at the front of bytes, and the content of a string at the
--- front.
-use Rattle.std.proofs.Common.{◌≡◌, ℕ, ◌+◌, ◌^◌, ◌<◌, ◌≤◌, true, List, [], ◌∷◌, ◌++◌, length, Result, Ok, Err, refl, ap, ◌∙◌, arith, inl, inr, ◌⊎◌}
+-- A test of bytes, the length of what is at the front of bytes, and the content of a string at the front.
+use Rattle.std.proofs.Common.{◌≡◌, ℕ, ◌+◌, ◌^◌, ◌<◌, ◌≤◌, true, List, [], ◌∷◌, ◌++◌, length, Result, Ok, Err, ap, ◌∙◌, arith, inl, inr, ◌⊎◌}
 use Rattle.std.specs.Prelude.{nat_lt}
 use Rattle.std.specs.List.{list_all}
 use Rattle.std.proofs.lemmas.Bool.{and_parts, cases_Bool, ltb-true}
 use Rattle.std.proofs.lemmas.List.{length-append}
 use Rattle.ssh_wire.specs.declared.fault.WireFault.{WireFault}
-use Rattle.ssh_wire.specs.Wire.{BeginsWith, IsBytes, IsMagnitude, complement, mpint, string}
-use Rattle.ssh_wire.specs.Reading.{◌>>=◌, in_fault, mpint_at, string_at}
+use Rattle.ssh_wire.specs.Wire.{BeginsWith, IsBytes, complement, mpint, string}
+use Rattle.ssh_wire.specs.Reading.{◌>>=◌, in_fault, string_at}
 use Rattle.ssh_wire.proofs.Steps.{bind_err, bind_ok, in_fault_err, in_fault_ok, never_err}
 use Rattle.ssh_wire.proofs.Digits.{IsBytes-cons, IsBytes-nil}
-use Rattle.ssh_wire.proofs.Fields.{HasFront, IsBytes-content, length-mpint, mpint_again, string_takes}
-use Rattle.ssh_key.specs.Key.{HasLength, IsPositive}
+use Rattle.ssh_wire.proofs.Fields.{HasFront, IsBytes-content, length-mpint, string_takes}
 
 pub IsBytes-test : (xs : List ℕ) → list_all (λ byte. nat_lt byte 256) xs ≡ true → IsBytes xs
 IsBytes-test [] h = IsBytes-nil
 IsBytes-test (x ∷ xs) h =
     let parts = and_parts (nat_lt x 256) (list_all (λ byte. nat_lt byte 256) xs) h in
     IsBytes-cons x xs (ltb-true x 256 parts.0) (IsBytes-test xs parts.1)
-
-pub positive_is_magnitude : (magnitude : List ℕ) → IsPositive magnitude → IsMagnitude magnitude
-positive_is_magnitude [] h = tt
-positive_is_magnitude (byte ∷ bytes) h = h
-
--- a magnitude is empty or above zero
-pub magnitude_is_positive : (magnitude : List ℕ) → IsMagnitude magnitude → (length magnitude ≡ 0 → ⊥) → IsPositive magnitude
-magnitude_is_positive [] h full = absurd (full refl)
-magnitude_is_positive (byte ∷ bytes) h full = h
-
-pub mpint_has_length : (magnitude : List ℕ) → length (complement magnitude) < 2 ^ 32 → HasLength (mpint magnitude)
-mpint_has_length magnitude lt = omega (arith, length-mpint magnitude)
-
-pub positive_again : (magnitude rest : List ℕ) → IsPositive magnitude → HasLength (mpint magnitude) → mpint_at (mpint magnitude ++ rest) ≡ Ok (magnitude, rest)
-positive_again magnitude rest positive lt =
-    mpint_again magnitude rest (positive_is_magnitude magnitude positive) (omega (arith, length-mpint magnitude))
 
 length-complement : (magnitude : List ℕ) → length magnitude ≤ length (complement magnitude)
 unfolding complement

@@ -1,11 +1,12 @@
 -- The size that a reader of public fields found.
-use Rattle.std.specs.Prelude.{ℕ, ◌≤◌, List, length, Result, Ok}
+use Rattle.std.specs.Prelude.{ℕ, ◌≤◌, List, [], length, Result, Ok}
 use Rattle.ssh_wire.specs.Reading.{◌>>=◌}
+use Rattle.ssh_wire.specs.Rows.{Step, row_at}
 use Rattle.ssh_key.specs.declared.fault.KeyFault.{KeyFault}
 use Rattle.ssh_key.specs.declared.fields.Size.{Size}
 use Rattle.ssh_key.specs.declared.fields.Size.TheVariants.{Bits, Magnitude}
-use Rattle.ssh_key.specs.KeyReading.{fields_at}
-use Rattle.ssh_key.specs.Kind.{Field, bit_count}
+use Rattle.ssh_key.specs.declared.fault.KeyFault.TheVariants.{Wire}
+use Rattle.ssh_key.specs.Kind.{bit_count}
 
 abbrev pub bits_of_size : Size → ℕ
 bits_of_size (Bits bits) = bits
@@ -17,7 +18,7 @@ IsWithin (Bits bits) limit = Unit {0}
 IsWithin (Magnitude bytes) limit = length bytes.now ≤ limit
 
 -- the size of a key that has these fields and this many bits, and the bytes after them
-abbrev pub sized_at : List Field → ℕ → List ℕ → Result (ℕ × List ℕ) KeyFault
+abbrev pub sized_at : List (Step KeyFault) → ℕ → List ℕ → Result (ℕ × List ℕ) KeyFault
 sized_at fields bits bytes = do
-  values ← fields_at fields bytes
+  values ← row_at Wire fields [] bytes
   Ok (bits, values.1)

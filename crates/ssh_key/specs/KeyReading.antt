@@ -1,53 +1,15 @@
 -- Reading a key from left to right, up to the first fault.
-use Rattle.std.specs.Prelude.{◌≡◌, ℕ, ◌-◌, Bool, List, [], ◌∷◌, length, take, Option, Some, None, Result, Ok, Err, nat_lt, ◌==◌, ◌&&◌, if◌then◌else◌}
-use Rattle.std.specs.List.{list_any}
+use Rattle.std.specs.Prelude.{◌≡◌, ℕ, ◌-◌, List, [], length, take, Result, Ok, Err, nat_lt, ◌==◌, if◌then◌else◌}
 use Rattle.std.specs.Option.{ok_or}
-use Rattle.std.specs.Str.{bytes_eq}
-use Rattle.ssh_wire.specs.Reading.{◌>>=◌, in_fault, mpint_at, string_at}
+use Rattle.ssh_wire.specs.Reading.{◌>>=◌, in_fault, string_at}
+use Rattle.ssh_wire.specs.Rows.{row_at}
 use Rattle.ssh_key.specs.declared.fault.KeyFault.{KeyFault}
 use Rattle.ssh_key.specs.declared.fault.KeyFault.TheVariants as faults
 use Rattle.ssh_key.specs.declared.kind.Kind.{Kind}
-use Rattle.ssh_key.specs.Kind.{Field, Positive, Curve, Point, Sized, Application, fields_of, bits_of, kind_named}
+use Rattle.ssh_key.specs.Kind.{fields_of, bits_of, kind_named}
 use Rattle.ssh_key.specs.Key.{PublicKey, blob_of, longest_blob}
 
--- the value at the front, whether or not it is allowed, and the bytes after it
-abbrev pub value_at : Field → List ℕ → Result (List ℕ × List ℕ) KeyFault
-value_at Positive bytes = in_fault faults.Wire (mpint_at bytes)
-value_at field bytes = in_fault faults.Wire (string_at bytes)
-
-abbrev pub begins_with_4 : List ℕ → Bool
-begins_with_4 [] = Bool.false
-begins_with_4 (byte ∷ bytes) = byte == 4
-
-abbrev pub has_zero : List ℕ → Bool
-has_zero value = list_any (λ byte. byte == 0) value
-
--- why the value may not be in the field
-abbrev pub fault_in : Field → List ℕ → Option KeyFault
-fault_in Positive value = if length value == 0 then Some faults.Number else None
-fault_in (Curve name) value = if bytes_eq value name then None else Some faults.Curve
-fault_in (Point size) value =
-    if length value == size && begins_with_4 value then None else Some faults.Point
-fault_in (Sized size) value = if length value == size then None else Some faults.Length
-fault_in Application value = if has_zero value then Some faults.Length else None
-
-abbrev pub unless : {A : Type 0} → Option KeyFault → A → Result A KeyFault
-unless None x = Ok x
-unless (Some fault) x = Err fault
-
-unfoldable pub field_at : Field → List ℕ → Result (List ℕ × List ℕ) KeyFault
-field_at field bytes = do
-  read ← value_at field bytes
-  unless (fault_in field read.0) read
-
--- the values of the fields, one after another, and the bytes after them
-unfoldable pub fields_at : List Field → List ℕ → Result (List (List ℕ) × List ℕ) KeyFault
-fields_at [] bytes = Ok ([], bytes)
-fields_at (field ∷ fields) bytes = do
-  first ← field_at field bytes
-  others ← fields_at fields first.1
-  Ok (first.0 ∷ others.0, others.1)
-
+-- the kind by the type name
 unfoldable pub kind_at : List ℕ → Result (Kind × List ℕ) KeyFault
 kind_at bytes = do
   name ← in_fault faults.Wire (string_at bytes)
@@ -57,7 +19,7 @@ kind_at bytes = do
 -- the size in bits by the public fields, and the bytes after them
 unfoldable pub bits_at : Kind → List ℕ → Result (ℕ × List ℕ) KeyFault
 bits_at kind bytes = do
-  values ← fields_at (fields_of kind) bytes
+  values ← row_at faults.Wire (fields_of kind) [] bytes
   Ok (bits_of kind values.0, values.1)
 
 -- the bytes before the rest

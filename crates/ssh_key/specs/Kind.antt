@@ -1,9 +1,12 @@
 -- The kinds of keys: their names, the names of their certificates, the short names of listings,
 -- their public fields and their sizes.
-use Rattle.std.specs.Prelude.{ℕ, ◌-◌, ◌*◌, List, [], ◌∷◌, length, Option, codes, slice_index_or}
+use Rattle.std.specs.Prelude.{ℕ, ◌-◌, ◌*◌, ◌==◌, ◌&&◌, Bool, false, List, [], ◌∷◌, length, Option, Some, None, codes, slice_index_or, if◌then◌else◌}
 use Rattle.std.specs.Int.{w8, leading_zeros}
-use Rattle.std.specs.List.{find}
+use Rattle.std.specs.List.{find, list_any}
 use Rattle.std.specs.Str.{bytes_eq}
+use Rattle.ssh_wire.specs.Rows.{Magnitude, Step, Text, fault_unless, step}
+use Rattle.ssh_key.specs.declared.fault.KeyFault.{KeyFault}
+use Rattle.ssh_key.specs.declared.fault.KeyFault.TheVariants as faults
 use Rattle.ssh_key.specs.declared.kind.Kind.{Kind}
 use Rattle.ssh_key.specs.declared.kind.Kind.TheVariants.{Rsa, Dsa, Ecdsa256, Ecdsa384, Ecdsa521, Ed25519, EcdsaSk, Ed25519Sk}
 
@@ -49,24 +52,49 @@ kind_named name = find (λ kind. bytes_eq (type_name kind) name) kinds
 unfoldable pub kind_certified : List ℕ → Option Kind
 kind_certified name = find (λ kind. bytes_eq (certificate_name kind) name) kinds
 
--- The content of a public field: a number above zero; the name of the curve; an uncompressed point
--- of this many bytes; any string of this many bytes; the application of a security key.
-pub data Field : Type 0 where
-  Positive : Field
-  Curve : (name : List ℕ) → Field
-  Point : (size : ℕ) → Field
-  Sized : (size : ℕ) → Field
-  Application : Field
+-- ---- the public fields
 
-abbrev pub fields_of : Kind → List Field
-fields_of Rsa = Positive ∷ Positive ∷ []
-fields_of Dsa = Positive ∷ Positive ∷ Positive ∷ Positive ∷ []
-fields_of Ecdsa256 = Curve (codes "nistp256") ∷ Point 65 ∷ []
-fields_of Ecdsa384 = Curve (codes "nistp384") ∷ Point 97 ∷ []
-fields_of Ecdsa521 = Curve (codes "nistp521") ∷ Point 133 ∷ []
-fields_of Ed25519 = Sized 32 ∷ []
-fields_of EcdsaSk = Curve (codes "nistp256") ∷ Point 65 ∷ Application ∷ []
-fields_of Ed25519Sk = Sized 32 ∷ Application ∷ []
+-- a number above zero
+abbrev pub positive_field : Step KeyFault
+positive_field = step Magnitude
+    (λ before value. if length value == 0 then Some faults.Number else None)
+
+-- the name of the curve
+abbrev pub curve_field : List ℕ → Step KeyFault
+curve_field name = step Text (λ before value. fault_unless faults.Curve (bytes_eq value name))
+
+-- the uncompressed form begins with 4
+abbrev pub begins_with_4 : List ℕ → Bool
+begins_with_4 [] = false
+begins_with_4 (byte ∷ bytes) = byte == 4
+
+-- an uncompressed point of this many bytes
+abbrev pub point_field : ℕ → Step KeyFault
+point_field size = step Text (λ before value.
+    fault_unless faults.Point (length value == size && begins_with_4 value))
+
+-- any string of this many bytes
+abbrev pub sized_field : ℕ → Step KeyFault
+sized_field size = step Text (λ before value. fault_unless faults.Length (length value == size))
+
+abbrev pub has_zero : List ℕ → Bool
+has_zero value = list_any (λ byte. byte == 0) value
+
+-- The application of a security key has no zero byte, as OpenSSH writes it: a zero byte ends its
+-- texts, and it drops a zero byte at the end.
+abbrev pub application_field : Step KeyFault
+application_field = step Text (λ before value. if has_zero value then Some faults.Length else None)
+
+-- the table of each kind
+abbrev pub fields_of : Kind → List (Step KeyFault)
+fields_of Rsa = positive_field ∷ positive_field ∷ []
+fields_of Dsa = positive_field ∷ positive_field ∷ positive_field ∷ positive_field ∷ []
+fields_of Ecdsa256 = curve_field (codes "nistp256") ∷ point_field 65 ∷ []
+fields_of Ecdsa384 = curve_field (codes "nistp384") ∷ point_field 97 ∷ []
+fields_of Ecdsa521 = curve_field (codes "nistp521") ∷ point_field 133 ∷ []
+fields_of Ed25519 = sized_field 32 ∷ []
+fields_of EcdsaSk = curve_field (codes "nistp256") ∷ point_field 65 ∷ application_field ∷ []
+fields_of Ed25519Sk = sized_field 32 ∷ application_field ∷ []
 
 -- eight for each byte of a magnitude, minus the leading zero bits of the first
 abbrev pub bit_count : List ℕ → ℕ

@@ -2,8 +2,11 @@
 
 ghost use Rattle.std.specs.Prelude.{◌+◌, ◌-◌, ◌≤◌, ◌∷◌, [], IfOk, length};
 ghost use Rattle.ssh_wire.specs.Reading.{Gives};
-ghost use Rattle.ssh_key.specs.Kind.{Application, Curve, Point, Positive, Sized};
-ghost use Rattle.ssh_key.specs.KeyReading.{bits_at, field_at};
+ghost use Rattle.ssh_wire.specs.Rows.{step_at};
+ghost use Rattle.ssh_key.specs.declared.fault.KeyFault.TheVariants.{Wire};
+ghost use Rattle.ssh_key.specs.Kind.{application_field, curve_field, point_field, positive_field};
+ghost use Rattle.ssh_key.specs.Kind.{sized_field};
+ghost use Rattle.ssh_key.specs.KeyReading.{bits_at};
 ghost use Rattle.ssh_key.specs.Fields.{bits_of_size, IsWithin, sized_at};
 
 use crate::fault::KeyFault;
@@ -41,7 +44,7 @@ pub fn read_size<'a>(kind: Kind, cursor: &mut Cursor<'a>) -> Result<Size<'a>, Ke
 }
 
 // Reads the public fields of an RSA key: the exponent, and the modulus, which is returned.
-#[tactic(auto, unfolding(crate::specs::KeyReading::bits_at, crate::specs::KeyReading::fields_at))]
+#[tactic(auto, unfolding(crate::specs::KeyReading::bits_at, ssh_wire::specs::Rows::row_at))]
 fn read_modulus<'a>(cursor: &mut Cursor<'a>) -> Result<Size<'a>, KeyFault>
     ensures read { Gives bits_of_size result cursor.new (bits_at Kind.Rsa cursor.old) }
     ensures within { IfOk result (λ size. IsWithin size (length cursor.old - length cursor.new)) }
@@ -52,7 +55,7 @@ fn read_modulus<'a>(cursor: &mut Cursor<'a>) -> Result<Size<'a>, KeyFault>
 }
 
 // Reads the public fields of a DSA key: the prime, which is returned, and three more numbers.
-#[tactic(auto, unfolding(crate::specs::KeyReading::bits_at, crate::specs::KeyReading::fields_at))]
+#[tactic(auto, unfolding(crate::specs::KeyReading::bits_at, ssh_wire::specs::Rows::row_at))]
 fn read_prime<'a>(cursor: &mut Cursor<'a>) -> Result<Size<'a>, KeyFault>
     ensures read { Gives bits_of_size result cursor.new (bits_at Kind.Dsa cursor.old) }
     ensures within { IfOk result (λ size. IsWithin size (length cursor.old - length cursor.new)) }
@@ -65,7 +68,7 @@ fn read_prime<'a>(cursor: &mut Cursor<'a>) -> Result<Size<'a>, KeyFault>
 }
 
 // Reads the public fields of a key on this curve, whose points have this many bytes.
-#[tactic(auto, unfolding(crate::specs::KeyReading::fields_at))]
+#[tactic(auto, unfolding(ssh_wire::specs::Rows::row_at))]
 fn read_ecdsa<'a>(
     cursor: &mut Cursor<'a>,
     curve: &str,
@@ -73,7 +76,7 @@ fn read_ecdsa<'a>(
     bits: u32,
 ) -> Result<Size<'a>, KeyFault>
     ensures read { Gives bits_of_size result cursor.new
-        (sized_at (Curve curve.now ∷ Point point ∷ []) bits cursor.old) }
+        (sized_at (curve_field curve.now ∷ point_field point ∷ []) bits cursor.old) }
     ensures within { IfOk result (λ size. IsWithin size (length cursor.old - length cursor.new)) }
 {
     let _curve = read_curve(cursor, curve)?;
@@ -82,7 +85,7 @@ fn read_ecdsa<'a>(
 }
 
 // Reads the public fields of an Ed25519 key.
-#[tactic(auto, unfolding(crate::specs::KeyReading::bits_at, crate::specs::KeyReading::fields_at))]
+#[tactic(auto, unfolding(crate::specs::KeyReading::bits_at, ssh_wire::specs::Rows::row_at))]
 fn read_ed25519<'a>(cursor: &mut Cursor<'a>) -> Result<Size<'a>, KeyFault>
     ensures read { Gives bits_of_size result cursor.new (bits_at Kind.Ed25519 cursor.old) }
     ensures within { IfOk result (λ size. IsWithin size (length cursor.old - length cursor.new)) }
@@ -92,7 +95,7 @@ fn read_ed25519<'a>(cursor: &mut Cursor<'a>) -> Result<Size<'a>, KeyFault>
 }
 
 // Reads the public fields of an ECDSA security key.
-#[tactic(auto, unfolding(crate::specs::KeyReading::bits_at, crate::specs::KeyReading::fields_at))]
+#[tactic(auto, unfolding(crate::specs::KeyReading::bits_at, ssh_wire::specs::Rows::row_at))]
 fn read_ecdsa_device<'a>(cursor: &mut Cursor<'a>) -> Result<Size<'a>, KeyFault>
     ensures read { Gives bits_of_size result cursor.new (bits_at Kind.EcdsaSk cursor.old) }
     ensures within { IfOk result (λ size. IsWithin size (length cursor.old - length cursor.new)) }
@@ -104,7 +107,7 @@ fn read_ecdsa_device<'a>(cursor: &mut Cursor<'a>) -> Result<Size<'a>, KeyFault>
 }
 
 // Reads the public fields of an Ed25519 security key.
-#[tactic(auto, unfolding(crate::specs::KeyReading::bits_at, crate::specs::KeyReading::fields_at))]
+#[tactic(auto, unfolding(crate::specs::KeyReading::bits_at, ssh_wire::specs::Rows::row_at))]
 fn read_ed25519_device<'a>(cursor: &mut Cursor<'a>) -> Result<Size<'a>, KeyFault>
     ensures read { Gives bits_of_size result cursor.new (bits_at Kind.Ed25519Sk cursor.old) }
     ensures within { IfOk result (λ size. IsWithin size (length cursor.old - length cursor.new)) }
@@ -115,9 +118,9 @@ fn read_ed25519_device<'a>(cursor: &mut Cursor<'a>) -> Result<Size<'a>, KeyFault
 }
 
 // A number above zero: its magnitude.
-#[tactic(auto, unfolding(crate::specs::KeyReading::field_at))]
 fn read_positive<'a>(cursor: &mut Cursor<'a>) -> Result<&'a [u8], KeyFault>
-    ensures read { Gives (λ value. value.now) result cursor.new (field_at Positive cursor.old) }
+    ensures read { Gives (λ value. value.now) result cursor.new
+        (step_at Wire positive_field [] cursor.old) }
     ensures within { IfOk result (λ value.
         length value.now + length cursor.new ≤ length cursor.old) }
 {
@@ -129,9 +132,9 @@ fn read_positive<'a>(cursor: &mut Cursor<'a>) -> Result<&'a [u8], KeyFault>
 }
 
 // The name of a curve.
-#[tactic(auto, unfolding(crate::specs::KeyReading::field_at))]
 fn read_curve<'a>(cursor: &mut Cursor<'a>, name: &str) -> Result<&'a [u8], KeyFault>
-    ensures { Gives (λ value. value.now) result cursor.new (field_at (Curve name.now) cursor.old) }
+    ensures { Gives (λ value. value.now) result cursor.new
+        (step_at Wire (curve_field name.now) [] cursor.old) }
 {
     let string = cursor.string()?;
     if string != name.as_bytes() {
@@ -141,9 +144,9 @@ fn read_curve<'a>(cursor: &mut Cursor<'a>, name: &str) -> Result<&'a [u8], KeyFa
 }
 
 // A point of a curve, uncompressed, in this many bytes.
-#[tactic(auto, unfolding(crate::specs::KeyReading::field_at))]
 fn read_point<'a>(cursor: &mut Cursor<'a>, size: usize) -> Result<&'a [u8], KeyFault>
-    ensures { Gives (λ value. value.now) result cursor.new (field_at (Point size) cursor.old) }
+    ensures { Gives (λ value. value.now) result cursor.new
+        (step_at Wire (point_field size) [] cursor.old) }
 {
     let string = cursor.string()?;
     if string.len() != size {
@@ -156,9 +159,9 @@ fn read_point<'a>(cursor: &mut Cursor<'a>, size: usize) -> Result<&'a [u8], KeyF
 }
 
 // A string of this many bytes.
-#[tactic(auto, unfolding(crate::specs::KeyReading::field_at))]
 fn read_sized<'a>(cursor: &mut Cursor<'a>, size: usize) -> Result<&'a [u8], KeyFault>
-    ensures { Gives (λ value. value.now) result cursor.new (field_at (Sized size) cursor.old) }
+    ensures { Gives (λ value. value.now) result cursor.new
+        (step_at Wire (sized_field size) [] cursor.old) }
 {
     let string = cursor.string()?;
     if string.len() != size {
@@ -169,9 +172,9 @@ fn read_sized<'a>(cursor: &mut Cursor<'a>, size: usize) -> Result<&'a [u8], KeyF
 
 // The application of a security key (PROTOCOL.u2f): a string without a zero byte. OpenSSH drops a
 // zero byte at the end, so a key with one would have a second spelling.
-#[tactic(auto, unfolding(crate::specs::KeyReading::field_at))]
 fn read_application<'a>(cursor: &mut Cursor<'a>) -> Result<&'a [u8], KeyFault>
-    ensures { Gives (λ value. value.now) result cursor.new (field_at Application cursor.old) }
+    ensures { Gives (λ value. value.now) result cursor.new
+        (step_at Wire application_field [] cursor.old) }
 {
     let string = cursor.string()?;
     if string.contains(&0) {

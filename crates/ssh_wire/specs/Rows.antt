@@ -1,4 +1,4 @@
--- Formats as tables: the part that is expected at each place, and the fault that its value may have.
+-- Formats as tables: the expected part at each place, and the fault that its value may have.
 use Rattle.std.specs.Prelude.{◌≡◌, ℕ, ◌^◌, ◌<◌, Bool, List, [], ◌∷◌, ◌++◌, length, slice_index}
 use Rattle.std.specs.Prelude.{Option, Some, None, Result, Ok, Err, ◌⊎◌, if◌then◌else◌}
 use Rattle.ssh_wire.specs.Wire.{IsMagnitude, complement, mpint, number, string}

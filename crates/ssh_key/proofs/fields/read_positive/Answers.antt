@@ -1,10 +1,8 @@
 use Rattle.std.proofs.Common.{rules}
-use Rattle.ssh_key.specs.KeyReading.{field_at}
 use Rattle.ssh_key.proofs.Wire.{mpint_within}
 use Rattle.ssh_key.proofs.fields.read_positive.Goals as goal
 
 pub returns-clause-read : goal.returns-clause-read
-unfolding field_at
 returns-clause-read c = search rules steps 300000
 
 pub returns-clause-within : goal.returns-clause-within
