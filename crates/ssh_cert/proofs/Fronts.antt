@@ -80,9 +80,9 @@ fields_refused (field ∷ fields) bytes fault fits e =
           ]
     ]
 
-pub stop_read : (before : List Field) (field : Field) (later : List Field) (values : ValuesOf before) (rest : List ℕ) (fault : CertFault) → IsBytes rest → AreValues before values → Refuses field rest fault → fields_at (before ++ field ∷ later) (fields_text before values ++ rest) ≡ Err fault
+pub stop_read : (before : List Field) (field : Field) (later : List Field) (values : ValuesOf before) (rest : List ℕ) (fault : CertFault) → AreValues before values → Refuses field rest fault → fields_at (before ++ field ∷ later) (fields_text before values ++ rest) ≡ Err fault
 unfolding fields_at
-stop_read [] field later values rest fault fits allowed refused = rw (refusal_read field rest fault fits refused) refl
-stop_read (first ∷ before) field later values rest fault fits allowed refused =
+stop_read [] field later values rest fault allowed refused = rw (refusal_read field rest fault refused) refl
+stop_read (first ∷ before) field later values rest fault allowed refused =
     ap (fields_at (first ∷ (before ++ field ∷ later))) (append_assoc (field_text first values.0) (fields_text before values.1) rest)
-    ∙ rw (field_again first values.0 (fields_text before values.1 ++ rest) allowed.0, stop_read before field later values.1 rest fault fits allowed.1 refused) refl
+    ∙ rw (field_again first values.0 (fields_text before values.1 ++ rest) allowed.0, stop_read before field later values.1 rest fault allowed.1 refused) refl

@@ -1,7 +1,8 @@
 -- Reading a certificate from left to right, up to the first fault.
-use Rattle.std.specs.Prelude.{ℕ, List, [], ◌∷◌, length, Option, Some, None, Result, Ok, Err, ◌==◌, if◌then◌else◌}
+use Rattle.std.specs.Prelude.{ℕ, List, [], ◌∷◌, length, slice_index, Option, Some, None, Result, Ok, Err, ◌==◌, if◌then◌else◌}
 use Rattle.std.specs.Option.{ok_or, option_and_then}
-use Rattle.ssh_wire.specs.Reading.{◌>>=◌, in_fault, number_at, string_at}
+use Rattle.ssh_wire.specs.Reading.{◌>>=◌, in_fault, string_at}
+use Rattle.ssh_wire.specs.Rows.{part_at}
 use Rattle.ssh_wire.specs.declared.fault.WireFault.{WireFault}
 use Rattle.ssh_key.specs.declared.kind.Kind.{Kind}
 use Rattle.ssh_key.specs.Key.{PublicKey}
@@ -12,7 +13,7 @@ use Rattle.ssh_cert.specs.declared.fault.CertFault.TheVariants as faults
 use Rattle.ssh_cert.specs.declared.role.Role.{Role}
 use Rattle.ssh_cert.specs.declared.role.Role.TheVariants.{User, Host}
 use Rattle.ssh_cert.specs.Cert.{Cert}
-use Rattle.ssh_cert.specs.Field.{Field, TextField, PublicField, NumberField, RoleField, PrincipalsField, OptionsField, AuthorityField, SignatureField, Authority, Signature, ValueOf, ValuesOf, fields_of}
+use Rattle.ssh_cert.specs.Field.{Authority, AuthoritySort, Field, NumberSort, OptionsSort, PrincipalsSort, PublicField, RoleSort, Signature, SignatureSort, Sort, SortField, SortValue, TextSort, ValueOf, ValuesOf, fields_of, part_of}
 use Rattle.ssh_cert.specs.Options.{CertOption, pairs_of}
 use Rattle.ssh_cert.specs.Strings.{strings_of}
 
@@ -37,31 +38,25 @@ abbrev pub named : List ℕ → Result (List ℕ × List ℕ) WireFault → Opti
 named text (Ok first) = Some (signature_of text first)
 named text (Err fault) = None
 
+-- what the value of its part is in a field of the sort, or the fault of that value
+abbrev pub judged : (sort : Sort) → List ℕ → Result (SortValue sort) CertFault
+judged TextSort raw = Ok raw
+judged NumberSort raw = Ok (slice_index raw 0)
+judged RoleSort raw = ok_or (role_of (slice_index raw 0)) faults.CertType
+judged PrincipalsSort raw = ok_or (strings_of raw) faults.Principals
+judged OptionsSort raw = ok_or (options_of raw) faults.Options
+judged AuthoritySort raw = do
+  key ← in_fault faults.Authority (key_at raw)
+  Ok (authority_of raw key)
+judged SignatureSort raw = ok_or (named raw (string_at raw)) faults.Signature
+
 -- the value of the field at the front, and the bytes after it
 unfoldable pub field_at : (field : Field) → List ℕ → Result (ValueOf field × List ℕ) CertFault
-field_at TextField bytes = in_fault cut_short (string_at bytes)
 field_at (PublicField kind) bytes = in_fault faults.Key (public_at kind bytes)
-field_at NumberField bytes = in_fault cut_short (number_at 8 bytes)
-field_at RoleField bytes = do
-  number ← in_fault cut_short (number_at 4 bytes)
-  role ← ok_or (role_of number.0) faults.CertType
-  Ok (role, number.1)
-field_at PrincipalsField bytes = do
-  content ← in_fault cut_short (string_at bytes)
-  principals ← ok_or (strings_of content.0) faults.Principals
-  Ok (principals, content.1)
-field_at OptionsField bytes = do
-  content ← in_fault cut_short (string_at bytes)
-  options ← ok_or (options_of content.0) faults.Options
-  Ok (options, content.1)
-field_at AuthorityField bytes = do
-  blob ← in_fault cut_short (string_at bytes)
-  key ← in_fault faults.Authority (key_at blob.0)
-  Ok (authority_of blob.0 key, blob.1)
-field_at SignatureField bytes = do
-  text ← in_fault cut_short (string_at bytes)
-  signature ← ok_or (named text.0 (string_at text.0)) faults.Signature
-  Ok (signature, text.1)
+field_at (SortField sort) bytes = do
+  raw ← in_fault cut_short (part_at (part_of sort) bytes)
+  value ← judged sort raw.0
+  Ok (value, raw.1)
 
 -- the values of the fields, one after another, and the bytes after them
 unfoldable pub fields_at : (fields : List Field) → List ℕ

@@ -1,35 +1,46 @@
 -- The fields of a certificate after its type name: their content, and how it is spelled.
-use Rattle.std.specs.Prelude.{◌≡◌, ℕ, ◌<◌, ◌^◌, List, [], ◌∷◌, ◌++◌, length}
-use Rattle.ssh_wire.specs.Wire.{BeginsWith, number, string, strings}
+use Rattle.std.specs.Prelude.{◌≡◌, ℕ, List, [], ◌∷◌, ◌++◌}
+use Rattle.ssh_wire.specs.Rows.{IsPart, Number, Part, Text, part_text}
+use Rattle.ssh_wire.specs.Wire.{BeginsWith, strings}
 use Rattle.ssh_key.specs.Key.{IsKey, PublicKey, blob_of}
 use Rattle.ssh_key.specs.declared.kind.Kind.{Kind}
 use Rattle.ssh_cert.specs.declared.role.Role.{Role}
 use Rattle.ssh_cert.specs.Cert.{role_number}
 use Rattle.ssh_cert.specs.Options.{CertOption, options_text}
 
--- a string; the public fields of a key of the kind; a number of eight bytes; the role of the
--- certificate; the principals; options or extensions; the signature key; the signature
+-- a string; a number of eight bytes; the role of the certificate; the principals; options or
+-- extensions; the signature key; the signature
+pub data Sort : Type 0 where
+  TextSort : Sort
+  NumberSort : Sort
+  RoleSort : Sort
+  PrincipalsSort : Sort
+  OptionsSort : Sort
+  AuthoritySort : Sort
+  SignatureSort : Sort
+
+-- the public fields of a key of the kind, or a field of a sort
 pub data Field : Type 0 where
-  TextField : Field
   PublicField : Kind → Field
-  NumberField : Field
-  RoleField : Field
-  PrincipalsField : Field
-  OptionsField : Field
-  AuthorityField : Field
-  SignatureField : Field
+  SortField : Sort → Field
 
 -- the options, the extensions, the reserved field, the signature key and the signature
 abbrev pub closing_fields : List Field
-closing_fields = OptionsField ∷ OptionsField ∷ TextField ∷ AuthorityField ∷ SignatureField ∷ []
+closing_fields =
+    SortField OptionsSort ∷ SortField OptionsSort ∷ SortField TextSort ∷ SortField AuthoritySort
+    ∷ SortField SignatureSort ∷ []
 
 -- the key ID, the principals, and the times between which the certificate is valid
 abbrev pub naming_fields : List Field
-naming_fields = TextField ∷ PrincipalsField ∷ NumberField ∷ NumberField ∷ closing_fields
+naming_fields =
+    SortField TextSort ∷ SortField PrincipalsSort ∷ SortField NumberSort ∷ SortField NumberSort
+    ∷ closing_fields
 
 -- the nonce, the public fields, the serial number and the role
 abbrev pub fields_of : Kind → List Field
-fields_of kind = TextField ∷ PublicField kind ∷ NumberField ∷ RoleField ∷ naming_fields
+fields_of kind =
+    SortField TextSort ∷ PublicField kind ∷ SortField NumberSort ∷ SortField RoleSort
+    ∷ naming_fields
 
 -- the signature key, and its blob
 pub record Authority : Type 0 where
@@ -41,38 +52,49 @@ pub record Signature : Type 0 where
   pub text : List ℕ
   pub algorithm : List ℕ
 
+abbrev pub SortValue : Sort → Type 0
+SortValue TextSort = List ℕ
+SortValue NumberSort = ℕ
+SortValue RoleSort = Role
+SortValue PrincipalsSort = List (List ℕ)
+SortValue OptionsSort = List CertOption
+SortValue AuthoritySort = Authority
+SortValue SignatureSort = Signature
+
 abbrev pub ValueOf : Field → Type 0
-ValueOf TextField = List ℕ
 ValueOf (PublicField kind) = PublicKey
-ValueOf NumberField = ℕ
-ValueOf RoleField = Role
-ValueOf PrincipalsField = List (List ℕ)
-ValueOf OptionsField = List CertOption
-ValueOf AuthorityField = Authority
-ValueOf SignatureField = Signature
+ValueOf (SortField sort) = SortValue sort
+
+-- the part that a field of the sort is, and the value of that part
+abbrev pub part_of : Sort → Part
+part_of NumberSort = Number 8
+part_of RoleSort = Number 4
+part_of sort = Text
+
+abbrev pub raw_of : (sort : Sort) → SortValue sort → List ℕ
+raw_of TextSort text = text
+raw_of NumberSort n = n ∷ []
+raw_of RoleSort role = role_number role ∷ []
+raw_of PrincipalsSort principals = strings principals
+raw_of OptionsSort options = options_text options
+raw_of AuthoritySort authority = authority.blob
+raw_of SignatureSort signature = signature.text
+
+-- The signature key is a key, and the signature begins with the name of its algorithm.
+abbrev pub IsOfSort : (sort : Sort) → SortValue sort → Type 0
+IsOfSort AuthoritySort authority = IsKey authority.blob authority.key
+IsOfSort SignatureSort signature = BeginsWith signature.text signature.algorithm
+IsOfSort sort value = Unit {0}
 
 -- The value may be in the field.
 abbrev pub IsValue : (field : Field) → ValueOf field → Type 0
-IsValue TextField text = length text < 2 ^ 32
 IsValue (PublicField kind) key = (key.kind ≡ kind) × IsKey (blob_of key) key
-IsValue NumberField n = n < 2 ^ 64
-IsValue RoleField role = Unit {0}
-IsValue PrincipalsField principals = length (strings principals) < 2 ^ 32
-IsValue OptionsField options = length (options_text options) < 2 ^ 32
-IsValue AuthorityField authority = IsKey authority.blob authority.key
-IsValue SignatureField signature =
-    (length signature.text < 2 ^ 32) × BeginsWith signature.text signature.algorithm
+IsValue (SortField sort) value = IsPart (part_of sort) (raw_of sort value) × IsOfSort sort value
 
 -- how the value is spelled in the field
 abbrev pub field_text : (field : Field) → ValueOf field → List ℕ
-field_text TextField text = string text
 field_text (PublicField kind) key = key.fields
-field_text NumberField n = number 8 n
-field_text RoleField role = number 4 (role_number role)
-field_text PrincipalsField principals = string (strings principals)
-field_text OptionsField options = string (options_text options)
-field_text AuthorityField authority = string authority.blob
-field_text SignatureField signature = string signature.text
+field_text (SortField sort) value = part_text (part_of sort) (raw_of sort value)
 
 -- a value for each field
 abbrev pub ValuesOf : List Field → Type 0

@@ -5,11 +5,11 @@ use Rattle.ssh_cert.specs.declared.reading.Naming.{Naming}
 use Rattle.ssh_cert.specs.declared.reading.Numbered.{Numbered}
 use Rattle.ssh_key.specs.Key.{PublicKey}
 use Rattle.ssh_cert.specs.Cert.{Cert}
-use Rattle.ssh_cert.specs.Field.{Field, NumberField, RoleField, ValuesOf, closing_fields, naming_fields}
+use Rattle.ssh_cert.specs.Field.{Field, NumberSort, RoleSort, SortField, ValuesOf, closing_fields, naming_fields}
 
 -- the serial number and the role, and what follows them
 abbrev pub numbered_fields : List Field
-numbered_fields = NumberField ∷ RoleField ∷ naming_fields
+numbered_fields = SortField NumberSort ∷ SortField RoleSort ∷ naming_fields
 
 abbrev pub closing_values : Closing → ValuesOf closing_fields
 closing_values part =

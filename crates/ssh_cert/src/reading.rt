@@ -3,7 +3,7 @@
 ghost use Rattle.std.specs.Prelude.{◌≡◌};
 ghost use Rattle.ssh_wire.specs.Reading.{Gives};
 ghost use Rattle.ssh_cert.specs.CertReading.{body_at, certificate_at, field_at, fields_at, kind_at};
-ghost use Rattle.ssh_cert.specs.Field.{AuthorityField, NumberField, OptionsField, PrincipalsField, PublicField, RoleField, SignatureField, TextField, closing_fields, naming_fields};
+ghost use Rattle.ssh_cert.specs.Field.{AuthoritySort, NumberSort, OptionsSort, PrincipalsSort, PublicField, RoleSort, SignatureSort, SortField, TextSort, closing_fields, naming_fields};
 ghost use Rattle.ssh_cert.specs.Parts.{closing_values, naming_values, numbered_fields, numbered_values, of_fields};
 
 use crate::cert::Cert;
@@ -196,7 +196,8 @@ fn read_closing<'a>(cursor: &mut Cursor<'a>) -> Result<Closing<'a>, CertFault>
 // A string.
 #[tactic(auto, unfolding(crate::specs::CertReading::field_at))]
 fn read_text<'a>(cursor: &mut Cursor<'a>) -> Result<&'a [u8], CertFault>
-    ensures { Gives (λ text. text.now) result cursor.new (field_at TextField cursor.old) }
+    ensures { Gives (λ text. text.now) result cursor.new
+        (field_at (SortField TextSort) cursor.old) }
 {
     Ok(cursor.string()?)
 }
@@ -215,7 +216,7 @@ fn read_public<'a>(kind: Kind, cursor: &mut Cursor<'a>) -> Result<PublicKey<'a>,
 // A number of eight bytes.
 #[tactic(auto, unfolding(crate::specs::CertReading::field_at))]
 fn read_number(cursor: &mut Cursor) -> Result<u64, CertFault>
-    ensures { Gives (λ n. n) result cursor.new (field_at NumberField cursor.old) }
+    ensures { Gives (λ n. n) result cursor.new (field_at (SortField NumberSort) cursor.old) }
 {
     Ok(cursor.u64()?)
 }
@@ -223,7 +224,7 @@ fn read_number(cursor: &mut Cursor) -> Result<u64, CertFault>
 // The role: a user's or a host's certificate.
 #[tactic(auto, unfolding(crate::specs::CertReading::field_at))]
 fn read_role(cursor: &mut Cursor) -> Result<Role, CertFault>
-    ensures { Gives (λ role. role) result cursor.new (field_at RoleField cursor.old) }
+    ensures { Gives (λ role. role) result cursor.new (field_at (SortField RoleSort) cursor.old) }
 {
     match cursor.u32()? {
         1 => Ok(Role::User),
@@ -235,7 +236,8 @@ fn read_role(cursor: &mut Cursor) -> Result<Role, CertFault>
 // The principals.
 #[tactic(auto, unfolding(crate::specs::CertReading::field_at))]
 fn read_principals<'a>(cursor: &mut Cursor<'a>) -> Result<Strings<'a>, CertFault>
-    ensures { Gives (λ list. list) result cursor.new (field_at PrincipalsField cursor.old) }
+    ensures { Gives (λ list. list) result cursor.new
+        (field_at (SortField PrincipalsSort) cursor.old) }
 {
     let content = cursor.string()?;
     strings_in(content).ok_or(CertFault::Principals)
@@ -244,7 +246,7 @@ fn read_principals<'a>(cursor: &mut Cursor<'a>) -> Result<Strings<'a>, CertFault
 // The critical options or the extensions.
 #[tactic(auto, unfolding(crate::specs::CertReading::field_at))]
 fn read_options<'a>(cursor: &mut Cursor<'a>) -> Result<Options<'a>, CertFault>
-    ensures { Gives (λ list. list) result cursor.new (field_at OptionsField cursor.old) }
+    ensures { Gives (λ list. list) result cursor.new (field_at (SortField OptionsSort) cursor.old) }
 {
     let content = cursor.string()?;
     options_in(content).ok_or(CertFault::Options)
@@ -254,7 +256,7 @@ fn read_options<'a>(cursor: &mut Cursor<'a>) -> Result<Options<'a>, CertFault>
 #[tactic(auto, unfolding(crate::specs::CertReading::field_at))]
 fn read_authority<'a>(cursor: &mut Cursor<'a>) -> Result<Authority<'a>, CertFault>
     ensures { Gives (λ authority. authority) result cursor.new
-        (field_at AuthorityField cursor.old) }
+        (field_at (SortField AuthoritySort) cursor.old) }
 {
     let blob = cursor.string()?;
     match read_key(blob) {
@@ -267,7 +269,7 @@ fn read_authority<'a>(cursor: &mut Cursor<'a>) -> Result<Authority<'a>, CertFaul
 #[tactic(auto, unfolding(crate::specs::CertReading::field_at))]
 fn read_signature<'a>(cursor: &mut Cursor<'a>) -> Result<Signature<'a>, CertFault>
     ensures { Gives (λ signature. signature) result cursor.new
-        (field_at SignatureField cursor.old) }
+        (field_at (SortField SignatureSort) cursor.old) }
 {
     let text = cursor.string()?;
     match Cursor::new(text).string() {

@@ -7,6 +7,6 @@ use Rattle.ssh_cert.proofs.laws.cut_certificate.Goals as goal
 
 pub returns : goal.returns
 returns c = λ blob front certificate bytes is cut.
-    let found = certificate_cut blob front certificate bytes is cut in
+    let found = certificate_cut blob front certificate is cut in
     let fits : IsBytes front = IsBytes-front front cut.missing (subst IsBytes cut.parts bytes) in
     record { fault = found.fault; first = certificate_refused front found.fault fits found.refused; cut = found.cut }
