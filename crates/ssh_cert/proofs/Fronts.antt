@@ -1,14 +1,14 @@
 -- A sequence of fields: what is read is the spelling, each spelling is read, and the fault is that of the first wrong
 -- field.
-use Rattle.std.proofs.Common.{◌≡◌, ℕ, List, [], ◌∷◌, ◌++◌, Ok, Err, refl, sym, ap, subst, ◌∙◌, append_assoc, inl, inr}
+use Rattle.std.proofs.Common.{◌≡◌, ℕ, List, [], ◌∷◌, ◌++◌, Ok, Err, refl, ap, subst, ◌∙◌, append_assoc, inl, inr}
 use Rattle.ssh_wire.specs.Wire.{IsBytes}
 use Rattle.ssh_wire.specs.Reading.{◌>>=◌}
 use Rattle.ssh_wire.proofs.Fields.{HasFront, HasFront-then}
 use Rattle.ssh_wire.proofs.Steps.{bind_err, bind_ok, never_err}
 use Rattle.ssh_cert.specs.declared.fault.CertFault.{CertFault}
 use Rattle.ssh_cert.specs.CertReading.{field_at, fields_at}
-use Rattle.ssh_cert.specs.Field.{Field, IsValue, AreValues, ValueOf, ValuesOf, field_text, fields_text}
-use Rattle.ssh_cert.specs.FirstFault.{Refuses}
+use Rattle.ssh_cert.specs.Field.{Field, AreValues, ValuesOf, field_text, fields_text}
+use Rattle.ssh_cert.specs.FirstFault.{Fails}
 use Rattle.ssh_cert.proofs.FieldReads.{field_again, field_takes}
 use Rattle.ssh_cert.proofs.FieldFaults.{field_refused, refusal_read}
 
@@ -38,51 +38,23 @@ fields_again (field ∷ fields) values rest allowed =
     ap (fields_at (field ∷ fields)) (append_assoc (field_text field values.0) (fields_text fields values.1) rest)
     ∙ rw (field_again field values.0 (fields_text fields values.1 ++ rest) allowed.0, fields_again fields values.1 rest allowed.1) refl
 
--- the fields up to the one that is wrong
-pub record RefusedIn (fields : List Field) (bytes : List ℕ) (fault : CertFault) : Type 0 where
-  pub before : List Field
-  pub field : Field
-  pub later : List Field
-  pub values : ValuesOf before
-  pub rest : List ℕ
-  pub parts : fields ≡ before ++ field ∷ later
-  pub allowed : AreValues before values
-  pub spelled : bytes ≡ fields_text before values ++ rest
-  pub refused : Refuses field rest fault
-
-refused_first : (field : Field) (fields : List Field) (bytes : List ℕ) (fault : CertFault) → Refuses field bytes fault → RefusedIn (field ∷ fields) bytes fault
-refused_first field fields bytes fault refused = record { before = []; field = field; later = fields; values = tt; rest = bytes; parts = refl; allowed = tt; spelled = refl; refused = refused }
-
-refused_later : (field : Field) (fields : List Field) (bytes : List ℕ) (value : ValueOf field) (after : List ℕ) (fault : CertFault) → HasFront bytes (field_text field value) after → IsValue field value → RefusedIn fields after fault → RefusedIn (field ∷ fields) bytes fault
-refused_later field fields bytes value after fault t allowed s = record {
-  before = field ∷ s.before;
-  field = s.field;
-  later = s.later;
-  values = (value, s.values);
-  rest = s.rest;
-  parts = ap (λ (fs : List Field). field ∷ fs) s.parts;
-  allowed = (allowed, s.allowed);
-  spelled = t.parts ∙ ap (λ (x : List ℕ). field_text field value ++ x) s.spelled ∙ sym (append_assoc (field_text field value) (fields_text s.before s.values) s.rest);
-  refused = s.refused;
-}
-
-pub fields_refused : (fields : List Field) (bytes : List ℕ) (fault : CertFault) → IsBytes bytes → fields_at fields bytes ≡ Err fault → RefusedIn fields bytes fault
+pub fields_refused : (fields : List Field) (bytes : List ℕ) (fault : CertFault) → IsBytes bytes → fields_at fields bytes ≡ Err fault → Fails fields bytes fault
 unfolding fields_at
 fields_refused [] bytes fault fits e = absurd cc
 fields_refused (field ∷ fields) bytes fault fits e =
     elim (bind_err (field_at field bytes) (λ first. fields_at fields first.1 >>= λ others. Ok ((first.0, others.0), others.1)) fault e) [
-      | inl refused ↦ refused_first field fields bytes fault (field_refused field bytes fault fits refused)
+      | inl refused ↦ inl (field_refused field bytes fault fits refused)
       | inr first ↦
           let t = field_takes field bytes first.0 fits first.1 in
           elim (bind_err (fields_at fields first.0.1) (λ others. Ok ((first.0.0, others.0), others.1)) fault first.2) [
-            | inl later ↦ refused_later field fields bytes first.0.0 first.0.1 fault t.takes t.allowed (fields_refused fields first.0.1 fault t.takes.rest_fits later)
+            | inl later ↦ inr (first.0.0, first.0.1, t.allowed, t.takes.parts, fields_refused fields first.0.1 fault t.takes.rest_fits later)
             | inr others ↦ absurd (never_err ((first.0.0, others.0.0), others.0.1) fault others.2)
           ]
     ]
 
-pub stop_read : (before : List Field) (field : Field) (later : List Field) (values : ValuesOf before) (rest : List ℕ) (fault : CertFault) → AreValues before values → Refuses field rest fault → fields_at (before ++ field ∷ later) (fields_text before values ++ rest) ≡ Err fault
+pub fails_read : (fields : List Field) (bytes : List ℕ) (fault : CertFault) → Fails fields bytes fault → fields_at fields bytes ≡ Err fault
 unfolding fields_at
-stop_read [] field later values rest fault allowed refused = rw (refusal_read field rest fault refused) refl
-stop_read (first ∷ before) field later values rest fault allowed refused =
-    ap (fields_at (first ∷ (before ++ field ∷ later))) (append_assoc (field_text first values.0) (fields_text before values.1) rest)
-    ∙ rw (field_again first values.0 (fields_text before values.1 ++ rest) allowed.0, stop_read before field later values.1 rest fault allowed.1 refused) refl
+fails_read [] bytes fault f = absurd f
+fails_read (field ∷ fields) bytes fault (inl refused) = rw (refusal_read field bytes fault refused) refl
+fails_read (field ∷ fields) bytes fault (inr (value, rest, allowed, parts, later)) =
+    ap (fields_at (field ∷ fields)) parts ∙ rw (field_again field value rest allowed, fails_read fields rest fault later) refl

@@ -11,7 +11,7 @@ use Rattle.ssh_key.specs.Kind.{certificate_name}
 use Rattle.ssh_cert.specs.declared.fault.CertFault.{CertFault}
 use Rattle.ssh_cert.specs.declared.fault.CertFault.TheVariants as faults
 use Rattle.ssh_cert.specs.CertReading.{judged}
-use Rattle.ssh_cert.specs.Field.{AreValues, Field, PublicField, SortField, ValuesOf, fields_of, fields_text, part_of}
+use Rattle.ssh_cert.specs.Field.{AreValues, Field, IsValue, PublicField, SortField, ValueOf, ValuesOf, field_text, fields_of, fields_text, part_of}
 
 -- The bytes at the front are no value of the field: its part cannot be read, or has a value that is
 -- not allowed in the field.
@@ -23,21 +23,23 @@ Refuses (SortField sort) bytes fault =
     ⊎ ((raw : List ℕ) × (rest : List ℕ) × BeginsWithPart (part_of sort) bytes raw rest
     × (judged sort raw ≡ Err fault))
 
--- The blob has its type name and, with allowed values, its fields before the later ones. These
--- bytes are left.
-pub record Reaches (blob : List ℕ) (kind : Kind) (later : List Field) (rest : List ℕ) : Type 0 where
-  pub before : List Field
-  pub values : ValuesOf before
-  pub fields : fields_of kind ≡ before ++ later
-  pub allowed : AreValues before values
-  pub spelled : blob ≡ string (certificate_name kind) ++ (fields_text before values ++ rest)
+-- The first fault of fields at the front of bytes: that of a field, where each field before it has
+-- a value that is allowed.
+abbrev pub Fails : List Field → List ℕ → CertFault → Type 0
+Fails [] bytes fault = ⊥
+Fails (field ∷ fields) bytes fault =
+    Refuses field bytes fault
+    ⊎ ((value : ValueOf field) × (rest : List ℕ) × IsValue field value
+    × (bytes ≡ field_text field value ++ rest) × Fails fields rest fault)
 
 pub data IsFirstFault (blob : List ℕ) (fault : CertFault) : Type 0 where
   no_name : (why : WireFault) → string_at blob ≡ Err why → fault ≡ faults.Wire
       → IsFirstFault blob fault
   no_kind : (name : List ℕ) → BeginsWith blob name → ((kind : Kind) → certificate_name kind ≢ name)
       → fault ≡ faults.UnknownType → IsFirstFault blob fault
-  in_field : (kind : Kind) (field : Field) (later : List Field) (rest : List ℕ)
-      → Reaches blob kind (field ∷ later) rest → Refuses field rest fault → IsFirstFault blob fault
-  after_fields : (kind : Kind) (rest : List ℕ) → Reaches blob kind [] rest → 0 < length rest
-      → fault ≡ faults.Trailing → IsFirstFault blob fault
+  in_field : (kind : Kind) (fields : List ℕ) → blob ≡ string (certificate_name kind) ++ fields
+      → Fails (fields_of kind) fields fault → IsFirstFault blob fault
+  after_fields : (kind : Kind) (values : ValuesOf (fields_of kind)) (rest : List ℕ)
+      → blob ≡ string (certificate_name kind) ++ (fields_text (fields_of kind) values ++ rest)
+      → AreValues (fields_of kind) values → 0 < length rest → fault ≡ faults.Trailing
+      → IsFirstFault blob fault

@@ -49,7 +49,7 @@ part_again (Number size) bytes value rest s =
 part_again Magnitude bytes value rest s = ap mpint_at s.spelled ∙ mpint_again value rest s.is_part.0 s.is_part.1
 part_again Text bytes value rest s = ap string_at s.spelled ∙ string_again value rest s.is_part
 
-pub part-cut : (part : Part) (value : List ℕ) → IsPart part value → IsShortWhereCut (part_at part) (part_text part value)
+part-cut : (part : Part) (value : List ℕ) → IsPart part value → IsShortWhereCut (part_at part) (part_text part value)
 part-cut (Number size) value is front rest parts some = rw (number-cut size (slice_index value 0) front rest parts some) refl
 part-cut Magnitude value is front rest parts some = mpint-cut value is.1 front rest parts some
 part-cut Text value is front rest parts some = string-cut value is front rest parts some
