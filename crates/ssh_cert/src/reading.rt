@@ -4,7 +4,7 @@ ghost use Rattle.std.specs.Prelude.{◌≡◌};
 ghost use Rattle.ssh_wire.specs.Reading.{Gives};
 ghost use Rattle.ssh_cert.specs.CertReading.{body_at, certificate_at, field_at, fields_at, kind_at};
 ghost use Rattle.ssh_cert.specs.Field.{AuthoritySort, NumberSort, OptionsSort, PrincipalsSort, PublicField, RoleSort, SignatureSort, SortField, TextSort, closing_fields, naming_fields};
-ghost use Rattle.ssh_cert.specs.Parts.{closing_values, naming_values, numbered_fields, numbered_values, of_fields};
+ghost use Rattle.ssh_cert.specs.Parts.{closing_values, naming_values, of_fields};
 
 use crate::cert::Cert;
 use crate::fault::CertFault;
@@ -68,14 +68,6 @@ struct Naming<'a> {
     closing: Closing<'a>,
 }
 
-// The fields from the serial number on.
-#[derive(Drop)]
-struct Numbered<'a> {
-    serial: u64,
-    role: Role,
-    naming: Naming<'a>,
-}
-
 /// The certificate that a blob spells (PROTOCOL.certkeys): its fields in order, and nothing more.
 /// The plain key and the signature key are plain keys as `read_key` reads them. Does not allocate:
 /// every part is borrowed from the blob. The signature is not checked.
@@ -113,21 +105,28 @@ fn read_body<'a>(kind: Kind, cursor: &mut Cursor<'a>) -> Result<Cert<'a>, CertFa
 {
     let nonce = read_text(cursor)?;
     let key = read_public(kind, cursor)?;
-    let numbered = read_numbered(cursor)?;
-    Ok(of_fields(nonce, key, numbered))
+    let serial = read_number(cursor)?;
+    let role = read_role(cursor)?;
+    let naming = read_naming(cursor)?;
+    Ok(of_fields(nonce, key, serial, role, naming))
 }
 
 // The certificate with these fields.
-fn of_fields<'a>(nonce: &'a [u8], key: PublicKey<'a>, numbered: Numbered<'a>) -> Cert<'a>
-    ensures { result ≡ of_fields nonce.entry.now key.entry numbered.entry }
+fn of_fields<'a>(
+    nonce: &'a [u8],
+    key: PublicKey<'a>,
+    serial: u64,
+    role: Role,
+    naming: Naming<'a>,
+) -> Cert<'a>
+    ensures { result ≡ of_fields nonce.entry.now key.entry serial role naming.entry }
 {
-    let naming = numbered.naming;
     let closing = naming.closing;
     Cert {
         nonce,
         key,
-        serial: numbered.serial,
-        role: numbered.role,
+        serial,
+        role,
         key_id: naming.key_id,
         principals: naming.principals,
         after: naming.after,
@@ -138,21 +137,6 @@ fn of_fields<'a>(nonce: &'a [u8], key: PublicKey<'a>, numbered: Numbered<'a>) ->
         authority_key: closing.authority.key,
         algorithm: closing.signature.algorithm,
     }
-}
-
-// Reads the fields from the serial on.
-#[tactic(auto, unfolding(crate::specs::CertReading::fields_at))]
-fn read_numbered<'a>(cursor: &mut Cursor<'a>) -> Result<Numbered<'a>, CertFault>
-    ensures { Gives numbered_values result cursor.new (fields_at numbered_fields cursor.old) }
-{
-    let serial = read_number(cursor)?;
-    let role = read_role(cursor)?;
-    let naming = read_naming(cursor)?;
-    Ok(Numbered {
-        serial,
-        role,
-        naming,
-    })
 }
 
 // Reads the fields from the key ID on.
