@@ -6,11 +6,14 @@ use crate::rounds::Rounds;
 use crate::screen::{Screen, has_colours};
 use crate::stop::Stop;
 use audit_tree::push_summary;
+use byte_streams::Sink;
 use key_files::{Cause, FileFault, RunFault};
 use key_listing::{Printer, Run};
 use krl_arguments::Audit;
 use krl_audit::{Auditor, Counts, Form, Judge, ListFacts, Shown, Stated};
+use krl_core::Revocations;
 use sha2::{Digest, Sha256};
+use span_sets::Held;
 use std::fs;
 
 /// Audits what the task names. Answers the exit status.
@@ -50,30 +53,12 @@ fn audit_by(rt: &HostRuntime, task: &Audit, list: List) -> u8 {
         ..
     } = list;
     drop(bytes);
-    let alloc = rt.alloc();
     let mut screen = Screen::new(rt);
-    let mut buffer = Vec::new(alloc);
-    let run = Run {
-        alloc,
-        printer: Printer::new(&mut buffer, &mut screen),
-        line: Vec::new(alloc),
-    };
-    let shown = Shown {
-        findings: !task.quiet,
-        fine: task.all && !task.quiet,
-        form: form_of(rt, task),
-    };
-    let auditor = Auditor {
-        judge: Judge {
-            list: &revocations,
-            shown,
-        },
-        run,
-        counts: Counts::NONE,
-    };
+    let mut buffer = Vec::new(rt.alloc());
+    let printer = Printer::new(&mut buffer, &mut screen);
     let mut rounds = Rounds {
         rt,
-        auditor,
+        auditor: auditor_of(rt, &revocations, shown_of(rt, task), printer),
         ends_at_revoked: task.quiet,
         files: 0,
         revoked_files: 0,
@@ -89,6 +74,34 @@ fn audit_by(rt: &HostRuntime, task: &Audit, list: List) -> u8 {
         print_summary(rt, &rounds);
     }
     end(rt, &done)
+}
+
+/// An auditor by a list that prints by this printer and has counted nothing.
+pub fn auditor_of<'q, 'w, W: Sink>(
+    rt: &HostRuntime,
+    list: &'q Revocations<Held>,
+    shown: Shown,
+    printer: Printer<'w, W>,
+) -> Auditor<'q, 'w, W> {
+    let run = Run {
+        alloc: rt.alloc(),
+        printer,
+        line: Vec::new(rt.alloc()),
+    };
+    Auditor {
+        judge: Judge { list, shown },
+        run,
+        counts: Counts::NONE,
+    }
+}
+
+// Which findings the task prints, and how.
+fn shown_of(rt: &HostRuntime, task: &Audit) -> Shown {
+    Shown {
+        findings: !task.quiet,
+        fine: task.all && !task.quiet,
+        form: form_of(rt, task),
+    }
 }
 
 // The form of the findings. No object is in colour, since programs read them.

@@ -1,5 +1,6 @@
 //! `krl check`: a list, checked before it is put in force.
 
+use crate::audit::auditor_of;
 use crate::ending::{end, fail_by, fail_in_words};
 use crate::list::{List, read_list};
 use crate::loading::{open, read};
@@ -7,7 +8,7 @@ use byte_streams::ToWrite;
 use key_files::{Cause, RunFault};
 use key_listing::{Printer, Run, push_number};
 use krl_arguments::Check;
-use krl_audit::{Auditor, Counts, Form, Judge, Shown};
+use krl_audit::{Form, Shown};
 use krl_checker::{Checker, PlainRefusal, Role};
 use std::alloc::AllocError;
 use std::io::Stdout;
@@ -85,26 +86,14 @@ struct Round<'a, 'q, 'w> {
 fn check_by<'a>(rt: &HostRuntime, task: &Check<'a>, list: &List, other: Option<Other<'a>>) -> u8 {
     let mut out = ToWrite::new(rt.stdout());
     let mut buffer = Vec::new(rt.alloc());
-    let run = Run {
-        alloc: rt.alloc(),
-        printer: Printer::new(&mut buffer, &mut out),
-        line: Vec::new(rt.alloc()),
-    };
     let shown = Shown {
         findings: true,
         fine: false,
         form: Form::Text,
     };
-    let auditor = Auditor {
-        judge: Judge {
-            list: &list.revocations,
-            shown,
-        },
-        run,
-        counts: Counts::NONE,
-    };
+    let printer = Printer::new(&mut buffer, &mut out);
     let checker = Checker {
-        auditor,
+        auditor: auditor_of(rt, &list.revocations, shown, printer),
         refused: false,
         unread: false,
     };
