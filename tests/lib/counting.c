@@ -1,12 +1,13 @@
 /* Loaded before the C library of a program, this counts the bytes that it holds, as they are asked
-   for, and its calls of read. COUNTED=FILE: the bytes that are held, the most that were, and the
-   number of calls are there as 64-bit numbers. */
+   for, its calls of read, and its looks at files. COUNTED=FILE: the bytes that are held, the most
+   that were, and the numbers of calls are there as 64-bit numbers. */
 #define _GNU_SOURCE
 #include <fcntl.h>
 #include <malloc.h>
 #include <stdint.h>
 #include <stdlib.h>
 #include <sys/mman.h>
+#include <sys/stat.h>
 #include <sys/syscall.h>
 #include <unistd.h>
 
@@ -15,7 +16,7 @@ void *__libc_realloc(void *, size_t);
 void __libc_free(void *);
 
 struct count {
-  uint64_t held, most, reads;
+  uint64_t held, most, reads, looks;
 };
 
 static struct count own;
@@ -61,4 +62,9 @@ void free(void *block) {
 ssize_t read(int file, void *bytes, size_t size) {
   count->reads++;
   return syscall(SYS_read, file, bytes, size);
+}
+
+int statx(int folder, const char *path, int flags, unsigned mask, struct statx *into) {
+  count->looks++;
+  return syscall(SYS_statx, folder, path, flags, mask, into);
 }

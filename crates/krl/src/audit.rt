@@ -63,6 +63,7 @@ fn audit_by(rt: &HostRuntime, task: &Audit, list: List) -> u8 {
         files: 0,
         revoked_files: 0,
         stated: known.stated,
+        text: Vec::new(rt.alloc()),
     };
     let stop = match audit_all(&mut rounds, task, known) {
         Ok(()) => None,

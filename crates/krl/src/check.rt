@@ -155,14 +155,15 @@ impl<'a, 'q, 'w> Round<'a, 'q, 'w> {
 
     // Checks the keys of a file.
     fn check_file<'s>(&mut self, role: Role, name: &'s str) -> Result<(), RunFault<'s>> {
+        let mut text = Vec::new(self.rt.alloc());
         let content = match open(self.rt, name) {
-            Ok(file) => read(self.rt, file),
-            Err(refusal) => Some(Err(refusal)),
+            Ok(file) => read(file, &mut text),
+            Err(refusal) => Ok(Err(refusal)),
         };
         match content {
-            Some(Ok(text)) => self.checker.check_keys(role, name, Ok(text.as_slice())),
-            Some(Err(refusal)) => self.checker.check_keys(role, name, Err(refusal)),
-            None => Err(RunFault::whole(name, Cause::NoMemory)),
+            Ok(Ok(())) => self.checker.check_keys(role, name, Ok(text.as_slice())),
+            Ok(Err(refusal)) => self.checker.check_keys(role, name, Err(refusal)),
+            Err(_) => Err(RunFault::whole(name, Cause::NoMemory)),
         }
     }
 }

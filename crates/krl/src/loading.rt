@@ -1,13 +1,13 @@
 //! Files that are opened and read.
 
-use byte_streams::FromRead;
-use key_files::{FileFault, load};
 use key_text::is_container;
 use krl_audit::Refusal;
-use ssh_wire::Bytes;
+use std::alloc::AllocError;
 use std::fs::{self, File};
 use std::io::{self, ErrorKind, Read, Seek, SeekFrom};
 
+// The most bytes that a file may have.
+const LIMIT: u64 = 16_777_216;
 // How many bytes of a file tell whether it begins as a private key file.
 const FRONT: usize = 64;
 
@@ -29,14 +29,18 @@ pub fn open(rt: &HostRuntime, path: &str) -> Result<File, Refusal> {
     }
 }
 
-/// The bytes of a reader, or why there are none; `None` where memory ran out.
-pub fn read<R: Read + Drop>(rt: &HostRuntime, reader: R) -> Option<Result<Bytes, Refusal>> {
-    let (file, _) = load(rt.alloc(), "", FromRead::new(reader));
-    match file.content {
-        Ok(text) => Some(Ok(text)),
-        Err(FileFault::NoMemory) => None,
-        Err(FileFault::TooLong) => Some(Err(Refusal::TooLong)),
-        Err(_) => Some(Err(Refusal::Read)),
+/// Replaces the content of a buffer by all bytes of a reader, or says why it is not read. Fails only
+/// if an allocation fails.
+pub fn read<R: Read + Drop>(
+    reader: R,
+    text: &mut Vec<u8>,
+) -> Result<Result<(), Refusal>, AllocError> {
+    text.clear();
+    match reader.take(LIMIT + 1).read_to_end(text) {
+        Ok(_) if text.len() as u64 > LIMIT => Ok(Err(Refusal::TooLong)),
+        Ok(_) => Ok(Ok(())),
+        Err(error) if error.kind() == ErrorKind::OutOfMemory => Err(AllocError),
+        Err(_) => Ok(Err(Refusal::Read)),
     }
 }
 

@@ -8,7 +8,7 @@ use krl_audit::{Auditor, Refusal, Stated, visible_name};
 use std::alloc::AllocError;
 use std::fs::{self, Files};
 use std::io::{BufRead, BufReader, ErrorKind, Read};
-use std::str;
+use std::{mem, str};
 
 // How many directories are entered one in the other. Linux opens no path of more than 4,096 bytes,
 // in which there are no more.
@@ -29,6 +29,8 @@ pub struct Rounds<'a, 'q, 'w> {
     pub revoked_files: u64,
     /// The version and the date of the list. A plain list has none.
     pub stated: Option<Stated>,
+    /// The buffer for the bytes of a file.
+    pub text: Vec<u8>,
 }
 
 impl<'a, 'q, 'w> Rounds<'a, 'q, 'w> {
@@ -166,28 +168,37 @@ impl<'a, 'q, 'w> Rounds<'a, 'q, 'w> {
             return Ok(None);
         };
         let path = path_in(alloc, path, name)?;
+        // Another file is not among the names that may be read.
+        if reading_of(name.as_bytes()) == Reading::Never {
+            return Ok(Some(path));
+        }
         match fs::symlink_metadata(self.rt, path.as_str()) {
             Ok(found) if found.is_dir() => return Ok(Some(path)),
+            Ok(found) if found.is_file() => self.audit_by_name(path.as_str(), name)?,
             Ok(_) => self.audit_found(path.as_str(), name)?,
             Err(error) => self.audit(path.as_str(), Err(refusal_of(&error)))?,
         }
         Ok(None)
     }
 
-    // Audits a file that was found in a directory, over a link or not. A link to a directory is not
+    // Audits what a link leads to that was found in a directory. A link to a directory is not
     // followed, and a pipe, a socket or a device is not opened.
     fn audit_found<'s>(&mut self, path: &str, name: &str) -> Result<(), Stop<'s>> {
-        let reading = reading_of(name.as_bytes());
         match fs::metadata(self.rt, path) {
             Ok(found) if found.is_dir() => Ok(()),
-            Ok(found) if found.is_file() => match reading {
-                Reading::Always => self.audit_file(path),
-                Reading::IfPrivate => self.audit_if_private(path, name),
-                Reading::Never => Ok(()),
-            },
-            Ok(_) if reading != Reading::Always => Ok(()),
+            Ok(found) if found.is_file() => self.audit_by_name(path, name),
+            Ok(_) if reading_of(name.as_bytes()) != Reading::Always => Ok(()),
             Ok(_) => self.audit(path, Err(Refusal::Irregular)),
             Err(error) => self.audit(path, Err(refusal_of(&error))),
+        }
+    }
+
+    // Audits a file that was found in a directory, if its name says so.
+    fn audit_by_name<'s>(&mut self, path: &str, name: &str) -> Result<(), Stop<'s>> {
+        match reading_of(name.as_bytes()) {
+            Reading::Always => self.audit_file(path),
+            Reading::IfPrivate => self.audit_if_private(path, name),
+            Reading::Never => Ok(()),
         }
     }
 
@@ -202,12 +213,14 @@ impl<'a, 'q, 'w> Rounds<'a, 'q, 'w> {
             Ok(false) => return Ok(()),
             Err(_) => return self.audit(path, Err(Refusal::Read)),
         }
-        match read(self.rt, file) {
-            Some(Ok(text)) if !is_audited(name.as_bytes(), text.as_slice()) => Ok(()),
-            Some(Ok(text)) => self.audit(path, Ok(text.as_slice())),
-            Some(Err(refusal)) => self.audit(path, Err(refusal)),
-            None => Err(Stop::from(AllocError)),
+        let mut text = self.take_buffer();
+        match read(file, &mut text)? {
+            Ok(()) if !is_audited(name.as_bytes(), text.as_slice()) => {}
+            Ok(()) => self.audit(path, Ok(text.as_slice()))?,
+            Err(refusal) => self.audit(path, Err(refusal))?,
         }
+        self.text = text;
+        Ok(())
     }
 
     // Audits a file.
@@ -220,11 +233,18 @@ impl<'a, 'q, 'w> Rounds<'a, 'q, 'w> {
 
     // Audits what a reader gives.
     fn audit_read<'s, R: Read + Drop>(&mut self, name: &str, reader: R) -> Result<(), Stop<'s>> {
-        match read(self.rt, reader) {
-            Some(Ok(text)) => self.audit(name, Ok(text.as_slice())),
-            Some(Err(refusal)) => self.audit(name, Err(refusal)),
-            None => Err(Stop::from(AllocError)),
+        let mut text = self.take_buffer();
+        match read(reader, &mut text)? {
+            Ok(()) => self.audit(name, Ok(text.as_slice()))?,
+            Err(refusal) => self.audit(name, Err(refusal))?,
         }
+        self.text = text;
+        Ok(())
+    }
+
+    // The buffer for the bytes of a file. It is put back once they are audited.
+    fn take_buffer(&mut self) -> Vec<u8> {
+        mem::replace(&mut self.text, Vec::new(self.rt.alloc()))
     }
 
     // Audits the bytes of a file, or says why there are none, and counts it.
