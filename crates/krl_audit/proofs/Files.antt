@@ -49,21 +49,25 @@ pub told_private : (reasons : Subject → Reasons) (shown : Shown) (name text : 
 told_private reasons shown name text result old new before after begins told =
     by_lines reasons shown name text (private_outcome (opened_at text) ∷ []) None result old new before after (private_lines text begins) (one_is_not_many (private_outcome (opened_at text))) told
 
-pub told_lines : (reasons : Subject → Reasons) (shown : Shown) (name text bare : List ℕ) (result : Result (Unit {0}) RunFault) (old new : Printer) (before after : Counts)
-    → begins_container text ≡ false → bare ≡ without_mark text → None ≡ keyless (map outcome_of (slice_split is_newline bare))
-    → Told reasons shown name 1 (map outcome_of (slice_split is_newline bare)) result old new before after
-    → ToldFile reasons shown name (Ok text) result old new before after
-told_lines reasons shown name text bare result old new before after begins is none told =
-    by_lines reasons shown name text (map outcome_of (slice_split is_newline bare)) None result old new before after
-    (plain_lines text begins ∙ ap (λ (b : List ℕ). map outcome_of (slice_split is_newline b)) (sym is)) (sym none) told
+-- the outcomes of a file whose text, without its mark, has these lines
+bare_lines : (text bare line : List ℕ) (after : List (List ℕ)) → begins_container text ≡ false → bare ≡ without_mark text → slice_split is_newline bare ≡ line ∷ after
+    → outcomes text ≡ outcome_of line ∷ map outcome_of after
+bare_lines text bare line after begins is split =
+    plain_lines text begins ∙ ap (λ (b : List ℕ). map outcome_of (slice_split is_newline b)) (sym is) ∙ ap (map outcome_of) split
 
-pub told_whole : (reasons : Subject → Reasons) (shown : Shown) (name text bare : List ℕ) (count : ℕ) (result : Result (Unit {0}) RunFault) (old new : Printer) (before after : Counts)
-    → begins_container text ≡ false → bare ≡ without_mark text → Some count ≡ keyless (map outcome_of (slice_split is_newline bare))
-    → Told reasons shown name 0 (Unread (whys.NoKeys count) ∷ []) result old new before after
-    → ToldFile reasons shown name (Ok text) result old new before after
-told_whole reasons shown name text bare count result old new before after begins is some told =
-    by_lines reasons shown name text (map outcome_of (slice_split is_newline bare)) (Some count) result old new before after
-    (plain_lines text begins ∙ ap (λ (b : List ℕ). map outcome_of (slice_split is_newline b)) (sym is)) (sym some) told
+pub told_lines : (reasons : Subject → Reasons) (shown : Shown) (name text bare line : List ℕ) (after : List (List ℕ)) (result : Result (Unit {0}) RunFault) (old new : Printer) (before counts : Counts)
+    → begins_container text ≡ false → bare ≡ without_mark text → slice_split is_newline bare ≡ line ∷ after → None ≡ keyless (outcome_of line ∷ map outcome_of after)
+    → Told reasons shown name 1 (outcome_of line ∷ map outcome_of after) result old new before counts
+    → ToldFile reasons shown name (Ok text) result old new before counts
+told_lines reasons shown name text bare line after result old new before counts begins is split none told =
+    by_lines reasons shown name text (outcome_of line ∷ map outcome_of after) None result old new before counts (bare_lines text bare line after begins is split) (sym none) told
+
+pub told_whole : (reasons : Subject → Reasons) (shown : Shown) (name text bare line : List ℕ) (after : List (List ℕ)) (count : ℕ) (result : Result (Unit {0}) RunFault) (old new : Printer) (before counts : Counts)
+    → begins_container text ≡ false → bare ≡ without_mark text → slice_split is_newline bare ≡ line ∷ after → Some count ≡ keyless (outcome_of line ∷ map outcome_of after)
+    → Told reasons shown name 0 (Unread (whys.NoKeys count) ∷ []) result old new before counts
+    → ToldFile reasons shown name (Ok text) result old new before counts
+told_whole reasons shown name text bare line after count result old new before counts begins is split some told =
+    by_lines reasons shown name text (outcome_of line ∷ map outcome_of after) (Some count) result old new before counts (bare_lines text bare line after begins is split) (sym some) told
 
 pub told_refused : (reasons : Subject → Reasons) (shown : Shown) (name : List ℕ) (refusal : Refusal) (result : Result (Unit {0}) RunFault) (old new : Printer) (before after : Counts)
     → Told reasons shown name 0 (Unread (whys.File refusal) ∷ []) result old new before after → ToldFile reasons shown name (Err refusal) result old new before after

@@ -2,7 +2,7 @@
 
 ghost use Rattle.std.specs.Prelude.{◌≡◌, ◌∷◌, [], ℕ, List, Ok, Option, map};
 ghost use Rattle.std.specs.List.{slice_split};
-ghost use Rattle.key_text.specs.Lines.{is_newline};
+ghost use Rattle.key_text.specs.Lines.{is_newline, lines_left};
 ghost use Rattle.key_listing.specs.Carries.{Carries, Reaches};
 ghost use Rattle.key_listing.specs.Run.{Item, said_of};
 ghost use Rattle.json_lines.specs.Field.{json_line};
@@ -72,23 +72,48 @@ impl<'q, 'w, W: Sink> Auditor<'q, 'w, W> {
             return self.audit_private(name, text);
         }
         let text = without_mark(text);
-        match keyless(self.run.alloc, text) {
+        let (line, after) = split_line(text);
+        let Ok(first) = read_outcome(self.run.alloc, line) else {
+            return Err(RunFault::whole(name, Cause::NoMemory));
+        };
+        match keyless(self.run.alloc, &first, text) {
             Ok(Some(count)) => self.say_unread(name, Why::NoKeys(count)),
-            Ok(None) => self.audit_lines(name, text),
+            Ok(None) => self.audit_from(name, &first, after),
             Err(_) => Err(RunFault::whole(name, Cause::NoMemory)),
         }
     }
 
-    // The same for each line.
+    // The same for the outcome of the first line, and the lines after it.
+    fn audit_from<'a>(
+        &mut self,
+        name: &'a str,
+        first: &Outcome<'_>,
+        after: Option<&[u8]>,
+    ) -> Result<(), RunFault<'a>>
+        ensures told { (given : OutcomeOf) → GivesOutcome first.now given
+            → (reasons : SubjectOf → ReasonsOf) → JudgesAs self.old.judge reasons
+            → Told reasons self.old.judge.shown name.now 1
+            (given ∷ map outcome_of (lines_left after.entry)) result self.old.run.printer
+            self.new.run.printer self.old.counts self.new.counts }
+        ensures judge { self.new.judge ≡ self.old.judge }
+    {
+        self.say(Place { name, number: 1 }, first)?;
+        match after {
+            None => Ok(()),
+            Some(rest) => self.audit_lines(name, rest),
+        }
+    }
+
+    // The same for each line after the first.
     fn audit_lines<'a>(&mut self, name: &'a str, text: &[u8]) -> Result<(), RunFault<'a>>
         ensures told { (reasons : SubjectOf → ReasonsOf) → JudgesAs self.old.judge reasons
-            → Told reasons self.old.judge.shown name.now 1
+            → Told reasons self.old.judge.shown name.now 2
             (map outcome_of (slice_split is_newline text.now)) result self.old.run.printer
             self.new.run.printer self.old.counts self.new.counts }
         ensures judge { self.new.judge ≡ self.old.judge }
     {
         let mut rest = text;
-        let mut passed: usize = 0;
+        let mut passed: usize = 1;
         loop {
             let (line, after) = split_line(rest);
             passed += 1;

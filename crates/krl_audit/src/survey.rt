@@ -4,20 +4,28 @@ ghost use Rattle.std.specs.Prelude.{◌≡◌, ◌∷◌, ◌+◌, ◌<◌, ◌�
 ghost use Rattle.std.specs.List.{slice_split};
 ghost use Rattle.key_text.specs.Lines.{is_newline};
 ghost use Rattle.krl_audit.specs.Audit.{keyless, many, more_unread, unread_alone, unread_with};
-ghost use Rattle.krl_audit.specs.Outcome.{Outcome as OutcomeOf, outcome_of};
+ghost use Rattle.krl_audit.specs.Outcome.{GivesOutcome, Outcome as OutcomeOf, outcome_of};
 
 use crate::outcome::{Outcome, read_outcome};
 use key_text::split_line;
 use std::alloc::{AllocError, Global};
 
 /// The number of lines of a text that are not read, if none has a key and more than one is not
-/// read.
+/// read. `first` is the outcome of its first line.
 #[tactic(auto, unfolding(crate::specs::Audit::keyless))]
-pub(crate) fn keyless(alloc: Global, text: &[u8]) -> Result<Option<u64>, AllocError>
-    ensures { IfOk result (λ count. count
-        ≡ keyless (map outcome_of (slice_split is_newline text.now))) }
+pub(crate) fn keyless(
+    alloc: Global,
+    first: &Outcome<'_>,
+    text: &[u8],
+) -> Result<Option<u64>, AllocError>
+    ensures { (given : OutcomeOf) (lines : List OutcomeOf) → GivesOutcome first.now given
+        → map outcome_of (slice_split is_newline text.now) ≡ given ∷ lines
+        → IfOk result (λ count. count ≡ keyless (given ∷ lines)) }
 {
-    Ok(many(unread_alone(alloc, text)?))
+    match first {
+        Outcome::Key(_) => Ok(None),
+        Outcome::Blank | Outcome::Unread(_) => Ok(many(unread_alone(alloc, text)?)),
+    }
 }
 
 // A count above 1.

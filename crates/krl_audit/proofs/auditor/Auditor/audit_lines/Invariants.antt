@@ -15,9 +15,9 @@ abbrev pub invariant-loop-after : goal.invariant-loop-after
 invariant-loop-after g l = record {
   told : (reasons : Subject → Reasons) → JudgesAs l.initial.self.judge reasons → (result : Result (Unit {0}) RunFault) (new : Printer) (after : Counts)
       → Told reasons l.initial.self.judge.shown l.name (l.passed + 1) (map outcome_of (slice_split is_newline l.rest)) result l.self.run.printer new l.self.counts after
-      → Told reasons l.initial.self.judge.shown l.name 1 (map outcome_of (slice_split is_newline l.fn.text)) result l.initial.self.run.printer new l.initial.self.counts after;
+      → Told reasons l.initial.self.judge.shown l.name 2 (map outcome_of (slice_split is_newline l.fn.text)) result l.initial.self.run.printer new l.initial.self.counts after;
   judge : l.self.judge ≡ l.initial.self.judge;
-  within : l.passed + length l.rest ≤ length l.fn.text;
+  within : l.passed + length l.rest ≤ length l.fn.text + 1;
 }
 
 abbrev pub decreases-loop-after : goal.decreases-loop-after
