@@ -129,38 +129,31 @@ reasons_free asked all small =
 
 -- ---- the type of a key
 
-type_name_free : (kind : Kind) → HasNoEscape (type_name kind) × (length (type_name kind) < 2 ^ 32)
-type_name_free kinds.Rsa = (refl, omega arith)
-type_name_free kinds.Dsa = (refl, omega arith)
-type_name_free kinds.Ecdsa256 = (refl, omega arith)
-type_name_free kinds.Ecdsa384 = (refl, omega arith)
-type_name_free kinds.Ecdsa521 = (refl, omega arith)
-type_name_free kinds.Ed25519 = (refl, omega arith)
-type_name_free kinds.EcdsaSk = (refl, omega arith)
-type_name_free kinds.Ed25519Sk = (refl, omega arith)
+abbrev IsFreeName : List ℕ → Type 0
+IsFreeName name = HasNoEscape name × (length name < 2 ^ 32)
 
-certificate_name_free : (kind : Kind) → HasNoEscape (certificate_name kind) × (length (certificate_name kind) < 2 ^ 32)
-certificate_name_free kinds.Rsa = (refl, omega arith)
-certificate_name_free kinds.Dsa = (refl, omega arith)
-certificate_name_free kinds.Ecdsa256 = (refl, omega arith)
-certificate_name_free kinds.Ecdsa384 = (refl, omega arith)
-certificate_name_free kinds.Ecdsa521 = (refl, omega arith)
-certificate_name_free kinds.Ed25519 = (refl, omega arith)
-certificate_name_free kinds.EcdsaSk = (refl, omega arith)
-certificate_name_free kinds.Ed25519Sk = (refl, omega arith)
+names_free : (kind : Kind) → IsFreeName (type_name kind) × IsFreeName (certificate_name kind)
+names_free kinds.Rsa = ((refl, omega arith), (refl, omega arith))
+names_free kinds.Dsa = ((refl, omega arith), (refl, omega arith))
+names_free kinds.Ecdsa256 = ((refl, omega arith), (refl, omega arith))
+names_free kinds.Ecdsa384 = ((refl, omega arith), (refl, omega arith))
+names_free kinds.Ecdsa521 = ((refl, omega arith), (refl, omega arith))
+names_free kinds.Ed25519 = ((refl, omega arith), (refl, omega arith))
+names_free kinds.EcdsaSk = ((refl, omega arith), (refl, omega arith))
+names_free kinds.Ed25519Sk = ((refl, omega arith), (refl, omega arith))
 
 small_serial : (blob : List ℕ) (asked : Subject) → IsSubject blob asked → IsSmall asked.cert
 small_serial blob asked (plain_key key is same) = subst (λ (s : Subject). IsSmall s.cert) (sym same) tt
 small_serial blob asked (certified certificate is same) = subst (λ (s : Subject). IsSmall s.cert) (sym same) is.lengths.serial_fits
 
 module _ (reads : ReadsJust string_at string (λ (text : List ℕ). length text < 2 ^ 32)) where
-  named_free : (blob name rest : List ℕ) → IsBytes blob → blob ≡ string name ++ rest → HasNoEscape name × (length name < 2 ^ 32) → HasNoEscape (type_of blob)
+  named_free : (blob name rest : List ℕ) → IsBytes blob → blob ≡ string name ++ rest → IsFreeName name → HasNoEscape (type_of blob)
   unfolding type_of
   named_free blob name rest bytes is free = rw ((reads blob name rest bytes).1 (is, free.1)) free.0
 
   type_free : (blob : List ℕ) (asked : Subject) → IsBytes blob → IsSubject blob asked → HasNoEscape (type_of blob)
-  type_free blob asked bytes (plain_key key is same) = named_free blob (type_name key.kind) key.fields bytes is.spelled (type_name_free key.kind)
-  type_free blob asked bytes (certified certificate is same) = named_free blob (certificate_name certificate.key.kind) _ bytes is.spelled (certificate_name_free certificate.key.kind)
+  type_free blob asked bytes (plain_key key is same) = named_free blob (type_name key.kind) key.fields bytes is.spelled (names_free key.kind).0
+  type_free blob asked bytes (certified certificate is same) = named_free blob (certificate_name certificate.key.kind) _ bytes is.spelled (names_free certificate.key.kind).1
 
   key_tail_free : (blob comment : List ℕ) (asked : Subject) (all : Reasons) → HasNoEscape (type_of blob) → IsSmall asked.cert
       → HasNoEscape (key_words blob asked ++ (reasons_text asked all ++ (comment_words comment ++ 10 ∷ [])))

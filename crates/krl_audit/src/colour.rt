@@ -1,7 +1,7 @@
 //! Words in colour, as terminals show them (ECMA-48, SELECT GRAPHIC RENDITION).
 
 ghost use Rattle.std.specs.Prelude.{◌≡◌, ◌++◌, OnOk};
-ghost use Rattle.krl_audit.specs.Colour.{painted, unread_word, verdict_word, word_text};
+ghost use Rattle.krl_audit.specs.Colour.{unread_word, verdict_word, word_text};
 
 use std::alloc::AllocError;
 
@@ -34,6 +34,7 @@ pub(crate) fn push_unread(text: &mut Vec<u8>, coloured: bool) -> Result<(), Allo
 }
 
 // Appends a word between colons, in a colour or not.
+#[tactic(auto, unfolding(crate::specs::Colour::painted))]
 fn push_word(
     text: &mut Vec<u8>,
     coloured: bool,
@@ -44,28 +45,14 @@ fn push_word(
         ≡ text.old.items ++ word_text coloured colour.now word.now) }
 {
     text.extend_from_slice(b": ")?;
-    push_painted(text, coloured, colour, word)?;
-    text.extend_from_slice(b": ")?;
-    Ok(())
-}
-
-// Appends a word, in a colour or not.
-#[tactic(auto, unfolding(crate::specs::Colour::painted))]
-fn push_painted(
-    text: &mut Vec<u8>,
-    coloured: bool,
-    colour: &[u8],
-    word: &[u8],
-) -> Result<(), AllocError>
-    ensures { OnOk result (text.new.items
-        ≡ text.old.items ++ painted coloured colour.now word.now) }
-{
-    if !coloured {
-        return text.extend_from_slice(word);
+    if coloured {
+        text.extend_from_slice(b"\x1b[")?;
+        text.extend_from_slice(colour)?;
+        text.push(b'm')?;
     }
-    text.extend_from_slice(b"\x1b[")?;
-    text.extend_from_slice(colour)?;
-    text.push(b'm')?;
     text.extend_from_slice(word)?;
-    text.extend_from_slice(b"\x1b[0m")
+    if coloured {
+        text.extend_from_slice(b"\x1b[0m")?;
+    }
+    text.extend_from_slice(b": ")
 }
