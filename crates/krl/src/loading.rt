@@ -1,5 +1,7 @@
 //! Files that are opened and read.
 
+ghost use Rattle.std.specs.Prelude.{◌≡◌, IfOk, IfSome, OnOk};
+
 use key_text::is_container;
 use krl_audit::Refusal;
 use std::alloc::AllocError;
@@ -34,7 +36,10 @@ pub fn open(rt: &HostRuntime, path: &str) -> Result<File, Refusal> {
 pub fn read<R: Read + Drop>(
     reader: R,
     text: &mut Vec<u8>,
-) -> Result<Result<(), Refusal>, AllocError> {
+) -> Result<Result<(), Refusal>, AllocError>
+    ensures all { IfOk result (λ read. OnOk read (IfSome (R.remaining reader) (λ bytes.
+        text.new.items ≡ bytes))) }
+{
     text.clear();
     match reader.take(LIMIT + 1).read_to_end(text) {
         Ok(_) if text.len() as u64 > LIMIT => Ok(Err(Refusal::TooLong)),
