@@ -31,8 +31,8 @@ pub fn open(rt: &HostRuntime, path: &str) -> Result<File, Refusal> {
     }
 }
 
-/// Replaces the content of a buffer by all bytes of a reader, or says why it is not read. Fails only
-/// if an allocation fails.
+/// Replaces the content of a buffer by all bytes of a reader, or says why it is not read. Fails
+/// only if an allocation fails.
 pub fn read<R: Read + Drop>(
     reader: R,
     text: &mut Vec<u8>,
