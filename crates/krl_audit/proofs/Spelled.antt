@@ -11,11 +11,10 @@ use Rattle.key_text.specs.Marker.{marked_line_at, marker_of, unmarked}
 use Rattle.key_text.specs.declared.line_fault.LineFault.{LineFault}
 use Rattle.key_text.specs.declared.marker.Marker.{Marker}
 use Rattle.krl_held.specs.Entry.{Entry}
-use Rattle.krl_held.specs.NamingTests.{is_revoked}
-use Rattle.krl_held.specs.Reasons.{reasons_of}
+use Rattle.krl_held.specs.Reasons.{is_revoked, reasons_of}
 use Rattle.krl_held.specs.Revoked.{Revoked}
-use Rattle.krl_held.proofs.NamingTests.{revoked_tested}
 use Rattle.krl_held.proofs.Reasoned.{any_is_revoked}
+use Rattle.krl_held.proofs.Tested.{revoked_tested}
 use Rattle.krl_audit.specs.Audit.{kind_of}
 use Rattle.krl_audit.specs.Front.{front_of}
 use Rattle.krl_audit.specs.Outcome.{Blank, Found, Key, Unread, line_outcome, outcome_of}

@@ -6,7 +6,6 @@ ghost use Rattle.std.specs.Prelude.{length, All};
 ghost use Rattle.serial_set.specs.BitRuns.{IsInterval};
 ghost use Rattle.serial_set.specs.Near.{AreNear};
 ghost use Rattle.krl_held.specs.Revocations.{nothing};
-ghost use Rattle.krl_held.specs.Authority.{IsAuthority, authority_bytes};
 ghost use Rattle.krl_held.specs.Entry.{Entry, SerialsEntry, RangeEntry};
 ghost use Rattle.krl_held.specs.Naming.{SerialOf};
 ghost use Rattle.krl_held.specs.Questions.{FindsIn, asked_in};
@@ -217,8 +216,7 @@ impl<T: Store> Keeper<T> {
         ensures stored { StaysWithin self.old self.new }
         ensures rest { KeepsRest self.old self.new }
     {
-        self.store
-            .put_serials(authority_of(self.authority.as_slice()), near)
+        self.store.put_serials(self.authority.as_slice(), near)
     }
 
     // Adds a key, a hash, or a key ID under the authority in force.
@@ -232,9 +230,7 @@ impl<T: Store> Keeper<T> {
             ItemKind::Key => self.store.put_key(item),
             ItemKind::Sha1 => self.store.put_sha1(&array_of(item)),
             ItemKind::Sha256 => self.store.put_sha256(&array_of(item)),
-            ItemKind::Id => self
-                .store
-                .put_id(authority_of(self.authority.as_slice()), item),
+            ItemKind::Id => self.store.put_id(self.authority.as_slice(), item),
         }
     }
 
@@ -367,18 +363,6 @@ impl<S: Spans> Keeper<Revocations<S>> {
             store: findings,
             bitmap,
         }
-    }
-}
-
-// The authority with these bytes, or all authorities if there are none.
-fn authority_of(authority: &[u8]) -> Option<&[u8]>
-    ensures bytes { authority_bytes result ≡ authority.now }
-    ensures authority { IsAuthority result }
-{
-    if authority.is_empty() {
-        None
-    } else {
-        Some(authority)
     }
 }
 

@@ -11,16 +11,15 @@ use Rattle.std.specs.Map.{lookup, set_value}
 use Rattle.std.proofs.lemmas.Map.Lookups.{exact_bytes}
 use Rattle.serial_set.specs.declared.span.Span.{Span}
 use Rattle.krl_held.specs.declared.addition.Addition.{Addition}
-use Rattle.krl_held.specs.declared.addition.Addition.TheVariants.{Serials, Id}
 use Rattle.krl_held.specs.declared.held_section.Apart.{Apart}
 use Rattle.krl_held.specs.declared.held_section.HeldSection.{HeldSection}
 use Rattle.krl_held.specs.Rising.{bytes_cmp, RisesBy}
-use Rattle.krl_held.specs.Changes.{AddsTo, IsOneChange, TakesAddition, empty_section}
+use Rattle.krl_held.specs.Changes.{IsOneChange, empty_section}
 use Rattle.krl_held.specs.Gathered.{HasPlace, IsTaken, TakesOut, with_section}
 use Rattle.krl_held.specs.HeldSection.{apart_of, section_of, sections_of, named_sections}
 use Rattle.krl_held.specs.Revocations.{IsListed, IsOrderly, Section, SomeSection, revocations_of}
-use Rattle.krl_held.proofs.AddedSections.{InOrder, all_middle, takes_id_listed, takes_serials_listed}
-use Rattle.krl_held.proofs.Adding.{id_orderly, orderly_with, serials_orderly}
+use Rattle.krl_held.proofs.AddedSections.{InOrder, all_middle}
+use Rattle.krl_held.proofs.Adding.{adds_orderly, orderly_with, takes_listed}
 use Rattle.krl_held.proofs.HeldSections.{Mapped, Named, at_name, named_lookup, named_set, none_found, takes_authority}
 use Rattle.krl_held.proofs.Ordered.{rises_changed, tied}
 use Rattle.krl_held.proofs.SomeSections.{some_middle}
@@ -178,10 +177,6 @@ module _ {S : Type 0} (spans : S → List Span) where
 
 -- ---- order
 
-pub takes_listed : (addition : Addition) (from to : Section) → IsOneChange addition → InOrder from → TakesAddition addition from to → IsListed to
-takes_listed (Serials near) from to one o t = takes_serials_listed near.now from to one.0 one.1.0 o t
-takes_listed (Id text) from to one o t = takes_id_listed text.now from to o t
-
 pub in_order : (section : Section) → IsListed section → InOrder section
 in_order section h = record { runs = h.runs; serials = h.serials; ids_rise = h.ids_rise }
 
@@ -197,11 +192,6 @@ changed_orderly front back from to old new keys sha1s sha256s before after same 
     orderly_with old new keys sha1s sha256s
     (subst (RisesBy key) (sym after) (rises_changed key front from to back same (subst (RisesBy key) before o.authorities_rise)))
     (subst (All IsListed) (sym after) ((all_middle IsListed front to back).1 (listed, others.1))) o
-
-adds_orderly : (addition : Addition) (a : List ℕ) (old new : List Section) (keys sha1s sha256s : List (List ℕ)) → IsOneChange addition → AddsTo addition a old new
-    → IsOrderly (revocations_of old keys sha1s sha256s) → IsOrderly (revocations_of new keys sha1s sha256s)
-adds_orderly (Serials near) a old new keys sha1s sha256s one adds o = serials_orderly near a old new keys sha1s sha256s one.0 one.1.0 adds o
-adds_orderly (Id text) a old new keys sha1s sha256s one adds o = id_orderly text a old new keys sha1s sha256s adds o
 
 -- the sections are in order after one is taken out, and after that is refused
 pub left_orderly : {S : Type 0} (spans : S → List Span) (addition : Addition) (a : List ℕ) (result : Result (Option (Apart S)) AllocError) (old new : List Section) (keys sha1s sha256s : List (List ℕ)) → IsOneChange addition

@@ -6,13 +6,13 @@ use Rattle.serial_set.specs.declared.span.Span.{Span}
 use Rattle.serial_set.specs.Span.{Covers}
 use Rattle.krl_held.specs.declared.addition.Addition.{Addition}
 use Rattle.krl_held.specs.declared.addition.Addition.TheVariants.{Serials, Id}
-use Rattle.krl_held.specs.Changes.{TakesAddition, empty_section, run_entries}
+use Rattle.krl_held.specs.Changes.{TakesAddition, added_entries, empty_section, run_entries}
 use Rattle.krl_held.specs.Revocations.{Section}
 use Rattle.krl_held.specs.Entry.{RangeEntry, IdEntry}
 use Rattle.krl_held.specs.Naming.{EntryNames, IdOf, Name, SerialOf, SomeNames}
 use Rattle.krl_held.proofs.AddedSections.{put_held}
 use Rattle.krl_held.proofs.Runs.{run_entries-name}
-use Rattle.krl_held.proofs.BothWays.{iff_none}
+use Rattle.krl_held.proofs.BothWays.{iff_none, iff_or}
 use Rattle.std.proofs.Math.Logic.Iff as Iff
 use Rattle.krl_held.proofs.SomeSections.{HeldIn, Step}
 use Rattle.krl_held.proofs.Elements.{contains_none}
@@ -40,7 +40,7 @@ step_none addition b P Q none step = record {
   none = step.none;
 }
 
-pub serials_step : (near : Bor (List Span)) (b : List ℕ) (name : Name) → Step (Serials near) b (HeldIn name) (SomeNames (run_entries b near.now) name)
+serials_step : (near : Bor (List Span)) (b : List ℕ) (name : Name) → Step (Serials near) b (HeldIn name) (SomeNames (run_entries b near.now) name)
 serials_step near b (SerialOf a s) = record {
   one = λ from to under t.
       let same : to.authority ≡ from.authority = ap (λ (x : Section). x.authority) t.same in
@@ -63,7 +63,7 @@ serials_step near b (IdOf a text) =
 serials_step near b name =
     step_none (Serials near) b (HeldIn name) (SomeNames (run_entries b near.now) name) (runs_name_none b near.now name (λ lo hi no. no)) (nothing_new (Serials near) b)
 
-pub id_step : (added : Bor (List ℕ)) (b : List ℕ) (name : Name) → Step (Id added) b (HeldIn name) (EntryNames (IdEntry b added.now) name)
+id_step : (added : Bor (List ℕ)) (b : List ℕ) (name : Name) → Step (Id added) b (HeldIn name) (EntryNames (IdEntry b added.now) name)
 id_step added b (SerialOf a s) =
     stays (Id added) b a (λ section. Covers section.spans s) (λ from to t.
     (ap (λ (x : Section). x.authority) t.same, subst (λ (l : List Span). Covers to.spans s ↔ Covers l s) (ap (λ (x : Section). x.spans) t.same) Iff.rfl)) (λ none. none)
@@ -77,3 +77,10 @@ id_step added b (IdOf a text) = record {
   none = λ h. contains_none text h.1;
 }
 id_step added b name = nothing_new (Id added) b
+
+-- what an addition changes is what its entries name
+pub addition_step : (addition : Addition) (b : List ℕ) (name : Name) → Step addition b (HeldIn name) (SomeNames (added_entries b addition) name)
+addition_step (Serials near) b name = serials_step near b name
+addition_step (Id text) b name =
+    let step = id_step text b name in
+    record { one = λ from to under t. Iff.trans (step.one from to under t) (iff_or Iff.rfl (iff_none (λ no. no))); none = step.none }

@@ -4,7 +4,6 @@ use Rattle.std.specs.Prelude.{◌↔◌}
 use Rattle.std.specs.List.{Contains}
 use Rattle.std.proofs.Math.Logic.{⊎_elim, ⊎_map}
 use Rattle.serial_set.specs.Span.{Covers}
-use Rattle.krl_held.specs.Query.{HoldsUnder}
 use Rattle.krl_held.specs.Inserting.{Stands}
 use Rattle.krl_held.specs.Revocations.{HoldsId, HoldsSerial, Section, SomeSection}
 use Rattle.krl_held.specs.Rising.{AllAbove, AllBelow}
@@ -63,17 +62,3 @@ no_id_under sections a id absent h = absent (some_weaker (λ s at. at.0) section
 
 pub no_serial_under : (sections : List Section) (a : List ℕ) (serial : ℕ) → (SomeSection (λ s. s.authority ≡ a) sections → ⊥) → HoldsSerial sections a serial → ⊥
 no_serial_under sections a serial absent h = absent (some_weaker (λ s at. at.0) sections h)
-
--- everything under the authority of a section is in that section
-pub under_section : (sections : List Section) (section : Section) (a id : List ℕ) (serial : ℕ) → section.authority ≡ a → Stands (λ s. s.authority) sections section → HoldsUnder sections a id serial ↔ (Contains section.ids id ⊎ Covers section.spans serial)
-unfolding Under
-under_section sections section a id serial same stands =
-    let ids = one_under sections section (λ s. (s.authority ≡ a) × Contains s.ids id) (λ s h. h.0 ∙ sym same) stands in
-    let serials = one_under sections section (λ s. (s.authority ≡ a) × Covers s.spans serial) (λ s h. h.0 ∙ sym same) stands in (
-      λ h. elim h [ inl i ↦ inl (ids.0 i).1 | inr s ↦ inr (serials.0 s).1 ],
-      λ h. elim h [ inl i ↦ inl (ids.1 (same, i)) | inr s ↦ inr (serials.1 (same, s)) ],
-    )
-
-pub under_none : (sections : List Section) (a id : List ℕ) (serial : ℕ) → (SomeSection (λ s. s.authority ≡ a) sections → ⊥) → HoldsUnder sections a id serial → ⊥
-under_none sections a id serial absent h =
-    absent (⊎_elim (some_weaker (λ s at. at.0) sections) (some_weaker (λ s at. at.0) sections) h)

@@ -1,9 +1,14 @@
 -- The hashes of the keys that are asked about.
-use Rattle.std.proofs.Common.{◌≡◌, ℕ, ◌⊎◌, List, [], ◌∷◌, sym, ap, subst, inl, inr}
-use Rattle.std.specs.List.{Contains}
+use Rattle.std.proofs.Common.{◌≡◌, ℕ, ◌⊎◌, Bool, List, [], ◌∷◌, sym, ap, subst, inl, inr}
+use Rattle.std.specs.Prelude.{◌↔◌, IsTrue}
+use Rattle.std.specs.BTreeMap.{is_at}
+use Rattle.std.specs.List.{Contains, list_any}
+use Rattle.std.proofs.Math.Logic.Iff as Iff
 use Rattle.krl_held.specs.Changes.{Puts}
 use Rattle.krl_held.specs.Questions.{HashesOf}
+use Rattle.krl_held.specs.Rising.{bytes_cmp}
 use Rattle.krl_held.proofs.AddedSections.{put_held}
+use Rattle.krl_held.proofs.Sets.{set_has}
 use Rattle.krl_held.proofs.Elements.{contains_cases, contains_here, contains_later, contains_none}
 
 -- each key is hashed or left, and each hash is one of a key
@@ -50,3 +55,9 @@ all_hashed hash keys hashes left is h = record {
       ];
   only = h.only;
 }
+
+-- a hash is found exactly if a key has it
+pub hashed_has : (hash : List ℕ → List ℕ) (keys hashes : List (List ℕ)) (text : List ℕ) (b : Bool) → HashesOf hash keys hashes → b ≡ list_any (is_at (bytes_cmp text)) hashes
+    → IsTrue b ↔ ((key : List ℕ) × (Contains keys key × (hash key ≡ text)))
+hashed_has hash keys hashes text b made is =
+    Iff.trans (set_has text hashes b is) (made.only text, λ h. subst (Contains hashes) h.1.1 (made.all h.0 h.1.0))

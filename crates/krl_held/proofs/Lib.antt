@@ -16,7 +16,6 @@ pub mod Ordered
 pub mod SameMeaning
 pub mod Scoped
 pub mod Questioned
-pub mod NamingTests
 pub mod HeldSections
 pub mod SomeSections
 pub mod Tested

@@ -1,20 +1,13 @@
--- Questions about a list while it is read, and the answers of its entries.
-use Rattle.std.proofs.Common.{◌≡◌, ℕ, ◌≤◌, ◌⊎◌, Bool, List, [], ◌∷◌, Option, Some, None, refl, sym, subst, ◌∙◌, arith, inl, inr}
-use Rattle.std.specs.Prelude.{◌↔◌, IsTrue}
+-- Entries that name none of the topics of some questions, and entries that name the same of them.
+use Rattle.std.proofs.Common.{◌≡◌, ℕ, ◌≤◌, ◌⊎◌, List, [], ◌∷◌, Some, sym, subst, ◌∙◌, arith, inl, inr}
+use Rattle.std.specs.Prelude.{◌↔◌}
 use Rattle.std.specs.List.{Contains}
-use Rattle.std.proofs.Math.Logic.Iff as Iff
 use Rattle.sha1.specs.Sha1.{sha1}
 use Rattle.sha2.specs.Sha256.{sha256}
-use Rattle.krl_types.specs.Subject.{CertNames, Subject}
-use Rattle.krl_held.specs.Revocations.{Revocations, HoldsId, HoldsSerial, Means}
+use Rattle.krl_held.specs.Revocations.{Revocations, HoldsId, HoldsSerial}
 use Rattle.krl_held.specs.Entry.{BitmapEntry, Entry, IdEntry, KeyEntry, RangeEntry, SerialsEntry, Sha1Entry, Sha256Entry}
-use Rattle.krl_held.specs.Naming.{EntryNames, IdOf, KeyNamed, KeyOf, Name, SerialOf, Sha1Of, Sha256Of, SomeNames}
-use Rattle.krl_held.specs.Questions.{Asks, HasCert}
-use Rattle.krl_held.specs.Revoked.{CertRevoked, Revoked}
-use Rattle.krl_held.specs.Scope.{InScope, IsTopic, MeansWithin}
-use Rattle.krl_held.specs.Canonical.{entries_in}
-use Rattle.krl_held.proofs.Canonical.{means_itself}
-use Rattle.krl_held.proofs.BothWays.{iff_or}
+use Rattle.krl_held.specs.Naming.{EntryNames, IdOf, KeyOf, Name, SerialOf, Sha1Of, Sha256Of, SomeNames}
+use Rattle.krl_held.specs.Scope.{InScope, IsTopic}
 
 -- ---- entries that name none of the topics
 
@@ -48,7 +41,7 @@ no_sha256 topics hash none (Sha256Of other) is (inl h) = none is.0 is.1.0 (is.1.
 no_sha256 topics hash none name is (inl h) = h
 no_sha256 topics hash none name is (inr h) = h
 
--- ---- the answer
+-- ---- entries that name the same topics
 
 -- the serial 0 is never named
 not_zero : (entry : Entry) (a : List ℕ) (s : ℕ) → s ≡ 0 → EntryNames entry (SerialOf a s) → ⊥
@@ -71,27 +64,3 @@ pub same_serials : (topics : Revocations) (kept entries : List Entry) → NamesS
 unfolding NamesSameTopics
 same_serials topics kept entries same a s (inl z) = (λ h. absurd (never_zero kept a s z h), λ h. absurd (never_zero entries a s z h))
 same_serials topics kept entries same a s (inr is) = same (SerialOf a s) is
-
-same_key : (topics : Revocations) (kept entries : List Entry) → NamesSameTopics topics kept entries → (blob : List ℕ) → Contains topics.keys blob → KeyNamed kept blob ↔ KeyNamed entries blob
-unfolding NamesSameTopics
-same_key topics kept entries same blob is =
-    iff_or (same (KeyOf blob) is) (iff_or (same (Sha1Of (sha1 blob)) (blob, (is, refl))) (same (Sha256Of (sha256 blob)) (blob, (is, refl))))
-
-same_cert : (topics : Revocations) (kept entries : List Entry) → NamesSameTopics topics kept entries → (cert : Option CertNames) → HasCert topics cert → CertRevoked kept cert ↔ CertRevoked entries cert
-unfolding NamesSameTopics
-same_cert topics kept entries same None is = Iff.rfl
-same_cert topics kept entries same (Some cert) is =
-    iff_or (same_key topics kept entries same cert.authority is.0)
-    (iff_or (iff_or (same (IdOf cert.authority cert.key_id) is.1.1.0) (same (IdOf [] cert.key_id) is.1.0.0))
-    (iff_or (same_serials topics kept entries same cert.authority cert.serial is.1.1.1) (same_serials topics kept entries same [] cert.serial is.1.0.1)))
-
--- the findings revoke what was asked about exactly if the entries do
-pub answer_within : (topics found : Revocations) (subject : Subject) (answer : Bool) → Asks topics subject
-    → ((entries : List Entry) → Means found entries → IsTrue answer ↔ Revoked entries subject)
-    → (entries : List Entry) → MeansWithin (Some topics) found entries → IsTrue answer ↔ Revoked entries subject
-unfolding NamesSameTopics
-answer_within topics found subject answer asks revoked entries m =
-    let kept = entries_in found in
-    let itself = means_itself found m.orderly in
-    let same : NamesSameTopics topics kept entries = λ name is. Iff.trans (Iff.symm (itself.names name)) (m.names name is) in
-    Iff.trans (revoked kept itself) (iff_or (same_key topics kept entries same subject.plain asks.0) (same_cert topics kept entries same subject.cert asks.1))

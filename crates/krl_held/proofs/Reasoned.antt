@@ -1,54 +1,31 @@
 -- The tests find exactly the reasons why something is revoked.
-use Rattle.std.proofs.Common.{◌≡◌, ℕ, Bool, false, List, [], ◌∷◌, Option, Some, None, refl, sym, ap, ◌∙◌, subst, inl, inr}
-use Rattle.std.specs.Prelude.{◌↔◌, ◌&&◌, IsTrue}
+use Rattle.std.proofs.Common.{◌≡◌, ℕ, Bool, List, [], Option, Some, None, refl, sym, ap, ◌∙◌, subst, inl, inr}
+use Rattle.std.specs.Prelude.{◌↔◌, IsTrue}
 use Rattle.std.specs.Cmp.{both_ways}
-use Rattle.std.specs.List.{Contains, list_any}
-use Rattle.std.specs.Str.{bytes_eq}
+use Rattle.std.specs.List.{Contains}
 use Rattle.std.proofs.Math.Logic.Iff as Iff
-use Rattle.std.proofs.lemmas.Bool.Decides.{Decides-and, Decides-or}
-use Rattle.std.proofs.lemmas.Slice.Eq.{bytes_eq-Decides}
 use Rattle.sha1.specs.Sha1.{sha1}
 use Rattle.sha2.specs.Sha256.{sha256}
-use Rattle.serial_set.specs.Span.{Covers, has}
-use Rattle.serial_set.proofs.Rising.{has_names}
 use Rattle.krl_types.specs.Subject.{CertNames, Subject}
 use Rattle.krl_held.specs.Canonical.{entries_in}
 use Rattle.krl_held.specs.Entry.{Entry}
 use Rattle.krl_held.specs.Naming.{IdOf, KeyOf, Name, SerialOf, Sha1Of, Sha256Of, SomeNames}
-use Rattle.krl_held.specs.NamingTests.{is_revoked, some_names}
 use Rattle.krl_held.specs.Questions.{Asks, HasCert}
-use Rattle.krl_held.specs.Reasons.{IsReason, any_reason, cert_reasons, has_reason, held_reasons, holds_name, key_reasons, no_key_reasons, no_name_reasons, reasons_by, reasons_of, with_cert}
-use Rattle.krl_held.specs.Revocations.{HoldsName, Means, Revocations, Section, SomeSection}
+use Rattle.krl_held.specs.Reasons.{IsReason, any_reason, cert_reasons, has_reason, held_reasons, is_revoked, key_reasons, no_key_reasons, no_name_reasons, reasons_by, reasons_of, revokes, with_cert}
+use Rattle.krl_held.specs.Revocations.{HoldsName, Means, Revocations}
 use Rattle.krl_held.specs.Revoked.{Revoked}
 use Rattle.krl_held.specs.Scope.{MeansWithin}
-use Rattle.krl_held.specs.Tested.{is_among}
+use Rattle.krl_held.specs.Tested.{holds_name, some_names}
 use Rattle.krl_held.specs.declared.reasons.KeyReasons.{KeyReasons}
 use Rattle.krl_held.specs.declared.reasons.NameReasons.{NameReasons}
 use Rattle.krl_held.specs.declared.reasons.Reason.{Reason}
 use Rattle.krl_held.specs.declared.reasons.Reason.TheVariants as reasons
 use Rattle.krl_held.specs.declared.reasons.Reasons.{Reasons}
 use Rattle.krl_held.proofs.Canonical.{means_itself}
-use Rattle.krl_held.proofs.NamingTests.{some_tested}
 use Rattle.krl_held.proofs.Questioned.{NamesSameTopics, same_serials}
-use Rattle.krl_held.proofs.Tested.{among_tested}
+use Rattle.krl_held.proofs.Tested.{name_tested, none_tested, revoked_tested, some_tested}
 
--- ---- the test of a name
-
-sections_tested : (test : Section → Bool) (P : Section → Type 0) → ((section : Section) → IsTrue (test section) ↔ P section) → (sections : List Section) → IsTrue (list_any test sections) ↔ SomeSection P sections
-sections_tested test P each [] = (λ yes. absurd cc, λ no. absurd no)
-sections_tested test P each (section ∷ sections) =
-    Decides-or (test section) (list_any test sections) (each section) (sections_tested test P each sections)
-
-pub name_tested : (r : Revocations) (name : Name) → IsTrue (holds_name r name) ↔ HoldsName r name
-name_tested r (SerialOf a s) =
-    sections_tested (λ section. bytes_eq section.authority a && has section.spans s) (λ section. (section.authority ≡ a) × Covers section.spans s)
-    (λ section. Decides-and (bytes_eq section.authority a) (has section.spans s) (bytes_eq-Decides section.authority a) (has_names section.spans s)) r.sections
-name_tested r (IdOf a text) =
-    sections_tested (λ section. bytes_eq section.authority a && is_among section.ids text) (λ section. (section.authority ≡ a) × Contains section.ids text)
-    (λ section. Decides-and (bytes_eq section.authority a) (is_among section.ids text) (bytes_eq-Decides section.authority a) (among_tested section.ids text)) r.sections
-name_tested r (KeyOf blob) = among_tested r.keys blob
-name_tested r (Sha1Of hash) = among_tested r.sha1s hash
-name_tested r (Sha256Of hash) = among_tested r.sha256s hash
+-- ---- the tests of names
 
 -- an answer about a name equals its test
 pub name_is : (r : Revocations) (name : Name) (answer : Bool) → (IsTrue answer ↔ HoldsName r name) → answer ≡ holds_name r name
@@ -71,20 +48,17 @@ pub reason_by : (names : Name → Bool) (entries : List Entry) → ((name : Name
 unfolding reasons_by
 reason_by names entries tested subject reason = by subject.cert reason
   where
-    none : (IsTrue false) ↔ ⊥
-    none = (λ yes. absurd cc, λ no. absurd no)
-
     by : (cert : Option CertNames) (reason : Reason) → IsTrue (has_reason (with_cert names (key_reasons names subject.plain) cert) reason) ↔ IsReason entries (record { plain = subject.plain; cert = cert }) reason
     by None reasons.Key = tested (KeyOf subject.plain)
     by None reasons.KeySha1 = tested (Sha1Of (sha1 subject.plain))
     by None reasons.KeySha256 = tested (Sha256Of (sha256 subject.plain))
-    by None reasons.Authority = none
-    by None reasons.AuthoritySha1 = none
-    by None reasons.AuthoritySha256 = none
-    by None reasons.Serial = none
-    by None reasons.SerialOfAll = none
-    by None reasons.KeyId = none
-    by None reasons.KeyIdOfAll = none
+    by None reasons.Authority = none_tested
+    by None reasons.AuthoritySha1 = none_tested
+    by None reasons.AuthoritySha256 = none_tested
+    by None reasons.Serial = none_tested
+    by None reasons.SerialOfAll = none_tested
+    by None reasons.KeyId = none_tested
+    by None reasons.KeyIdOfAll = none_tested
     by (Some cert) reasons.Key = tested (KeyOf subject.plain)
     by (Some cert) reasons.KeySha1 = tested (Sha1Of (sha1 subject.plain))
     by (Some cert) reasons.KeySha256 = tested (Sha256Of (sha256 subject.plain))
@@ -177,12 +151,23 @@ meant_reasons r entries m subject =
 -- ---- some reason
 
 pub any_is_revoked : (entries : List Entry) (subject : Subject) → any_reason (reasons_of entries subject) ≡ is_revoked entries subject
-unfolding reasons_by is_revoked
-any_is_revoked entries subject = by subject.cert
-  where
-    by : (cert : Option CertNames) → any_reason (reasons_of entries (record { plain = subject.plain; cert = cert })) ≡ is_revoked entries (record { plain = subject.plain; cert = cert })
-    by None = refl
-    by (Some cert) = refl
+unfolding is_revoked
+any_is_revoked entries subject = refl
+
+-- the findings revoke what was asked about exactly if the entries do
+pub found_tested : (topics found : Revocations) (entries : List Entry) → MeansWithin (Some topics) found entries → (subject : Subject) → Asks topics subject → revokes found subject ≡ is_revoked entries subject
+unfolding revokes is_revoked
+found_tested topics found entries m subject asks = ap any_reason (found_reasons topics found entries m subject asks)
+
+-- revocations revoke exactly what the entries that they mean revoke
+pub meant_tested : (r : Revocations) (entries : List Entry) → Means r entries → (subject : Subject) → revokes r subject ≡ is_revoked entries subject
+unfolding revokes is_revoked
+meant_tested r entries m subject = ap any_reason (meant_reasons r entries m subject)
+
+-- the answer about the findings says what the entries revoke
+pub answer_within : (topics found : Revocations) (subject : Subject) (answer : Bool) → Asks topics subject → answer ≡ revokes found subject → (entries : List Entry) → MeansWithin (Some topics) found entries → IsTrue answer ↔ Revoked entries subject
+answer_within topics found subject answer asks is entries m =
+    subst (λ (b : Bool). IsTrue b ↔ Revoked entries subject) (sym (is ∙ found_tested topics found entries m subject asks)) (revoked_tested entries subject)
 
 -- something is revoked exactly if there is a reason
 pub reason_of_revoked : (entries : List Entry) (subject : Subject) → Revoked entries subject ↔ ((reason : Reason) × IsReason entries subject reason)

@@ -7,7 +7,7 @@ use Rattle.serial_set.specs.Span.{AreSerials}
 use Rattle.krl_held.specs.declared.addition.Addition.{Addition}
 use Rattle.krl_held.specs.declared.addition.Addition.TheVariants.{Serials, Id}
 use Rattle.krl_held.specs.Revocations.{Revocations, Means, Section, section_with}
-use Rattle.krl_held.specs.Entry.{Entry, RangeEntry}
+use Rattle.krl_held.specs.Entry.{Entry, IdEntry, RangeEntry}
 use Rattle.krl_held.specs.Inserting.{Inserts}
 
 -- the list already contains the bytes and stays the same, or the bytes are inserted
@@ -70,6 +70,21 @@ abbrev pub run_entries : List ℕ → List Span → List Entry
 run_entries authority [] = []
 run_entries authority (run ∷ runs) =
     RangeEntry authority run.lo run.hi ∷ run_entries authority runs
+
+-- the entries of an addition under an authority
+abbrev pub added_entries : List ℕ → Addition → List Entry
+added_entries authority (Serials near) = run_entries authority near.now
+added_entries authority (Id text) = IdEntry authority text.now ∷ []
+
+-- how many bytes an addition has, without its authority
+abbrev pub bytes_in : Addition → ℕ
+bytes_in (Serials near) = 0
+bytes_in (Id text) = length text.now
+
+-- An addition of spans makes at most as many spans more, and a key ID makes none.
+abbrev pub HoldsMore : Addition → (old new : ℕ) → Type 0
+HoldsMore (Serials near) old new = new ≤ old + length near.now
+HoldsMore (Id text) old new = new ≡ old
 
 -- If the old revocations mean some entries, the new ones mean them and these entries.
 abbrev pub MeansMore : (old new : Revocations) (more : List Entry) → Type 0

@@ -1,5 +1,3 @@
-pub mod Query
-pub mod Authority
 pub mod Changes
 pub mod Revocations
 pub mod Entry
@@ -9,7 +7,6 @@ pub mod Naming
 pub mod Revoked
 pub mod Scope
 pub mod Questions
-pub mod NamingTests
 pub mod Rising
 pub mod HeldSection
 pub mod Texts

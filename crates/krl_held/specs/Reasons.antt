@@ -1,10 +1,7 @@
--- Why a key or a certificate is revoked: the ways in which entries name it.
-use Rattle.std.specs.Prelude.{ℕ, ◌||◌, ◌&&◌, Bool, false, List, [], Option, Some, None}
-use Rattle.std.specs.List.{list_any}
-use Rattle.std.specs.Str.{bytes_eq}
+-- Why a key or a certificate is revoked: the ways in which entries name it, and whether it is.
+use Rattle.std.specs.Prelude.{ℕ, ◌||◌, Bool, false, List, [], Option, Some, None}
 use Rattle.sha1.specs.Sha1.{sha1}
 use Rattle.sha2.specs.Sha256.{sha256}
-use Rattle.serial_set.specs.Span.{has}
 use Rattle.krl_types.specs.Subject.{CertNames, Subject}
 use Rattle.krl_held.specs.declared.reasons.KeyReasons.{KeyReasons}
 use Rattle.krl_held.specs.declared.reasons.NameReasons.{NameReasons}
@@ -13,9 +10,8 @@ use Rattle.krl_held.specs.declared.reasons.Reason.TheVariants as reasons
 use Rattle.krl_held.specs.declared.reasons.Reasons.{Reasons}
 use Rattle.krl_held.specs.Entry.{Entry}
 use Rattle.krl_held.specs.Naming.{IdOf, KeyOf, Name, SerialOf, Sha1Of, Sha256Of, SomeNames}
-use Rattle.krl_held.specs.NamingTests.{some_names}
 use Rattle.krl_held.specs.Revocations.{Revocations}
-use Rattle.krl_held.specs.Tested.{is_among}
+use Rattle.krl_held.specs.Tested.{holds_name, some_names}
 
 -- a property of the names of a certificate, which no plain key has
 abbrev pub OfCert : Option CertNames → (CertNames → Type 0) → Type 0
@@ -115,16 +111,6 @@ with_cert names key (Some cert) = cert_reasons names key cert
 unfoldable pub reasons_by : (Name → Bool) → Subject → Reasons
 reasons_by names subject = with_cert names (key_reasons names subject.plain) subject.cert
 
--- the name is held
-abbrev pub holds_name : Revocations → Name → Bool
-holds_name r (SerialOf a s) =
-    list_any (λ section. bytes_eq section.authority a && has section.spans s) r.sections
-holds_name r (IdOf a text) =
-    list_any (λ section. bytes_eq section.authority a && is_among section.ids text) r.sections
-holds_name r (KeyOf blob) = is_among r.keys blob
-holds_name r (Sha1Of hash) = is_among r.sha1s hash
-holds_name r (Sha256Of hash) = is_among r.sha256s hash
-
 -- the reasons that revocations give
 abbrev pub held_reasons : Revocations → Subject → Reasons
 held_reasons r = reasons_by (holds_name r)
@@ -132,3 +118,11 @@ held_reasons r = reasons_by (holds_name r)
 -- the reasons that entries give
 abbrev pub reasons_of : List Entry → Subject → Reasons
 reasons_of entries = reasons_by (some_names entries)
+
+-- ---- the test of whether something is revoked: there is a reason
+
+unfoldable pub revokes : Revocations → Subject → Bool
+revokes r subject = any_reason (held_reasons r subject)
+
+unfoldable pub is_revoked : List Entry → Subject → Bool
+is_revoked entries subject = any_reason (reasons_of entries subject)

@@ -1,37 +1,41 @@
--- The test of whether revocations revoke a key or a certificate.
-use Rattle.std.specs.Prelude.{ℕ, ◌||◌, ◌&&◌, Bool, false, List, [], Option, Some, None}
+-- Tests of names: whether entries name them, and whether revocations hold them.
+use Rattle.std.specs.Prelude.{ℕ, ◌-◌, ◌==◌, ◌&&◌, nat_lt, nat_le, Bool, false, List}
+use Rattle.std.specs.Int.{bit_at}
 use Rattle.std.specs.List.{list_any}
 use Rattle.std.specs.Str.{bytes_eq}
-use Rattle.sha1.specs.Sha1.{sha1}
-use Rattle.sha2.specs.Sha256.{sha256}
-use Rattle.krl_types.specs.Subject.{CertNames, Subject}
 use Rattle.serial_set.specs.Span.{has}
-use Rattle.krl_held.specs.Revocations.{Revocations, Section}
+use Rattle.krl_held.specs.Entry.{Entry, SerialsEntry, RangeEntry, BitmapEntry, IdEntry, KeyEntry}
+use Rattle.krl_held.specs.Entry.{Sha1Entry, Sha256Entry}
+use Rattle.krl_held.specs.Naming.{IdOf, KeyOf, Name, SerialOf, Sha1Of, Sha256Of}
+use Rattle.krl_held.specs.Revocations.{Revocations}
+
+-- the entry names it
+abbrev pub entry_names : Entry → Name → Bool
+entry_names (SerialsEntry b numbers) (SerialOf a s) =
+    bytes_eq b a && (nat_lt 0 s && list_any (λ n. n == s) numbers)
+entry_names (RangeEntry b min max) (SerialOf a s) =
+    bytes_eq b a && (nat_lt 0 s && (nat_le min s && nat_le s max))
+entry_names (BitmapEntry b offset number) (SerialOf a s) =
+    bytes_eq b a && (nat_lt 0 s && (nat_le offset s && (bit_at number (s - offset) == 1)))
+entry_names (IdEntry b id) (IdOf a text) = bytes_eq b a && bytes_eq id text
+entry_names (KeyEntry key) (KeyOf blob) = bytes_eq key blob
+entry_names (Sha1Entry of_key) (Sha1Of hash) = bytes_eq of_key hash
+entry_names (Sha256Entry of_key) (Sha256Of hash) = bytes_eq of_key hash
+entry_names _ _ = false
+
+-- some entry names it
+abbrev pub some_names : List Entry → Name → Bool
+some_names entries name = list_any (λ entry. entry_names entry name) entries
 
 abbrev pub is_among : List (List ℕ) → List ℕ → Bool
 is_among texts text = list_any (λ other. bytes_eq other text) texts
 
--- the key is held, by its blob or by one of its hashes
-abbrev pub holds_key : Revocations → (blob : List ℕ) → Bool
-holds_key r blob =
-    is_among r.keys blob || (is_among r.sha1s (sha1 blob) || is_among r.sha256s (sha256 blob))
-
--- the key ID or the serial number is held under exactly this authority
-abbrev pub section_holds : (authority id : List ℕ) (serial : ℕ) → Section → Bool
-section_holds authority id serial section =
-    bytes_eq section.authority authority
-    && (is_among section.ids id || has section.spans serial)
-
-abbrev pub holds_under : List Section → (authority id : List ℕ) (serial : ℕ) → Bool
-holds_under sections authority id serial = list_any (section_holds authority id serial) sections
-
--- the authority's key is held, or the certificate is held under all authorities or under its own
-abbrev pub holds_cert : Revocations → Option CertNames → Bool
-holds_cert r None = false
-holds_cert r (Some cert) =
-    holds_key r cert.authority
-    || (holds_under r.sections [] cert.key_id cert.serial
-    || holds_under r.sections cert.authority cert.key_id cert.serial)
-
-unfoldable pub revokes : Revocations → Subject → Bool
-revokes r subject = holds_key r subject.plain || holds_cert r subject.cert
+-- the name is held
+abbrev pub holds_name : Revocations → Name → Bool
+holds_name r (SerialOf a s) =
+    list_any (λ section. bytes_eq section.authority a && has section.spans s) r.sections
+holds_name r (IdOf a text) =
+    list_any (λ section. bytes_eq section.authority a && is_among section.ids text) r.sections
+holds_name r (KeyOf blob) = is_among r.keys blob
+holds_name r (Sha1Of hash) = is_among r.sha1s hash
+holds_name r (Sha256Of hash) = is_among r.sha256s hash

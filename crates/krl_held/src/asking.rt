@@ -9,13 +9,11 @@ ghost use Rattle.krl_held.specs.Scope.{NoneHolds};
 ghost use Rattle.krl_held.specs.Questions.{IsFirst};
 
 use crate::field::u64_of;
-use crate::held_sections::HeldSections;
 use crate::revocations::Revocations;
 use crate::texts::has_text;
 use serial_set::Spans;
 use sha1::Sha1;
 use sha2::{Digest, Sha256};
-use std::collections::BTreeSet;
 
 impl<S: Spans> Revocations<S> {
     /// Returns the revocations unchanged. They are in order.
@@ -34,32 +32,44 @@ impl<S: Spans> Revocations<S> {
         has_text(&self.keys, blob)
     }
 
-    // Whether the SHA-1 of a key is held.
+    // Whether the SHA-1 of a key is held. It is not computed if there are no such hashes.
     pub(crate) fn has_sha1(&self, blob: &[u8]) -> bool
         ensures { IsTrue result ↔ Contains self.now.sha1s (sha1 blob.now) }
     {
-        has_sha1(&self.sha1s, blob)
+        if self.sha1s.is_empty() {
+            return false;
+        }
+        self.sha1s.contains(&Sha1::digest(blob))
     }
 
-    // Whether the SHA-256 of a key is held.
+    // Whether the SHA-256 of a key is held. It is not computed if there are no such hashes.
     pub(crate) fn has_sha256(&self, blob: &[u8]) -> bool
         ensures { IsTrue result ↔ Contains self.now.sha256s (sha256 blob.now) }
     {
-        has_sha256(&self.sha256s, blob)
+        if self.sha256s.is_empty() {
+            return false;
+        }
+        self.sha256s.contains(&Sha256::digest(blob))
     }
 
     // Whether a key ID is held under exactly this authority.
     pub(crate) fn has_id(&self, authority: &[u8], id: &[u8]) -> bool
         ensures { IsTrue result ↔ HoldsId self.now.sections authority.now id.now }
     {
-        has_id(&self.sections, authority, id)
+        match self.sections.find(authority) {
+            None => false,
+            Some(section) => section.ids.has(id),
+        }
     }
 
     // Whether a serial number is held under exactly this authority.
     pub(crate) fn has_serial(&self, authority: &[u8], serial: u64) -> bool
         ensures { IsTrue result ↔ HoldsSerial self.now.sections authority.now serial }
     {
-        has_serial(&self.sections, authority, serial)
+        match self.sections.find(authority) {
+            None => false,
+            Some(section) => section.spans.has(serial),
+        }
     }
 
     // Whether some serial number from `lo` to `hi` may be held under exactly this authority.
@@ -67,14 +77,20 @@ impl<S: Spans> Revocations<S> {
         ensures { result ≡ false → (s : ℕ) → lo ≤ s → s ≤ hi
             → HoldsSerial self.now.sections authority.now s → ⊥ }
     {
-        may_have(&self.sections, authority, lo, hi)
+        match self.sections.find(authority) {
+            None => false,
+            Some(section) => section.spans.meets(lo, hi),
+        }
     }
 
     // The first serial number from `lo` to `hi` that is held under exactly this authority.
     pub(crate) fn first_serial(&self, authority: &[u8], lo: u64, hi: u64) -> Option<u64>
         ensures { IsFirst (HoldsSerial self.now.sections authority.now) lo hi result }
     {
-        first_serial(&self.sections, authority, lo, hi)
+        match self.sections.find(authority) {
+            None => None,
+            Some(section) => first_from(&section.spans, lo, hi),
+        }
     }
 
     // How many bytes at the front of some serial numbers belong to numbers that are not held under
@@ -84,73 +100,10 @@ impl<S: Spans> Revocations<S> {
         ensures whole { result % 8 ≡ 0 }
         ensures none { NoneHolds (HoldsSerial self.now.sections authority.now) serials.now result }
     {
-        unheld(&self.sections, authority, serials)
-    }
-}
-
-// Whether the SHA-1 of the bytes is among the hashes. It is not computed if there are no hashes.
-fn has_sha1(hashes: &BTreeSet<[u8; 20]>, bytes: &[u8]) -> bool
-    ensures { IsTrue result ↔ Contains hashes.now.keys (sha1 bytes.now) }
-{
-    if hashes.is_empty() {
-        return false;
-    }
-    hashes.contains(&Sha1::digest(bytes))
-}
-
-// Whether the SHA-256 of the bytes is among the hashes. It is not computed if there are no hashes.
-fn has_sha256(hashes: &BTreeSet<[u8; 32]>, bytes: &[u8]) -> bool
-    ensures { IsTrue result ↔ Contains hashes.now.keys (sha256 bytes.now) }
-{
-    if hashes.is_empty() {
-        return false;
-    }
-    hashes.contains(&Sha256::digest(bytes))
-}
-
-// Whether a key ID is held under exactly this authority.
-fn has_id<S: Spans>(sections: &HeldSections<S>, authority: &[u8], id: &[u8]) -> bool
-    ensures { IsTrue result ↔ HoldsId sections.now authority.now id.now }
-{
-    match sections.find(authority) {
-        None => false,
-        Some(section) => section.ids.has(id),
-    }
-}
-
-// Whether a serial number is held under exactly this authority.
-fn has_serial<S: Spans>(sections: &HeldSections<S>, authority: &[u8], serial: u64) -> bool
-    ensures { IsTrue result ↔ HoldsSerial sections.now authority.now serial }
-{
-    match sections.find(authority) {
-        None => false,
-        Some(section) => section.spans.has(serial),
-    }
-}
-
-// Whether some serial number from `lo` to `hi` may be held under exactly this authority.
-fn may_have<S: Spans>(sections: &HeldSections<S>, authority: &[u8], lo: u64, hi: u64) -> bool
-    ensures { result ≡ false → (s : ℕ) → lo ≤ s → s ≤ hi
-        → HoldsSerial sections.now authority.now s → ⊥ }
-{
-    match sections.find(authority) {
-        None => false,
-        Some(section) => section.spans.meets(lo, hi),
-    }
-}
-
-// The first serial number from `lo` to `hi` that is held under exactly this authority.
-fn first_serial<S: Spans>(
-    sections: &HeldSections<S>,
-    authority: &[u8],
-    lo: u64,
-    hi: u64,
-) -> Option<u64>
-    ensures { IsFirst (HoldsSerial sections.now authority.now) lo hi result }
-{
-    match sections.find(authority) {
-        None => None,
-        Some(section) => first_from(&section.spans, lo, hi),
+        match self.sections.find(authority) {
+            None => serials.len() / 8 * 8,
+            Some(section) => count_others(&section.spans, serials),
+        }
     }
 }
 
@@ -168,19 +121,6 @@ fn first_from<S: Spans>(set: &S, lo: u64, hi: u64) -> Option<u64>
     }
     let first = runs[0].lo;
     if hi < first { None } else { Some(first) }
-}
-
-// How many bytes at the front of some serial numbers belong to numbers that are not held under
-// exactly this authority.
-fn unheld<S: Spans>(sections: &HeldSections<S>, authority: &[u8], serials: &[u8]) -> usize
-    ensures within { result ≤ length serials.now }
-    ensures whole { result % 8 ≡ 0 }
-    ensures none { NoneHolds (HoldsSerial sections.now authority.now) serials.now result }
-{
-    match sections.find(authority) {
-        None => serials.len() / 8 * 8,
-        Some(section) => count_others(&section.spans, serials),
-    }
 }
 
 // How many bytes at the front of some serial numbers belong to numbers that are not in a set.

@@ -1,30 +1,25 @@
 //! The findings of questions about a list that is streamed.
 
-ghost use Rattle.std.specs.Prelude.{◌≡◌, ◌↔◌, ◌+◌, ◌<◌, ◌≤◌, ◌∷◌, [], ℕ, List, true, IfOk};
+ghost use Rattle.std.specs.Prelude.{◌≡◌, ◌↔◌, ◌+◌, ◌<◌, ◌≤◌, ◌∷◌, [], ℕ, List};
 ghost use Rattle.std.specs.Prelude.{IsTrue, OnOk, ⊤};
-ghost use Rattle.sha1.specs.Sha1.{sha1};
-ghost use Rattle.sha2.specs.Sha256.{sha256};
 ghost use Rattle.serial_set.specs.BitRuns.{IsInterval};
-ghost use Rattle.krl_held.specs.Authority.{authority_bytes, IsAuthority};
 ghost use Rattle.krl_held.specs.Revocations.{IsOrderly, IsStoredWithin, held};
 ghost use Rattle.krl_held.specs.Entry.{Entry, RangeEntry};
-ghost use Rattle.krl_held.specs.Naming.{Sha1Of, Sha256Of};
 ghost use Rattle.krl_held.specs.Revoked.{Revoked};
-ghost use Rattle.krl_held.specs.Questions.{AreHashed, Asks, FindsIn, HashesOf, asked_in};
-ghost use Rattle.krl_held.specs.Scope.{IsTopic, IsWithin, MeansMoreWithin, MeansWithin};
-ghost use Rattle.krl_held.specs.Reasons.{IsReason, has_reason, held_reasons};
+ghost use Rattle.krl_held.specs.Questions.{Asks, FindsIn, asked_in};
+ghost use Rattle.krl_held.specs.Scope.{IsWithin, MeansMoreWithin, MeansWithin};
+ghost use Rattle.krl_held.specs.Reasons.{IsReason, has_reason, held_reasons, revokes};
 ghost use Rattle.krl_held.specs.declared.reasons.Reason.{Reason as ReasonOf};
-ghost use Rattle.krl_held.specs.Tested.{revokes};
 
+use crate::key_hashes::asks_hash;
 use crate::questions::Questions;
 use crate::reasons::Reasons;
-use crate::revocations::{Revocations, bytes_or_none};
+use crate::revocations::Revocations;
 use crate::store::Store;
-use crate::texts::Texts;
 use krl_types::Subject;
 use serial_set::{Span, Spans};
 use sha1::Sha1;
-use sha2::{Digest, Sha256};
+use sha2::Sha256;
 use std::alloc::{AllocError, Global};
 use std::collections::BTreeSet;
 use std::marker::Model;
@@ -106,106 +101,24 @@ impl<S: Spans> Findings<S> {
         self.found.in_order()
     }
 
-    // Whether a key that is asked about has this SHA-1. The first call hashes all of these keys.
-    fn asks_sha1(&mut self, hash: &[u8; 20]) -> Result<bool, AllocError>
-        ensures same { self.new ≡ self.old }
-        ensures asked { IfOk result (λ asked. IsTrue asked
-            ↔ IsTopic self.old.topics (Sha1Of hash.now)) }
-    {
-        make_sha1s(&self.topics, &mut self.has_sha1s, &mut self.sha1s)?;
-        Ok(self.sha1s.contains(hash))
-    }
-
-    // Whether a key that is asked about has this SHA-256. The first call hashes all of these keys.
-    fn asks_sha256(&mut self, hash: &[u8; 32]) -> Result<bool, AllocError>
-        ensures same { self.new ≡ self.old }
-        ensures asked { IfOk result (λ asked. IsTrue asked
-            ↔ IsTopic self.old.topics (Sha256Of hash.now)) }
-    {
-        make_sha256s(&self.topics, &mut self.has_sha256s, &mut self.sha256s)?;
-        Ok(self.sha256s.contains(hash))
-    }
-
     // Takes the serials of a span, from the first one that is asked about.
-    fn put_span(&mut self, authority: Option<&[u8]>, span: Span) -> Result<(), AllocError>
-        requires interval { IsInterval span }
-        requires authority { IsAuthority authority }
+    fn put_span(&mut self, authority: &[u8], span: Span) -> Result<(), AllocError>
+        requires { IsInterval span }
         ensures means { OnOk result (MeansMoreWithin (asked_in self.old) self.old.found
-            self.new.found (RangeEntry (authority_bytes authority.entry) span.lo span.hi ∷ [])) }
+            self.new.found (RangeEntry authority.now span.lo span.hi ∷ [])) }
         ensures topics { self.new.topics ≡ self.old.topics }
         ensures within { IsWithin self.old.topics self.old.found
             → IsWithin self.new.topics self.new.found }
         ensures held { held self.new.found ≤ held self.old.found + 1 }
         ensures stored { (n : ℕ)
-            → IsStoredWithin (authority_bytes authority.entry) self.old.found n
-            → IsStoredWithin (authority_bytes authority.entry) self.new.found n }
+            → IsStoredWithin authority.now self.old.found n
+            → IsStoredWithin authority.now self.new.found n }
     {
-        let bytes = bytes_or_none(authority);
-        match self.topics.first_serial(bytes, span.lo, span.hi) {
+        match self.topics.first_serial(authority, span.lo, span.hi) {
             None => Ok(()),
             Some(first) => self.found.add_serials(authority, first, span.hi),
         }
     }
-}
-
-// Adds the SHA-1 of each key that is asked about, unless this was done before.
-fn make_sha1s<S: Spans>(
-    topics: &Revocations<S>,
-    has: &mut bool,
-    hashes: &mut BTreeSet<[u8; 20]>,
-) -> Result<(), AllocError>
-    requires { AreHashed has.old sha1 topics.now.keys hashes.old.keys }
-    ensures hashed { AreHashed has.new sha1 topics.now.keys hashes.new.keys }
-    ensures made { OnOk result (has.new ≡ true) }
-{
-    if *has {
-        return Ok(());
-    }
-    hashes.clear();
-    hash_sha1s(topics.walk_keys(), hashes)?;
-    *has = true;
-    Ok(())
-}
-
-// Adds the SHA-1 of each key.
-fn hash_sha1s(keys: Texts<'_>, hashes: &mut BTreeSet<[u8; 20]>) -> Result<(), AllocError>
-    requires { hashes.old.keys ≡ [] }
-    ensures { OnOk result (HashesOf sha1 keys.entry hashes.new.keys) }
-{
-    for key in keys {
-        hashes.insert(Sha1::digest(key))?;
-    }
-    Ok(())
-}
-
-// Adds the SHA-256 of each key that is asked about, unless this was done before.
-fn make_sha256s<S: Spans>(
-    topics: &Revocations<S>,
-    has: &mut bool,
-    hashes: &mut BTreeSet<[u8; 32]>,
-) -> Result<(), AllocError>
-    requires { AreHashed has.old sha256 topics.now.keys hashes.old.keys }
-    ensures hashed { AreHashed has.new sha256 topics.now.keys hashes.new.keys }
-    ensures made { OnOk result (has.new ≡ true) }
-{
-    if *has {
-        return Ok(());
-    }
-    hashes.clear();
-    hash_sha256s(topics.walk_keys(), hashes)?;
-    *has = true;
-    Ok(())
-}
-
-// Adds the SHA-256 of each key.
-fn hash_sha256s(keys: Texts<'_>, hashes: &mut BTreeSet<[u8; 32]>) -> Result<(), AllocError>
-    requires { hashes.old.keys ≡ [] }
-    ensures { OnOk result (HashesOf sha256 keys.entry hashes.new.keys) }
-{
-    for key in keys {
-        hashes.insert(Sha256::digest(key))?;
-    }
-    Ok(())
 }
 
 impl<S: Spans> Store for Findings<S> {
@@ -231,15 +144,15 @@ impl<S: Spans> Store for Findings<S> {
         self.topics.unheld(authority, serials)
     }
 
-    fn put_serials(&mut self, authority: Option<&[u8]>, near: &[Span]) -> Result<(), AllocError> {
+    fn put_serials(&mut self, authority: &[u8], near: &[Span]) -> Result<(), AllocError> {
         for span in near {
             self.put_span(authority, *span)?;
         }
         Ok(())
     }
 
-    fn put_id(&mut self, authority: Option<&[u8]>, id: &[u8]) -> Result<(), AllocError> {
-        if !self.topics.has_id(bytes_or_none(authority), id) {
+    fn put_id(&mut self, authority: &[u8], id: &[u8]) -> Result<(), AllocError> {
+        if !self.topics.has_id(authority, id) {
             return Ok(());
         }
         self.found.add_id(authority, id)
@@ -253,7 +166,12 @@ impl<S: Spans> Store for Findings<S> {
     }
 
     fn put_sha1(&mut self, hash: &[u8; 20]) -> Result<(), AllocError> {
-        let asked = self.asks_sha1(hash)?;
+        let asked = asks_hash::<Sha1, S, 20>(
+            &self.topics,
+            &mut self.has_sha1s,
+            &mut self.sha1s,
+            hash,
+        )?;
         if !asked {
             return Ok(());
         }
@@ -261,7 +179,12 @@ impl<S: Spans> Store for Findings<S> {
     }
 
     fn put_sha256(&mut self, hash: &[u8; 32]) -> Result<(), AllocError> {
-        let asked = self.asks_sha256(hash)?;
+        let asked = asks_hash::<Sha256, S, 32>(
+            &self.topics,
+            &mut self.has_sha256s,
+            &mut self.sha256s,
+            hash,
+        )?;
         if !asked {
             return Ok(());
         }

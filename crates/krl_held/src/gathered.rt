@@ -8,7 +8,7 @@ ghost use Rattle.krl_held.specs.Revocations.{IsOrderly, nothing};
 
 use crate::addition::Addition;
 use crate::held_section::Apart;
-use crate::revocations::{Revocations, bytes_or_none};
+use crate::revocations::Revocations;
 use crate::store::Store;
 use serial_set::{Span, Spans};
 use std::alloc::{AllocError, Global};
@@ -119,12 +119,12 @@ impl<S: Spans> Store for Gathered<S> {
         comment
     }
 
-    fn put_serials(&mut self, authority: Option<&[u8]>, near: &[Span]) -> Result<(), AllocError> {
-        self.put(bytes_or_none(authority), Addition::Serials(near))
+    fn put_serials(&mut self, authority: &[u8], near: &[Span]) -> Result<(), AllocError> {
+        self.put(authority, Addition::Serials(near))
     }
 
-    fn put_id(&mut self, authority: Option<&[u8]>, id: &[u8]) -> Result<(), AllocError> {
-        self.put(bytes_or_none(authority), Addition::Id(id))
+    fn put_id(&mut self, authority: &[u8], id: &[u8]) -> Result<(), AllocError> {
+        self.put(authority, Addition::Id(id))
     }
 
     fn put_key(&mut self, blob: &[u8]) -> Result<(), AllocError> {

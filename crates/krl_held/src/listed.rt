@@ -1,6 +1,5 @@
 //! The section of one authority, borrowed.
 ghost use Rattle.std.specs.Prelude.{◌≡◌, ◌<◌, length, Some, slice_get};
-ghost use Rattle.krl_held.specs.Authority.{authority_bytes, IsAuthority};
 
 use crate::held_section::HeldSection;
 use crate::texts::Texts;
@@ -35,19 +34,8 @@ impl<'a, S: Spans> Listed<'a, S> {
         Listed { authority, section }
     }
 
-    /// The bytes of the authority, or `None` for all authorities.
-    pub fn authority(&self) -> Option<&'a [u8]>
-        ensures bytes { authority_bytes result ≡ self.now.authority }
-        ensures some { IsAuthority result }
-    {
-        if self.authority.len() == 0 {
-            return None;
-        }
-        Some(self.authority)
-    }
-
-    /// The bytes of the authority as a list spells them: empty for all authorities.
-    pub fn bytes(&self) -> &'a [u8]
+    /// The bytes of the authority, empty for all authorities.
+    pub fn authority(&self) -> &'a [u8]
         ensures { result.now ≡ self.now.authority }
     {
         self.authority

@@ -3,14 +3,13 @@
 ghost use Rattle.std.specs.Prelude.{◌≡◌, ◌+◌, ◌<◌, ◌≤◌, Contains, OnOk, Some, length};
 ghost use Rattle.sha1.specs.Sha1.{sha1};
 ghost use Rattle.sha2.specs.Sha256.{sha256};
-ghost use Rattle.krl_held.specs.Authority.{authority_bytes, IsAuthority};
 ghost use Rattle.krl_held.specs.Revocations.{IsOrderly, Revocations as RevocationsOf, nothing};
 ghost use Rattle.krl_held.specs.Revocations.{serials_in, stored};
 ghost use Rattle.krl_held.specs.Naming.{IdOf, KeyOf, SerialOf, Sha1Of, Sha256Of};
 ghost use Rattle.krl_held.specs.Questions.{Asks, AsksMore, Finds, FindsIn, HasAll, HasUnder};
 ghost use Rattle.krl_held.specs.Questions.{IsOfKey, names_size, subject_size};
 
-use crate::revocations::{Revocations, bytes_or_none};
+use crate::revocations::Revocations;
 use krl_types::{CertNames, Subject};
 use serial_set::Spans;
 use sha1::Sha1;
@@ -118,31 +117,27 @@ impl<S: Spans> Questions<S> {
         ensures keys { length self.new.topics.keys ≤ length self.old.topics.keys + 1 }
     {
         self.ask_key(front, cert.authority)?;
-        self.ask_under(front, None, cert)?;
-        if cert.authority.is_empty() {
-            return Ok(());
-        }
-        self.ask_under(front, Some(cert.authority), cert)
+        self.ask_under(front, &[], cert)?;
+        self.ask_under(front, cert.authority, cert)
     }
 
     // Asks about a certificate's key ID and serial number under an authority, or under all
-    // authorities.
+    // authorities if it is empty.
     fn ask_under(
         &mut self,
         front: &Revocations<S>,
-        authority: Option<&[u8]>,
+        authority: &[u8],
         cert: &CertNames,
     ) -> Result<(), AllocError>
-        requires authority { IsAuthority authority }
-        requires found { FindsIn front.now self.old }
+        requires { FindsIn front.now self.old }
         ensures asked { OnOk result (HasUnder self.new.topics
-            (authority_bytes authority.entry) cert.now.key_id cert.now.serial) }
+            authority.now cert.now.key_id cert.now.serial) }
         ensures more { OnOk result (AsksMore self.old.topics self.new.topics) }
         ensures found { OnOk result (FindsIn front.now self.new) }
         ensures serials { serials_in self.new.topics.sections
             ≤ serials_in self.old.topics.sections + 1 }
         ensures stored { stored self.new.topics ≤ stored self.old.topics
-            + length (authority_bytes authority.entry) + length cert.now.key_id }
+            + length authority.now + length cert.now.key_id }
         ensures keys { self.new.topics.keys ≡ self.old.topics.keys }
     {
         self.topics.add_id(authority, cert.key_id)?;
@@ -218,14 +213,13 @@ fn find_sha256<S: Spans>(
 fn find_id<S: Spans>(
     front: &Revocations<S>,
     found: &mut Revocations<S>,
-    authority: Option<&[u8]>,
+    authority: &[u8],
     id: &[u8],
 ) -> Result<(), AllocError>
-    requires { IsAuthority authority }
     ensures { OnOk result (Finds front.now
-        (λ name. name ≡ IdOf (authority_bytes authority.entry) id.now) found.old found.new) }
+        (λ name. name ≡ IdOf authority.now id.now) found.old found.new) }
 {
-    if !front.has_id(bytes_or_none(authority), id) {
+    if !front.has_id(authority, id) {
         return Ok(());
     }
     found.add_id(authority, id)
@@ -235,15 +229,14 @@ fn find_id<S: Spans>(
 fn find_serial<S: Spans>(
     front: &Revocations<S>,
     found: &mut Revocations<S>,
-    authority: Option<&[u8]>,
+    authority: &[u8],
     serial: u64,
 ) -> Result<(), AllocError>
-    requires some { 0 < serial }
-    requires authority { IsAuthority authority }
+    requires { 0 < serial }
     ensures { OnOk result (Finds front.now
-        (λ name. name ≡ SerialOf (authority_bytes authority.entry) serial) found.old found.new) }
+        (λ name. name ≡ SerialOf authority.now serial) found.old found.new) }
 {
-    if !front.has_serial(bytes_or_none(authority), serial) {
+    if !front.has_serial(authority, serial) {
         return Ok(());
     }
     found.add_serials(authority, serial, serial)

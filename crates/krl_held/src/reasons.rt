@@ -1,9 +1,11 @@
-//! Why a key or a certificate is revoked.
+//! Whether a key or a certificate is revoked, and why.
 
 ghost use Rattle.std.specs.Prelude.{◌≡◌, ◌↔◌, IsTrue, List};
 ghost use Rattle.krl_held.specs.Entry.{Entry};
-ghost use Rattle.krl_held.specs.Reasons.{IsReason, any_reason, cert_reasons, has_reason, held_reasons, holds_name, id_reasons, key_reasons, serial_reasons};
+ghost use Rattle.krl_held.specs.Reasons.{IsReason, any_reason, cert_reasons, has_reason, held_reasons, id_reasons, key_reasons, revokes, serial_reasons};
 ghost use Rattle.krl_held.specs.Revocations.{Means};
+ghost use Rattle.krl_held.specs.Revoked.{Revoked};
+ghost use Rattle.krl_held.specs.Tested.{holds_name};
 ghost use Rattle.krl_held.specs.declared.reasons.Reason.{Reason as ReasonOf};
 
 use crate::revocations::Revocations;
@@ -112,6 +114,16 @@ impl Reasons {
 }
 
 impl<S: Spans> Revocations<S> {
+    /// Whether a plain key or a certificate is revoked (ssh-keygen(1), KEY REVOCATION LISTS).
+    /// Allocates nothing. A hash is computed only if there are hashes of its kind.
+    pub fn query(&self, subject: &Subject) -> bool
+        ensures revoked { (entries : List Entry) → Means self.now entries
+            → (IsTrue result ↔ Revoked entries subject.now) }
+        ensures tested { result ≡ revokes self.now subject.now }
+    {
+        self.reasons(subject).any()
+    }
+
     /// Why a plain key or a certificate is revoked: every reason. Allocates nothing. A hash is
     /// computed only if there are hashes of its kind.
     pub fn reasons(&self, subject: &Subject) -> Reasons

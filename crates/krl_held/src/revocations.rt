@@ -1,9 +1,6 @@
 //! The revocations of keys and certificates.
-ghost use Rattle.std.specs.Prelude.{◌≡◌, ◌+◌, ◌<◌, ◌≤◌, ◌∷◌, [], ℕ, List, length, All, IfOk, OnOk, OnErr, Some};
-ghost use Rattle.serial_set.specs.BitRuns.{IsInterval};
-ghost use Rattle.serial_set.specs.Near.{AreNear};
-ghost use Rattle.krl_held.specs.Authority.{authority_bytes, IsAuthority};
-ghost use Rattle.krl_held.specs.Changes.{IsOneChange, MeansMore, run_entries};
+ghost use Rattle.std.specs.Prelude.{◌≡◌, ◌+◌, ◌<◌, ◌≤◌, ◌∷◌, [], ℕ, List, length, IfOk, OnOk, OnErr, Some};
+ghost use Rattle.krl_held.specs.Changes.{HoldsMore, IsOneChange, MeansMore, added_entries, bytes_in};
 ghost use Rattle.krl_held.specs.Gathered.{HasPlace, TakesOut, whole};
 ghost use Rattle.krl_held.specs.Revocations.{IsNamed, IsOrderly, Means, nothing, held, stored};
 ghost use Rattle.krl_held.specs.Entry.{RangeEntry, IdEntry, KeyEntry, Sha1Entry, Sha256Entry};
@@ -57,85 +54,65 @@ impl<S: Spans> Revocations<S> {
         }
     }
 
-    /// Revokes the serials from `lo` to `hi` of an authority, or of all authorities if it is
-    /// `None`. `lo` is above 0 and at most `hi`, and an authority has at least one byte. Fails only
-    /// if an allocation fails, and then changes nothing.
-    pub fn add_serials(
-        &mut self,
-        authority: Option<&[u8]>,
-        lo: u64,
-        hi: u64,
-    ) -> Result<(), AllocError>
+    /// Revokes the serials from `lo` to `hi` of an authority, given by its bytes, or of all
+    /// authorities if there are none. `lo` is above 0 and at most `hi`. Fails only if an allocation
+    /// fails, and then changes nothing.
+    pub fn add_serials(&mut self, authority: &[u8], lo: u64, hi: u64) -> Result<(), AllocError>
         requires from_one { 0 < lo }
         requires ordered { lo ≤ hi }
-        requires authority { IsAuthority authority }
         ensures means { OnOk result (MeansMore self.old self.new
-            (RangeEntry (authority_bytes authority.entry) lo hi ∷ [])) }
+            (RangeEntry authority.now lo hi ∷ [])) }
         ensures orderly { IsOrderly self.old }
         ensures refused { OnErr result (self.new ≡ self.old) }
         ensures held { held self.new ≤ held self.old + 1 }
         ensures stored { stored self.new
-            ≤ stored self.old + length (authority_bytes authority.entry) }
-        ensures known { IsNamed self.old (authority_bytes authority.entry)
+            ≤ stored self.old + length authority.now }
+        ensures known { IsNamed self.old authority.now
             → stored self.new ≤ stored self.old }
-        ensures named { OnOk result (IsNamed self.new (authority_bytes authority.entry)) }
+        ensures named { OnOk result (IsNamed self.new authority.now) }
         ensures stays { (other : List ℕ) → IsNamed self.old other → IsNamed self.new other }
         ensures keys { self.new.keys ≡ self.old.keys }
     {
-        self.add_near(authority, &[Span { lo, hi }])
+        self.add(authority, Addition::Serials(&[Span { lo, hi }]))
     }
 
-    // Revokes the serials of some spans, which lie near each other, with one search for the
-    // authority. Fails only if an allocation fails, and then changes nothing.
-    pub(crate) fn add_near(
-        &mut self,
-        authority: Option<&[u8]>,
-        near: &[Span],
-    ) -> Result<(), AllocError>
-        requires some { 0 < length near.now }
-        requires intervals { All IsInterval near.now }
-        requires near { AreNear near.now }
-        requires authority { IsAuthority authority }
+    /// Revokes the certificates with a key ID of an authority, given by its bytes, or of all
+    /// authorities if there are none. Fails only if an allocation fails, and then changes nothing.
+    pub fn add_id(&mut self, authority: &[u8], id: &[u8]) -> Result<(), AllocError>
         ensures means { OnOk result (MeansMore self.old self.new
-            (run_entries (authority_bytes authority.entry) near.now)) }
-        ensures orderly { IsOrderly self.old }
-        ensures refused { OnErr result (self.new ≡ self.old) }
-        ensures held { held self.new ≤ held self.old + length near.now }
-        ensures stored { stored self.new
-            ≤ stored self.old + length (authority_bytes authority.entry) }
-        ensures known { IsNamed self.old (authority_bytes authority.entry)
-            → stored self.new ≤ stored self.old }
-        ensures named { OnOk result (IsNamed self.new (authority_bytes authority.entry)) }
-        ensures stays { (other : List ℕ) → IsNamed self.old other → IsNamed self.new other }
-        ensures keys { self.new.keys ≡ self.old.keys }
-    {
-        let bytes = bytes_or_none(authority);
-        let addition = Addition::Serials(near);
-        self.sections.add(bytes, addition)?;
-        Ok(())
-    }
-
-    /// Revokes the certificates with a key ID of an authority, or of all authorities if it is
-    /// `None`. An authority has at least one byte. Fails only if an allocation fails, and then
-    /// changes nothing.
-    pub fn add_id(&mut self, authority: Option<&[u8]>, id: &[u8]) -> Result<(), AllocError>
-        requires { IsAuthority authority }
-        ensures means { OnOk result (MeansMore self.old self.new
-            (IdEntry (authority_bytes authority.entry) id.now ∷ [])) }
+            (IdEntry authority.now id.now ∷ [])) }
         ensures orderly { IsOrderly self.old }
         ensures refused { OnErr result (self.new ≡ self.old) }
         ensures held { held self.new ≡ held self.old }
         ensures stored { stored self.new
-            ≤ stored self.old + length (authority_bytes authority.entry) + length id.now }
-        ensures known { IsNamed self.old (authority_bytes authority.entry)
+            ≤ stored self.old + length authority.now + length id.now }
+        ensures known { IsNamed self.old authority.now
             → stored self.new ≤ stored self.old + length id.now }
-        ensures named { OnOk result (IsNamed self.new (authority_bytes authority.entry)) }
+        ensures named { OnOk result (IsNamed self.new authority.now) }
         ensures stays { (other : List ℕ) → IsNamed self.old other → IsNamed self.new other }
         ensures keys { self.new.keys ≡ self.old.keys }
     {
-        let bytes = bytes_or_none(authority);
-        let addition = Addition::Id(id);
-        self.sections.add(bytes, addition)?;
+        self.add(authority, Addition::Id(id))
+    }
+
+    // Adds under an authority, with one search for it. Fails only if an allocation fails, and then
+    // changes nothing.
+    pub(crate) fn add(&mut self, authority: &[u8], addition: Addition<'_>) -> Result<(), AllocError>
+        requires { IsOneChange addition }
+        ensures means { OnOk result (MeansMore self.old self.new
+            (added_entries authority.now addition.entry)) }
+        ensures orderly { IsOrderly self.old }
+        ensures refused { OnErr result (self.new ≡ self.old) }
+        ensures held { HoldsMore addition.entry (held self.old) (held self.new) }
+        ensures stored { stored self.new
+            ≤ stored self.old + length authority.now + bytes_in addition.entry }
+        ensures known { IsNamed self.old authority.now
+            → stored self.new ≤ stored self.old + bytes_in addition.entry }
+        ensures named { OnOk result (IsNamed self.new authority.now) }
+        ensures stays { (other : List ℕ) → IsNamed self.old other → IsNamed self.new other }
+        ensures keys { self.new.keys ≡ self.old.keys }
+    {
+        self.sections.add(authority, addition)?;
         Ok(())
     }
 
@@ -208,15 +185,5 @@ impl<S: Spans> Revocations<S> {
         ensures { self.new ≡ whole (apart_of S.spans (Some apart)) self.old }
     {
         self.sections.put_back(apart);
-    }
-}
-
-// The bytes of an authority, or none for all authorities.
-pub(crate) fn bytes_or_none<'a>(authority: Option<&'a [u8]>) -> &'a [u8]
-    ensures { result.now ≡ authority_bytes authority.entry }
-{
-    match authority {
-        None => &[],
-        Some(bytes) => bytes,
     }
 }

@@ -4,7 +4,6 @@ ghost use Rattle.std.specs.Prelude.{◌≡◌, ◌+◌, ◌%◌, ◌<◌, ◌≤
 ghost use Rattle.std.specs.Prelude.{OnOk, false, ⊤};
 ghost use Rattle.serial_set.specs.BitRuns.{IsInterval};
 ghost use Rattle.serial_set.specs.Near.{AreNear};
-ghost use Rattle.krl_held.specs.Authority.{authority_bytes, IsAuthority};
 ghost use Rattle.krl_held.specs.Changes.{run_entries};
 ghost use Rattle.krl_held.specs.Revocations.{IsStoredWithin, held};
 ghost use Rattle.krl_held.specs.Entry.{IdEntry, KeyEntry, Sha1Entry, Sha256Entry};
@@ -12,6 +11,7 @@ ghost use Rattle.krl_held.specs.Naming.{SerialOf};
 ghost use Rattle.krl_held.specs.Scope.{AreUnwanted, InScope, MeansMoreWithin, WithinScope};
 ghost use Rattle.krl_held.specs.Scope.{kept_comment};
 
+use crate::addition::Addition;
 use crate::revocations::Revocations;
 use serial_set::{Span, Spans};
 use std::alloc::AllocError;
@@ -54,39 +54,37 @@ pub trait Store: Drop {
         ensures whole { result % 8 ≡ 0 }
         ensures unwanted { AreUnwanted (scope self.now) authority.now serials.now result };
 
-    /// Takes serials under an authority, or under all authorities if it is `None`. The serials are
+    /// Takes serials under an authority, or under all authorities if it is empty. The serials are
     /// spans that lie near each other.
-    fn put_serials(&mut self, authority: Option<&[u8]>, near: &[Span]) -> Result<(), AllocError>
+    fn put_serials(&mut self, authority: &[u8], near: &[Span]) -> Result<(), AllocError>
         requires some { 0 < length near.now }
         requires intervals { All IsInterval near.now }
         requires near { AreNear near.now }
-        requires authority { IsAuthority authority }
-        requires at { is_at self.old (authority_bytes authority) }
-        ensures at { is_at self.new (authority_bytes authority.entry) }
+        requires at { is_at self.old authority.now }
+        ensures at { is_at self.new authority.now }
         ensures means { OnOk result (MeansMoreWithin (scope self.old) (contents self.old)
-            (contents self.new) (run_entries (authority_bytes authority.entry) near.now)) }
+            (contents self.new) (run_entries authority.now near.now)) }
         ensures scope { scope self.new ≡ scope self.old }
         ensures within { WithinScope (scope self.old) (contents self.old)
             → WithinScope (scope self.new) (contents self.new) }
         ensures held { held (contents self.new) ≤ held (contents self.old) + length near.now }
         ensures stored { (n : ℕ)
-            → IsStoredWithin (authority_bytes authority.entry) (contents self.old) n
-            → IsStoredWithin (authority_bytes authority.entry) (contents self.new) n };
+            → IsStoredWithin authority.now (contents self.old) n
+            → IsStoredWithin authority.now (contents self.new) n };
 
-    /// Takes a key ID under an authority, or under all authorities if it is `None`.
-    fn put_id(&mut self, authority: Option<&[u8]>, id: &[u8]) -> Result<(), AllocError>
-        requires authority { IsAuthority authority }
-        requires at { is_at self.old (authority_bytes authority) }
-        ensures at { is_at self.new (authority_bytes authority.entry) }
+    /// Takes a key ID under an authority, or under all authorities if it is empty.
+    fn put_id(&mut self, authority: &[u8], id: &[u8]) -> Result<(), AllocError>
+        requires { is_at self.old authority.now }
+        ensures at { is_at self.new authority.now }
         ensures means { OnOk result (MeansMoreWithin (scope self.old) (contents self.old)
-            (contents self.new) (IdEntry (authority_bytes authority.entry) id.now ∷ [])) }
+            (contents self.new) (IdEntry authority.now id.now ∷ [])) }
         ensures scope { scope self.new ≡ scope self.old }
         ensures within { WithinScope (scope self.old) (contents self.old)
             → WithinScope (scope self.new) (contents self.new) }
         ensures held { held (contents self.new) ≡ held (contents self.old) }
         ensures stored { (n : ℕ)
-            → IsStoredWithin (authority_bytes authority.entry) (contents self.old) n
-            → IsStoredWithin (authority_bytes authority.entry) (contents self.new)
+            → IsStoredWithin authority.now (contents self.old) n
+            → IsStoredWithin authority.now (contents self.new)
             (n + length id.now) };
 
     /// Takes a key by its blob.
@@ -152,11 +150,11 @@ impl<S: Spans> Store for Revocations<S> {
         0
     }
 
-    fn put_serials(&mut self, authority: Option<&[u8]>, near: &[Span]) -> Result<(), AllocError> {
-        self.add_near(authority, near)
+    fn put_serials(&mut self, authority: &[u8], near: &[Span]) -> Result<(), AllocError> {
+        self.add(authority, Addition::Serials(near))
     }
 
-    fn put_id(&mut self, authority: Option<&[u8]>, id: &[u8]) -> Result<(), AllocError> {
+    fn put_id(&mut self, authority: &[u8], id: &[u8]) -> Result<(), AllocError> {
         self.add_id(authority, id)
     }
 

@@ -6,7 +6,6 @@ use Rattle.std.proofs.lemmas.Bool.{cases_Bool}
 use Rattle.std.specs.List.{slice_split}
 use Rattle.std.specs.Option.{ok_or}
 use Rattle.ssh_wire.specs.Reading.{◌>>=◌, in_fault}
-use Rattle.ssh_key.specs.Key.{blob_of}
 use Rattle.key_text.specs.Armour.{begins_container}
 use Rattle.key_text.specs.ContainerReading.{Opened, private_at}
 use Rattle.key_text.specs.KeyFile.{has_key}
@@ -14,9 +13,6 @@ use Rattle.key_text.specs.LineReading.{Content, line_at}
 use Rattle.key_text.specs.Lines.{is_newline}
 use Rattle.key_text.specs.declared.line_fault.LineFault.{LineFault}
 use Rattle.key_text.specs.declared.private_fault.PrivateFault.{PrivateFault}
-use Rattle.ssh_cert.specs.AnyKey.{Spells, plain_of}
-use Rattle.ssh_cert.specs.declared.any_key.AnyKey.{AnyKey}
-use Rattle.ssh_cert.specs.declared.any_key.AnyKey.TheVariants.{Plain, Certified}
 use Rattle.krl_writer.proofs.ReadBack.{written_spelled}
 use Rattle.krl_held.proofs.Tested.{revokes_meant}
 use Rattle.krl_held.specs.Revocations.{Revocations, Means, held}
@@ -37,7 +33,6 @@ use Rattle.krl_types.specs.declared.krl_fault.KrlFault.TheVariants as faults
 use Rattle.key_files.specs.Keys.{Named, FileKey, GivesKey, IsRefused, key_of_container, content_keys, file_name, key_in, keys_from, keys_of, key_of_line}
 use Rattle.key_files.specs.declared.file_fault.FileFault.{FileFault}
 use Rattle.key_files.specs.declared.file_fault.FileFault.TheVariants as files
-use Rattle.ssh_key.proofs.Sizes.{key_room}
 use Rattle.krl_spec.specs.Lines.{ReadsSpec, StopsAt, lines_of}
 use Rattle.key_files.specs.declared.spec_cause.SpecCause.{SpecCause}
 use Rattle.key_files.specs.declared.spec_cause.SpecCause.TheVariants as specs
@@ -56,11 +51,6 @@ old_read text header contents list none = record {
 }
 
 -- ---- the authority
-
--- the plain key that was read is not empty
-pub plain_has_bytes : (blob : List ℕ) (any : AnyKey) → Spells blob any → 0 < length (blob_of (plain_of any))
-plain_has_bytes blob (Plain key) is = omega (arith, key_room blob key is, ap length is.spelled)
-plain_has_bytes blob (Certified certificate) is = omega (arith, key_room (blob_of certificate.key) certificate.key is.key)
 
 content_first : (name : List ℕ) (content : Result (List ℕ) FileFault) → (in_fault (file_run_fault name) content >>= first_key_of name) ≡ first_blob name (content_keys name content)
 unfolding first_key_of

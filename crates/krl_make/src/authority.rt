@@ -1,6 +1,6 @@
 //! The authority of serials and key IDs that name none themselves.
 
-ghost use Rattle.std.specs.Prelude.{◌≡◌, ◌<◌, IfOk, length};
+ghost use Rattle.std.specs.Prelude.{◌≡◌};
 ghost use Rattle.krl_make.specs.Making.{Returns, file_key, key_blob};
 
 use key_files::{Cause, FileFault, FileKey, Named, RunFault, keys_of};
@@ -13,8 +13,7 @@ pub type Authority<'a> = krl_job::Authority<Named<'a>>;
 
 /// The blob of the first key of a file. Only that key is read.
 pub fn first_key<'a>(alloc: Global, file: &'a Named<'a>) -> Result<Bytes, RunFault<'a>>
-    ensures read { Returns (λ blob. blob) (λ at. file.now.name ≡ at) (file_key file.now) result }
-    ensures some { IfOk result (λ blob. 0 < length blob) }
+    ensures { Returns (λ blob. blob) (λ at. file.now.name ≡ at) (file_key file.now) result }
 {
     let mut keys = keys_of(alloc, file);
     match keys.next() {
@@ -25,8 +24,7 @@ pub fn first_key<'a>(alloc: Global, file: &'a Named<'a>) -> Result<Bytes, RunFau
 
 // The blob of a plain key, or of the plain key of a certificate.
 fn key_blob<'a>(alloc: Global, key: &FileKey<'a>) -> Result<Bytes, RunFault<'a>>
-    ensures read { Returns (λ blob. blob) (λ at. key.now.name ≡ at) (key_blob key.now) result }
-    ensures some { IfOk result (λ blob. 0 < length blob) }
+    ensures { Returns (λ blob. blob) (λ at. key.now.name ≡ at) (key_blob key.now) result }
 {
     let any = key.read()?;
     match plain_blob(alloc, any.plain()) {

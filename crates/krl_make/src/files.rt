@@ -2,7 +2,7 @@
 
 ghost use Rattle.std.specs.Prelude.{◌≡◌, Ok};
 ghost use Rattle.krl_make.specs.Making.{AddsFiles, IsFileAtHand, cause_run_fault, file_entries, files_entries, text_entries};
-ghost use Rattle.krl_spec.specs.Under.{IsUnder, authority_under};
+ghost use Rattle.krl_spec.specs.Under.{authority_under};
 
 use key_files::{Cause, Named, RunFault};
 use krl_core::Revocations;
@@ -17,7 +17,6 @@ pub fn add_files<'a, S: Spans>(
     under: Under,
     files: &'a [Named<'a>],
 ) -> Result<(), RunFault<'a>>
-    requires { IsUnder under }
     ensures { AddsFiles (IsFileAtHand (authority_under under.entry) files.now)
         (files_entries (authority_under under.entry) files.now) result
         revocations.old revocations.new }
@@ -36,7 +35,6 @@ fn add_file<'a, S: Spans>(
     under: Under,
     file: &'a Named<'a>,
 ) -> Result<(), RunFault<'a>>
-    requires { IsUnder under }
     ensures { AddsFiles (λ at. file.now.name ≡ at)
         (file_entries (authority_under under.entry) file.now) result
         revocations.old revocations.new }
@@ -55,7 +53,6 @@ fn add_text<'a, S: Spans>(
     name: &'a str,
     text: &[u8],
 ) -> Result<(), RunFault<'a>>
-    requires { IsUnder under }
     ensures { AddsFiles (λ at. name.now ≡ at)
         (text_entries (authority_under under.entry) name.now text.now)
         result revocations.old revocations.new }

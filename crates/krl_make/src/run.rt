@@ -4,7 +4,7 @@ ghost use Rattle.std.specs.Prelude.{◌≡◌, Ok, Result, false};
 ghost use Rattle.std.specs.Option.{ForSome};
 ghost use Rattle.krl_types.specs.declared.krl_fault.KrlFault.{KrlFault as FaultOf};
 ghost use Rattle.krl_make.specs.Making.{HasNumbers, IsBaseRead, IsFileAtHand, Makes, WritesList, WritesMore, after_old, files_entries, make_run_of};
-ghost use Rattle.krl_spec.specs.Under.{IsUnder, authority_under};
+ghost use Rattle.krl_spec.specs.Under.{authority_under};
 ghost use Rattle.krl_make.specs.declared.base.Base.{Base as BaseOf};
 
 use crate::authority::{Authority, first_key};
@@ -111,8 +111,7 @@ impl<'a> Wanted<'a> {
         held: Revocations<Held>,
         under: Under,
     ) -> Result<Vec<u8>, RunFault<'a>>
-        requires under { IsUnder under }
-        requires numbers { HasNumbers header.now }
+        requires { HasNumbers header.now }
         ensures { WritesMore (λ made. made.items) self.now.name.now header.now held
             (IsFileAtHand (authority_under under.entry) self.now.files.now)
             (files_entries (authority_under under.entry) self.now.files.now) result }

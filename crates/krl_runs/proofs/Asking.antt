@@ -10,12 +10,11 @@ use Rattle.krl_held.proofs.Canonical.{means_itself}
 use Rattle.krl_held.proofs.Scoped.{means_within}
 use Rattle.krl_core.specs.Entries.{entries_of}
 use Rattle.krl_core.specs.Front.{IsFirstFault}
-use Rattle.krl_held.specs.NamingTests.{is_revoked as is_named}
+use Rattle.krl_held.specs.Reasons.{is_revoked as is_named, revokes}
 use Rattle.krl_held.specs.Questions.{Asks}
 use Rattle.krl_core.specs.Reading.{HoldsWithin, IsList, IsListAs, OfHeader}
-use Rattle.krl_held.specs.Tested.{revokes}
 use Rattle.krl_types.specs.Subject.{Subject}
-use Rattle.krl_held.proofs.NamingTests.{found_tested, meant_tested}
+use Rattle.krl_held.proofs.Reasoned.{found_tested, meant_tested}
 use Rattle.krl_core.specs.declared.header.Header.{Header}
 use Rattle.krl_types.specs.declared.krl_fault.KrlFault.{KrlFault}
 use Rattle.krl_types.specs.declared.krl_fault.KrlFault.TheVariants as faults

@@ -1,6 +1,6 @@
 -- The printed contents of a list (ssh-keygen(1), options -Q and -l): a line for each fact.
 use Rattle.std.specs.Prelude.{ℕ, ◌==◌, if◌then◌else◌, Bool, true, false, List, [], ◌∷◌, ◌++◌, codes}
-use Rattle.std.specs.Prelude.{decimal, map}
+use Rattle.std.specs.Prelude.{decimal, length, map}
 use Rattle.std.specs.List.{concat, flat_map}
 use Rattle.base64.specs.Engines.{standard}
 use Rattle.base64.specs.GeneralPurpose.{encode_of}
@@ -43,10 +43,10 @@ abbrev pub comment_lines : List ℕ → List (List ℕ)
 comment_lines [] = []
 comment_lines (byte ∷ bytes) = comment_line (byte ∷ bytes) ∷ []
 
--- an authority by the fingerprint of its bytes
+-- all authorities, or one by the fingerprint of its bytes
 abbrev pub authority_text : List ℕ → List ℕ
-authority_text [] = codes "all"
-authority_text (byte ∷ bytes) = fingerprint_text Sha256 (byte ∷ bytes)
+authority_text authority =
+    if length authority == 0 then codes "all" else fingerprint_text Sha256 authority
 
 unfoldable pub authority_line : List ℕ → List ℕ
 authority_line authority = line (codes "# CA ") (authority_text authority)

@@ -7,12 +7,11 @@ use Rattle.krl_core.specs.Front.{IsFirstFault, limit}
 use Rattle.krl_core.specs.Krl.{SpelledSection, Spells}
 use Rattle.krl_held.specs.Questions.{Asks}
 use Rattle.krl_held.specs.Entry.{Entry}
-use Rattle.krl_held.specs.NamingTests.{is_revoked}
+use Rattle.krl_held.specs.Reasons.{is_revoked, revokes}
 use Rattle.krl_core.specs.declared.header.Header.{Header}
 use Rattle.ssh_key.specs.Key.{PublicKey}
 use Rattle.krl_core.specs.Reading.{IsList, IsReadAs, IsReadingOf}
 use Rattle.krl_held.specs.Revoked.{Revoked}
-use Rattle.krl_held.specs.Tested.{revokes}
 use Rattle.krl_types.specs.declared.krl_fault.KrlFault.{KrlFault}
 use Rattle.krl_types.specs.Subject.{Subject}
 use Rattle.key_text.specs.LineReading.{Content}

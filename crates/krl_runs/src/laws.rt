@@ -2,7 +2,7 @@
 
 ghost use Rattle.std.specs.Prelude.{◌≡◌, ◌⊎◌, ℕ, true, false, List, Result, Ok, Err, Option};
 ghost use Rattle.krl_held.specs.Entry.{Entry};
-ghost use Rattle.krl_held.specs.NamingTests.{is_revoked};
+ghost use Rattle.krl_held.specs.Reasons.{is_revoked};
 ghost use Rattle.krl_types.specs.declared.krl_fault.KrlFault.{KrlFault};
 ghost use Rattle.krl_types.specs.declared.krl_fault.KrlFault.TheVariants.{NoMemory};
 ghost use Rattle.krl_core.specs.Reading.{IsReadAs};

@@ -1,12 +1,11 @@
 -- The entries of the lines of specification files (ssh-keygen(1), KEY REVOCATION LISTS).
-use Rattle.std.specs.Prelude.{ℕ, ◌<◌, ◌≤◌, ◌==◌, if◌then◌else◌, List, [], ◌∷◌, length, Option, Some}
+use Rattle.std.specs.Prelude.{ℕ, ◌<◌, ◌≤◌, ◌==◌, if◌then◌else◌, List, [], ◌∷◌, Option, Some}
 use Rattle.std.specs.Prelude.{None, Result, Ok, Err, ⊤}
 use Rattle.sha1.specs.Sha1.{sha1}
 use Rattle.sha2.specs.Sha256.{sha256}
 use Rattle.ssh_wire.specs.Reading.{◌>>=◌, in_fault}
 use Rattle.key_text.specs.FingerprintReading.{fingerprint_at}
 use Rattle.krl_types.specs.Subject.{CertNames}
-use Rattle.krl_held.specs.Authority.{IsAuthority, authority_bytes}
 use Rattle.krl_held.specs.Entry.{Entry, RangeEntry, IdEntry, KeyEntry, Sha1Entry, Sha256Entry}
 use Rattle.krl_spec.specs.Number.{serials_of_text}
 use Rattle.krl_spec.specs.Blanks.{bare_line}
@@ -55,11 +54,6 @@ hash_order text = do
   digest ← in_fault causes.Fingerprint (fingerprint_at text)
   Ok (Sha256Entry digest)
 
--- the authority of a certificate is not empty
-abbrev pub HasAuthority : Option CertNames → Type 0
-HasAuthority None = ⊤
-HasAuthority (Some names) = 0 < length names.authority
-
 -- The entry of a certificate is its serial, or its key ID if the serial is 0.
 abbrev pub certificate_entry : CertNames → Entry
 certificate_entry names =
@@ -105,18 +99,13 @@ line_entry authority line = counted_entry authority (bare_line line)
 
 -- the entry that it represents
 abbrev pub entry_of : LineEntry → Entry
-entry_of (entries.Serials authority serials) =
-    RangeEntry (authority_bytes authority) serials.lo serials.hi
-entry_of (entries.Id authority id) = IdEntry (authority_bytes authority) id.now
+entry_of (entries.Serials authority serials) = RangeEntry authority.now serials.lo serials.hi
+entry_of (entries.Id authority id) = IdEntry authority.now id.now
 entry_of (entries.Key blob) = KeyEntry blob
 entry_of (entries.Sha1 hash) = Sha1Entry hash
 entry_of (entries.Sha256 hash) = Sha256Entry hash
 
--- An authority that is named is not empty, and serials are a range above 0.
+-- serials are a range above 0
 abbrev pub IsSound : LineEntry → Type 0
-IsSound (entries.Serials authority serials) =
-    IsAuthority authority × (0 < serials.lo) × (serials.lo ≤ serials.hi)
-IsSound (entries.Id authority id) = IsAuthority authority
-IsSound (entries.Key blob) = ⊤
-IsSound (entries.Sha1 hash) = ⊤
-IsSound (entries.Sha256 hash) = ⊤
+IsSound (entries.Serials authority serials) = (0 < serials.lo) × (serials.lo ≤ serials.hi)
+IsSound entry = ⊤

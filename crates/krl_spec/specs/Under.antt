@@ -1,5 +1,5 @@
 -- The current authority.
-use Rattle.std.specs.Prelude.{ℕ, ◌<◌, List, [], length, Option, Some, None, unwrap_or, ⊤}
+use Rattle.std.specs.Prelude.{ℕ, List, [], Option, Some, None, unwrap_or}
 use Rattle.krl_spec.specs.declared.under.Under.{Under}
 use Rattle.krl_spec.specs.declared.under.Under.TheVariants.{NotGiven, All, Of}
 
@@ -8,12 +8,6 @@ abbrev pub authority_under : Under → Option (List ℕ)
 authority_under NotGiven = None
 authority_under All = Some []
 authority_under (Of bytes) = Some bytes.now
-
--- an authority that is named is not empty
-abbrev pub IsUnder : Under → Type 0
-IsUnder NotGiven = ⊤
-IsUnder All = ⊤
-IsUnder (Of bytes) = 0 < length bytes.now
 
 -- The bytes of the current authority: empty for all authorities, and if none is given.
 abbrev pub bytes_under : Option (List ℕ) → List ℕ

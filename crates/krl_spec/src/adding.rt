@@ -4,7 +4,7 @@ ghost use Rattle.std.specs.Prelude.{◌≡◌, ◌+◌, ◌≤◌, ℕ, List, []
 ghost use Rattle.krl_held.specs.Changes.{MeansMore};
 ghost use Rattle.krl_held.specs.Revocations.{held};
 ghost use Rattle.krl_spec.specs.Adding.{AddsEntry, AddsLine};
-ghost use Rattle.krl_spec.specs.Under.{IsUnder, authority_under};
+ghost use Rattle.krl_spec.specs.Under.{authority_under};
 ghost use Rattle.krl_spec.specs.Entries.{bare_entry, line_entry, text_entry};
 ghost use Rattle.krl_spec.specs.Directive.{order_in};
 ghost use Rattle.krl_spec.specs.Entries.{IsSound, entry_of};
@@ -65,7 +65,6 @@ fn add_text<S: Spans>(
     under: Under,
     text: &[u8],
 ) -> Result<(), SpecCause>
-    requires { IsUnder under }
     ensures adds { AddsEntry (text_entry (authority_under under.entry) text.now (order_in text.now))
         result revocations.old revocations.new }
     ensures grows { GrowsBy (authority_under under.entry) text.now
@@ -87,7 +86,6 @@ pub fn add_line<S: Spans>(
     under: Under,
     line: &[u8],
 ) -> Result<(), SpecCause>
-    requires { IsUnder under }
     ensures adds { AddsLine (line_entry (authority_under under.entry) line.now) result
         revocations.old revocations.new }
     ensures grows { GrowsBy (authority_under under.entry) line.now

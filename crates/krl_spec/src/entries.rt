@@ -2,13 +2,11 @@
 
 ghost use Rattle.std.specs.Prelude.{◌≡◌, IfOk, MatchResult, None, Some, length};
 ghost use Rattle.ssh_wire.specs.Reading.{Answers};
-ghost use Rattle.krl_held.specs.Authority.{IsAuthority, authority_bytes};
 ghost use Rattle.krl_spec.specs.Adding.{Reports};
-ghost use Rattle.krl_spec.specs.Entries.{HasAuthority, id_order, names_entry, order_entry, serial_order};
-ghost use Rattle.krl_spec.specs.Under.{IsUnder, authority_under};
+ghost use Rattle.krl_spec.specs.Entries.{id_order, names_entry, order_entry, serial_order};
+ghost use Rattle.krl_spec.specs.Under.{authority_under, bytes_under};
 ghost use Rattle.krl_spec.specs.Entries.{IsSound, entry_of};
 ghost use Rattle.krl_spec.specs.Stored.{Fits};
-ghost use Rattle.krl_spec.specs.Under.{bytes_under};
 ghost use Rattle.key_files.specs.declared.spec_cause.SpecCause.TheVariants.{NoAuthority};
 
 use crate::directive::Directive;
@@ -21,13 +19,13 @@ use ssh_cert::Subject;
 use ssh_wire::Bytes;
 use std::alloc::Global;
 
-/// The entry of a line. An authority that is None means all authorities.
+/// The entry of a line. An authority is given by its bytes, empty for all authorities.
 #[derive(Drop)]
 pub enum LineEntry<'a> {
     /// Certificates of an authority, given by their serials.
-    Serials(Option<&'a [u8]>, Bounds),
+    Serials(&'a [u8], Bounds),
     /// Certificates of an authority, given by their key ID.
-    Id(Option<&'a [u8]>, &'a [u8]),
+    Id(&'a [u8], &'a [u8]),
     /// A key, given by its blob.
     Key(Bytes),
     /// A key, given by the SHA-1 of its blob.
@@ -43,7 +41,6 @@ pub fn read_order<'a>(
     directive: Directive,
     given: &'a [u8],
 ) -> Result<LineEntry<'a>, SpecCause>
-    requires { IsUnder under }
     ensures read { Answers Reports entry_of result
         (order_entry (authority_under under.entry) directive given.now) }
     ensures sound { IfOk result IsSound }
@@ -68,7 +65,6 @@ pub fn read_order<'a>(
 
 // The serials that a directive names.
 fn read_serial_order<'a>(under: Under<'a>, given: &[u8]) -> Result<LineEntry<'a>, SpecCause>
-    requires { IsUnder under }
     ensures read { Answers Reports entry_of result
         (serial_order (authority_under under.entry) given.now) }
     ensures sound { IfOk result IsSound }
@@ -82,7 +78,6 @@ fn read_serial_order<'a>(under: Under<'a>, given: &[u8]) -> Result<LineEntry<'a>
 
 // The key ID that a directive names.
 fn read_id_order<'a>(under: Under<'a>, given: &'a [u8]) -> Result<LineEntry<'a>, SpecCause>
-    requires { IsUnder under }
     ensures read { Answers Reports entry_of result
         (id_order (authority_under under.entry) given.now) }
     ensures sound { IfOk result IsSound }
@@ -96,25 +91,22 @@ fn read_id_order<'a>(under: Under<'a>, given: &'a [u8]) -> Result<LineEntry<'a>,
     Ok(LineEntry::Id(authority, given))
 }
 
-// The authority of serials and key IDs that name none themselves; None for all authorities.
-fn authority_at_hand<'a>(under: Under<'a>) -> Result<Option<&'a [u8]>, SpecCause>
-    requires { IsUnder under }
+// The bytes of the authority of serials and key IDs that name none themselves.
+fn authority_at_hand<'a>(under: Under<'a>) -> Result<&'a [u8], SpecCause>
     ensures { MatchResult result
-        (λ authority. IsAuthority authority
-        × (authority_under under.entry ≡ Some (authority_bytes authority)))
+        (λ authority. authority_under under.entry ≡ Some authority.now)
         (λ cause. (cause ≡ NoAuthority) × (authority_under under.entry ≡ None)) }
 {
     match under {
         Under::NotGiven => Err(SpecCause::NoAuthority),
-        Under::All => Ok(None),
-        Under::Of(bytes) => Ok(Some(bytes)),
+        Under::All => Ok(&[]),
+        Under::Of(bytes) => Ok(bytes),
     }
 }
 
 /// The entry for a subject: for a plain key its blob, and for a certificate its serial, or its key
 /// ID if the serial is 0.
 pub fn subject_entry<'a>(asked: Subject<'a>) -> LineEntry<'a>
-    requires { HasAuthority asked.cert }
     ensures named { entry_of result ≡ names_entry asked.entry.plain asked.entry.cert }
     ensures sound { IsSound result }
 {
@@ -122,12 +114,11 @@ pub fn subject_entry<'a>(asked: Subject<'a>) -> LineEntry<'a>
     match cert {
         None => LineEntry::Key(plain),
         Some(names) => {
-            let authority = Some(names.authority);
             if names.serial == 0 {
-                return LineEntry::Id(authority, names.key_id);
+                return LineEntry::Id(names.authority, names.key_id);
             }
             LineEntry::Serials(
-                authority,
+                names.authority,
                 Bounds {
                     lo: names.serial,
                     hi: names.serial,

@@ -8,7 +8,6 @@ ghost use Rattle.krl_types.specs.Subject.{Subject};
 ghost use Rattle.ssh_cert.specs.Sizes.{IsWithinBlob};
 ghost use Rattle.ssh_cert.specs.SubjectReading.{subject_of};
 ghost use Rattle.krl_spec.specs.Adding.{Reports};
-ghost use Rattle.krl_spec.specs.Entries.{HasAuthority};
 ghost use Rattle.krl_spec.specs.Keys.{line_cause, plain_in, subject_cause};
 ghost use Rattle.key_files.specs.declared.spec_cause.SpecCause.TheVariants.{Fingerprint};
 
@@ -34,7 +33,6 @@ pub fn key_line<'a>(alloc: Global, text: &'a [u8]) -> Result<Line<'a>, SpecCause
 pub fn ask<'a>(alloc: Global, blob: &'a [u8]) -> Result<Subject<'a>, SpecCause>
     ensures asked { Answers Reports (λ asked. asked) result
         (in_fault subject_cause (subject_of blob.now)) }
-    ensures authority { IfOk result (λ asked. HasAuthority asked.cert) }
     ensures room { IfOk result (λ asked. IsWithinBlob blob.now asked) }
 {
     match subject(alloc, blob) {

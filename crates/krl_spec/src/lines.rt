@@ -2,9 +2,8 @@
 
 ghost use Rattle.std.specs.Prelude.{◌+◌, ◌≤◌, length};
 ghost use Rattle.krl_held.specs.Revocations.{held, stored};
-ghost use Rattle.krl_spec.specs.Under.{IsUnder, authority_under};
+ghost use Rattle.krl_spec.specs.Under.{authority_under, bytes_under};
 ghost use Rattle.krl_spec.specs.Lines.{ReadsSpec, lines_of};
-ghost use Rattle.krl_spec.specs.Under.{bytes_under};
 
 use crate::adding::add_line;
 use crate::under::Under;
@@ -25,7 +24,6 @@ pub fn read_spec<S: Spans>(
     under: Under,
     text: &[u8],
 ) -> Result<(), SpecFault>
-    requires { IsUnder under }
     ensures reads { ReadsSpec (authority_under under.entry) text.now result
         revocations.old revocations.new }
     ensures held { held revocations.new

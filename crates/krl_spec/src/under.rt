@@ -7,6 +7,6 @@ pub enum Under<'a> {
     NotGiven,
     /// All authorities.
     All,
-    /// The authority with this key, given by its blob.
+    /// The authority with this key, given by its blob. An empty blob means all authorities.
     Of(&'a [u8]),
 }

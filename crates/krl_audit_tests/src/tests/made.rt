@@ -1,7 +1,5 @@
 //! Lists of revocations, and what is printed for files.
 
-ghost use Rattle.krl_held.specs.Authority.{IsAuthority};
-
 use crate::tests::keys::{ALICE, AUTHORITY, BOB};
 use byte_streams::{Sink, ToWrite};
 use key_listing::{Printer, Run};
@@ -52,13 +50,6 @@ pub fn blob_of(rt: &impl Abort, alloc: Global, line: &str) -> Bytes {
 /// The revocations of a list.
 pub type Listed = Revocations<Held>;
 
-/// The authority with this key; none means all authorities.
-pub fn authority_of(key: &[u8]) -> Option<&[u8]>
-    ensures { IsAuthority result }
-{
-    if key.is_empty() { None } else { Some(key) }
-}
-
 /// Nothing is revoked.
 pub fn nothing(alloc: Global) -> Listed {
     Revocations::new(alloc)
@@ -70,7 +61,7 @@ pub fn alice_and_bob(rt: &impl Abort, alloc: Global) -> Listed {
     let alice = blob_of(rt, alloc, ALICE);
     let authority = blob_of(rt, alloc, AUTHORITY);
     list.add_key(alice.as_slice()).expect(rt, "there is memory");
-    list.add_id(authority_of(authority.as_slice()), b"bob")
+    list.add_id(authority.as_slice(), b"bob")
         .expect(rt, "there is memory");
     list
 }
@@ -83,10 +74,10 @@ pub fn all_of_bob(rt: &impl Abort, alloc: Global) -> Listed {
         list.add_key(authority.as_slice()),
         list.add_sha1(&sha1_of(authority.as_slice())),
         list.add_sha256(&sha256_of(authority.as_slice())),
-        list.add_serials(authority_of(authority.as_slice()), 8, 8),
-        list.add_serials(None, 1, 8),
-        list.add_id(authority_of(authority.as_slice()), b"bob"),
-        list.add_id(None, b"bob"),
+        list.add_serials(authority.as_slice(), 8, 8),
+        list.add_serials(b"", 1, 8),
+        list.add_id(authority.as_slice(), b"bob"),
+        list.add_id(b"", b"bob"),
     ];
     for one in added {
         one.expect(rt, "there is memory");

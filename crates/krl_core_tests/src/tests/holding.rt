@@ -42,14 +42,14 @@ fn stand_in_order<S: Spans>(rt: &impl Abort, alloc: Global) {
     let r = held_of::<S>(rt, alloc, &OF_TWO);
     assert!(rt; r.authorities() == 3);
     let mut walk = r.walk_authorities();
-    for (authority, ids, spans) in [(None, 1, 0), (Some(A), 1, 0), (Some(B), 0, 2)] {
+    for (authority, ids, spans) in [(ALL, 1, 0), (A, 1, 0), (B, 0, 2)] {
         let listed = walk.next().expect(rt, "an authority is left");
         assert!(rt; listed.authority() == authority);
         assert!(rt; listed.ids() == ids && listed.spans().len() == spans);
     }
     assert!(rt; walk.next().is_none());
     let second = r.authority_at(1);
-    assert!(rt; second.authority() == Some(A) && second.ids() == 1);
+    assert!(rt; second.authority() == A && second.ids() == 1);
     assert!(rt; second.id_at(0) == b"x".as_slice());
     assert!(rt; second.walk_ids().next() == Some(b"x".as_slice()));
 }

@@ -1,7 +1,6 @@
 //! Entries of a list, and subjects of queries.
 
 ghost use Rattle.std.specs.Prelude.{◌≡◌, ◌<◌, ◌≤◌};
-ghost use Rattle.krl_held.specs.Authority.{IsAuthority};
 
 use krl_core::Revocations;
 use serial_set::Spans;
@@ -33,17 +32,6 @@ pub enum Said<'a> {
     Sha256(&'a [u8]),
 }
 
-// The authority with these bytes.
-fn authority_of(authority: &[u8]) -> Option<&[u8]>
-    ensures { IsAuthority result }
-{
-    if authority.is_empty() {
-        None
-    } else {
-        Some(authority)
-    }
-}
-
 // The bytes as an array, or zeros if the length differs.
 fn array_of<const N: usize>(bytes: &[u8]) -> [u8; N] {
     let mut array = [0; N];
@@ -59,11 +47,11 @@ fn add<S: Spans>(r: &mut Revocations<S>, said: Said<'_>) -> Result<(), AllocErro
         Said::Serials(authority, lo, hi) => {
             let lo = lo.max(1);
             if lo <= hi {
-                r.add_serials(authority_of(authority), lo, hi)?;
+                r.add_serials(authority, lo, hi)?;
             }
             Ok(())
         }
-        Said::Id(authority, id) => r.add_id(authority_of(authority), id),
+        Said::Id(authority, id) => r.add_id(authority, id),
         Said::Key(blob) => r.add_key(blob),
         Said::Sha1(hash) => r.add_sha1(&array_of(hash)),
         Said::Sha256(hash) => r.add_sha256(&array_of(hash)),

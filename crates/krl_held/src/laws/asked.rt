@@ -4,12 +4,11 @@ ghost use Rattle.std.specs.Prelude.{◌≡◌, ◌↔◌, IsTrue, List, Some};
 ghost use Rattle.krl_types.specs.Subject.{Subject};
 ghost use Rattle.krl_held.specs.Revocations.{Revocations, IsOrderly, Means};
 ghost use Rattle.krl_held.specs.Entry.{Entry};
-ghost use Rattle.krl_held.specs.NamingTests.{is_revoked};
 ghost use Rattle.krl_held.specs.Questions.{Asks};
-ghost use Rattle.krl_held.specs.Reasons.{IsReason, any_reason, has_reason, held_reasons, reasons_of};
+ghost use Rattle.krl_held.specs.Reasons.{IsReason, any_reason, has_reason, held_reasons, is_revoked};
+ghost use Rattle.krl_held.specs.Reasons.{reasons_of, revokes};
 ghost use Rattle.krl_held.specs.Revoked.{Revoked};
 ghost use Rattle.krl_held.specs.Scope.{IsSmall, IsWithin, MeansWithin};
-ghost use Rattle.krl_held.specs.Tested.{revokes};
 ghost use Rattle.krl_held.specs.declared.reasons.Reason.{Reason as ReasonOf};
 
 /// If revocations mean some entries, their test is true exactly for what these entries revoke.

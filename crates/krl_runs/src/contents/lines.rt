@@ -1,7 +1,6 @@
 //! The lines in which a list's header and serials are printed.
 
 ghost use Rattle.std.specs.Prelude.{◌≡◌, ◌++◌, OnOk};
-ghost use Rattle.krl_held.specs.Authority.{authority_bytes, IsAuthority};
 ghost use Rattle.krl_runs.specs.Contents.{authority_line, authority_text, comment_line, date_line, serials_line, serials_text, version_line};
 
 use cert_listing::time_text;
@@ -52,12 +51,10 @@ pub fn write_comment(comment: &[u8], line: &mut Vec<u8>) -> Result<(), AllocErro
 #[tactic(auto, unfolding(crate::specs::Contents::authority_line))]
 pub fn write_authority(
     alloc: Global,
-    authority: Option<&[u8]>,
+    authority: &[u8],
     line: &mut Vec<u8>,
 ) -> Result<(), AllocError>
-    requires { IsAuthority authority }
-    ensures { OnOk result
-        (line.new.items ≡ authority_line (authority_bytes authority.entry)) }
+    ensures { OnOk result (line.new.items ≡ authority_line authority.now) }
 {
     line.clear();
     line.extend_from_slice(b"# CA ")?;
@@ -67,19 +64,13 @@ pub fn write_authority(
 }
 
 // Appends the fingerprint of an authority's bytes.
-fn push_authority(
-    alloc: Global,
-    authority: Option<&[u8]>,
-    line: &mut Vec<u8>,
-) -> Result<(), AllocError>
-    requires { IsAuthority authority }
-    ensures { OnOk result (line.new.items
-        ≡ line.old.items ++ authority_text (authority_bytes authority.entry)) }
+fn push_authority(alloc: Global, authority: &[u8], line: &mut Vec<u8>) -> Result<(), AllocError>
+    ensures { OnOk result (line.new.items ≡ line.old.items ++ authority_text authority.now) }
 {
-    let Some(bytes) = authority else {
+    if authority.is_empty() {
         return line.extend_from_slice(b"all");
-    };
-    let print = fingerprint(alloc, Hash::Sha256, bytes)?;
+    }
+    let print = fingerprint(alloc, Hash::Sha256, authority)?;
     line.extend_from_slice(print.as_slice())
 }
 

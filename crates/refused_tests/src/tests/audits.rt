@@ -76,7 +76,7 @@ fn said_as_objects<W: Sink>(
 #[test]
 fn findings_are_said_as_objects(rt: HostRuntime) {
     let mut list: Revocations<Held> = Revocations::new(rt.alloc());
-    for added in [list.add_key(GITHUB), list.add_serials(None, 7, 7)] {
+    for added in [list.add_key(GITHUB), list.add_serials(b"", 7, 7)] {
         if answered(&rt, added, AllocError).is_none() {
             return;
         }

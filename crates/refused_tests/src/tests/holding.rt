@@ -61,8 +61,8 @@ pub fn size(held: &Revocations<Held>) -> u128 {
 fn add(held: &mut Revocations<Held>, entry: Entry, byte: u8) -> Result<(), AllocError> {
     match entry {
         Entry::Key => held.add_key(&[byte; 51]),
-        Entry::Serial => held.add_serials(Some(&[byte; 51]), 5, 5),
-        Entry::Id => held.add_id(None, &[byte; 9]),
+        Entry::Serial => held.add_serials(&[byte; 51], 5, 5),
+        Entry::Id => held.add_id(b"", &[byte; 9]),
         Entry::Sha1 => held.add_sha1(&[byte; 20]),
         Entry::Sha256 => held.add_sha256(&[byte; 32]),
     }
@@ -107,8 +107,8 @@ fn each_addition(rt: HostRuntime) -> Result<(), Fail> {
 pub fn one_of_each(rt: &(impl AllocGlobal + Abort + Print)) -> Option<Revocations<Held>> {
     let blob = blob_of(rt, GITHUB_LINE)?;
     let mut held = Revocations::new(rt.alloc());
-    answered(rt, held.add_serials(None, 5, 5), AllocError)?;
-    answered(rt, held.add_id(None, b"a"), AllocError)?;
+    answered(rt, held.add_serials(b"", 5, 5), AllocError)?;
+    answered(rt, held.add_id(b"", b"a"), AllocError)?;
     answered(rt, held.add_key(blob.as_slice()), AllocError)?;
     answered(rt, held.add_sha256(&SHA256), AllocError)?;
     Some(held)

@@ -10,7 +10,7 @@ pub returns-in_err-say_line : goal.returns-in_err-say_line
 returns-in_err-say_line g c =
     let p = err_from_is_err_and c.from_residual.result c.from_residual.ensures.1 in
     let text = authority_line c.args.listed.now.authority in
-    let made = rw c.authority.ensures.bytes at c.write_authority-made.ensures in
+    let made = rw c.authority.ensures at c.write_authority-made.ensures in
     let one = c.in_err-say_line.ensures text made in
     rw (p.1, p.2) (saying_stops _ _ (text ∷ []) _ _ _ _ _ (section_started _ c.args.listed.now _) one)
 
@@ -18,7 +18,7 @@ pub returns-in_err-print_spans : goal.returns-in_err-print_spans
 returns-in_err-print_spans g c =
     let p = err_from_is_err_and c.from_residual-in_err-print_spans.result c.from_residual-in_err-print_spans.ensures.1 in
     let text = authority_line c.args.listed.now.authority in
-    let made = rw c.authority.ensures.bytes at c.write_authority-made.ensures in
+    let made = rw c.authority.ensures at c.write_authority-made.ensures in
     let one = c.in_ok-say_line.ensures text made in
     let is = more_said _ _ (text ∷ []) _ _ _ _ (section_started _ c.args.listed.now _) one in
     let spans = rw c.spans.ensures at c.in_err-print_spans.ensures in
@@ -27,7 +27,7 @@ returns-in_err-print_spans g c =
 pub returns : goal.returns
 returns g c =
     let text = authority_line c.args.listed.now.authority in
-    let made = rw c.authority.ensures.bytes at c.write_authority-made.ensures in
+    let made = rw c.authority.ensures at c.write_authority-made.ensures in
     let one = c.in_ok-say_line.ensures text made in
     let is = more_said _ _ (text ∷ []) _ _ _ _ (section_started _ c.args.listed.now _) one in
     let spans = rw c.spans.ensures at c.in_ok-print_spans.ensures in

@@ -1,9 +1,8 @@
 -- Both print the answers of the one spelling of the list.
 use Rattle.std.proofs.Common.{sym, ap, ◌∙◌}
 use Rattle.krl_core.specs.Entries.{entries_of}
-use Rattle.krl_held.specs.NamingTests.{is_revoked}
-use Rattle.krl_held.specs.Tested.{revokes}
-use Rattle.krl_held.proofs.NamingTests.{meant_tested}
+use Rattle.krl_held.specs.Reasons.{is_revoked, revokes}
+use Rattle.krl_held.proofs.Reasoned.{meant_tested}
 use Rattle.krl_runs.proofs.Agreeing.{files_same}
 use Rattle.krl_runs.proofs.laws.held_or_passed.Goals as goal
 

@@ -1,6 +1,6 @@
 -- The list was streamed to its end, or was refused.
 use Rattle.std.proofs.Common.{Ok, Err}
-use Rattle.krl_held.specs.NamingTests.{is_revoked}
+use Rattle.krl_held.specs.Reasons.{is_revoked}
 use Rattle.krl_runs.specs.Query.{ask_by}
 use Rattle.key_files.specs.Sizes.{files_size}
 use Rattle.krl_runs.proofs.Bounds.{few_found}

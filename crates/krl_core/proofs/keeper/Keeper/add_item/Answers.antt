@@ -22,7 +22,7 @@ pub returns-in-Id-clause-adds : goal.returns-in-Id-clause-adds
 returns-in-Id-clause-adds g c =
     rw (c.in-Id.is, ← c.self.view_is) (on_ok_weaker c.put_id.result
     (λ means. adds_all _ _ _ (record { authority_is = refl; header_is = refl; bitmap_is = refl; scope_is = c.put_id.ensures.scope })
-    (rw (c.authority_of.ensures.bytes, c.as_slice.ensures.value) at means)) c.put_id.ensures.means)
+    (rw c.as_slice.ensures.value at means)) c.put_id.ensures.means)
 
 pub returns-in-Key-clause-grows : goal.returns-in-Key-clause-grows
 returns-in-Key-clause-grows g c =
@@ -30,7 +30,7 @@ returns-in-Key-clause-grows g c =
 
 pub returns-in-Id-clause-grows : goal.returns-in-Id-clause-grows
 returns-in-Id-clause-grows g c =
-    rw (← c.self.view_is) (record { held_is = omega (arith, c.put_id.ensures.held); stored_is = λ m. rw (c.authority_of.ensures.bytes, c.as_slice.ensures.value) at (c.put_id.ensures.stored m); scope_is = c.put_id.ensures.within; same_scope = c.put_id.ensures.scope })
+    rw (← c.self.view_is) (record { held_is = omega (arith, c.put_id.ensures.held); stored_is = λ m. rw c.as_slice.ensures.value at (c.put_id.ensures.stored m); scope_is = c.put_id.ensures.within; same_scope = c.put_id.ensures.scope })
 
 pub returns-in-Sha1-clause-grows : goal.returns-in-Sha1-clause-grows
 returns-in-Sha1-clause-grows g c =

@@ -1,7 +1,6 @@
 use Rattle.std.proofs.Common.{[], arith, ◌∷◌}
 use Rattle.std.specs.Prelude.{Some}
 use Rattle.std.proofs.lemmas.Result.{on_ok_weaker}
-use Rattle.krl_held.specs.Authority.{authority_bytes}
 use Rattle.krl_held.specs.Entry.{RangeEntry}
 use Rattle.krl_held.proofs.MeansMore.{nothing_more_within}
 use Rattle.krl_held.proofs.Putting.{more_from, within_or_same}
@@ -10,20 +9,20 @@ use Rattle.krl_held.proofs.findings.Findings.put_span.Goals as goal
 
 pub returns-in-None-clause-means : goal.returns-in-None-clause-means
 returns-in-None-clause-means g c =
-    let a = authority_bytes c.args.authority in
-    let none = rw (c.in-None.is, c.bytes_or_none-bytes.ensures) at c.first_serial.ensures in
+    let a = c.args.authority.now in
+    let none = rw c.in-None.is at c.first_serial.ensures in
     rw (← c.self.view_is) (nothing_more_within (Some c.self.inside.topics) c.self.inside.found (RangeEntry a c.args.span.lo c.args.span.hi ∷ [])
     (no_serial c.self.inside.topics a c.args.span.lo c.args.span.hi none))
 
 pub returns-in-Some-clause-means : goal.returns-in-Some-clause-means
 returns-in-Some-clause-means g c =
-    let a = authority_bytes c.args.authority in
-    let first = rw c.bytes_or_none-bytes.ensures at c.in-Some.ensures in
+    let a = c.args.authority.now in
+    let first = c.in-Some.ensures in
     rw (← c.self.view_is) (on_ok_weaker c.add_serials.result (more_from c.self.inside.topics c.self.inside.found _ a c.args.span.lo c.in-Some.first c.args.span.hi first.0 first.3) c.add_serials.ensures.means)
 
 pub returns-in-Some-clause-within : goal.returns-in-Some-clause-within
 returns-in-Some-clause-within g c =
-    let a = authority_bytes c.args.authority in
-    let first = rw c.bytes_or_none-bytes.ensures at c.in-Some.ensures in
+    let a = c.args.authority.now in
+    let first = c.in-Some.ensures in
     let e = c.add_serials.ensures in
-    rw (← c.self.view_is) (within_or_same c.add_serials.result c.self.inside.topics c.self.inside.found c.add_serials.new.self (RangeEntry a c.in-Some.first c.args.span.hi) e.means e.refused (omega (arith, first.0, c.requires.interval.0), first.2))
+    rw (← c.self.view_is) (within_or_same c.add_serials.result c.self.inside.topics c.self.inside.found c.add_serials.new.self (RangeEntry a c.in-Some.first c.args.span.hi) e.means e.refused (omega (arith, first.0, c.requires.0), first.2))

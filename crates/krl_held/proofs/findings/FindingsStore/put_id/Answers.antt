@@ -2,7 +2,6 @@ use Rattle.std.proofs.Common.{◌∷◌, [], sym, ◌∙◌}
 use Rattle.std.specs.Prelude.{Some}
 use Rattle.std.proofs.lemmas.Bool.{false≢true}
 use Rattle.std.proofs.lemmas.Result.{on_ok_weaker}
-use Rattle.krl_held.specs.Authority.{authority_bytes}
 use Rattle.krl_held.specs.Entry.{IdEntry}
 use Rattle.krl_held.proofs.Putting.{within_or_same}
 use Rattle.krl_held.proofs.Questioned.{no_id}
@@ -12,9 +11,8 @@ use Rattle.krl_held.proofs.findings.FindingsStore.put_id.Goals as goal
 pub returns-then-not-has_id-clause-means : goal.returns-then-not-has_id-clause-means
 returns-then-not-has_id-clause-means g c =
     let topics = c.self.inside.topics in
-    let has = rw c.bytes_or_none.ensures at c.has_id.ensures in
-    rw (← c.self.view_is) (nothing_more_within (Some topics) c.self.inside.found (IdEntry (authority_bytes c.args.authority) c.args.id.now ∷ [])
-    (no_id topics (authority_bytes c.args.authority) c.args.id.now (λ h. false≢true (sym c.if-not-has_id.true ∙ has.1 h))))
+    rw (← c.self.view_is) (nothing_more_within (Some topics) c.self.inside.found (IdEntry c.args.authority.now c.args.id.now ∷ [])
+    (no_id topics c.args.authority.now c.args.id.now (λ h. false≢true (sym c.if-not-has_id.true ∙ c.has_id.ensures.1 h))))
 
 pub returns-clause-means : goal.returns-clause-means
 returns-clause-means g c =
@@ -23,5 +21,4 @@ returns-clause-means g c =
 pub returns-clause-within : goal.returns-clause-within
 returns-clause-within g c =
     let e = c.add_id.ensures in
-    let has = rw c.bytes_or_none.ensures at c.has_id.ensures in
-    rw (← c.self.view_is) (within_or_same c.add_id.result c.self.inside.topics c.self.inside.found c.add_id.new.self (IdEntry (authority_bytes c.args.authority) c.args.id.now) e.means e.refused (has.0 c.if-not-has_id.false))
+    rw (← c.self.view_is) (within_or_same c.add_id.result c.self.inside.topics c.self.inside.found c.add_id.new.self (IdEntry c.args.authority.now c.args.id.now) e.means e.refused (c.has_id.ensures.0 c.if-not-has_id.false))

@@ -1,7 +1,6 @@
 use Rattle.std.proofs.Common.{ap, arith, List, subst, Some, ◌∙◌}
 use Rattle.std.proofs.lemmas.List.{take_all}
 use Rattle.serial_set.specs.declared.span.Span.{Span}
-use Rattle.krl_held.specs.Authority.{authority_bytes}
 use Rattle.krl_held.specs.Changes.{run_entries}
 use Rattle.krl_held.specs.Scope.{MeansMoreWithin}
 use Rattle.krl_held.proofs.Putting.{next_span, puts_none, puts_more}
@@ -17,7 +16,7 @@ loop-span-preserved g c =
 
 pub returns-clause-means : goal.returns-clause-means
 returns-clause-means g c =
-    subst (λ (spans : List Span). MeansMoreWithin (Some c.args.self.now.topics) c.args.self.now.found c.loop-span.self.found (run_entries (authority_bytes c.args.authority) spans))
+    subst (λ (spans : List Span). MeansMoreWithin (Some c.args.self.now.topics) c.args.self.now.found c.loop-span.self.found (run_entries c.args.authority.now spans))
     (take_all c.loop-span.span-index c.args.near.now (omega arith)) c.loop-span.invariant.means
 
 pub returns-clause-scope : goal.returns-clause-scope

@@ -1,7 +1,6 @@
-use Rattle.krl_held.specs.Authority.{authority_bytes}
 use Rattle.krl_held.proofs.Putting.{PutsFirst}
 use Rattle.krl_held.proofs.findings.FindingsStore.put_serials.Given as goal
 
 -- the spans so far were put
 abbrev pub invariant-loop-span : goal.invariant-loop-span
-invariant-loop-span g l = PutsFirst (authority_bytes l.authority) l.initial.self l.near l.span-index l.self
+invariant-loop-span g l = PutsFirst l.authority l.initial.self l.near l.span-index l.self

@@ -1,18 +1,21 @@
+use Rattle.std.proofs.Common.{ℕ, arith, subst}
 use Rattle.std.proofs.lemmas.Result.{on_ok_weaker}
-use Rattle.krl_held.specs.Authority.{authority_bytes}
+use Rattle.krl_held.specs.declared.addition.Addition.TheVariants.{Serials}
+use Rattle.krl_held.specs.Revocations.{IsStoredWithin}
 use Rattle.krl_held.specs.Scope.{all}
-use Rattle.krl_held.proofs.Gathering.{contents_stay, serials_held, serials_mean_more, serials_stored}
+use Rattle.krl_held.proofs.Gathering.{adds_mean_more, contents_stay, held_more, stored_more}
 use Rattle.krl_held.proofs.MeansMore.{means_more_within}
 use Rattle.krl_held.proofs.gathered.GatheredStore.put_serials.Goals as goal
 
 pub returns-clause-means : goal.returns-clause-means
 returns-clause-means g c =
-    on_ok_weaker c.put.result (λ u. means_more_within all _ _ _ (serials_mean_more c.args.near (authority_bytes c.args.authority) _ _ c.requires.some c.requires.intervals u)) (rw c.bytes_or_none.ensures at c.put.ensures.adds)
+    on_ok_weaker c.put.result (λ u. means_more_within all _ _ _ (adds_mean_more (Serials c.args.near) c.args.authority.now _ _ (c.requires.some, (c.requires.intervals, c.requires.near)) u)) c.put.ensures.adds
 
 pub returns-clause-held : goal.returns-clause-held
 returns-clause-held g c =
-    serials_held c.args.near (authority_bytes c.args.authority) c.put.result c.args.self.now.contents c.put.new.self.contents (rw c.bytes_or_none.ensures at c.put.ensures.adds) (contents_stay c.put.result c.args.self.now c.put.new.self c.put.ensures.refused)
+    held_more (Serials c.args.near) c.args.authority.now c.put.result c.args.self.now.contents c.put.new.self.contents c.put.ensures.adds (contents_stay c.put.result c.args.self.now c.put.new.self c.put.ensures.refused)
 
 pub returns-clause-stored : goal.returns-clause-stored
-returns-clause-stored g c =
-    serials_stored c.args.near (authority_bytes c.args.authority) c.put.result c.args.self.now.contents c.put.new.self.contents (rw c.bytes_or_none.ensures at c.put.ensures.adds) (contents_stay c.put.result c.args.self.now c.put.new.self c.put.ensures.refused)
+returns-clause-stored g c n w =
+    subst (λ (m : ℕ). IsStoredWithin c.args.authority.now c.put.new.self.contents m) (omega arith)
+    (stored_more (Serials c.args.near) c.args.authority.now c.put.result c.args.self.now.contents c.put.new.self.contents c.put.ensures.adds (contents_stay c.put.result c.args.self.now c.put.new.self c.put.ensures.refused) n w)

@@ -1,4 +1,4 @@
-use Rattle.krl_held.proofs.NamingTests.{revoked_tested}
+use Rattle.krl_held.proofs.Tested.{revoked_tested}
 use Rattle.krl_held.proofs.laws.asked.revokes_what_is_named.Goals as goal
 
 pub returns : goal.returns

@@ -1,4 +1,4 @@
-use Rattle.krl_held.proofs.NamingTests.{found_tested}
+use Rattle.krl_held.proofs.Reasoned.{found_tested}
 use Rattle.krl_held.proofs.laws.asked.revokes_what_was_found.Goals as goal
 
 pub returns : goal.returns

@@ -1,7 +1,6 @@
 -- The key ID becomes a topic, and then the serial number if there is one.
 use Rattle.std.proofs.Common.{◌≤◌, ◌<◌, refl, inl, inr, arith}
 use Rattle.std.proofs.lemmas.Result.{on_ok_weaker}
-use Rattle.krl_held.specs.Authority.{authority_bytes}
 use Rattle.krl_held.specs.Revocations.{HoldsId, serials_in}
 use Rattle.krl_held.specs.Entry.{IdEntry, RangeEntry}
 use Rattle.krl_held.specs.Naming.{IdOf, SerialOf}
@@ -15,26 +14,26 @@ use Rattle.krl_held.proofs.questions.Questions.ask_under.Given.{Over}
 
 id_serials : (g : Over) (c : In_ok-add_id g) → serials_in c.add_id.new.self.sections ≤ serials_in c.self.inside.topics.sections
 id_serials g c =
-    serials_with_id c.self.inside.topics c.add_id.new.self (authority_bytes c.args.authority) c.cert.inside.key_id.now c.add_id.ensures.orderly c.in_ok-add_id.ensures.means
+    serials_with_id c.self.inside.topics c.add_id.new.self c.args.authority.now c.cert.inside.key_id.now c.add_id.ensures.orderly c.in_ok-add_id.ensures.means
 
-id_held : (g : Over) (c : In_ok-add_id g) → HoldsId c.add_id.new.self.sections (authority_bytes c.args.authority) c.cert.inside.key_id.now
+id_held : (g : Over) (c : In_ok-add_id g) → HoldsId c.add_id.new.self.sections c.args.authority.now c.cert.inside.key_id.now
 id_held g c =
-    let a = authority_bytes c.args.authority in
+    let a = c.args.authority.now in
     let id = c.cert.inside.key_id.now in
     now_held c.self.inside.topics c.add_id.new.self (IdEntry a id) (IdOf a id) (refl, refl) c.add_id.ensures.orderly c.in_ok-add_id.ensures.means
 
 id_more : (g : Over) (c : In_ok-add_id g) → AsksMore c.self.inside.topics c.add_id.new.self
 id_more g c =
-    asks_entry c.self.inside.topics c.add_id.new.self (IdEntry (authority_bytes c.args.authority) c.cert.inside.key_id.now) c.add_id.ensures.orderly c.in_ok-add_id.ensures.means
+    asks_entry c.self.inside.topics c.add_id.new.self (IdEntry c.args.authority.now c.cert.inside.key_id.now) c.add_id.ensures.orderly c.in_ok-add_id.ensures.means
 
 id_found : (g : Over) (c : In_ok-find_id g) → FindsIn c.args.front.now (record { topics = c.add_id.new.self; found = c.find_id.new.found })
 id_found g c =
-    let a = authority_bytes c.args.authority in
+    let a = c.args.authority.now in
     let id = c.cert.inside.key_id.now in
     let old : Asked = record { topics = c.self.inside.topics; found = c.self.inside.found } in
     let new : Asked = record { topics = c.add_id.new.self; found = c.find_id.new.found } in
     finds_name c.args.front.now old new (IdEntry a id) (IdOf a id) (just_id a id) (λ h. h) c.add_id.ensures.orderly c.in_ok-add_id.ensures.means c.add_id.ensures.keys
-    (rw (← c.self.view_is) at c.requires.found) c.in_ok-find_id.ensures
+    (rw (← c.self.view_is) at c.requires) c.in_ok-find_id.ensures
 
 pub returns-in_err-find_id-clause-serials : goal.returns-in_err-find_id-clause-serials
 returns-in_err-find_id-clause-serials g c =
@@ -67,11 +66,11 @@ returns-in_err-add_serials-clause-serials g c =
 serial_more : (g : Over) (c : In_ok-add_serials g) → AsksMore c.add_id.new.self c.add_serials.new.self
 serial_more g c =
     let s = c.cert.inside.serial in
-    asks_entry c.add_id.new.self c.add_serials.new.self (RangeEntry (authority_bytes c.args.authority) s s) c.add_serials.ensures.orderly c.in_ok-add_serials.ensures.means
+    asks_entry c.add_id.new.self c.add_serials.new.self (RangeEntry c.args.authority.now s s) c.add_serials.ensures.orderly c.in_ok-add_serials.ensures.means
 
 pub returns-clause-asked : goal.returns-clause-asked
 returns-clause-asked g c =
-    let a = authority_bytes c.args.authority in
+    let a = c.args.authority.now in
     let s = c.cert.inside.serial in
     let some : 0 < s = omega (arith, c.if-cert-eq0.false) in
     let id = serial_more g (goal.at.returns-clause-asked g c).In_ok-add_serials (IdOf a c.cert.inside.key_id.now) (id_held g (goal.at.returns-clause-asked g c).In_ok-add_id) in
@@ -86,7 +85,7 @@ returns-clause-more g c =
 
 pub returns-clause-found : goal.returns-clause-found
 returns-clause-found g c =
-    let a = authority_bytes c.args.authority in
+    let a = c.args.authority.now in
     let s = c.cert.inside.serial in
     let some : 0 < s = omega (arith, c.if-cert-eq0.false) in
     let old : Asked = record { topics = c.add_id.new.self; found = c.find_id.new.found } in
@@ -100,5 +99,5 @@ pub returns-clause-serials : goal.returns-clause-serials
 returns-clause-serials g c =
     let s = c.cert.inside.serial in
     let id = id_serials g (goal.at.returns-clause-serials g c).In_ok-add_id in
-    let serial = serials_with_one c.add_id.new.self c.add_serials.new.self (authority_bytes c.args.authority) s c.add_serials.ensures.orderly c.in_ok-add_serials.ensures.means in
+    let serial = serials_with_one c.add_id.new.self c.add_serials.new.self c.args.authority.now s c.add_serials.ensures.orderly c.in_ok-add_serials.ensures.means in
     rw (← c.self.view_is) (omega (arith, id, serial))

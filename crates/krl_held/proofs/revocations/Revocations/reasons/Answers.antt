@@ -1,6 +1,7 @@
 -- The reasons are those of the key and of a certificate's names.
 use Rattle.std.proofs.Common.{◌≡◌, subst}
-use Rattle.krl_held.specs.Reasons.{held_reasons, holds_name, no_key_reasons, no_name_reasons}
+use Rattle.krl_held.specs.Reasons.{held_reasons, no_key_reasons, no_name_reasons}
+use Rattle.krl_held.specs.Tested.{holds_name}
 use Rattle.krl_held.specs.declared.reasons.Reasons.{Reasons}
 use Rattle.krl_held.proofs.Reasoned.{found_none, found_some, reasons_answer}
 use Rattle.krl_held.proofs.revocations.Revocations.reasons.Goals as goal

@@ -1,4 +1,12 @@
+use Rattle.std.proofs.Common.{refl}
+use Rattle.krl_held.specs.HeldSection.{section_of}
+use Rattle.krl_held.proofs.Finding.{no_serial_under, serial_under}
 use Rattle.krl_held.proofs.revocations.Revocations.unheld.Goals as goal
 
-pub returns-clause-none : goal.returns-clause-none
-returns-clause-none g c = rw (← c.self.view_is) c.unheld.ensures.none
+pub returns-in-None-clause-none : goal.returns-in-None-clause-none
+returns-in-None-clause-none g c = rw (← c.self.view_is) (λ k _ h. no_serial_under c.self.inside.sections c.args.authority.now _ c.in-None.ensures h)
+
+pub returns-in-Some-clause-none : goal.returns-in-Some-clause-none
+returns-in-Some-clause-none g c =
+    let section = section_of g.S.Spans.spans (c.args.authority.now, c.in-Some.section.now) in
+    rw (← c.self.view_is) (λ k fits h. c.count_others.ensures.none k fits ((serial_under c.self.inside.sections section c.args.authority.now _ refl c.in-Some.ensures).0 h))

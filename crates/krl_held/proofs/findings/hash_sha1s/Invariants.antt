@@ -1,7 +1,0 @@
-use Rattle.sha1.specs.Sha1.{sha1}
-use Rattle.krl_held.proofs.Hashing.{AreHashedSoFar}
-use Rattle.krl_held.proofs.findings.hash_sha1s.Given as goal
-
--- the keys so far are hashed, and the others are left
-abbrev pub invariant-loop-key : goal.invariant-loop-key
-invariant-loop-key l = AreHashedSoFar sha1 l.fn.keys l.hashes.keys l.key-iterator
