@@ -7,7 +7,6 @@ mod file_keys;
 mod named;
 mod run_fault;
 mod spec_cause;
-mod spec_fault;
 
 pub use cause::{Cause, cause_of};
 pub use file_fault::FileFault;
@@ -15,4 +14,3 @@ pub use file_keys::{FileKey, FileKeys, keys_of};
 pub use named::{Named, load};
 pub use run_fault::{RunFault, fault_text};
 pub use spec_cause::{KeyCause, SpecCause};
-pub use spec_fault::SpecFault;

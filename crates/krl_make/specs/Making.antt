@@ -26,7 +26,7 @@ use Rattle.key_files.specs.declared.cause.Cause.TheVariants as causes
 use Rattle.krl_held.specs.Changes.{MeansMore}
 use Rattle.key_files.specs.declared.spec_cause.SpecCause.{SpecCause}
 use Rattle.key_files.specs.declared.spec_cause.SpecCause.TheVariants as specs
-use Rattle.key_files.specs.declared.spec_fault.SpecFault.{SpecFault}
+use Rattle.krl_spec.specs.declared.spec_fault.SpecFault.{SpecFault}
 use Rattle.key_files.specs.RunFault.{krl_cause}
 use Rattle.key_files.specs.Keys.{Named, FileKey, run_fault_at, run_fault_in, text_keys}
 use Rattle.krl_spec.specs.Lines.{lines_of}

@@ -10,7 +10,7 @@ use Rattle.krl_spec.specs.Entries.{line_entry}
 use Rattle.key_text.specs.Lines.{is_newline}
 use Rattle.key_files.specs.declared.spec_cause.SpecCause.{SpecCause}
 use Rattle.key_files.specs.declared.spec_cause.SpecCause.TheVariants.{NoMemory}
-use Rattle.key_files.specs.declared.spec_fault.SpecFault.{SpecFault}
+use Rattle.krl_spec.specs.declared.spec_fault.SpecFault.{SpecFault}
 
 -- the entries of lines up to the first fault, and that fault
 pub record LineEntries : Type 0 where

@@ -9,8 +9,10 @@ mod keys;
 pub mod laws;
 mod lines;
 mod number;
+mod spec_fault;
 mod under;
 
-pub use key_files::{KeyCause, SpecCause, SpecFault};
+pub use key_files::{KeyCause, SpecCause};
 pub use lines::read_spec;
+pub use spec_fault::SpecFault;
 pub use under::Under;

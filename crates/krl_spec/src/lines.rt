@@ -6,8 +6,8 @@ ghost use Rattle.krl_spec.specs.Under.{authority_under, bytes_under};
 ghost use Rattle.krl_spec.specs.Lines.{ReadsSpec, lines_of};
 
 use crate::adding::add_line;
+use crate::spec_fault::SpecFault;
 use crate::under::Under;
-use key_files::SpecFault;
 use key_text::split_line;
 use krl_held::Revocations;
 use serial_set::Spans;

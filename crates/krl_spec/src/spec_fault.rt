@@ -1,6 +1,6 @@
 //! Where and why reading a specification file stopped.
 
-use crate::spec_cause::SpecCause;
+use key_files::SpecCause;
 
 /// The first line of a specification file that has a fault, and why.
 #[derive(Clone, Copy, Debug, PartialEq, Eq)]
