@@ -1,4 +1,4 @@
-//! The tests of `krl_openssh` and `krl_checker`, through what they make public.
+//! The tests of `krl_checker`, through its public items.
 #![tactic(auto)]
 
 #[cfg(test)]

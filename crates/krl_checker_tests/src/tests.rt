@@ -1,7 +1,4 @@
-//! What no contract says: what OpenSSH's ssh-keygen answered about lists, and calls with ample
-//! memory.
+//! What no contract says: the lines of a check, and calls with ample memory.
 
 mod checks;
-mod differences;
-mod made;
 mod page;

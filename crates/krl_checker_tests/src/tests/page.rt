@@ -1,22 +1,13 @@
-//! The callers of the pages.
+//! The caller of the page.
 
 use crate::tests::checks::checker_of;
-use byte_streams::{FromRead, Sink, ToWrite};
+use byte_streams::{Sink, ToWrite};
 use key_files::RunFault;
 use key_listing::Printer;
 use krl_checker::{Checker, Role};
-use krl_core::read_krl;
 use krl_held::Revocations;
-use krl_openssh::first_difference;
 use parts_for_tests::{FIVE, GITHUB, GITHUB_LINE, OTHER_LINE, Taker, list_of};
 use span_sets::Held;
-use std::alloc::Global;
-
-/// Whether OpenSSH reads a list too, and as the same names.
-fn is_read_alike(alloc: Global, list: &[u8]) -> bool {
-    let (read, _reader) = read_krl::<Held, _>(alloc, FromRead::new(list));
-    read.is_ok() && first_difference(list).is_none()
-}
 
 /// Whether a list, which was read from these bytes, does all that it must: the exit status.
 fn status_of<W: Sink>(
@@ -32,9 +23,8 @@ fn status_of<W: Sink>(
 }
 
 #[test]
-fn the_callers_of_the_pages(rt: HostRuntime) {
+fn the_caller_of_the_page(rt: HostRuntime) {
     let bytes = list_of(rt.alloc(), FIVE).expect(&rt, "there is memory");
-    assert!(rt; is_read_alike(rt.alloc(), &bytes) && !is_read_alike(rt.alloc(), b"x"));
     let mut list: Revocations<Held> = Revocations::new(rt.alloc());
     list.add_key(GITHUB).expect(&rt, "there is memory");
     let mut taker = Taker::whole(rt.alloc());
