@@ -1,10 +1,8 @@
 //! Crossing fields: reading them from a reader's buffer without the reader.
 
-ghost use Rattle.std.specs.Prelude.{◌≡◌, ◌+◌, ◌*◌, ◌%◌, ◌^◌, ◌≤◌, ◌<◌, IsTrue, IfSome, false, length};
-ghost use Rattle.std.specs.Prelude.{take};
+ghost use Rattle.std.specs.Prelude.{◌≡◌, ◌+◌, ◌*◌, ◌%◌, ◌^◌, ◌≤◌, ◌<◌, IsTrue, false, length};
 ghost use Rattle.krl_core.specs.Crossing.{AreUnasked, CrossesNext, CrossesSome, MayPass};
 ghost use Rattle.krl_held.specs.Scope.{AreUnwanted};
-ghost use Rattle.krl_core.specs.Front.{Passes};
 ghost use Rattle.krl_core.specs.Keeper.{InStep};
 
 use crate::judging::{next_bits, next_serial};
@@ -249,33 +247,13 @@ fn cross_field<T: Store>(
     requires { InStep place keeper.old.bitmap }
     ensures { CrossesNext bytes.now empty result place keeper.old keeper.new }
 {
-    let (size, next) = passes(place, bytes)?;
+    let (size, next) = place.passes(bytes)?;
     if size == 0 && !empty {
         return None;
     }
     match keeper.keep(place, &bytes[..size], next) {
         Ok(()) => Some((size, Ok(next))),
         Err(error) => Some((size, Err(error))),
-    }
-}
-
-// The size of the expected field and the place after it, if the field is whole and passes its
-// judgement.
-#[inline(always)]
-fn passes(place: Place, bytes: &[u8]) -> Option<(usize, Place)>
-    ensures within { IfSome result (λ field. field.0 ≤ length bytes.now) }
-    ensures passes { IfSome result (λ field. Passes place (take field.0 bytes.now) field.1) }
-{
-    if !place.has_room() {
-        return None;
-    }
-    let size = place.size() as usize;
-    if size > bytes.len() {
-        return None;
-    }
-    match place.after(&bytes[..size]) {
-        Ok(next) => Some((size, next)),
-        Err(_) => None,
     }
 }
 

@@ -1,8 +1,9 @@
 //! The places in a list where a field can be expected (PROTOCOL.krl).
 
-ghost use Rattle.std.specs.Prelude.{◌≡◌, ◌↔◌, IsTrue, length};
+ghost use Rattle.std.specs.Prelude.{◌≡◌, ◌≢◌, ◌↔◌, ◌++◌, ◌≤◌, IfSome, IsTrue, List, ℕ, None, length, take};
 ghost use Rattle.krl_core.specs.Place.{can_end, expected};
-ghost use Rattle.krl_core.specs.Front.{HasRoom};
+ghost use Rattle.krl_core.specs.Front.{HasRoom, Passes};
+ghost use Rattle.krl_core.specs.declared.place.Place.{Place as PlaceOf};
 
 mod bitmap;
 mod certificates;
@@ -60,17 +61,17 @@ impl Place {
         }
     }
 
-    /// The size of the expected field in bytes.
+    // The size of the expected field in bytes.
     #[inline(always)]
-    pub fn size(self) -> u32
+    pub(crate) fn size(self) -> u32
         ensures { result ≡ (expected self).size }
     {
         self.size_and_room().0
     }
 
-    /// Whether the part around the field has enough bytes left for it.
+    // Whether the part around the field has enough bytes left for it.
     #[inline(always)]
-    pub fn has_room(self) -> bool
+    pub(crate) fn has_room(self) -> bool
         ensures { IsTrue result ↔ HasRoom (expected self) }
     {
         match self.size_and_room() {
@@ -90,9 +91,9 @@ impl Place {
         }
     }
 
-    /// Judges the whole field: returns the place after it, or why it is refused.
+    // Judges the whole field: returns the place after it, or why it is refused.
     #[inline(always)]
-    pub fn after(self, field: &[u8]) -> Result<Place, KrlFault>
+    pub(crate) fn after(self, field: &[u8]) -> Result<Place, KrlFault>
         requires whole { length field.now ≡ (expected self).size }
         requires room { HasRoom (expected self) }
         ensures { result ≡ (expected self).judged field.now }
@@ -106,6 +107,28 @@ impl Place {
             Place::Serials(at) => at.after(field),
             Place::Bitmap(at) => at.after(field),
             Place::Extension(at) => at.after(field),
+        }
+    }
+
+    /// The size in bytes of the expected field, and the place after it, if the field is whole at the
+    /// front of these bytes and passes its judgement.
+    #[inline(always)]
+    pub fn passes(self, bytes: &[u8]) -> Option<(usize, Place)>
+        ensures within { IfSome result (λ field. field.0 ≤ length bytes.now) }
+        ensures passes { IfSome result (λ field. Passes self (take field.0 bytes.now) field.1) }
+        ensures found { (field rest : List ℕ) (next : PlaceOf) → Passes self field next
+            → bytes.now ≡ field ++ rest → result ≢ None }
+    {
+        if !self.has_room() {
+            return None;
+        }
+        let size = self.size() as usize;
+        if size > bytes.len() {
+            return None;
+        }
+        match self.after(&bytes[..size]) {
+            Ok(next) => Some((size, next)),
+            Err(_) => None,
         }
     }
 }

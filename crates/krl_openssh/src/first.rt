@@ -1,8 +1,7 @@
 //! The first difference among the fields of a list.
 
-ghost use Rattle.std.specs.Prelude.{◌≡◌, ◌≢◌, ◌↔◌, ◌++◌, ◌≤◌, List, ℕ, IfSome, IsTrue, None, length, take};
-ghost use Rattle.krl_core.specs.Front.{IsEnd, Passes, start};
-ghost use Rattle.krl_core.specs.declared.place.Place.{Place as PlaceOf};
+ghost use Rattle.std.specs.Prelude.{◌≡◌, ◌↔◌, List, ℕ, IsTrue};
+ghost use Rattle.krl_core.specs.Front.{IsEnd, start};
 ghost use Rattle.krl_openssh.specs.Difference.{first_difference};
 ghost use Rattle.krl_openssh.specs.Fields.{HasFields};
 
@@ -21,7 +20,7 @@ pub fn first_difference(list: &[u8]) -> Option<Difference>
     let mut place = Place::Header(HeaderPlace::Magic);
     let mut rest = list;
     'fields: while !is_end(place, rest) {
-        let Some((size, next)) = passes(place, rest) else {
+        let Some((size, next)) = place.passes(rest) else {
             return None;
         };
         if let Some(difference) = difference_at(place, &rest[..size]) {
@@ -38,25 +37,4 @@ fn is_end(place: Place, rest: &[u8]) -> bool
     ensures { IsTrue result ↔ IsEnd place rest.now }
 {
     place.may_end() && rest.is_empty()
-}
-
-// The size of the expected field in bytes, and the place after it, if the field is whole and passes
-// its check.
-fn passes(place: Place, bytes: &[u8]) -> Option<(usize, Place)>
-    ensures within { IfSome result (λ field. field.0 ≤ length bytes.now) }
-    ensures passes { IfSome result (λ field. Passes place (take field.0 bytes.now) field.1) }
-    ensures found { (field rest : List ℕ) (next : PlaceOf) → Passes place field next
-        → bytes.now ≡ field ++ rest → result ≢ None }
-{
-    if !place.has_room() {
-        return None;
-    }
-    let size = place.size() as usize;
-    if size > bytes.len() {
-        return None;
-    }
-    match place.after(&bytes[..size]) {
-        Ok(next) => Some((size, next)),
-        Err(_) => None,
-    }
 }
