@@ -19,7 +19,7 @@ is_current() {
 }
 
 newer_source() {
-  cd "$top" && find crates.txt crates \( -path '*/out' -o -path '*_tests' \) \
-    -prune -o -newer "$program" \
+  cd "$top" && find crates.txt crates \
+    \( -path '*/out' -o -path '*_tests' -o -path '*/test_fixtures' \) -prune -o -newer "$program" \
     \( -name crates.txt -o -path '*/src*' -o -path '*/specs*' -o -path '*/proofs*' \) -print -quit
 }

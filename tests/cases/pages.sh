@@ -17,7 +17,7 @@ stands() {
   return 1
 }
 for crate in $(sed -n 's/^\([a-z0-9_]*\)\( staticlib\)\{0,1\}:.*/\1/p' "$top/crates.txt" |
-  grep -v '_tests$'); do
+  grep -vxE '.*_tests|test_fixtures'); do
   page=$top/crates/$crate/README.md
   judge "the page of $crate" "$(
     [ -e "$page" ] || echo '  there is none'

@@ -1,5 +1,6 @@
 -- The last line of an audit.
-use Rattle.std.specs.Prelude.{ℕ, ◌==◌, List, [], ◌++◌, codes, decimal, if◌then◌else◌, Option, Some, None}
+use Rattle.std.specs.Prelude.{ℕ, ◌==◌, List, [], ◌++◌, codes, decimal, if◌then◌else◌, Option, Some}
+use Rattle.std.specs.Prelude.{None}
 use Rattle.cert_listing.specs.Time.{instant_text}
 use Rattle.krl_audit.specs.declared.done.Stated.{Stated}
 use Rattle.audit_tree.specs.declared.summary.Summary.{Summary}

@@ -1,7 +1,8 @@
 //! The last line of an audit.
 
 ghost use Rattle.std.specs.Prelude.{◌≡◌, ◌++◌, OnOk};
-ghost use Rattle.audit_tree.specs.Summary.{amount_text, findings_text, inputs_text, list_text, stated_text, summary_text, unread_text};
+ghost use Rattle.audit_tree.specs.Summary.{amount_text, findings_text, inputs_text, list_text};
+ghost use Rattle.audit_tree.specs.Summary.{stated_text, summary_text, unread_text};
 
 use cert_listing::time_text;
 use key_listing::push_number;

@@ -1,6 +1,7 @@
 -- How far a reader was pulled, and what taking a field from it does.
 use Rattle.std.specs.Prelude.{◌≡◌, ℕ, ◌+◌, ◌-◌, ◌≤◌, ◌<◌, Bool, true, false, List, [], ◌∷◌}
-use Rattle.std.specs.Prelude.{length, take, Option, Some, None, Result, Err, IfSome, IsSome, MatchBool}
+use Rattle.std.specs.Prelude.{length, take, Option, Some, None, Result, Err, IfSome, IsSome}
+use Rattle.std.specs.Prelude.{MatchBool}
 use Rattle.std.specs.Io.KnownBytes.{Consumes, IsAtEnd, Keeps, prepend_known}
 use Rattle.ssh_wire.specs.declared.pull_fault.PullFault.{PullFault}
 use Rattle.ssh_wire.specs.declared.pull_fault.PullFault.TheVariants.{EndsEarly, TooLong, Read}

@@ -2,7 +2,8 @@
 
 ghost use Rattle.std.specs.Prelude.{◌≡◌, ◌≢◌, ◌<◌, ◌∷◌, [], None, Err, length, IfOk, IfErr};
 ghost use Rattle.std.specs.Prelude.{OnOk, OnErr, ◌+◌, ◌≤◌, false, take, vec_capacity, vec_len};
-ghost use Rattle.byte_streams.specs.Pull.{at_hand, Looks, Refuses, RefusesAgain, RefusesRest, Takes, TakesRest, untaken};
+ghost use Rattle.byte_streams.specs.Pull.{at_hand, Looks, Refuses, RefusesAgain, RefusesRest};
+ghost use Rattle.byte_streams.specs.Pull.{Takes, TakesRest, untaken};
 ghost use Rattle.ssh_wire.specs.declared.pull_fault.PullFault.TheVariants.{NoMemory, Read};
 
 use crate::device::Source;

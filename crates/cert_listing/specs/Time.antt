@@ -1,5 +1,6 @@
 -- Instants as they are printed.
-use Rattle.std.specs.Prelude.{◌≡◌, ℕ, zero, suc, ◌+◌, ◌-◌, ◌/◌, ◌%◌, ◌<◌, ◌≤◌, nat_lt, if◌then◌else◌, pos, ◌*ℤ◌, List, [], ◌∷◌, ◌++◌, codes, decimal}
+use Rattle.std.specs.Prelude.{◌≡◌, ℕ, zero, suc, ◌+◌, ◌-◌, ◌/◌, ◌%◌, ◌<◌, ◌≤◌, nat_lt}
+use Rattle.std.specs.Prelude.{if◌then◌else◌, pos, ◌*ℤ◌, List, [], ◌∷◌, ◌++◌, codes, decimal}
 use Rattle.jiff.specs.Words.{civil_nanos, days_in_month, days_in_year, iso_datetime_text}
 use Rattle.jiff.specs.Types.{DateTime}
 

@@ -4,7 +4,11 @@ ghost use Rattle.std.specs.Prelude.{◌≡◌, ◌++◌, ◌∷◌, [], IfOk, On
 ghost use Rattle.hex.specs.Hex.{encode_lower};
 ghost use Rattle.ssh_wire.specs.Reading.{string_at};
 ghost use Rattle.ssh_cert.specs.Escape.{escaped};
-ghost use Rattle.cert_listing.specs.Listing.{listing_of, listing_text, period_of, valid_period, authority_value, data_text, has_text, id_value, identity_text, item, key_value, line, lines, lists_text, option_item, string_or_hex, terms_text, type_value, valid_value};
+ghost use Rattle.cert_listing.specs.Listing.{listing_of, listing_text, period_of, valid_period};
+ghost use Rattle.cert_listing.specs.Listing.{authority_value, data_text, has_text, id_value};
+ghost use Rattle.cert_listing.specs.Listing.{identity_text, item, key_value, line, lines};
+ghost use Rattle.cert_listing.specs.Listing.{lists_text, option_item, string_or_hex, terms_text};
+ghost use Rattle.cert_listing.specs.Listing.{type_value, valid_value};
 
 use crate::time::time_text;
 use key_text::{Hash, fingerprint};

@@ -4,7 +4,8 @@ use Rattle.std.specs.List.{flat_map}
 use Rattle.std.specs.Str.{is_utf8}
 use Rattle.base64.specs.Engines.{standard}
 use Rattle.base64.specs.GeneralPurpose.{encode_of}
-use Rattle.json.specs.Json.{Json, array, number, object, string, Items, item, no_items, Members, member, no_members}
+use Rattle.json.specs.Json.{Json, array, number, object, string, Items, item, no_items, Members}
+use Rattle.json.specs.Json.{member, no_members}
 use Rattle.json.specs.Print.{print}
 use Rattle.json.specs.Token.{Token, key}
 use Rattle.json.specs.Tree.{json_tokens}

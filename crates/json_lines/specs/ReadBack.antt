@@ -1,7 +1,8 @@
 -- The value that a reader reads from the line of a value.
 use Rattle.std.specs.Prelude.{◌≡◌, ℕ, ◌<◌, ◌^◌, ◌==◌, [], ◌∷◌, Some, decimal}
 use Rattle.std.specs.List.{slice_split}
-use Rattle.json.specs.Json.{Json, array, boolean, document, null, number, object, string, Items, item, no_items, Members, member, no_members}
+use Rattle.json.specs.Json.{Json, array, boolean, document, null, number, object, string, Items}
+use Rattle.json.specs.Json.{item, no_items, Members, member, no_members}
 use Rattle.json_lines.specs.Field.{json_line, json_text}
 
 -- Each number in a value is a count.

@@ -1,7 +1,8 @@
 //! The fields of an object.
 
 ghost use Rattle.std.specs.Prelude.{◌≡◌, ◌∷◌, ◌++◌, [], OnOk};
-ghost use Rattle.json_lines.specs.Field.{base64_field, digits_field, fields_tokens, number_field, text_field, word_field};
+ghost use Rattle.json_lines.specs.Field.{base64_field, digits_field, fields_tokens, number_field};
+ghost use Rattle.json_lines.specs.Field.{text_field, word_field};
 
 use crate::line_writer::LineWriter;
 use base64::engine::general_purpose::STANDARD;

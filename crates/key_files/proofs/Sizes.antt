@@ -46,7 +46,7 @@ lines_room name number (line ∷ lines) all =
 pub text_lines_room : (name text : List ℕ) → IsBytes text → keys_room (keys_from name 1 (slice_split is_newline text)) ≤ 3 * length text
 text_lines_room name text fits = omega (arith, lines_room name 1 (slice_split is_newline text) (split_bytes text fits), split_room text)
 
--- So does the key of a container.
+-- The key of a container also takes at most its bytes.
 pub text_key_room : (name text : List ℕ) → IsBytes text → keys_room (key_of_container name (private_at text) ∷ []) ≤ 3 * length text
 text_key_room name text fits = by (private_at text) refl
   where

@@ -14,7 +14,8 @@ use Rattle.key_files.specs.declared.cause.Cause.{Cause}
 use Rattle.key_files.specs.declared.cause.Cause.TheVariants as causes
 use Rattle.key_files.specs.declared.file_fault.FileFault.{FileFault}
 use Rattle.key_text.specs.Lines.{is_newline}
-use Rattle.key_files.specs.RunFault.{RunFault, EndedBy, ByOutput, ByMemory, ByInput, ended_by, run_fault_of}
+use Rattle.key_files.specs.RunFault.{RunFault, EndedBy, ByOutput, ByMemory, ByInput, ended_by}
+use Rattle.key_files.specs.RunFault.{run_fault_of}
 
 -- a file's name, and its bytes or why there are none
 pub record Named : Type 0 where

@@ -1,13 +1,15 @@
 //! The keys of a file, one after another.
 
-ghost use Rattle.std.specs.Prelude.{◌≡◌, ◌<◌, ◌≤◌, ◌+◌, ◌*◌, ◌^◌, ℕ, Err, IfErr, IfOk, List, length};
+ghost use Rattle.std.specs.Prelude.{◌≡◌, ◌<◌, ◌≤◌, ◌+◌, ◌*◌, ◌^◌, ℕ, Err, IfErr, IfOk, List};
+ghost use Rattle.std.specs.Prelude.{length};
 ghost use Rattle.ssh_cert.specs.AnyKey.{IsReadAs};
 ghost use Rattle.ssh_cert.specs.SubjectReading.{subject_of};
 ghost use Rattle.ssh_cert.specs.declared.subject_fault.SubjectFault.{SubjectFault as FaultOf};
 ghost use Rattle.key_text.specs.ContainerReading.{private_at};
 ghost use Rattle.key_text.specs.LineReading.{line_at};
 ghost use Rattle.key_files.specs.FileKeys.{HasRoom, IsNextLine, keys_left, line_room};
-ghost use Rattle.key_files.specs.Keys.{GivesKey, GivesNext, key_of_container, keys_of, key_of_line, run_fault_in, text_keys};
+ghost use Rattle.key_files.specs.Keys.{GivesKey, GivesNext, key_of_container, keys_of, key_of_line};
+ghost use Rattle.key_files.specs.Keys.{run_fault_in, text_keys};
 ghost use Rattle.key_files.specs.Sizes.{file_size, keys_room};
 
 use crate::cause::Cause;

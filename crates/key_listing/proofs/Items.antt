@@ -18,7 +18,7 @@ use Rattle.key_listing.specs.Listing.{certificate_answer, listed_certificate}
 use Rattle.krl_types.specs.Subject.{Subject}
 use Rattle.ssh_cert.specs.SubjectReading.{IsSubject, subject_of}
 use Rattle.ssh_cert.specs.declared.subject_fault.SubjectFault.{SubjectFault}
-use Rattle.ssh_cert.proofs.Asked.{plain_is_key}
+use Rattle.ssh_cert.proofs.Subjects.{plain_is_key}
 use Rattle.key_listing.specs.declared.answer.Answer.{Answer}
 use Rattle.key_files.specs.declared.cause.Cause.TheVariants.{Line}
 use Rattle.key_listing.specs.Items.{SpellsKey}

@@ -1,6 +1,6 @@
-pub mod Answerable
-pub mod Answering
-pub mod Carrying
-pub mod Ending
+pub mod AnswerableKeys
+pub mod AnsweredFiles
+pub mod RunParts
+pub mod RunEnds
 pub mod Items
-pub mod Saying
+pub mod PrintedItems

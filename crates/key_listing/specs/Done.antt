@@ -4,7 +4,8 @@ use Rattle.std.specs.Io.KnownBytes.{Appends}
 use Rattle.key_files.specs.declared.cause.Cause.TheVariants.{NoMemory}
 use Rattle.key_listing.specs.Printer.{IsCut}
 use Rattle.key_listing.specs.Run.{Item, name_of, outcome_of, status_of}
-use Rattle.key_files.specs.RunFault.{RunFault, EndedBy, ByOutput, ByMemory, ByInput, ended_by, output_run_fault}
+use Rattle.key_files.specs.RunFault.{RunFault, EndedBy, ByOutput, ByMemory, ByInput, ended_by}
+use Rattle.key_files.specs.RunFault.{output_run_fault}
 use Rattle.key_files.specs.RunFault.{run_fault_of}
 
 -- All of the run's text was taken, and the run's own end is reported.

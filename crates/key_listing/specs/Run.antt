@@ -91,13 +91,13 @@ unfoldable pub files_items : Answering → List Named → List Item
 files_items answer files = flat_map (file_items answer) files
 
 -- The outcome of a run: its text, whether some line reports REVOKED, and why it stopped early.
-pub record Outcome : Type 0 where
+pub record RunOutcome : Type 0 where
   pub text : List ℕ
   pub revoked : Bool
   pub stop : Option RunFault
 
 -- an answer, followed by the rest of a run
-abbrev pub before : Answer → Outcome → Outcome
+abbrev pub before : Answer → RunOutcome → RunOutcome
 before answer rest =
     record {
       text = answer.text ++ rest.text;
@@ -106,7 +106,7 @@ before answer rest =
     }
 
 -- the run's first fault ends it
-abbrev pub outcome_of : List Item → Outcome
+abbrev pub outcome_of : List Item → RunOutcome
 outcome_of [] = record { text = []; revoked = false; stop = None }
 outcome_of (Answered name answer ∷ items) = before answer (outcome_of items)
 outcome_of (Passed name ∷ items) = outcome_of items

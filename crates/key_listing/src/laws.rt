@@ -17,11 +17,13 @@ ghost use Rattle.key_text.specs.declared.private_fault.PrivateFault.{PrivateFaul
 ghost use Rattle.ssh_cert.specs.SubjectReading.{IsSubject, IsSubjectFault};
 ghost use Rattle.ssh_cert.specs.declared.subject_fault.SubjectFault.{SubjectFault};
 ghost use Rattle.key_listing.specs.declared.answer.Answer.{Answer};
-ghost use Rattle.key_files.specs.declared.cause.Cause.TheVariants.{Line, Private, Subject as Subjects};
+ghost use Rattle.key_files.specs.declared.cause.Cause.TheVariants.{Line, Private};
+ghost use Rattle.key_files.specs.declared.cause.Cause.TheVariants.{Subject as Subjects};
 ghost use Rattle.key_listing.specs.Items.{SpellsKey};
 ghost use Rattle.key_listing.specs.Listing.{certify, listed_certificate};
 ghost use Rattle.key_files.specs.Keys.{run_fault_at};
-ghost use Rattle.key_listing.specs.Run.{Answered, Answering, Stopped, container_item, item_of, said};
+ghost use Rattle.key_listing.specs.Run.{Answered, Answering, Stopped, container_item, item_of};
+ghost use Rattle.key_listing.specs.Run.{said};
 ghost use Rattle.key_files.specs.RunFault.{run_fault_of};
 
 use key_text::laws::{

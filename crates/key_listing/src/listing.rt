@@ -4,7 +4,9 @@ ghost use Rattle.std.specs.Prelude.{◌≡◌, ◌++◌, IfOk, OnOk, Some, false
 ghost use Rattle.ssh_cert.specs.AnyKey.{asked_of, certificate_in, plain_of};
 ghost use Rattle.ssh_key.specs.Kind.{short_name_of};
 ghost use Rattle.key_listing.specs.Done.{Ends};
-ghost use Rattle.key_listing.specs.Listing.{certificate_answer, certificate_mark, certificate_text, comment_or_none, description, kind_part, list_line, list_run_of, listing, location_part};
+ghost use Rattle.key_listing.specs.Listing.{certificate_answer, certificate_mark, certificate_text};
+ghost use Rattle.key_listing.specs.Listing.{comment_or_none, description, kind_part, list_line};
+ghost use Rattle.key_listing.specs.Listing.{list_run_of, listing, location_part};
 
 use crate::answer::Answer;
 use crate::answers::Answers;

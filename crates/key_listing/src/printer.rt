@@ -1,6 +1,7 @@
 //! The printer: it collects lines into chunks, and counts what the writer took.
 
-ghost use Rattle.std.specs.Prelude.{◌≡◌, ◌<◌, ◌↔◌, ℕ, IsTrue, List, [], ◌∷◌, MatchResult, Option, false, true, length, OnErr, OnOk};
+ghost use Rattle.std.specs.Prelude.{◌≡◌, ◌<◌, ◌↔◌, ℕ, IsTrue, List, [], ◌∷◌, MatchResult, Option};
+ghost use Rattle.std.specs.Prelude.{false, true, length, OnErr, OnOk};
 ghost use Rattle.key_listing.specs.Carries.{Carries, Reaches};
 ghost use Rattle.key_listing.specs.Done.{Ends};
 ghost use Rattle.key_listing.specs.Printer.{FailsAgain, Sends, and_answer, chunk, nothing_printed};

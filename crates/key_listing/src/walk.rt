@@ -6,7 +6,8 @@ ghost use Rattle.ssh_cert.specs.SubjectReading.{subject_of};
 ghost use Rattle.key_files.specs.Keys.{keys_of};
 ghost use Rattle.key_listing.specs.Carries.{Carries};
 ghost use Rattle.key_listing.specs.Expected.{AllExpected, AreExpected};
-ghost use Rattle.key_listing.specs.Run.{Answering, GivesAnswer, file_items, files_items, file_key_item, is_answered};
+ghost use Rattle.key_listing.specs.Run.{Answering, GivesAnswer, file_items, files_items};
+ghost use Rattle.key_listing.specs.Run.{file_key_item, is_answered};
 
 use crate::answer::Answer;
 use crate::answers::Answers;

@@ -1,4 +1,4 @@
-pub mod Trimmed
+pub mod TrimmedTexts
 pub mod LineWords
 pub mod LineNames
 pub mod DecodedBytes
@@ -16,5 +16,5 @@ pub mod LineSplits
 pub mod ContainerReads
 pub mod SecretRows
 pub mod Markers
-pub mod Halves
+pub mod PublicHalves
 pub mod Sizes

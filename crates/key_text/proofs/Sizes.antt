@@ -20,7 +20,7 @@ use Rattle.key_text.specs.KeyLine.{AreWords, HasWords, IsKeyLine, base64}
 use Rattle.key_text.specs.Lines.{is_newline}
 use Rattle.ssh_wire.specs.Rows.{Number, part_text}
 use Rattle.key_text.specs.TypeName.{certificate_names, plain_names, type_names}
-use Rattle.key_text.proofs.Trimmed.{length-before_ending, length-trimmed}
+use Rattle.key_text.proofs.TrimmedTexts.{length-before_ending, length-trimmed}
 
 -- ---- base64 has four symbols for three bytes
 

@@ -1,5 +1,6 @@
 -- Blanks, and words between them.
-use Rattle.std.specs.Prelude.{◌≡◌, ℕ, Bool, false, not, ◌-◌, ◌<◌, ◌==◌, ◌||◌, List, [], ◌∷◌, length, take, drop}
+use Rattle.std.specs.Prelude.{◌≡◌, ℕ, Bool, false, not, ◌-◌, ◌<◌, ◌==◌, ◌||◌, List, [], ◌∷◌, length}
+use Rattle.std.specs.Prelude.{take, drop}
 use Rattle.std.specs.List.{AllPass, prefix_len, suffix_len, take_while}
 
 -- a space or a tab

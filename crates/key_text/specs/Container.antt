@@ -1,10 +1,12 @@
 -- The private container of one key that is not encrypted (OpenSSH's PROTOCOL.key).
-use Rattle.std.specs.Prelude.{◌≡◌, ◌≢◌, ℕ, ◌==◌, ◌&&◌, ◌<◌, Bool, List, [], ◌∷◌, ◌++◌, codes, length, slice_index, Option, Some, None, Result, Ok, Err}
+use Rattle.std.specs.Prelude.{◌≡◌, ◌≢◌, ℕ, ◌==◌, ◌&&◌, ◌<◌, Bool, List, [], ◌∷◌, ◌++◌, codes}
+use Rattle.std.specs.Prelude.{length, slice_index, Option, Some, None, Result, Ok, Err}
 use Rattle.std.specs.List.{range_with_len}
 use Rattle.std.specs.Str.{bytes_eq}
 use Rattle.ssh_wire.specs.Wire.{IsBytes}
 use Rattle.ssh_wire.specs.Reading.{string_at}
-use Rattle.ssh_wire.specs.Rows.{BeginsWithPart, Fails, Leads, Magnitude, Number, Step, Text, fault_unless, passes, row_text, step}
+use Rattle.ssh_wire.specs.Rows.{BeginsWithPart, Fails, Leads, Magnitude, Number, Step, Text}
+use Rattle.ssh_wire.specs.Rows.{fault_unless, passes, row_text, step}
 use Rattle.ssh_wire.specs.declared.fault.WireFault.{WireFault}
 use Rattle.ssh_key.specs.Key.{IsKey, PublicKey}
 use Rattle.ssh_key.specs.KeyReading.{key_at}
@@ -12,7 +14,8 @@ use Rattle.ssh_key.specs.Kind.{fields_of, type_name}
 use Rattle.ssh_key.specs.declared.fault.KeyFault.{KeyFault}
 use Rattle.ssh_key.specs.declared.fault.KeyFault.TheVariants as keys
 use Rattle.ssh_key.specs.declared.kind.Kind.{Kind}
-use Rattle.ssh_key.specs.declared.kind.Kind.TheVariants.{Rsa, Dsa, Ecdsa256, Ecdsa384, Ecdsa521, Ed25519, EcdsaSk, Ed25519Sk}
+use Rattle.ssh_key.specs.declared.kind.Kind.TheVariants.{Rsa, Dsa, Ecdsa256, Ecdsa384, Ecdsa521}
+use Rattle.ssh_key.specs.declared.kind.Kind.TheVariants.{Ed25519, EcdsaSk, Ed25519Sk}
 use Rattle.key_text.specs.Armour.{IsArmour}
 use Rattle.key_text.specs.KeyLine.{base64}
 use Rattle.key_text.specs.declared.private_fault.PrivateFault.{PrivateFault}
@@ -125,8 +128,8 @@ pub record Opens (key : PublicKey) (list : List ℕ) (values : List (List ℕ)) 
     pub begun : Leads (beginning key.kind) [] list head fields
     pub read : Leads (secrets key.kind) [] fields values rest
 
--- The private list of the key: its fields have the public ones of the key, and after the comment comes the padding, a
--- front of the bytes 1, 2, 3 and so on up to 254.
+-- The private list of the key: its fields have the public ones of the key, and after the comment
+-- comes the padding, a front of the bytes 1, 2, 3 and so on up to 254.
 pub record IsPrivateList (key : PublicKey) (list comment : List ℕ) : Type 0 where
   pub values : List (List ℕ)
   pub rest : List ℕ
@@ -175,7 +178,8 @@ pub data IsListFault (key : PublicKey) (list : List ℕ) (fault : PrivateFault) 
       → ((unused : List ℕ) → all_padding ≢ padding ++ unused) → fault ≡ faults.Padding
       → IsListFault key list fault
 
--- The first fault of a text that is not a container. The text itself never has the fault `NoMemory`.
+-- The first fault of a text that is not a container. The text itself never has the fault
+-- `NoMemory`.
 pub data IsPrivateFault (text : List ℕ) (fault : PrivateFault) : Type 0 where
   no_armour : ((body : List ℕ) → ¬ IsArmour text body) → fault ≡ faults.Armour
       → IsPrivateFault text fault

@@ -1,11 +1,13 @@
 -- Reading a private container from left to right, and its first fault.
-use Rattle.std.specs.Prelude.{◌≡◌, ℕ, ◌==◌, Bool, List, [], ◌∷◌, ◌++◌, codes, length, drop, nat_eq, Option, Some, None, Result, Ok, Err, if◌then◌else◌}
+use Rattle.std.specs.Prelude.{◌≡◌, ℕ, ◌==◌, Bool, List, [], ◌∷◌, ◌++◌, codes, length, drop, nat_eq}
+use Rattle.std.specs.Prelude.{Option, Some, None, Result, Ok, Err, if◌then◌else◌}
 use Rattle.std.specs.List.{starts_with}
 use Rattle.std.specs.Str.{bytes_eq}
 use Rattle.base64.specs.Engines.{standard}
 use Rattle.base64.specs.GeneralPurpose.{decode_of}
 use Rattle.ssh_wire.specs.Reading.{in_fault, string_at, ◌>>=◌}
-use Rattle.ssh_wire.specs.Rows.{Magnitude, Number, Part, Step, Text, part_at, part_text, passes, row_at, step}
+use Rattle.ssh_wire.specs.Rows.{Magnitude, Number, Part, Step, Text, part_at, part_text, passes}
+use Rattle.ssh_wire.specs.Rows.{row_at, step}
 use Rattle.ssh_key.specs.Key.{PublicKey}
 use Rattle.ssh_key.specs.KeyReading.{key_at}
 use Rattle.ssh_key.specs.declared.kind.Kind.{Kind}
@@ -68,7 +70,8 @@ Spells (spelling ∷ row) values bytes =
     (value : List ℕ) × (others : List (List ℕ)) × (rest : List ℕ) × (values ≡ value ∷ others)
     × (bytes ≡ part_text (part_of spelling) value ++ rest) × Spells row others rest
 
--- The fields of a kind are those of these rows, and the fields of the first row are the public ones.
+-- The fields of a kind are those of these rows, and the fields of the first row are the public
+-- ones.
 pub record HasRows (kind : Kind) (first others : List Spelling) : Type 0 where
   pub rows : secrets kind ≡ row_of first ++ row_of others
   pub public : (values more : List (List ℕ)) (bytes : List ℕ) → Spells first values bytes

@@ -1,7 +1,8 @@
 -- The numbers and the printed names of the faults of a fingerprint.
 use Rattle.std.specs.Prelude.{ℕ, List, codes}
 use Rattle.key_text.specs.declared.fingerprint_fault.FingerprintFault.{FingerprintFault}
-use Rattle.key_text.specs.declared.fingerprint_fault.FingerprintFault.TheVariants.{Prefix, Base64, Length, NoMemory}
+use Rattle.key_text.specs.declared.fingerprint_fault.FingerprintFault.TheVariants.{Prefix, Base64}
+use Rattle.key_text.specs.declared.fingerprint_fault.FingerprintFault.TheVariants.{Length, NoMemory}
 
 abbrev pub fingerprint_fault_number : FingerprintFault → ℕ
 fingerprint_fault_number Prefix = 1

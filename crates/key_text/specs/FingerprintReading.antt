@@ -1,5 +1,6 @@
 -- Reading a printed SHA-256 fingerprint: the digest that it names, or its first fault.
-use Rattle.std.specs.Prelude.{◌≡◌, ◌≢◌, ℕ, ◌==◌, List, ◌++◌, length, drop, codes, nat_eq, Result, Ok, Err, if◌then◌else◌}
+use Rattle.std.specs.Prelude.{◌≡◌, ◌≢◌, ℕ, ◌==◌, List, ◌++◌, length, drop, codes, nat_eq, Result}
+use Rattle.std.specs.Prelude.{Ok, Err, if◌then◌else◌}
 use Rattle.std.specs.List.{starts_with}
 use Rattle.base64.specs.Engines.{standard_no_pad}
 use Rattle.base64.specs.GeneralPurpose.{decode_of}
@@ -7,7 +8,8 @@ use Rattle.base64.specs.declared.decode.DecodeError.{DecodeError}
 use Rattle.ssh_wire.specs.Wire.{IsBytes}
 use Rattle.key_text.specs.Fingerprints.{unpadded}
 use Rattle.key_text.specs.declared.fingerprint_fault.FingerprintFault.{FingerprintFault}
-use Rattle.key_text.specs.declared.fingerprint_fault.FingerprintFault.TheVariants.{Prefix, Base64, Length, NoMemory}
+use Rattle.key_text.specs.declared.fingerprint_fault.FingerprintFault.TheVariants.{Prefix, Base64}
+use Rattle.key_text.specs.declared.fingerprint_fault.FingerprintFault.TheVariants.{Length, NoMemory}
 
 abbrev pub sha256_prefix : List ℕ
 sha256_prefix = codes "SHA256:"
@@ -45,7 +47,8 @@ fingerprint_at text =
     if starts_with nat_eq text sha256_prefix
     then sized (decode_of standard_no_pad (drop 7 text)) else Err Prefix
 
--- A function returned what reading gives, or `NoMemory`. If the text does not have the prefix, nothing was allocated.
+-- A function returned what reading gives, or `NoMemory`. If the text does not have the prefix,
+-- nothing was allocated.
 abbrev pub GivesDigest : Result (List ℕ) FingerprintFault → Result (List ℕ) FingerprintFault
     → Type 0
 GivesDigest (Ok digest) read = read ≡ Ok digest

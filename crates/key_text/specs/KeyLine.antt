@@ -5,7 +5,8 @@ use Rattle.base64.specs.Engines.{standard}
 use Rattle.base64.specs.GeneralPurpose.{encode_of}
 use Rattle.ssh_wire.specs.Wire.{BeginsWith, IsBytes}
 use Rattle.key_text.specs.TypeName.{type_names}
-use Rattle.key_text.specs.Blanks.{AreBlanks, BeginsWithNoBlank, IsWord, first_word, is_blank, trimmed}
+use Rattle.key_text.specs.Blanks.{AreBlanks, BeginsWithNoBlank, IsWord, first_word, is_blank}
+use Rattle.key_text.specs.Blanks.{trimmed}
 
 abbrev pub backslash : ℕ
 backslash = 92
@@ -25,8 +26,8 @@ pub data Quoted : List ℕ → Type 0 where
   quoted_byte : (byte : ℕ) (rest : List ℕ) → byte ≢ quote → IsNoPair byte (rest ++ quote ∷ [])
       → Quoted rest → Quoted (byte ∷ rest)
 
--- An options field is a row of pieces: a pair; another byte, neither a blank nor a quote; or a quote, the text between
--- two quotes, and a quote.
+-- An options field is a row of pieces: a pair; another byte, neither a blank nor a quote; or a
+-- quote, the text between two quotes, and a quote.
 pub data Options : List ℕ → Type 0 where
   options_end : Options []
   options_pair : (rest : List ℕ) → Options rest → Options (backslash ∷ quote ∷ rest)

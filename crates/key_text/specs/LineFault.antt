@@ -1,7 +1,8 @@
 -- The numbers and the printed names of the faults of a key line.
 use Rattle.std.specs.Prelude.{ℕ, List, codes}
 use Rattle.key_text.specs.declared.line_fault.LineFault.{LineFault}
-use Rattle.key_text.specs.declared.line_fault.LineFault.TheVariants.{NoKey, Base64, WordDiffers, NoMemory}
+use Rattle.key_text.specs.declared.line_fault.LineFault.TheVariants.{NoKey, Base64, WordDiffers}
+use Rattle.key_text.specs.declared.line_fault.LineFault.TheVariants.{NoMemory}
 
 abbrev pub fault_number : LineFault → ℕ
 fault_number NoKey = 1

@@ -1,5 +1,6 @@
 -- Reading a key line from left to right, and its first fault.
-use Rattle.std.specs.Prelude.{◌≡◌, ◌≢◌, ℕ, Bool, false, not, ◌==◌, ◌&&◌, List, [], ◌∷◌, drop, Option, Some, None, Result, Ok, Err, if◌then◌else◌}
+use Rattle.std.specs.Prelude.{◌≡◌, ◌≢◌, ℕ, Bool, false, not, ◌==◌, ◌&&◌, List, [], ◌∷◌, drop}
+use Rattle.std.specs.Prelude.{Option, Some, None, Result, Ok, Err, if◌then◌else◌}
 use Rattle.std.specs.List.{prefix_len}
 use Rattle.std.specs.Str.{bytes_eq}
 use Rattle.base64.specs.Engines.{standard}
@@ -9,7 +10,8 @@ use Rattle.ssh_wire.specs.Reading.{in_fault, string_at}
 use Rattle.ssh_wire.specs.declared.fault.WireFault.{WireFault}
 use Rattle.key_text.specs.declared.line.Line.{Line}
 use Rattle.key_text.specs.declared.line_fault.LineFault.{LineFault}
-use Rattle.key_text.specs.declared.line_fault.LineFault.TheVariants.{NoKey, Base64, WordDiffers, NoMemory}
+use Rattle.key_text.specs.declared.line_fault.LineFault.TheVariants.{NoKey, Base64, WordDiffers}
+use Rattle.key_text.specs.declared.line_fault.LineFault.TheVariants.{NoMemory}
 use Rattle.key_text.specs.TypeName.{is_type_name}
 use Rattle.key_text.specs.Blanks.{is_blank, after_blanks, first_word, trimmed}
 use Rattle.key_text.specs.KeyLine.{backslash, quote}
@@ -41,7 +43,8 @@ after_word text = drop (prefix_len (λ byte. not (is_blank byte)) text) text
 abbrev pub quoted_after : Bool → Bool → ℕ → Bool
 quoted_after quoted escaped byte = if (byte == quote) && not escaped then not quoted else quoted
 
--- The rest after an options field. The place is between quotes or not, and after a backslash or not.
+-- The rest after an options field. The place is between quotes or not, and after a backslash or
+-- not.
 unfoldable pub after_options : Bool → Bool → List ℕ → Option (List ℕ)
 after_options quoted escaped [] = if quoted then None else Some []
 after_options quoted escaped (byte ∷ rest) =

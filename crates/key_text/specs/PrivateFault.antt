@@ -3,7 +3,11 @@ use Rattle.std.specs.Prelude.{ℕ, List, ◌++◌, codes}
 use Rattle.ssh_wire.specs.Fault.{fault_text}
 use Rattle.ssh_key.specs.KeyFault.{key_fault_text}
 use Rattle.key_text.specs.declared.private_fault.PrivateFault.{PrivateFault}
-use Rattle.key_text.specs.declared.private_fault.PrivateFault.TheVariants.{Armour, Base64, Magic, Encrypted, KeyCount, Check, Key, PublicDiffers, Padding, Trailing, Wire, NoMemory}
+use Rattle.key_text.specs.declared.private_fault.PrivateFault.TheVariants.{Armour, Base64, Magic}
+use Rattle.key_text.specs.declared.private_fault.PrivateFault.TheVariants.{Encrypted, KeyCount}
+use Rattle.key_text.specs.declared.private_fault.PrivateFault.TheVariants.{Check, Key}
+use Rattle.key_text.specs.declared.private_fault.PrivateFault.TheVariants.{PublicDiffers, Padding}
+use Rattle.key_text.specs.declared.private_fault.PrivateFault.TheVariants.{Trailing, Wire, NoMemory}
 
 abbrev pub private_fault_number : PrivateFault → ℕ
 private_fault_number Armour = 1

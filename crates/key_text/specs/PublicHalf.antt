@@ -14,8 +14,8 @@ first_string bytes = do
   read ← in_fault faults.Wire (string_at bytes)
   Ok read.0
 
--- After the names of the cipher and of the derivation, and its options, come the number of keys, 1, and the blob of the
--- public key. The bytes after the blob are not read.
+-- After the names of the cipher and of the derivation, and its options, come the number of keys, 1,
+-- and the blob of the public key. The bytes after the blob are not read.
 unfoldable pub half_inside : List ℕ → Result (List ℕ) PrivateFault
 half_inside bytes = do
   cipher ← in_fault faults.Wire (string_at bytes)

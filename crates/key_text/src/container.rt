@@ -1,6 +1,7 @@
 //! Reading private containers (OpenSSH's PROTOCOL.key).
 
-ghost use Rattle.std.specs.Prelude.{◌≡◌, ◌≢◌, ◌≤◌, ℕ, List, Err, IfErr, IfOk, None, Ok, length, replicate};
+ghost use Rattle.std.specs.Prelude.{◌≡◌, ◌≢◌, ◌≤◌, ℕ, List, Err, IfErr, IfOk, None, Ok, length};
+ghost use Rattle.std.specs.Prelude.{replicate};
 ghost use Rattle.base64.specs.Decode.{decoded_estimate};
 ghost use Rattle.key_text.specs.Armour.{armour_at};
 ghost use Rattle.key_text.specs.Container.{IsContainer, IsReportedPrivateFault};

@@ -2,7 +2,8 @@
 
 ghost use Rattle.std.specs.Prelude.{◌≡◌, Some};
 ghost use Rattle.key_text.specs.PrivateFault.{private_fault_number, private_fault_text};
-ghost use Rattle.key_text.specs.declared.private_fault.PrivateFault.TheVariants.{Key, NoMemory, Wire};
+ghost use Rattle.key_text.specs.declared.private_fault.PrivateFault.TheVariants.{Key, NoMemory};
+ghost use Rattle.key_text.specs.declared.private_fault.PrivateFault.TheVariants.{Wire};
 
 use ssh_key::KeyFault;
 use ssh_wire::WireFault;

@@ -1,5 +1,6 @@
 -- Which words ask for which task (krl(1), SYNOPSIS), and the exit statuses of other words.
-use Rattle.std.specs.Prelude.{◌≡◌, ◌≢◌, ◌⊎◌, ℕ, ⊤, Bool, false, List, [], None, Some, Option, Result, Ok, Err}
+use Rattle.std.specs.Prelude.{◌≡◌, ◌≢◌, ◌⊎◌, ℕ, ⊤, Bool, false, List, [], None, Some, Option}
+use Rattle.std.specs.Prelude.{Result, Ok, Err}
 use Rattle.clap.specs.Faults.{fault_of}
 use Rattle.clap.specs.Kinds.{IsAmong}
 use Rattle.clap.specs.Values.{kind_of}
@@ -34,8 +35,8 @@ abbrev pub IsRefused : List (List ℕ) → Bool → Type 0
 IsRefused words help =
     (kind : ErrorKind) × IsAmong kind (fault_of program words) × (help ≡ is_help kind)
 
--- The result of words that follow the program's name: if they can be parsed, the task that they ask for; otherwise
--- help, or why they are refused.
+-- The result of words that follow the program's name: if they can be parsed, the task that they ask
+-- for; otherwise help, or why they are refused.
 abbrev pub IsCommand : List (List ℕ) → Result TaskOf CommandFault → Type 0
 IsCommand words (Ok task) =
     (fault_of program words ≡ []) × (task_of words ≡ Some (task_by task))

@@ -88,8 +88,8 @@ with_all name rules = (with_rules (new_app name) rules).top
 abbrev pub subcommand_by : Subcommand → Shape
 subcommand_by subcommand = with_all subcommand.name.now (map rule_by subcommand.arguments.now)
 
--- The program without its subcommands. A use of an option with one value overrides an earlier use of the same option,
--- and an option without a value counts once.
+-- The program without its subcommands. A use of an option with one value overrides an earlier use
+-- of the same option, and an option without a value counts once.
 abbrev pub bare : App
 bare = record {
   top = record (new_shape (codes "krl")) {

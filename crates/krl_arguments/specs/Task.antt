@@ -1,5 +1,6 @@
 -- The tasks that words ask for (krl(1), SYNOPSIS).
-use Rattle.std.specs.Prelude.{ℕ, ◌&&◌, Bool, false, not, List, [], codes, is_some, map, Option, Some, None, option_and_then, option_map, unwrap_or, if◌then◌else◌}
+use Rattle.std.specs.Prelude.{ℕ, ◌&&◌, Bool, false, not, List, [], codes, is_some, map, Option}
+use Rattle.std.specs.Prelude.{Some, None, option_and_then, option_map, unwrap_or, if◌then◌else◌}
 use Rattle.std.specs.Option.{option_map_or}
 use Rattle.std.specs.Str.{bytes_eq}
 use Rattle.clap.specs.Simple.{subcommand_of}

@@ -2,7 +2,8 @@
 
 ghost use Rattle.std.specs.Prelude.{◌≡◌, map};
 ghost use Rattle.clap.specs.Simple.{subcommand_rows_of};
-ghost use Rattle.krl_arguments.specs.Command.{AsksFor, IsCommand, ReportsError, command_fault_status};
+ghost use Rattle.krl_arguments.specs.Command.{AsksFor, IsCommand, ReportsError};
+ghost use Rattle.krl_arguments.specs.Command.{command_fault_status};
 ghost use Rattle.krl_arguments.specs.Task.{task_in};
 ghost use Rattle.krl_arguments.specs.declared.command.CommandFault.TheVariants.{NoMemory};
 

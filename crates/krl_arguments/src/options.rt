@@ -62,7 +62,7 @@ const AUDIT: [Argument; 6] = [
     Argument {
         id: "quiet",
         form: Form::Letter('q'),
-        help: "Print nothing on standard output, and end at the first revoked key",
+        help: "Print nothing on standard output, and end after the first file with a revoked key",
     },
     Argument {
         id: "json",

@@ -4,7 +4,9 @@ ghost use Rattle.std.specs.Prelude.{◌≡◌, IfOk, [], map, option_map, unwrap
 ghost use Rattle.clap.specs.Matches.{found_of};
 ghost use Rattle.clap.specs.Simple.{subcommand_rows_of};
 ghost use Rattle.clap.specs.Walk.{all_of, rows_of};
-ghost use Rattle.krl_arguments.specs.Task.{audit_by, audit_of, audit_with, check_by, check_of, check_with, has_only_version, if_alone, if_any, is_set, named_task, task_by, task_in};
+ghost use Rattle.krl_arguments.specs.Task.{audit_by, audit_of, audit_with, check_by, check_of};
+ghost use Rattle.krl_arguments.specs.Task.{check_with, has_only_version, if_alone, if_any, is_set};
+ghost use Rattle.krl_arguments.specs.Task.{named_task, task_by, task_in};
 
 use crate::task::{Audit, Check, Task};
 use clap::ArgMatches;

@@ -8,7 +8,7 @@ use Rattle.key_files.specs.RunFault.{RunFault, run_fault_of}
 use Rattle.key_files.specs.declared.cause.Cause.TheVariants as causes
 use Rattle.key_listing.specs.Printer.{Printer}
 use Rattle.krl_types.specs.Subject.{Subject}
-use Rattle.krl_held.specs.declared.reasons.Reasons.{Reasons}
+use Rattle.krl_entries.specs.declared.reasons.Reasons.{Reasons}
 use Rattle.krl_audit.specs.Audit.{Told, ToldFile, file_items, file_kinds, first_number, keyless, or_whole}
 use Rattle.krl_audit.specs.Outcome.{Blank, Key, Outcome, Unread, opened_at, outcome_of, outcomes, private_outcome, without_mark}
 use Rattle.krl_audit.specs.declared.counts.Counts.{Counts}

@@ -1,12 +1,12 @@
 -- The kind of a key.
 use Rattle.std.proofs.Common.{◌≡◌, ℕ, Bool, true, List, Result, Ok, Err, sym, ap, ◌∙◌}
 use Rattle.krl_types.specs.Subject.{Subject}
-use Rattle.krl_held.specs.Reasons.{any_reason}
-use Rattle.krl_held.specs.declared.reasons.Reasons.{Reasons}
+use Rattle.krl_entries.specs.Reasons.{any_reason}
+use Rattle.krl_entries.specs.declared.reasons.Reasons.{Reasons}
 use Rattle.ssh_cert.specs.declared.subject_fault.SubjectFault.{SubjectFault}
 use Rattle.krl_audit.specs.Audit.{IsMade, key_kind, key_said, kind_of, outcome_line, says}
 use Rattle.krl_audit.specs.Outcome.{Key, Outcome, found_as}
-use Rattle.krl_audit.specs.declared.counts.Kind.{Kind}
+use Rattle.krl_audit.specs.declared.counts.LineKind.{LineKind}
 use Rattle.krl_audit.specs.declared.judge.Shown.{Shown}
 use Rattle.krl_audit.specs.declared.outcome.Found.{Found as KeyFound}
 
@@ -18,7 +18,7 @@ pub ok_same : (one other : Subject) (read : Result Subject SubjectFault) → rea
 unfolding value_or
 ok_same one other read first second = ap (value_or one) (sym first ∙ second)
 
-pub key_made : (reasons held : Subject → Reasons) (shown : Shown) (name : List ℕ) (number : ℕ) (found : KeyFound) (asked subject : Subject) (all : Reasons) (given : Outcome) (any : Bool) (kind : Kind) (said : Bool) (line : List ℕ)
+pub key_made : (reasons held : Subject → Reasons) (shown : Shown) (name : List ℕ) (number : ℕ) (found : KeyFound) (asked subject : Subject) (all : Reasons) (given : Outcome) (any : Bool) (kind : LineKind) (said : Bool) (line : List ℕ)
     → ((other : Subject) → held other ≡ reasons other) → all ≡ held subject → subject ≡ asked → given ≡ Key (found_as found asked)
     → any ≡ any_reason all → kind ≡ key_kind found.marker any → said ≡ says shown kind → (said ≡ true → line ≡ key_said shown.form name number (found_as found subject) all)
     → IsMade reasons shown name number given kind said line

@@ -27,12 +27,12 @@ use Rattle.key_text.specs.declared.line_fault.LineFault.TheVariants as lines
 use Rattle.key_text.specs.declared.private_fault.PrivateFault.{PrivateFault}
 use Rattle.key_text.specs.declared.private_fault.PrivateFault.TheVariants as privates
 use Rattle.krl_types.specs.Subject.{CertNames, Subject}
-use Rattle.krl_held.specs.Reasons.{any_reason}
-use Rattle.krl_held.specs.declared.reasons.KeyReasons.{KeyReasons}
-use Rattle.krl_held.specs.declared.reasons.NameReasons.{NameReasons}
-use Rattle.krl_held.specs.declared.reasons.Reasons.{Reasons}
+use Rattle.krl_entries.specs.Reasons.{any_reason}
+use Rattle.krl_entries.specs.declared.reasons.KeyReasons.{KeyReasons}
+use Rattle.krl_entries.specs.declared.reasons.NameReasons.{NameReasons}
+use Rattle.krl_entries.specs.declared.reasons.Reasons.{Reasons}
 use Rattle.krl_audit.specs.Colour.{HasNoEscape, IsCount, IsPainted, in_colour, painted, verdict_word, word_text}
-use Rattle.krl_audit.specs.Text.{authority_parts, cert_parts, comment_words, id_words, key_line, key_parts, key_words, name_parts, of_all, of_authority, place_text, reason_parts, reasons_text, serial_words, type_of, unread_line, with_cert_parts, word_if}
+use Rattle.krl_audit.specs.Text.{authority_parts, cert_parts, comment_words, id_words, key_line, key_parts, key_words, name_parts, of_all, of_authority, location_text, reason_parts, reasons_text, serial_words, type_of, unread_line, with_cert_parts, word_if}
 use Rattle.krl_audit.specs.Visible.{visible}
 use Rattle.krl_audit.specs.Why.{line_why, refusal_why, why_text}
 use Rattle.krl_audit.specs.declared.why.Refusal.{Refusal}
@@ -43,29 +43,29 @@ use Rattle.krl_audit.proofs.Escapes.{decimal_free, fingerprint_free, free_append
 
 -- ---- one word in a colour
 
-moved : (place a word b tail : List ℕ) → place ++ ((a ++ (word ++ b)) ++ tail) ≡ (place ++ a) ++ (word ++ (b ++ tail))
-moved place a word b tail =
-    ap (λ (t : List ℕ). place ++ t) (append_assoc a (word ++ b) tail ∙ ap (λ (t : List ℕ). a ++ t) (append_assoc word b tail))
-    ∙ sym (append_assoc place a (word ++ (b ++ tail)))
+moved : (location a word b tail : List ℕ) → location ++ ((a ++ (word ++ b)) ++ tail) ≡ (location ++ a) ++ (word ++ (b ++ tail))
+moved location a word b tail =
+    ap (λ (t : List ℕ). location ++ t) (append_assoc a (word ++ b) tail ∙ ap (λ (t : List ℕ). a ++ t) (append_assoc word b tail))
+    ∙ sym (append_assoc location a (word ++ (b ++ tail)))
 
-one_word : (place tail colour word : List ℕ) → HasNoEscape place → HasNoEscape word → HasNoEscape tail
-    → IsPainted (place ++ (word_text false colour word ++ tail)) (place ++ (word_text true colour word ++ tail))
+one_word : (location tail colour word : List ℕ) → HasNoEscape location → HasNoEscape word → HasNoEscape tail
+    → IsPainted (location ++ (word_text false colour word ++ tail)) (location ++ (word_text true colour word ++ tail))
 unfolding painted
-one_word place tail colour word before free after = record {
-  front = place ++ codes ": ";
+one_word location tail colour word before free after = record {
+  front = location ++ codes ": ";
   colour = colour;
   word = word;
   rest = codes ": " ++ tail;
-  plain_is = moved place (codes ": ") word (codes ": ") tail;
-  coloured_is = moved place (codes ": ") (in_colour colour word) (codes ": ") tail;
-  no_escape = free_append place ((codes ": " ++ (word ++ codes ": ")) ++ tail) before
+  plain_is = moved location (codes ": ") word (codes ": ") tail;
+  coloured_is = moved location (codes ": ") (in_colour colour word) (codes ": ") tail;
+  no_escape = free_append location ((codes ": " ++ (word ++ codes ": ")) ++ tail) before
       (free_append (codes ": " ++ (word ++ codes ": ")) tail (free_append (codes ": ") (word ++ codes ": ") refl (free_append word (codes ": ") free refl)) after);
 }
 
-verdict_painted : (place tail : List ℕ) (revoked : Bool) → HasNoEscape place → HasNoEscape tail
-    → IsPainted (place ++ (verdict_word false revoked ++ tail)) (place ++ (verdict_word true revoked ++ tail))
-verdict_painted place tail true before after = one_word place tail (codes "31") (codes "revoked") before refl after
-verdict_painted place tail false before after = one_word place tail (codes "32") (codes "ok") before refl after
+verdict_painted : (location tail : List ℕ) (revoked : Bool) → HasNoEscape location → HasNoEscape tail
+    → IsPainted (location ++ (verdict_word false revoked ++ tail)) (location ++ (verdict_word true revoked ++ tail))
+verdict_painted location tail true before after = one_word location tail (codes "31") (codes "revoked") before refl after
+verdict_painted location tail false before after = one_word location tail (codes "32") (codes "ok") before refl after
 
 -- ---- the place, and the comment
 
@@ -73,7 +73,7 @@ number_free : (number : ℕ) (some : Bool) → number < 2 ^ 64 → HasNoEscape (
 number_free number true small = free_append (codes ":") (decimal number) refl (decimal_free number small)
 number_free number false small = refl
 
-place_free : (name : List ℕ) (number : ℕ) → number < 2 ^ 64 → HasNoEscape (place_text name number)
+place_free : (name : List ℕ) (number : ℕ) → number < 2 ^ 64 → HasNoEscape (location_text name number)
 place_free name number small =
     free_append (visible false name) (if nat_lt 0 number then codes ":" ++ decimal number else []) (visible_free false name) (number_free number (nat_lt 0 number) small)
 
@@ -165,7 +165,7 @@ module _ (reads : ReadsJust string_at string (λ (text : List ℕ). length text 
   pub key_painted : (name blob comment : List ℕ) (number : ℕ) (asked : Subject) (all : Reasons) → number < 2 ^ 64 → IsBytes blob → IsSubject blob asked
       → IsPainted (key_line false name number blob comment asked all) (key_line true name number blob comment asked all)
   key_painted name blob comment number asked all small bytes is =
-      verdict_painted (place_text name number) (key_words blob asked ++ (reasons_text asked all ++ (comment_words comment ++ 10 ∷ []))) (any_reason all)
+      verdict_painted (location_text name number) (key_words blob asked ++ (reasons_text asked all ++ (comment_words comment ++ 10 ∷ []))) (any_reason all)
       (place_free name number small) (key_tail_free blob comment asked all (type_free blob asked bytes is) (small_serial blob asked is))
 
 -- ---- why a line or a file is not read
@@ -239,5 +239,5 @@ why_free (whys.NoKeys lines) small = three_free (codes "none of its ") (decimal 
 
 pub unread_painted : (name : List ℕ) (number : ℕ) (why : Why) → number < 2 ^ 64 → IsCount why → IsPainted (unread_line false name number why) (unread_line true name number why)
 unread_painted name number why small few =
-    one_word (place_text name number) (why_text why ++ 10 ∷ []) (codes "33") (codes "unread") (place_free name number small) refl
+    one_word (location_text name number) (why_text why ++ 10 ∷ []) (codes "33") (codes "unread") (place_free name number small) refl
     (free_append (why_text why) (10 ∷ []) (why_free why few) refl)

@@ -7,15 +7,15 @@ use Rattle.key_text.specs.Marker.{marker_word}
 use Rattle.key_text.specs.declared.hash.Hash.TheVariants.{Sha256}
 use Rattle.key_text.specs.declared.marker.Marker.{Marker}
 use Rattle.krl_types.specs.Subject.{CertNames, Subject}
-use Rattle.krl_held.specs.Reasons.{any_reason}
-use Rattle.krl_held.specs.declared.reasons.KeyReasons.{KeyReasons}
-use Rattle.krl_held.specs.declared.reasons.NameReasons.{NameReasons}
-use Rattle.krl_held.specs.declared.reasons.Reasons.{Reasons}
+use Rattle.krl_entries.specs.Reasons.{any_reason}
+use Rattle.krl_entries.specs.declared.reasons.KeyReasons.{KeyReasons}
+use Rattle.krl_entries.specs.declared.reasons.NameReasons.{NameReasons}
+use Rattle.krl_entries.specs.declared.reasons.Reasons.{Reasons}
 use Rattle.json.specs.Json.{Json}
 use Rattle.json_lines.specs.Field.{Field, number_field, text_field, word_field}
 use Rattle.json_lines.proofs.Shallow.{FieldsFit, Fits, ValuesFit, array_fits, deeper, digits_fit, fields_fit, number_fits, object_fits, text_fits, values_fit, word_fits}
 use Rattle.krl_audit.specs.Front.{has_hosts}
-use Rattle.krl_audit.specs.Objects.{authority_values, by_value, cert_field, cert_fields, cert_names, cert_values, count_fields, done_object, front_fields, front_word, id_field, key_fields, key_object, key_values, line_fields, list_facts, list_field, list_fields, marker_fields, name_value, name_values, of_value, place_fields, reason_values, reasons_field, serial_field, stated_fields, status_word, unread_object, value_if, version_fields, why_fault, why_fields, with_cert_values}
+use Rattle.krl_audit.specs.Objects.{authority_values, by_value, cert_field, cert_fields, cert_names, cert_values, count_fields, done_object, front_fields, front_word, id_field, key_fields, key_object, key_values, line_fields, list_facts, list_field, list_fields, marker_fields, name_value, name_values, of_value, location_fields, reason_values, reasons_field, serial_field, stated_fields, status_word, unread_object, value_if, version_fields, why_fault, why_fields, with_cert_values}
 use Rattle.krl_audit.specs.Outcome.{Found}
 use Rattle.krl_audit.specs.Text.{type_of}
 use Rattle.krl_audit.specs.Why.{why_text}
@@ -75,7 +75,7 @@ line_fits : (number : ℕ) (test : Bool) → number < 2 ^ 64 → FieldsFit 2 (if
 line_fits number true small = (number_fits 2 (codes "line") number small, tt)
 line_fits number false small = tt
 
-place_fits : (name : List ℕ) (number : ℕ) → number < 2 ^ 64 → FieldsFit 2 (place_fields name number)
+place_fits : (name : List ℕ) (number : ℕ) → number < 2 ^ 64 → FieldsFit 2 (location_fields name number)
 place_fits name number small = (word_fits 2 (codes "file") name, line_fits number (nat_lt 0 number) small)
 
 key_fits : (blob comment : List ℕ) (asked : Subject) (all : Reasons) → FieldsFit 2 (key_fields blob comment asked all)
@@ -104,18 +104,18 @@ list_fits asked all = fields_fit 2 (cert_fields asked.cert) (reasons_field asked
 
 pub key_object_fits : (name : List ℕ) (number : ℕ) (found : Found) (all : Reasons) → number < 2 ^ 64 → Fits 3 (key_object name number found all)
 key_object_fits name number found all small =
-    let place = place_fields name number in
+    let location = location_fields name number in
     let key = key_fields found.blob found.comment found.asked all in
     let line = line_fields name found.marker found.front in
     let list = list_fields found.asked all in
     let line_fit = fields_fit 2 (marker_fields found.marker) (front_fields (has_hosts name found.marker) found.front) (marker_fits found.marker) (front_fits (has_hosts name found.marker) found.front) in
-    object_fits 2 (place ++ (key ++ (line ++ list)))
-    (fields_fit 2 place (key ++ (line ++ list)) (place_fits name number small)
+    object_fits 2 (location ++ (key ++ (line ++ list)))
+    (fields_fit 2 location (key ++ (line ++ list)) (place_fits name number small)
     (fields_fit 2 key (line ++ list) (key_fits found.blob found.comment found.asked all) (fields_fit 2 line list line_fit (list_fits found.asked all))))
 
 pub unread_object_fits : (name : List ℕ) (number : ℕ) (why : Why) → number < 2 ^ 64 → Fits 3 (unread_object name number why)
 unread_object_fits name number why small =
-    object_fits 2 (place_fields name number ++ why_fields why) (fields_fit 2 (place_fields name number) (why_fields why) (place_fits name number small)
+    object_fits 2 (location_fields name number ++ why_fields why) (fields_fit 2 (location_fields name number) (why_fields why) (place_fits name number small)
     (word_fits 2 (codes "status") (codes "unread"), (word_fits 2 (codes "fault") (why_fault why), (text_fits 2 (codes "why") (why_text why), tt))))
 
 version_fit : (stated : Stated) → FieldsFit 0 (version_fields stated)

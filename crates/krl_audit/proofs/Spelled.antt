@@ -10,16 +10,16 @@ use Rattle.key_text.specs.LineReading.{Content, after_word, line_at}
 use Rattle.key_text.specs.Marker.{marked_line_at, marker_of, unmarked}
 use Rattle.key_text.specs.declared.line_fault.LineFault.{LineFault}
 use Rattle.key_text.specs.declared.marker.Marker.{Marker}
-use Rattle.krl_held.specs.Entry.{Entry}
-use Rattle.krl_held.specs.Reasons.{is_revoked, reasons_of}
-use Rattle.krl_held.specs.Revoked.{Revoked}
-use Rattle.krl_held.proofs.Reasoned.{any_is_revoked}
-use Rattle.krl_held.proofs.Tested.{revoked_tested}
+use Rattle.krl_entries.specs.Entry.{Entry}
+use Rattle.krl_entries.specs.Reasons.{is_revoked, reasons_of}
+use Rattle.krl_entries.specs.Revoked.{Revoked}
+use Rattle.krl_entries.proofs.ReasonTests.{any_is_revoked}
+use Rattle.krl_entries.proofs.RevokedTests.{revoked_tested}
 use Rattle.krl_audit.specs.Audit.{kind_of}
 use Rattle.krl_audit.specs.Front.{front_of}
 use Rattle.krl_audit.specs.Outcome.{Blank, Found, Key, Unread, line_outcome, outcome_of}
 use Rattle.krl_audit.specs.declared.why.Why.TheVariants.{Line}
-use Rattle.krl_audit.specs.declared.counts.Kind.TheVariants as kinds
+use Rattle.krl_audit.specs.declared.counts.LineKind.TheVariants as kinds
 
 pub nothing_there : (text : List ℕ) → has_key text ≡ false → outcome_of text ≡ Blank
 unfolding outcome_of

@@ -4,30 +4,30 @@ use Rattle.std.specs.Prelude.{OnOk}
 use Rattle.std.specs.List.{slice_split}
 use Rattle.key_text.specs.Lines.{is_newline}
 use Rattle.krl_types.specs.Subject.{Subject}
-use Rattle.krl_held.specs.declared.reasons.Reasons.{Reasons}
+use Rattle.krl_entries.specs.declared.reasons.Reasons.{Reasons}
 use Rattle.key_files.specs.RunFault.{RunFault, run_fault_of}
 use Rattle.key_files.specs.declared.cause.Cause.TheVariants as causes
 use Rattle.key_listing.specs.Carries.{Carries}
 use Rattle.key_listing.specs.Printer.{Printer}
 use Rattle.key_listing.specs.Run.{Item, name_of, said_of}
-use Rattle.key_listing.proofs.Carrying.{carries_more, carries_none, carries_then, carries_withheld}
+use Rattle.key_listing.proofs.RunParts.{carries_more, carries_none, carries_then, carries_withheld}
 use Rattle.krl_audit.specs.Audit.{IsMade, Told, kind_of, line_item, lines_items, outcome_line, said_if, says}
 use Rattle.krl_audit.specs.Counts.{all_counted, counted}
 use Rattle.krl_audit.specs.Outcome.{Outcome, outcome_of}
 use Rattle.krl_audit.specs.declared.counts.Counts.{Counts}
-use Rattle.krl_audit.specs.declared.counts.Kind.{Kind}
+use Rattle.krl_audit.specs.declared.counts.LineKind.{LineKind}
 use Rattle.krl_audit.specs.declared.judge.Shown.{Shown}
 
 -- ---- the item of a line
 
-item_by : (reasons : Subject → Reasons) (shown : Shown) (name : List ℕ) (number : ℕ) (outcome : Outcome) (kind : Kind) (said : Bool) (text : List ℕ) → IsMade reasons shown name number outcome kind said text
+item_by : (reasons : Subject → Reasons) (shown : Shown) (name : List ℕ) (number : ℕ) (outcome : Outcome) (kind : LineKind) (said : Bool) (text : List ℕ) → IsMade reasons shown name number outcome kind said text
     → line_item reasons shown name number outcome ≡ said_if said name (outcome_line shown.form reasons name number outcome)
 item_by reasons shown name number outcome kind said text made =
-    ap (λ (k : Kind). said_if (says shown k) name (outcome_line shown.form reasons name number outcome)) (sym made.kind_is)
+    ap (λ (k : LineKind). said_if (says shown k) name (outcome_line shown.form reasons name number outcome)) (sym made.kind_is)
     ∙ ap (λ (b : Bool). said_if b name (outcome_line shown.form reasons name number outcome)) (sym made.said_is)
 
 -- the item of a line that was made
-item_is : (reasons : Subject → Reasons) (shown : Shown) (name : List ℕ) (number : ℕ) (outcome : Outcome) (kind : Kind) (said : Bool) (text : List ℕ) → IsMade reasons shown name number outcome kind said text
+item_is : (reasons : Subject → Reasons) (shown : Shown) (name : List ℕ) (number : ℕ) (outcome : Outcome) (kind : LineKind) (said : Bool) (text : List ℕ) → IsMade reasons shown name number outcome kind said text
     → line_item reasons shown name number outcome ≡ said_if said name text
 item_is reasons shown name number outcome kind true text made = item_by reasons shown name number outcome kind true text made ∙ ap (said_of name) (sym (made.text_is refl))
 item_is reasons shown name number outcome kind false text made = item_by reasons shown name number outcome kind false text made
@@ -50,13 +50,13 @@ one_line reasons shown name number outcome item result old new before after is c
 }
 
 -- the line was judged, and printed if it is to be printed
-pub told_line : (reasons : Subject → Reasons) (shown : Shown) (name : List ℕ) (number : ℕ) (outcome : Outcome) (kind : Kind) (said : Bool) (text : List ℕ) (result : Result (Unit {0}) RunFault) (old new : Printer) (before after : Counts)
+pub told_line : (reasons : Subject → Reasons) (shown : Shown) (name : List ℕ) (number : ℕ) (outcome : Outcome) (kind : LineKind) (said : Bool) (text : List ℕ) (result : Result (Unit {0}) RunFault) (old new : Printer) (before after : Counts)
     → IsMade reasons shown name number outcome kind said text → Carries (said_if said name text ∷ []) result old new → OnOk result (after ≡ counted before kind)
     → Told reasons shown name number (outcome ∷ []) result old new before after
 told_line reasons shown name number outcome kind said text result old new before after made carries counts =
     one_line reasons shown name number outcome (said_if said name text) result old new before after
     (item_is reasons shown name number outcome kind said text made) carries
-    (subst (λ (k : Kind). OnOk result (after ≡ counted before k)) made.kind_is counts)
+    (subst (λ (k : LineKind). OnOk result (after ≡ counted before k)) made.kind_is counts)
 
 -- an allocation failed
 pub told_memory : (reasons : Subject → Reasons) (shown : Shown) (name : List ℕ) (number : ℕ) (line : Outcome) (lines : List Outcome) (stop : RunFault) (now : Printer) (before after : Counts)

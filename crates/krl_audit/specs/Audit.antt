@@ -1,11 +1,12 @@
 -- Auditing files: the findings of their lines, and the counts.
 use Rattle.std.specs.Borrow.{Bor}
-use Rattle.std.specs.Prelude.{◌≡◌, ℕ, ◌+◌, Bool, true, false, List, [], ◌∷◌, is_some, map, nat_lt, OnOk, Option, Some, None, Result, Ok, Err, if◌then◌else◌}
+use Rattle.std.specs.Prelude.{◌≡◌, ℕ, ◌+◌, Bool, true, false, List, [], ◌∷◌, is_some, map, nat_lt}
+use Rattle.std.specs.Prelude.{OnOk, Option, Some, None, Result, Ok, Err, if◌then◌else◌}
 use Rattle.key_text.specs.declared.marker.Marker.{Marker}
 use Rattle.key_text.specs.declared.marker.Marker.TheVariants as markers
 use Rattle.krl_types.specs.Subject.{Subject}
-use Rattle.krl_held.specs.Reasons.{any_reason, held_reasons}
-use Rattle.krl_held.specs.declared.reasons.Reasons.{Reasons}
+use Rattle.krl_entries.specs.Reasons.{any_reason, held_reasons}
+use Rattle.krl_entries.specs.declared.reasons.Reasons.{Reasons}
 use Rattle.key_files.specs.RunFault.{RunFault}
 use Rattle.key_listing.specs.Carries.{Carries}
 use Rattle.key_listing.specs.Done.{Ends}
@@ -17,8 +18,8 @@ use Rattle.krl_audit.specs.Objects.{key_object, unread_object}
 use Rattle.krl_audit.specs.Outcome.{Blank, Found, Key, Outcome, Unread, outcomes}
 use Rattle.krl_audit.specs.Text.{key_line, unread_line}
 use Rattle.krl_audit.specs.declared.counts.Counts.{Counts}
-use Rattle.krl_audit.specs.declared.counts.Kind.{Kind}
-use Rattle.krl_audit.specs.declared.counts.Kind.TheVariants as kinds
+use Rattle.krl_audit.specs.declared.counts.LineKind.{LineKind}
+use Rattle.krl_audit.specs.declared.counts.LineKind.TheVariants as kinds
 use Rattle.krl_audit.specs.declared.judge.Form.{Form}
 use Rattle.krl_audit.specs.declared.judge.Form.TheVariants as forms
 use Rattle.krl_audit.specs.declared.judge.Judge.{Judge}
@@ -29,24 +30,24 @@ use Rattle.krl_audit.specs.declared.why.Why.TheVariants as whys
 
 -- ---- a line
 
-abbrev pub revoked_or_fine : Bool → Kind
+abbrev pub revoked_or_fine : Bool → LineKind
 revoked_or_fine true = kinds.Revoked
 revoked_or_fine false = kinds.Fine
 
 -- a key that its line marks as revoked is not a finding
-abbrev pub key_kind : Option Marker → Bool → Kind
+abbrev pub key_kind : Option Marker → Bool → LineKind
 key_kind (Some markers.Revoked) revoked = kinds.Distrusted
 key_kind (Some markers.Authority) revoked = revoked_or_fine revoked
 key_kind None revoked = revoked_or_fine revoked
 
 -- the kind of a line
-abbrev pub kind_of : (Subject → Reasons) → Outcome → Kind
+abbrev pub kind_of : (Subject → Reasons) → Outcome → LineKind
 kind_of reasons Blank = kinds.Blank
 kind_of reasons (Key found) = key_kind found.marker (any_reason (reasons found.asked))
 kind_of reasons (Unread why) = kinds.Unread
 
 -- whether a line of this kind is printed
-abbrev pub says : Shown → Kind → Bool
+abbrev pub says : Shown → LineKind → Bool
 says shown kinds.Blank = false
 says shown kinds.Distrusted = false
 says shown kinds.Fine = shown.fine
@@ -137,7 +138,7 @@ file_items reasons shown name (Ok text) =
     let lines = outcomes text in
     lines_items reasons shown name (first_number (keyless lines)) (or_whole (keyless lines) lines)
 
-unfoldable pub file_kinds : (Subject → Reasons) → Result (List ℕ) Refusal → List Kind
+unfoldable pub file_kinds : (Subject → Reasons) → Result (List ℕ) Refusal → List LineKind
 file_kinds reasons (Err refusal) = kinds.Unread ∷ []
 file_kinds reasons (Ok text) =
     let lines = outcomes text in map (kind_of reasons) (or_whole (keyless lines) lines)
@@ -145,7 +146,7 @@ file_kinds reasons (Ok text) =
 -- ---- the line that was made for an outcome
 
 pub record IsMade (reasons : Subject → Reasons) (shown : Shown) (name : List ℕ) (number : ℕ)
-    (outcome : Outcome) (kind : Kind) (said : Bool) (text : List ℕ) : Type 0 where
+    (outcome : Outcome) (kind : LineKind) (said : Bool) (text : List ℕ) : Type 0 where
   pub kind_is : kind ≡ kind_of reasons outcome
   pub said_is : said ≡ says shown kind
   pub text_is : said ≡ true → text ≡ outcome_line shown.form reasons name number outcome

@@ -1,21 +1,22 @@
 -- The counts of lines, and the exit status.
-use Rattle.std.specs.Prelude.{ℕ, ◌+◌, ◌-◌, ◌^◌, Bool, true, false, List, [], ◌∷◌, min, nat_lt, if◌then◌else◌}
+use Rattle.std.specs.Prelude.{ℕ, ◌+◌, ◌-◌, ◌^◌, Bool, true, false, List, [], ◌∷◌, min, nat_lt}
+use Rattle.std.specs.Prelude.{if◌then◌else◌}
 use Rattle.krl_audit.specs.declared.counts.Counts.{Counts}
-use Rattle.krl_audit.specs.declared.counts.Kind.{Kind}
-use Rattle.krl_audit.specs.declared.counts.Kind.TheVariants as kinds
+use Rattle.krl_audit.specs.declared.counts.LineKind.{LineKind}
+use Rattle.krl_audit.specs.declared.counts.LineKind.TheVariants as kinds
 
-abbrev pub is_key : Kind → Bool
+abbrev pub is_key : LineKind → Bool
 is_key kinds.Blank = false
 is_key kinds.Distrusted = true
 is_key kinds.Fine = true
 is_key kinds.Revoked = true
 is_key kinds.Unread = false
 
-abbrev pub is_revoked_kind : Kind → Bool
+abbrev pub is_revoked_kind : LineKind → Bool
 is_revoked_kind kinds.Revoked = true
 is_revoked_kind _ = false
 
-abbrev pub is_unread_kind : Kind → Bool
+abbrev pub is_unread_kind : LineKind → Bool
 is_unread_kind kinds.Unread = true
 is_unread_kind _ = false
 
@@ -23,7 +24,7 @@ is_unread_kind _ = false
 abbrev pub one_more : ℕ → Bool → ℕ
 one_more count is_one = if is_one then min (count + 1) (2 ^ 64 - 1) else count
 
-abbrev pub counted : Counts → Kind → Counts
+abbrev pub counted : Counts → LineKind → Counts
 counted counts kind = record {
   keys = one_more counts.keys (is_key kind);
   revoked = one_more counts.revoked (is_revoked_kind kind);
@@ -31,7 +32,7 @@ counted counts kind = record {
 }
 
 -- the counts with lines of these kinds
-abbrev pub all_counted : Counts → List Kind → Counts
+abbrev pub all_counted : Counts → List LineKind → Counts
 all_counted counts [] = counts
 all_counted counts (kind ∷ kinds) = all_counted (counted counts kind) kinds
 

@@ -1,5 +1,6 @@
 -- The text before the key of a line: host names, an options field, or nothing.
-use Rattle.std.specs.Prelude.{ℕ, ◌-◌, ◌||◌, Bool, List, [], codes, is_some, length, nat_eq, take, Option, Some, None}
+use Rattle.std.specs.Prelude.{ℕ, ◌-◌, ◌||◌, Bool, List, [], codes, is_some, length, nat_eq, take}
+use Rattle.std.specs.Prelude.{Option, Some, None}
 use Rattle.std.specs.List.{ends_with}
 use Rattle.key_text.specs.Blanks.{before_ending, trimmed}
 use Rattle.key_text.specs.LineReading.{key_part}

@@ -1,8 +1,10 @@
 -- Findings as JSON objects.
-use Rattle.std.specs.Prelude.{ℕ, Bool, true, false, List, [], ◌∷◌, ◌++◌, codes, nat_lt, Option, Some, None, if◌then◌else◌}
+use Rattle.std.specs.Prelude.{ℕ, Bool, true, false, List, [], ◌∷◌, ◌++◌, codes, nat_lt, Option}
+use Rattle.std.specs.Prelude.{Some, None, if◌then◌else◌}
 use Rattle.hex.specs.Hex.{encode_lower}
 use Rattle.json.specs.Json.{Json}
-use Rattle.json_lines.specs.Field.{Field, array_of, digits_field, field, number_field, object_of, text_field, word_field}
+use Rattle.json_lines.specs.Field.{Field, array_of, digits_field, field, number_field, object_of}
+use Rattle.json_lines.specs.Field.{text_field, word_field}
 use Rattle.cert_listing.specs.Time.{instant_text}
 use Rattle.key_files.specs.FileFault.{file_fault_text}
 use Rattle.key_files.specs.declared.file_fault.FileFault.{FileFault}
@@ -14,10 +16,10 @@ use Rattle.key_text.specs.PrivateFault.{private_fault_text}
 use Rattle.key_text.specs.declared.hash.Hash.TheVariants.{Sha256}
 use Rattle.key_text.specs.declared.marker.Marker.{Marker}
 use Rattle.krl_types.specs.Subject.{CertNames, Subject}
-use Rattle.krl_held.specs.Reasons.{any_reason}
-use Rattle.krl_held.specs.declared.reasons.KeyReasons.{KeyReasons}
-use Rattle.krl_held.specs.declared.reasons.NameReasons.{NameReasons}
-use Rattle.krl_held.specs.declared.reasons.Reasons.{Reasons}
+use Rattle.krl_entries.specs.Reasons.{any_reason}
+use Rattle.krl_entries.specs.declared.reasons.KeyReasons.{KeyReasons}
+use Rattle.krl_entries.specs.declared.reasons.NameReasons.{NameReasons}
+use Rattle.krl_entries.specs.declared.reasons.Reasons.{Reasons}
 use Rattle.ssh_cert.specs.SubjectFault.{subject_fault_text}
 use Rattle.krl_audit.specs.Front.{has_hosts}
 use Rattle.krl_audit.specs.Outcome.{Found}
@@ -32,8 +34,8 @@ use Rattle.krl_audit.specs.declared.why.Why.{Why}
 use Rattle.krl_audit.specs.declared.why.Why.TheVariants as whys
 
 -- the name of a file, and the number of a line of it; 0 represents the whole file
-abbrev pub place_fields : List ℕ → ℕ → List Field
-place_fields name number =
+abbrev pub location_fields : List ℕ → ℕ → List Field
+location_fields name number =
     word_field (codes "file") name
     ∷ (if nat_lt 0 number then number_field (codes "line") number ∷ [] else [])
 
@@ -148,7 +150,7 @@ list_fields asked all =
 -- the object of a key, revoked or not
 abbrev pub key_object : List ℕ → ℕ → Found → Reasons → Json
 key_object name number found all =
-    object_of (place_fields name number
+    object_of (location_fields name number
     ++ (key_fields found.blob found.comment found.asked all
     ++ (line_fields name found.marker found.front ++ list_fields found.asked all)))
 
@@ -180,7 +182,7 @@ why_fields why =
 
 -- the object of a line or file that is not read: it has no text of the line itself
 abbrev pub unread_object : List ℕ → ℕ → Why → Json
-unread_object name number why = object_of (place_fields name number ++ why_fields why)
+unread_object name number why = object_of (location_fields name number ++ why_fields why)
 
 -- ---- the end
 

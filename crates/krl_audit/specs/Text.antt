@@ -1,22 +1,23 @@
 -- The lines of findings.
-use Rattle.std.specs.Prelude.{ℕ, Bool, true, false, List, [], ◌∷◌, ◌++◌, codes, decimal, drop, nat_lt, Option, Some, None, Result, Ok, Err, if◌then◌else◌}
+use Rattle.std.specs.Prelude.{ℕ, Bool, true, false, List, [], ◌∷◌, ◌++◌, codes, decimal, drop}
+use Rattle.std.specs.Prelude.{nat_lt, Option, Some, None, Result, Ok, Err, if◌then◌else◌}
 use Rattle.ssh_wire.specs.Reading.{string_at}
 use Rattle.ssh_wire.specs.declared.fault.WireFault.{WireFault}
 use Rattle.key_text.specs.Fingerprints.{fingerprint_text}
 use Rattle.key_text.specs.declared.hash.Hash.TheVariants.{Sha256}
 use Rattle.krl_types.specs.Subject.{CertNames, Subject}
-use Rattle.krl_held.specs.Reasons.{any_reason}
-use Rattle.krl_held.specs.declared.reasons.KeyReasons.{KeyReasons}
-use Rattle.krl_held.specs.declared.reasons.NameReasons.{NameReasons}
-use Rattle.krl_held.specs.declared.reasons.Reasons.{Reasons}
+use Rattle.krl_entries.specs.Reasons.{any_reason}
+use Rattle.krl_entries.specs.declared.reasons.KeyReasons.{KeyReasons}
+use Rattle.krl_entries.specs.declared.reasons.NameReasons.{NameReasons}
+use Rattle.krl_entries.specs.declared.reasons.Reasons.{Reasons}
 use Rattle.krl_audit.specs.Colour.{unread_word, verdict_word}
 use Rattle.krl_audit.specs.Visible.{visible}
 use Rattle.krl_audit.specs.Why.{why_text}
 use Rattle.krl_audit.specs.declared.why.Why.{Why}
 
 -- the name of a file, and the number of a line of it; 0 represents the whole file
-abbrev pub place_text : List ℕ → ℕ → List ℕ
-place_text name number =
+abbrev pub location_text : List ℕ → ℕ → List ℕ
+location_text name number =
     visible false name ++ (if nat_lt 0 number then codes ":" ++ decimal number else [])
 
 -- ---- reasons
@@ -94,7 +95,7 @@ comment_words (byte ∷ bytes) = codes ": " ++ visible false (byte ∷ bytes)
 -- the line of a key, revoked or not, in colour or not
 abbrev pub key_line : Bool → List ℕ → ℕ → (blob comment : List ℕ) → Subject → Reasons → List ℕ
 key_line coloured name number blob comment asked all =
-    place_text name number
+    location_text name number
     ++ (verdict_word coloured (any_reason all)
     ++ (key_words blob asked
     ++ (reasons_text asked all ++ (comment_words comment ++ 10 ∷ []))))
@@ -102,4 +103,4 @@ key_line coloured name number blob comment asked all =
 -- the line for a line or file that is not read, in colour or not
 abbrev pub unread_line : Bool → List ℕ → ℕ → Why → List ℕ
 unread_line coloured name number why =
-    place_text name number ++ (unread_word coloured ++ (why_text why ++ 10 ∷ []))
+    location_text name number ++ (unread_word coloured ++ (why_text why ++ 10 ∷ []))

@@ -7,20 +7,21 @@ ghost use Rattle.key_listing.specs.Carries.{Carries, Reaches};
 ghost use Rattle.key_listing.specs.Run.{Item, said_of};
 ghost use Rattle.json_lines.specs.Field.{json_line};
 ghost use Rattle.krl_types.specs.Subject.{Subject as SubjectOf};
-ghost use Rattle.krl_held.specs.Entry.{Entry};
-ghost use Rattle.krl_held.specs.Reasons.{reasons_of};
-ghost use Rattle.krl_held.specs.Revocations.{Means};
-ghost use Rattle.krl_held.specs.declared.reasons.Reasons.{Reasons as ReasonsOf};
+ghost use Rattle.krl_entries.specs.Entry.{Entry};
+ghost use Rattle.krl_entries.specs.Reasons.{reasons_of};
+ghost use Rattle.krl_entries.specs.Revocations.{Means};
+ghost use Rattle.krl_entries.specs.declared.reasons.Reasons.{Reasons as ReasonsOf};
 ghost use Rattle.krl_audit.specs.Audit.{EndsAudit, JudgesAs, Told, ToldFile, content_of, said_if};
 ghost use Rattle.krl_audit.specs.Objects.{done_object};
-ghost use Rattle.krl_audit.specs.Outcome.{GivesOutcome, Outcome as OutcomeOf, Unread as UnreadOf, opened_at, outcome_of, private_outcome, without_mark};
+ghost use Rattle.krl_audit.specs.Outcome.{GivesOutcome, Outcome as OutcomeOf, Unread as UnreadOf};
+ghost use Rattle.krl_audit.specs.Outcome.{opened_at, outcome_of, private_outcome, without_mark};
 
 use crate::counts::Counts;
 use crate::done::{ListFacts, write_done};
 use crate::judge::Judge;
 use crate::outcome::{Outcome, checked, open_private, read_outcome};
 use crate::survey::keyless;
-use crate::text::Place;
+use crate::text::Location;
 use crate::why::{Refusal, Why};
 use byte_streams::Sink;
 use key_files::{Cause, RunFault};
@@ -97,7 +98,7 @@ impl<'q, 'w, W: Sink> Auditor<'q, 'w, W> {
             self.new.run.printer self.old.counts self.new.counts }
         ensures judge { self.new.judge ≡ self.old.judge }
     {
-        self.say(Place { name, number: 1 }, first)?;
+        self.say(Location { name, number: 1 }, first)?;
         match after {
             None => Ok(()),
             Some(rest) => self.audit_lines(name, rest),
@@ -118,7 +119,7 @@ impl<'q, 'w, W: Sink> Auditor<'q, 'w, W> {
             let (line, after) = split_line(rest);
             passed += 1;
             let number = passed as u64;
-            self.say_line(Place { name, number }, line)?;
+            self.say_line(Location { name, number }, line)?;
             let Some(after) = after else {
                 return Ok(());
             };
@@ -127,34 +128,34 @@ impl<'q, 'w, W: Sink> Auditor<'q, 'w, W> {
     }
 
     // Prints the finding of a line, if it is to be printed, and counts it.
-    fn say_line<'a>(&mut self, place: Place<'a>, line: &[u8]) -> Result<(), RunFault<'a>>
+    fn say_line<'a>(&mut self, location: Location<'a>, line: &[u8]) -> Result<(), RunFault<'a>>
         ensures told { (reasons : SubjectOf → ReasonsOf) → JudgesAs self.old.judge reasons
-            → Told reasons self.old.judge.shown place.entry.name.now place.entry.number
+            → Told reasons self.old.judge.shown location.entry.name.now location.entry.number
             (outcome_of line.now ∷ []) result self.old.run.printer self.new.run.printer
             self.old.counts self.new.counts }
         ensures judge { self.new.judge ≡ self.old.judge }
     {
         match read_outcome(self.run.alloc, line) {
-            Ok(outcome) => self.say(place, &outcome),
-            Err(_) => Err(RunFault::whole(place.name, Cause::NoMemory)),
+            Ok(outcome) => self.say(location, &outcome),
+            Err(_) => Err(RunFault::whole(location.name, Cause::NoMemory)),
         }
     }
 
     // Prints the finding of an outcome, if it is to be printed, and counts it.
-    fn say<'a>(&mut self, place: Place<'a>, outcome: &Outcome<'_>) -> Result<(), RunFault<'a>>
+    fn say<'a>(&mut self, location: Location<'a>, outcome: &Outcome<'_>) -> Result<(), RunFault<'a>>
         ensures told { (given : OutcomeOf) → GivesOutcome outcome.now given
             → (reasons : SubjectOf → ReasonsOf) → JudgesAs self.old.judge reasons
-            → Told reasons self.old.judge.shown place.entry.name.now place.entry.number
+            → Told reasons self.old.judge.shown location.entry.name.now location.entry.number
             (given ∷ []) result self.old.run.printer self.new.run.printer self.old.counts
             self.new.counts }
         ensures judge { self.new.judge ≡ self.old.judge }
     {
         let alloc = self.run.alloc;
-        let made = match self.judge.judge(alloc, place, outcome, &mut self.run.line) {
+        let made = match self.judge.judge(alloc, location, outcome, &mut self.run.line) {
             Ok(made) => made,
-            Err(_) => return Err(RunFault::whole(place.name, Cause::NoMemory)),
+            Err(_) => return Err(RunFault::whole(location.name, Cause::NoMemory)),
         };
-        say_made(&mut self.run, place.name, made.said)?;
+        say_made(&mut self.run, location.name, made.said)?;
         self.counts = self.counts.with(made.kind);
         Ok(())
     }
@@ -167,13 +168,13 @@ impl<'q, 'w, W: Sink> Auditor<'q, 'w, W> {
             self.new.run.printer self.old.counts self.new.counts }
         ensures judge { self.new.judge ≡ self.old.judge }
     {
-        let place = Place { name, number: 1 };
+        let location = Location { name, number: 1 };
         match open_private(self.run.alloc, text) {
             Ok(Ok(Private { blob, comment })) => {
                 let outcome = checked(None, &[], blob, comment.as_slice());
-                self.say(place, &outcome)
+                self.say(location, &outcome)
             }
-            Ok(Err(fault)) => self.say(place, &Outcome::Unread(Why::Private(fault))),
+            Ok(Err(fault)) => self.say(location, &Outcome::Unread(Why::Private(fault))),
             Err(_) => Err(RunFault::whole(name, Cause::NoMemory)),
         }
     }
@@ -185,7 +186,7 @@ impl<'q, 'w, W: Sink> Auditor<'q, 'w, W> {
             self.old.run.printer self.new.run.printer self.old.counts self.new.counts }
         ensures judge { self.new.judge ≡ self.old.judge }
     {
-        self.say(Place { name, number: 0 }, &Outcome::Unread(why))
+        self.say(Location { name, number: 0 }, &Outcome::Unread(why))
     }
 
     /// Prints the last object of an audit that was not stopped: the number of files, the counts,

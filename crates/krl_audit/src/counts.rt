@@ -5,7 +5,7 @@ ghost use Rattle.krl_audit.specs.Counts.{audit_status, counted, is_key, one_more
 
 /// The kind of a line.
 #[derive(Clone, Copy, PartialEq, Eq)]
-pub enum Kind {
+pub enum LineKind {
     /// Blank, or a comment.
     Blank,
     /// A key that its line marks as revoked.
@@ -38,13 +38,13 @@ impl Counts {
     };
 
     /// The counts with a line of this kind.
-    pub(crate) fn with(self, kind: Kind) -> Counts
+    pub(crate) fn with(self, kind: LineKind) -> Counts
         ensures { result ≡ counted self kind }
     {
         Counts {
             keys: one_more(self.keys, is_key(kind)),
-            revoked: one_more(self.revoked, kind == Kind::Revoked),
-            unread: one_more(self.unread, kind == Kind::Unread),
+            revoked: one_more(self.revoked, kind == LineKind::Revoked),
+            unread: one_more(self.unread, kind == LineKind::Unread),
         }
     }
 
@@ -77,8 +77,8 @@ fn one_more(count: u64, is_one: bool) -> u64
 }
 
 // Returns true if a line has a key.
-fn is_key(kind: Kind) -> bool
+fn is_key(kind: LineKind) -> bool
     ensures { result ≡ is_key kind }
 {
-    matches!(kind, Kind::Distrusted | Kind::Fine | Kind::Revoked)
+    matches!(kind, LineKind::Distrusted | LineKind::Fine | LineKind::Revoked)
 }

@@ -2,7 +2,8 @@
 
 ghost use Rattle.std.specs.Prelude.{◌≡◌, ◌∷◌, ◌++◌, [], OnOk};
 ghost use Rattle.json_lines.specs.Field.{fields_tokens, json_line};
-ghost use Rattle.krl_audit.specs.Objects.{count_fields, done_object, list_field, stated_fields, version_fields};
+ghost use Rattle.krl_audit.specs.Objects.{count_fields, done_object, list_field, stated_fields};
+ghost use Rattle.krl_audit.specs.Objects.{version_fields};
 
 use crate::counts::Counts;
 use cert_listing::time_text;

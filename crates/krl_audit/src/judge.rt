@@ -2,18 +2,18 @@
 
 ghost use Rattle.std.specs.Prelude.{◌≡◌, IfOk};
 ghost use Rattle.krl_types.specs.Subject.{Subject as SubjectOf};
-ghost use Rattle.krl_held.specs.declared.reasons.Reasons.{Reasons as ReasonsOf};
+ghost use Rattle.krl_entries.specs.declared.reasons.Reasons.{Reasons as ReasonsOf};
 ghost use Rattle.krl_audit.specs.Audit.{IsMade, JudgesAs, key_kind, says};
 ghost use Rattle.krl_audit.specs.Outcome.{GivesOutcome, Outcome as OutcomeOf, Unread};
 ghost use Rattle.krl_audit.specs.declared.outcome.Outcome.TheVariants.{Key};
 
-use crate::counts::Kind;
+use crate::counts::LineKind;
 use crate::outcome::{Found, Outcome};
 use crate::said::{say_key, say_unread};
-use crate::text::{Place, Verdict};
+use crate::text::{Location, Verdict};
 use crate::why::Why;
 use key_text::Marker;
-use krl_held::Revocations;
+use krl_entries::Revocations;
 use span_sets::Held;
 use ssh_cert::read_any;
 use std::alloc::{AllocError, Global};
@@ -52,7 +52,7 @@ pub struct Judge<'q> {
 /// The kind of a line, and whether it is printed: then its text was made.
 #[derive(Clone, Copy)]
 pub(crate) struct Made {
-    pub(crate) kind: Kind,
+    pub(crate) kind: LineKind,
     pub(crate) said: bool,
 }
 
@@ -61,22 +61,22 @@ impl<'q> Judge<'q> {
     pub(crate) fn judge(
         &self,
         alloc: Global,
-        place: Place<'_>,
+        location: Location<'_>,
         outcome: &Outcome<'_>,
         line: &mut Vec<u8>,
     ) -> Result<Made, AllocError>
         ensures { (reasons : SubjectOf → ReasonsOf) → JudgesAs self.now reasons
             → (given : OutcomeOf) → GivesOutcome outcome.now given
-            → IfOk result (λ made. IsMade reasons self.now.shown place.entry.name.now
-            place.entry.number given made.kind made.said line.new.items) }
+            → IfOk result (λ made. IsMade reasons self.now.shown location.entry.name.now
+            location.entry.number given made.kind made.said line.new.items) }
     {
         match outcome {
             Outcome::Blank => Ok(Made {
-                kind: Kind::Blank,
+                kind: LineKind::Blank,
                 said: false,
             }),
-            Outcome::Key(found) => self.judge_key(alloc, place, found, line),
-            Outcome::Unread(why) => self.judge_unread(alloc, place, *why, line),
+            Outcome::Key(found) => self.judge_key(alloc, location, found, line),
+            Outcome::Unread(why) => self.judge_unread(alloc, location, *why, line),
         }
     }
 
@@ -84,20 +84,20 @@ impl<'q> Judge<'q> {
     fn judge_unread(
         &self,
         alloc: Global,
-        place: Place<'_>,
+        location: Location<'_>,
         why: Why,
         line: &mut Vec<u8>,
     ) -> Result<Made, AllocError>
         ensures { (reasons : SubjectOf → ReasonsOf) → IfOk result (λ made. IsMade reasons
-            self.now.shown place.entry.name.now place.entry.number (Unread why) made.kind
+            self.now.shown location.entry.name.now location.entry.number (Unread why) made.kind
             made.said line.new.items) }
     {
         let said = self.shown.findings;
         if said {
-            say_unread(alloc, self.shown.form, place, why, line)?;
+            say_unread(alloc, self.shown.form, location, why, line)?;
         }
         Ok(Made {
-            kind: Kind::Unread,
+            kind: LineKind::Unread,
             said,
         })
     }
@@ -106,18 +106,18 @@ impl<'q> Judge<'q> {
     fn judge_key(
         &self,
         alloc: Global,
-        place: Place<'_>,
+        location: Location<'_>,
         found: &Found<'_>,
         line: &mut Vec<u8>,
     ) -> Result<Made, AllocError>
         ensures { (reasons : SubjectOf → ReasonsOf) → JudgesAs self.now reasons
             → (given : OutcomeOf) → GivesOutcome (Key found.now) given
-            → IfOk result (λ made. IsMade reasons self.now.shown place.entry.name.now
-            place.entry.number given made.kind made.said line.new.items) }
+            → IfOk result (λ made. IsMade reasons self.now.shown location.entry.name.now
+            location.entry.number given made.kind made.said line.new.items) }
     {
         let any = match read_any(found.blob.as_slice()) {
             Ok(any) => any,
-            Err(fault) => return self.judge_unread(alloc, place, Why::Subject(fault), line),
+            Err(fault) => return self.judge_unread(alloc, location, Why::Subject(fault), line),
         };
         let subject = any.subject(alloc)?;
         let reasons = self.list.reasons(&subject);
@@ -129,30 +129,30 @@ impl<'q> Judge<'q> {
                 subject: &subject,
                 reasons,
             };
-            say_key(alloc, self.shown.form, place, &verdict, line)?;
+            say_key(alloc, self.shown.form, location, &verdict, line)?;
         }
         Ok(Made { kind, said })
     }
 }
 
 // The kind of a key, by its marker and whether there is a reason.
-fn key_kind(marker: Option<Marker>, revoked: bool) -> Kind
+fn key_kind(marker: Option<Marker>, revoked: bool) -> LineKind
     ensures { result ≡ key_kind marker revoked }
 {
     match (marker, revoked) {
-        (Some(Marker::Revoked), _) => Kind::Distrusted,
-        (_, true) => Kind::Revoked,
-        (_, false) => Kind::Fine,
+        (Some(Marker::Revoked), _) => LineKind::Distrusted,
+        (_, true) => LineKind::Revoked,
+        (_, false) => LineKind::Fine,
     }
 }
 
 // Returns true if a line of this kind is printed.
-fn says(shown: Shown, kind: Kind) -> bool
+fn says(shown: Shown, kind: LineKind) -> bool
     ensures { result ≡ says shown kind }
 {
     match kind {
-        Kind::Blank | Kind::Distrusted => false,
-        Kind::Fine => shown.fine,
-        Kind::Revoked | Kind::Unread => shown.findings,
+        LineKind::Blank | LineKind::Distrusted => false,
+        LineKind::Fine => shown.fine,
+        LineKind::Revoked | LineKind::Unread => shown.findings,
     }
 }

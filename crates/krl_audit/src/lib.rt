@@ -21,7 +21,7 @@ mod visible;
 mod why;
 
 pub use auditor::Auditor;
-pub use counts::{Counts, Kind};
+pub use counts::{Counts, LineKind};
 pub use done::{ListFacts, Stated};
 pub use judge::{Form, Judge, Shown};
 pub use outcome::{Found, Outcome, read_outcome};

@@ -2,39 +2,42 @@
 
 ghost use Rattle.std.specs.Prelude.{◌≡◌, ◌∷◌, ◌++◌, [], OnOk};
 ghost use Rattle.key_text.specs.Marker.{marker_word};
-ghost use Rattle.krl_held.specs.Reasons.{any_reason};
+ghost use Rattle.krl_entries.specs.Reasons.{any_reason};
 ghost use Rattle.json_lines.specs.Field.{fields_tokens, json_line};
-ghost use Rattle.krl_audit.specs.Objects.{cert_field, cert_fields, front_fields, front_word, key_fields, key_object, line_fields, list_fields, marker_fields, place_fields, status_word, unread_object, why_fields};
+ghost use Rattle.krl_audit.specs.Objects.{cert_field, cert_fields, front_fields, front_word};
+ghost use Rattle.krl_audit.specs.Objects.{key_fields, key_object, line_fields, list_fields};
+ghost use Rattle.krl_audit.specs.Objects.{marker_fields, location_fields, status_word};
+ghost use Rattle.krl_audit.specs.Objects.{unread_object, why_fields};
 ghost use Rattle.krl_audit.specs.Outcome.{found_as};
 
 use crate::fault_text::fault_text;
 use crate::front::has_hosts;
 use crate::outcome::Found;
 use crate::reason_values::put_reasons;
-use crate::text::{Place, Verdict, type_of};
+use crate::text::{Location, Verdict, type_of};
 use crate::why::{Why, push_why};
 use json::Token;
 use json_lines::{LineWriter, put_digits, put_number, put_text, put_word};
 use key_text::{Hash, Marker, fingerprint};
-use krl_held::Reasons;
+use krl_entries::Reasons;
 use krl_types::{CertNames, Subject};
 use std::alloc::{AllocError, Global};
 
 /// Makes the line of a key.
 pub(crate) fn write_key_object(
     alloc: Global,
-    place: Place<'_>,
+    location: Location<'_>,
     verdict: &Verdict<'_>,
     line: &mut Vec<u8>,
 ) -> Result<(), AllocError>
     ensures { OnOk result (line.new.items
-        ≡ json_line (key_object place.entry.name.now place.entry.number
+        ≡ json_line (key_object location.entry.name.now location.entry.number
         (found_as verdict.now.found.now verdict.now.subject.now) verdict.now.reasons)) }
 {
     let mut out = LineWriter::object(alloc)?;
-    put_place(&mut out, place)?;
+    put_location(&mut out, location)?;
     put_key(alloc, &mut out, verdict)?;
-    put_line(alloc, &mut out, place.name, verdict.found)?;
+    put_line(alloc, &mut out, location.name, verdict.found)?;
     put_list(alloc, &mut out, verdict.subject, verdict.reasons)?;
     *line = out.end_object()?;
     Ok(())
@@ -43,15 +46,15 @@ pub(crate) fn write_key_object(
 /// Makes the line for a line or file that is not read.
 pub(crate) fn write_unread_object(
     alloc: Global,
-    place: Place<'_>,
+    location: Location<'_>,
     why: Why,
     line: &mut Vec<u8>,
 ) -> Result<(), AllocError>
     ensures { OnOk result (line.new.items
-        ≡ json_line (unread_object place.entry.name.now place.entry.number why)) }
+        ≡ json_line (unread_object location.entry.name.now location.entry.number why)) }
 {
     let mut out = LineWriter::object(alloc)?;
-    put_place(&mut out, place)?;
+    put_location(&mut out, location)?;
     put_why(alloc, &mut out, why)?;
     *line = out.end_object()?;
     Ok(())
@@ -59,13 +62,13 @@ pub(crate) fn write_unread_object(
 
 // Writes the name of a file, and the number of a line of it.
 #[tactic(auto, unfolding(json_lines::specs::Field::fields_tokens))]
-fn put_place(out: &mut LineWriter, place: Place<'_>) -> Result<(), AllocError>
-    ensures { OnOk result (out.new
-        ≡ out.old ++ fields_tokens (place_fields place.entry.name.now place.entry.number)) }
+fn put_location(out: &mut LineWriter, location: Location<'_>) -> Result<(), AllocError>
+    ensures { OnOk result (out.new ≡ out.old
+        ++ fields_tokens (location_fields location.entry.name.now location.entry.number)) }
 {
-    put_word(out, "file", place.name)?;
-    if place.number > 0 {
-        put_number(out, "line", place.number)?;
+    put_word(out, "file", location.name)?;
+    if location.number > 0 {
+        put_number(out, "line", location.number)?;
     }
     Ok(())
 }

@@ -3,7 +3,8 @@
 ghost use Rattle.std.specs.Prelude.{◌≡◌, IfOk};
 ghost use Rattle.ssh_cert.specs.SubjectReading.{subject_of};
 ghost use Rattle.key_text.specs.ContainerReading.{private_at};
-ghost use Rattle.krl_audit.specs.Outcome.{GivesOpened, GivesOutcome, SaysFault, asked_outcome, half_opened, opened_at, outcome_of};
+ghost use Rattle.krl_audit.specs.Outcome.{GivesOpened, GivesOutcome, SaysFault, asked_outcome};
+ghost use Rattle.krl_audit.specs.Outcome.{half_opened, opened_at, outcome_of};
 
 use crate::front::front_of;
 use crate::why::Why;

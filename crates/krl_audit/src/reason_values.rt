@@ -2,13 +2,15 @@
 
 ghost use Rattle.std.specs.Prelude.{◌≡◌, ◌∷◌, ◌++◌, [], OnOk};
 ghost use Rattle.json_lines.specs.Field.{fields_tokens, values_tokens};
-ghost use Rattle.krl_audit.specs.Objects.{authority_values, by_value, cert_values, key_values, name_value, name_values, of_value, reason_values, reasons_field, value_if, with_cert_values};
+ghost use Rattle.krl_audit.specs.Objects.{authority_values, by_value, cert_values, key_values};
+ghost use Rattle.krl_audit.specs.Objects.{name_value, name_values, of_value, reason_values};
+ghost use Rattle.krl_audit.specs.Objects.{reasons_field, value_if, with_cert_values};
 ghost use Rattle.krl_audit.specs.ReasonNames.{name_by, name_field, name_fields};
 
 use json::Token;
 use json_lines::{LineWriter, put_digits, put_text, put_word};
 use key_text::{Hash, fingerprint};
-use krl_held::{KeyReasons, NameReasons, Reasons};
+use krl_entries::{KeyReasons, NameReasons, Reasons};
 use krl_types::{CertNames, Subject};
 use std::alloc::{AllocError, Global};
 

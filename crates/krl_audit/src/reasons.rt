@@ -1,12 +1,14 @@
 //! The words for the reasons why a key is revoked.
 
 ghost use Rattle.std.specs.Prelude.{◌≡◌, ◌++◌, OnOk};
-ghost use Rattle.krl_audit.specs.Text.{authority_parts, cert_parts, id_words, key_parts, name_parts, of_all, of_authority, reason_parts, reasons_text, serial_words, word_if};
+ghost use Rattle.krl_audit.specs.Text.{authority_parts, cert_parts, id_words, key_parts};
+ghost use Rattle.krl_audit.specs.Text.{name_parts, of_all, of_authority, reason_parts};
+ghost use Rattle.krl_audit.specs.Text.{reasons_text, serial_words, word_if};
 
 use crate::visible::push_visible;
 use key_listing::push_number;
 use key_text::{Hash, fingerprint};
-use krl_held::{KeyReasons, NameReasons, Reasons};
+use krl_entries::{KeyReasons, NameReasons, Reasons};
 use krl_types::{CertNames, Subject};
 use std::alloc::{AllocError, Global};
 

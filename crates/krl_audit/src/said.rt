@@ -6,7 +6,7 @@ ghost use Rattle.krl_audit.specs.Outcome.{found_as};
 
 use crate::judge::Form;
 use crate::objects::{write_key_object, write_unread_object};
-use crate::text::{Place, Verdict, write_key, write_unread};
+use crate::text::{Location, Verdict, write_key, write_unread};
 use crate::why::Why;
 use std::alloc::{AllocError, Global};
 
@@ -14,18 +14,18 @@ use std::alloc::{AllocError, Global};
 pub(crate) fn say_key(
     alloc: Global,
     form: Form,
-    place: Place<'_>,
+    location: Location<'_>,
     verdict: &Verdict<'_>,
     line: &mut Vec<u8>,
 ) -> Result<(), AllocError>
     ensures { OnOk result (line.new.items
-        ≡ key_said form place.entry.name.now place.entry.number
+        ≡ key_said form location.entry.name.now location.entry.number
         (found_as verdict.now.found.now verdict.now.subject.now) verdict.now.reasons) }
 {
     match form {
-        Form::Text => write_key(alloc, false, place, verdict, line),
-        Form::Colour => write_key(alloc, true, place, verdict, line),
-        Form::Json => write_key_object(alloc, place, verdict, line),
+        Form::Text => write_key(alloc, false, location, verdict, line),
+        Form::Colour => write_key(alloc, true, location, verdict, line),
+        Form::Json => write_key_object(alloc, location, verdict, line),
     }
 }
 
@@ -33,16 +33,16 @@ pub(crate) fn say_key(
 pub(crate) fn say_unread(
     alloc: Global,
     form: Form,
-    place: Place<'_>,
+    location: Location<'_>,
     why: Why,
     line: &mut Vec<u8>,
 ) -> Result<(), AllocError>
     ensures { OnOk result (line.new.items
-        ≡ unread_said form place.entry.name.now place.entry.number why) }
+        ≡ unread_said form location.entry.name.now location.entry.number why) }
 {
     match form {
-        Form::Text => write_unread(alloc, false, place, why, line),
-        Form::Colour => write_unread(alloc, true, place, why, line),
-        Form::Json => write_unread_object(alloc, place, why, line),
+        Form::Text => write_unread(alloc, false, location, why, line),
+        Form::Colour => write_unread(alloc, true, location, why, line),
+        Form::Json => write_unread_object(alloc, location, why, line),
     }
 }

@@ -1,7 +1,8 @@
 //! The lines of findings.
 
 ghost use Rattle.std.specs.Prelude.{◌≡◌, ◌++◌, OnOk};
-ghost use Rattle.krl_audit.specs.Text.{comment_words, key_line, key_words, place_text, type_of, unread_line};
+ghost use Rattle.krl_audit.specs.Text.{comment_words, key_line, key_words, location_text, type_of};
+ghost use Rattle.krl_audit.specs.Text.{unread_line};
 
 use crate::colour::{push_unread, push_verdict};
 use crate::outcome::Found;
@@ -10,7 +11,7 @@ use crate::visible::push_visible;
 use crate::why::{Why, push_why};
 use key_listing::push_number;
 use key_text::{Hash, fingerprint};
-use krl_held::Reasons;
+use krl_entries::Reasons;
 use krl_types::Subject;
 use ssh_wire::Cursor;
 use std::alloc::{AllocError, Global};
@@ -18,7 +19,7 @@ use std::alloc::{AllocError, Global};
 /// The place of a line: the name of its file, and its number from 1 on; 0 represents the whole
 /// file.
 #[derive(Clone, Copy)]
-pub(crate) struct Place<'a> {
+pub(crate) struct Location<'a> {
     pub(crate) name: &'a str,
     pub(crate) number: u64,
 }
@@ -35,15 +36,15 @@ pub(crate) struct Verdict<'a> {
 pub(crate) fn write_unread(
     alloc: Global,
     coloured: bool,
-    place: Place<'_>,
+    location: Location<'_>,
     why: Why,
     line: &mut Vec<u8>,
 ) -> Result<(), AllocError>
     ensures { OnOk result (line.new.items
-        ≡ unread_line coloured place.entry.name.now place.entry.number why) }
+        ≡ unread_line coloured location.entry.name.now location.entry.number why) }
 {
     line.clear();
-    push_place(line, place)?;
+    push_location(line, location)?;
     push_unread(line, coloured)?;
     push_why(alloc, line, why)?;
     line.push(b'\n')?;
@@ -54,16 +55,16 @@ pub(crate) fn write_unread(
 pub(crate) fn write_key(
     alloc: Global,
     coloured: bool,
-    place: Place<'_>,
+    location: Location<'_>,
     verdict: &Verdict<'_>,
     line: &mut Vec<u8>,
 ) -> Result<(), AllocError>
-    ensures { OnOk result (line.new.items ≡ key_line coloured place.entry.name.now
-        place.entry.number verdict.now.found.now.blob verdict.now.found.now.comment.now
+    ensures { OnOk result (line.new.items ≡ key_line coloured location.entry.name.now
+        location.entry.number verdict.now.found.now.blob verdict.now.found.now.comment.now
         verdict.now.subject.now verdict.now.reasons) }
 {
     line.clear();
-    push_place(line, place)?;
+    push_location(line, location)?;
     push_verdict(line, coloured, verdict.reasons.any())?;
     push_key(alloc, line, verdict.found.blob.as_slice(), verdict.subject)?;
     push_reasons(alloc, line, verdict.subject, verdict.reasons)?;
@@ -73,14 +74,14 @@ pub(crate) fn write_key(
 }
 
 // Appends the name of a file, and the number of a line of it.
-fn push_place(text: &mut Vec<u8>, place: Place<'_>) -> Result<(), AllocError>
+fn push_location(text: &mut Vec<u8>, location: Location<'_>) -> Result<(), AllocError>
     ensures { OnOk result (text.new.items
-        ≡ text.old.items ++ place_text place.entry.name.now place.entry.number) }
+        ≡ text.old.items ++ location_text location.entry.name.now location.entry.number) }
 {
-    push_visible(text, place.name.as_bytes(), false)?;
-    if place.number > 0 {
+    push_visible(text, location.name.as_bytes(), false)?;
+    if location.number > 0 {
         text.push(b':')?;
-        push_number(place.number, text)?;
+        push_number(location.number, text)?;
     }
     Ok(())
 }

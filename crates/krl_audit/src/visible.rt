@@ -3,7 +3,8 @@
 ghost use Rattle.std.specs.Prelude.{◌≡◌, ◌++◌, ◌<◌, IfOk, OnOk, false, string_bytes};
 ghost use Rattle.std.specs.List.{flat_map};
 ghost use Rattle.std.specs.Str.{chars};
-ghost use Rattle.krl_audit.specs.Visible.{numbered, visible, visible_byte, visible_bytes, visible_char};
+ghost use Rattle.krl_audit.specs.Visible.{numbered, visible, visible_byte, visible_bytes};
+ghost use Rattle.krl_audit.specs.Visible.{visible_char};
 
 use std::alloc::{AllocError, Global};
 use std::str;

@@ -1,6 +1,7 @@
 //! The walk over the sections of a list that checks their authorities.
 
-ghost use Rattle.std.specs.Prelude.{◌≡◌, ◌↔◌, ◌<◌, ◌≤◌, ◌^◌, ◌++◌, List, ℕ, IsTrue, MatchOption, length};
+ghost use Rattle.std.specs.Prelude.{◌≡◌, ◌↔◌, ◌<◌, ◌≤◌, ◌^◌, ◌++◌, List, ℕ, IsTrue, MatchOption};
+ghost use Rattle.std.specs.Prelude.{length};
 ghost use Rattle.ssh_wire.specs.Wire.{string};
 ghost use Rattle.krl_core.specs.Krl.{SpelledSection, Spells, SpellsSection};
 ghost use Rattle.krl_core.specs.declared.header.Header.{Header as HeaderOf};

@@ -1,6 +1,6 @@
-pub mod Laying
-pub mod Once
-pub mod Printed
-pub mod Saying
-pub mod Explaining
-pub mod OncePlain
+pub mod WrittenTexts
+pub mod OneAnswer
+pub mod PrintedWords
+pub mod AnswerMeaning
+pub mod ReasonBits
+pub mod OnePlainAnswer

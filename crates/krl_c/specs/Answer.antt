@@ -8,16 +8,17 @@ use Rattle.ssh_cert.specs.SubjectReading.{IsSubject, IsSubjectFault}
 use Rattle.ssh_cert.specs.declared.subject_fault.SubjectFault.{SubjectFault}
 use Rattle.krl_types.specs.declared.krl_fault.KrlFault.{KrlFault}
 use Rattle.krl_core.specs.declared.header.Header.{Header}
-use Rattle.krl_held.specs.Entry.{Entry}
+use Rattle.krl_entries.specs.Entry.{Entry}
 use Rattle.krl_core.specs.Entries.{entries_of}
 use Rattle.krl_core.specs.Front.{IsFirstFault, limit}
 use Rattle.krl_core.specs.Krl.{SpelledSection, Spells}
-use Rattle.krl_held.specs.Revoked.{Revoked}
+use Rattle.krl_entries.specs.Revoked.{Revoked}
 use Rattle.krl_authority.specs.Authority.{AuthoritiesAreKeys}
 use Rattle.krl_types.specs.declared.krl_fault.KrlFault.TheVariants.{NoMemory}
 use Rattle.krl_c.specs.declared.refusal.Refusal.{Refusal}
 use Rattle.krl_c.specs.declared.refusal.Refusal.TheVariants as refusals
-use Rattle.krl_c.specs.Number.{authority_number, fine, revoked, no_memory, list_number, line_number, subject_number}
+use Rattle.krl_c.specs.Number.{authority_number, fine, revoked, no_memory, list_number, line_number}
+use Rattle.krl_c.specs.Number.{subject_number}
 
 -- A header and sections spell the list, within the limit.
 pub record IsListOf (list : List ℕ) (entries : List Entry) : Type 0 where

@@ -1,14 +1,15 @@
 -- Why a list revokes the key of a query: the reasons as the bits of a number.
-use Rattle.std.specs.Prelude.{◌≡◌, ◌↔◌, ◌<◌, ◌+◌, ◌*◌, ◌^◌, ℕ, ℤ, pos, Bool, true, false, List, [], ◌∷◌}
+use Rattle.std.specs.Prelude.{◌≡◌, ◌↔◌, ◌<◌, ◌+◌, ◌*◌, ◌^◌, ℕ, ℤ, pos, Bool, true, false, List, []}
+use Rattle.std.specs.Prelude.{◌∷◌}
 use Rattle.std.specs.Int.{bit_at}
 use Rattle.ssh_cert.specs.SubjectReading.{IsSubject, IsSubjectFault}
 use Rattle.ssh_cert.specs.declared.subject_fault.SubjectFault.{SubjectFault}
 use Rattle.krl_types.specs.Subject.{Subject}
-use Rattle.krl_held.specs.Entry.{Entry}
-use Rattle.krl_held.specs.Reasons.{IsReason}
-use Rattle.krl_held.specs.declared.reasons.Reason.{Reason}
-use Rattle.krl_held.specs.declared.reasons.Reason.TheVariants as reasons
-use Rattle.krl_held.specs.declared.reasons.Reasons.{Reasons}
+use Rattle.krl_entries.specs.Entry.{Entry}
+use Rattle.krl_entries.specs.Reasons.{IsReason}
+use Rattle.krl_entries.specs.declared.reasons.Reason.{Reason}
+use Rattle.krl_entries.specs.declared.reasons.Reason.TheVariants as reasons
+use Rattle.krl_entries.specs.declared.reasons.Reasons.{Reasons}
 use Rattle.krl_c.specs.Answer.{AnswersBy}
 use Rattle.krl_c.specs.Number.{no_memory, subject_number}
 

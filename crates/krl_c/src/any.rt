@@ -3,7 +3,7 @@
 ghost use Rattle.krl_c.specs.Any.{AnswersAny, AnswersPlain};
 
 use crate::check::ask_list;
-use crate::held::ask_held;
+use crate::loaded_list::ask_loaded;
 use crate::number::of_plain;
 use krl_core::MAGIC;
 use plain_list::read_plain;
@@ -26,7 +26,7 @@ fn ask_plain(alloc: Global, list: &[u8], blob: &[u8]) -> i32
     ensures { AnswersPlain list.now blob.now result }
 {
     match read_plain::<Held>(alloc, list) {
-        Ok(held) => ask_held(alloc, &held, blob),
+        Ok(held) => ask_loaded(alloc, &held, blob),
         Err(fault) => of_plain(fault),
     }
 }

@@ -2,13 +2,13 @@
 
 ghost use Rattle.std.specs.Prelude.{◌≡◌, ◌⊎◌, ◌↔◌, List, IfOk, IfErr, IsTrue, OnOk};
 ghost use Rattle.krl_types.specs.declared.krl_fault.KrlFault.TheVariants.{NoMemory};
-ghost use Rattle.krl_held.specs.Entry.{Entry};
+ghost use Rattle.krl_entries.specs.Entry.{Entry};
 ghost use Rattle.krl_core.specs.Front.{IsFirstFault};
-ghost use Rattle.krl_held.specs.Questions.{Asks, asked_in};
-ghost use Rattle.krl_held.specs.Revoked.{Revoked};
-ghost use Rattle.krl_held.specs.Scope.{MeansWithin};
+ghost use Rattle.krl_entries.specs.Questions.{Asks, asked_in};
+ghost use Rattle.krl_entries.specs.Revoked.{Revoked};
+ghost use Rattle.krl_entries.specs.Scope.{MeansInScope};
 ghost use Rattle.krl_c.specs.Answer.{Answers, AnswersOfLine, IsCompared, IsListOf, IsRefusal};
-ghost use Rattle.krl_c.specs.Passed.{KeepsAsked};
+ghost use Rattle.krl_c.specs.Streamed.{StoresAsked};
 
 use crate::lent::Lent;
 use crate::number::{FINE, REVOKED, of_line, of_list, of_subject};
@@ -56,7 +56,7 @@ fn revokes(alloc: Global, list: &[u8], asked: &Subject) -> Result<bool, Refusal>
         × IsCompared list.now entries × (IsTrue revoked ↔ Revoked entries asked.now)) }
     ensures refused { IfErr result (λ refusal. IsRefusal list.now refusal) }
 {
-    match pass(alloc, list, asked) {
+    match stream(alloc, list, asked) {
         Ok(findings) => {
             if authorities_are_keys(list) {
                 Ok(findings.answer(asked))
@@ -69,11 +69,11 @@ fn revokes(alloc: Global, list: &[u8], asked: &Subject) -> Result<bool, Refusal>
 }
 
 // Streams a list, and stores only the answers to the query.
-pub(crate) fn pass(alloc: Global, list: &[u8], asked: &Subject) -> Result<Findings<Held>, KrlFault>
+pub(crate) fn stream(alloc: Global, list: &[u8], asked: &Subject) -> Result<Findings<Held>, KrlFault>
     ensures found { IfOk result (λ findings. (entries : List Entry)
-        × IsListOf list.now entries × MeansWithin (asked_in findings) findings.found entries) }
+        × IsListOf list.now entries × MeansInScope (asked_in findings) findings.found entries) }
     ensures asked { IfOk result (λ findings. Asks findings.topics asked.now) }
-    ensures kept { IfOk result (λ findings. KeepsAsked asked.now findings) }
+    ensures stored { IfOk result (λ findings. StoresAsked asked.now findings) }
     ensures fault { IfErr result (λ fault.
         (fault ≡ NoMemory) ⊎ IsFirstFault list.now (Some fault)) }
 {
@@ -94,7 +94,7 @@ pub(crate) fn judge(alloc: Global, list: &[u8]) -> Result<(), Refusal>
     ensures list { OnOk result ((entries : List Entry) × IsCompared list.now entries) }
     ensures refused { IfErr result (λ refusal. IsRefusal list.now refusal) }
 {
-    match pass_unasked(alloc, list) {
+    match stream_unasked(alloc, list) {
         Ok(()) => {
             if authorities_are_keys(list) {
                 Ok(())
@@ -107,7 +107,7 @@ pub(crate) fn judge(alloc: Global, list: &[u8]) -> Result<(), Refusal>
 }
 
 // Reads a list without a query: returns its first fault, if it has one.
-fn pass_unasked(alloc: Global, list: &[u8]) -> Result<(), KrlFault>
+fn stream_unasked(alloc: Global, list: &[u8]) -> Result<(), KrlFault>
     ensures list { OnOk result ((entries : List Entry) × IsListOf list.now entries) }
     ensures fault { IfErr result (λ fault.
         (fault ≡ NoMemory) ⊎ IsFirstFault list.now (Some fault)) }

@@ -7,19 +7,19 @@ ghost use denote.Param.{layout};
 ghost use prog.Memory.{capped, size};
 ghost use Rattle.krl_c.specs.Answer.{Answers, AnswersBlob, AnswersLine, AnswersOfLine};
 ghost use Rattle.krl_c.specs.Any.{AnswersAny};
-ghost use Rattle.krl_c.specs.Kept.{AnswersHeld, Loads, unloaded};
+ghost use Rattle.krl_c.specs.Stored.{AnswersStored, Loads, unloaded};
 ghost use Rattle.krl_c.specs.Loan.{Loan, is_lent};
 ghost use Rattle.krl_c.specs.Why.{Explains};
-ghost use Rattle.krl_c.specs.contracts.kept.Kept.{the_row};
+ghost use Rattle.krl_c.specs.contracts.stored.Stored.{the_row};
 ghost use Rattle.krl_c.specs.Words.{words};
 ghost use Rattle.krl_c.specs.Written.{written};
 
 mod any;
 mod check;
 mod handle;
-mod held;
+mod loaded_list;
 mod init;
-mod kept;
+mod stored;
 pub mod laws;
 mod lent;
 mod number;
@@ -31,8 +31,8 @@ mod written;
 use any::ask_any;
 use check::{ask_list, ask_list_of_line};
 use handle::{Handle, Krl, swap};
-use held::held_of;
-use kept::{Kept, ask, ask_of_line, empty};
+use loaded_list::load_list;
+use stored::{Stored, ask, ask_of_line, empty};
 use number::{FINE, of_list};
 use std::alloc::Global;
 use why::explain_list;
@@ -77,13 +77,13 @@ pub extern "C" fn krl_why(alloc: Global, list: &[u8], blob: &[u8]) -> i32
 /// Reads a list into a handle, for many queries. If it is refused, the handle stays unchanged.
 #[unsafe(no_mangle)]
 pub extern "C" fn krl_load(alloc: Global, krl: &mut Krl, list: &[u8]) -> i32
-    ensures { Loads list.now krl.old.held krl.new.held result }
+    ensures { Loads list.now krl.old.stored krl.new.stored result }
 {
-    match held_of(alloc, list) {
+    match load_list(alloc, list) {
         Ok(held) => {
             let _old = swap(
                 krl,
-                Kept {
+                Stored {
                     loaded: true,
                     list: held,
                 },
@@ -101,9 +101,9 @@ pub unsafe extern "C" fn krl_ask(alloc: Global, at: *const Handle, blob: &[u8]) 
     ghost loan: { Loan }
     requires* { sem 𝓛 (is_lent at loan) }
     ensures* stays { sem 𝓛 (is_lent at loan) }
-    ensures answer { AnswersHeld (λ entries. AnswersBlob entries blob.now) loan.kept result }
+    ensures answer { AnswersStored (λ entries. AnswersBlob entries blob.now) loan.stored result }
 {
-    ask(alloc, unsafe { &*(at as *const Kept) }, blob)
+    ask(alloc, unsafe { &*(at as *const Stored) }, blob)
 }
 
 /// The same for the key or the certificate of a line.
@@ -112,15 +112,15 @@ pub unsafe extern "C" fn krl_ask_line(alloc: Global, at: *const Handle, line: &[
     ghost loan: { Loan }
     requires* { sem 𝓛 (is_lent at loan) }
     ensures* stays { sem 𝓛 (is_lent at loan) }
-    ensures answer { AnswersHeld (λ entries. AnswersLine entries line.now) loan.kept result }
+    ensures answer { AnswersStored (λ entries. AnswersLine entries line.now) loan.stored result }
 {
-    ask_of_line(alloc, unsafe { &*(at as *const Kept) }, line)
+    ask_of_line(alloc, unsafe { &*(at as *const Stored) }, line)
 }
 
 /// Frees the memory of a handle's stored list. The handle stays ready for another list.
 #[unsafe(no_mangle)]
 pub extern "C" fn krl_unload(alloc: Global, krl: &mut Krl)
-    ensures { krl.new.held ≡ unloaded }
+    ensures { krl.new.stored ≡ unloaded }
 {
     let _old = swap(krl, empty(alloc));
 }
@@ -130,7 +130,7 @@ pub extern "C" fn krl_unload(alloc: Global, krl: &mut Krl)
 pub extern "C" fn krl_size() -> usize
     ensures { result ≡ capped (size (layout the_row)) }
 {
-    std::mem::size_of::<Kept>()
+    std::mem::size_of::<Stored>()
 }
 
 /// Writes the words for an answer as snprintf does. Returns their length in bytes. Does not

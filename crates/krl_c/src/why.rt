@@ -1,17 +1,17 @@
 //! The reasons why a list revokes a blob, as the bits of a number.
 
 ghost use Rattle.std.specs.Prelude.{◌≡◌, ◌+◌, ◌*◌, ◌<◌, ◌≤◌, ◌^◌, ◌↔◌, List, IfOk, IfErr, IsTrue};
-ghost use Rattle.krl_held.specs.Entry.{Entry};
-ghost use Rattle.krl_held.specs.Reasons.{IsReason, has_reason};
-ghost use Rattle.krl_held.specs.declared.reasons.Reason.{Reason as ReasonOf};
+ghost use Rattle.krl_entries.specs.Entry.{Entry};
+ghost use Rattle.krl_entries.specs.Reasons.{IsReason, has_reason};
+ghost use Rattle.krl_entries.specs.declared.reasons.Reason.{Reason as ReasonOf};
 ghost use Rattle.krl_c.specs.Answer.{IsCompared, IsRefusal};
 ghost use Rattle.krl_c.specs.Why.{Explains, bits_in, flags_of, with_bit};
 
-use crate::check::{judge, pass};
+use crate::check::{judge, stream};
 use crate::number::{of_list, of_subject};
 use crate::refusal::Refusal;
 use krl_authority::authorities_are_keys;
-use krl_held::Reasons;
+use krl_entries::Reasons;
 use ssh_cert::{Subject, subject};
 use std::alloc::Global;
 
@@ -38,7 +38,7 @@ fn explain(alloc: Global, list: &[u8], asked: &Subject) -> Result<Reasons, Refus
         → (IsTrue (has_reason reasons reason) ↔ IsReason entries asked.now reason))) }
     ensures refused { IfErr result (λ refusal. IsRefusal list.now refusal) }
 {
-    match pass(alloc, list, asked) {
+    match stream(alloc, list, asked) {
         Ok(findings) => {
             if authorities_are_keys(list) {
                 Ok(findings.reasons(asked))

@@ -4,9 +4,9 @@ use Rattle.std.specs.Prelude.{OnOk}
 use Rattle.key_files.specs.RunFault.{RunFault}
 use Rattle.key_listing.specs.Carries.{Carries}
 use Rattle.key_listing.specs.Printer.{Printer}
-use Rattle.key_listing.proofs.Carrying.{carries_more, carries_then}
+use Rattle.key_listing.proofs.RunParts.{carries_more, carries_then}
 use Rattle.krl_types.specs.Subject.{Subject}
-use Rattle.krl_held.specs.declared.reasons.Reasons.{Reasons}
+use Rattle.krl_entries.specs.declared.reasons.Reasons.{Reasons}
 use Rattle.krl_audit.specs.Audit.{ToldFile, file_items}
 use Rattle.krl_audit.specs.declared.counts.Counts.{Counts}
 use Rattle.krl_audit.specs.declared.judge.Shown.{Shown}

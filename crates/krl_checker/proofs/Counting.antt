@@ -6,8 +6,8 @@ use Rattle.std.proofs.lemmas.Bool.Decides.{eqb_tells}
 use Rattle.std.specs.List.{AllByRecursion}
 use Rattle.krl_audit.specs.Counts.{all_counted, counted, is_key, is_revoked_kind, is_unread_kind, one_more}
 use Rattle.krl_audit.specs.declared.counts.Counts.{Counts}
-use Rattle.krl_audit.specs.declared.counts.Kind.{Kind}
-use Rattle.krl_audit.specs.declared.counts.Kind.TheVariants as kinds
+use Rattle.krl_audit.specs.declared.counts.LineKind.{LineKind}
+use Rattle.krl_audit.specs.declared.counts.LineKind.TheVariants as kinds
 use Rattle.krl_checker.specs.Check.{none_counted}
 use Rattle.krl_checker.specs.Role.{AreMet, HasKey, MayBe, are_right, is_met}
 use Rattle.krl_checker.specs.declared.role.Role.{Role}
@@ -19,7 +19,7 @@ add : Bool → ℕ → ℕ
 add true n = 1 + n
 add false n = n
 
-count : (Kind → Bool) → List Kind → ℕ
+count : (LineKind → Bool) → List LineKind → ℕ
 count sort [] = 0
 count sort (line ∷ lines) = add (sort line) (count sort lines)
 
@@ -38,13 +38,13 @@ unfolding add
 fits_still true more n rest is fits = omega (arith, is, fits)
 fits_still false more n rest is fits = omega (arith, is, fits)
 
-record AreCounted (old new : Counts) (lines : List Kind) : Type 0 where
+record AreCounted (old new : Counts) (lines : List LineKind) : Type 0 where
   keys : new.keys ≡ old.keys + count is_key lines
   revoked : new.revoked ≡ old.revoked + count is_revoked_kind lines
   unread : new.unread ≡ old.unread + count is_unread_kind lines
 
 -- each line is counted, if the counts have room
-are_counted : (old : Counts) (lines : List Kind) → old.keys + length lines < 2 ^ 64 → old.revoked + length lines < 2 ^ 64 → old.unread + length lines < 2 ^ 64 → AreCounted old (all_counted old lines) lines
+are_counted : (old : Counts) (lines : List LineKind) → old.keys + length lines < 2 ^ 64 → old.revoked + length lines < 2 ^ 64 → old.unread + length lines < 2 ^ 64 → AreCounted old (all_counted old lines) lines
 unfolding count
 are_counted old [] keys revoked unread = record { keys = omega arith; revoked = omega arith; unread = omega arith }
 are_counted old (line ∷ lines) keys revoked unread =
@@ -63,7 +63,7 @@ are_counted old (line ∷ lines) keys revoked unread =
 
 -- ---- the kinds of the lines, by these numbers
 
-some_key : (lines : List Kind) → HasKey lines → count is_key lines ≡ 0 → ⊥
+some_key : (lines : List LineKind) → HasKey lines → count is_key lines ≡ 0 → ⊥
 unfolding count add
 some_key [] has none = has
 some_key (kinds.Blank ∷ lines) (inl is) none = absurd cc
@@ -74,7 +74,7 @@ some_key (kinds.Distrusted ∷ lines) has none = omega (arith, none)
 some_key (kinds.Fine ∷ lines) has none = omega (arith, none)
 some_key (kinds.Revoked ∷ lines) has none = omega (arith, none)
 
-key_there : (lines : List Kind) → (count is_key lines ≡ 0 → ⊥) → HasKey lines
+key_there : (lines : List LineKind) → (count is_key lines ≡ 0 → ⊥) → HasKey lines
 unfolding count add
 key_there [] some = some refl
 key_there (kinds.Blank ∷ lines) some = inr (key_there lines some)
@@ -83,7 +83,7 @@ key_there (kinds.Distrusted ∷ lines) some = inl refl
 key_there (kinds.Fine ∷ lines) some = inl refl
 key_there (kinds.Revoked ∷ lines) some = inl refl
 
-kept : (lines : List Kind) → AllByRecursion (MayBe roles.Keep) lines → (count is_revoked_kind lines ≡ 0) × (count is_unread_kind lines ≡ 0)
+kept : (lines : List LineKind) → AllByRecursion (MayBe roles.Keep) lines → (count is_revoked_kind lines ≡ 0) × (count is_unread_kind lines ≡ 0)
 unfolding count add
 kept [] all = (refl, refl)
 kept (kinds.Blank ∷ lines) all = kept lines all.1
@@ -92,7 +92,7 @@ kept (kinds.Fine ∷ lines) all = kept lines all.1
 kept (kinds.Revoked ∷ lines) all = absurd all.0
 kept (kinds.Unread ∷ lines) all = absurd all.0
 
-may_be_kept : (lines : List Kind) → count is_revoked_kind lines ≡ 0 → count is_unread_kind lines ≡ 0 → AllByRecursion (MayBe roles.Keep) lines
+may_be_kept : (lines : List LineKind) → count is_revoked_kind lines ≡ 0 → count is_unread_kind lines ≡ 0 → AllByRecursion (MayBe roles.Keep) lines
 unfolding count add
 may_be_kept [] revoked unread = tt
 may_be_kept (kinds.Blank ∷ lines) revoked unread = (tt, may_be_kept lines revoked unread)
@@ -101,7 +101,7 @@ may_be_kept (kinds.Fine ∷ lines) revoked unread = (tt, may_be_kept lines revok
 may_be_kept (kinds.Revoked ∷ lines) revoked unread = absurd (omega (arith, revoked))
 may_be_kept (kinds.Unread ∷ lines) revoked unread = absurd (omega (arith, unread))
 
-fewer : (lines : List Kind) → count is_revoked_kind lines ≤ count is_key lines
+fewer : (lines : List LineKind) → count is_revoked_kind lines ≤ count is_key lines
 unfolding count add
 fewer [] = omega arith
 fewer (kinds.Blank ∷ lines) = fewer lines
@@ -110,7 +110,7 @@ fewer (kinds.Fine ∷ lines) = omega (arith, fewer lines)
 fewer (kinds.Revoked ∷ lines) = omega (arith, fewer lines)
 fewer (kinds.Unread ∷ lines) = fewer lines
 
-canaries : (lines : List Kind) → AllByRecursion (MayBe roles.Canary) lines → (count is_revoked_kind lines ≡ count is_key lines) × (count is_unread_kind lines ≡ 0)
+canaries : (lines : List LineKind) → AllByRecursion (MayBe roles.Canary) lines → (count is_revoked_kind lines ≡ count is_key lines) × (count is_unread_kind lines ≡ 0)
 unfolding count add
 canaries [] all = (refl, refl)
 canaries (kinds.Blank ∷ lines) all = canaries lines all.1
@@ -119,7 +119,7 @@ canaries (kinds.Fine ∷ lines) all = absurd all.0
 canaries (kinds.Revoked ∷ lines) all = let rest = canaries lines all.1 in (ap (λ (n : ℕ). 1 + n) rest.0, rest.1)
 canaries (kinds.Unread ∷ lines) all = absurd all.0
 
-may_be_canaries : (lines : List Kind) → count is_revoked_kind lines ≡ count is_key lines → count is_unread_kind lines ≡ 0 → AllByRecursion (MayBe roles.Canary) lines
+may_be_canaries : (lines : List LineKind) → count is_revoked_kind lines ≡ count is_key lines → count is_unread_kind lines ≡ 0 → AllByRecursion (MayBe roles.Canary) lines
 unfolding count add
 may_be_canaries [] revoked unread = tt
 may_be_canaries (kinds.Blank ∷ lines) revoked unread = (tt, may_be_canaries lines revoked unread)
@@ -153,15 +153,15 @@ some_is n other none = false≢true (sym other ∙ eq-eqb n 0 none)
 is_some : (n : ℕ) → (n ≡ 0 → ⊥) → (n == 0) ≡ false
 is_some n some = elim (eqb_tells n 0) [ inl none ↦ absurd (some none.1) | inr other ↦ other.0 ]
 
-all_of : (role : Role) (lines : List Kind) (counts : Counts) → AreCounted none_counted counts lines → AreRight role counts.keys counts.revoked → count is_unread_kind lines ≡ 0 → AllByRecursion (MayBe role) lines
+all_of : (role : Role) (lines : List LineKind) (counts : Counts) → AreCounted none_counted counts lines → AreRight role counts.keys counts.revoked → count is_unread_kind lines ≡ 0 → AllByRecursion (MayBe role) lines
 all_of roles.Keep lines counts are right unread = may_be_kept lines (omega (arith, are.revoked, right)) unread
 all_of roles.Canary lines counts are right unread = may_be_canaries lines (omega (arith, are.revoked, are.keys, right)) unread
 
-numbers_of : (role : Role) (lines : List Kind) (counts : Counts) → AreCounted none_counted counts lines → AllByRecursion (MayBe role) lines → AreRight role counts.keys counts.revoked × (count is_unread_kind lines ≡ 0)
+numbers_of : (role : Role) (lines : List LineKind) (counts : Counts) → AreCounted none_counted counts lines → AllByRecursion (MayBe role) lines → AreRight role counts.keys counts.revoked × (count is_unread_kind lines ≡ 0)
 numbers_of roles.Keep lines counts are all = let is = kept lines all in (omega (arith, are.revoked, is.0), is.1)
 numbers_of roles.Canary lines counts are all = let is = canaries lines all in (omega (arith, are.revoked, are.keys, is.0), is.1)
 
-met : (role : Role) (lines : List Kind) (counts : Counts) → AreCounted none_counted counts lines → is_met role counts ≡ true → AreMet role lines
+met : (role : Role) (lines : List LineKind) (counts : Counts) → AreCounted none_counted counts lines → is_met role counts ≡ true → AreMet role lines
 met role lines counts are e =
     let parts = chosen (counts.keys == 0) (nat_lt 0 counts.unread) (are_right role counts) e in
     let right = (tested_right role counts).0 parts.2 in
@@ -169,7 +169,7 @@ met role lines counts are e =
     let some : count is_key lines ≡ 0 → ⊥ = λ none. some_is counts.keys parts.0 (omega (arith, are.keys, none)) in
     (all_of role lines counts are right unread, key_there lines some)
 
-met_by : (role : Role) (lines : List Kind) (counts : Counts) → AreCounted none_counted counts lines → AreMet role lines → is_met role counts ≡ true
+met_by : (role : Role) (lines : List LineKind) (counts : Counts) → AreCounted none_counted counts lines → AreMet role lines → is_met role counts ≡ true
 met_by role lines counts are is =
     let numbers = numbers_of role lines counts are is.0 in
     choose (counts.keys == 0) (nat_lt 0 counts.unread) (are_right role counts)
@@ -177,7 +177,7 @@ met_by role lines counts are is =
     (le-ltb 0 counts.unread (omega (arith, are.unread, numbers.1)))
     ((tested_right role counts).1 numbers.0)
 
-pub law : (role : Role) (lines : List Kind) → length lines + 1 < 2 ^ 64 → is_met role (all_counted none_counted lines) ≡ true ↔ AreMet role lines
+pub law : (role : Role) (lines : List LineKind) → length lines + 1 < 2 ^ 64 → is_met role (all_counted none_counted lines) ≡ true ↔ AreMet role lines
 law role lines room =
     let are = are_counted none_counted lines (omega (arith, room)) (omega (arith, room)) (omega (arith, room)) in
     (met role lines (all_counted none_counted lines) are, met_by role lines (all_counted none_counted lines) are)

@@ -1,12 +1,13 @@
 -- The lines that a check prints for each condition, and its end.
-use Rattle.std.specs.Prelude.{◌≡◌, ℕ, ◌||◌, nat_lt, not, Bool, true, false, List, [], ◌∷◌, ◌++◌, is_some, OnOk, Option, Some, None, Result}
+use Rattle.std.specs.Prelude.{◌≡◌, ℕ, ◌||◌, nat_lt, not, Bool, true, false, List, [], ◌∷◌, ◌++◌}
+use Rattle.std.specs.Prelude.{is_some, OnOk, Option, Some, None, Result}
 use Rattle.key_files.specs.RunFault.{RunFault}
 use Rattle.key_listing.specs.Carries.{Carries}
 use Rattle.key_listing.specs.Done.{Ends}
 use Rattle.key_listing.specs.Printer.{Printer}
 use Rattle.key_listing.specs.Run.{Item, said_of}
 use Rattle.krl_types.specs.Subject.{Subject}
-use Rattle.krl_held.specs.declared.reasons.Reasons.{Reasons}
+use Rattle.krl_entries.specs.declared.reasons.Reasons.{Reasons}
 use Rattle.krl_audit.specs.Audit.{file_items, file_kinds}
 use Rattle.krl_audit.specs.Counts.{all_counted}
 use Rattle.krl_audit.specs.declared.counts.Counts.{Counts}

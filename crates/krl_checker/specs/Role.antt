@@ -1,9 +1,10 @@
 -- The condition that a list must meet for the keys of a file.
-use Rattle.std.specs.Prelude.{ℕ, ◌==◌, nat_lt, if◌then◌else◌, Bool, true, false, List, [], ◌∷◌, codes, ◌||◌, ◌⊎◌, IsTrue}
+use Rattle.std.specs.Prelude.{ℕ, ◌==◌, nat_lt, if◌then◌else◌, Bool, true, false, List, [], ◌∷◌}
+use Rattle.std.specs.Prelude.{codes, ◌||◌, ◌⊎◌, IsTrue}
 use Rattle.std.specs.List.{AllByRecursion}
 use Rattle.krl_audit.specs.Counts.{is_key}
-use Rattle.krl_audit.specs.declared.counts.Kind.{Kind}
-use Rattle.krl_audit.specs.declared.counts.Kind.TheVariants as kinds
+use Rattle.krl_audit.specs.declared.counts.LineKind.{LineKind}
+use Rattle.krl_audit.specs.declared.counts.LineKind.TheVariants as kinds
 use Rattle.krl_audit.specs.declared.counts.Counts.{Counts}
 use Rattle.krl_audit.specs.declared.judge.Form.TheVariants.{Text}
 use Rattle.krl_audit.specs.declared.judge.Shown.{Shown}
@@ -33,7 +34,7 @@ role_word roles.Canary = codes "canary: "
 
 -- A line of this kind may be in the file. A key that its line marks as revoked is not trusted
 -- there, so it counts neither as a key to be kept nor as a canary.
-abbrev pub MayBe : Role → Kind → Type 0
+abbrev pub MayBe : Role → LineKind → Type 0
 MayBe role kinds.Blank = Unit {0}
 MayBe role kinds.Unread = ⊥
 MayBe roles.Keep kinds.Revoked = ⊥
@@ -44,10 +45,10 @@ MayBe roles.Canary kinds.Fine = ⊥
 MayBe roles.Canary kinds.Distrusted = ⊥
 
 -- Some line has a key.
-abbrev pub HasKey : List Kind → Type 0
+abbrev pub HasKey : List LineKind → Type 0
 HasKey [] = ⊥
 HasKey (line ∷ lines) = IsTrue (is_key line) ⊎ HasKey lines
 
 -- Each line may be in the file, and one has a key.
-abbrev pub AreMet : Role → List Kind → Type 0
+abbrev pub AreMet : Role → List LineKind → Type 0
 AreMet role lines = AllByRecursion (MayBe role) lines × HasKey lines

@@ -1,16 +1,18 @@
 //! Checking a list, one condition after the other.
 
-ghost use Rattle.std.specs.Prelude.{◌≡◌, ◌∷◌, [], ◌||◌, nat_lt, not, true, ℕ, List, Option, OnOk, is_err, is_some};
+ghost use Rattle.std.specs.Prelude.{◌≡◌, ◌∷◌, [], ◌||◌, nat_lt, not, true, ℕ, List, Option, OnOk};
+ghost use Rattle.std.specs.Prelude.{is_err, is_some};
 ghost use Rattle.key_listing.specs.Carries.{Carries, Reaches};
 ghost use Rattle.key_listing.specs.Run.{Item, said_of};
 ghost use Rattle.krl_core.specs.Front.{start};
-ghost use Rattle.krl_held.specs.Entry.{Entry};
-ghost use Rattle.krl_held.specs.Reasons.{reasons_of};
-ghost use Rattle.krl_held.specs.Revocations.{Means};
+ghost use Rattle.krl_entries.specs.Entry.{Entry};
+ghost use Rattle.krl_entries.specs.Reasons.{reasons_of};
+ghost use Rattle.krl_entries.specs.Revocations.{Means};
 ghost use Rattle.krl_audit.specs.Audit.{content_of};
 ghost use Rattle.krl_openssh.specs.Difference.{first_difference};
 ghost use Rattle.krl_openssh.specs.Fields.{HasFields};
-ghost use Rattle.krl_checker.specs.Check.{ChecksFile, EndsCheck, check_status, difference_items, version_items, counts_items};
+ghost use Rattle.krl_checker.specs.Check.{ChecksFile, EndsCheck, check_status, difference_items};
+ghost use Rattle.krl_checker.specs.Check.{version_items, counts_items};
 ghost use Rattle.krl_checker.specs.Role.{is_met};
 ghost use Rattle.krl_checker.specs.Text.{plain_line};
 

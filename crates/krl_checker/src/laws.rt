@@ -2,7 +2,7 @@
 
 ghost use Rattle.std.specs.Prelude.{◌≡◌, ◌+◌, ◌<◌, ◌^◌, ◌↔◌, List, length, true};
 ghost use Rattle.krl_audit.specs.Counts.{all_counted};
-ghost use Rattle.krl_audit.specs.declared.counts.Kind.{Kind};
+ghost use Rattle.krl_audit.specs.declared.counts.LineKind.{LineKind};
 ghost use Rattle.krl_checker.specs.Check.{none_counted};
 ghost use Rattle.krl_checker.specs.Role.{AreMet, is_met};
 ghost use Rattle.krl_checker.specs.declared.role.Role.{Role};
@@ -10,6 +10,6 @@ ghost use Rattle.krl_checker.specs.declared.role.Role.{Role};
 /// The counts of the lines of a file meet the condition exactly if each line may be in the file,
 /// and one has a key.
 pub fn counts_are_met_by_lines()
-    ensures { (role : Role) (lines : List Kind) → length lines + 1 < 2 ^ 64
+    ensures { (role : Role) (lines : List LineKind) → length lines + 1 < 2 ^ 64
         → (is_met role (all_counted none_counted lines) ≡ true ↔ AreMet role lines) }
 {}

@@ -9,9 +9,9 @@ use Rattle.serial_set.specs.BitRuns.{big_endian}
 use Rattle.ssh_wire.specs.Wire.{number_of}
 use Rattle.ssh_wire.proofs.Magnitudes.{number_of-cons}
 use Rattle.ssh_wire.proofs.Digits.{bytes_as_bits}
-use Rattle.krl_held.specs.Entry.{BitmapEntry}
-use Rattle.krl_held.specs.Naming.{NamesSame}
-use Rattle.krl_held.proofs.Same.{same_nothing, same_serials}
+use Rattle.krl_entries.specs.Entry.{BitmapEntry}
+use Rattle.krl_entries.specs.Naming.{NamesSame}
+use Rattle.krl_entries.proofs.SameNames.{same_nothing, same_serials}
 
 -- a bitmap that is fed byte by byte has the number of the wire format
 pub bitmap_number : (bytes : List ℕ) → big_endian bytes ≡ number_of bytes

@@ -12,24 +12,24 @@ use Rattle.serial_set.specs.Span.{Covers}
 use Rattle.serial_set.specs.BitRuns.{BitRuns, BitNames, Feeds, HasFault, ShowsFault, lowest}
 use Rattle.krl_types.specs.declared.krl_fault.KrlFault.TheVariants as faults
 use Rattle.krl_core.specs.declared.place.Place.{Place}
-use Rattle.krl_held.specs.Entry.{Entry, BitmapEntry}
-use Rattle.krl_held.specs.Naming.{NamesSame, SerialOf}
-use Rattle.krl_held.specs.Revocations.{Revocations, held}
-use Rattle.krl_held.specs.Scope.{MeansWithin, Scope}
-use Rattle.krl_held.specs.Changes.{run_entries}
-use Rattle.krl_core.specs.Keeper.{Keeper, IsKept, AddsEntries, Adds, InStep, KeepsBits, KeepsField, Closes, held_with_open, open_run, GrowsWithin, StaysWithin}
+use Rattle.krl_entries.specs.Entry.{Entry, BitmapEntry}
+use Rattle.krl_entries.specs.Naming.{NamesSame, SerialOf}
+use Rattle.krl_entries.specs.Revocations.{Revocations, held}
+use Rattle.krl_entries.specs.Scope.{MeansInScope, Scope}
+use Rattle.krl_entries.specs.Changes.{run_entries}
+use Rattle.krl_core.specs.FieldStore.{FieldStore, StoresEntries, AddsEntries, Adds, InStep, StoresBits, StoresField, Closes, held_with_open, open_run, GrowsAtMost, StoresNoMore}
 use Rattle.ssh_wire.specs.Wire.{number_of}
 use Rattle.krl_core.specs.declared.place.Place.TheVariants as places
 use Rattle.krl_core.specs.declared.place.bitmap.BitmapPlace.TheVariants as bitmaps
 use Rattle.krl_core.specs.Place.{base_of, bits_judged, judge, next_bits, next_subsection, passes_end, highest_bit}
 use Rattle.serial_set.proofs.Bits.{highest_bit as top_bit}
-use Rattle.serial_set.proofs.Rising.{covers_append}
-use Rattle.krl_held.proofs.Same.{same_serials, same_append, same_refl, same_is, same_then, same_swap, some_append, one_more, IsSerials}
-use Rattle.krl_held.proofs.Runs.{run_entries-name, run_entries-serials}
+use Rattle.serial_set.proofs.RisingLists.{covers_append}
+use Rattle.krl_entries.proofs.SameNames.{same_serials, same_append, same_refl, same_is, same_then, same_swap, some_append, one_more, IsSerials}
+use Rattle.krl_entries.proofs.Runs.{run_entries-name, run_entries-serials}
 use Rattle.std.proofs.Math.Logic.Iff as Iff
-use Rattle.krl_held.proofs.BothWays.{iff_both, iff_none, iff_or, iff_swap}
-use Rattle.krl_held.proofs.Elements.{all_append}
-use Rattle.krl_core.proofs.Keeping.{grows_one, open_entries, stored_same, stored_then}
+use Rattle.krl_entries.proofs.Equivalences.{iff_both, iff_none, iff_or, iff_swap}
+use Rattle.krl_entries.proofs.Elements.{all_append}
+use Rattle.krl_core.proofs.StoredEntries.{grows_one, open_entries, stored_same, stored_then}
 
 -- ---- runs by the numbers in them
 
@@ -60,19 +60,19 @@ fed_same a before byte after finished fed =
     Iff.trans left (Iff.trans (Iff.and Iff.rfl runs) (Iff.symm right)))
 
 -- A byte was fed, and the runs that it finished were added.
-pub bits_kept : (old mid new : Keeper) (byte : ℕ) (finished : List Span) → Feeds old.bitmap byte mid.bitmap finished
+pub bits_stored : (old mid new : FieldStore) (byte : ℕ) (finished : List Span) → Feeds old.bitmap byte mid.bitmap finished
     → mid.contents ≡ old.contents → mid.scope ≡ old.scope → mid.authority ≡ old.authority → Adds mid (run_entries mid.authority finished) new
     → AddsEntries old (BitmapEntry old.authority (lowest mid.bitmap) byte ∷ []) new
-bits_kept old mid new byte finished fed contents scope authority h entries k =
+bits_stored old mid new byte finished fed contents scope authority h entries k =
     let F : List Entry = run_entries mid.authority finished in
     let O : List Entry = open_entries mid in
     let E : List Entry = BitmapEntry old.authority (lowest mid.bitmap) byte ∷ [] in
-    let before : IsKept mid (k.closed ++ O) = record {
+    let before : StoresEntries mid (k.closed ++ O) = record {
       closed = k.closed;
-      means = subst (λ (r : Revocations). MeansWithin mid.scope r k.closed) (sym contents) (subst (λ (s : Scope). MeansWithin s old.contents k.closed) (sym scope) k.means);
+      means = subst (λ (r : Revocations). MeansInScope mid.scope r k.closed) (sym contents) (subst (λ (s : Scope). MeansInScope s old.contents k.closed) (sym scope) k.means);
       same = same_refl (k.closed ++ O);
     } in
-    let here = h.kept (k.closed ++ O) before in
+    let here = h.stores (k.closed ++ O) before in
     let now : NamesSame (F ++ O) (open_entries old ++ E) =
     subst (λ (a : List ℕ). NamesSame (F ++ O) (run_entries a (open_run old) ++ BitmapEntry a (lowest mid.bitmap) byte ∷ [])) authority
     (fed_same mid.authority old.bitmap byte mid.bitmap finished fed) in
@@ -92,19 +92,19 @@ bits_kept old mid new byte finished fed contents scope authority h entries k =
       same = same_then (here.closed ++ open_entries new) ((C ++ O) ++ F) (entries ++ E) here.same all;
     }
 
-entry_is : (old mid : Keeper) (byte : ℕ) (finished : List Span) → Feeds old.bitmap byte mid.bitmap finished
+entry_is : (old mid : FieldStore) (byte : ℕ) (finished : List Span) → Feeds old.bitmap byte mid.bitmap finished
     → BitmapEntry old.authority (lowest mid.bitmap) byte ∷ [] ≡ BitmapEntry old.authority (base_of old.bitmap.offset old.bitmap.bytes_left) byte ∷ []
 entry_is old mid byte finished fed =
     let offset : mid.bitmap.offset ≡ old.bitmap.offset = ap (λ p. p.offset) fed.same_bitmap in
     let low : lowest mid.bitmap ≡ base_of old.bitmap.offset old.bitmap.bytes_left = omega (arith, offset, fed.one_less) in
     ap (λ (n : ℕ). BitmapEntry old.authority n byte ∷ []) low
 
-pub bits_go_on : (old mid new : Keeper) (byte : ℕ) (last : Bool) (finished : List Span) → last ≡ false → Feeds old.bitmap byte mid.bitmap finished
+pub bits_go_on : (old mid new : FieldStore) (byte : ℕ) (last : Bool) (finished : List Span) → last ≡ false → Feeds old.bitmap byte mid.bitmap finished
     → mid.contents ≡ old.contents → mid.scope ≡ old.scope → mid.authority ≡ old.authority → mid.header ≡ old.header
-    → Adds mid (run_entries mid.authority finished) new → KeepsBits byte last old new
+    → Adds mid (run_entries mid.authority finished) new → StoresBits byte last old new
 bits_go_on old mid new byte last finished off fed contents scope authority header h = record {
-  kept = subst (λ (e : List Entry). AddsEntries old e new) (entry_is old mid byte finished fed)
-      (bits_kept old mid new byte finished fed contents scope authority h);
+  stores = subst (λ (e : List Entry). AddsEntries old e new) (entry_is old mid byte finished fed)
+      (bits_stored old mid new byte finished fed contents scope authority h);
   authority_is = h.rest.authority_is ∙ authority;
   header_is = h.rest.header_is ∙ header;
   scope_is = h.rest.scope_is ∙ scope;
@@ -117,16 +117,16 @@ bits_go_on old mid new byte last finished off fed contents scope authority heade
       ∙ ap (λ (p : Option Span). record old.bitmap { bytes_left = old.bitmap.bytes_left - 1; pending = p }) pending;
 }
 
-pub bits_close : (old mid new last_one : Keeper) (byte : ℕ) (last : Bool) (finished : List Span) → last ≡ true → Feeds old.bitmap byte mid.bitmap finished
+pub bits_close : (old mid new last_one : FieldStore) (byte : ℕ) (last : Bool) (finished : List Span) → last ≡ true → Feeds old.bitmap byte mid.bitmap finished
     → mid.contents ≡ old.contents → mid.scope ≡ old.scope → mid.authority ≡ old.authority → mid.header ≡ old.header
-    → Adds mid (run_entries mid.authority finished) new → Closes new last_one → KeepsBits byte last old last_one
+    → Adds mid (run_entries mid.authority finished) new → Closes new last_one → StoresBits byte last old last_one
 bits_close old mid new last_one byte last finished on fed contents scope authority header h c =
     let E : List Entry = BitmapEntry old.authority (base_of old.bitmap.offset old.bitmap.bytes_left) byte ∷ [] in
     record {
-      kept = λ entries k.
-          let one : IsKept new (entries ++ E) = subst (λ (e : List Entry). AddsEntries old e new) (entry_is old mid byte finished fed)
-          (bits_kept old mid new byte finished fed contents scope authority h) entries k in
-          subst (IsKept last_one) (append-nil (entries ++ E)) (c.kept (entries ++ E) one);
+      stores = λ entries k.
+          let one : StoresEntries new (entries ++ E) = subst (λ (e : List Entry). AddsEntries old e new) (entry_is old mid byte finished fed)
+          (bits_stored old mid new byte finished fed contents scope authority h) entries k in
+          subst (StoresEntries last_one) (append-nil (entries ++ E)) (c.stores (entries ++ E) one);
       authority_is = c.authority_is ∙ h.rest.authority_is ∙ authority;
       header_is = c.header_is ∙ h.rest.header_is ∙ header;
       scope_is = c.scope_is ∙ h.rest.scope_is ∙ scope;
@@ -136,16 +136,16 @@ bits_close old mid new last_one byte last finished on fed contents scope authori
 
 -- A byte was fed, which makes at most four more runs, and some of the runs that it finished were
 -- added. Later changes added none.
-pub fed_grows : (old mid new last : Keeper) (byte : ℕ) (finished : List Span) → Feeds old.bitmap byte mid.bitmap finished
-    → mid ≡ record old { bitmap = mid.bitmap } → held_with_open new ≤ held_with_open mid + length finished → StaysWithin mid new
-    → held_with_open last ≤ held_with_open new → StaysWithin new last → GrowsWithin 1 old last
+pub fed_grows : (old mid new last : FieldStore) (byte : ℕ) (finished : List Span) → Feeds old.bitmap byte mid.bitmap finished
+    → mid ≡ record old { bitmap = mid.bitmap } → held_with_open new ≤ held_with_open mid + length finished → StoresNoMore mid new
+    → held_with_open last ≤ held_with_open new → StoresNoMore new last → GrowsAtMost 1 old last
 fed_grows old mid new last byte finished fed rest more stored less after =
-    let contents = ap (λ (k : Keeper). k.contents) rest in
+    let contents = ap (λ (k : FieldStore). k.contents) rest in
     let same : held mid.contents ≡ held old.contents = ap held contents in
     let small : held_with_open last ≤ held_with_open old + 4 =
     omega (arith, fed.four_more, more, less, same, length-append (option_to_list mid.bitmap.pending) (reverse finished), length-reverse finished) in
     let all = stored_then mid new last stored after in
-    grows_one old last 4 small (omega arith) (stored_then old mid last (stored_same old mid contents (ap (λ (k : Keeper). k.authority) rest) (ap (λ (k : Keeper). k.scope) rest)) all)
+    grows_one old last 4 small (omega arith) (stored_then old mid last (stored_same old mid contents (ap (λ (k : FieldStore). k.authority) rest) (ap (λ (k : FieldStore). k.scope) rest)) all)
 
 -- ---- a byte that passes its judgement shows no fault
 
@@ -217,11 +217,11 @@ bits_in_step before fed offset size (suc (suc left)) after is closed opened pos 
     let left_is : suc (suc left) - 1 ≡ suc left = omega arith in
     subst (λ (n : ℕ). InStep (next_bits offset size n after) fed) (sym left_is) (omega arith, more ∙ all)
 
-pub keeps_bits : (old new : Keeper) (offset size left after byte : ℕ) (field : List ℕ) (next : Place)
+pub stores_bits : (old new : FieldStore) (offset size left after byte : ℕ) (field : List ℕ) (next : Place)
     → InStep (places.Bitmap (bitmaps.Byte offset size left after)) old.bitmap → byte ≡ number_of field
     → bits_judged offset size left after byte ≡ Ok next
-    → KeepsBits byte (eqb left 1) old new → KeepsField (places.Bitmap (bitmaps.Byte offset size left after)) field next old new
-keeps_bits old new offset size left after byte field next step value judged h =
+    → StoresBits byte (eqb left 1) old new → StoresField (places.Bitmap (bitmaps.Byte offset size left after)) field next old new
+stores_bits old new offset size left after byte field next step value judged h =
     let parts = judged_parts (eqb left size) (ltb byte 128) (passes_end (base_of offset left) byte) next (next_bits offset size (left - 1) after) judged in
     let bytes_left : old.bitmap.bytes_left ≡ left = ap (λ x. x.bytes_left) step.1 in
     let at : old.bitmap.offset ≡ offset = ap (λ x. x.offset) step.1 in
@@ -230,7 +230,7 @@ keeps_bits old new offset size left after byte field next step value judged h =
     ∙ ap (λ (n : ℕ). BitmapEntry old.authority (base_of offset n) byte ∷ []) bytes_left
     ∙ ap (λ (n : ℕ). BitmapEntry old.authority (base_of offset left) n ∷ []) value in
     record {
-      kept = subst (λ (e : List Entry). AddsEntries old e new) entry h.kept;
+      stores = subst (λ (e : List Entry). AddsEntries old e new) entry h.stores;
       authority_is = h.authority_is;
       header_is = h.header_is;
       scope_is = h.scope_is;

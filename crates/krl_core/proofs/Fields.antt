@@ -21,17 +21,17 @@ use Rattle.krl_core.specs.declared.place.certificates.CertificatesPlace.TheVaria
 use Rattle.krl_core.specs.declared.place.serials.SerialsPlace.TheVariants as serials
 use Rattle.krl_core.specs.declared.place.bitmap.BitmapPlace.TheVariants as bitmaps
 use Rattle.krl_core.specs.declared.place.extension.ExtensionPlace.TheVariants as extensions
-use Rattle.krl_held.specs.Entry.{Entry, SerialsEntry, RangeEntry, BitmapEntry, IdEntry}
+use Rattle.krl_entries.specs.Entry.{Entry, SerialsEntry, RangeEntry, BitmapEntry, IdEntry}
 use Rattle.krl_core.specs.Front.{State, Passes, Leads, state_after}
 use Rattle.krl_core.specs.Krl.{Keys, Sha1s, Sha256s, Serials, Range, Bitmap, Ids, SubsectionExtension, magic}
 use Rattle.krl_core.specs.Place.{can_end, judge, names, authority_after, header_after, item_entry, item_size, next_item, next_subsection, next_serial, next_bits, section_of_type, subsection_of_type, base_of, passes_end}
 use Rattle.krl_core.proofs.Bits.{judged_parts}
-use Rattle.krl_core.proofs.Completes.{fits_within, chosen, number_front, length_front, content_front, string_parts, item_front, string_more, serial_more, items_from, subsections_from, serials_from, sections_from, items_section, certificates_section, extension_section, signature_section}
-use Rattle.krl_core.proofs.CompletesParts.{subsections_more, part_front, serials_same, bits_from, bits_more}
-use Rattle.krl_held.proofs.Numbers.{number_back4, number_back8, one_byte}
-use Rattle.krl_held.proofs.Same.{same_refl, same_is, same_then, same_append}
-use Rattle.krl_core.proofs.Rests.{FromItem, FromBits, FromSections, FromLength, FromContent, FromExtension, FromCritical, FromComment, FromHeaderReserved, FromFlags, FromDate, FromSubsections, FromReserved, FromCertificates, FromPart, Completes, IsItem, Items}
-use Rattle.krl_core.proofs.Judged.{held_back, same_place}
+use Rattle.krl_core.proofs.SpelledSections.{fits_within, chosen, number_front, length_front, content_front, string_parts, item_front, string_more, serial_more, items_from, subsections_from, serials_from, sections_from, items_section, certificates_section, extension_section, signature_section}
+use Rattle.krl_core.proofs.SpelledSubsections.{subsections_more, part_front, serials_same, bits_from, bits_more}
+use Rattle.krl_entries.proofs.Numbers.{number_back4, number_back8, one_byte}
+use Rattle.krl_entries.proofs.SameNames.{same_refl, same_is, same_then, same_append}
+use Rattle.krl_core.proofs.RestSpellings.{FromItem, FromBits, FromSections, FromLength, FromContent, FromExtension, FromCritical, FromComment, FromHeaderReserved, FromFlags, FromDate, FromSubsections, FromReserved, FromCertificates, FromPart, Completes, IsItem, Items}
+use Rattle.krl_core.proofs.Judgements.{held_back, same_place}
 
 -- equal places after a field have the same spelling
 along : (last h : Header) (a : List ℕ) (p q : Place) (bytes : List ℕ) (more : List Entry) → p ≡ q → Completes last h a q bytes more → Completes last h a p bytes more

@@ -11,7 +11,7 @@ use Rattle.krl_core.specs.declared.place.Place.TheVariants.{SectionType}
 use Rattle.krl_core.specs.Place.{can_end, expected}
 use Rattle.krl_core.specs.Front.{State, start, state_after, HasRoom, Leads, IsEnd, Reported, ended, no_room, refused, too_long, ends_early, IsFront, IsLongestFront, IsFirstFault, limit}
 use Rattle.krl_core.proofs.Walks.{EndsReported}
-use Rattle.krl_core.proofs.Judged.{same_place}
+use Rattle.krl_core.proofs.Judgements.{same_place}
 use Rattle.ssh_wire.proofs.Steps.{never_err}
 
 -- prefixes of one list that have the same length are the same

@@ -3,8 +3,8 @@ use Rattle.std.proofs.Common.{◌≡◌, ℕ, ◌<◌, ◌≤◌, ◌^◌, Bool,
 use Rattle.std.specs.List.{concat}
 use Rattle.ssh_wire.specs.Wire.{IsBytes, number, string}
 use Rattle.krl_core.specs.declared.header.Header.{Header}
-use Rattle.krl_held.specs.Revocations.{Revocations}
-use Rattle.krl_held.specs.Entry.{Entry}
+use Rattle.krl_entries.specs.Revocations.{Revocations}
+use Rattle.krl_entries.specs.Entry.{Entry}
 use Rattle.krl_core.specs.Entries.{entries_of}
 use Rattle.std.proofs.lemmas.Bool.{ltb-false}
 use Rattle.std.proofs.lemmas.List.{append-nil, take_all}
@@ -12,14 +12,14 @@ use Rattle.krl_types.specs.declared.krl_fault.KrlFault.{KrlFault}
 use Rattle.krl_core.specs.declared.place.Place.{Place}
 use Rattle.krl_core.specs.Front.{State, start, Leads, limit, IsEnd, IsFirstFault, Reported, ended, no_room, refused, too_long, ends_early}
 use Rattle.krl_core.specs.Krl.{SpelledSection, Spells, header_text, magic}
-use Rattle.krl_held.specs.Naming.{NamesSame}
+use Rattle.krl_entries.specs.Naming.{NamesSame}
 use Rattle.krl_core.specs.Place.{can_end}
-use Rattle.krl_core.specs.Reading.{HoldsAll, HoldsWithin, IsList, IsListAs, IsWholeAs}
-use Rattle.krl_held.specs.Scope.{Scope, all as every_name}
+use Rattle.krl_core.specs.Reading.{HoldsAll, HoldsInScope, IsList, IsListAs, IsWholeAs}
+use Rattle.krl_entries.specs.Scope.{Scope, all as every_name}
 use Rattle.krl_core.proofs.Fields.{completes}
-use Rattle.krl_core.proofs.Rests.{FromText, FromFormat}
-use Rattle.krl_held.proofs.Scoped.{means_all_within, same_within}
-use Rattle.krl_core.proofs.Completes.{whole_string}
+use Rattle.krl_core.proofs.RestSpellings.{FromText, FromFormat}
+use Rattle.krl_entries.proofs.ScopedMeaning.{means_all_within, same_within}
+use Rattle.krl_core.proofs.SpelledSections.{whole_string}
 
 -- the fields of a header and the bytes after it
 pub header_parts : (header : Header) (flags : ℕ) (reserved rest : List ℕ) → header_text header flags reserved ++ rest
@@ -95,16 +95,16 @@ list_of_whole Holds text header contents same h =
       holds = same h.state.entries (entries_of k.sections) h.holds k.named;
     }
 
-pub same_holds_within : (scope : Scope) (text : List ℕ) (contents : Revocations) (entries others : List Entry) → HoldsWithin scope text contents entries → NamesSame entries others
-    → HoldsWithin scope text contents others
+pub same_holds_within : (scope : Scope) (text : List ℕ) (contents : Revocations) (entries others : List Entry) → HoldsInScope scope text contents entries → NamesSame entries others
+    → HoldsInScope scope text contents others
 same_holds_within scope text contents entries others h same =
     record { means = same_within scope contents entries others h.means same; within = h.within; bounds = h.bounds }
 
 -- if all names are in scope
-pub holds_all : (text : List ℕ) (contents : Revocations) (entries : List Entry) → HoldsWithin every_name text contents entries → HoldsAll text contents entries
+pub holds_all : (text : List ℕ) (contents : Revocations) (entries : List Entry) → HoldsInScope every_name text contents entries → HoldsAll text contents entries
 holds_all text contents entries h = let b = h.bounds refl in record { means = means_all_within contents entries h.means; held_is = b.0; stored_is = b.1 }
 
-pub list_of_all : (text : List ℕ) (header : Header) (contents : Revocations) → IsListAs (HoldsWithin every_name) text header contents → IsList text header contents
+pub list_of_all : (text : List ℕ) (header : Header) (contents : Revocations) → IsListAs (HoldsInScope every_name) text header contents → IsList text header contents
 list_of_all text header contents h =
     record { sections = h.sections; spelled = h.spelled; within = h.within; holds = holds_all text contents (entries_of h.sections) h.holds }
 

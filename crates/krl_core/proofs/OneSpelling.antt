@@ -8,7 +8,7 @@ use Rattle.krl_core.specs.declared.header.Header.{Header}
 use Rattle.krl_core.specs.Krl.{SpelledSection, Certificates, Keys, Sha1s, Sha256s, Signature, Extension, Subsection, Serials, Range, Bitmap, Ids, SubsectionExtension, Spells, SpellsEach, SpellsSection, SpellsSubsection, SpellsContent, SpellsCertificates, SubsectionContent, SpellsBitmap, header_text, numbers_text, magic, subsection_type}
 use Rattle.krl_core.proofs.Fronts.{append_same}
 use Rattle.krl_core.proofs.Lists.{header_parts}
-use Rattle.krl_held.proofs.Numbers.{number_again4, number_again8}
+use Rattle.krl_entries.proofs.Numbers.{number_again4, number_again8}
 
 -- ---- fields
 

@@ -1,4 +1,4 @@
--- Serial numbers, of eight bytes each, that are crossed together.
+-- Serial numbers, of eight bytes each, that are skipped together.
 use Rattle.std.proofs.Common.{◌≡◌, ℕ, ◌+◌, ◌-◌, ◌*◌, ◌<◌, ◌≤◌, List, [], ◌∷◌, ◌++◌, length, take, drop, zero, suc, inl, inr, refl, sym, ap, subst, ◌∙◌, append_assoc, arith, length-drop}
 use Rattle.std.specs.Prelude.{None}
 use Rattle.std.specs.List.{concat}
@@ -10,16 +10,16 @@ use Rattle.ssh_wire.proofs.Digits.{IsBytes-take}
 use Rattle.krl_core.specs.declared.place.Place.{Place}
 use Rattle.krl_core.specs.declared.place.Place.TheVariants as places
 use Rattle.krl_core.specs.declared.place.serials.SerialsPlace.TheVariants as serials
-use Rattle.krl_core.specs.Crossing.{Crosses}
-use Rattle.krl_held.specs.Entry.{Entry, SerialsEntry}
+use Rattle.krl_core.specs.Buffered.{ReadsBuffered}
+use Rattle.krl_entries.specs.Entry.{Entry, SerialsEntry}
 use Rattle.krl_core.specs.Front.{Leads, Passes, State, start, state_after}
-use Rattle.krl_core.specs.Keeper.{InStep, IsKept, Keeper}
-use Rattle.krl_held.specs.Naming.{Name, SerialOf, SomeNames}
+use Rattle.krl_core.specs.FieldStore.{InStep, StoresEntries, FieldStore}
+use Rattle.krl_entries.specs.Naming.{Name, SerialOf, SomeNames}
 use Rattle.krl_core.specs.Place.{authority_after, header_after, names, next_serial}
-use Rattle.krl_held.specs.Scope.{AreUnwanted, InScope, Scope, serial_at}
-use Rattle.krl_held.proofs.Elements.{contains_cases, contains_none}
-use Rattle.krl_core.proofs.Keeping.{header_stays}
-use Rattle.krl_core.proofs.Skipping.{skipped_kept}
+use Rattle.krl_entries.specs.Scope.{AreOutOfScope, InScope, Scope, serial_at}
+use Rattle.krl_entries.proofs.Elements.{contains_cases, contains_none}
+use Rattle.krl_core.proofs.StoredEntries.{header_stays}
+use Rattle.krl_core.proofs.SkippedBits.{skipped_stored}
 use Rattle.krl_core.proofs.Walks.{Leads-append}
 
 -- the first serial numbers, as fields
@@ -94,31 +94,31 @@ serial_later bytes k =
     ap (λ (l : List ℕ). number_of (take 8 l)) (drop-drop (8 * k) 8 bytes ∙ ap (λ (n : ℕ). drop n bytes) (sym more))
 
 -- none of the serial numbers is in scope
-serials_unwanted : (count : ℕ) (scope : Scope) (a bytes : List ℕ) → AreUnwanted scope a bytes (8 * count)
+serials_skipped : (count : ℕ) (scope : Scope) (a bytes : List ℕ) → AreOutOfScope scope a bytes (8 * count)
     → (name : Name) → InScope scope name → SomeNames (serial_entries a count bytes) name → ⊥
 unfolding serial_entries
-serials_unwanted zero scope a bytes none name is h = h
-serials_unwanted (suc count) scope a bytes none (SerialOf b s) is (inl h) =
+serials_skipped zero scope a bytes none name is h = h
+serials_skipped (suc count) scope a bytes none (SerialOf b s) is (inl h) =
     let same : s ≡ number_of (take 8 bytes) = elim (contains_cases (number_of (take 8 bytes)) s [] h.1.1) [ inl e ↦ sym e | inr more ↦ absurd (contains_none s more) ] in
     none 0 (omega arith) (subst (λ (n : ℕ). InScope scope (SerialOf a n)) same (subst (λ (c : List ℕ). InScope scope (SerialOf c s)) (sym h.0) is))
-serials_unwanted (suc count) scope a bytes none name is (inl h) = h
-serials_unwanted (suc count) scope a bytes none name is (inr h) =
-    serials_unwanted count scope a (drop 8 bytes) (λ k fits. subst (λ (n : ℕ). InScope scope (SerialOf a n) → ⊥) (sym (serial_later bytes k)) (none (suc k) (omega (arith, fits)))) name is h
+serials_skipped (suc count) scope a bytes none name is (inl h) = h
+serials_skipped (suc count) scope a bytes none name is (inr h) =
+    serials_skipped count scope a (drop 8 bytes) (λ k fits. subst (λ (n : ℕ). InScope scope (SerialOf a n) → ⊥) (sym (serial_later bytes k)) (none (suc k) (omega (arith, fits)))) name is h
 
 still : (left after : ℕ) (bitmap : BitRuns) → bitmap.pending ≡ None → InStep (next_serial left after) bitmap
 still zero zero bitmap none = none
 still zero (suc after) bitmap none = none
 still (suc left) after bitmap none = none
 
--- the serial numbers are crossed because none of them is in scope
-pub crosses_serials : (count : ℕ) (keeper : Keeper) (left after : ℕ) (bytes : List ℕ) → 0 < left → keeper.bitmap.pending ≡ None → IsBytes bytes → 8 * count ≤ length bytes
-    → 8 * count ≤ left → AreUnwanted keeper.scope keeper.authority bytes (8 * count)
-    → Crosses (take (8 * count) bytes) (places.Serials (serials.Serial left after)) keeper (next_serial (left - 8 * count) after) keeper
-crosses_serials count keeper left after bytes pos none are there within unwanted = record {
-  kept = λ fields h.
+-- the serial numbers are read because none of them is in scope
+pub buffered_serials : (count : ℕ) (stored : FieldStore) (left after : ℕ) (bytes : List ℕ) → 0 < left → stored.bitmap.pending ≡ None → IsBytes bytes → 8 * count ≤ length bytes
+    → 8 * count ≤ left → AreOutOfScope stored.scope stored.authority bytes (8 * count)
+    → ReadsBuffered (take (8 * count) bytes) (places.Serials (serials.Serial left after)) stored (next_serial (left - 8 * count) after) stored
+buffered_serials count stored left after bytes pos none are there within out_of_scope = record {
+  stores = λ fields h.
       let here : h.state.place ≡ next_serial left after = sym h.place_is ∙ at_serial left after pos in
       let more = leads_serials count h.state left after bytes here there within in
-      let kept = skipped_kept keeper keeper h.state.entries (serial_entries keeper.authority count bytes) (serials_unwanted count keeper.scope keeper.authority bytes unwanted) refl refl none none h.kept in (
+      let stores = skipped_stored stored stored h.state.entries (serial_entries stored.authority count bytes) (serials_skipped count stored.scope stored.authority bytes out_of_scope) refl refl none none h.stores in (
         eights count bytes,
         (
           record {
@@ -126,13 +126,13 @@ crosses_serials count keeper left after bytes pos none are there within unwanted
             leads = Leads-append start h.state more.last fields (eights count bytes) h.leads more.leads;
             place_is = sym more.place_is;
             authority_is = h.authority_is ∙ sym more.authority_is;
-            header_is = header_stays keeper keeper h.state.header more.last.header refl refl more.header_is h.header_is;
-            kept = subst (IsKept keeper) (ap (λ (a : List ℕ). h.state.entries ++ serial_entries a count bytes) h.authority_is ∙ sym more.entries_are) kept;
+            header_is = header_stays stored stored h.state.header more.last.header refl refl more.header_is h.header_is;
+            stores = subst (StoresEntries stored) (ap (λ (a : List ℕ). h.state.entries ++ serial_entries a count bytes) h.authority_is ∙ sym more.entries_are) stores;
           },
           concat_eights count bytes,
         ),
       );
   are_bytes = IsBytes-take (8 * count) bytes are;
-  in_step = still (left - 8 * count) after keeper.bitmap none;
+  in_step = still (left - 8 * count) after stored.bitmap none;
   scope_is = refl;
 }

@@ -24,8 +24,8 @@ use Rattle.krl_core.specs.Place.{expected, next_item, next_subsection}
 use Rattle.krl_core.specs.Reading.{Says, ran_out, failed_read, first}
 use Rattle.krl_core.proofs.Fronts.{first_fault_is, one_reported}
 use Rattle.krl_core.proofs.PlaceRows.{Goes, goes_none, goes_one, goes_then, goes_from, arrives}
-use Rattle.krl_core.proofs.Rests.{LastFor, IsItem}
-use Rattle.krl_core.proofs.Spelled.{string_goes, content_goes, within_is, header_goes, items_go, any_size, extension_goes, subsections_go}
+use Rattle.krl_core.proofs.RestSpellings.{LastFor, IsItem}
+use Rattle.krl_core.proofs.SpelledFields.{string_goes, content_goes, within_is, header_goes, items_go, any_size, extension_goes, subsections_go}
 
 abbrev signed_after : SpelledSection → Bool
 signed_after Signature = true

@@ -1,8 +1,8 @@
 -- The entries of the sections of a list.
 use Rattle.std.specs.Prelude.{ℕ, List, [], ◌∷◌, map}
 use Rattle.std.specs.List.{flat_map}
-use Rattle.krl_held.specs.Entry.{Entry, SerialsEntry, RangeEntry, BitmapEntry, IdEntry, KeyEntry}
-use Rattle.krl_held.specs.Entry.{Sha1Entry, Sha256Entry}
+use Rattle.krl_entries.specs.Entry.{Entry, SerialsEntry, RangeEntry, BitmapEntry, IdEntry, KeyEntry}
+use Rattle.krl_entries.specs.Entry.{Sha1Entry, Sha256Entry}
 use Rattle.krl_core.specs.Krl.{SpelledSection, Certificates, Keys, Sha1s, Sha256s, Signature}
 use Rattle.krl_core.specs.Krl.{Extension, Subsection, Serials, Range, Bitmap, Ids}
 use Rattle.krl_core.specs.Krl.{SubsectionExtension}

@@ -8,7 +8,7 @@ use Rattle.krl_core.specs.declared.header.Header.{Header}
 use Rattle.krl_core.specs.declared.place.Place.{Place}
 use Rattle.krl_core.specs.declared.place.Place.TheVariants as places
 use Rattle.krl_core.specs.declared.place.header.HeaderPlace.TheVariants as headers
-use Rattle.krl_held.specs.Entry.{Entry}
+use Rattle.krl_entries.specs.Entry.{Entry}
 use Rattle.krl_core.specs.Place.{can_end, Expected, expected, names, authority_after, header_after}
 
 -- at most this many bytes of a list are read

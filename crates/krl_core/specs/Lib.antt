@@ -1,7 +1,7 @@
 pub mod Krl
 pub mod Place
 pub mod Front
-pub mod Keeper
-pub mod Crossing
+pub mod FieldStore
+pub mod Buffered
 pub mod Reading
 pub mod Entries

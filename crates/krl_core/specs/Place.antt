@@ -27,8 +27,8 @@ use Rattle.krl_core.specs.declared.place.serials.SerialsPlace.{SerialsPlace}
 use Rattle.krl_core.specs.declared.place.serials.SerialsPlace.TheVariants as serials
 use Rattle.krl_core.specs.declared.place.signature.SignaturePlace.{SignaturePlace}
 use Rattle.krl_core.specs.declared.place.signature.SignaturePlace.TheVariants as signatures
-use Rattle.krl_held.specs.Entry.{Entry, SerialsEntry, RangeEntry, BitmapEntry, IdEntry, KeyEntry}
-use Rattle.krl_held.specs.Entry.{Sha1Entry, Sha256Entry}
+use Rattle.krl_entries.specs.Entry.{Entry, SerialsEntry, RangeEntry, BitmapEntry, IdEntry, KeyEntry}
+use Rattle.krl_entries.specs.Entry.{Sha1Entry, Sha256Entry}
 use Rattle.krl_core.specs.Krl.{magic}
 
 -- An expected field: its size in bytes; the number of bytes that the part around it has left, if

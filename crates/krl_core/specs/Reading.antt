@@ -14,39 +14,40 @@ use Rattle.krl_core.specs.declared.place.Place.{Place}
 use Rattle.krl_core.specs.declared.place.Place.TheVariants as places
 use Rattle.krl_core.specs.declared.place.header.HeaderPlace.TheVariants as headers
 use Rattle.krl_core.specs.declared.header.Header.{Header}
-use Rattle.krl_held.specs.Revocations.{Revocations, Means, held, stored}
+use Rattle.krl_entries.specs.Revocations.{Revocations, Means, held, stored}
 use Rattle.krl_core.specs.Entries.{entries_of}
 use Rattle.krl_core.specs.Krl.{SpelledSection, Spells}
 use Rattle.krl_core.specs.Front.{State, start, Leads, Passes, HasRoom, IsFirstFault, limit}
-use Rattle.krl_core.specs.Keeper.{InStep, IsKept, Keeper, KeepsWithin, StoresWithin}
-use Rattle.krl_core.specs.Keeper.{held_with_open, kept_header}
+use Rattle.krl_core.specs.FieldStore.{InStep, StoresEntries, FieldStore, StoresInScope}
+use Rattle.krl_core.specs.FieldStore.{StoresAtMost}
+use Rattle.krl_core.specs.FieldStore.{held_with_open, stored_header}
 use Rattle.krl_core.specs.Place.{can_end, expected}
-use Rattle.krl_held.specs.Entry.{Entry}
-use Rattle.krl_held.specs.Scope.{IsSmallIn, MeansWithin, Scope, WithinScope, all}
+use Rattle.krl_entries.specs.Entry.{Entry}
+use Rattle.krl_entries.specs.Scope.{IsSmallIn, MeansInScope, Scope, IsInScope, all}
 
--- A walk: the reader, the place where the next field is expected, the keeper, whether the end of
--- the list was found, and the fault, if any.
+-- A walk: the reader, the place where the next field is expected, the field store, whether the end
+-- of the list was found, and the fault, if any.
 pub record Walk : Type 0 where
   pub pull : Pull
   pub place : Place
-  pub keeper : Keeper
+  pub stored : FieldStore
   pub ended : Bool
   pub fault : Option KrlFault
 
 -- a walk before the end of the list, without a fault
-abbrev pub working : Pull → Place → Keeper → Walk
-working pull place keeper =
-    record { pull = pull; place = place; keeper = keeper; ended = false; fault = None }
+abbrev pub working : Pull → Place → FieldStore → Walk
+working pull place stored =
+    record { pull = pull; place = place; stored = stored; ended = false; fault = None }
 
--- The walk has read exactly these fields of the text. They lead to its place, its keeper kept what
--- they name, and its reader has the rest of the text left.
+-- The walk has read exactly these fields of the text. They lead to its place, its field store
+-- stored what they name, and its reader has the rest of the text left.
 pub record HasRead (text : List ℕ) (fields : List (List ℕ)) (reading : Walk) : Type 0 where
   pub state : State
   pub leads : Leads start fields state
   pub place_is : reading.place ≡ state.place
-  pub authority_is : reading.keeper.authority ≡ state.authority
-  pub header_is : reading.keeper.header ≡ kept_header reading.keeper.scope state.header
-  pub kept : IsKept reading.keeper state.entries
+  pub authority_is : reading.stored.authority ≡ state.authority
+  pub header_is : reading.stored.header ≡ stored_header reading.stored.scope state.header
+  pub stores : StoresEntries reading.stored state.entries
   pub are_bytes : IsBytes (concat fields)
   pub rest : List ℕ
   pub left_is : left_of reading.pull ≡ Some rest
@@ -72,7 +73,7 @@ pub record Follows (old new : Walk) : Type 0 where
   pub passes : Passes old.place field new.place
   pub taken : new.pull.taken ≡ old.pull.taken + length field
   pub within : new.pull.taken ≤ limit
-  pub scope_is : new.keeper.scope ≡ old.keeper.scope
+  pub scope_is : new.stored.scope ≡ old.stored.scope
 
 -- The list is at its end: the end is expected, and no byte is left.
 pub record Ends (old new : Walk) : Type 0 where
@@ -80,7 +81,7 @@ pub record Ends (old new : Walk) : Type 0 where
   pub at_end : IsAtEnd (left_of new.pull)
   pub still : (text : List ℕ) (fields : List (List ℕ)) → HasRead text fields old
       → HasRead text fields new × (text ≡ concat fields)
-  pub scope_is : new.keeper.scope ≡ old.keeper.scope
+  pub scope_is : new.stored.scope ≡ old.stored.scope
 
 -- The reader failed after it gave the first bytes of the text, and has the later bytes left. The
 -- bytes that it gave have no fault, or end early.
@@ -155,13 +156,13 @@ pub data Missed (place : Place) (old : Pull) (fault : KrlFault) (new : Pull) : T
 -- The taken bytes are within the limit, and the stored entries within the scope. If all names are
 -- in scope, the number of stored spans and the stored bytes are bounded by the taken bytes. If only
 -- some topics are in scope, the stored entries are small compared with them.
-pub record IsBounded (pull : Pull) (keeper : Keeper) : Type 0 where
+pub record IsBounded (pull : Pull) (stored : FieldStore) : Type 0 where
   pub limit_is : pull.limit ≡ limit
   pub within : pull.taken ≤ limit
-  pub all_is : keeper.scope ≡ all
-      → (held_with_open keeper ≤ 4 * pull.taken) × StoresWithin keeper pull.taken
-  pub scope_is : KeepsWithin keeper
-  pub asked_is : IsSmallIn keeper.scope keeper.contents
+  pub all_is : stored.scope ≡ all
+      → (held_with_open stored ≤ 4 * pull.taken) × StoresAtMost stored pull.taken
+  pub scope_is : StoresInScope stored
+  pub asked_is : IsSmallIn stored.scope stored.contents
 
 -- The end of the list was found: it is expected, no byte is left, and there was no fault.
 pub record IsEnded (reading : Walk) : Type 0 where
@@ -171,31 +172,32 @@ pub record IsEnded (reading : Walk) : Type 0 where
 
 -- The walk is one that the code can reach.
 pub record IsReached (reading : Walk) : Type 0 where
-  pub in_step : reading.fault ≡ None → InStep reading.place reading.keeper.bitmap
+  pub in_step : reading.fault ≡ None → InStep reading.place reading.stored.bitmap
   pub pull_faultless : reading.fault ≡ None → reading.pull.fault ≡ None
   pub works : reading.fault ≡ None → reading.pull.failed ≡ false
   pub ends : reading.ended ≡ true → IsEnded reading
-  pub bounded : IsBounded reading.pull reading.keeper
+  pub bounded : IsBounded reading.pull reading.stored
 
 -- The stored entries mean what the entries name in scope, and are within the scope. If all names
 -- are in scope, they are bounded by the size of the text.
-pub record HoldsWithin (scope : Scope) (text : List ℕ) (r : Revocations) (entries : List Entry)
+pub record HoldsInScope (scope : Scope) (text : List ℕ) (r : Revocations) (entries : List Entry)
     : Type 0 where
-  pub means : MeansWithin scope r entries
-  pub within : WithinScope scope r
+  pub means : MeansInScope scope r entries
+  pub within : IsInScope scope r
   pub bounds : scope ≡ all → (held r ≤ 4 * length text) × (stored r ≤ length text)
 
 -- The stored entries are within the scope. If all names are in scope, they are bounded by the
 -- largest size of a list. If only some topics are in scope, the stored entries are small compared
 -- with them.
 pub record IsWithinLimit (scope : Scope) (r : Revocations) : Type 0 where
-  pub within : WithinScope scope r
+  pub within : IsInScope scope r
   pub asked_is : IsSmallIn scope r
   pub bounds : scope ≡ all → (held r ≤ 4 * limit) × (stored r ≤ limit)
 
--- A property holds of a header whose kept parts are `kept`.
-abbrev pub OfHeader : Scope → (kept : Header) → (Header → Type 0) → Type 0
-OfHeader scope kept Holds = (header : Header) × (kept ≡ kept_header scope header) × Holds header
+-- A property holds of a header whose stored parts are `stored`.
+abbrev pub OfHeader : Scope → (stores : Header) → (Header → Type 0) → Type 0
+OfHeader scope stores Holds =
+    (header : Header) × (stores ≡ stored_header scope header) × Holds header
 
 -- The stored entries mean all that the entries name, and are bounded by the size of the text.
 pub record HoldsAll (text : List ℕ) (r : Revocations) (entries : List Entry) : Type 0 where
@@ -256,7 +258,7 @@ ReadsMore old new =
 pub record Leaps (old new : Walk) : Type 0 where
   pub taken : old.pull.taken < new.pull.taken
   pub within : new.pull.taken ≤ limit
-  pub scope_is : new.keeper.scope ≡ old.keeper.scope
+  pub scope_is : new.stored.scope ≡ old.stored.scope
 
 -- One field or some bytes were taken.
 abbrev pub Advances : Walk → Walk → Type 0

@@ -1,17 +1,17 @@
 //! Key revocation lists (PROTOCOL.krl).
 #![tactic(auto)]
 
-mod crossing;
+mod buffered;
 mod header;
 mod judging;
-mod keeper;
+mod field_store;
 pub mod laws;
 mod place;
 mod read;
 mod reading;
 
 pub use header::{Header, MAGIC};
-pub use krl_held::{Authorities, Findings, Listed, Questions, Revocations, Store, Texts};
+pub use krl_entries::{Authorities, Findings, Listed, Questions, Revocations, Store, Texts};
 pub use krl_types::KrlFault;
 pub use place::{
     BitmapPlace, CertificatesPlace, ExtensionPlace, HeaderPlace, ItemKind, ListPlace, Place,

@@ -1,6 +1,7 @@
 //! The places in a list where a field can be expected (PROTOCOL.krl).
 
-ghost use Rattle.std.specs.Prelude.{◌≡◌, ◌≢◌, ◌↔◌, ◌++◌, ◌≤◌, IfSome, IsTrue, List, ℕ, None, length, take};
+ghost use Rattle.std.specs.Prelude.{◌≡◌, ◌≢◌, ◌↔◌, ◌++◌, ◌≤◌, IfSome, IsTrue, List, ℕ, None};
+ghost use Rattle.std.specs.Prelude.{length, take};
 ghost use Rattle.krl_core.specs.Place.{can_end, expected};
 ghost use Rattle.krl_core.specs.Front.{HasRoom, Passes};
 ghost use Rattle.krl_core.specs.declared.place.Place.{Place as PlaceOf};
@@ -18,7 +19,7 @@ pub use bitmap::BitmapPlace;
 pub use certificates::CertificatesPlace;
 pub use extension::ExtensionPlace;
 pub use header::HeaderPlace;
-use krl_held::byte_of;
+use krl_entries::byte_of;
 use krl_types::KrlFault;
 pub use list::{ItemKind, ListPlace};
 pub use serials::SerialsPlace;
@@ -110,8 +111,8 @@ impl Place {
         }
     }
 
-    /// The size in bytes of the expected field, and the place after it, if the field is whole at the
-    /// front of these bytes and passes its judgement.
+    /// The size in bytes of the expected field, and the place after it, if the field is whole at
+    /// the front of these bytes and passes its judgement.
     #[inline(always)]
     pub fn passes(self, bytes: &[u8]) -> Option<(usize, Place)>
         ensures within { IfSome result (λ field. field.0 ≤ length bytes.now) }

@@ -1,23 +1,24 @@
 //! Reading a list to its end, or up to a number of bytes.
 
-ghost use Rattle.std.specs.Prelude.{◌≡◌, ◌+◌, ◌*◌, ◌<◌, ◌≤◌, ◌⊎◌, length, false, true, ℕ, List, None};
+ghost use Rattle.std.specs.Prelude.{◌≡◌, ◌+◌, ◌*◌, ◌<◌, ◌≤◌, ◌⊎◌, length, false, true, ℕ, List};
+ghost use Rattle.std.specs.Prelude.{None};
 ghost use Rattle.std.specs.Prelude.{Some, Ok, Err};
 ghost use Rattle.std.specs.Prelude.{IfErr, IfOk, IfSome, IsTrue, OnOk};
 ghost use Rattle.ssh_wire.specs.Wire.{IsBytes};
 ghost use Rattle.krl_core.specs.declared.header.Header.{Header as HeaderOf};
 ghost use Rattle.krl_types.specs.declared.krl_fault.KrlFault.TheVariants.{NoMemory, Read};
-ghost use Rattle.krl_held.specs.Revocations.{held, stored};
+ghost use Rattle.krl_entries.specs.Revocations.{held, stored};
 ghost use Rattle.krl_core.specs.Front.{IsFirstFault, limit};
 ghost use Rattle.krl_core.specs.Krl.{SpelledSection, Spells};
 ghost use Rattle.krl_core.specs.Place.{expected};
-ghost use Rattle.krl_core.specs.Reading.{EndsAfter, HasRead, HoldsWithin, IsBounded, IsList};
+ghost use Rattle.krl_core.specs.Reading.{EndsAfter, HasRead, HoldsInScope, IsBounded, IsList};
 ghost use Rattle.krl_core.specs.Reading.{IsListAs, IsWithinLimit, OfHeader, ReadsMore, Refused};
 ghost use Rattle.krl_core.specs.Reading.{ReportsFailure, Says};
 
 use crate::header::Header;
 use crate::reading::Walk;
 use byte_streams::Source;
-use krl_held::{Gathered, Revocations, Store};
+use krl_entries::{Gathered, Revocations, Store};
 use krl_types::KrlFault;
 use serial_set::Spans;
 use std::alloc::Global;
@@ -63,8 +64,8 @@ impl<T: Store, R: Source + Drop> Walk<T, R> {
         ensures found { IfOk result.0 (λ list. (text : List ℕ) (fields : List (List ℕ))
             → HasRead text fields self
             → OfHeader (T.scope list.1) list.0 (λ header.
-            IsListAs (HoldsWithin (T.scope list.1)) text header (T.contents list.1))) }
-        ensures scope { IfOk result.0 (λ list. T.scope list.1 ≡ self.keeper.scope) }
+            IsListAs (HoldsInScope (T.scope list.1)) text header (T.contents list.1))) }
+        ensures scope { IfOk result.0 (λ list. T.scope list.1 ≡ self.stored.scope) }
         ensures within { IfOk result.0
             (λ list. IsWithinLimit (T.scope list.1) (T.contents list.1)) }
         ensures no_fault { IfOk result.0 (λ _. (text : List ℕ) (fields : List (List ℕ))
@@ -76,7 +77,7 @@ impl<T: Store, R: Source + Drop> Walk<T, R> {
     {
         let mut walk = self;
         'fields: loop {
-            match walk.stride() {
+            match walk.read_fields() {
                 Ok(true) => {}
                 Ok(false) => {
                     let (header, store, reader) = walk.end();
@@ -98,14 +99,14 @@ impl<T: Store, R: Source + Drop> Walk<T, R> {
         ensures ends { IfOk result (λ more. more ≡ false → EndsAfter self.old self.new) }
         ensures ended { IfOk result (λ more. more ≡ false → self.new.ended ≡ true) }
         ensures rests { self.old.ended ≡ true → (result ≡ Ok false) × (self.new ≡ self.old) }
-        ensures scope { OnOk result (self.new.keeper.scope ≡ self.old.keeper.scope) }
+        ensures scope { OnOk result (self.new.stored.scope ≡ self.old.stored.scope) }
         ensures fault { IfErr result (λ fault. Refused fault self.old self.new.pull) }
         ensures failure { self.old.fault ≡ None → ReportsFailure result self.new.pull.failed }
         ensures stays { IfErr result (λ fault. self.new.fault ≡ Some fault) }
         ensures again { IfSome self.old.fault (λ fault.
             (result ≡ Err fault) × (self.new ≡ self.old)) }
         ensures working { OnOk result (self.new.fault ≡ None) }
-        ensures bounds { IsBounded self.new.pull self.new.keeper }
+        ensures bounds { IsBounded self.new.pull self.new.stored }
     {
         if let Some(fault) = self.fault {
             return Err(fault);

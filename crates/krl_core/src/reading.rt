@@ -6,24 +6,26 @@ ghost use Rattle.ssh_wire.specs.Wire.{IsBytes};
 ghost use Rattle.byte_streams.specs.Pull.{Refuses, Takes};
 ghost use Rattle.ssh_wire.specs.declared.pull_fault.PullFault.TheVariants as pulls;
 ghost use Rattle.krl_types.specs.declared.krl_fault.KrlFault.TheVariants.{NoMemory, Read};
-ghost use Rattle.krl_held.specs.Revocations.{IsOrderly, held, nothing, serials_in, stored};
+ghost use Rattle.krl_entries.specs.Revocations.{IsOrderly, held, nothing, serials_in, stored};
 ghost use Rattle.krl_core.specs.Front.{HasRoom, Passes, limit};
-ghost use Rattle.krl_core.specs.Keeper.{GrowsWithin, InStep, KeepsField, StoresWithin, held_with_open};
+ghost use Rattle.krl_core.specs.FieldStore.{GrowsAtMost, InStep, StoresField, StoresAtMost};
+ghost use Rattle.krl_core.specs.FieldStore.{held_with_open};
 ghost use Rattle.krl_core.specs.Place.{can_end, expected};
-ghost use Rattle.krl_held.specs.Questions.{Asks, AsksMore, FindsIn, asked_in, subject_size};
-ghost use Rattle.krl_core.specs.Reading.{Advances, Ends, Follows, HasRead, HoldsWithin, IsBounded, IsReached};
+ghost use Rattle.krl_entries.specs.Questions.{Asks, AsksMore, FindsIn, asked_in, subject_size};
+ghost use Rattle.krl_core.specs.Reading.{Advances, Ends, Follows, HasRead, HoldsInScope, IsBounded};
+ghost use Rattle.krl_core.specs.Reading.{IsReached};
 ghost use Rattle.krl_core.specs.Reading.{ReadsMore};
 ghost use Rattle.krl_core.specs.Reading.{IsList, IsWhole, IsWholeAs, IsWithinLimit, LooksFor};
 ghost use Rattle.krl_core.specs.Reading.{Missed, OfHeader, ReadsOneMore, Refused};
 ghost use Rattle.krl_core.specs.Reading.{ReportsFailure, is_fixed, working};
-ghost use Rattle.krl_held.specs.Scope.{WithinScope, all};
+ghost use Rattle.krl_entries.specs.Scope.{IsInScope, all};
 
-use crate::crossing::cross;
+use crate::buffered::read_buffered;
 use crate::header::Header;
-use crate::keeper::Keeper;
+use crate::field_store::FieldStore;
 use crate::place::{HeaderPlace, Place};
 use byte_streams::{Pull, Source};
-use krl_held::{Findings, Questions, Revocations, Store};
+use krl_entries::{Findings, Questions, Revocations, Store};
 use krl_types::{KrlFault, Subject};
 use serial_set::Spans;
 use std::alloc::{AllocError, Global};
@@ -35,13 +37,13 @@ pub const LIMIT: u64 = 67_108_864;
 // A field of at most this many bytes needs no allocation: numbers, lengths and hashes.
 const SMALL: usize = 32;
 
-/// A walk reads a list from a reader in one pass, into a store. Beside what its keeper keeps, it
-/// holds only the current field of the list, which in a bitmap is one byte.
+/// A walk reads a list from a reader in one pass, into a store. Beside what its field store stores,
+/// it holds only the current field of the list, which in a bitmap is one byte.
 #[derive(Drop)]
 pub struct Walk<T: Store, R: Source + Drop> {
     pub(crate) pull: Pull<R>,
     place: Place,
-    keeper: Keeper<T>,
+    stored: FieldStore<T>,
     // the current field, if it is large
     large: Vec<u8>,
     pub(crate) ended: bool,
@@ -56,7 +58,7 @@ impl<T: Store, R: Source + Drop> Model for Walk<T, R> {
     ghost view = { λ reading. record {
       pull = reading.pull;
       place = reading.place;
-      keeper = reading.keeper;
+      stored = reading.stored;
       ended = reading.ended;
       fault = reading.fault;
     } };
@@ -64,7 +66,7 @@ impl<T: Store, R: Source + Drop> Model for Walk<T, R> {
     ghost invariant = { λ reading. Reached (record {
       pull = reading.pull;
       place = reading.place;
-      keeper = reading.keeper;
+      stored = reading.stored;
       ended = reading.ended;
       fault = reading.fault;
     }) };
@@ -78,21 +80,21 @@ impl<S: Spans, R: Source + Drop> Walk<Revocations<S>, R> {
     pub fn new(alloc: Global, reader: R) -> Self
         requires { R.has_failed reader ≡ false }
         ensures start { (text : List ℕ) → R.left reader ≡ Some text → HasRead text [] result }
-        ensures bounds { IsBounded result.pull result.keeper }
+        ensures bounds { IsBounded result.pull result.stored }
         ensures untaken { result.pull.taken ≡ 0 }
         ensures faultless { result.fault ≡ None }
-        ensures all { result.keeper.scope ≡ all }
+        ensures all { result.stored.scope ≡ all }
     {
         Walk::over(alloc, Revocations::new(alloc), reader)
     }
 
     /// The number of spans that are stored so far, with the open run of a bitmap as one more.
     pub fn held(&self) -> u128
-        ensures value { result ≡ held_with_open self.now.keeper }
+        ensures value { result ≡ held_with_open self.now.stored }
         ensures four_a_byte { result ≤ 4 * self.now.pull.taken }
-        ensures stored { StoresWithin self.now.keeper self.now.pull.taken }
+        ensures stored { StoresAtMost self.now.stored self.now.pull.taken }
     {
-        self.keeper.held()
+        self.stored.held()
     }
 
     /// The header, the stored entries and the reader, after a step that returned false.
@@ -121,11 +123,11 @@ impl<S: Spans, R: Source + Drop> Walk<Revocations<S>, R> {
         questions: &mut Questions<S>,
         subject: &Subject,
     ) -> Result<(), AllocError>
-        requires { FindsIn self.now.keeper.contents questions.old }
+        requires { FindsIn self.now.stored.contents questions.old }
         ensures asked { OnOk result (Asks questions.new.topics subject.now) }
         ensures orderly { IsOrderly questions.new.topics }
         ensures more { OnOk result (AsksMore questions.old.topics questions.new.topics) }
-        ensures found { OnOk result (FindsIn self.now.keeper.contents questions.new) }
+        ensures found { OnOk result (FindsIn self.now.stored.contents questions.new) }
         ensures serials { serials_in questions.new.topics.sections
             ≤ serials_in questions.old.topics.sections + 2 }
         ensures stored { stored questions.new.topics
@@ -133,23 +135,23 @@ impl<S: Spans, R: Source + Drop> Walk<Revocations<S>, R> {
         ensures keys { length questions.new.topics.keys
             ≤ length questions.old.topics.keys + 2 }
     {
-        questions.ask(self.keeper.held_so_far(), subject)
+        questions.ask(self.stored.stored_so_far(), subject)
     }
 
     /// Continues with the questions alone. They already have what the stored entries name of their
     /// topics. The comment is dropped. The answers come at the end of the list.
     pub fn ask(self, alloc: Global, questions: Questions<S>) -> Walk<Findings<S>, R>
-        requires { FindsIn self.keeper.contents questions }
+        requires { FindsIn self.stored.contents questions }
         ensures reads { (text : List ℕ) (fields : List (List ℕ)) → HasRead text fields self
             → HasRead text fields result }
-        ensures scope { result.keeper.scope ≡ asked_in questions }
+        ensures scope { result.stored.scope ≡ asked_in questions }
         ensures fault { result.fault ≡ self.fault }
-        ensures bounds { IsBounded result.pull result.keeper }
+        ensures bounds { IsBounded result.pull result.stored }
     {
         let Walk {
             pull,
             place,
-            keeper,
+            stored,
             large,
             ended,
             fault,
@@ -157,7 +159,7 @@ impl<S: Spans, R: Source + Drop> Walk<Revocations<S>, R> {
         Walk {
             pull,
             place,
-            keeper: keeper.ask(alloc, questions),
+            stored: stored.ask(alloc, questions),
             large,
             ended,
             fault,
@@ -170,18 +172,18 @@ impl<T: Store, R: Source + Drop> Walk<T, R> {
     /// before.
     pub fn over(alloc: Global, store: T, reader: R) -> Self
         requires empty { T.contents store ≡ nothing }
-        requires within { WithinScope (T.scope store) nothing }
+        requires within { IsInScope (T.scope store) nothing }
         requires fresh { R.has_failed reader ≡ false }
         ensures start { (text : List ℕ) → R.left reader ≡ Some text → HasRead text [] result }
-        ensures bounds { IsBounded result.pull result.keeper }
+        ensures bounds { IsBounded result.pull result.stored }
         ensures untaken { result.pull.taken ≡ 0 }
         ensures faultless { result.fault ≡ None }
-        ensures scope { result.keeper.scope ≡ T.scope store }
+        ensures scope { result.stored.scope ≡ T.scope store }
     {
         Walk {
             pull: Pull::new(reader, LIMIT),
             place: Place::Header(HeaderPlace::Magic),
-            keeper: Keeper::new(alloc, store),
+            stored: FieldStore::new(alloc, store),
             large: Vec::new(alloc),
             ended: false,
             fault: None,
@@ -206,7 +208,7 @@ impl<T: Store, R: Source + Drop> Walk<T, R> {
         ensures again { IfSome self.old.fault (λ fault.
             (result ≡ Err fault) × (self.new ≡ self.old)) }
         ensures working { OnOk result (self.new.fault ≡ None) }
-        ensures bounds { IsBounded self.new.pull self.new.keeper }
+        ensures bounds { IsBounded self.new.pull self.new.stored }
     {
         if let Some(fault) = self.fault {
             return Err(fault);
@@ -214,10 +216,10 @@ impl<T: Store, R: Source + Drop> Walk<T, R> {
         if self.ended {
             return Ok(false);
         }
-        match advance(
+        match read_field(
             &mut self.pull,
             &mut self.place,
-            &mut self.keeper,
+            &mut self.stored,
             &mut self.large,
         ) {
             Ok(more) => {
@@ -232,7 +234,7 @@ impl<T: Store, R: Source + Drop> Walk<T, R> {
     }
 
     /// Does the same as `step`, but may read many fields that are in the reader's buffer.
-    pub fn stride(&mut self) -> Result<bool, KrlFault>
+    pub fn read_fields(&mut self) -> Result<bool, KrlFault>
         ensures more { IfOk result (λ more. IsTrue more → ReadsMore self.old self.new) }
         ensures advances { IfOk result (λ more. IsTrue more → Advances self.old self.new) }
         ensures ends { IfOk result (λ more. more ≡ false → Ends self.old self.new) }
@@ -246,7 +248,7 @@ impl<T: Store, R: Source + Drop> Walk<T, R> {
         ensures again { IfSome self.old.fault (λ fault.
             (result ≡ Err fault) × (self.new ≡ self.old)) }
         ensures working { OnOk result (self.new.fault ≡ None) }
-        ensures bounds { IsBounded self.new.pull self.new.keeper }
+        ensures bounds { IsBounded self.new.pull self.new.stored }
     {
         if let Some(fault) = self.fault {
             return Err(fault);
@@ -254,10 +256,10 @@ impl<T: Store, R: Source + Drop> Walk<T, R> {
         if self.ended {
             return Ok(false);
         }
-        match advance_far(
+        match read_fields(
             &mut self.pull,
             &mut self.place,
-            &mut self.keeper,
+            &mut self.stored,
             &mut self.large,
         ) {
             Ok(more) => {
@@ -277,12 +279,12 @@ impl<T: Store, R: Source + Drop> Walk<T, R> {
         requires { self.ended ≡ true }
         ensures whole { (text : List ℕ) → (fields : List (List ℕ)) → HasRead text fields self
             → OfHeader (T.scope result.1) result.0 (λ header.
-            IsWholeAs (HoldsWithin (T.scope result.1)) text header (T.contents result.1)) }
+            IsWholeAs (HoldsInScope (T.scope result.1)) text header (T.contents result.1)) }
         ensures within { IsWithinLimit (T.scope result.1) (T.contents result.1) }
-        ensures scope { T.scope result.1 ≡ self.keeper.scope }
+        ensures scope { T.scope result.1 ≡ self.stored.scope }
         ensures failed { R.has_failed result.2 ≡ self.pull.failed }
     {
-        let (header, store) = self.keeper.done();
+        let (header, store) = self.stored.done();
         (header, store, self.pull.into_inner())
     }
 
@@ -353,85 +355,85 @@ fn take<'a, R: Source + Drop>(
     Ok(large.as_slice())
 }
 
-// Judges the field that was taken, keeps what it names, and returns the place after it.
+// Judges the field that was taken, stores what it names, and returns the place after it.
 #[inline(always)]
-fn pass<T: Store>(place: Place, keeper: &mut Keeper<T>, field: &[u8]) -> Result<Place, KrlFault>
+fn judge_and_store<T: Store>(place: Place, stored: &mut FieldStore<T>, field: &[u8]) -> Result<Place, KrlFault>
     requires room { HasRoom (expected place) }
     requires size { length field.now ≡ (expected place).size }
-    requires in_step { InStep place keeper.old.bitmap }
+    requires in_step { InStep place stored.old.bitmap }
     ensures passes { IfOk result (λ next. Passes place field.now next) }
-    ensures keeps { IfOk result (λ next.
-        KeepsField place field.now next keeper.old keeper.new) }
+    ensures stores_field { IfOk result (λ next.
+        StoresField place field.now next stored.old stored.new) }
     ensures bytes { IsBytes field.now }
-    ensures grows { GrowsWithin (length field.now) keeper.old keeper.new }
+    ensures grows { GrowsAtMost (length field.now) stored.old stored.new }
     ensures err { IfErr result (λ fault. ((fault ≡ NoMemory) × (is_fixed place ≡ false))
         ⊎ ((expected place).judged field.now ≡ Err fault)) }
 {
     let next = place.after(field)?;
-    keeper.keep(place, field, next)?;
+    stored.store_field(place, field, next)?;
     Ok(next)
 }
 
-// Crosses the fields in the reader's buffer. If there are none, reads a field or finds the end of
+// Reads the fields in the reader's buffer. If there are none, reads a field or finds the end of
 // the list.
-fn advance_far<T: Store, R: Source + Drop>(
+fn read_fields<T: Store, R: Source + Drop>(
     pull: &mut Pull<R>,
     place: &mut Place,
-    keeper: &mut Keeper<T>,
+    stored: &mut FieldStore<T>,
     large: &mut Vec<u8>,
 ) -> Result<bool, KrlFault>
-    requires { IsReached (working pull.old place.old keeper.old) }
+    requires { IsReached (working pull.old place.old stored.old) }
     ensures more { IfOk result (λ more. IsTrue more → ReadsMore
-        (working pull.old place.old keeper.old) (working pull.new place.new keeper.new)) }
+        (working pull.old place.old stored.old) (working pull.new place.new stored.new)) }
     ensures advances { IfOk result (λ more. IsTrue more → Advances
-        (working pull.old place.old keeper.old) (working pull.new place.new keeper.new)) }
+        (working pull.old place.old stored.old) (working pull.new place.new stored.new)) }
     ensures ends { IfOk result (λ more. more ≡ false → Ends
-        (working pull.old place.old keeper.old) (working pull.new place.new keeper.new)) }
+        (working pull.old place.old stored.old) (working pull.new place.new stored.new)) }
     ensures fault { IfErr result (λ fault. Refused fault
-        (working pull.old place.old keeper.old) pull.new) }
-    ensures sound { OnOk result (IsReached (working pull.new place.new keeper.new)) }
+        (working pull.old place.old stored.old) pull.new) }
+    ensures sound { OnOk result (IsReached (working pull.new place.new stored.new)) }
     ensures failure { ReportsFailure result pull.new.failed }
-    ensures bounds { IsBounded pull.new keeper.new }
+    ensures bounds { IsBounded pull.new stored.new }
 {
     if let Place::Header(_) = *place {
-        return advance(pull, place, keeper, large);
+        return read_field(pull, place, stored, large);
     }
-    let (count, crossed) = cross(place, keeper, pull.buffer());
+    let (count, done) = read_buffered(place, stored, pull.buffer());
     if count == 0 {
-        return advance(pull, place, keeper, large);
+        return read_field(pull, place, stored, large);
     }
     pull.consume(count);
-    match crossed {
+    match done {
         Ok(()) => Ok(true),
         Err(_) => Err(KrlFault::NoMemory),
     }
 }
 
 // Reads a field, or finds the end of the list.
-fn advance<T: Store, R: Source + Drop>(
+fn read_field<T: Store, R: Source + Drop>(
     pull: &mut Pull<R>,
     place: &mut Place,
-    keeper: &mut Keeper<T>,
+    stored: &mut FieldStore<T>,
     large: &mut Vec<u8>,
 ) -> Result<bool, KrlFault>
-    requires { IsReached (working pull.old place.old keeper.old) }
+    requires { IsReached (working pull.old place.old stored.old) }
     ensures more { IfOk result (λ more. IsTrue more → ReadsOneMore
-        (working pull.old place.old keeper.old) (working pull.new place.new keeper.new)) }
+        (working pull.old place.old stored.old) (working pull.new place.new stored.new)) }
     ensures follows { IfOk result (λ more. IsTrue more → Follows
-        (working pull.old place.old keeper.old) (working pull.new place.new keeper.new)) }
+        (working pull.old place.old stored.old) (working pull.new place.new stored.new)) }
     ensures ends { IfOk result (λ more. more ≡ false → Ends
-        (working pull.old place.old keeper.old) (working pull.new place.new keeper.new)) }
+        (working pull.old place.old stored.old) (working pull.new place.new stored.new)) }
     ensures fault { IfErr result (λ fault. Refused fault
-        (working pull.old place.old keeper.old) pull.new) }
-    ensures sound { OnOk result (IsReached (working pull.new place.new keeper.new)) }
+        (working pull.old place.old stored.old) pull.new) }
+    ensures sound { OnOk result (IsReached (working pull.new place.new stored.new)) }
     ensures failure { ReportsFailure result pull.new.failed }
-    ensures bounds { IsBounded pull.new keeper.new }
+    ensures bounds { IsBounded pull.new stored.new }
 {
     if ends(pull, *place)? {
         return Ok(false);
     }
     let mut small = [0; SMALL];
     let field = take(pull, *place, &mut small, large)?;
-    *place = pass(*place, keeper, field)?;
+    *place = judge_and_store(*place, stored, field)?;
     Ok(true)
 }

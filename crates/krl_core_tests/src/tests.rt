@@ -7,7 +7,7 @@ mod hostile;
 mod lists;
 mod many;
 mod page;
-mod passing;
+mod streaming;
 mod reading;
 mod reasons;
 mod rows;

@@ -9,8 +9,8 @@ use Rattle.std.specs.Str.{str_eq_ignore_ascii_case}
 use Rattle.std.specs.Str.Parse.{digits_value}
 use Rattle.key_text.specs.declared.hash.Hash.{Hash}
 use Rattle.key_text.specs.declared.hash.Hash.TheVariants.{Md5, Sha256}
-use Rattle.krl_job.specs.declared.job.Authority.{Authority}
-use Rattle.krl_job.specs.declared.job.Authority.TheVariants.{NotGiven, All, File}
+use Rattle.krl_job.specs.declared.job.AuthorityOption.{AuthorityOption}
+use Rattle.krl_job.specs.declared.job.AuthorityOption.TheVariants.{NotGiven, All, File}
 use Rattle.krl_job.specs.declared.job.Job.{Job}
 use Rattle.krl_job.specs.declared.job.Mode.{Mode}
 use Rattle.krl_job.specs.declared.job.Mode.TheVariants.{Keys, Certs, Make, Query}
@@ -22,13 +22,13 @@ pub record Asked : Type 0 where
   pub mode : Mode
   pub file : List ℕ
   pub update : Bool
-  pub authority : Authority (List ℕ)
+  pub authority : AuthorityOption (List ℕ)
   pub version : Option ℕ
   pub dump : Bool
   pub hash : Hash
   pub files : List (List ℕ)
 
-abbrev pub authority_of : Authority (Bor (List ℕ)) → Authority (List ℕ)
+abbrev pub authority_of : AuthorityOption (Bor (List ℕ)) → AuthorityOption (List ℕ)
 authority_of NotGiven = NotGiven
 authority_of All = All
 authority_of (File name) = File name.now
@@ -71,11 +71,11 @@ abbrev pub version_named : Option (List ℕ) → Option (Option ℕ)
 version_named None = Some None
 version_named (Some text) = option_map (λ version. Some version) (number_of text)
 
-abbrev pub authority_called : List ℕ → Authority (List ℕ)
+abbrev pub authority_called : List ℕ → AuthorityOption (List ℕ)
 authority_called text =
     if str_eq_ignore_ascii_case text (codes "none") then All else File text
 
-abbrev pub authority_named : Option (List ℕ) → Authority (List ℕ)
+abbrev pub authority_named : Option (List ℕ) → AuthorityOption (List ℕ)
 authority_named None = NotGiven
 authority_named (Some text) = authority_called text
 

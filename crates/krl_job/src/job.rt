@@ -4,7 +4,9 @@ ghost use Rattle.std.specs.Prelude.{◌≡◌, option_map};
 ghost use Rattle.std.specs.Char.{is_ascii_digit};
 ghost use Rattle.std.specs.List.{list_all};
 ghost use Rattle.krl_job.specs.Given.{given_by};
-ghost use Rattle.krl_job.specs.Job.{asked_of, authority_named, authority_of, fits, hash_called, hash_named, is_for_making, job_of, mode_of, number_of, version_named};
+ghost use Rattle.krl_job.specs.Job.{asked_of, authority_named, authority_of, fits, hash_called};
+ghost use Rattle.krl_job.specs.Job.{hash_named, is_for_making, job_of, mode_of, number_of};
+ghost use Rattle.krl_job.specs.Job.{version_named};
 
 use crate::given::Given;
 use key_text::Hash;
@@ -27,7 +29,7 @@ pub enum Mode {
 
 /// The value of `-s`: the certificate authority whose serials and key IDs a new list names.
 #[derive(Drop)]
-pub enum Authority<T> {
+pub enum AuthorityOption<T> {
     /// `-s` is not given.
     NotGiven,
     /// All authorities.
@@ -47,7 +49,7 @@ pub struct Job<'a> {
     /// Whether the list is updated instead of created.
     pub update: bool,
     /// The authority of `-s`.
-    pub authority: Authority<&'a str>,
+    pub authority: AuthorityOption<&'a str>,
     /// The version of `-z`.
     pub version: Option<u64>,
     /// Whether the content of the list is printed.
@@ -166,12 +168,12 @@ fn are_digits(bytes: &[u8]) -> bool
 }
 
 // The authority of `-s`, if it is given: `none` means all, any other value is a file.
-fn authority_named(name: Option<&str>) -> Authority<&str>
+fn authority_named(name: Option<&str>) -> AuthorityOption<&str>
     ensures { authority_of result ≡ authority_named (option_map (λ text. text.now) name.entry) }
 {
     match name {
-        None => Authority::NotGiven,
-        Some(name) if name.eq_ignore_ascii_case("none") => Authority::All,
-        Some(name) => Authority::File(name),
+        None => AuthorityOption::NotGiven,
+        Some(name) if name.eq_ignore_ascii_case("none") => AuthorityOption::All,
+        Some(name) => AuthorityOption::File(name),
     }
 }

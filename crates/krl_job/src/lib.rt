@@ -5,4 +5,4 @@ mod given;
 mod job;
 
 pub use given::Given;
-pub use job::{Authority, Job, Mode, job_of, number_of};
+pub use job::{AuthorityOption, Job, Mode, job_of, number_of};

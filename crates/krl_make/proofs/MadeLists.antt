@@ -14,10 +14,10 @@ use Rattle.key_text.specs.Lines.{is_newline}
 use Rattle.key_text.specs.declared.line_fault.LineFault.{LineFault}
 use Rattle.key_text.specs.declared.private_fault.PrivateFault.{PrivateFault}
 use Rattle.krl_writer.proofs.ReadBack.{written_spelled}
-use Rattle.krl_held.proofs.Tested.{revokes_meant}
-use Rattle.krl_held.specs.Revocations.{Revocations, Means, held}
+use Rattle.krl_entries.proofs.RevokedTests.{revokes_meant}
+use Rattle.krl_entries.specs.Revocations.{Revocations, Means, held}
 use Rattle.krl_core.specs.Entries.{entries_of}
-use Rattle.krl_held.specs.Entry.{Entry}
+use Rattle.krl_entries.specs.Entry.{Entry}
 use Rattle.krl_core.specs.Front.{IsFirstFault, limit}
 use Rattle.krl_writer.specs.KrlText.{IsKrlText}
 use Rattle.krl_core.specs.Reading.{IsList}
@@ -27,8 +27,8 @@ use Rattle.krl_make.specs.declared.base.Base.{Base}
 use Rattle.krl_make.specs.Making.{Added, HasNumbers, IsAtHand, IsFileAtHand, authority_file, lines, new_list, old_list, IsOldList, HoldsMore, IsRunFault, Made, Makes, NamesSame, Returns, WritesList, WritesMade, WritesMore, after_old, base_of, cause_run_fault, file_entries, file_key, file_run_fault, files_entries, first_blob, first_key_of, header_of, made_of, make_run_of, named_blob, key_blob, text_entries, then_entries, version_of, paid}
 use Rattle.key_files.specs.RunFault.{krl_cause}
 use Rattle.key_files.specs.declared.cause.Cause.TheVariants as causes
-use Rattle.krl_job.specs.declared.job.Authority.{Authority}
-use Rattle.krl_job.specs.declared.job.Authority.TheVariants.{File as FileOf}
+use Rattle.krl_job.specs.declared.job.AuthorityOption.{AuthorityOption}
+use Rattle.krl_job.specs.declared.job.AuthorityOption.TheVariants.{File as FileOf}
 use Rattle.krl_types.specs.declared.krl_fault.KrlFault.TheVariants as faults
 use Rattle.key_files.specs.Keys.{Named, FileKey, GivesKey, IsRefused, key_of_container, content_keys, file_name, key_in, keys_from, keys_of, key_of_line}
 use Rattle.key_files.specs.declared.file_fault.FileFault.{FileFault}
@@ -244,18 +244,18 @@ made_written view name made contents (Err stop) adds (inr (reported, long)) =
 -- ---- the run
 
 -- the current file or list of the run, given what was read
-abbrev AtHand : List ℕ → Base → Authority Named → Option ℕ → List Named → Result Made RunFault → List ℕ → Type 0
+abbrev AtHand : List ℕ → Base → AuthorityOption Named → Option ℕ → List Named → Result Made RunFault → List ℕ → Type 0
 AtHand name base authority given files read = IsAtHand name (Ok base) authority given files read
 
 -- The fault of the old list stops the run.
-pub base_refused : (name : List ℕ) (authority : Authority Named) (version : Option ℕ) (files : List Named) (moment : ℕ) (fault : KrlFault)
+pub base_refused : (name : List ℕ) (authority : AuthorityOption Named) (version : Option ℕ) (files : List Named) (moment : ℕ) (fault : KrlFault)
     → IsRunFault (ended_by (krl_cause fault)) (IsAtHand name (Err fault) authority version files (make_run_of name (Err fault) authority version files moment)) (make_run_of name (Err fault) authority version files moment) (run_fault_of name (krl_cause fault))
 unfolding make_run_of
 base_refused name authority version files moment faults.NoMemory = (name, (old_list refl refl, refl))
 base_refused name authority version files moment fault = refl
 
 -- The fault of the authority's file stops the run.
-pub key_stops : (name : List ℕ) (given : Option ℕ) (authority : Authority Named) (file : Named) (moment : ℕ) (base : Base) (files : List Named) (version : ℕ) (stop : RunFault)
+pub key_stops : (name : List ℕ) (given : Option ℕ) (authority : AuthorityOption Named) (file : Named) (moment : ℕ) (base : Base) (files : List Named) (version : ℕ) (stop : RunFault)
     → version_of given base.version ≡ Some version → authority ≡ FileOf file
     → IsRunFault (ended_by stop.cause) (λ at. file.name ≡ at) (file_key file) stop
     → IsRunFault (ended_by stop.cause) (AtHand name base authority given files (after_old name authority given moment files base)) (after_old name authority given moment files base) stop
@@ -267,11 +267,11 @@ key_stops name given authority file moment base files version stop is names stop
     stops)
 
 -- the authority of the first key of a file
-pub named_by : (authority : Authority Named) (file : Named) (blob : List ℕ) → authority ≡ FileOf file → file_key file ≡ Ok blob → named_blob authority ≡ Ok (Some blob)
+pub named_by : (authority : AuthorityOption Named) (file : Named) (blob : List ℕ) → authority ≡ FileOf file → file_key file ≡ Ok blob → named_blob authority ≡ Ok (Some blob)
 named_by authority file blob names read = rw (names, read) refl
 
 -- The fault of a file or of a line stops the run.
-files_stop : (name : List ℕ) (given : Option ℕ) (authority : Authority Named) (moment : ℕ) (base : Base) (files : List Named) (version : ℕ) (signer : Option (List ℕ)) (stop : RunFault)
+files_stop : (name : List ℕ) (given : Option ℕ) (authority : AuthorityOption Named) (moment : ℕ) (base : Base) (files : List Named) (version : ℕ) (signer : Option (List ℕ)) (stop : RunFault)
     → version_of given base.version ≡ Some version → named_blob authority ≡ Ok signer
     → IsRunFault (ended_by stop.cause) (IsFileAtHand signer files) (files_entries signer files) stop
     → IsRunFault (ended_by stop.cause) (AtHand name base authority given files (after_old name authority given moment files base)) (after_old name authority given moment files base) stop
@@ -283,7 +283,7 @@ files_stop name given authority moment base files version signer stop is signed 
     stops
 
 -- If reading succeeds, the list is made, or its text stops the run.
-made_read : {X : Type 0} (view : X → List ℕ) (name : List ℕ) (given : Option ℕ) (authority : Authority Named) (base : Base) (files : List Named) (read : Result Made RunFault) (made : Made) (result : Result X RunFault)
+made_read : {X : Type 0} (view : X → List ℕ) (name : List ℕ) (given : Option ℕ) (authority : AuthorityOption Named) (base : Base) (files : List Named) (read : Result Made RunFault) (made : Made) (result : Result X RunFault)
     → read ≡ Ok made → WritesMade view name made result → Makes view name (Ok base) authority given files read result
 made_read view name given authority base files read made (Ok text) whole is = (made, (whole, is))
 made_read view name given authority base files read made (Err stop) whole (inl ran_out) =
@@ -292,7 +292,7 @@ made_read view name given authority base files read made (Err stop) whole (inr (
     inr (record { made = made; read_as = whole; long = long; stop_is = reported })
 
 -- The list is written from the old revocations and the files, or the run stops there.
-pub list_written : {X : Type 0} (view : X → List ℕ) (name : List ℕ) (given : Option ℕ) (authority : Authority Named) (moment : ℕ) (base : Base) (files : List Named) (version : ℕ) (signer : Option (List ℕ)) (result : Result X RunFault)
+pub list_written : {X : Type 0} (view : X → List ℕ) (name : List ℕ) (given : Option ℕ) (authority : AuthorityOption Named) (moment : ℕ) (base : Base) (files : List Named) (version : ℕ) (signer : Option (List ℕ)) (result : Result X RunFault)
     → version_of given base.version ≡ Some version → named_blob authority ≡ Ok signer
     → WritesMore view name (header_of version moment base) base.revocations (IsFileAtHand signer files) (files_entries signer files) result
     → Makes view name (Ok base) authority given files (after_old name authority given moment files base) result
@@ -315,7 +315,7 @@ old_of (Ok v) (Ok s) entries header old made is = by (entries s) is
     by (Err fault) same = absurd (cc)
     by (Ok e) same = cc
 
-pub held_paid : (name text : List ℕ) (base : Base) (authority : Authority Named) (version : Option ℕ) (files : List Named) (moment : ℕ) (made : Made) (contents : Revocations)
+pub held_paid : (name text : List ℕ) (base : Base) (authority : AuthorityOption Named) (version : Option ℕ) (files : List Named) (moment : ℕ) (made : Made) (contents : Revocations)
     → IsOldList text base → make_run_of name (Ok base) authority version files moment ≡ Ok made → HoldsMore made.old contents made.entries
     → held contents ≤ paid (length text) (length made.entries)
 unfolding make_run_of

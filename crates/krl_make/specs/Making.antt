@@ -4,33 +4,34 @@ use Rattle.std.specs.Prelude.{if◌then◌else◌, List, [], ◌∷◌, ◌++◌
 use Rattle.std.specs.Prelude.{Result, Ok, Err}
 use Rattle.std.specs.Option.{ok_or}
 use Rattle.ssh_wire.specs.Reading.{◌>>=◌, in_fault}
-use Rattle.krl_held.specs.Revocations.{Revocations, Means, held, nothing}
+use Rattle.krl_entries.specs.Revocations.{Revocations, Means, held, nothing}
 use Rattle.krl_core.specs.Entries.{entries_of}
-use Rattle.krl_held.specs.Entry.{Entry}
+use Rattle.krl_entries.specs.Entry.{Entry}
 use Rattle.krl_core.specs.Front.{IsFirstFault, limit}
 use Rattle.krl_core.specs.Krl.{SpelledSection, Spells}
 use Rattle.krl_writer.specs.KrlText.{IsKrlText}
 use Rattle.krl_core.specs.Reading.{IsList, IsReadingOf}
-use Rattle.krl_held.specs.Revoked.{Revoked}
+use Rattle.krl_entries.specs.Revoked.{Revoked}
 use Rattle.krl_core.specs.declared.header.Header.{Header}
 use Rattle.krl_types.specs.declared.krl_fault.KrlFault.{KrlFault}
 use Rattle.krl_types.specs.declared.krl_fault.KrlFault.TheVariants as faults
 use Rattle.krl_types.specs.Subject.{Subject}
 use Rattle.ssh_cert.specs.SubjectReading.{subject_of}
-use Rattle.krl_job.specs.declared.job.Authority.{Authority}
-use Rattle.krl_job.specs.declared.job.Authority.TheVariants.{NotGiven, All, File as FileOf}
+use Rattle.krl_job.specs.declared.job.AuthorityOption.{AuthorityOption}
+use Rattle.krl_job.specs.declared.job.AuthorityOption.TheVariants.{NotGiven, All, File as FileOf}
 use Rattle.krl_make.specs.declared.base.Base.{Base}
 use Rattle.key_files.specs.declared.file_fault.FileFault.{FileFault}
 use Rattle.key_files.specs.declared.file_fault.FileFault.TheVariants as files
 use Rattle.key_files.specs.declared.cause.Cause.TheVariants as causes
-use Rattle.krl_held.specs.Changes.{MeansMore}
+use Rattle.krl_entries.specs.Changes.{MeansMore}
 use Rattle.key_files.specs.declared.spec_cause.SpecCause.{SpecCause}
 use Rattle.key_files.specs.declared.spec_cause.SpecCause.TheVariants as specs
 use Rattle.krl_spec.specs.declared.spec_fault.SpecFault.{SpecFault}
 use Rattle.key_files.specs.RunFault.{krl_cause}
 use Rattle.key_files.specs.Keys.{Named, FileKey, run_fault_at, run_fault_in, text_keys}
 use Rattle.krl_spec.specs.Lines.{lines_of}
-use Rattle.key_files.specs.RunFault.{RunFault, EndedBy, ByInput, ByMemory, ByOutput, ended_by, run_fault_of}
+use Rattle.key_files.specs.RunFault.{RunFault, EndedBy, ByInput, ByMemory, ByOutput, ended_by}
+use Rattle.key_files.specs.RunFault.{run_fault_of}
 
 -- ---- faults of the run
 
@@ -75,7 +76,7 @@ file_key file = do
 
 -- The authority, if one is given: empty bytes for all authorities, otherwise the first key of a
 -- file.
-abbrev pub named_blob : Authority Named → Result (Option (List ℕ)) RunFault
+abbrev pub named_blob : AuthorityOption Named → Result (Option (List ℕ)) RunFault
 named_blob NotGiven = Ok None
 named_blob All = Ok (Some [])
 named_blob (FileOf file) = do
@@ -149,7 +150,7 @@ HasNumbers header = (header.version < 2 ^ 64) × (header.date < 2 ^ 64)
 
 -- The parts of a list with this name, given the old list. The run is stopped by the first of these
 -- faults: the largest version, that of the authority's file, those of the files and lines in order.
-abbrev pub after_old : List ℕ → Authority Named → Option ℕ → ℕ → List Named → Base
+abbrev pub after_old : List ℕ → AuthorityOption Named → Option ℕ → ℕ → List Named → Base
     → Result Made RunFault
 after_old name authority given moment files base = do
   version ← ok_or (version_of given base.version) (run_fault_of name causes.VersionFull)
@@ -158,7 +159,7 @@ after_old name authority given moment files base = do
   Ok (made_of (header_of version moment base) base.revocations entries)
 
 -- The same, given the result of reading the old list, whose fault is the first.
-unfoldable pub make_run_of : List ℕ → Result Base KrlFault → Authority Named → Option ℕ
+unfoldable pub make_run_of : List ℕ → Result Base KrlFault → AuthorityOption Named → Option ℕ
     → List Named → ℕ → Result Made RunFault
 make_run_of name reading authority version files moment = do
   base ← in_fault (list_run_fault name) reading
@@ -167,7 +168,7 @@ make_run_of name reading authority version files moment = do
 -- ---- the result of the run
 
 -- The authority's file is current, if one is given.
-abbrev pub IsAuthorityAtHand : Authority Named → List ℕ → Type 0
+abbrev pub IsAuthorityAtHand : AuthorityOption Named → List ℕ → Type 0
 IsAuthorityAtHand NotGiven at = ⊥
 IsAuthorityAtHand All at = ⊥
 IsAuthorityAtHand (FileOf file) at = file.name ≡ at
@@ -185,8 +186,8 @@ pub record IsFileAtHand (authority : Option (List ℕ)) (files : List Named) (at
 
 -- The name that is current in a run that makes a list: the list while the old one is read, then the
 -- authority's file, then the files in order, and the list again while it is written.
-pub data IsAtHand (name : List ℕ) (reading : Result Base KrlFault) (authority : Authority Named)
-    (given : Option ℕ) (files : List Named) (read : Result Made RunFault) (at : List ℕ)
+pub data IsAtHand (name : List ℕ) (reading : Result Base KrlFault)
+    (authority : AuthorityOption Named) (given : Option ℕ) (files : List Named) (read : Result Made RunFault) (at : List ℕ)
     : Type 0 where
   old_list : reading ≡ Err faults.NoMemory → name ≡ at
       → IsAtHand name reading authority given files read at
@@ -257,8 +258,8 @@ pub record StopsAtText (name : List ℕ) (read : Result Made RunFault) (stop : R
   pub stop_is : stop ≡ run_fault_of name causes.TextTooLong
 
 -- The run returns the list, or the fault that stopped it.
-abbrev pub Makes : {X : Type 0} → (X → List ℕ) → List ℕ → Result Base KrlFault → Authority Named
-    → Option ℕ → List Named → Result Made RunFault → Result X RunFault → Type 0
+abbrev pub Makes : {X : Type 0} → (X → List ℕ) → List ℕ → Result Base KrlFault
+    → AuthorityOption Named → Option ℕ → List Named → Result Made RunFault → Result X RunFault → Type 0
 Makes view name reading authority given files read (Ok text) =
     (made : Made) × ((read ≡ Ok made) × IsMade made (view text))
 Makes view name reading authority given files read (Err stop) =

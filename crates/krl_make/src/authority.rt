@@ -9,7 +9,7 @@ use ssh_wire::Bytes;
 use std::alloc::Global;
 
 /// The value of `-s`, with the file whose first key is that of the authority.
-pub type Authority<'a> = krl_job::Authority<Named<'a>>;
+pub type AuthorityOption<'a> = krl_job::AuthorityOption<Named<'a>>;
 
 /// The blob of the first key of a file. Only that key is read.
 pub fn first_key<'a>(alloc: Global, file: &'a Named<'a>) -> Result<Bytes, RunFault<'a>>

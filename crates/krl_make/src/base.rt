@@ -3,7 +3,7 @@
 ghost use Rattle.std.specs.Prelude.{◌≡◌, ◌<◌, ◌^◌, [], Err, IfSome, MatchResult, Ok, Result, false};
 ghost use Rattle.std.specs.Option.{ForSome};
 ghost use Rattle.krl_types.specs.declared.krl_fault.KrlFault.{KrlFault as FaultOf};
-ghost use Rattle.krl_held.specs.Revocations.{Means, nothing};
+ghost use Rattle.krl_entries.specs.Revocations.{Means, nothing};
 ghost use Rattle.krl_make.specs.Making.{IsBaseRead, base_of, new_base, version_of};
 ghost use Rattle.key_files.specs.RunFault.{krl_cause};
 ghost use Rattle.key_files.specs.RunFault.{run_fault_of};

@@ -1,7 +1,8 @@
 //! Adding specification files to a list.
 
 ghost use Rattle.std.specs.Prelude.{◌≡◌, Ok};
-ghost use Rattle.krl_make.specs.Making.{AddsFiles, IsFileAtHand, cause_run_fault, file_entries, files_entries, text_entries};
+ghost use Rattle.krl_make.specs.Making.{AddsFiles, IsFileAtHand, cause_run_fault, file_entries};
+ghost use Rattle.krl_make.specs.Making.{files_entries, text_entries};
 ghost use Rattle.krl_spec.specs.Under.{authority_under};
 
 use key_files::{Cause, Named, RunFault};

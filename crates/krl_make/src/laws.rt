@@ -2,9 +2,9 @@
 //! nothing: its contract is the law.
 
 ghost use Rattle.std.specs.Prelude.{◌≡◌, ◌≤◌, ◌↔◌, ℕ, List, Err, Ok, Option, length};
-ghost use Rattle.krl_held.specs.Revocations.{Revocations, held};
+ghost use Rattle.krl_entries.specs.Revocations.{Revocations, held};
 ghost use Rattle.key_files.specs.Keys.{Named};
-ghost use Rattle.krl_job.specs.declared.job.Authority.{Authority};
+ghost use Rattle.krl_job.specs.declared.job.AuthorityOption.{AuthorityOption};
 ghost use Rattle.krl_make.specs.declared.base.Base.{Base};
 ghost use Rattle.krl_make.specs.FirstKey.{IsFirstKey, IsFirstKeyFault};
 ghost use Rattle.krl_make.specs.Making.{HoldsMore, IsOldList, Made, first_key_of};
@@ -33,7 +33,7 @@ pub fn first_key_where_spelled()
 /// While a list is made, at most four intervals of serial numbers are stored for each byte of the
 /// old list, and one for each line that gave an entry.
 pub fn held_is_paid()
-    ensures { (name text : List ℕ) (base : Base) (authority : Authority Named)
+    ensures { (name text : List ℕ) (base : Base) (authority : AuthorityOption Named)
         (version : Option ℕ) (files : List Named) (moment : ℕ) (made : Made)
         (contents : Revocations) → IsOldList text base
         → make_run_of name (Ok base) authority version files moment ≡ Ok made

@@ -7,5 +7,5 @@ mod files;
 pub mod laws;
 mod run;
 
-pub use authority::Authority;
+pub use authority::AuthorityOption;
 pub use run::{Old, make_run};

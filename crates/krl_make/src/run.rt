@@ -3,11 +3,12 @@
 ghost use Rattle.std.specs.Prelude.{◌≡◌, Ok, Result, false};
 ghost use Rattle.std.specs.Option.{ForSome};
 ghost use Rattle.krl_types.specs.declared.krl_fault.KrlFault.{KrlFault as FaultOf};
-ghost use Rattle.krl_make.specs.Making.{HasNumbers, IsBaseRead, IsFileAtHand, Makes, WritesList, WritesMore, after_old, files_entries, make_run_of};
+ghost use Rattle.krl_make.specs.Making.{HasNumbers, IsBaseRead, IsFileAtHand, Makes, WritesList};
+ghost use Rattle.krl_make.specs.Making.{WritesMore, after_old, files_entries, make_run_of};
 ghost use Rattle.krl_spec.specs.Under.{authority_under};
 ghost use Rattle.krl_make.specs.declared.base.Base.{Base as BaseOf};
 
-use crate::authority::{Authority, first_key};
+use crate::authority::{AuthorityOption, first_key};
 use crate::base::{Base, next_version, read_base};
 use crate::files::add_files;
 use byte_streams::Source;
@@ -38,7 +39,7 @@ pub struct Old<'a, R: Source + Drop> {
 pub fn make_run<'a, R: Source + Drop>(
     alloc: Global,
     old: Old<'a, R>,
-    authority: &'a Authority<'a>,
+    authority: &'a AuthorityOption<'a>,
     version: Option<u64>,
     files: &'a [Named<'a>],
     moment: u64,
@@ -50,7 +51,7 @@ pub fn make_run<'a, R: Source + Drop>(
         (make_run_of old.entry.name.now reading authority.now version files.now moment) result.0 }
 {
     let Old { name, list } = old;
-    let wanted = Wanted {
+    let new_list = NewList {
         name,
         authority,
         version,
@@ -62,21 +63,21 @@ pub fn make_run<'a, R: Source + Drop>(
         Ok(base) => base,
         Err(stop) => return (Err(stop), reader),
     };
-    let made = wanted.make_over(alloc, base);
+    let made = new_list.make_over(alloc, base);
     (made, reader)
 }
 
 // The list that is wanted, apart from the content of the old one.
 #[derive(Drop)]
-struct Wanted<'a> {
+struct NewList<'a> {
     name: &'a str,
-    authority: &'a Authority<'a>,
+    authority: &'a AuthorityOption<'a>,
     version: Option<u64>,
     files: &'a [Named<'a>],
     moment: u64,
 }
 
-impl<'a> Wanted<'a> {
+impl<'a> NewList<'a> {
     // The bytes of a list with the old revocations and those that the lines of the files name.
     fn make_over(&self, alloc: Global, base: Base) -> Result<Vec<u8>, RunFault<'a>>
         ensures { Makes (λ made. made.items) self.now.name.now (Ok base) self.now.authority.now
@@ -94,9 +95,9 @@ impl<'a> Wanted<'a> {
         };
         let held = base.revocations;
         match self.authority {
-            Authority::NotGiven => self.add_and_write(alloc, &header, held, Under::NotGiven),
-            Authority::All => self.add_and_write(alloc, &header, held, Under::All),
-            Authority::File(file) => {
+            AuthorityOption::NotGiven => self.add_and_write(alloc, &header, held, Under::NotGiven),
+            AuthorityOption::All => self.add_and_write(alloc, &header, held, Under::All),
+            AuthorityOption::File(file) => {
                 let key = first_key(alloc, file)?;
                 self.add_and_write(alloc, &header, held, Under::Of(key.as_slice()))
             }

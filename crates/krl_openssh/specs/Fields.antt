@@ -5,7 +5,8 @@ use Rattle.krl_core.specs.Front.{Passes, start}
 use Rattle.krl_core.specs.Place.{can_end}
 use Rattle.krl_core.specs.declared.place.Place.{Place}
 
--- From a place, each field passes and leads to the next place, up to a place where the list may end.
+-- From a place, each field passes and leads to the next place, up to a place where the list may
+-- end.
 abbrev pub AreWhole : Place → List (List ℕ) → Type 0
 AreWhole place [] = can_end place ≡ true
 AreWhole place (field ∷ fields) =

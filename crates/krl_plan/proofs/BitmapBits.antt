@@ -8,7 +8,7 @@ use Rattle.std.proofs.lemmas.Bool.{le-leb, lt-leb}
 use Rattle.std.proofs.Math.Bool.{and-false, or-false}
 use Rattle.serial_set.specs.declared.span.Span.{Span}
 use Rattle.serial_set.specs.Span.{RunsFrom, has}
-use Rattle.serial_set.proofs.Rising.{runs_at}
+use Rattle.serial_set.proofs.RisingLists.{runs_at}
 use Rattle.krl_plan.specs.Written.{Above, bitmap_of, bits_of}
 
 -- ---- one serial

@@ -10,10 +10,10 @@ use Rattle.krl_plan.specs.declared.cell.Cell.{Cell}
 use Rattle.krl_plan.specs.declared.monotonic_queue.Candidate.{Candidate}
 use Rattle.krl_plan.specs.Plan.{IsGroup, reach}
 use Rattle.krl_plan.specs.Bitmaps.{IsBitmap, IsBitmapOf, last_of, bitmap_candidate}
-use Rattle.krl_plan.proofs.Chosen.{group_few}
+use Rattle.krl_plan.proofs.ChosenGroups.{group_few}
 use Rattle.krl_plan.specs.Search.{IsBestOf, IsCell, Wins, cell_with, rest_cost}
 use Rattle.krl_plan.specs.MonotonicQueue.{Forgets, IsFilled, IsFirstOf, IsLeastOf, Pushes}
-use Rattle.krl_plan.proofs.Best.{group_of, one_better, same_cell}
+use Rattle.krl_plan.proofs.BestCandidates.{group_of, one_better, same_cell}
 use Rattle.krl_plan.proofs.Candidates.{forgets_filled, longer_filled, pushes_filled, same_candidate}
 
 -- ---- last serials

@@ -7,8 +7,8 @@ use Rattle.std.proofs.lemmas.List.{append-nil, drop-append-le, drop-drop, drop_a
 use Rattle.serial_set.specs.declared.span.Span.{Span}
 use Rattle.serial_set.specs.Span.{IsRuns, AreSerials}
 use Rattle.serial_set.specs.Walk.{IsPiece, left, next_of, since, steps}
-use Rattle.serial_set.proofs.Walking.{walk_ends, walk_on}
-use Rattle.krl_plan.proofs.Chosen.{IsRuns-drop}
+use Rattle.serial_set.proofs.RunWalks.{walk_ends, walk_on}
+use Rattle.krl_plan.proofs.ChosenGroups.{IsRuns-drop}
 use Rattle.krl_plan.specs.Copies.{BeginChunks, Copies}
 
 -- ---- copies

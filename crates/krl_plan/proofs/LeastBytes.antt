@@ -8,7 +8,7 @@ use Rattle.krl_plan.specs.declared.group.Sort.{Sort}
 use Rattle.krl_plan.specs.declared.group.Sort.TheVariants.{Serials, Range, Bitmap}
 use Rattle.krl_plan.specs.declared.group.Group.{Group}
 use Rattle.krl_plan.specs.Plan.{Allows, IsPlan, bytes_of, cost, end_of, reach, serial_count}
-use Rattle.krl_plan.proofs.Chosen.{IsRuns-drop}
+use Rattle.krl_plan.proofs.ChosenGroups.{IsRuns-drop}
 
 -- each run after the first ends at least two numbers past the one before
 end_far : (run : Span) (runs : List Span) → RunsFrom (run.hi + 2) runs → run.hi + 2 * length runs ≤ end_of run runs

@@ -11,7 +11,7 @@ use Rattle.krl_plan.specs.Plan.{Allows, IsGroup, IsSmall, serial_count}
 use Rattle.krl_plan.specs.Lists.{IsList, list_candidate}
 use Rattle.krl_plan.specs.Search.{IsBestOf, IsCell, Wins, cell_with, rest_cost}
 use Rattle.krl_plan.specs.MonotonicQueue.{Forgets, IsFilled, IsLeastOf, Pushes}
-use Rattle.krl_plan.proofs.Best.{group_of, one_better, same_cell}
+use Rattle.krl_plan.proofs.BestCandidates.{group_of, one_better, same_cell}
 use Rattle.krl_plan.proofs.Candidates.{forgets_filled, pushes_filled, same_candidate}
 
 list_first : (run : Span) (runs : List Span) → IsSmall run → IsList (run ∷ runs) 1

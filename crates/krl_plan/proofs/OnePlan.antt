@@ -11,7 +11,7 @@ use Rattle.krl_plan.specs.declared.group.Group.{Group}
 use Rattle.krl_plan.specs.Plan.{Before, Allows, IsLeastPlan, IsPlan, Prefers, bytes_of, cost, reach}
 use Rattle.krl_plan.specs.Written.{bitmap_of, bitmap_size, content_of, first_of, group_text}
 use Rattle.krl_plan.specs.Written.{plan_text}
-use Rattle.krl_plan.proofs.Chosen.{IsRuns-drop}
+use Rattle.krl_plan.proofs.ChosenGroups.{IsRuns-drop}
 use Rattle.krl_plan.proofs.GroupTexts.{length-bitmap_of}
 use Rattle.krl_plan.proofs.ListTexts.{length-listed, small_few}
 

@@ -3,7 +3,7 @@ use Rattle.std.proofs.Common.{◌≡◌, ℕ, zero, suc, ◌+◌, ◌-◌, ◌<�
 use Rattle.std.proofs.Common.{get_or, refl, ap, arith, add-one}
 use Rattle.serial_set.specs.declared.span.Span.{Span}
 use Rattle.serial_set.specs.Span.{IsRuns}
-use Rattle.serial_set.proofs.Rising.{runs_at}
+use Rattle.serial_set.proofs.RisingLists.{runs_at}
 use Rattle.krl_plan.specs.Plan.{end_of, reach}
 
 end_take : (run : Span) (runs : List Span) (i : ℕ) (d : Span) → i ≤ length runs

@@ -6,10 +6,10 @@ use Rattle.ssh_cert.specs.Sizes.{IsWithinBlob, names_length}
 use Rattle.key_files.specs.Keys.{FileKey}
 use Rattle.key_files.specs.RunFault.{RunFault}
 use Rattle.key_files.specs.Sizes.{blob_room, key_room, keys_room}
-use Rattle.krl_held.specs.Revocations.{Revocations, nothing, serials_in, stored}
-use Rattle.krl_held.specs.Questions.{names_size, subject_size}
-use Rattle.krl_held.specs.Scope.{IsSmall}
-use Rattle.krl_runs.specs.Questions.{AsksWithin, IsFewFor}
+use Rattle.krl_entries.specs.Revocations.{Revocations, nothing, serials_in, stored}
+use Rattle.krl_entries.specs.Questions.{names_size, subject_size}
+use Rattle.krl_entries.specs.Scope.{IsSmall}
+use Rattle.krl_runs.specs.Questions.{AsksAtMost, IsFewFor}
 
 subject_room : (blob : List ℕ) (asked : Subject) → IsWithinBlob blob asked → subject_size asked ≤ 2 * length blob
 subject_room blob asked within = by asked.cert within.together
@@ -20,36 +20,36 @@ subject_room blob asked within = by asked.cert within.together
 
 -- A key is asked about.
 pub asks_key : (blob : List ℕ) (asked : Subject) (old new : Revocations) → IsWithinBlob blob asked → serials_in new.sections ≤ serials_in old.sections + 2 → length new.keys ≤ length old.keys + 2
-    → stored new ≤ stored old + subject_size asked → AsksWithin (blob_room blob) old new
+    → stored new ≤ stored old + subject_size asked → AsksAtMost (blob_room blob) old new
 asks_key blob asked old new within serials keys bytes = record {
   serials_is = omega (arith, within.least, serials);
   keys_is = omega (arith, within.least, keys);
   stored_is = omega (arith, subject_room blob asked within, bytes);
 }
 
-pub asks_none : (room : ℕ) (topics : Revocations) → AsksWithin room topics topics
+pub asks_none : (room : ℕ) (topics : Revocations) → AsksAtMost room topics topics
 asks_none room topics = record { serials_is = omega arith; keys_is = omega arith; stored_is = omega arith }
 
-pub asks_then : (one two room : ℕ) (old mid new : Revocations) → one + two ≤ room → AsksWithin one old mid → AsksWithin two mid new → AsksWithin room old new
+pub asks_then : (one two room : ℕ) (old mid new : Revocations) → one + two ≤ room → AsksAtMost one old mid → AsksAtMost two mid new → AsksAtMost room old new
 asks_then one two room old mid new fits first second = record {
   serials_is = omega (arith, fits, first.serials_is, second.serials_is);
   keys_is = omega (arith, fits, first.keys_is, second.keys_is);
   stored_is = omega (arith, fits, first.stored_is, second.stored_is);
 }
 
-pub asks_more : (less room : ℕ) (old new : Revocations) → less ≤ room → AsksWithin less old new → AsksWithin room old new
+pub asks_more : (less room : ℕ) (old new : Revocations) → less ≤ room → AsksAtMost less old new → AsksAtMost room old new
 asks_more less room old new fits asks = asks_then less 0 room old new new (omega (arith, fits)) asks (asks_none 0 new)
 
 -- A file has room for what was asked and for the keys that are left.
 pub record LeavesRoom (size : ℕ) (left : List (Result FileKey RunFault)) (old new : Revocations) : Type 0 where
   pub room : ℕ
   pub fits : room + keys_room left ≤ 3 * size
-  pub asks : AsksWithin room old new
+  pub asks : AsksAtMost room old new
 
 pub room_begins : (size : ℕ) (keys : List (Result FileKey RunFault)) (topics : Revocations) → keys_room keys ≤ 3 * size → LeavesRoom size keys topics topics
 room_begins size keys topics fits = record { room = 0; fits = omega (arith, fits); asks = asks_none 0 topics }
 
-pub room_next : (size : ℕ) (key : FileKey) (keys : List (Result FileKey RunFault)) (old mid new : Revocations) → LeavesRoom size (Ok key ∷ keys) old mid → AsksWithin (blob_room key.line.blob) mid new
+pub room_next : (size : ℕ) (key : FileKey) (keys : List (Result FileKey RunFault)) (old mid new : Revocations) → LeavesRoom size (Ok key ∷ keys) old mid → AsksAtMost (blob_room key.line.blob) mid new
     → LeavesRoom size keys old new
 room_next size key keys old mid new before asks = record {
   room = before.room + blob_room key.line.blob;
@@ -57,11 +57,11 @@ room_next size key keys old mid new before asks = record {
   asks = asks_then before.room (blob_room key.line.blob) (before.room + blob_room key.line.blob) old mid new (omega arith) before.asks asks;
 }
 
-pub room_ends : (size : ℕ) (left : List (Result FileKey RunFault)) (old new : Revocations) → LeavesRoom size left old new → AsksWithin (3 * size) old new
+pub room_ends : (size : ℕ) (left : List (Result FileKey RunFault)) (old new : Revocations) → LeavesRoom size left old new → AsksAtMost (3 * size) old new
 room_ends size left old new within = asks_more within.room (3 * size) old new (omega (arith, within.fits)) within.asks
 
 -- The findings for files are few.
-pub few_found : (bytes : ℕ) (topics found : Revocations) → AsksWithin (3 * bytes) nothing topics → IsSmall topics found → IsFewFor bytes found
+pub few_found : (bytes : ℕ) (topics found : Revocations) → AsksAtMost (3 * bytes) nothing topics → IsSmall topics found → IsFewFor bytes found
 few_found bytes topics found asks small =
     let no_serials : serials_in nothing.sections ≡ 0 = refl in
     let no_bytes : stored nothing ≡ 0 = refl in record {

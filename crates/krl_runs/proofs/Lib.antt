@@ -1,6 +1,6 @@
-pub mod Agreeing
-pub mod Asking
-pub mod Expecting
+pub mod AgreeingTests
+pub mod QueryRuns
+pub mod ExpectedKeys
 pub mod OneReading
-pub mod Printing
+pub mod PrintedContents
 pub mod Bounds

@@ -10,7 +10,7 @@ use Rattle.key_text.specs.declared.hash.Hash.TheVariants.{Sha256}
 use Rattle.key_text.specs.Fingerprints.{fingerprint_text, unpadded}
 use Rattle.ssh_cert.specs.Escape.{escaped}
 use Rattle.cert_listing.specs.Time.{instant_text}
-use Rattle.krl_held.specs.Revocations.{Revocations, Section}
+use Rattle.krl_entries.specs.Revocations.{Revocations, Section}
 use Rattle.krl_core.specs.declared.header.Header.{Header}
 use Rattle.krl_runs.specs.declared.contents.fact.Fact.{Fact}
 use Rattle.krl_runs.specs.declared.contents.fact.Fact.TheVariants.{Id, Key, Sha1, Hash}

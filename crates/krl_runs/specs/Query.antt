@@ -1,17 +1,17 @@
 -- Asking a list about keys (ssh-keygen(1), KEY REVOCATION LISTS).
 use Rattle.std.specs.Prelude.{◌≡◌, ◌↔◌, ◌≤◌, length, ℕ, Bool, true, false, List, [], ◌∷◌, ◌++◌}
 use Rattle.std.specs.Prelude.{Option, None, Some, Result, Ok, Err, IsTrue, codes}
-use Rattle.krl_held.specs.Revocations.{Revocations}
+use Rattle.krl_entries.specs.Revocations.{Revocations}
 use Rattle.krl_core.specs.Entries.{entries_of}
 use Rattle.krl_core.specs.Front.{IsFirstFault, limit}
 use Rattle.krl_core.specs.Krl.{SpelledSection, Spells}
-use Rattle.krl_held.specs.Questions.{Asks}
-use Rattle.krl_held.specs.Entry.{Entry}
-use Rattle.krl_held.specs.Reasons.{is_revoked, revokes}
+use Rattle.krl_entries.specs.Questions.{Asks}
+use Rattle.krl_entries.specs.Entry.{Entry}
+use Rattle.krl_entries.specs.Reasons.{is_revoked, revokes}
 use Rattle.krl_core.specs.declared.header.Header.{Header}
 use Rattle.ssh_key.specs.Key.{PublicKey}
 use Rattle.krl_core.specs.Reading.{IsList, IsReadAs, IsReadingOf}
-use Rattle.krl_held.specs.Revoked.{Revoked}
+use Rattle.krl_entries.specs.Revoked.{Revoked}
 use Rattle.krl_types.specs.declared.krl_fault.KrlFault.{KrlFault}
 use Rattle.krl_types.specs.Subject.{Subject}
 use Rattle.key_text.specs.LineReading.{Content}

@@ -1,9 +1,9 @@
 -- How much is asked about the keys of files.
 use Rattle.std.specs.Prelude.{ℕ, ◌+◌, ◌*◌, ◌≤◌, length}
-use Rattle.krl_held.specs.Revocations.{Revocations, held, serials_in, stored}
+use Rattle.krl_entries.specs.Revocations.{Revocations, held, serials_in, stored}
 
 -- At most this much more is asked: a serial number or a key counts 50, and a byte counts 2.
-pub record AsksWithin (room : ℕ) (old new : Revocations) : Type 0 where
+pub record AsksAtMost (room : ℕ) (old new : Revocations) : Type 0 where
   pub serials_is : 50 * serials_in new.sections ≤ 50 * serials_in old.sections + room
   pub keys_is : 50 * length new.keys ≤ 50 * length old.keys + room
   pub stored_is : 2 * stored new ≤ 2 * stored old + room

@@ -2,7 +2,8 @@
 
 ghost use Rattle.std.specs.Prelude.{map};
 ghost use Rattle.key_listing.specs.Carries.{Carries};
-ghost use Rattle.krl_runs.specs.Contents.{all_said, comment_lines, contents_items, contents_lines, fact_line, header_lines, section_lines, serials_line};
+ghost use Rattle.krl_runs.specs.Contents.{all_said, comment_lines, contents_items, contents_lines};
+ghost use Rattle.krl_runs.specs.Contents.{fact_line, header_lines, section_lines, serials_line};
 
 pub(crate) mod fact;
 pub(crate) mod lines;

@@ -1,8 +1,8 @@
 //! Laws of the lines that runs print. Each function does nothing: its contract is the law.
 
 ghost use Rattle.std.specs.Prelude.{◌≡◌, ◌⊎◌, ℕ, true, false, List, Result, Ok, Err, Option};
-ghost use Rattle.krl_held.specs.Entry.{Entry};
-ghost use Rattle.krl_held.specs.Reasons.{is_revoked};
+ghost use Rattle.krl_entries.specs.Entry.{Entry};
+ghost use Rattle.krl_entries.specs.Reasons.{is_revoked};
 ghost use Rattle.krl_types.specs.declared.krl_fault.KrlFault.{KrlFault};
 ghost use Rattle.krl_types.specs.declared.krl_fault.KrlFault.TheVariants.{NoMemory};
 ghost use Rattle.krl_core.specs.Reading.{IsReadAs};
@@ -12,7 +12,7 @@ ghost use Rattle.key_files.specs.Keys.{Named};
 ghost use Rattle.key_listing.specs.Run.{before, files_items, outcome_of};
 
 use krl_core::laws::{one_first_fault, one_spelling};
-use krl_held::laws::entries_decide_what_is_held;
+use krl_entries::laws::entries_decide_what_is_held;
 
 /// If a list's contents are requested, their text comes before all lines about files; otherwise
 /// nothing is printed about the list.
@@ -27,7 +27,7 @@ pub fn contents_stand_first()
 {}
 
 /// A stored list and a streamed list give the same lines for each file.
-pub fn held_or_passed()
+pub fn stored_or_streamed()
     ensures { (text : List ℕ) (known : Known) (entries : List Entry) (files : List Named)
         → IsHeld text known → HasEntries text entries
         → files_items (ask known.contents) files ≡ files_items (ask_by (is_revoked entries)) files }

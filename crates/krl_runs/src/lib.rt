@@ -3,7 +3,7 @@
 
 mod contents;
 pub mod laws;
-mod passing;
+mod streaming;
 mod query;
 mod questions;
 

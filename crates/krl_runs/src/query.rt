@@ -10,7 +10,7 @@ ghost use Rattle.krl_runs.specs.Query.{comment_part, query_line, query_run_of, v
 ghost use Rattle.key_listing.specs.Run.{Item as ItemOf};
 
 use crate::contents::print_contents;
-use crate::passing::ask_passing;
+use crate::streaming::ask_streamed;
 use byte_streams::{Sink, Source};
 use key_files::{FileFault, FileKey, Named, RunFault, cause_of};
 use key_listing::{Answer, Answers, Done, Printer, Run, print_files};
@@ -147,7 +147,7 @@ fn ask<'a, R: Source + Drop, W: Sink>(
     if dump {
         return ask_list(run, krl_name, krl, dump, files);
     }
-    ask_passing(run, krl_name, krl, files)
+    ask_streamed(run, krl_name, krl, files)
 }
 
 // Reads a list and queries it for each key of each file.

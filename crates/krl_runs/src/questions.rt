@@ -6,10 +6,10 @@ ghost use Rattle.ssh_cert.specs.SubjectReading.{subject_of};
 ghost use Rattle.key_files.specs.Keys.{keys_of};
 ghost use Rattle.key_files.specs.Sizes.{blob_room, file_size, files_size};
 ghost use Rattle.key_files.specs.declared.cause.Cause.TheVariants.{NoMemory};
-ghost use Rattle.krl_held.specs.Questions.{Asks, AsksMore, FindsIn};
-ghost use Rattle.krl_held.specs.Revocations.{IsOrderly};
+ghost use Rattle.krl_entries.specs.Questions.{Asks, AsksMore, FindsIn};
+ghost use Rattle.krl_entries.specs.Revocations.{IsOrderly};
 ghost use Rattle.key_listing.specs.Expected.{AllExpected, AreExpected};
-ghost use Rattle.krl_runs.specs.Questions.{AsksWithin};
+ghost use Rattle.krl_runs.specs.Questions.{AsksAtMost};
 
 use byte_streams::Source;
 use key_files::{Cause, FileKey, Named, keys_of};
@@ -25,12 +25,12 @@ pub fn ask_about<'a, R: Source + Drop>(
     front: &Reading<Held, R>,
     files: &'a [Named<'a>],
 ) -> Result<(), AllocError>
-    requires found { FindsIn front.now.keeper.contents questions.old }
+    requires found { FindsIn front.now.stored.contents questions.old }
     requires orderly { IsOrderly questions.old.topics }
-    ensures found { OnOk result (FindsIn front.now.keeper.contents questions.new) }
+    ensures found { OnOk result (FindsIn front.now.stored.contents questions.new) }
     ensures orderly { IsOrderly questions.new.topics }
     ensures asked { OnOk result (AllExpected (Asks questions.new.topics) files.now) }
-    ensures within { AsksWithin (3 * files_size files.now) questions.old.topics
+    ensures within { AsksAtMost (3 * files_size files.now) questions.old.topics
         questions.new.topics }
 {
     for file in files {
@@ -46,13 +46,13 @@ fn ask_file<'a, R: Source + Drop>(
     front: &Reading<Held, R>,
     file: &'a Named<'a>,
 ) -> Result<(), AllocError>
-    requires found { FindsIn front.now.keeper.contents questions.old }
+    requires found { FindsIn front.now.stored.contents questions.old }
     requires orderly { IsOrderly questions.old.topics }
-    ensures found { OnOk result (FindsIn front.now.keeper.contents questions.new) }
+    ensures found { OnOk result (FindsIn front.now.stored.contents questions.new) }
     ensures orderly { IsOrderly questions.new.topics }
     ensures more { OnOk result (AsksMore questions.old.topics questions.new.topics) }
     ensures asked { OnOk result (AreExpected (Asks questions.new.topics) (keys_of file.now)) }
-    ensures within { AsksWithin (3 * file_size file.now) questions.old.topics
+    ensures within { AsksAtMost (3 * file_size file.now) questions.old.topics
         questions.new.topics }
 {
     for next in keys_of(alloc, file) {
@@ -85,15 +85,15 @@ fn ask_key<R: Source + Drop>(
     front: &Reading<Held, R>,
     key: &FileKey,
 ) -> Result<bool, AllocError>
-    requires found { FindsIn front.now.keeper.contents questions.old }
+    requires found { FindsIn front.now.stored.contents questions.old }
     requires orderly { IsOrderly questions.old.topics }
-    ensures found { OnOk result (FindsIn front.now.keeper.contents questions.new) }
+    ensures found { OnOk result (FindsIn front.now.stored.contents questions.new) }
     ensures orderly { IsOrderly questions.new.topics }
     ensures more { OnOk result (AsksMore questions.old.topics questions.new.topics) }
     ensures asked { OnOk result
         (IfOk (subject_of key.now.line.blob) (Asks questions.new.topics)) }
     ensures unread { IfOk result (λ read. read ≡ false → IsErr (subject_of key.now.line.blob)) }
-    ensures within { AsksWithin (blob_room key.now.line.blob) questions.old.topics
+    ensures within { AsksAtMost (blob_room key.now.line.blob) questions.old.topics
         questions.new.topics }
 {
     match key.read() {

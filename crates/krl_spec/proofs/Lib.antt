@@ -2,7 +2,7 @@ pub mod Digits
 pub mod Growth
 pub mod ReadLines
 pub mod Sizes
-pub mod Cuts
+pub mod LongestParts
 pub mod CountedLaws
 pub mod NumberLaws
 pub mod BoundsLaws

@@ -3,9 +3,9 @@
 use Rattle.std.specs.Prelude.{◌≡◌, ℕ, ◌+◌, List, [], ◌∷◌, ◌++◌, length, Option, Some, None, Result}
 use Rattle.std.specs.Prelude.{Ok, Err}
 use Rattle.std.specs.List.{slice_split}
-use Rattle.krl_held.specs.Revocations.{Revocations}
-use Rattle.krl_held.specs.Entry.{Entry}
-use Rattle.krl_held.specs.Changes.{MeansMore}
+use Rattle.krl_entries.specs.Revocations.{Revocations}
+use Rattle.krl_entries.specs.Entry.{Entry}
+use Rattle.krl_entries.specs.Changes.{MeansMore}
 use Rattle.krl_spec.specs.Entries.{line_entry}
 use Rattle.key_text.specs.Lines.{is_newline}
 use Rattle.key_files.specs.declared.spec_cause.SpecCause.{SpecCause}

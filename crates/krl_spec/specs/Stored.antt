@@ -1,14 +1,14 @@
 -- By how much the stored bytes grow by reading a specification file.
 use Rattle.std.specs.Prelude.{◌≡◌, ℕ, ◌+◌, ◌≤◌, ◌⊎◌, List, length, Option}
-use Rattle.krl_held.specs.Revocations.{Revocations, IsStoredWithin}
+use Rattle.krl_entries.specs.Revocations.{Revocations, IsStoredAtMost}
 use Rattle.krl_spec.specs.Under.{bytes_under}
-use Rattle.krl_held.specs.Entry.{Entry, RangeEntry, IdEntry, KeyEntry, Sha1Entry}
-use Rattle.krl_held.specs.Entry.{Sha256Entry}
+use Rattle.krl_entries.specs.Entry.{Entry, RangeEntry, IdEntry, KeyEntry, Sha1Entry}
+use Rattle.krl_entries.specs.Entry.{Sha256Entry}
 
 -- At most `size` more bytes are stored, with the current authority counted once.
 abbrev pub GrowsUnder : List ℕ → ℕ → Revocations → Revocations → Type 0
 GrowsUnder authority size old new =
-    (n : ℕ) → IsStoredWithin authority old n → IsStoredWithin authority new (n + size)
+    (n : ℕ) → IsStoredAtMost authority old n → IsStoredAtMost authority new (n + size)
 
 -- The same for the bytes of a text, with a current authority or none.
 abbrev pub GrowsBy : Option (List ℕ) → List ℕ → Revocations → Revocations → Type 0

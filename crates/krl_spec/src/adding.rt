@@ -1,8 +1,8 @@
 //! Adding the entry of a line of a specification file.
 
 ghost use Rattle.std.specs.Prelude.{◌≡◌, ◌+◌, ◌≤◌, ℕ, List, [], ◌∷◌, OnErr, OnOk, length};
-ghost use Rattle.krl_held.specs.Changes.{MeansMore};
-ghost use Rattle.krl_held.specs.Revocations.{held};
+ghost use Rattle.krl_entries.specs.Changes.{MeansMore};
+ghost use Rattle.krl_entries.specs.Revocations.{held};
 ghost use Rattle.krl_spec.specs.Adding.{AddsEntry, AddsLine};
 ghost use Rattle.krl_spec.specs.Under.{authority_under};
 ghost use Rattle.krl_spec.specs.Entries.{bare_entry, line_entry, text_entry};
@@ -16,7 +16,7 @@ use crate::entries::{LineEntry, read_order, subject_entry};
 use crate::keys::{ask, key_line};
 use crate::under::Under;
 use key_files::SpecCause;
-use krl_held::Revocations;
+use krl_entries::Revocations;
 use serial_set::Spans;
 use std::alloc::{AllocError, Global};
 

@@ -1,7 +1,7 @@
 //! Reading specification files (ssh-keygen(1), KEY REVOCATION LISTS).
 
 ghost use Rattle.std.specs.Prelude.{◌+◌, ◌≤◌, length};
-ghost use Rattle.krl_held.specs.Revocations.{held, stored};
+ghost use Rattle.krl_entries.specs.Revocations.{held, stored};
 ghost use Rattle.krl_spec.specs.Under.{authority_under, bytes_under};
 ghost use Rattle.krl_spec.specs.Lines.{ReadsSpec, lines_of};
 
@@ -9,7 +9,7 @@ use crate::adding::add_line;
 use crate::spec_fault::SpecFault;
 use crate::under::Under;
 use key_text::split_line;
-use krl_held::Revocations;
+use krl_entries::Revocations;
 use serial_set::Spans;
 use std::alloc::Global;
 

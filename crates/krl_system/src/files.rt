@@ -2,7 +2,7 @@
 
 use byte_streams::FromRead;
 use key_files::{Cause, FileFault, Named, RunFault, load};
-use krl_job::Authority;
+use krl_job::AuthorityOption;
 use std::fs::{self, File};
 use std::io::BufReader;
 
@@ -61,10 +61,10 @@ pub fn open_inputs<'a>(
 }
 
 /// The authority of `-s`, with its file read.
-pub fn open_authority<'a>(rt: &HostRuntime, name: &Authority<&'a str>) -> Authority<Named<'a>> {
+pub fn open_authority<'a>(rt: &HostRuntime, name: &AuthorityOption<&'a str>) -> AuthorityOption<Named<'a>> {
     match name {
-        Authority::NotGiven => Authority::NotGiven,
-        Authority::All => Authority::All,
-        Authority::File(name) => Authority::File(open(rt, *name)),
+        AuthorityOption::NotGiven => AuthorityOption::NotGiven,
+        AuthorityOption::All => AuthorityOption::All,
+        AuthorityOption::File(name) => AuthorityOption::File(open(rt, *name)),
     }
 }

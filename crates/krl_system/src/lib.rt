@@ -4,7 +4,7 @@
 
 mod clock;
 mod files;
-mod holding;
+mod locked_list;
 mod in_place;
 mod locking;
 mod names;
@@ -16,7 +16,7 @@ mod waiting;
 
 pub use clock::{date, moment};
 pub use files::{buffered, open, open_authority, open_inputs, open_list, open_or_input};
-pub use holding::{Held, MadeOf, OldList, Target, hold, release};
+pub use locked_list::{Locked, MadeOf, OldList, Target, lock_target, release};
 pub use replacing::{Written, write_list};
 pub use reporting::report;
 pub use streams::{NOTHING, Places, hold_places};

@@ -2,7 +2,7 @@
 
 ghost use Rattle.std.specs.Prelude.{◌≡◌, ◌↔◌, ◌⊎◌, IsTrue};
 
-use crate::holding::{is_same, unopened};
+use crate::locked_list::{is_same, unopened};
 use crate::names::{lock_name, new_name};
 use crate::rights::{CLOSED, is_of_writer, share_lock};
 use crate::waiting::{SECOND, TURNS, Waiting};

@@ -1,7 +1,7 @@
 //! Replacing a list whole or not at all: its bytes are written to a new file beside it, which is
 //! then renamed.
 
-use crate::holding::{Held, OldList, Target, is_at, is_same, unopened};
+use crate::locked_list::{Locked, OldList, Target, is_at, is_same, unopened};
 use crate::in_place::{send_all, write_in_place};
 use crate::names::{beside, new_name};
 use crate::rights::{first_mode, keep_rights};
@@ -39,11 +39,11 @@ struct Place<'a> {
 pub fn write_list<'a>(
     rt: &HostRuntime,
     name: &'a str,
-    held: &'a Held,
+    locked: &'a Locked,
     text: &[u8],
 ) -> Result<Written, Cause> {
-    match &held.target {
-        Target::List(old) if held.lock.is_none() => overwrite(rt, name, old, text),
+    match &locked.target {
+        Target::List(old) if locked.lock.is_none() => overwrite(rt, name, old, text),
         Target::List(old) => {
             let path = old.path.as_str();
             let old = Some(old);

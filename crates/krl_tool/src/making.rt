@@ -6,10 +6,10 @@ ghost use Rattle.std.specs.Option.{ForSome};
 use crate::ending::{end, failed, stopped};
 use byte_streams::{FromBuffer, Source};
 use key_files::{Cause, FileFault, Named, RunFault};
-use krl_job::{Authority, Job};
+use krl_job::{AuthorityOption, Job};
 use krl_make::{Old, make_run};
 use krl_system::{
-    Held, MadeOf, Target, Waiting, Written, buffered, date, hold, open_authority, open_inputs,
+    Locked, MadeOf, Target, Waiting, Written, buffered, date, lock_target, open_authority, open_inputs,
     release, write_list,
 };
 use std::fs::{self, File};
@@ -39,10 +39,10 @@ struct Made {
 
 // The requested list, apart from the contents of an old one.
 #[derive(Drop)]
-struct Wanted<'a> {
+struct Inputs<'a> {
     name: &'a str,
     version: Option<u64>,
-    authority: Authority<Named<'a>>,
+    authority: AuthorityOption<Named<'a>>,
     files: Vec<Named<'a>>,
 }
 
@@ -57,13 +57,13 @@ pub fn make_list(rt: &HostRuntime, job: &Job) -> u8 {
         Ok(files) => files,
         Err(fault) => return end(rt, &stopped(fault)),
     };
-    let wanted = Wanted {
+    let inputs = Inputs {
         name: job.file,
         version: job.version,
         authority,
         files,
     };
-    make_of(rt, base, &wanted)
+    make_of(rt, base, &inputs)
 }
 
 // Finds the old list. An old list that cannot be opened is reported before any file is read.
@@ -82,32 +82,32 @@ fn base_of(rt: &HostRuntime, job: &Job) -> Result<Base, Cause> {
 }
 
 // Makes the list and writes it, after the lines are read. Returns the exit status.
-fn make_of(rt: &HostRuntime, base: Base, wanted: &Wanted) -> u8 {
-    let made = match made_of(rt, base, wanted) {
+fn make_of(rt: &HostRuntime, base: Base, inputs: &Inputs) -> u8 {
+    let made = match made_of(rt, base, inputs) {
         Ok(made) => made,
         Err(fault) => return end(rt, &stopped(fault)),
     };
-    let mut waiting = Waiting::new(wanted.name);
+    let mut waiting = Waiting::new(inputs.name);
     for _ in 0..TRIES {
-        match write_once(rt, &made, wanted, &mut waiting) {
+        match write_once(rt, &made, inputs, &mut waiting) {
             Ok(Written::Whole) => return 0,
             Ok(Written::Elsewhere) => {}
             Err(fault) => return end(rt, &stopped(fault)),
         }
     }
-    end(rt, &failed(wanted.name, Cause::Output { count: 0 }))
+    end(rt, &failed(inputs.name, Cause::Output { count: 0 }))
 }
 
 // Makes the bytes before the list is held, unless they are made from the regular file there.
-fn made_of<'a>(rt: &HostRuntime, base: Base, wanted: &'a Wanted<'a>) -> Result<Made, RunFault<'a>> {
+fn made_of<'a>(rt: &HostRuntime, base: Base, inputs: &'a Inputs<'a>) -> Result<Made, RunFault<'a>> {
     match base {
         Base::Nothing => Ok(Made {
             of: MadeOf::Lines,
-            text: Some(text_of(rt, None::<FromBuffer<File>>, wanted)?),
+            text: Some(text_of(rt, None::<FromBuffer<File>>, inputs)?),
         }),
         Base::Stream(file) => Ok(Made {
             of: MadeOf::Stream,
-            text: Some(text_over(rt, file, wanted)?),
+            text: Some(text_over(rt, file, inputs)?),
         }),
         Base::File => Ok(Made {
             of: MadeOf::List,
@@ -121,35 +121,35 @@ fn made_of<'a>(rt: &HostRuntime, base: Base, wanted: &'a Wanted<'a>) -> Result<M
 fn write_once<'a>(
     rt: &HostRuntime,
     made: &Made,
-    wanted: &'a Wanted<'a>,
+    inputs: &'a Inputs<'a>,
     waiting: &mut Waiting,
 ) -> Result<Written, RunFault<'a>> {
-    let held = match hold(rt, wanted.name, made.of, waiting) {
-        Ok(Some(held)) => held,
+    let locked = match lock_target(rt, inputs.name, made.of, waiting) {
+        Ok(Some(locked)) => locked,
         Ok(None) => return Ok(Written::Elsewhere),
-        Err(cause) => return Err(RunFault::whole(wanted.name, cause)),
+        Err(cause) => return Err(RunFault::whole(inputs.name, cause)),
     };
     let written = match &made.text {
-        Some(text) => write_text(rt, &held, text, wanted),
-        None => match updated(rt, &held.target, wanted) {
-            Ok(text) => write_text(rt, &held, &text, wanted),
+        Some(text) => write_text(rt, &locked, text, inputs),
+        None => match updated(rt, &locked.target, inputs) {
+            Ok(text) => write_text(rt, &locked, &text, inputs),
             Err(fault) => Err(fault),
         },
     };
-    release(rt, held);
+    release(rt, locked);
     written
 }
 
 // Writes the bytes of the list.
 fn write_text<'a>(
     rt: &HostRuntime,
-    held: &Held,
+    locked: &Locked,
     text: &[u8],
-    wanted: &'a Wanted<'a>,
+    inputs: &'a Inputs<'a>,
 ) -> Result<Written, RunFault<'a>> {
-    match write_list(rt, wanted.name, held, text) {
+    match write_list(rt, inputs.name, locked, text) {
         Ok(written) => Ok(written),
-        Err(cause) => Err(RunFault::whole(wanted.name, cause)),
+        Err(cause) => Err(RunFault::whole(inputs.name, cause)),
     }
 }
 
@@ -157,25 +157,25 @@ fn write_text<'a>(
 fn updated<'a>(
     rt: &HostRuntime,
     target: &Target,
-    wanted: &'a Wanted<'a>,
+    inputs: &'a Inputs<'a>,
 ) -> Result<Vec<u8>, RunFault<'a>> {
     if let Target::List(old) = target
         && let Ok(file) = old.file.try_clone()
     {
-        return text_over(rt, file, wanted);
+        return text_over(rt, file, inputs);
     }
-    Err(RunFault::whole(wanted.name, Cause::File(FileFault::Open)))
+    Err(RunFault::whole(inputs.name, Cause::File(FileFault::Open)))
 }
 
 // The bytes of the list, made from an old one.
 fn text_over<'a>(
     rt: &HostRuntime,
     file: File,
-    wanted: &'a Wanted<'a>,
+    inputs: &'a Inputs<'a>,
 ) -> Result<Vec<u8>, RunFault<'a>> {
     match buffered(rt, file) {
-        Ok(list) => text_of(rt, Some(FromBuffer::new(list)), wanted),
-        Err(cause) => Err(RunFault::whole(wanted.name, cause)),
+        Ok(list) => text_of(rt, Some(FromBuffer::new(list)), inputs),
+        Err(cause) => Err(RunFault::whole(inputs.name, cause)),
     }
 }
 
@@ -183,24 +183,24 @@ fn text_over<'a>(
 fn text_of<'a, R: Source + Drop>(
     rt: &HostRuntime,
     list: Option<R>,
-    wanted: &'a Wanted<'a>,
+    inputs: &'a Inputs<'a>,
 ) -> Result<Vec<u8>, RunFault<'a>>
     requires { ForSome list (λ reader. R.has_failed reader ≡ false) }
 {
     let date = match date(rt) {
         Ok(date) => date,
-        Err(cause) => return Err(RunFault::whole(wanted.name, cause)),
+        Err(cause) => return Err(RunFault::whole(inputs.name, cause)),
     };
     let old = Old {
-        name: wanted.name,
+        name: inputs.name,
         list,
     };
     let (made, _) = make_run(
         rt.alloc(),
         old,
-        &wanted.authority,
-        wanted.version,
-        wanted.files.as_slice(),
+        &inputs.authority,
+        inputs.version,
+        inputs.files.as_slice(),
         date,
     );
     made

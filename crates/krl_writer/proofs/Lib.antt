@@ -1,9 +1,9 @@
 pub mod Spelling
 pub mod Sections
 pub mod Meaning
-pub mod Meant
+pub mod WrittenNames
 pub mod WholeTexts
 pub mod Limits
-pub mod Listing
+pub mod AuthoritySections
 pub mod Sizes
 pub mod ReadBack

@@ -8,15 +8,15 @@ use Rattle.krl_plan.specs.declared.group.Sort.TheVariants as sorts
 use Rattle.krl_plan.specs.declared.group.Group.{Group}
 use Rattle.krl_core.specs.Entries.{subsection_entries}
 use Rattle.krl_writer.specs.KrlText.{group_subsection, plan_subsections}
-use Rattle.krl_held.specs.Naming.{SerialOf, SomeNames}
+use Rattle.krl_entries.specs.Naming.{SerialOf, SomeNames}
 use Rattle.std.proofs.Math.Logic.Iff as Iff
-use Rattle.krl_held.proofs.BothWays.{iff_both, iff_none, iff_or}
-use Rattle.krl_held.proofs.Same.{IsSerials, AreSerials as AreSerialEntries, some_append}
-use Rattle.krl_held.proofs.Elements.{all_append}
+use Rattle.krl_entries.proofs.Equivalences.{iff_both, iff_none, iff_or}
+use Rattle.krl_entries.proofs.SameNames.{IsSerials, AreSerials as AreSerialEntries, some_append}
+use Rattle.krl_entries.proofs.Elements.{all_append}
 use Rattle.krl_plan.specs.Plan.{Allows, IsGroup, IsPlan}
 use Rattle.krl_plan.specs.Written.{bitmap_size, first_of}
-use Rattle.krl_plan.proofs.Named.{AreSerials-drop, AreSerials-take, bits_name, names_parts, names_within}
-use Rattle.krl_plan.proofs.Chosen.{IsRuns-drop, RunsFrom-take}
+use Rattle.krl_plan.proofs.RunSerials.{AreSerials-drop, AreSerials-take, bits_name, names_parts, names_within}
+use Rattle.krl_plan.proofs.ChosenGroups.{IsRuns-drop, RunsFrom-take}
 use Rattle.krl_writer.proofs.Spelling.{serials_name}
 
 -- ---- a group

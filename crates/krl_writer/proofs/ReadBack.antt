@@ -2,15 +2,15 @@
 use Rattle.std.proofs.Common.{◌≡◌, ℕ, ◌<◌, ◌≤◌, ◌^◌, List, [], ◌∷◌, length, sym, subst}
 use Rattle.krl_core.specs.declared.header.Header.{Header}
 use Rattle.krl_plan.specs.declared.group.Group.{Group}
-use Rattle.krl_held.specs.Revocations.{Revocations, IsOrderly, Means, Section}
+use Rattle.krl_entries.specs.Revocations.{Revocations, IsOrderly, Means, Section}
 use Rattle.krl_core.specs.Entries.{entries_of}
 use Rattle.krl_core.specs.Front.{limit}
 use Rattle.krl_core.specs.Krl.{SpelledSection, Spells}
 use Rattle.krl_writer.specs.KrlText.{EachPlan, IsKrlText, sections_of}
 use Rattle.krl_plan.specs.Plan.{IsLeastPlan, IsPlan}
 use Rattle.krl_core.specs.Reading.{IsList}
-use Rattle.krl_writer.proofs.Meant.{sections_mean}
-use Rattle.krl_held.proofs.OneMeaning.{one_meaning}
+use Rattle.krl_writer.proofs.WrittenNames.{sections_mean}
+use Rattle.krl_entries.proofs.OneMeaning.{one_meaning}
 use Rattle.krl_core.proofs.OneSpelling.{spelled_once}
 use Rattle.krl_writer.proofs.Sections.{text_spelled}
 

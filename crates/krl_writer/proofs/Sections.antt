@@ -7,7 +7,7 @@ use Rattle.ssh_wire.proofs.Fields.{length-number, length-string}
 use Rattle.krl_core.specs.Front.{limit}
 use Rattle.krl_plan.specs.declared.group.Group.{Group}
 use Rattle.krl_core.specs.declared.header.Header.{Header}
-use Rattle.krl_held.specs.Revocations.{Revocations, IsListed, IsOrderly, Section}
+use Rattle.krl_entries.specs.Revocations.{Revocations, IsListed, IsOrderly, Section}
 use Rattle.krl_core.specs.Krl.{Certificates, Ids, Keys, SpelledSection, Sha1s, Sha256s, SignaturesLast, Spells, SpellsEach, SpellsHashes, SpellsSection, SpellsSubsection, header_text}
 use Rattle.krl_writer.specs.KrlText.{EachPlan, authorities_text, authority_content, authority_sections, authority_text, listed_as, listed_text, plan_subsections, sections_of, sections_text, text_of}
 use Rattle.krl_plan.specs.Plan.{IsPlan}

@@ -12,14 +12,14 @@ use Rattle.ssh_wire.proofs.Fields.{length-string}
 use Rattle.krl_plan.specs.declared.group.Sort.{Sort}
 use Rattle.krl_plan.specs.declared.group.Sort.TheVariants as sorts
 use Rattle.krl_plan.specs.declared.group.Group.{Group}
-use Rattle.krl_plan.proofs.Chosen.{IsRuns-drop, RunsFrom-take}
-use Rattle.krl_plan.proofs.Named.{AreSerials-drop, AreSerials-take, bits_name, last_fits, number-bitmap, top_bit_clear}
+use Rattle.krl_plan.proofs.ChosenGroups.{IsRuns-drop, RunsFrom-take}
+use Rattle.krl_plan.proofs.RunSerials.{AreSerials-drop, AreSerials-take, bits_name, last_fits, number-bitmap, top_bit_clear}
 use Rattle.krl_plan.proofs.OnePlan.{content_few}
 use Rattle.krl_plan.specs.Plan.{Allows, IsGroup, IsPlan, reach}
 use Rattle.krl_plan.specs.Written.{bitmap_of, bitmap_size, bits_of, content_of, first_of, group_text, plan_text, serials_from, serials_of}
 use Rattle.krl_core.specs.Krl.{IsPositive, SpellsBitmap, SpellsEach, SpellsSubsection}
-use Rattle.krl_held.proofs.BothWays.{contains_append, contains_cons, iff_or}
-use Rattle.krl_held.proofs.Elements.{contains_none}
+use Rattle.krl_entries.proofs.Equivalences.{contains_append, contains_cons, iff_or}
+use Rattle.krl_entries.proofs.Elements.{contains_none}
 use Rattle.krl_writer.specs.KrlText.{group_subsection, listed_as, listed_text, plan_subsections}
 
 -- ---- lists of serials

@@ -6,7 +6,7 @@ use Rattle.krl_core.specs.declared.header.Header.{Header}
 use Rattle.krl_plan.specs.declared.group.Sort.{Sort}
 use Rattle.krl_plan.specs.declared.group.Sort.TheVariants as sorts
 use Rattle.krl_plan.specs.declared.group.Group.{Group}
-use Rattle.krl_held.specs.Revocations.{Revocations, Section}
+use Rattle.krl_entries.specs.Revocations.{Revocations, Section}
 use Rattle.krl_core.specs.Krl.{SpelledSection, Certificates, Keys, Sha1s, Sha256s, Subsection}
 use Rattle.krl_core.specs.Krl.{Serials, Range, Bitmap, Ids, header_text}
 use Rattle.krl_plan.specs.Plan.{IsLeastPlan, reach}

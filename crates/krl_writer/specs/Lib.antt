@@ -1,3 +1,3 @@
 pub mod KrlText
-pub mod Within
+pub mod InLimit
 pub mod Size

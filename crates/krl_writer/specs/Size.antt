@@ -2,7 +2,7 @@
 use Rattle.std.specs.Prelude.{ℕ, ◌+◌, ◌*◌, List, [], ◌∷◌, length}
 use Rattle.krl_core.specs.declared.header.Header.{Header}
 use Rattle.krl_plan.specs.declared.group.Group.{Group}
-use Rattle.krl_held.specs.Revocations.{Revocations, Section}
+use Rattle.krl_entries.specs.Revocations.{Revocations, Section}
 use Rattle.krl_plan.specs.Plan.{cost}
 
 -- strings one after another, each with four bytes of length

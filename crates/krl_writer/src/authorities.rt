@@ -2,7 +2,7 @@
 
 ghost use Rattle.std.specs.Prelude.{◌≤◌, length};
 ghost use Rattle.krl_core.specs.Front.{limit};
-ghost use Rattle.krl_writer.specs.Within.{AddsAuthorities, AddsAuthority};
+ghost use Rattle.krl_writer.specs.InLimit.{AddsAuthorities, AddsAuthority};
 
 use crate::strings::{LIMIT, add_listed, add_string};
 use crate::text_fault::TextFault;

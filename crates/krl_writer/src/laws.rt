@@ -1,10 +1,11 @@
 //! Laws about the lists that are written. Each function does nothing: its contract is the law.
 
-ghost use Rattle.std.specs.Prelude.{◌≡◌, ◌≤◌, ◌<◌, ◌^◌, ◌⊎◌, ℕ, Bool, true, List, Option, None, length};
+ghost use Rattle.std.specs.Prelude.{◌≡◌, ◌≤◌, ◌<◌, ◌^◌, ◌⊎◌, ℕ, Bool, true, List, Option, None};
+ghost use Rattle.std.specs.Prelude.{length};
 ghost use Rattle.ssh_wire.specs.Wire.{IsBytes};
 ghost use Rattle.krl_core.specs.Front.{IsFirstFault, limit};
 ghost use Rattle.krl_plan.specs.declared.group.Group.{Group};
-ghost use Rattle.krl_held.specs.Revocations.{Revocations, IsOrderly, Means};
+ghost use Rattle.krl_entries.specs.Revocations.{Revocations, IsOrderly, Means};
 ghost use Rattle.krl_core.specs.declared.header.Header.{Header};
 ghost use Rattle.krl_core.specs.Krl.{SpelledSection, Spells};
 ghost use Rattle.krl_writer.specs.KrlText.{EachPlan, IsKrlText, sections_of, text_of};

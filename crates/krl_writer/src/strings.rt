@@ -4,7 +4,7 @@ ghost use Rattle.std.specs.Prelude.{◌≤◌, length};
 ghost use Rattle.ssh_wire.specs.Wire.{string, strings};
 ghost use Rattle.krl_core.specs.Front.{limit};
 ghost use Rattle.krl_writer.specs.KrlText.{listed_text};
-ghost use Rattle.krl_writer.specs.Within.{AddsWithin};
+ghost use Rattle.krl_writer.specs.InLimit.{AddsAtMost};
 
 use crate::text_fault::TextFault;
 use krl_core::Texts;
@@ -16,7 +16,7 @@ pub(crate) const LIMIT: usize = krl_core::LIMIT as usize;
 
 // Appends a string.
 pub(crate) fn add_string(out: &mut Vec<u8>, text: &[u8]) -> Result<(), TextFault>
-    ensures { AddsWithin result out.old.items out.new.items (string text.now) }
+    ensures { AddsAtMost result out.old.items out.new.items (string text.now) }
 {
     if text.len() > LIMIT {
         return Err(TextFault::TooLong);
@@ -31,7 +31,7 @@ pub(crate) fn add_string(out: &mut Vec<u8>, text: &[u8]) -> Result<(), TextFault
 // Appends strings, one after another.
 fn add_strings(out: &mut Vec<u8>, texts: Texts<'_>) -> Result<(), TextFault>
     requires { length out.old.items ≤ limit }
-    ensures { AddsWithin result out.old.items out.new.items (strings texts.entry) }
+    ensures { AddsAtMost result out.old.items out.new.items (strings texts.entry) }
 {
     for text in texts {
         add_string(out, text)?;
@@ -46,7 +46,7 @@ pub(crate) fn add_listed(
     mut texts: Texts<'_>,
 ) -> Result<(), TextFault>
     requires { length out.old.items ≤ limit }
-    ensures { AddsWithin result out.old.items out.new.items (listed_text type_byte texts.entry) }
+    ensures { AddsAtMost result out.old.items out.new.items (listed_text type_byte texts.entry) }
 {
     let Some(first) = texts.next() else {
         return Ok(());

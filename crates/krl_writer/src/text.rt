@@ -3,9 +3,9 @@
 ghost use Rattle.std.specs.Prelude.{◌≡◌, ◌*◌, ◌<◌, ◌≤◌, [], IsTrue, false, length};
 ghost use Rattle.krl_core.specs.Front.{limit};
 ghost use Rattle.krl_core.specs.Krl.{header_text};
-ghost use Rattle.krl_held.specs.Revocations.{held};
+ghost use Rattle.krl_entries.specs.Revocations.{held};
 ghost use Rattle.krl_writer.specs.KrlText.{texts_text};
-ghost use Rattle.krl_writer.specs.Within.{AddsWithin, IsWritten, Writes, write_fault_number};
+ghost use Rattle.krl_writer.specs.InLimit.{AddsAtMost, IsWritten, Writes, write_fault_number};
 
 use crate::authorities::add_authorities;
 use crate::strings::{add_listed, add_string};
@@ -50,7 +50,7 @@ fn is_surely_too_long<S: Spans>(revocations: &Revocations<S>) -> bool
 
 // Appends the header of a list. Its flags are 0 and its reserved string is empty.
 fn add_header(out: &mut Vec<u8>, header: &Header) -> Result<(), TextFault>
-    ensures { AddsWithin result out.old.items out.new.items (header_text header.now 0 []) }
+    ensures { AddsAtMost result out.old.items out.new.items (header_text header.now 0 []) }
 {
     out.extend_from_slice(MAGIC)?;
     put_u32(out, 1)?;
@@ -65,7 +65,7 @@ fn add_header(out: &mut Vec<u8>, header: &Header) -> Result<(), TextFault>
 // Appends the sections of keys and hashes.
 fn add_texts<S: Spans>(out: &mut Vec<u8>, revocations: &Revocations<S>) -> Result<(), TextFault>
     requires { length out.old.items ≤ limit }
-    ensures { AddsWithin result out.old.items out.new.items (texts_text revocations.now) }
+    ensures { AddsAtMost result out.old.items out.new.items (texts_text revocations.now) }
 {
     add_listed(out, 2, revocations.walk_keys())?;
     add_listed(out, 3, revocations.walk_sha1s())?;

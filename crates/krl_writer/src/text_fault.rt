@@ -1,7 +1,7 @@
 //! Why a list has no text.
 
 ghost use Rattle.std.specs.Prelude.{◌≡◌};
-ghost use Rattle.krl_writer.specs.Within.{text_fault_number};
+ghost use Rattle.krl_writer.specs.InLimit.{text_fault_number};
 ghost use Rattle.krl_writer.specs.declared.text_fault.TextFault.TheVariants.{NoMemory};
 
 use std::alloc::AllocError;

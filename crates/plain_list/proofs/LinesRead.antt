@@ -3,8 +3,8 @@ use Rattle.std.proofs.Common.{◌≡◌, ℕ, ◌+◌, ◌≤◌, List, [], ◌�
 use Rattle.std.proofs.lemmas.List.{append-nil, flat_map_more, length-append}
 use Rattle.std.proofs.lemmas.List.Elements.{All-append, All-cons, All-nil}
 use Rattle.std.specs.Result.{IsOk}
-use Rattle.krl_held.specs.Changes.{MeansMore}
-use Rattle.krl_held.specs.Revocations.{Means, Revocations}
+use Rattle.krl_entries.specs.Changes.{MeansMore}
+use Rattle.krl_entries.specs.Revocations.{Means, Revocations}
 use Rattle.plain_list.specs.Key.{Reports, line_key}
 use Rattle.plain_list.specs.List.{AreRead, HasFault, entries_of, limit, line_entries, lines_of}
 use Rattle.plain_list.specs.declared.fault.PlainFault.{PlainFault}

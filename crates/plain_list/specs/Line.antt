@@ -1,5 +1,6 @@
 -- The part of a line of a plain list that counts.
-use Rattle.std.specs.Prelude.{ℕ, ◌==◌, Bool, true, false, not, List, [], ◌∷◌, length, Option, Some, None}
+use Rattle.std.specs.Prelude.{ℕ, ◌==◌, Bool, true, false, not, List, [], ◌∷◌, length, Option, Some}
+use Rattle.std.specs.Prelude.{None}
 use Rattle.std.specs.List.{take_while}
 use Rattle.key_text.specs.Blanks.{after_blanks, trimmed}
 use Rattle.key_text.specs.LineReading.{key_part}

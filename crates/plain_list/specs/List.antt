@@ -1,9 +1,10 @@
--- What a plain list revokes, and why it is refused.
-use Rattle.std.specs.Prelude.{◌≡◌, ℕ, ◌+◌, ◌<◌, ◌≤◌, List, [], ◌∷◌, ◌++◌, length, All, Option, Some, None, Result, Ok, Err}
+-- The keys that a plain list revokes, and the faults for which it is refused.
+use Rattle.std.specs.Prelude.{◌≡◌, ℕ, ◌+◌, ◌<◌, ◌≤◌, List, [], ◌∷◌, ◌++◌, length, All, Option, Some}
+use Rattle.std.specs.Prelude.{None, Result, Ok, Err}
 use Rattle.std.specs.List.{flat_map, slice_split}
 use Rattle.std.specs.Result.{IsOk}
 use Rattle.key_text.specs.Lines.{is_newline}
-use Rattle.krl_held.specs.Entry.{Entry, KeyEntry}
+use Rattle.krl_entries.specs.Entry.{Entry, KeyEntry}
 use Rattle.plain_list.specs.Key.{line_key}
 use Rattle.plain_list.specs.declared.fault.LineCause.{LineCause}
 use Rattle.plain_list.specs.declared.fault.PlainFault.{PlainFault}

@@ -1,4 +1,4 @@
--- What sshd does with a key, by its size.
+-- The treatment of a key by sshd, by the key's size.
 use Rattle.std.specs.Prelude.{ℕ, nat_lt, if◌then◌else◌}
 use Rattle.ssh_key.specs.declared.kind.Kind.{Kind}
 use Rattle.ssh_key.specs.declared.kind.Kind.TheVariants.{Dsa, Rsa}

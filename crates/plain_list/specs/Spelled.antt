@@ -1,4 +1,4 @@
--- What the lines of a plain list spell.
+-- The spelling of the lines of a plain list.
 use Rattle.std.specs.Prelude.{◌≡◌, ℕ, true, false, ◌⊎◌, List, [], ◌∷◌, Option, Some, None}
 use Rattle.ssh_key.specs.Key.{IsKey, PublicKey, blob_of}
 use Rattle.ssh_key.specs.declared.fault.KeyFault.TheVariants as keys
@@ -10,7 +10,7 @@ use Rattle.krl_types.specs.Subject.{Subject}
 use Rattle.ssh_cert.specs.SubjectReading.{IsSubject, IsSubjectFault}
 use Rattle.ssh_cert.specs.declared.subject_fault.SubjectFault.{SubjectFault}
 use Rattle.ssh_cert.specs.declared.subject_fault.SubjectFault.TheVariants as subjects
-use Rattle.krl_held.specs.Reasons.{OfCert}
+use Rattle.krl_entries.specs.Reasons.{OfCert}
 use Rattle.plain_list.specs.Line.{begins_with_key, content_of, is_remark}
 use Rattle.plain_list.specs.Size.{size_of}
 use Rattle.plain_list.specs.declared.fault.LineCause.{LineCause}

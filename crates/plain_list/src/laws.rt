@@ -2,7 +2,7 @@
 
 ghost use Rattle.std.specs.Prelude.{◌≡◌, ◌↔◌, ℕ, List, All, Err, Ok, Option};
 ghost use Rattle.ssh_wire.specs.Wire.{IsBytes};
-ghost use Rattle.krl_held.specs.Revoked.{Revoked};
+ghost use Rattle.krl_entries.specs.Revoked.{Revoked};
 ghost use Rattle.krl_types.specs.Subject.{Subject};
 ghost use Rattle.plain_list.specs.Key.{line_key};
 ghost use Rattle.plain_list.specs.List.{entries_of};

@@ -2,15 +2,16 @@
 
 ghost use Rattle.std.specs.Prelude.{◌≡◌, ◌≤◌, IfErr, IfOk, OnOk, length};
 ghost use Rattle.std.specs.Result.{IsOk};
-ghost use Rattle.krl_held.specs.Changes.{MeansMore};
-ghost use Rattle.krl_held.specs.Revocations.{Means};
+ghost use Rattle.krl_entries.specs.Changes.{MeansMore};
+ghost use Rattle.krl_entries.specs.Revocations.{Means};
 ghost use Rattle.plain_list.specs.Key.{Reports, line_key};
-ghost use Rattle.plain_list.specs.List.{AreRead, HasFault, entries_of, limit, line_entries, lines_of};
+ghost use Rattle.plain_list.specs.List.{AreRead, HasFault, entries_of, limit, line_entries};
+ghost use Rattle.plain_list.specs.List.{lines_of};
 
 use crate::fault::PlainFault;
 use crate::key::key_of_line;
 use key_text::split_line;
-use krl_held::Revocations;
+use krl_entries::Revocations;
 use serial_set::Spans;
 use std::alloc::Global;
 

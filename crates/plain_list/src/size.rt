@@ -10,7 +10,7 @@ const LEAST: u32 = 1_024;
 // The most bits of an RSA or DSA key.
 const MOST: u32 = 16_384;
 
-/// What sshd does with a key, by its size.
+/// The treatment of a key by sshd, by the key's size.
 #[derive(Clone, Copy, PartialEq, Eq)]
 pub enum Size {
     /// It skips the line of an RSA key of fewer than 1,024 bits.
@@ -21,7 +21,7 @@ pub enum Size {
     Long,
 }
 
-/// What sshd does with a key of this kind and this number of bits.
+/// The treatment of a key of this kind with this number of bits.
 pub(crate) fn size_of(kind: Kind, bits: u32) -> Size
     ensures { result ≡ size_of kind bits }
 {

@@ -1,5 +1,6 @@
 //! The runs of one byte's bits, read from the highest bit to the lowest.
-ghost use Rattle.std.specs.Prelude.{◌≡◌, ◌+◌, ◌*◌, ◌^◌, ◌≤◌, ◌<◌, ◌⊎◌, ℕ, ◌++◌, [], ◌∷◌, length, reverse, Some, None, MatchOption, IfSome, SomeIff, All, ⊤};
+ghost use Rattle.std.specs.Prelude.{◌≡◌, ◌+◌, ◌*◌, ◌^◌, ◌≤◌, ◌<◌, ◌⊎◌, ℕ, ◌++◌, [], ◌∷◌, length};
+ghost use Rattle.std.specs.Prelude.{reverse, Some, None, MatchOption, IfSome, SomeIff, All, ⊤};
 ghost use Rattle.std.specs.Option.{option_to_list, option_map_or};
 ghost use Rattle.serial_set.specs.Span.{SpanCovers, Covers, IsRunsOf};
 ghost use Rattle.serial_set.specs.Finished.{finished_of};

@@ -2,7 +2,8 @@
 ghost use Rattle.std.specs.Prelude.{◌≡◌, ◌+◌, ◌*◌, ◌≤◌, ◌↔◌, ◌⊎◌, ◌++◌, ◌∷◌, [], ℕ, List, length};
 ghost use Rattle.serial_set.specs.declared.span.Span.{Span};
 ghost use Rattle.serial_set.specs.Span.{Covers, IsRuns, IsRunsOf, AreSerials};
-ghost use Rattle.serial_set.specs.BitRuns.{BitRuns, start, lowest, BitNames, big_endian, Feeds, FeedsAll, runs_after};
+ghost use Rattle.serial_set.specs.BitRuns.{BitRuns, start, lowest, BitNames, big_endian, Feeds};
+ghost use Rattle.serial_set.specs.BitRuns.{FeedsAll, runs_after};
 ghost use Rattle.serial_set.specs.Joined.{Rises, joined};
 ghost use Rattle.serial_set.specs.Laws.{AfterFeeding};
 

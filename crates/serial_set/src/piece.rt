@@ -1,5 +1,6 @@
 //! Some consecutive runs of a set.
-ghost use Rattle.std.specs.Prelude.{◌≡◌, ◌≤◌, ◌<◌, ◌+◌, ◌++◌, ◌↔◌, ℕ, [], ◌∷◌, length, take, All, MatchOption, IsTrue, false};
+ghost use Rattle.std.specs.Prelude.{◌≡◌, ◌≤◌, ◌<◌, ◌+◌, ◌++◌, ◌↔◌, ℕ, [], ◌∷◌, length, take, All};
+ghost use Rattle.std.specs.Prelude.{MatchOption, IsTrue, false};
 
 use crate::span::Span;
 use crate::walk::next_after;

@@ -1,5 +1,6 @@
 //! Additions to a set of chunks.
-ghost use Rattle.std.specs.Prelude.{◌≡◌, ◌+◌, ◌*◌, ◌/◌, ◌%◌, ◌^◌, ◌<◌, ◌≤◌, ◌⊎◌, ◌↔◌, ℕ, false, All, IsTrue, IfSome, MatchOption, OnOk, OnErr};
+ghost use Rattle.std.specs.Prelude.{◌≡◌, ◌+◌, ◌*◌, ◌/◌, ◌%◌, ◌^◌, ◌<◌, ◌≤◌, ◌⊎◌, ◌↔◌, ℕ, false};
+ghost use Rattle.std.specs.Prelude.{All, IsTrue, IfSome, MatchOption, OnOk, OnErr};
 ghost use Rattle.span_sets.specs.Additions.{IsAt};
 ghost use Rattle.serial_set.specs.BitRuns.{IsInterval};
 ghost use Rattle.span_sets.specs.Chunk.{is_span, lo_of, hi_of, members_of, runs_of};

@@ -1,5 +1,6 @@
 //! An element of a page: a span, or the members in one window of 64 serials.
-ghost use Rattle.std.specs.Prelude.{◌≡◌, ◌+◌, ◌-◌, ◌*◌, ◌^◌, ◌<◌, ◌≤◌, ◌∷◌, [], ℕ, ◌↔◌, ◌⊎◌, IfSome, IsTrue, None, false};
+ghost use Rattle.std.specs.Prelude.{◌≡◌, ◌+◌, ◌-◌, ◌*◌, ◌^◌, ◌<◌, ◌≤◌, ◌∷◌, [], ℕ, ◌↔◌, ◌⊎◌};
+ghost use Rattle.std.specs.Prelude.{IfSome, IsTrue, None, false};
 ghost use Rattle.std.specs.Int.{bit_at};
 ghost use Rattle.span_sets.specs.Words.{BitCovers};
 

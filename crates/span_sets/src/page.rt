@@ -1,5 +1,6 @@
 //! A page of chunks.
-ghost use Rattle.std.specs.Prelude.{◌≡◌, ◌+◌, ◌*◌, ◌^◌, ◌<◌, ◌≤◌, ◌⊎◌, ◌∷◌, ◌++◌, [], length, take, drop, false, All, IsTrue, IfOk, OnOk, OnErr};
+ghost use Rattle.std.specs.Prelude.{◌≡◌, ◌+◌, ◌*◌, ◌^◌, ◌<◌, ◌≤◌, ◌⊎◌, ◌∷◌, ◌++◌, [], length, take};
+ghost use Rattle.std.specs.Prelude.{drop, false, All, IsTrue, IfOk, OnOk, OnErr};
 ghost use Rattle.std.specs.Vec.{vec_len};
 ghost use Rattle.span_sets.specs.Chunk.{lo_of, hi_of, ChunksFrom};
 ghost use Rattle.span_sets.specs.Chunks.{Replaces};

@@ -1,5 +1,6 @@
 //! A vector of pages of chunks.
-ghost use Rattle.std.specs.Prelude.{◌≡◌, ◌+◌, ◌*◌, ◌^◌, ◌<◌, ◌≤◌, ◌⊎◌, ◌++◌, [], ℕ, length, take, drop, slice_index_or, false, All, IsTrue, IfOk, OnOk, OnErr};
+ghost use Rattle.std.specs.Prelude.{◌≡◌, ◌+◌, ◌*◌, ◌^◌, ◌<◌, ◌≤◌, ◌⊎◌, ◌++◌, [], ℕ, length, take};
+ghost use Rattle.std.specs.Prelude.{drop, slice_index_or, false, All, IsTrue, IfOk, OnOk, OnErr};
 ghost use Rattle.std.specs.Vec.{vec_len};
 ghost use Rattle.span_sets.specs.declared.page.Page.{Page};
 ghost use Rattle.span_sets.specs.Chunk.{lo_of, hi_of, ChunksFrom};

@@ -1,5 +1,6 @@
 //! The chunks by which an addition replaces those that it meets.
-ghost use Rattle.std.specs.Prelude.{◌≡◌, ◌+◌, ◌*◌, ◌/◌, ◌%◌, ◌^◌, ◌<◌, ◌≤◌, ◌⊎◌, ◌↔◌, ◌∷◌, ◌++◌, [], ℕ, IfSome, All, length, true, false};
+ghost use Rattle.std.specs.Prelude.{◌≡◌, ◌+◌, ◌*◌, ◌/◌, ◌%◌, ◌^◌, ◌<◌, ◌≤◌, ◌⊎◌, ◌↔◌, ◌∷◌, ◌++◌};
+ghost use Rattle.std.specs.Prelude.{[], ℕ, IfSome, All, length, true, false};
 ghost use Rattle.std.specs.Option.{option_to_list};
 ghost use Rattle.span_sets.specs.Chunk.{is_span, lo_of, hi_of, members_of, members_in};
 ghost use Rattle.span_sets.specs.Few.{few_of};

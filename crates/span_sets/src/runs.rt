@@ -1,5 +1,6 @@
 //! The runs of a set, in the order of a walk.
-ghost use Rattle.std.specs.Prelude.{◌≡◌, ◌+◌, ◌<◌, ◌≤◌, ◌↔◌, ℕ, [], length, take, slice_get, false, Contains, IsTrue, IfErr, IfOk};
+ghost use Rattle.std.specs.Prelude.{◌≡◌, ◌+◌, ◌<◌, ◌≤◌, ◌↔◌, ℕ, [], length, take, slice_get, false};
+ghost use Rattle.std.specs.Prelude.{Contains, IsTrue, IfErr, IfOk};
 ghost use Rattle.span_sets.specs.Chunk.{hi_of, members_of, runs_of};
 ghost use Rattle.span_sets.specs.Members.{GoesOn, IsFirst, Reads, Taken};
 ghost use Rattle.serial_set.specs.Span.{Covers};

@@ -1,5 +1,6 @@
 //! Where an added span begins and ends among the chunks of a set.
-ghost use Rattle.std.specs.Prelude.{◌≡◌, ◌+◌, ◌-◌, ◌*◌, ◌/◌, ◌^◌, ◌<◌, ◌≤◌, ◌⊎◌, None, Some, IfSome, false, min};
+ghost use Rattle.std.specs.Prelude.{◌≡◌, ◌+◌, ◌-◌, ◌*◌, ◌/◌, ◌^◌, ◌<◌, ◌≤◌, ◌⊎◌, None, Some};
+ghost use Rattle.std.specs.Prelude.{IfSome, false, min};
 ghost use Rattle.span_sets.specs.Chunk.{is_span, lo_of, hi_of};
 ghost use Rattle.span_sets.specs.Positions.{IsChunkFrom};
 ghost use Rattle.span_sets.specs.Sides.{IsBack, IsFront};

@@ -1,5 +1,6 @@
 //! A set of serials as pages of spans and words of bits.
-ghost use Rattle.std.specs.Prelude.{◌≡◌, ◌*◌, ◌^◌, ◌<◌, ◌≤◌, ◌⊎◌, ◌↔◌, ℕ, [], length, false, All, IsTrue, IfOk, OnOk, OnErr};
+ghost use Rattle.std.specs.Prelude.{◌≡◌, ◌*◌, ◌^◌, ◌<◌, ◌≤◌, ◌⊎◌, ◌↔◌, ℕ, [], length, false, All};
+ghost use Rattle.std.specs.Prelude.{IsTrue, IfOk, OnOk, OnErr};
 ghost use Rattle.span_sets.specs.Chunk.{lo_of, hi_of, ChunksFrom, members_of, runs_of};
 ghost use Rattle.span_sets.specs.Chunks.{Replaces};
 ghost use Rattle.span_sets.specs.Few.{few_of};

@@ -1,5 +1,6 @@
 //! The chunks of a set: its only one, or those of pages.
-ghost use Rattle.std.specs.Prelude.{◌≡◌, ◌^◌, ◌<◌, ◌≤◌, ◌⊎◌, ◌↔◌, [], length, false, All, IsTrue, IfOk, OnOk, OnErr};
+ghost use Rattle.std.specs.Prelude.{◌≡◌, ◌^◌, ◌<◌, ◌≤◌, ◌⊎◌, ◌↔◌, [], length, false, All, IsTrue};
+ghost use Rattle.std.specs.Prelude.{IfOk, OnOk, OnErr};
 ghost use Rattle.std.specs.Option.{option_to_list};
 ghost use Rattle.span_sets.specs.Chunk.{lo_of, hi_of, ChunksFrom};
 ghost use Rattle.span_sets.specs.Chunks.{Replaces};

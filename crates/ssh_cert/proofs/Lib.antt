@@ -5,6 +5,6 @@ pub mod FieldFaults
 pub mod Fronts
 pub mod Certs
 pub mod OptionLists
-pub mod Asked
-pub mod Cuts
+pub mod Subjects
+pub mod TruncatedCertificates
 pub mod Sizes

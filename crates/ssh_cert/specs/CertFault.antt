@@ -2,7 +2,9 @@
 use Rattle.std.specs.Prelude.{ℕ, List, ◌++◌, codes}
 use Rattle.ssh_key.specs.KeyFault.{key_fault_text}
 use Rattle.ssh_cert.specs.declared.fault.CertFault.{CertFault}
-use Rattle.ssh_cert.specs.declared.fault.CertFault.TheVariants.{Wire, UnknownType, Key, CertType, Options, Principals, Authority, Signature, Trailing}
+use Rattle.ssh_cert.specs.declared.fault.CertFault.TheVariants.{Wire, UnknownType, Key, CertType}
+use Rattle.ssh_cert.specs.declared.fault.CertFault.TheVariants.{Options, Principals, Authority}
+use Rattle.ssh_cert.specs.declared.fault.CertFault.TheVariants.{Signature, Trailing}
 
 abbrev pub cert_fault_number : CertFault → ℕ
 cert_fault_number Wire = 1

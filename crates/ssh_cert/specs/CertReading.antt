@@ -1,5 +1,6 @@
 -- Reading a certificate from left to right, up to the first fault.
-use Rattle.std.specs.Prelude.{ℕ, List, [], ◌∷◌, length, slice_index, Option, Some, None, Result, Ok, Err, ◌==◌, if◌then◌else◌}
+use Rattle.std.specs.Prelude.{ℕ, List, [], ◌∷◌, length, slice_index, Option, Some, None, Result, Ok}
+use Rattle.std.specs.Prelude.{Err, ◌==◌, if◌then◌else◌}
 use Rattle.std.specs.Option.{ok_or, option_and_then}
 use Rattle.ssh_wire.specs.Reading.{◌>>=◌, in_fault, string_at}
 use Rattle.ssh_wire.specs.Rows.{part_at}
@@ -13,7 +14,10 @@ use Rattle.ssh_cert.specs.declared.fault.CertFault.TheVariants as faults
 use Rattle.ssh_cert.specs.declared.role.Role.{Role}
 use Rattle.ssh_cert.specs.declared.role.Role.TheVariants.{User, Host}
 use Rattle.ssh_cert.specs.Cert.{Cert}
-use Rattle.ssh_cert.specs.Field.{Authority, AuthoritySort, Field, NumberSort, OptionsSort, PrincipalsSort, PublicField, RoleSort, Signature, SignatureSort, Sort, SortField, SortValue, TextSort, ValueOf, ValuesOf, fields_of, part_of}
+use Rattle.ssh_cert.specs.Field.{Authority, AuthoritySort, Field, NumberSort, OptionsSort}
+use Rattle.ssh_cert.specs.Field.{PrincipalsSort, PublicField, RoleSort, Signature, SignatureSort}
+use Rattle.ssh_cert.specs.Field.{Sort, SortField, SortValue, TextSort, ValueOf, ValuesOf, fields_of}
+use Rattle.ssh_cert.specs.Field.{part_of}
 use Rattle.ssh_cert.specs.Options.{CertOption, pairs_of}
 use Rattle.ssh_cert.specs.Strings.{strings_of}
 

@@ -11,7 +11,8 @@ use Rattle.ssh_key.specs.Kind.{certificate_name}
 use Rattle.ssh_cert.specs.declared.fault.CertFault.{CertFault}
 use Rattle.ssh_cert.specs.declared.fault.CertFault.TheVariants as faults
 use Rattle.ssh_cert.specs.CertReading.{judged}
-use Rattle.ssh_cert.specs.Field.{AreValues, Field, IsValue, PublicField, SortField, ValueOf, ValuesOf, field_text, fields_of, fields_text, part_of}
+use Rattle.ssh_cert.specs.Field.{AreValues, Field, IsValue, PublicField, SortField, ValueOf}
+use Rattle.ssh_cert.specs.Field.{ValuesOf, field_text, fields_of, fields_text, part_of}
 
 -- The bytes at the front are no value of the field: its part cannot be read, or has a value that is
 -- not allowed in the field.

@@ -1,5 +1,6 @@
 -- The subject of a blob, and why it has none.
-use Rattle.std.specs.Prelude.{◌≡◌, ℕ, Bool, false, List, Some, None, Result, Ok, Err, is_some, if◌then◌else◌}
+use Rattle.std.specs.Prelude.{◌≡◌, ℕ, Bool, false, List, Some, None, Result, Ok, Err, is_some}
+use Rattle.std.specs.Prelude.{if◌then◌else◌}
 use Rattle.ssh_wire.specs.Reading.{Answers, string_at}
 use Rattle.ssh_wire.specs.declared.fault.WireFault.{WireFault}
 use Rattle.ssh_wire.specs.Wire.{BeginsWith}

@@ -3,7 +3,9 @@
 ghost use Rattle.std.specs.Prelude.{◌≡◌};
 ghost use Rattle.ssh_wire.specs.Reading.{Gives};
 ghost use Rattle.ssh_cert.specs.CertReading.{body_at, certificate_at, field_at, fields_at, kind_at};
-ghost use Rattle.ssh_cert.specs.Field.{AuthoritySort, NumberSort, OptionsSort, PrincipalsSort, PublicField, RoleSort, SignatureSort, SortField, TextSort, closing_fields, naming_fields};
+ghost use Rattle.ssh_cert.specs.Field.{AuthoritySort, NumberSort, OptionsSort, PrincipalsSort};
+ghost use Rattle.ssh_cert.specs.Field.{PublicField, RoleSort, SignatureSort, SortField, TextSort};
+ghost use Rattle.ssh_cert.specs.Field.{closing_fields, naming_fields};
 ghost use Rattle.ssh_cert.specs.Parts.{closing_values, naming_values, of_fields};
 
 use crate::cert::Cert;

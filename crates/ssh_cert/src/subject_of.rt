@@ -2,7 +2,8 @@
 
 ghost use Rattle.std.specs.Prelude.{◌≡◌, IfErr, IfOk, Ok};
 ghost use Rattle.krl_types.specs.Subject.{Subject};
-ghost use Rattle.ssh_cert.specs.SubjectReading.{AnswersSubject, IsSubject, IsReportedFault, subject_of};
+ghost use Rattle.ssh_cert.specs.SubjectReading.{AnswersSubject, IsSubject, IsReportedFault};
+ghost use Rattle.ssh_cert.specs.SubjectReading.{subject_of};
 
 use crate::any_key::read_any;
 use crate::subject_fault::SubjectFault;

@@ -3,5 +3,5 @@ pub mod Wire
 pub mod Numbers
 pub mod Keys
 pub mod FirstFaults
-pub mod Cuts
+pub mod TruncatedBlobs
 pub mod Sizes

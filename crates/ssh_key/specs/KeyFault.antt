@@ -2,7 +2,8 @@
 use Rattle.std.specs.Prelude.{ℕ, List, ◌++◌, codes}
 use Rattle.ssh_wire.specs.Fault.{fault_text}
 use Rattle.ssh_key.specs.declared.fault.KeyFault.{KeyFault}
-use Rattle.ssh_key.specs.declared.fault.KeyFault.TheVariants.{Wire, UnknownType, Curve, Point, Length, Number, Trailing, TooLong}
+use Rattle.ssh_key.specs.declared.fault.KeyFault.TheVariants.{Wire, UnknownType, Curve, Point}
+use Rattle.ssh_key.specs.declared.fault.KeyFault.TheVariants.{Length, Number, Trailing, TooLong}
 
 abbrev pub key_fault_number : KeyFault → ℕ
 key_fault_number (Wire fault) = 1

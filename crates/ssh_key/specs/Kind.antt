@@ -1,6 +1,7 @@
 -- The kinds of keys: their names, the names of their certificates, the short names of listings,
 -- their public fields and their sizes.
-use Rattle.std.specs.Prelude.{ℕ, ◌-◌, ◌*◌, ◌==◌, ◌&&◌, Bool, false, List, [], ◌∷◌, length, Option, Some, None, codes, slice_index_or, if◌then◌else◌}
+use Rattle.std.specs.Prelude.{ℕ, ◌-◌, ◌*◌, ◌==◌, ◌&&◌, Bool, false, List, [], ◌∷◌, length, Option}
+use Rattle.std.specs.Prelude.{Some, None, codes, slice_index_or, if◌then◌else◌}
 use Rattle.std.specs.Int.{w8, leading_zeros}
 use Rattle.std.specs.List.{find, list_any}
 use Rattle.std.specs.Str.{bytes_eq}
@@ -8,7 +9,8 @@ use Rattle.ssh_wire.specs.Rows.{Magnitude, Step, Text, fault_unless, step}
 use Rattle.ssh_key.specs.declared.fault.KeyFault.{KeyFault}
 use Rattle.ssh_key.specs.declared.fault.KeyFault.TheVariants as faults
 use Rattle.ssh_key.specs.declared.kind.Kind.{Kind}
-use Rattle.ssh_key.specs.declared.kind.Kind.TheVariants.{Rsa, Dsa, Ecdsa256, Ecdsa384, Ecdsa521, Ed25519, EcdsaSk, Ed25519Sk}
+use Rattle.ssh_key.specs.declared.kind.Kind.TheVariants.{Rsa, Dsa, Ecdsa256, Ecdsa384, Ecdsa521}
+use Rattle.ssh_key.specs.declared.kind.Kind.TheVariants.{Ed25519, EcdsaSk, Ed25519Sk}
 
 abbrev pub type_name : Kind → List ℕ
 type_name Rsa = codes "ssh-rsa"

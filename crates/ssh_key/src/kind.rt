@@ -1,7 +1,8 @@
 //! The kinds of keys.
 
 ghost use Rattle.std.specs.Prelude.{◌≡◌, IfSome};
-ghost use Rattle.ssh_key.specs.Kind.{certificate_name, kind_certified, kind_named, short_name_of, type_name};
+ghost use Rattle.ssh_key.specs.Kind.{certificate_name, kind_certified, kind_named, short_name_of};
+ghost use Rattle.ssh_key.specs.Kind.{type_name};
 
 /// The kind of a plain key.
 #[derive(Clone, Copy, PartialEq, Eq)]

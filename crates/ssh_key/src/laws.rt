@@ -1,7 +1,8 @@
 //! Laws about every key and every list of bytes, each as the contract of a function that does
 //! nothing. `read_key` returns what the reader named here gives, and `plain_blob` the blob.
 
-ghost use Rattle.std.specs.Prelude.{◌≡◌, ◌≢◌, ◌*◌, ◌^◌, ◌<◌, ◌≤◌, ◌↔◌, ℕ, List, Err, Ok, length, take};
+ghost use Rattle.std.specs.Prelude.{◌≡◌, ◌≢◌, ◌*◌, ◌^◌, ◌<◌, ◌≤◌, ◌↔◌, ℕ, List, Err, Ok, length};
+ghost use Rattle.std.specs.Prelude.{take};
 ghost use Rattle.ssh_key.specs.FirstFault.{IsFieldsFault, IsFirstFault};
 ghost use Rattle.ssh_key.specs.Key.{BeginsWithFields, IsKey, IsPositive, PublicKey, blob_of};
 ghost use Rattle.ssh_key.specs.KeyReading.{key_at, public_at};

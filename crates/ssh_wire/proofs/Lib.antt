@@ -2,5 +2,5 @@ pub mod Digits
 pub mod Steps
 pub mod Fields
 pub mod Magnitudes
-pub mod Cut
+pub mod TruncatedFields
 pub mod RowLaws

@@ -9,7 +9,7 @@ use Rattle.ssh_wire.specs.Reading.{in_fault, mpint_at, number_at, string_at}
 use Rattle.ssh_wire.specs.Rows.{BeginsWithPart, Fails, IsPart, Leads, Magnitude, Number, Part, Step, StepFails, Text, alone, part_at, part_text, row_at, row_text, step_at, unless}
 use Rattle.ssh_wire.specs.declared.fault.WireFault.{WireFault}
 use Rattle.ssh_wire.specs.declared.fault.WireFault.TheVariants.{Short}
-use Rattle.ssh_wire.proofs.Cut.{mpint-cut, number-cut, string-cut, take-after}
+use Rattle.ssh_wire.proofs.TruncatedFields.{mpint-cut, number-cut, string-cut, take-after}
 use Rattle.ssh_wire.proofs.Fields.{mpint_again, mpint_takes, number_again, number_takes, string_again, string_takes}
 use Rattle.ssh_wire.proofs.Steps.{bind_err, bind_ok, err_is, in_fault_err, in_fault_ok, ok_or_err}
 

@@ -4,7 +4,7 @@ mod cursor;
 mod page;
 mod put;
 
-use parts_for_tests::misprinted;
+use test_fixtures::misprinted;
 use ssh_wire::{Bytes, PullFault, WireFault};
 
 const WIRE_FAULTS: [(WireFault, &str); 3] = [

@@ -1,4 +1,4 @@
-"""The tests of refused_tests, each for each of its allocations: a call answers as with ample
+"""The tests of out_of_memory_tests, each for each of its allocations: a call answers as with ample
 memory, or the test says that memory ran out, and it says so only where an allocation was
 refused."""
 
@@ -8,7 +8,7 @@ import sys
 
 from inject_faults import process, runs, sweeps
 
-BINARY = "crates/refused_tests/out/refused_tests_tests"
+BINARY = "crates/out_of_memory_tests/out/out_of_memory_tests_tests"
 RAN_OUT = b"memory ran out\n"
 
 

@@ -117,7 +117,11 @@ def main():
     names = [
         it for it in sorted(os.listdir(CRATES)) if os.path.isdir(os.path.join(CRATES, it, "src"))
     ]
-    every = {name: Crate(name) for name in names if not name.endswith("_tests")}
+    every = {
+        name: Crate(name)
+        for name in names
+        if not name.endswith("_tests") and name != "test_fixtures"
+    }
     cited = 0
     for number, heading, column in rows("docs/THEOREMS.md"):
         if "`" not in heading:

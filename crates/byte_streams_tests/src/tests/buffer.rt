@@ -1,7 +1,7 @@
 //! Buffers in front of readers: fields within them, over their ends, and past a failure.
 
 use byte_streams::{Failed, FromBuffer, Pull, Source};
-use parts_for_tests::{Giver, Then};
+use test_fixtures::{Giver, Then};
 use ssh_wire::PullFault;
 use std::alloc::Global;
 use std::io::{self, BufReader};

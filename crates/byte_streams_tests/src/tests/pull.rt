@@ -1,7 +1,7 @@
 //! Fields from readers that give few bytes at a call, fail, or never end.
 
 use byte_streams::{FromRead, Pull};
-use parts_for_tests::{Giver, Then};
+use test_fixtures::{Giver, Then};
 use ssh_wire::PullFault;
 use std::alloc::{AllocError, Global};
 

@@ -1,7 +1,7 @@
 //! Readers that are interrupted, give few bytes, or fail.
 
 use byte_streams::{Failed, FromRead, Source};
-use parts_for_tests::{Giver, Then};
+use test_fixtures::{Giver, Then};
 
 // Reads into four bytes, from a reader that gives two at a call after some interruptions.
 struct Row<'a> {

@@ -2,7 +2,7 @@
 
 use crate::tests::pull::Step::{AtEnd, Byte, Rest, RestRefused, Taken};
 use crate::tests::pull::{TEXT, meets_all, pull, text_of};
-use parts_for_tests::Then;
+use test_fixtures::Then;
 use ssh_wire::PullFault;
 use std::alloc::{AllocError, Global};
 

@@ -1,7 +1,7 @@
 //! Writers that are interrupted, take few bytes, or fail.
 
 use byte_streams::{Sent, Sink, ToWrite, send};
-use parts_for_tests::Taker;
+use test_fixtures::Taker;
 
 const LINE: &[u8] = b"g.pub: REVOKED\n";
 

@@ -2,7 +2,8 @@
 
 ghost use Rattle.std.specs.Prelude.{◌≡◌, ◌≤◌, IfOk, IfSome, Some, length, option_map};
 ghost use Rattle.std.specs.Str.{bytes_eq};
-ghost use Rattle.key_text.specs.Armour.{armour_at, begins_container, body_of, end_line, lines_of, rest_lines};
+ghost use Rattle.key_text.specs.Armour.{armour_at, begins_container, body_of, end_line, lines_of};
+ghost use Rattle.key_text.specs.Armour.{rest_lines};
 
 use crate::line::before_ending;
 use crate::lines::split_line;

@@ -1,7 +1,8 @@
 //! Words and the blanks between them.
 
 ghost use Rattle.std.specs.Prelude.{◌≡◌};
-ghost use Rattle.key_text.specs.Blanks.{after_blanks, before_ending, first_word, is_blank, is_ending, trimmed};
+ghost use Rattle.key_text.specs.Blanks.{after_blanks, before_ending, first_word, is_blank};
+ghost use Rattle.key_text.specs.Blanks.{is_ending, trimmed};
 ghost use Rattle.key_text.specs.LineReading.{after_word};
 
 /// Returns true if a byte is a blank: a space or a tab.

@@ -4,7 +4,7 @@
 use crate::tests::keys::{ALICE, ALICE_PRINT, AUTHORITY_PRINT, BOB, BOB_PRINT};
 use crate::tests::made::{FINDINGS, alice_and_bob, nothing, said_of};
 use krl_audit::Refusal;
-use parts_for_tests::{CONTAINER, GITHUB, GITHUB_PRINT, joined, repeated};
+use test_fixtures::{CONTAINER, GITHUB, GITHUB_PRINT, joined, repeated};
 
 #[test]
 fn an_audit_goes_on_past_what_it_cannot_read(rt: HostRuntime) {

@@ -6,7 +6,7 @@ use byte_streams::{Sink, ToWrite};
 use key_listing::{Printer, Run};
 use key_text::{sha1_of, sha256_of};
 use krl_audit::{Auditor, Counts, Judge, ListFacts, Refusal, Stated};
-use parts_for_tests::{Taker, joined};
+use test_fixtures::{Taker, joined};
 use std::alloc::Global;
 use std::process::Abort;
 

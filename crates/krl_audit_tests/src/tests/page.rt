@@ -10,8 +10,8 @@ use json_lines::{LineWriter, put_number, put_text};
 use key_files::RunFault;
 use key_listing::{Printer, Run};
 use krl_audit::{Auditor, Counts, Form, Judge, Shown};
-use krl_held::Revocations;
-use parts_for_tests::Taker;
+use krl_entries::Revocations;
+use test_fixtures::Taker;
 use span_sets::Held;
 use std::alloc::{AllocError, Global};
 

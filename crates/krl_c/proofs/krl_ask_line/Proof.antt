@@ -36,15 +36,15 @@ use borrow.Struct.Leaves.{Lone-is}
 use Rattle.std.specs.contracts.alloc.Global.{the_row as Z}
 use Rattle.std.proofs.alloc.Global.TheLaws.{the_row_laws as heap_laws}
 use Rattle.krl_c.specs.Answer.{AnswersLine}
-use Rattle.krl_c.specs.Kept.{AnswersHeld}
+use Rattle.krl_c.specs.Stored.{AnswersStored}
 use Rattle.krl_c.specs.Loan.{is_lent}
 use Rattle.krl_c.specs.contracts.krl_ask_line as f
 use Rattle.krl_c.proofs.krl_ask_line.Statement.{statement}
 use Rattle.krl_c.proofs.krl_ask_line.Code as code
-use Rattle.krl_c.specs.contracts.kept.ask_of_line as e
-use Rattle.krl_c.proofs.kept.ask_of_line.Met.{met}
-use Rattle.krl_c.specs.contracts.kept.Kept.{the_row as K}
-use Rattle.krl_c.proofs.kept.Kept.TheLaws.{the_row_laws as laws}
+use Rattle.krl_c.specs.contracts.stored.ask_of_line as e
+use Rattle.krl_c.proofs.stored.ask_of_line.Met.{met}
+use Rattle.krl_c.specs.contracts.stored.Stored.{the_row as K}
+use Rattle.krl_c.proofs.stored.Stored.TheLaws.{the_row_laws as laws}
 
 abbrev stayed : Stays f.ended.signature.params f.ended.kept
 stayed = (stay_dropped (plain (λ _. Z)) yes, (stay_dropped (plain (λ _. RawPtr)) yes, (stay_dropped _ yes, tt)))
@@ -63,13 +63,13 @@ krl_ask_line_spec 𝓤 𝓛 𝓜 𝓡 wired =
     let at : z.0.4.1.0 ≡ rawptr_vals p = rawptr_Tells p z.0.4.1.0 are.1.0 in
     let slice : z.0.4.1.1.0 ≡ shr_slice_vals line = shr_slice_Tells (named 0) κ u8 line z.0.4.1.1.0 are.1.1.0 in
     let G = triple_of 𝓛 e.signature (e.spec 𝓛 𝓜.mem 𝓡.returns) in
-    let Says : ℤ → Type 0 = AnswersHeld (λ entries. AnswersLine entries line.now) loan.kept in
-    let x : ℕ → ℕ → G.Ghost = λ b o. (((loan.life, (κ, tt)), (loan.share, (q, tt)), tt, (alloc, (record { ref_ptr = (b, o); now = loan.kept }, (line, tt))), (g ∷ [], (vptr b o ∷ [], (shr_slice_vals line, tt)))), tt) in
+    let Says : ℤ → Type 0 = AnswersStored (λ entries. AnswersLine entries line.now) loan.stored in
+    let x : ℕ → ℕ → G.Ghost = λ b o. (((loan.life, (κ, tt)), (loan.share, (q, tt)), tt, (alloc, (record { ref_ptr = (b, o); now = loan.stored }, (line, tt))), (g ∷ [], (vptr b o ∷ [], (shr_slice_vals line, tt)))), tt) in
     let walk : Goes (g ∷ []) (rawptr_vals p) (shr_slice_vals line) =
     qed 𝓛 (((‵ (flft κ q) ⊛ ‵ ftrue) ⊛ ‵ (owns (Z ∷ RawPtr ∷ ShrSlice (named 0) κ u8 ∷ []) (alloc, (p, (line, tt))) (g ∷ [], (rawptr_vals p, (shr_slice_vals line, tt))))) ∷ ‵ (is_lent p loan) ∷ []) ∵
     split ! $ split ! $ move ! (2 ∷ []) $ fsplit ! $ move ! (1 ∷ []) $ fsplit ! $ drop ! $ fsplit ! $ move ! (5 ∷ []) $ fsplit ! $ move ! (1 ∷ []) $
-    use1 𝓛 (‵ (lent_at K p loan.kept loan.life) ⊛ ‵ (lent_at K p loan.kept loan.life)) (contraction 𝓛 (lent_at K p loan.kept) (lent_at_shr_laws K laws.shr_laws p loan.kept) loan.life) $ split ! $
-    in_a_block ! p (λ s. lent_at K s loan.kept loan.life) (fst∗ 𝓤 (never 𝓤) (sem 𝓛 (shared_of K loan.kept 0 0 loan.life))) (λ b o eq. fsplit ! $ drop ! $ hide ! $
+    use1 𝓛 (‵ (lent_at K p loan.stored loan.life) ⊛ ‵ (lent_at K p loan.stored loan.life)) (contraction 𝓛 (lent_at K p loan.stored) (lent_at_shr_laws K laws.shr_laws p loan.stored) loan.life) $ split ! $
+    in_a_block ! p (λ s. lent_at K s loan.stored loan.life) (fst∗ 𝓤 (never 𝓤) (sem 𝓛 (shared_of K loan.stored 0 0 loan.life))) (λ b o eq. fsplit ! $ drop ! $ hide ! $
     regoal ! (λ s. prop (WpFn 𝓤 𝓛.H 𝓣.C 𝓣.Λ code.function ((g ∷ []) ++ (rawptr_vals s ++ (shr_slice_vals line ++ []))) (W.post (At (g ∷ []) (rawptr_vals s) (shr_slice_vals line))))) eq refl $
     enter ! _ _ _ _ _ $ alloc_all ! (λ l. pass_all ! refl (tg, ((tt, tt), ((tt, (tt, (record { fits = are.1.1.0.0.1.0 }, tt))), tt))) $
     -- [the borrowed value; the same again; the token; the line; nothing; the allocator; the line's
@@ -84,7 +84,7 @@ krl_ask_line_spec 𝓤 𝓛 𝓜 𝓡 wired =
     sets ! (of_opd ! (get ! refl)) refl (tt, (tt, (record { fits = are.1.1.0.0.1.0 }, tt))) $
     nothing ! $ move ! (4 ∷ 0 ∷ []) $ fjoin ! $ feq_i ! (List Val) (vptr b o ∷ []) (vptr b o ∷ []) refl $ move ! (0 ∷ 2 ∷ []) $ fjoin ! $ fjoin ! $ move ! (4 ∷ 0 ∷ []) $ fjoin ! $
     nothing ! $ move ! (5 ∷ 0 ∷ []) $ join ! $ move ! (3 ∷ 0 ∷ []) $ join ! $ join ! $ nothing ! $ move ! (1 ∷ 0 ∷ []) $ join ! $ use1 𝓛 (raw (G.pre (x b o))) (id⊢ 𝓤 _) $
-    calls_at ! (framed 𝓤 𝓛.H 𝓜 𝓣) G (met 𝓤 𝓛 𝓜 𝓡 (code.calls-krl_c::kept::ask_of_line 𝓡.env wired)) (x b o) (and_then ! (get ! refl) (and_then ! (get ! refl) (and_then ! (get ! refl) (no_more !)))) (λ v.
+    calls_at ! (framed 𝓤 𝓛.H 𝓜 𝓣) G (met 𝓤 𝓛 𝓜 𝓡 (code.calls-krl_c::stored::ask_of_line 𝓡.env wired)) (x b o) (and_then ! (get ! refl) (and_then ! (get ! refl) (and_then ! (get ! refl) (no_more !)))) (λ v.
     use1 𝓛 (later (some (λ (r : ℤ). ((‵ (flft loan.life loan.share) ⊛ (‵ (flft κ q) ⊛ ‵ ftrue)) ⊛ ‵ (i32.own_val r (v ∷ [])))
     ⊛ some (λ (ws : Lasts e.ended (loan.life, (κ, tt)) (x b o).0.3). ‵ (lasts e.ended (loan.life, (κ, tt)) (x b o).0.3 ws) ⊛ raw (fact 𝓤 (Says r)))))) (id⊢ 𝓤 _) $
     await ! tt $ pick ! (λ r. split ! $ move ! (1 ∷ []) $ pick ! (λ ws. split ! $ drop ! $ heard ! _ (λ says_so. split ! $ split ! $ move ! (2 ∷ []) $

@@ -2,8 +2,8 @@
 use Rattle.std.proofs.Common.{refl, rules, ◌∙◌}
 use mir.Syntax.{w32}
 use mir.Val.{SFits}
-use Rattle.krl_c.specs.Kept.{loaded, not_loaded_for}
-use Rattle.krl_c.proofs.Saying.{same}
+use Rattle.krl_c.specs.Stored.{loaded, not_loaded_for}
+use Rattle.krl_c.proofs.AnswerMeaning.{same}
 use Rattle.krl_c.proofs.krl_load.Goals as goal
 
 pub returns-in-Ok : goal.returns-in-Ok

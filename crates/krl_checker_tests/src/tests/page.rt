@@ -5,8 +5,8 @@ use byte_streams::{Sink, ToWrite};
 use key_files::RunFault;
 use key_listing::Printer;
 use krl_checker::{Checker, Role};
-use krl_held::Revocations;
-use parts_for_tests::{FIVE, GITHUB, GITHUB_LINE, OTHER_LINE, Taker, list_of};
+use krl_entries::Revocations;
+use test_fixtures::{FIVE, GITHUB, GITHUB_LINE, OTHER_LINE, Taker, list_of};
 use span_sets::Held;
 
 /// Whether a list, which was read from these bytes, does all that it must: the exit status.

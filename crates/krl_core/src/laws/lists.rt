@@ -7,7 +7,7 @@ ghost use Rattle.serial_set.specs.BitRuns.{big_endian};
 ghost use Rattle.ssh_wire.specs.Wire.{IsBytes, number_of};
 ghost use Rattle.krl_core.specs.declared.header.Header.{Header};
 ghost use Rattle.std.specs.List.{concat};
-ghost use Rattle.krl_held.specs.Revocations.{Revocations, Means, held};
+ghost use Rattle.krl_entries.specs.Revocations.{Revocations, Means, held};
 ghost use Rattle.krl_core.specs.Krl.{SpelledSection, Spells};
 ghost use Rattle.krl_types.specs.declared.krl_fault.KrlFault.{KrlFault};
 ghost use Rattle.krl_core.specs.Front.{State, IsFirstFault, IsFront, limit};

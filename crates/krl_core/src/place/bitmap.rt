@@ -6,7 +6,7 @@ ghost use Rattle.krl_core.specs.Place.{bitmap_expected};
 
 use crate::judging::{bits_judged, judge, next_bits, rest, within};
 use crate::place::Place;
-use krl_held::{byte_of, u32_of, u64_of};
+use krl_entries::{byte_of, u32_of, u64_of};
 use krl_types::KrlFault;
 
 /// The places of a bitmap subsection.

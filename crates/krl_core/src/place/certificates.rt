@@ -6,7 +6,7 @@ ghost use Rattle.krl_core.specs.Place.{certificates_expected};
 
 use crate::judging::{next_subsection, rest, subsection_of_type, within};
 use crate::place::Place;
-use krl_held::{byte_of, u32_of};
+use krl_entries::{byte_of, u32_of};
 use krl_types::KrlFault;
 
 /// The places of a section of certificates, without those of its subsections.

@@ -7,7 +7,7 @@ ghost use Rattle.krl_core.specs.Place.{extension_expected};
 
 use crate::judging::{judge, next_subsection, rest, within};
 use crate::place::Place;
-use krl_held::{byte_of, u32_of};
+use krl_entries::{byte_of, u32_of};
 use krl_types::KrlFault;
 
 /// The places of an extension, as a section or a subsection.

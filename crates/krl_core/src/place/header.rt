@@ -6,7 +6,7 @@ ghost use Rattle.krl_core.specs.Place.{header_expected};
 use crate::header::MAGIC;
 use crate::judging::judge;
 use crate::place::Place;
-use krl_held::u32_of;
+use krl_entries::u32_of;
 use krl_types::KrlFault;
 
 /// The places of the header.

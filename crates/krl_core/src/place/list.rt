@@ -6,7 +6,7 @@ ghost use Rattle.krl_core.specs.Place.{item_size, list_expected};
 
 use crate::judging::{judge, next_item, rest, within};
 use crate::place::Place;
-use krl_held::u32_of;
+use krl_entries::u32_of;
 use krl_types::KrlFault;
 
 /// The kind of the items of a list.

@@ -7,7 +7,7 @@ ghost use Rattle.krl_core.specs.Place.{serials_expected};
 
 use crate::judging::{judge, next_serial, next_subsection, rest, within};
 use crate::place::Place;
-use krl_held::{u32_of, u64_of};
+use krl_entries::{u32_of, u64_of};
 use krl_types::KrlFault;
 
 /// The places of a subsection of serial numbers or of a range.

@@ -4,7 +4,7 @@ ghost use Rattle.std.specs.Prelude.{◌≡◌, length, Ok};
 ghost use Rattle.krl_core.specs.Place.{signature_expected};
 
 use crate::place::Place;
-use krl_held::u32_of;
+use krl_entries::u32_of;
 
 /// The places of a signature, after its type byte.
 #[derive(Clone, Copy)]

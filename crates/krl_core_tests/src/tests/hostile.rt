@@ -3,7 +3,7 @@
 use crate::tests::full::Full;
 use crate::tests::lists::{list_of, read_from, spans_from};
 use krl_core::{KrlFault, Revocations};
-use parts_for_tests::{BITMAP, Giver, Then, joined};
+use test_fixtures::{BITMAP, Giver, Then, joined};
 use span_sets::{Held, SpanVec};
 use std::alloc::Global;
 use std::process::Abort;

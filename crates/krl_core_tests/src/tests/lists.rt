@@ -13,7 +13,7 @@ use std::process::Abort;
 
 /// The list with these bytes after its header.
 pub fn list_of(rt: &impl Abort, alloc: Global, sections: &[u8]) -> Vec<u8> {
-    parts_for_tests::list_of(alloc, sections).expect(rt, "there is memory")
+    test_fixtures::list_of(alloc, sections).expect(rt, "there is memory")
 }
 
 /// The result of reading a list.

@@ -5,7 +5,7 @@ ghost use Rattle.std.specs.Prelude.{◌≤◌};
 use crate::tests::lists::{list_of, read_from, spans_from, text_of};
 use crate::tests::said::{ALL, Said, hold};
 use krl_core::{Authorities, Listed, Revocations};
-use parts_for_tests::{joined, strings};
+use test_fixtures::{joined, strings};
 use serial_set::Spans;
 use span_sets::Held;
 use std::alloc::{AllocError, Global};

@@ -1,11 +1,12 @@
-//! The callers of the pages of `krl_held`, `krl_core`, `krl_types`, `krl_authority` and `krl_writer`.
+//! The callers of the pages of `krl_entries`, `krl_core`, `krl_types`, `krl_authority` and
+//! `krl_writer`.
 
 use byte_streams::FromRead;
 use krl_authority::authorities_are_keys;
 use krl_core::{Header, Revocations, read_krl};
 use krl_types::KrlFault;
 use krl_writer::{TextFault, krl_text};
-use parts_for_tests::{HEADER, PUBLISHED, joined, strings};
+use test_fixtures::{HEADER, PUBLISHED, joined, strings};
 use span_sets::Held;
 use ssh_cert::{Subject, subject};
 use ssh_wire::Bytes;

@@ -4,7 +4,7 @@ use crate::tests::lists::{list_of, spans_from};
 use crate::tests::rows::{ROWS, Row};
 use byte_streams::FromRead;
 use krl_core::{KrlFault, Reading};
-use parts_for_tests::{BITMAP, FIVE, Giver, HEADER, Then};
+use test_fixtures::{BITMAP, FIVE, Giver, HEADER, Then};
 use serial_set::Spans;
 use span_sets::{Held, SpanVec};
 use std::alloc::Global;

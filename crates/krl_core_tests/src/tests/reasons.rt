@@ -2,7 +2,7 @@
 
 use crate::tests::said::{A, ALL, About, B, G, Said, held_of, subject_of};
 use key_text::{sha1_of, sha256_of};
-use krl_held::{Reason, Reasons};
+use krl_entries::{Reason, Reasons};
 use span_sets::Held;
 use std::alloc::Global;
 use std::process::Abort;

@@ -5,7 +5,7 @@ use crate::tests::said::held_of_runs;
 use byte_streams::ToWrite;
 use krl_core::Revocations;
 use krl_writer::{WriteFault, write_krl};
-use parts_for_tests::{FIVE, Taker};
+use test_fixtures::{FIVE, Taker};
 use span_sets::Held;
 use std::alloc::Global;
 

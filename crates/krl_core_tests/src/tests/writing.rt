@@ -3,7 +3,7 @@
 use crate::tests::lists::{list_of, read_from, text_of};
 use crate::tests::said::{ALL, Said, held_of, held_of_runs};
 use krl_core::Revocations;
-use parts_for_tests::{EIGHT_AND_ONE, joined};
+use test_fixtures::{EIGHT_AND_ONE, joined};
 use span_sets::Held;
 use std::alloc::Global;
 use std::process::Abort;

@@ -5,7 +5,7 @@ use crate::tests::made::certificates;
 use byte_streams::FromRead;
 use krl_core::read_krl;
 use krl_openssh::{Difference, first_difference};
-use parts_for_tests::{
+use test_fixtures::{
     BITMAP, FIVE, GITHUB, HEADER, ID_A, KEY_SECTION, SHA256_SECTION, joined, list_of, repeated,
     strings,
 };

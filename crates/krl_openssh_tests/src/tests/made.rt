@@ -1,6 +1,6 @@
 //! Lists, of their parts.
 
-use parts_for_tests::{HEADER, joined, strings};
+use test_fixtures::{HEADER, joined, strings};
 use std::alloc::Global;
 use std::process::Abort;
 

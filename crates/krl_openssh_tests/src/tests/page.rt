@@ -3,7 +3,7 @@
 use byte_streams::FromRead;
 use krl_core::read_krl;
 use krl_openssh::first_difference;
-use parts_for_tests::{FIVE, list_of};
+use test_fixtures::{FIVE, list_of};
 use span_sets::Held;
 use std::alloc::Global;
 

@@ -1,7 +1,7 @@
 //! The least plan of worked lists of runs, and its cost beside that of every plan of short lists.
 
 use krl_plan::{Group, Sort, least_plan, put_least_plan};
-use parts_for_tests::EIGHT_AND_ONE;
+use test_fixtures::EIGHT_AND_ONE;
 use serial_set::Spans;
 use span_sets::Held;
 use std::alloc::{AllocError, Global};

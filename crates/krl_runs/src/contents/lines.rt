@@ -1,7 +1,8 @@
 //! The lines in which a list's header and serials are printed.
 
 ghost use Rattle.std.specs.Prelude.{◌≡◌, ◌++◌, OnOk};
-ghost use Rattle.krl_runs.specs.Contents.{authority_line, authority_text, comment_line, date_line, serials_line, serials_text, version_line};
+ghost use Rattle.krl_runs.specs.Contents.{authority_line, authority_text, comment_line, date_line};
+ghost use Rattle.krl_runs.specs.Contents.{serials_line, serials_text, version_line};
 
 use cert_listing::time_text;
 use key_listing::push_number;

@@ -1,7 +1,7 @@
 //! Querying lists for the keys of files.
 
 use crate::tests::runs::{CLOSED, File, KEY, LONG, ONE, Said, asks, joined, repeated};
-use parts_for_tests::{CERT_LINE, CONTAINER, HEADER, ID_A, KEY_SECTION, OTHER_LINE};
+use test_fixtures::{CERT_LINE, CONTAINER, HEADER, ID_A, KEY_SECTION, OTHER_LINE};
 use std::alloc::Global;
 use std::process::Abort;
 

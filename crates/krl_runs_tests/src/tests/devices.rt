@@ -7,7 +7,7 @@ use byte_streams::FromRead;
 use key_files::{FileFault, load};
 use key_listing::ListMode;
 use key_text::Hash;
-use parts_for_tests::{GITHUB_LINE, Giver, Taker, Then};
+use test_fixtures::{GITHUB_LINE, Giver, Taker, Then};
 use ssh_wire::Bytes;
 use std::alloc::Global;
 use std::process::Abort;

@@ -3,7 +3,7 @@
 use crate::tests::runs::{CLOSED, File, LONG, Said, joined, listed, named, repeated, says};
 use key_listing::ListMode;
 use key_text::Hash;
-use parts_for_tests::{CERT_LINE, CONTAINER, GITHUB_LINE, OTHER_LINE, Taker};
+use test_fixtures::{CERT_LINE, CONTAINER, GITHUB_LINE, OTHER_LINE, Taker};
 use std::alloc::Global;
 use std::process::Abort;
 

@@ -3,8 +3,8 @@
 use crate::tests::runs::{CLOSED, File, LONG, all_named, holding, joined, named, repeated, same};
 use byte_streams::FromRead;
 use key_files::fault_text;
-use krl_make::{Authority, Old, make_run};
-use parts_for_tests::{
+use krl_make::{AuthorityOption, Old, make_run};
+use test_fixtures::{
     CERT_LINE, CONTAINER, FIVE, GITHUB, GITHUB_LINE, HEADER, ID_A, KEY_SECTION, OTHER, OTHER_LINE,
     SHA256_SECTION,
 };
@@ -17,7 +17,7 @@ fn made(
     rt: &impl Abort,
     alloc: Global,
     old: Option<&[u8]>,
-    (authority, version): (&Authority, Option<u64>),
+    (authority, version): (&AuthorityOption, Option<u64>),
     files: &[File],
 ) -> Vec<u8> {
     let files = all_named(rt, alloc, files);
@@ -52,7 +52,7 @@ fn makes(
     rt: &impl Abort,
     alloc: Global,
     number: usize,
-    (authority, lines): (&Authority, &[&[u8]]),
+    (authority, lines): (&AuthorityOption, &[&[u8]]),
     sections: &[&[u8]],
 ) {
     let made = made(rt, alloc, None, (authority, Some(1)), &[("s", Some(lines))]);
@@ -91,7 +91,7 @@ const MADE: [(&[&[u8]], &[&[u8]]); 7] = [
 #[test]
 fn of_lines(rt: HostRuntime) {
     for (i, (lines, sections)) in MADE.iter().enumerate() {
-        makes(&rt, rt.alloc(), i, (&Authority::All, *lines), *sections);
+        makes(&rt, rt.alloc(), i, (&AuthorityOption::All, *lines), *sections);
     }
 }
 
@@ -112,7 +112,7 @@ fn of_a_certificate_without_a_serial(rt: HostRuntime) {
         &rt,
         rt.alloc(),
         0,
-        (&Authority::NotGiven, &lines),
+        (&AuthorityOption::NotGiven, &lines),
         &sections,
     );
 }
@@ -138,7 +138,7 @@ fn updates(rt: &impl Abort, alloc: Global, number: usize, row: &Update) {
     let (version, old, lines, new) = *row;
     let old = list(rt, alloc, version, old);
     let new = list(rt, alloc, version.saturating_add(1), new);
-    let how = (&Authority::All, None);
+    let how = (&AuthorityOption::All, None);
     let made = made(rt, alloc, Some(&old), how, &[("s", Some(&[lines]))]);
     same(rt, number, &made, &new);
 }
@@ -151,12 +151,12 @@ fn what_an_old_list_holds_stays(rt: HostRuntime) {
 }
 
 // The authority of the first key of a file. The file cannot be opened if it has no text.
-fn authority<'a>(rt: &impl Abort, alloc: Global, text: Option<&[u8]>) -> Authority<'a> {
+fn authority<'a>(rt: &impl Abort, alloc: Global, text: Option<&[u8]>) -> AuthorityOption<'a> {
     let file = match text {
         Some(text) => holding("ca", joined(rt, alloc, &[text])),
         None => named(rt, alloc, &("ca", None)),
     };
-    Authority::File(file)
+    AuthorityOption::File(file)
 }
 
 // The section of serial 5 of a key's authority, up to the key.
@@ -187,7 +187,7 @@ fn takes_long(rt: &impl Abort, alloc: Global, size: usize) {
     let lines = repeated(rt, alloc, b"# a\n", size);
     let parts: [&[u8]; 7] = [&lines, b"#", &letters, b"\n", GITHUB_LINE, b" ", &letters];
     let text = joined(rt, alloc, &parts);
-    makes(rt, alloc, size, (&Authority::All, &[&text]), &[KEY_SECTION]);
+    makes(rt, alloc, size, (&AuthorityOption::All, &[&text]), &[KEY_SECTION]);
     is_authority(rt, alloc, size, &text, GITHUB)
 }
 
@@ -215,7 +215,7 @@ fn refuses(
     alloc: Global,
     number: usize,
     old: Option<&[u8]>,
-    (authority, lines): (&Authority, &[u8]),
+    (authority, lines): (&AuthorityOption, &[u8]),
     fault: &str,
 ) {
     let files: [File; 2] = [("s", Some(&[lines])), CLOSED];
@@ -227,7 +227,7 @@ fn refuses(
 #[test]
 fn refused(rt: HostRuntime) {
     for (i, (lines, fault)) in REFUSED.iter().enumerate() {
-        refuses(&rt, rt.alloc(), i, None, (&Authority::All, *lines), *fault);
+        refuses(&rt, rt.alloc(), i, None, (&AuthorityOption::All, *lines), *fault);
     }
     let cut = Some(&HEADER[..43]);
     refuses(
@@ -235,10 +235,10 @@ fn refused(rt: HostRuntime) {
         rt.alloc(),
         6,
         cut,
-        (&Authority::All, b"x"),
+        (&AuthorityOption::All, b"x"),
         "r.krl: krl 3 EndsEarly",
     );
-    let lines = (&Authority::NotGiven, b"# 1\nserial: 5".as_slice());
+    let lines = (&AuthorityOption::NotGiven, b"# 1\nserial: 5".as_slice());
     refuses(
         &rt,
         rt.alloc(),
@@ -263,7 +263,7 @@ fn refused(rt: HostRuntime) {
         rt.alloc(),
         10,
         None,
-        (&Authority::All, b""),
+        (&AuthorityOption::All, b""),
         "none: file 1 Open",
     );
 }
@@ -272,7 +272,7 @@ fn refused(rt: HostRuntime) {
 fn length(rt: &impl Abort, alloc: Global, id: usize) -> usize {
     let id = vec![in alloc; b'a'; id].expect(rt, "there is memory");
     let files: [File; 1] = [("s", Some(&[b"id: ", &id]))];
-    made(rt, alloc, None, (&Authority::All, None), &files).len()
+    made(rt, alloc, None, (&AuthorityOption::All, None), &files).len()
 }
 
 #[test]

@@ -7,11 +7,11 @@ use key_files::{Cause, Named, RunFault, keys_of};
 use key_listing::{Done, ListMode, list_run};
 use key_text::Hash;
 use krl_core::Revocations;
-use krl_make::{Authority, Old, make_run};
+use krl_make::{AuthorityOption, Old, make_run};
 use krl_runs::query_run;
 use krl_spec::{SpecFault, Under, read_spec};
-use krl_system::{MadeOf, Waiting, Written, hold, release, write_list};
-use parts_for_tests::{GITHUB, GITHUB_LINE};
+use krl_system::{MadeOf, Waiting, Written, lock_target, release, write_list};
+use test_fixtures::{GITHUB, GITHUB_LINE};
 use span_sets::Held;
 use ssh_cert::subject;
 use std::alloc::Global;
@@ -43,10 +43,10 @@ fn key_lines<'a>(alloc: Global, file: &'a Named<'a>, text: &mut Vec<u8>) -> Done
 /// Writes a list under a name, once no other update holds the list that is there.
 fn written(rt: &HostRuntime, name: &str, text: &[u8]) -> Result<Written, Cause> {
     let mut waiting = Waiting::new(name);
-    match hold(rt, name, MadeOf::Lines, &mut waiting)? {
-        Some(held) => {
-            let written = write_list(rt, name, &held, text);
-            release(rt, held);
+    match lock_target(rt, name, MadeOf::Lines, &mut waiting)? {
+        Some(locked) => {
+            let written = write_list(rt, name, &locked, text);
+            release(rt, locked);
             written
         }
         None => Ok(Written::Elsewhere),
@@ -56,7 +56,7 @@ fn written(rt: &HostRuntime, name: &str, text: &[u8]) -> Result<Written, Cause> 
 /// A new list that revokes what the lines of files name, under an authority.
 fn new_list<'a>(
     alloc: Global,
-    authority: &'a Authority<'a>,
+    authority: &'a AuthorityOption<'a>,
     files: &'a [Named<'a>],
     now: u64,
 ) -> Result<Vec<u8>, RunFault<'a>> {
@@ -132,7 +132,7 @@ fn a_device_takes_a_list(rt: HostRuntime) {
 fn a_list_is_made_and_asked(rt: HostRuntime) {
     let line = Vec::from_slice(rt.alloc(), GITHUB_LINE).expect(&rt, "there is memory");
     let files = [holding("keys", line)];
-    let all = Authority::All;
+    let all = AuthorityOption::All;
     let list = new_list(rt.alloc(), &all, &files, 0)
         .ok()
         .expect(&rt, "the line names a key");

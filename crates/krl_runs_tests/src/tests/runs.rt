@@ -5,7 +5,7 @@ use key_files::{FileFault, Named, fault_text};
 use key_listing::{Done, ListMode, list_run};
 use key_text::Hash;
 use krl_runs::query_run;
-use parts_for_tests::{GITHUB_LINE, Giver, HEADER, KEY_SECTION, Taker};
+use test_fixtures::{GITHUB_LINE, Giver, HEADER, KEY_SECTION, Taker};
 use ssh_wire::Bytes;
 use std::alloc::Global;
 use std::process::Abort;
@@ -18,12 +18,12 @@ pub const LONG: [usize; 3] = [1_025, 4_097, 70_001];
 
 /// The parts one after another.
 pub fn joined(rt: &impl Abort, alloc: Global, parts: &[&[u8]]) -> Vec<u8> {
-    parts_for_tests::joined(alloc, parts).expect(rt, "there is memory")
+    test_fixtures::joined(alloc, parts).expect(rt, "there is memory")
 }
 
 /// The bytes, repeated.
 pub fn repeated(rt: &impl Abort, alloc: Global, bytes: &[u8], times: usize) -> Vec<u8> {
-    parts_for_tests::repeated(alloc, bytes, times).expect(rt, "there is memory")
+    test_fixtures::repeated(alloc, bytes, times).expect(rt, "there is memory")
 }
 
 /// The bytes found are the expected ones. The number identifies the case within a test.

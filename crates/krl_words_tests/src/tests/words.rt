@@ -1,7 +1,7 @@
 //! The words of the command line.
 
 use key_text::Hash;
-use krl_job::{Authority, Job, Mode};
+use krl_job::{AuthorityOption, Job, Mode};
 use krl_words::{CommandFault, command_of};
 use std::alloc::{AllocError, Global};
 use std::test::Fail;
@@ -150,11 +150,11 @@ const MAKING: [Making<'static>; 5] = [
 ];
 
 // Whether the authority is the one of these words.
-fn is_authority(authority: &Authority<&str>, words: &str) -> bool {
+fn is_authority(authority: &AuthorityOption<&str>, words: &str) -> bool {
     match authority {
-        Authority::NotGiven => words.is_empty(),
-        Authority::All => words == "all",
-        Authority::File(name) => words.strip_prefix("of ") == Some(*name),
+        AuthorityOption::NotGiven => words.is_empty(),
+        AuthorityOption::All => words == "all",
+        AuthorityOption::File(name) => words.strip_prefix("of ") == Some(*name),
     }
 }
 

@@ -1,8 +1,8 @@
 //! Lists of one or two lines, and what OpenSSH 9.2p1 did with them.
 
 use key_text::{LineFault, read_line};
-use krl_held::Revocations;
-use parts_for_tests::{CERT_LINE, GITHUB, GITHUB_LINE, OTHER, OTHER_LINE, joined, repeated};
+use krl_entries::Revocations;
+use test_fixtures::{CERT_LINE, GITHUB, GITHUB_LINE, OTHER, OTHER_LINE, joined, repeated};
 use plain_list::{LineCause, PlainFault, read_plain};
 use span_sets::Held;
 use ssh_cert::{SubjectFault, subject};

@@ -1,7 +1,7 @@
 //! The caller of the page.
 
-use krl_held::Revocations;
-use parts_for_tests::{GITHUB, GITHUB_LINE, OTHER};
+use krl_entries::Revocations;
+use test_fixtures::{GITHUB, GITHUB_LINE, OTHER};
 use plain_list::{PlainFault, read_plain};
 use span_sets::Held;
 use ssh_cert::subject;

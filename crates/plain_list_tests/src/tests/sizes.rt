@@ -2,15 +2,15 @@
 
 use crate::tests::lists::asked;
 use base64::engine::general_purpose::STANDARD;
-use parts_for_tests::{GITHUB_LINE, joined, strings};
+use test_fixtures::{GITHUB_LINE, joined, strings};
 use plain_list::{LineCause, PlainFault};
 use ssh_cert::SubjectFault;
 use ssh_key::KeyFault;
 use std::alloc::Global;
 use std::process::Abort;
 
-// A number of this many bytes, the first of which is `first`. A zero byte before it keeps the number
-// from being negative.
+// A number of this many bytes, the first of which is `first`. A zero byte before it keeps the
+// number from being negative.
 fn number(rt: &impl Abort, alloc: Global, first: u8, size: usize) -> Vec<u8> {
     let rest = vec![in alloc; 0x55; size.saturating_sub(1)].expect(rt, "there is memory");
     let head = [first];

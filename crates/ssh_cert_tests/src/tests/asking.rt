@@ -1,7 +1,7 @@
 //! The subjects of blobs.
 
 use crate::tests::parts::{Part, certificate, changed};
-use parts_for_tests::{GITHUB, OTHER, strings};
+use test_fixtures::{GITHUB, OTHER, strings};
 use ssh_cert::{CertFault, SubjectFault, subject};
 use ssh_key::KeyFault;
 use ssh_wire::WireFault;

@@ -1,6 +1,6 @@
 //! Faults as they are printed.
 
-use parts_for_tests::misprinted;
+use test_fixtures::misprinted;
 use ssh_cert::{CertFault, SubjectFault};
 use ssh_key::KeyFault;
 use ssh_wire::WireFault;

@@ -3,7 +3,7 @@
 use crate::tests::parts::{Part, changed, with};
 use cert_listing::{list_cert, time_text};
 use key_text::Hash;
-use parts_for_tests::{PUBLISHED, joined, repeated, strings};
+use test_fixtures::{PUBLISHED, joined, repeated, strings};
 use ssh_cert::{push_escaped, read_cert};
 use std::alloc::{AllocError, Global};
 

@@ -1,6 +1,6 @@
 //! Certificates made from their parts.
 
-use parts_for_tests::strings;
+use test_fixtures::strings;
 use ssh_cert::{CertFault, read_cert};
 use std::alloc::{AllocError, Global};
 

@@ -1,7 +1,7 @@
 //! Reading certificates, and the fault of each change of a field.
 
 use crate::tests::parts::{Part, certificate, changed, has_fault};
-use parts_for_tests::{OTHER, PUBLISHED, strings};
+use test_fixtures::{OTHER, PUBLISHED, strings};
 use ssh_cert::{Cert, CertFault, Role, read_cert};
 use ssh_key::Kind;
 

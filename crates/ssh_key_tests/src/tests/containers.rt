@@ -3,7 +3,7 @@
 use crate::tests::made::{Container, PLAIN, armoured, around, is_read};
 use crate::tests::parts::KEYS;
 use key_text::{PrivateFault, is_container, read_private, read_public_half};
-use parts_for_tests::{CONTAINER, GITHUB, joined, strings};
+use test_fixtures::{CONTAINER, GITHUB, joined, strings};
 use ssh_key::Kind;
 use ssh_wire::WireFault;
 use std::alloc::{AllocError, Global};

@@ -1,7 +1,7 @@
 //! The texts of faults.
 
 use key_text::{FingerprintFault, LineFault, PrivateFault};
-use parts_for_tests::misprinted;
+use test_fixtures::misprinted;
 use ssh_key::KeyFault;
 use ssh_wire::WireFault;
 

@@ -2,7 +2,7 @@
 
 use crate::tests::parts::{has_digits, has_fingerprint};
 use key_text::{FingerprintFault, Hash, parse_fingerprint, sha1_of, sha256_of};
-use parts_for_tests::{GITHUB, GITHUB_PRINT};
+use test_fixtures::{GITHUB, GITHUB_PRINT};
 use std::alloc::Global;
 use std::process::Abort;
 

@@ -1,7 +1,7 @@
 //! Keys read from blobs, and the faults of blobs.
 
 use crate::tests::parts::{KEYS, has_fault};
-use parts_for_tests::{GITHUB, PUBLISHED, joined, strings};
+use test_fixtures::{GITHUB, PUBLISHED, joined, strings};
 use ssh_key::{KeyFault, Kind, PublicKey, plain_blob, read_fields, read_key};
 use ssh_wire::{Cursor, WireFault};
 use std::alloc::{AllocError, Global};

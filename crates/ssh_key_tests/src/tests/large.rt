@@ -3,7 +3,7 @@
 use crate::tests::made::{Container, FIELDS, armoured, is_read};
 use base64::engine::general_purpose::STANDARD;
 use key_text::read_line;
-use parts_for_tests::{GITHUB, PUBLISHED, joined, strings};
+use test_fixtures::{GITHUB, PUBLISHED, joined, strings};
 use ssh_key::{plain_blob, read_key};
 use std::alloc::{AllocError, Global};
 

@@ -1,7 +1,7 @@
 //! Lines that give a key, and lines that give none.
 
 use key_text::{LineFault, has_key, read_line};
-use parts_for_tests::{GITHUB, GITHUB_LINE, joined};
+use test_fixtures::{GITHUB, GITHUB_LINE, joined};
 use std::alloc::{AllocError, Global};
 
 // Whether the line of the key between two texts gives it and this comment.

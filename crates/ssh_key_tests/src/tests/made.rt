@@ -2,7 +2,7 @@
 
 use base64::engine::general_purpose::STANDARD;
 use key_text::read_private;
-use parts_for_tests::{GITHUB, joined, strings};
+use test_fixtures::{GITHUB, joined, strings};
 use std::alloc::{AllocError, Global};
 
 /// The parts of a container: its cipher, the number of its keys, the blob, the second of the check

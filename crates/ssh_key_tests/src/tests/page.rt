@@ -7,7 +7,7 @@ ghost use Rattle.key_text.specs.KeyLine.{IsKeyLine};
 ghost use Rattle.key_text.specs.declared.hash.Hash.TheVariants.{Sha256};
 
 use key_text::{Hash, LineFault, fingerprint, read_line};
-use parts_for_tests::{GITHUB, GITHUB_LINE, GITHUB_PRINT};
+use test_fixtures::{GITHUB, GITHUB_LINE, GITHUB_PRINT};
 use ssh_key::laws::read_where_spelled;
 use ssh_key::{KeyFault, read_key};
 use std::alloc::Global;

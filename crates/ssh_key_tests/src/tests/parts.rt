@@ -1,7 +1,7 @@
 //! Keys of each kind, and the expected fingerprints and digests.
 
 use key_text::{Hash, fingerprint};
-use parts_for_tests::PUBLISHED;
+use test_fixtures::PUBLISHED;
 use ssh_key::{KeyFault, Kind, read_key};
 use std::alloc::{AllocError, Global};
 use std::process::Abort;

@@ -4,7 +4,7 @@ use Rattle.ssh_key.specs.KeyReading.{key_at}
 use Rattle.key_text.specs.LineReading.{content}
 use Rattle.key_files.specs.Keys.{file_key_of}
 use Rattle.key_listing.specs.Run.{container_item}
-use Rattle.key_listing.proofs.Answering.{blob_answered}
+use Rattle.key_listing.proofs.AnsweredFiles.{blob_answered}
 use Rattle.key_listing.proofs.laws.containers_by_what_is_spelled.Goals as goal
 
 pub returns-clause-answered : goal.returns-clause-answered

@@ -3,7 +3,7 @@ use Rattle.std.proofs.Common.{Some, sym, ap, ◌∙◌}
 use Rattle.ssh_key.specs.KeyReading.{key_at}
 use Rattle.key_text.specs.LineReading.{content}
 use Rattle.key_files.specs.Keys.{file_key_of}
-use Rattle.key_listing.proofs.Answering.{blob_answered, blob_refused}
+use Rattle.key_listing.proofs.AnsweredFiles.{blob_answered, blob_refused}
 use Rattle.key_listing.proofs.Items.{answered_line, faulty_line, line_item, no_item_of, spelled_line}
 use Rattle.key_listing.proofs.laws.items_by_what_is_spelled.Goals as goal
 

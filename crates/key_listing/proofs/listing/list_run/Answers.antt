@@ -2,8 +2,8 @@
 use Rattle.std.proofs.Common.{refl, rules}
 use Rattle.key_files.specs.Keys.{keys_of}
 use Rattle.key_listing.specs.Listing.{list_run_of}
-use Rattle.key_listing.proofs.Ending.{ends_known}
-use Rattle.key_listing.proofs.Answerable.{all_expected}
+use Rattle.key_listing.proofs.RunEnds.{ends_known}
+use Rattle.key_listing.proofs.AnswerableKeys.{all_expected}
 use Rattle.key_listing.proofs.listing.list_run.Goals as goal
 
 pub returns : goal.returns

@@ -3,8 +3,8 @@ use Rattle.std.proofs.Common.{◌∷◌, Ok, Result, ap, ◌∙◌}
 use Rattle.std.proofs.lemmas.Result.{err_from_is_err_and}
 use Rattle.key_files.specs.Keys.{Named, FileKey}
 use Rattle.key_files.specs.RunFault.{RunFault}
-use Rattle.key_listing.proofs.Answering.{file_ends, file_is_unanswered, file_stopped, key_refused, key_said, key_stops, none_reached}
-use Rattle.key_listing.proofs.Answerable.{first_expected, rest_expected}
+use Rattle.key_listing.proofs.AnsweredFiles.{file_ends, file_is_unanswered, file_stopped, key_refused, key_said, key_stops, none_reached}
+use Rattle.key_listing.proofs.AnswerableKeys.{first_expected, rest_expected}
 use Rattle.key_listing.proofs.walk.print_file.Goals as goal
 
 pub loop-next-init : goal.loop-next-init

@@ -1,7 +1,7 @@
 -- The keys so far were answered, and the others are left, and are expected too.
 use Rattle.key_listing.specs.Expected.{AreExpected}
 use Rattle.key_listing.specs.Run.{Answering}
-use Rattle.key_listing.proofs.Answering.{IsReached, key_items}
+use Rattle.key_listing.proofs.AnsweredFiles.{IsReached, key_items}
 use Rattle.key_listing.proofs.walk.print_file.Given as goal
 
 abbrev pub invariant-loop-next : goal.invariant-loop-next

@@ -1,6 +1,6 @@
 -- Each file continues the run, or stops it.
 use Rattle.std.proofs.lemmas.Result.{err_from_is_err_and}
-use Rattle.key_listing.proofs.Answering.{none_answered, file_carried, file_stops}
+use Rattle.key_listing.proofs.AnsweredFiles.{none_answered, file_carried, file_stops}
 use Rattle.key_listing.proofs.walk.print_files.Goals as goal
 
 pub loop-file-init : goal.loop-file-init

@@ -3,7 +3,7 @@ use Rattle.std.proofs.Common.{Bool, true, false, [], ◌∷◌, Ok, ap, refl, su
 use Rattle.key_listing.specs.Carries.{Carries}
 use Rattle.key_files.specs.Keys.{FileKey}
 use Rattle.key_listing.specs.Run.{Answered, Item}
-use Rattle.key_listing.proofs.Carrying.{carries_as, carries_passed}
+use Rattle.key_listing.proofs.RunParts.{carries_as, carries_passed}
 use Rattle.key_listing.proofs.walk.print_key.Goals as goal
 
 pub returns-in_default-clause-carries : goal.returns-in_default-clause-carries

@@ -1,6 +1,6 @@
 use Rattle.std.proofs.Common.{length, ap, arith, rules}
 use Rattle.key_text.specs.KeyFile.{has_key}
-use Rattle.key_text.proofs.Trimmed.{length-trimmed}
+use Rattle.key_text.proofs.TrimmedTexts.{length-trimmed}
 use Rattle.key_text.proofs.key_file.has_key.Goals as goal
 
 pub returns-in_default-clause-some : goal.returns-in_default-clause-some

@@ -6,5 +6,5 @@ use Rattle.krl_audit.proofs.objects.write_unread_object.Goals as goal
 
 pub returns : goal.returns
 returns c =
-    let place = rw c.in_ok-out.ensures at c.in_ok-put_place.ensures in
-    c.in_ok-line.ensures _ (two_fields (begin_object ∷ []) _ _ _ _ place c.in_ok-put_why.ensures)
+    let location = rw c.in_ok-out.ensures at c.in_ok-put_location.ensures in
+    c.in_ok-line.ensures _ (two_fields (begin_object ∷ []) _ _ _ _ location c.in_ok-put_why.ensures)

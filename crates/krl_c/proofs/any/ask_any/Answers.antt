@@ -4,7 +4,7 @@ use Rattle.std.specs.List.{starts_with}
 use mir.Syntax.{w32}
 use mir.Val.{SFits}
 use Rattle.krl_core.specs.Krl.{magic}
-use Rattle.krl_c.proofs.Saying.{same}
+use Rattle.krl_c.proofs.AnswerMeaning.{same}
 use Rattle.krl_c.proofs.any.ask_any.Goals as goal
 
 pub returns-then-starts_with : goal.returns-then-starts_with

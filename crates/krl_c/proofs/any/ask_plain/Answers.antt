@@ -4,14 +4,14 @@ use mir.Syntax.{w32}
 use mir.Val.{SFits}
 use Rattle.plain_list.specs.List.{entries_of, lines_of}
 use Rattle.krl_c.specs.Any.{no_plain, plain}
-use Rattle.krl_c.proofs.Saying.{same}
+use Rattle.krl_c.proofs.AnswerMeaning.{same}
 use Rattle.krl_c.proofs.any.ask_plain.Goals as goal
 
 pub returns-in-Ok : goal.returns-in-Ok
 returns-in-Ok c =
-    let fits : SFits w32 c.ask_held.result = search rules in
+    let fits : SFits w32 c.ask_loaded.result = search rules in
     let read = c.in-Ok.ensures in
-    rw (same c.ask_held.result fits) (plain read.within read.only (c.ask_held.ensures (entries_of (lines_of c.args.list.now)) read.found))
+    rw (same c.ask_loaded.result fits) (plain read.within read.only (c.ask_loaded.ensures (entries_of (lines_of c.args.list.now)) read.found))
 
 pub returns-in-Err : goal.returns-in-Err
 returns-in-Err c =

@@ -5,7 +5,7 @@ use Rattle.std.proofs.lemmas.Bool.{false≢true}
 use mir.Syntax.{w32}
 use mir.Val.{SFits}
 use Rattle.krl_c.specs.Answer.{answered, said, names, spares}
-use Rattle.krl_c.proofs.Saying.{list_refused, refused, same}
+use Rattle.krl_c.proofs.AnswerMeaning.{list_refused, refused, same}
 use Rattle.krl_c.proofs.check.ask_list.Goals as goal
 
 pub returns-in-Ok-true : goal.returns-in-Ok-true

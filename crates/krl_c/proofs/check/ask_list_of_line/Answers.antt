@@ -4,7 +4,7 @@ use Rattle.std.proofs.Common.{rules, ◌∙◌}
 use mir.Syntax.{w32}
 use mir.Val.{SFits}
 use Rattle.krl_c.specs.Answer.{answered}
-use Rattle.krl_c.proofs.Saying.{line_refused, list_refused, of_its_blob, same}
+use Rattle.krl_c.proofs.AnswerMeaning.{line_refused, list_refused, of_its_blob, same}
 use Rattle.krl_c.proofs.check.ask_list_of_line.Goals as goal
 
 pub returns-in-Ok : goal.returns-in-Ok

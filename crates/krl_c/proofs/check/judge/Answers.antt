@@ -1,7 +1,7 @@
 -- A list that was read is accepted or refused by its authorities.
 use Rattle.std.proofs.Common.{sym, ◌∙◌}
 use Rattle.std.proofs.lemmas.Bool.{false≢true}
-use Rattle.krl_c.proofs.Saying.{compared, not_compared}
+use Rattle.krl_c.proofs.AnswerMeaning.{compared, not_compared}
 use Rattle.krl_c.proofs.check.judge.Goals as goal
 
 pub returns-then-authorities_are_keys-clause-list : goal.returns-then-authorities_are_keys-clause-list

@@ -29,14 +29,14 @@ use borrow.Struct.Leaves.{Lone-is}
 use borrow.Table.OneValue.{part_in}
 use Rattle.std.specs.contracts.alloc.Global.{the_row as Z}
 use Rattle.std.proofs.alloc.Global.TheLaws.{the_row_laws as heap_laws}
-use Rattle.krl_c.specs.Kept.{unloaded}
+use Rattle.krl_c.specs.Stored.{unloaded}
 use Rattle.krl_c.specs.contracts.init.krl_init as f
 use Rattle.krl_c.proofs.init.krl_init.Statement.{statement}
 use Rattle.krl_c.proofs.init.krl_init.Code as code
-use Rattle.krl_c.specs.contracts.kept.empty as e
-use Rattle.krl_c.proofs.kept.empty.Met.{met}
-use Rattle.krl_c.specs.contracts.kept.Kept.{the_row as K}
-use Rattle.krl_c.proofs.kept.Kept.TheLaws.{the_row_laws as laws}
+use Rattle.krl_c.specs.contracts.stored.empty as e
+use Rattle.krl_c.proofs.stored.empty.Met.{met}
+use Rattle.krl_c.specs.contracts.stored.Stored.{the_row as K}
+use Rattle.krl_c.proofs.stored.Stored.TheLaws.{the_row_laws as laws}
 
 abbrev τ : Ty
 τ = lone K.mir
@@ -72,7 +72,7 @@ krl_init_spec 𝓤 𝓛 𝓜 𝓡 wired =
     -- [the room; what alloc owns; the locals]
     sets ! (of_opd ! (get ! refl)) refl (tt, tt) $
     move ! (1 ∷ []) $ nothing ! $ move ! (1 ∷ 0 ∷ []) $ join ! $ nothing ! $ join ! $ nothing ! $ move ! (1 ∷ 0 ∷ []) $ use2 𝓛 (raw (G.pre x)) (id⊢ 𝓤 _) $
-    calls_at ! (framed 𝓤 𝓛.H 𝓜 𝓣) G (met 𝓤 𝓛 𝓜 𝓡 (code.calls-krl_c::kept::empty 𝓡.env wired)) x (and_then ! (get ! refl) (no_more !)) (λ v.
+    calls_at ! (framed 𝓤 𝓛.H 𝓜 𝓣) G (met 𝓤 𝓛 𝓜 𝓡 (code.calls-krl_c::stored::empty 𝓡.env wired)) x (and_then ! (get ! refl) (no_more !)) (λ v.
     use1 𝓛 (later (some (λ (r : K.Denot). (‵ ftrue ⊛ ‵ (K.own_val r (v ∷ []))) ⊛ some (λ (ws : Lasts e.ended tt (alloc, tt)). ‵ (lasts e.ended tt (alloc, tt) ws) ⊛ raw (fact 𝓤 (r ≡ unloaded)))))) (id⊢ 𝓤 _) $
     await ! tt $ pick ! (λ r. split ! $ move ! (1 ∷ []) $ pick ! (λ ws. split ! $ drop ! $ heard ! _ (λ same. split ! $ drop ! $
     rewrite ! 0 (λ (k : K.Denot). ‵ (K.own_val k (v ∷ []))) same refl $

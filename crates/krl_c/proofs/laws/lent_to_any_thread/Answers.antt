@@ -2,7 +2,7 @@
 use base.Fml.{ftrue}
 use base.Shift.{Keyless}
 use denote.RawPtr.{Ptr, block_ptr, null_ptr, block_of, count_of, in_block}
-use Rattle.krl_c.proofs.kept.Kept.TheSendSync.{the_sync}
+use Rattle.krl_c.proofs.stored.Stored.TheSendSync.{the_sync}
 use Rattle.krl_c.proofs.laws.lent_to_any_thread.Goals as goal
 
 -- that a pointer is not null does not depend on a thread
@@ -11,4 +11,4 @@ no_key (block_ptr b o) = tt
 no_key null_ptr = tt
 
 pub returns : goal.returns
-returns c = λ at loan. (tt, (no_key at, the_sync.shared loan.kept (block_of at) (count_of at) loan.life))
+returns c = λ at loan. (tt, (no_key at, the_sync.shared loan.stored (block_of at) (count_of at) loan.life))

@@ -1,6 +1,6 @@
 -- The list has one spelling and one first fault, and the blob has one reading.
 use Rattle.ssh_cert.specs.SubjectReading.{subject_of}
-use Rattle.krl_c.proofs.Once.{blob_once, list_once}
+use Rattle.krl_c.proofs.OneAnswer.{blob_once, list_once}
 use Rattle.krl_c.proofs.laws.one_answer.Goals as goal
 
 pub returns : goal.returns

@@ -1,7 +1,7 @@
 -- The list has one spelling and one first fault, and the line and its blob have one reading.
 use Rattle.ssh_cert.specs.SubjectReading.{subject_of}
 use Rattle.key_text.specs.LineReading.{line_at}
-use Rattle.krl_c.proofs.Once.{blob_once, line_once, list_once}
+use Rattle.krl_c.proofs.OneAnswer.{blob_once, line_once, list_once}
 use Rattle.krl_c.proofs.laws.one_answer_of_a_line.Goals as goal
 
 pub returns : goal.returns

@@ -3,8 +3,8 @@ use Rattle.std.specs.Prelude.{nat_eq}
 use Rattle.std.specs.List.{starts_with}
 use Rattle.krl_core.specs.Krl.{magic}
 use Rattle.ssh_cert.specs.SubjectReading.{subject_of}
-use Rattle.krl_c.proofs.Once.{blob_once}
-use Rattle.krl_c.proofs.OncePlain.{any_once}
+use Rattle.krl_c.proofs.OneAnswer.{blob_once}
+use Rattle.krl_c.proofs.OnePlainAnswer.{any_once}
 use Rattle.krl_c.proofs.laws.one_answer_of_any_list.Goals as goal
 
 pub returns : goal.returns

@@ -1,5 +1,5 @@
 -- Fault by fault.
-use Rattle.krl_c.proofs.Printed.{of_line, of_list, of_subject}
+use Rattle.krl_c.proofs.PrintedWords.{of_line, of_list, of_subject}
 use Rattle.krl_c.proofs.laws.words_are_printed.Goals as goal
 
 pub returns : goal.returns

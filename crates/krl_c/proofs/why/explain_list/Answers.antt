@@ -6,8 +6,8 @@ use mir.Syntax.{w32}
 use mir.Val.{SFits}
 use Rattle.krl_c.specs.Answer.{answered}
 use Rattle.krl_c.specs.Why.{HasReasons, explained}
-use Rattle.krl_c.proofs.Explaining.{has_reasons, unexplained}
-use Rattle.krl_c.proofs.Saying.{list_refused, same}
+use Rattle.krl_c.proofs.ReasonBits.{has_reasons, unexplained}
+use Rattle.krl_c.proofs.AnswerMeaning.{list_refused, same}
 use Rattle.krl_c.proofs.why.explain_list.Goals as goal
 
 pub returns-in-Ok-explain : goal.returns-in-Ok-explain

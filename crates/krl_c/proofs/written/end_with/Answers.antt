@@ -1,5 +1,5 @@
 -- The text is truncated so that there is room for the zero byte.
-use Rattle.krl_c.proofs.Laying.{ended}
+use Rattle.krl_c.proofs.WrittenTexts.{ended}
 use Rattle.krl_c.proofs.written.end_with.Goals as goal
 
 pub returns : goal.returns

@@ -3,7 +3,7 @@ use Rattle.std.proofs.Common.{◌≡◌, ◌++◌, ◌<◌, length, drop, ap, �
 use Rattle.std.proofs.lemmas.Grind.{common_steps}
 use Rattle.std.proofs.lemmas.List.{length-take-le}
 use Rattle.krl_c.specs.Written.{written}
-use Rattle.krl_c.proofs.Laying.{begun, put, rest}
+use Rattle.krl_c.proofs.WrittenTexts.{begun, put, rest}
 use Rattle.krl_c.proofs.written.write.Goals as goal
 
 pub returns-clause-written : goal.returns-clause-written

@@ -1,7 +1,7 @@
 -- A list is read from its first field on.
 use Rattle.std.proofs.Common.{[], refl}
 use Rattle.krl_core.proofs.Lists.{list_of_all}
-use Rattle.krl_core.proofs.Whole.{of_all}
+use Rattle.krl_core.proofs.WholeLists.{of_all}
 use Rattle.krl_core.proofs.SpelledLists.{only_ran_out}
 use Rattle.krl_core.proofs.read.read_krl.Goals as goal
 

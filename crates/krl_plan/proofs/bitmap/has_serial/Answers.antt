@@ -1,7 +1,7 @@
 use Rattle.std.proofs.Common.{◌≡◌, ◌+◌, ◌-◌, suc, ℕ, leb, subst, sym, ap, ◌∙◌, arith}
 use Rattle.krl_plan.specs.Written.{Above}
 use Rattle.krl_plan.proofs.BitmapBits.{last_run_decides, no_run_has}
-use Rattle.krl_plan.proofs.Zero.{zero_span}
+use Rattle.krl_plan.proofs.ZeroSpan.{zero_span}
 use Rattle.krl_plan.proofs.bitmap.has_serial.Goals as goal
 
 pub returns-then-from-serial-clause-has : goal.returns-then-from-serial-clause-has

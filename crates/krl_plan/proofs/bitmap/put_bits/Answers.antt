@@ -2,7 +2,7 @@ use Rattle.std.proofs.Common.{◌≡◌, ◌+◌, ◌-◌, ◌*◌, ◌++◌, []
 use Rattle.krl_plan.specs.Written.{Above, bitmap_of, bits_of, first_of}
 use Rattle.krl_plan.proofs.BitmapBits.{bytes_more}
 use Rattle.krl_plan.proofs.GroupTexts.{first-get}
-use Rattle.krl_plan.proofs.Zero.{zero_span}
+use Rattle.krl_plan.proofs.ZeroSpan.{zero_span}
 use Rattle.krl_plan.proofs.bitmap.put_bits.Goals as goal
 
 pub loop-index-preserved : goal.loop-index-preserved

@@ -1,6 +1,6 @@
 use Rattle.std.proofs.Common.{◌∙◌, ap, sym, subst}
 use Rattle.serial_set.specs.Walk.{IsPiece, next_of}
-use Rattle.serial_set.proofs.Walking.{walk_ends}
+use Rattle.serial_set.proofs.RunWalks.{walk_ends}
 use Rattle.krl_plan.proofs.CopiedRuns.{copied_more}
 use Rattle.krl_plan.proofs.copies.copy_runs.Goals as goal
 

@@ -2,7 +2,7 @@ use Rattle.std.proofs.Common.{◌≡◌, ◌+◌, ◌/◌, ◌++◌, ◌∷◌, 
 use Rattle.ssh_wire.specs.Wire.{number, string}
 use Rattle.krl_plan.specs.Written.{bitmap_of, bitmap_size, first_of}
 use Rattle.krl_plan.proofs.GroupTexts.{bitmap_put, first-get, length-bitmap_of}
-use Rattle.krl_plan.proofs.Zero.{zero_span}
+use Rattle.krl_plan.proofs.ZeroSpan.{zero_span}
 use Rattle.krl_plan.proofs.group_text.put_bitmap.Goals as goal
 
 pub returns : goal.returns

@@ -2,11 +2,11 @@ use Rattle.std.proofs.Common.{◌≡◌, ◌+◌, ◌++◌, [], ◌∷◌, List,
 use Rattle.std.specs.List.{flat_map}
 use Rattle.std.proofs.lemmas.List.{take_more}
 use Rattle.serial_set.specs.declared.span.Span.{Span}
-use Rattle.serial_set.proofs.Rising.{runs_at}
+use Rattle.serial_set.proofs.RisingLists.{runs_at}
 use Rattle.ssh_wire.specs.Wire.{number}
 use Rattle.krl_plan.specs.Written.{serials_of}
 use Rattle.krl_plan.proofs.ListTexts.{all_listed, length-begun, length-listed, listed_more, small_few, string_ended}
-use Rattle.krl_plan.proofs.Zero.{zero_span}
+use Rattle.krl_plan.proofs.ZeroSpan.{zero_span}
 use Rattle.krl_plan.proofs.group_text.put_listed.Goals as goal
 
 pub put_serials-requires-clause-ordered : goal.put_serials-requires-clause-ordered

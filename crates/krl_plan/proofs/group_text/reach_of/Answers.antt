@@ -1,7 +1,7 @@
 use Rattle.std.proofs.Common.{◌-◌, arith, length, sym}
 use Rattle.krl_plan.proofs.GroupTexts.{reach-get}
 use Rattle.krl_plan.proofs.Reach.{first_below}
-use Rattle.krl_plan.proofs.Zero.{zero_span}
+use Rattle.krl_plan.proofs.ZeroSpan.{zero_span}
 use Rattle.krl_plan.proofs.group_text.reach_of.Goals as goal
 
 pub overflow_sub-result-2 : goal.overflow_sub-result-2

@@ -2,12 +2,12 @@ use Rattle.std.proofs.Common.{◌≡◌, ◌+◌, ◌++◌, ℕ, List, ap, drop,
 use Rattle.serial_set.specs.declared.span.Span.{Span}
 use Rattle.serial_set.specs.Span.{IsRuns}
 use Rattle.serial_set.specs.Walk.{left, since}
-use Rattle.serial_set.proofs.Walking.{since_same}
+use Rattle.serial_set.proofs.RunWalks.{since_same}
 use Rattle.krl_plan.specs.declared.group.Sort.TheVariants.{Serials}
 use Rattle.krl_plan.specs.declared.group.Group.{Group}
 use Rattle.krl_plan.specs.Plan.{IsGroup}
 use Rattle.krl_plan.specs.Written.{group_text, plan_text}
-use Rattle.krl_plan.proofs.Chosen.{RunsFrom-take}
+use Rattle.krl_plan.proofs.ChosenGroups.{RunsFrom-take}
 use Rattle.krl_plan.proofs.CopiedRuns.{copied_first}
 use Rattle.krl_plan.proofs.PlanTexts.{Putting, Putting-more, next_group}
 use Rattle.krl_plan.proofs.plan_text.put_plan.Goals as goal

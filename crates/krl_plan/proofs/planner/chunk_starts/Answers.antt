@@ -1,6 +1,6 @@
 use Rattle.std.proofs.Common.{◌≡◌, ◌*◌, ap, arith, drop, length, sym, take, ◌∙◌}
 use Rattle.serial_set.specs.Walk.{left, since}
-use Rattle.serial_set.proofs.Walking.{since_same}
+use Rattle.serial_set.proofs.RunWalks.{since_same}
 use Rattle.krl_plan.proofs.CopiedRuns.{chunk_ends, chunk_passed, starts_more}
 use Rattle.krl_plan.proofs.planner.chunk_starts.Goals as goal
 

@@ -1,6 +1,6 @@
 -- The header and the stored entries are printed if requested.
 use Rattle.std.proofs.lemmas.Result.{err_from_is_err_and}
-use Rattle.krl_runs.proofs.Printing.{contents_said, contents_stop, not_asked}
+use Rattle.krl_runs.proofs.PrintedContents.{contents_said, contents_stop, not_asked}
 use Rattle.krl_runs.proofs.contents.print_contents.Goals as goal
 
 pub returns-then-not-dump : goal.returns-then-not-dump

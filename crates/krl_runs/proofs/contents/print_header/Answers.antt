@@ -2,7 +2,7 @@
 use Rattle.std.proofs.Common.{◌∷◌, []}
 use Rattle.std.proofs.lemmas.Result.{err_from_is_err_and}
 use Rattle.krl_runs.specs.Contents.{comment_lines, date_line, version_line}
-use Rattle.krl_runs.proofs.Printing.{header_started, last_said, more_said, saying_stops}
+use Rattle.krl_runs.proofs.PrintedContents.{header_started, last_said, more_said, saying_stops}
 use Rattle.krl_runs.proofs.contents.print_header.Goals as goal
 
 pub returns-in_err-say_line : goal.returns-in_err-say_line

@@ -3,7 +3,7 @@ use Rattle.std.proofs.Common.{map}
 use Rattle.std.proofs.lemmas.Result.{err_from_is_err_and}
 use Rattle.krl_runs.specs.Contents.{fact_line, section_lines}
 use Rattle.krl_runs.specs.declared.contents.fact.Fact.TheVariants.{Key, Sha1, Hash}
-use Rattle.krl_runs.proofs.Printing.{held_first, held_next, last_said, more_said, saying_stops}
+use Rattle.krl_runs.proofs.PrintedContents.{held_first, held_next, last_said, more_said, saying_stops}
 use Rattle.krl_runs.proofs.contents.print_held.Goals as goal
 
 pub loop-listed-init : goal.loop-listed-init

@@ -3,7 +3,7 @@ use Rattle.std.proofs.Common.{◌∷◌, [], map}
 use Rattle.std.proofs.lemmas.Result.{err_from_is_err_and}
 use Rattle.krl_runs.specs.Contents.{authority_line, fact_line, serials_line}
 use Rattle.krl_runs.specs.declared.contents.fact.Fact.TheVariants.{Id}
-use Rattle.krl_runs.proofs.Printing.{last_said, more_said, saying_stops, section_started}
+use Rattle.krl_runs.proofs.PrintedContents.{last_said, more_said, saying_stops, section_started}
 use Rattle.krl_runs.proofs.contents.print_section.Goals as goal
 
 pub returns-in_err-say_line : goal.returns-in_err-say_line

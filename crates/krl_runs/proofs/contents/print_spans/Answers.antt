@@ -4,9 +4,9 @@ use Rattle.std.specs.Prelude.{List}
 use Rattle.std.proofs.lemmas.Result.{err_from_is_err_and}
 use Rattle.serial_set.specs.declared.span.Span.{Span}
 use Rattle.serial_set.specs.Walk.{IsPiece, next_of}
-use Rattle.serial_set.proofs.Walking.{since_same, walk_ends}
+use Rattle.serial_set.proofs.RunWalks.{since_same, walk_ends}
 use Rattle.krl_runs.specs.Contents.{serials_line}
-use Rattle.krl_runs.proofs.Printing.{IsSaid, more_said, none_said, piece_next, saying_stops}
+use Rattle.krl_runs.proofs.PrintedContents.{IsSaid, more_said, none_said, piece_next, saying_stops}
 use Rattle.krl_runs.proofs.contents.print_spans.Goals as goal
 
 pub loop-next-init : goal.loop-next-init

@@ -2,7 +2,7 @@
 use Rattle.std.proofs.Common.{map}
 use Rattle.serial_set.specs.Walk.{left, steps}
 use Rattle.krl_runs.specs.Contents.{serials_line}
-use Rattle.krl_runs.proofs.Printing.{IsSaid}
+use Rattle.krl_runs.proofs.PrintedContents.{IsSaid}
 use Rattle.krl_runs.proofs.contents.print_spans.Given as goal
 
 abbrev pub invariant-loop-next : goal.invariant-loop-next

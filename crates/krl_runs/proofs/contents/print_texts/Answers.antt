@@ -2,7 +2,7 @@
 use Rattle.std.proofs.Common.{◌∷◌, []}
 use Rattle.std.proofs.lemmas.Result.{err_from_is_err_and}
 use Rattle.krl_runs.specs.Contents.{fact_line}
-use Rattle.krl_runs.proofs.Printing.{more_said, none_said, saying_stops}
+use Rattle.krl_runs.proofs.PrintedContents.{more_said, none_said, saying_stops}
 use Rattle.krl_runs.proofs.contents.print_texts.Goals as goal
 
 pub loop-bytes-init : goal.loop-bytes-init

@@ -1,7 +1,7 @@
 -- The texts so far are printed, and the others are left.
 use Rattle.std.proofs.Common.{map}
 use Rattle.krl_runs.specs.Contents.{fact_line}
-use Rattle.krl_runs.proofs.Printing.{IsSaid}
+use Rattle.krl_runs.proofs.PrintedContents.{IsSaid}
 use Rattle.krl_runs.proofs.contents.print_texts.Given as goal
 
 abbrev pub invariant-loop-bytes : goal.invariant-loop-bytes

@@ -1,4 +1,4 @@
-use Rattle.krl_runs.proofs.Asking.{dump_first, nothing_first}
+use Rattle.krl_runs.proofs.QueryRuns.{dump_first, nothing_first}
 use Rattle.krl_runs.proofs.laws.contents_stand_first.Goals as goal
 
 pub returns-clause-asked : goal.returns-clause-asked

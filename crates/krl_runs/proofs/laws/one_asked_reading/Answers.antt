@@ -1,6 +1,6 @@
 -- A text has one list of entries, because it has one spelling and one first fault.
 use Rattle.std.proofs.Common.{◌≡◌, ℕ, List, sym, ap, ◌∙◌}
-use Rattle.krl_held.specs.Entry.{Entry}
+use Rattle.krl_entries.specs.Entry.{Entry}
 use Rattle.krl_core.specs.Entries.{entries_of}
 use Rattle.krl_runs.specs.Query.{HasEntries}
 use Rattle.krl_runs.proofs.OneReading.{one_way}

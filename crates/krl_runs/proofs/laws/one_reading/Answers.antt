@@ -1,6 +1,6 @@
 -- A text has one reading, because it has one spelling and one first fault.
 use Rattle.std.proofs.Common.{◌≡◌, ℕ, List, sym, ap, subst, ◌∙◌}
-use Rattle.krl_held.specs.Revocations.{Revocations, Means}
+use Rattle.krl_entries.specs.Revocations.{Revocations, Means}
 use Rattle.krl_core.specs.Entries.{entries_of}
 use Rattle.krl_core.specs.Krl.{SpelledSection}
 use Rattle.krl_core.specs.declared.header.Header.{Header}

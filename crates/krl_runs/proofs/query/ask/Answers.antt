@@ -10,5 +10,5 @@ returns-then-dump g c =
 
 pub returns : goal.returns
 returns g c =
-    let run = c.ask_passing.ensures in
+    let run = c.ask_streamed.ensures in
     (asked_run_of c.args.krl_name.now run.0 c.args.files.now, asked run.0 c.if-dump.false run.1 refl, run.2)

@@ -3,7 +3,7 @@ use Rattle.std.proofs.Common.{◌*◌, ◌+◌, ap, arith, take}
 use Rattle.std.proofs.lemmas.List.Sums.{sum_by_more}
 use Rattle.key_files.specs.Sizes.{file_size, files_size}
 use Rattle.krl_runs.proofs.Bounds.{asks_then}
-use Rattle.krl_runs.proofs.Expecting.{files_more}
+use Rattle.krl_runs.proofs.ExpectedKeys.{files_more}
 use Rattle.krl_runs.proofs.questions.ask_about.Goals as goal
 
 pub loop-file-preserved : goal.loop-file-preserved

@@ -2,17 +2,17 @@
 use Rattle.std.proofs.Common.{ℕ, ◌*◌, ◌<◌, take}
 use Rattle.key_files.specs.Keys.{Named, keys_of}
 use Rattle.key_files.specs.Sizes.{files_size}
-use Rattle.krl_held.specs.Questions.{Asks, FindsIn}
-use Rattle.krl_held.specs.Revocations.{IsOrderly}
+use Rattle.krl_entries.specs.Questions.{Asks, FindsIn}
+use Rattle.krl_entries.specs.Revocations.{IsOrderly}
 use Rattle.std.specs.List.{slice_index_or}
 use Rattle.key_listing.specs.Expected.{AreExpected}
-use Rattle.krl_runs.specs.Questions.{AsksWithin}
+use Rattle.krl_runs.specs.Questions.{AsksAtMost}
 use Rattle.krl_runs.proofs.questions.ask_about.Given as goal
 
 abbrev pub invariant-loop-file : goal.invariant-loop-file
 invariant-loop-file g l = record {
-  found : FindsIn l.front.keeper.contents l.questions;
+  found : FindsIn l.front.stored.contents l.questions;
   orderly : IsOrderly l.questions.topics;
   asked : (k : ℕ) (d : Named) → k < l.file-index → AreExpected (Asks l.questions.topics) (keys_of (slice_index_or l.files k d));
-  within : AsksWithin (3 * files_size (take l.file-index l.files)) l.initial.questions.topics l.questions.topics;
+  within : AsksAtMost (3 * files_size (take l.file-index l.files)) l.initial.questions.topics l.questions.topics;
 }

@@ -2,15 +2,15 @@
 -- keys that are left.
 use Rattle.key_files.specs.Keys.{keys_of}
 use Rattle.key_files.specs.Sizes.{file_size}
-use Rattle.krl_held.specs.Revocations.{IsOrderly, Revocations}
-use Rattle.krl_held.specs.Questions.{Asks, AsksMore, FindsIn}
+use Rattle.krl_entries.specs.Revocations.{IsOrderly, Revocations}
+use Rattle.krl_entries.specs.Questions.{Asks, AsksMore, FindsIn}
 use Rattle.key_listing.specs.Expected.{AreExpected}
 use Rattle.krl_runs.proofs.Bounds.{LeavesRoom}
 use Rattle.krl_runs.proofs.questions.ask_file.Given as goal
 
 abbrev pub invariant-loop-next : goal.invariant-loop-next
 invariant-loop-next g l = record {
-  found : FindsIn l.front.keeper.contents l.questions;
+  found : FindsIn l.front.stored.contents l.questions;
   orderly : IsOrderly l.questions.topics;
   more : AsksMore l.initial.questions.topics l.questions.topics;
   asked : (later : Revocations) → AsksMore l.questions.topics later → AreExpected (Asks later) l.next-iterator → AreExpected (Asks later) (keys_of l.file);

@@ -1,4 +1,4 @@
-use Rattle.krl_writer.proofs.Listing.{Listing}
+use Rattle.krl_writer.proofs.AuthoritySections.{Listing}
 use Rattle.krl_writer.proofs.authorities.add_authorities.Given as goal
 
 abbrev pub invariant-loop-one : goal.invariant-loop-one

@@ -1,12 +1,12 @@
 use Rattle.std.proofs.Common.{◌<◌, ◌++◌, List, ℕ, ap, arith, length, length-append, refl, subst, ◌∙◌}
 use Rattle.std.proofs.lemmas.Result.{err_from_is_err_and}
 use Rattle.ssh_wire.specs.Wire.{string}
-use Rattle.krl_held.specs.Revocations.{Section, section_with}
+use Rattle.krl_entries.specs.Revocations.{Section, section_with}
 use Rattle.krl_core.specs.Front.{limit}
 use Rattle.krl_plan.proofs.ListTexts.{length-begun}
 use Rattle.krl_writer.specs.declared.text_fault.TextFault.TheVariants.{TooLong}
 use Rattle.krl_writer.specs.KrlText.{authority_content, listed_text}
-use Rattle.krl_writer.specs.Within.{Refuses}
+use Rattle.krl_writer.specs.InLimit.{Refuses}
 use Rattle.krl_writer.proofs.Limits.{any_plan, authority_parts, refuses_front, refuses_more, refuses_string, string_put}
 use Rattle.krl_writer.proofs.authorities.add_authority.Goals as goal
 

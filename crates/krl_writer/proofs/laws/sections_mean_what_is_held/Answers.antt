@@ -1,4 +1,4 @@
-use Rattle.krl_writer.proofs.Meant.{sections_mean}
+use Rattle.krl_writer.proofs.WrittenNames.{sections_mean}
 use Rattle.krl_writer.proofs.laws.sections_mean_what_is_held.Goals as goal
 
 pub returns : goal.returns

@@ -1,7 +1,7 @@
 use Rattle.std.proofs.Common.{◌++◌, List, ℕ, refl, subst, ◌∙◌}
 use Rattle.std.proofs.lemmas.Result.{err_from_is_err_and}
 use Rattle.krl_writer.specs.KrlText.{listed_text, texts_text}
-use Rattle.krl_writer.specs.Within.{Refuses}
+use Rattle.krl_writer.specs.InLimit.{Refuses}
 use Rattle.krl_writer.proofs.Limits.{put_more, refuses_front}
 use Rattle.krl_writer.proofs.text.add_texts.Goals as goal
 

@@ -1,5 +1,5 @@
 use Rattle.std.proofs.Common.{arith}
-use Rattle.span_sets.proofs.InChunk.{high_ones, low_ones, mask_fits}
+use Rattle.span_sets.proofs.ChunkMembers.{high_ones, low_ones, mask_fits}
 use Rattle.span_sets.proofs.chunk.mask.Goals as goal
 
 pub overflow_sub-result-3 : goal.overflow_sub-result-3

@@ -1,5 +1,5 @@
 use Rattle.std.proofs.Common.{◌*◌, arith}
-use Rattle.span_sets.proofs.InChunk.{in_clipped}
+use Rattle.span_sets.proofs.ChunkMembers.{in_clipped}
 use Rattle.span_sets.proofs.chunk.span_in.Goals as goal
 
 pub returns : goal.returns

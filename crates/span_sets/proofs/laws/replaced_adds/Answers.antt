@@ -1,5 +1,5 @@
 use Rattle.serial_set.specs.Span.{Covers}
-use Rattle.span_sets.proofs.Replaced.{replaced_order, replaced_runs}
+use Rattle.span_sets.proofs.Replacements.{replaced_order, replaced_runs}
 use Rattle.span_sets.proofs.laws.replaced_adds.Goals as goal
 
 pub returns : goal.returns

@@ -1,5 +1,5 @@
 use Rattle.span_sets.specs.SpanPages.{chunks_held}
-use Rattle.span_sets.proofs.InTight.{three_a_run}
+use Rattle.span_sets.proofs.TightChunks.{three_a_run}
 use Rattle.span_sets.proofs.laws.three_chunks_a_run.Goals as goal
 
 pub returns : goal.returns

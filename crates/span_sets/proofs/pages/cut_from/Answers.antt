@@ -6,8 +6,8 @@ use Rattle.span_sets.specs.declared.page.Page.{Page}
 use Rattle.span_sets.specs.Chunk.{lo_of, hi_of, ChunksFrom}
 use Rattle.span_sets.specs.Pages.{chunks_in, chunks_of}
 use Rattle.span_sets.specs.Positions.{end_of, CutTo}
-use Rattle.span_sets.proofs.Flat.{removed_back, removed_more, removed_rest, removed_first, first_of, flat_drop_set}
-use Rattle.span_sets.proofs.InRow.{order_page, all_page, cut_all, cut_some}
+use Rattle.span_sets.proofs.ListsOfLists.{removed_back, removed_more, removed_rest, removed_first, first_of, flat_drop_set}
+use Rattle.span_sets.proofs.PageRows.{order_page, all_page, cut_all, cut_some}
 use Rattle.span_sets.proofs.pages.cut_from.Goals as goal
 
 -- the first page that is left is the first that is not removed

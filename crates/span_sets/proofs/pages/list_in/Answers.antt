@@ -3,8 +3,8 @@ use Rattle.std.specs.List.{All}
 use Rattle.span_sets.specs.Chunk.{hi_of, ChunksFrom}
 use Rattle.span_sets.specs.Pages.{chunks_in, chunks_of}
 use Rattle.span_sets.specs.Positions.{end_of, IsListFrom}
-use Rattle.span_sets.proofs.Flat.{first_of}
-use Rattle.span_sets.proofs.InRow.{order_page, list_at, list_none}
+use Rattle.span_sets.proofs.ListsOfLists.{first_of}
+use Rattle.span_sets.proofs.PageRows.{order_page, list_at, list_none}
 use Rattle.span_sets.proofs.pages.list_in.Goals as goal
 
 pub returns-then-at-pages : goal.returns-then-at-pages

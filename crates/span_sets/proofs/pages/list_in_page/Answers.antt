@@ -1,6 +1,6 @@
 use Rattle.std.proofs.Common.{subst, sym}
 use Rattle.span_sets.specs.Chunk.{ChunksFrom}
-use Rattle.span_sets.proofs.InChunks.{his_rise}
+use Rattle.span_sets.proofs.ChunkOrder.{his_rise}
 use Rattle.span_sets.proofs.pages.list_in_page.Goals as goal
 
 pub count_ending_below-requires : goal.count_ending_below-requires

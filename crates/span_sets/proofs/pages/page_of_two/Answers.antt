@@ -4,7 +4,7 @@ use Rattle.span_sets.specs.Chunk.{hi_of}
 use Rattle.span_sets.specs.Pages.{chunks_in, chunks_of}
 use Rattle.span_sets.specs.Positions.{end_of}
 use Rattle.span_sets.specs.Lawful.{stretch}
-use Rattle.span_sets.proofs.InRow.{all_before, past_page}
+use Rattle.span_sets.proofs.PageRows.{all_before, past_page}
 use Rattle.span_sets.proofs.pages.page_of_two.Goals as goal
 
 pub returns-then-end-lo : goal.returns-then-end-lo

@@ -1,5 +1,5 @@
 use Rattle.std.proofs.Common.{take}
-use Rattle.span_sets.proofs.InRow.{pages_rise, pages_below, order_left}
+use Rattle.span_sets.proofs.PageRows.{pages_rise, pages_below, order_left}
 use Rattle.span_sets.proofs.pages.pages_ending_below.Goals as goal
 
 pub count_ending_below-requires : goal.count_ending_below-requires

@@ -1,5 +1,5 @@
 use Rattle.std.proofs.Common.{take}
-use Rattle.span_sets.proofs.InRow.{pages_rise, pages_upto, order_left}
+use Rattle.span_sets.proofs.PageRows.{pages_rise, pages_upto, order_left}
 use Rattle.span_sets.proofs.pages.pages_ending_upto.Goals as goal
 
 pub count_ending_upto-requires : goal.count_ending_upto-requires

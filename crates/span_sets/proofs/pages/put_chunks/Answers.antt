@@ -2,7 +2,7 @@ use Rattle.std.proofs.Common.{arith, ◌≡◌, [], subst, sym}
 use Rattle.std.proofs.lemmas.Grind.{common_steps}
 use Rattle.span_sets.specs.Chunks.{Replaces}
 use Rattle.span_sets.specs.Pages.{chunks_of}
-use Rattle.span_sets.proofs.InWords.{replaced_none}
+use Rattle.span_sets.proofs.ChunkQueries.{replaced_none}
 use Rattle.span_sets.proofs.pages.put_chunks.Goals as goal
 
 pub returns-then-is_empty-clause-put : goal.returns-then-is_empty-clause-put

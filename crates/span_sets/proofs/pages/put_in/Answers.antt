@@ -6,9 +6,9 @@ use Rattle.span_sets.specs.Chunk.{lo_of, hi_of, ChunksFrom}
 use Rattle.span_sets.specs.Chunks.{Replaces}
 use Rattle.span_sets.specs.Pages.{chunks_in, chunks_of}
 use Rattle.span_sets.specs.Positions.{end_of, CutTo}
-use Rattle.span_sets.proofs.Flat.{flat_cut, flat_drop, flat_same, all_right}
-use Rattle.span_sets.proofs.InRow.{all_page, order_page, order_right, past_put, put_whole}
-use Rattle.span_sets.proofs.Refused.{on_err}
+use Rattle.span_sets.proofs.ListsOfLists.{flat_cut, flat_drop, flat_same, all_right}
+use Rattle.span_sets.proofs.PageRows.{all_page, order_page, order_right, past_put, put_whole}
+use Rattle.span_sets.proofs.ResultFacts.{on_err}
 use Rattle.span_sets.proofs.pages.put_in.Goals as goal
 
 pub put-requires-clause-order : goal.put-requires-clause-order

@@ -1,8 +1,8 @@
 use Rattle.std.proofs.Common.{subst, sym, arith}
 use Rattle.span_sets.specs.Chunk.{ChunksFrom}
 use Rattle.span_sets.specs.Pages.{chunks_in}
-use Rattle.span_sets.proofs.Flat.{flat_same}
-use Rattle.span_sets.proofs.InRow.{order_page, widened_pages}
+use Rattle.span_sets.proofs.ListsOfLists.{flat_same}
+use Rattle.span_sets.proofs.PageRows.{order_page, widened_pages}
 use Rattle.span_sets.proofs.pages.set_bits_in.Goals as goal
 
 pub set_bits-requires-clause-order : goal.set_bits-requires-clause-order

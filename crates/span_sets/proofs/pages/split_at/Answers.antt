@@ -2,8 +2,8 @@ use Rattle.std.proofs.Common.{◌≡◌, ◌<◌, ◌∙◌, length, get_or, sym
 use Rattle.std.specs.Result.{is_ok}
 use Rattle.span_sets.specs.Chunk.{ChunksFrom}
 use Rattle.span_sets.specs.Pages.{chunks_in, chunks_of, IsSplit}
-use Rattle.span_sets.proofs.Flat.{flat_same, flat_split}
-use Rattle.span_sets.proofs.InRow.{order_page, split_is}
+use Rattle.span_sets.proofs.ListsOfLists.{flat_same, flat_split}
+use Rattle.span_sets.proofs.PageRows.{order_page, split_is}
 use Rattle.span_sets.proofs.pages.split_at.Goals as goal
 
 pub split-requires-clause-order : goal.split-requires-clause-order

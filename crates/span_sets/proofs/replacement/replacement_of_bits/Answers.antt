@@ -5,7 +5,7 @@ use Rattle.span_sets.specs.Few.{few_of}
 use Rattle.span_sets.specs.Chunk.{is_span, lo_of, hi_of}
 use Rattle.span_sets.specs.Replacement.{lo_or, hi_or}
 use Rattle.span_sets.specs.Tight.{IsTight}
-use Rattle.span_sets.proofs.InReplacement.{either_of, in_singles, some_weaker, three_all, three_has, word_tight}
+use Rattle.span_sets.proofs.ReplacementMembers.{either_of, in_singles, some_weaker, three_all, three_has, word_tight}
 use Rattle.span_sets.proofs.replacement.replacement_of_bits.Goals as goal
 
 pub returns-clause-members : goal.returns-clause-members

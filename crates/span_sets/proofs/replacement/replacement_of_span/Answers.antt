@@ -5,7 +5,7 @@ use Rattle.span_sets.specs.Few.{few_of}
 use Rattle.span_sets.specs.Chunk.{is_span, lo_of, hi_of}
 use Rattle.span_sets.specs.Replacement.{lo_or, hi_or}
 use Rattle.span_sets.specs.Tight.{IsTight}
-use Rattle.span_sets.proofs.InReplacement.{back_lies, either_of, front_lies, some_rest, some_weaker, three_all, three_has, three_lie}
+use Rattle.span_sets.proofs.ReplacementMembers.{back_lies, either_of, front_lies, some_rest, some_weaker, three_all, three_has, three_lie}
 use Rattle.span_sets.proofs.replacement.replacement_of_span.Goals as goal
 
 pub returns-clause-lies : goal.returns-clause-lies

@@ -1,4 +1,4 @@
-use Rattle.serial_set.proofs.Rising.{ends_rise}
+use Rattle.serial_set.proofs.RisingLists.{ends_rise}
 use Rattle.span_sets.proofs.span_search.count_ending_before.Goals as goal
 
 pub count_ending_below-requires : goal.count_ending_below-requires

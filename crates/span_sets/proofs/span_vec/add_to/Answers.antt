@@ -1,6 +1,6 @@
 use Rattle.std.proofs.Common.{arith, subst, sym, ◌+◌, ◌-◌, ◌<◌, ◌≤◌, take, drop}
 use Rattle.std.specs.List.{All}
-use Rattle.span_sets.proofs.Touching.{added_joined, added_apart}
+use Rattle.span_sets.proofs.MergedSpans.{added_joined, added_apart}
 use Rattle.span_sets.proofs.span_vec.add_to.Goals as goal
 
 pub returns-then-first-end-clause-runs : goal.returns-then-first-end-clause-runs

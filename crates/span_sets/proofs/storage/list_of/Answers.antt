@@ -1,7 +1,7 @@
 use Rattle.std.proofs.Common.{[], ◌∷◌, subst, sym, arith}
 use Rattle.std.specs.Option.{option_to_list}
 use Rattle.span_sets.specs.Positions.{IsListFrom}
-use Rattle.span_sets.proofs.InStorage.{list_one, list_below}
+use Rattle.span_sets.proofs.OneChunkSets.{list_one, list_below}
 use Rattle.span_sets.proofs.storage.list_of.Goals as goal
 
 pub returns-then-hi-number : goal.returns-then-hi-number

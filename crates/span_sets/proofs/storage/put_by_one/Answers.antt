@@ -1,6 +1,6 @@
 use Rattle.std.proofs.Common.{arith, refl}
 use Rattle.std.specs.Option.{option_to_list}
-use Rattle.span_sets.proofs.InStorage.{one_replaced}
+use Rattle.span_sets.proofs.OneChunkSets.{one_replaced}
 use Rattle.span_sets.proofs.storage.put_by_one.Goals as goal
 
 pub returns-then-not-lies_beside : goal.returns-then-not-lies_beside

@@ -1,5 +1,5 @@
 use Rattle.std.proofs.Common.{arith}
-use Rattle.span_sets.proofs.InNear.{bits_more}
+use Rattle.span_sets.proofs.NearSpans.{bits_more}
 use Rattle.span_sets.proofs.word_bits.bits_of.Goals as goal
 
 pub loop-span-preserved : goal.loop-span-preserved

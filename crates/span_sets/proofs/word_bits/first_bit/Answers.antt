@@ -1,7 +1,7 @@
 use Rattle.std.proofs.Common.{Some, sym, subst, arith}
 use Rattle.std.proofs.lemmas.Nat.{and_le_l}
 use Rattle.span_sets.specs.Members.{IsFirstBit}
-use Rattle.span_sets.proofs.InBits.{none_set, first_set}
+use Rattle.span_sets.proofs.BitMembers.{none_set, first_set}
 use Rattle.span_sets.proofs.word_bits.first_bit.Goals as goal
 
 pub returns-then-rest-eq0 : goal.returns-then-rest-eq0

@@ -1,7 +1,7 @@
 use Rattle.std.proofs.Common.{◌≡◌, arith, subst, w64}
 use Rattle.std.specs.Int.{bit_at}
 use Rattle.std.proofs.lemmas.Nat.Bits.{bit_at_not}
-use Rattle.span_sets.proofs.InBits.{first_clear, set_before}
+use Rattle.span_sets.proofs.BitMembers.{first_clear, set_before}
 use Rattle.span_sets.proofs.word_bits.last_bit.Goals as goal
 
 pub returns-in-Some-clause-order : goal.returns-in-Some-clause-order

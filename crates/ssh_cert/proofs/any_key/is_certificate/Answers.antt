@@ -1,5 +1,5 @@
 use Rattle.ssh_key.proofs.Names.{certified_is as name_certified}
-use Rattle.ssh_cert.proofs.Asked.{certified_is}
+use Rattle.ssh_cert.proofs.Subjects.{certified_is}
 use Rattle.ssh_cert.proofs.any_key.is_certificate.Goals as goal
 
 pub returns-in-Ok : goal.returns-in-Ok

@@ -1,6 +1,6 @@
 -- The first string decides how a blob is read.
 use Rattle.std.proofs.Common.{sym, ◌∙◌, arith}
-use Rattle.ssh_cert.proofs.Asked.{no_certificate_read, no_key_read, read_certified, read_plain, subject_refused}
+use Rattle.ssh_cert.proofs.Subjects.{no_certificate_read, no_key_read, read_certified, read_plain, subject_refused}
 use Rattle.ssh_cert.proofs.any_key.read_any.Goals as goal
 
 pub returns-in-Ok-clause-found : goal.returns-in-Ok-clause-found

@@ -1,4 +1,4 @@
-use Rattle.ssh_cert.proofs.Asked.{subject_again, subject_found}
+use Rattle.ssh_cert.proofs.Subjects.{subject_again, subject_found}
 use Rattle.ssh_cert.proofs.laws.asked_where_spelled.Goals as goal
 
 pub returns : goal.returns

@@ -2,7 +2,7 @@ use Rattle.std.proofs.Common.{subst}
 use Rattle.ssh_wire.specs.Wire.{IsBytes}
 use Rattle.ssh_wire.proofs.Digits.{IsBytes-front}
 use Rattle.ssh_cert.proofs.Certs.{certificate_refused}
-use Rattle.ssh_cert.proofs.Cuts.{certificate_cut}
+use Rattle.ssh_cert.proofs.TruncatedCertificates.{certificate_cut}
 use Rattle.ssh_cert.proofs.laws.cut_certificate.Goals as goal
 
 pub returns : goal.returns

@@ -1,5 +1,5 @@
 use Rattle.ssh_cert.specs.SubjectReading.{subject_of}
-use Rattle.ssh_cert.proofs.Asked.{subject_again}
+use Rattle.ssh_cert.proofs.Subjects.{subject_again}
 use Rattle.ssh_wire.proofs.Steps.{ok_is}
 use Rattle.ssh_cert.proofs.laws.one_subject.Goals as goal
 

@@ -1,6 +1,6 @@
 -- The key or the certificate that was read gives the subject, or the first fault is met.
 use Rattle.std.proofs.lemmas.Result.{err_from_is_err_and}
-use Rattle.ssh_cert.proofs.Asked.{nothing_asked}
+use Rattle.ssh_cert.proofs.Subjects.{nothing_asked}
 use Rattle.ssh_cert.proofs.subject_of.asked.Goals as goal
 
 pub returns-in_err-any : goal.returns-in_err-any

@@ -1,5 +1,5 @@
 use Rattle.std.proofs.Common.{arith}
-use Rattle.ssh_cert.proofs.Asked.{is_found, is_only, is_reported}
+use Rattle.ssh_cert.proofs.Subjects.{is_found, is_only, is_reported}
 use Rattle.ssh_cert.proofs.subject_of.subject.Goals as goal
 
 pub returns-clause-found : goal.returns-clause-found

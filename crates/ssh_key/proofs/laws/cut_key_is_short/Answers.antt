@@ -1,4 +1,4 @@
-use Rattle.ssh_key.proofs.Cuts.{key_cut, public_cut}
+use Rattle.ssh_key.proofs.TruncatedBlobs.{key_cut, public_cut}
 use Rattle.ssh_key.proofs.laws.cut_key_is_short.Goals as goal
 
 pub returns-clause-blob : goal.returns-clause-blob

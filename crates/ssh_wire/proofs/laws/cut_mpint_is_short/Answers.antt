@@ -1,5 +1,5 @@
 -- Each proper prefix of its string is short.
-use Rattle.ssh_wire.proofs.Cut.{mpint-cut}
+use Rattle.ssh_wire.proofs.TruncatedFields.{mpint-cut}
 use Rattle.ssh_wire.proofs.laws.cut_mpint_is_short.Goals as goal
 
 pub returns : goal.returns

@@ -1,5 +1,5 @@
 -- Each proper prefix is shorter than the number.
-use Rattle.ssh_wire.proofs.Cut.{number-cut}
+use Rattle.ssh_wire.proofs.TruncatedFields.{number-cut}
 use Rattle.ssh_wire.proofs.laws.cut_number_is_short.Goals as goal
 
 pub returns : goal.returns

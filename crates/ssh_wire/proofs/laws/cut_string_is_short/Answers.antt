@@ -1,5 +1,5 @@
 -- A proper prefix ends within the length or after it.
-use Rattle.ssh_wire.proofs.Cut.{string-cut}
+use Rattle.ssh_wire.proofs.TruncatedFields.{string-cut}
 use Rattle.ssh_wire.proofs.laws.cut_string_is_short.Goals as goal
 
 pub returns : goal.returns

@@ -1,7 +1,7 @@
 -- The waiting lines are written, unless the output has failed.
 use Rattle.std.proofs.Common.{sym, ap, ◌∙◌}
 use Rattle.key_listing.specs.Printer.{Printer}
-use Rattle.key_listing.proofs.Ending.{ends_lost, ends_sent}
+use Rattle.key_listing.proofs.RunEnds.{ends_lost, ends_sent}
 use Rattle.key_listing.proofs.printer.Printer.finish.Goals as goal
 
 pub returns-then-is_lost-clause-ends : goal.returns-then-is_lost-clause-ends

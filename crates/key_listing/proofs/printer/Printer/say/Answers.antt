@@ -1,7 +1,7 @@
 -- The answer waits, or is written.
 use Rattle.std.proofs.Common.{ap, ◌∙◌}
 use Rattle.key_listing.specs.Printer.{Printer}
-use Rattle.key_listing.proofs.Carrying.{carries_added, carries_lost, carries_sent}
+use Rattle.key_listing.proofs.RunParts.{carries_added, carries_lost, carries_sent}
 use Rattle.key_listing.proofs.printer.Printer.say.Goals as goal
 
 pub returns-in_err-check-clause-carries : goal.returns-in_err-check-clause-carries

@@ -3,7 +3,7 @@ use Rattle.std.proofs.Common.{ℕ, List, Result, subst, sym, ◌∙◌}
 use Rattle.ssh_wire.specs.Reading.{Lends}
 use Rattle.key_text.specs.Container.{magic}
 use Rattle.key_text.specs.declared.private_fault.PrivateFault.{PrivateFault}
-use Rattle.key_text.proofs.Halves.{bytes_after}
+use Rattle.key_text.proofs.PublicHalves.{bytes_after}
 use Rattle.key_text.proofs.container.half.half_of.Goals as goal
 
 pub returns : goal.returns

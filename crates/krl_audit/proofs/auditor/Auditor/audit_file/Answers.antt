@@ -1,6 +1,6 @@
 -- The file has bytes, or it is refused.
-use Rattle.krl_held.specs.Reasons.{reasons_of}
-use Rattle.krl_held.proofs.Reasoned.{meant_reasons}
+use Rattle.krl_entries.specs.Reasons.{reasons_of}
+use Rattle.krl_entries.proofs.ReasonTests.{meant_reasons}
 use Rattle.krl_audit.proofs.Files.{told_refused}
 use Rattle.krl_audit.proofs.auditor.Auditor.audit_file.Goals as goal
 

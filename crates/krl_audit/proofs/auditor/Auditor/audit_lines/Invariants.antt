@@ -5,7 +5,7 @@ use Rattle.key_text.specs.Lines.{is_newline}
 use Rattle.key_files.specs.RunFault.{RunFault}
 use Rattle.key_listing.specs.Printer.{Printer}
 use Rattle.krl_types.specs.Subject.{Subject}
-use Rattle.krl_held.specs.declared.reasons.Reasons.{Reasons}
+use Rattle.krl_entries.specs.declared.reasons.Reasons.{Reasons}
 use Rattle.krl_audit.specs.Audit.{JudgesAs, Told}
 use Rattle.krl_audit.specs.Outcome.{outcome_of}
 use Rattle.krl_audit.specs.declared.counts.Counts.{Counts}

@@ -8,8 +8,8 @@ use denote.RawPtr.{Ptr, block_ptr, null_ptr, lies_at}
 use denote.Struct.Struct.{exits_of}
 use denote.Struct.Owning.{shape, fields, to}
 use Rattle.krl_c.specs.contracts.handle.Krl.{the_row, the_type}
-use Rattle.krl_c.specs.contracts.kept.Kept.{the_row as K}
-use Rattle.krl_c.proofs.kept.Kept.TheSendSync.{the_send}
+use Rattle.krl_c.specs.contracts.stored.Stored.{the_row as K}
+use Rattle.krl_c.proofs.stored.Stored.TheSendSync.{the_send}
 
 -- an exit that is hidden behind a part is as quiet as it was
 still : {D X : Type 0} (part : D → X) (exit : Exit X) → Quiet exit → Quiet (hidden (under part exit))
@@ -23,5 +23,5 @@ no_key null_ptr x = tt
 
 pub send : IsSend the_row
 send = let O = the_type in let ps : IsSend RawPtr = search sendable in
-    owning_send O (ps, tt) (λ d. no_key d.at d.held)
+    owning_send O (ps, tt) (λ d. no_key d.at d.stored)
     (λ k. still (to O) (exits_of k (fields O)) ((struct_send (shape O) (ps, tt)).leaving k))

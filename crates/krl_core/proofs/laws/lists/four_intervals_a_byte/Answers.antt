@@ -3,7 +3,7 @@ use Rattle.std.specs.List.{concat}
 use Rattle.ssh_wire.specs.Wire.{IsBytes}
 use Rattle.ssh_wire.proofs.Digits.{IsBytes-take, IsBytes-front}
 use Rattle.krl_core.specs.Front.{limit}
-use Rattle.krl_core.proofs.FourAByte.{four_a_byte}
+use Rattle.krl_core.proofs.IntervalBound.{four_a_byte}
 use Rattle.krl_core.proofs.laws.lists.four_intervals_a_byte.Goals as goal
 
 pub returns : goal.returns

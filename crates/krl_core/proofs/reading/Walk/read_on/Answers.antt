@@ -1,20 +1,20 @@
-use Rattle.krl_core.proofs.Advancing.{advance_nearer, advance_scope}
+use Rattle.krl_core.proofs.Progress.{advance_nearer, advance_scope}
 use Rattle.krl_core.proofs.Lists.{list_of_whole, same_holds_within}
 use Rattle.std.proofs.Common.{◌∙◌}
-use Rattle.krl_core.proofs.Whole.{ends_after, leads_further, leads_on, whole_unfaulted}
+use Rattle.krl_core.proofs.WholeLists.{ends_after, leads_further, leads_on, whole_unfaulted}
 use Rattle.krl_core.proofs.reading.Walk.read_on.Goals as goal
 
 pub fields-init : goal.fields-init
 fields-init g c = leads_on c.args.self c.requires
 
 pub fields-smaller : goal.fields-smaller
-fields-smaller g c = advance_nearer c.fields.walk c.stride.new.self (c.in-Ok-true.ensures.advances c.in-Ok-true.field-0-test)
+fields-smaller g c = advance_nearer c.fields.walk c.read_fields.new.self (c.in-Ok-true.ensures.advances c.in-Ok-true.field-0-test)
 
 pub fields-preserved : goal.fields-preserved
 fields-preserved g c =
     let on = c.in-Ok-true.field-0-test in
     let ok = c.in-Ok-true.ensures in
-    leads_further _ c.fields.walk c.stride.new.self c.fields.invariant (ok.more on) ok.working (advance_scope c.fields.walk c.stride.new.self (ok.advances on))
+    leads_further _ c.fields.walk c.read_fields.new.self c.fields.invariant (ok.more on) ok.working (advance_scope c.fields.walk c.read_fields.new.self (ok.advances on))
 
 pub returns-in-Ok-false-clause-found : goal.returns-in-Ok-false-clause-found
 returns-in-Ok-false-clause-found g c = λ text fields h.

@@ -1,7 +1,7 @@
 use Rattle.std.proofs.Common.{◌+◌, ◌-◌, ◌*◌}
 use Rattle.krl_core.specs.Front.{limit}
-use Rattle.krl_core.proofs.Exists.{weight}
-use Rattle.krl_core.proofs.Whole.{LeadsOn}
+use Rattle.krl_core.proofs.LongestFronts.{weight}
+use Rattle.krl_core.proofs.WholeLists.{LeadsOn}
 use Rattle.krl_core.proofs.reading.Walk.read_on.Given as goal
 
 -- some more fields were read

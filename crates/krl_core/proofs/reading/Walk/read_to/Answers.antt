@@ -1,7 +1,7 @@
 use Rattle.std.proofs.Common.{◌≡◌, None, ap, arith, ◌∙◌}
-use Rattle.krl_core.proofs.Advancing.{one_or_more}
-use Rattle.krl_core.proofs.Ending.{ends_before}
-use Rattle.krl_core.proofs.Whole.{ends_after, leads_further, leads_on, step_nearer}
+use Rattle.krl_core.proofs.Progress.{one_or_more}
+use Rattle.krl_core.proofs.ListEnds.{ends_before}
+use Rattle.krl_core.proofs.WholeLists.{ends_after, leads_further, leads_on, step_nearer}
 use Rattle.krl_core.proofs.reading.Walk.read_to.Goals as goal
 
 pub fields-init : goal.fields-init

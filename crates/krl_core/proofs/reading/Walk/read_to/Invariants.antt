@@ -1,14 +1,14 @@
 use Rattle.std.proofs.Common.{◌≡◌, ◌≤◌, ◌+◌, ◌-◌, ◌*◌, false}
 use Rattle.krl_core.specs.Front.{limit}
 use Rattle.krl_core.specs.Reading.{IsBounded}
-use Rattle.krl_core.proofs.Exists.{weight}
-use Rattle.krl_core.proofs.Whole.{LeadsOn}
+use Rattle.krl_core.proofs.LongestFronts.{weight}
+use Rattle.krl_core.proofs.WholeLists.{LeadsOn}
 use Rattle.krl_core.proofs.reading.Walk.read_to.Given as goal
 
 -- some more fields were read, within the bytes that are allowed
 abbrev pub invariant-fields : goal.invariant-fields
 invariant-fields g l =
-    LeadsOn l.initial.self l.self × (l.self.pull.failed ≡ false) × IsBounded l.self.pull l.self.keeper
+    LeadsOn l.initial.self l.self × (l.self.pull.failed ≡ false) × IsBounded l.self.pull l.self.stored
     × (l.initial.self.pull.taken ≤ l.most → l.self.pull.taken ≤ l.most)
 
 abbrev pub decreases-fields : goal.decreases-fields

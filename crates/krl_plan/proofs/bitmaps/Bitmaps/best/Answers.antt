@@ -3,7 +3,7 @@ use Rattle.std.proofs.lemmas.Bool.{cases_lt}
 use Rattle.krl_plan.specs.declared.group.Sort.TheVariants.{Bitmap}
 use Rattle.krl_plan.specs.Bitmaps.{last_of}
 use Rattle.krl_plan.specs.Search.{cell_with}
-use Rattle.krl_plan.proofs.Best.{group_of}
+use Rattle.krl_plan.proofs.BestCandidates.{group_of}
 use Rattle.krl_plan.proofs.bitmaps.Bitmaps.best.Goals as goal
 
 pub loop-remainder-init : goal.loop-remainder-init

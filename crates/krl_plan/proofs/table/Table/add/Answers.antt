@@ -4,9 +4,9 @@ use Rattle.krl_plan.specs.declared.group.Sort.TheVariants.{Range}
 use Rattle.krl_plan.specs.declared.table.Table.{Table}
 use Rattle.krl_plan.specs.Search.{IsBest}
 use Rattle.krl_plan.specs.Table.{IsKnown, Knows}
-use Rattle.krl_plan.proofs.Best.{best_of_all, group_of}
-use Rattle.krl_plan.proofs.Chosen.{group_few}
-use Rattle.krl_plan.proofs.Filling.{bounded_more, choices_more, costs_more}
+use Rattle.krl_plan.proofs.BestCandidates.{best_of_all, group_of}
+use Rattle.krl_plan.proofs.ChosenGroups.{group_few}
+use Rattle.krl_plan.proofs.CostTable.{bounded_more, choices_more, costs_more}
 use Rattle.krl_plan.proofs.table.Table.add.Goals as goal
 
 -- the known runs begin after the new run's index

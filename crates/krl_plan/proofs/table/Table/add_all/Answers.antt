@@ -2,9 +2,9 @@ use Rattle.std.proofs.Common.{◌≡◌, ℕ, ◌+◌, ◌-◌, List, ◌++◌, 
 use Rattle.std.proofs.lemmas.List.{drop-append-le, drop_more}
 use Rattle.serial_set.specs.declared.span.Span.{Span}
 use Rattle.serial_set.specs.Span.{IsRuns}
-use Rattle.krl_plan.proofs.Chosen.{IsRuns-drop}
+use Rattle.krl_plan.proofs.ChosenGroups.{IsRuns-drop}
 use Rattle.krl_plan.specs.Table.{Knows}
-use Rattle.krl_plan.proofs.Zero.{zero_span}
+use Rattle.krl_plan.proofs.ZeroSpan.{zero_span}
 use Rattle.krl_plan.proofs.table.Table.add_all.Goals as goal
 
 -- the runs from one on, followed by the known ones

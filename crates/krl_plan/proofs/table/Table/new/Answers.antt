@@ -1,5 +1,5 @@
 use Rattle.std.proofs.Common.{◌-◌, ◌^◌, [], arith}
-use Rattle.krl_plan.proofs.Filling.{none_choices, none_costs}
+use Rattle.krl_plan.proofs.CostTable.{none_choices, none_costs}
 use Rattle.krl_plan.proofs.table.Table.new.Goals as goal
 
 pub returns : goal.returns

@@ -1,5 +1,5 @@
 use Rattle.std.proofs.Common.{◌≡◌, ℕ, arith, subst}
-use Rattle.krl_plan.proofs.Filling.{Walked, Walked-all, Walked-more, Walked-start, choice_fits}
+use Rattle.krl_plan.proofs.CostTable.{Walked, Walked-all, Walked-more, Walked-start, choice_fits}
 use Rattle.krl_plan.proofs.table.Table.plan.Goals as goal
 
 pub loop-left-init : goal.loop-left-init

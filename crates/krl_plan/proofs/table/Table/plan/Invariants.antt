@@ -1,5 +1,5 @@
 use Rattle.std.proofs.Common.{◌≤◌, length}
-use Rattle.krl_plan.proofs.Filling.{Walked}
+use Rattle.krl_plan.proofs.CostTable.{Walked}
 use Rattle.krl_plan.proofs.table.Table.plan.Given as goal
 
 abbrev pub invariant-loop-left : goal.invariant-loop-left

@@ -2,8 +2,8 @@ use Rattle.std.proofs.Common.{◌≡◌, ◌+◌, ◌-◌, ◌*◌, ap, inl, inr
 use Rattle.std.proofs.lemmas.Grind.{common_steps}
 use Rattle.serial_set.specs.BitRuns.{BitNames}
 use Rattle.serial_set.specs.Finished.{finished_of}
-use Rattle.serial_set.proofs.Feeding.{byte_fits}
-use Rattle.serial_set.proofs.InByte.{step_positive, finished_runs}
+use Rattle.serial_set.proofs.FedBitmaps.{byte_fits}
+use Rattle.serial_set.proofs.ByteRuns.{step_positive, finished_runs}
 use Rattle.serial_set.proofs.bit_runs.BitRuns.take.Goals as goal
 
 pub runs_of_byte-runs-requires-clause-fits : goal.runs_of_byte-runs-requires-clause-fits

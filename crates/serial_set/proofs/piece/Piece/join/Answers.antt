@@ -1,6 +1,6 @@
 use Rattle.std.proofs.Common.{◌∙◌, ◌++◌, ◌∷◌, [], ap, arith, append_assoc}
 use Rattle.serial_set.specs.Walk.{piece_of}
-use Rattle.serial_set.proofs.Joining.{ends_below, joined_after, joined_first, joined_last}
+use Rattle.serial_set.proofs.JoinedSpans.{ends_below, joined_after, joined_first, joined_last}
 use Rattle.serial_set.proofs.piece.Piece.join.Goals as goal
 
 pub returns-in_default : goal.returns-in_default

@@ -4,7 +4,7 @@ use Rattle.std.proofs.lemmas.Nat.Bits.{bit_at-zero}
 use Rattle.serial_set.specs.Span.{Covers}
 use Rattle.span_sets.specs.Words.{BitCovers}
 use Rattle.span_sets.specs.Chunk.{is_span, window_of, members_in}
-use Rattle.span_sets.proofs.InChunk.{in_word}
+use Rattle.span_sets.proofs.ChunkMembers.{in_word}
 use Rattle.span_sets.proofs.chunk.Chunk.bits_in.Goals as goal
 
 pub returns-then-window : goal.returns-then-window

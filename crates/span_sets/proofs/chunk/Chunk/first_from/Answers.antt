@@ -2,7 +2,7 @@ use Rattle.std.proofs.Common.{◌≡◌, ◌-◌, ◌+◌, Some, None, sym, subs
 use Rattle.std.specs.Prelude.{false}
 use Rattle.span_sets.specs.Chunk.{is_span, members_in}
 use Rattle.span_sets.specs.Members.{IsFirst, IsFirstBit}
-use Rattle.span_sets.proofs.InBits.{word_none, word_first}
+use Rattle.span_sets.proofs.BitMembers.{word_none, word_first}
 use Rattle.span_sets.proofs.chunk.Chunk.first_from.Goals as goal
 
 pub returns-in-Some : goal.returns-in-Some

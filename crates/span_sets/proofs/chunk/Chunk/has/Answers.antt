@@ -3,7 +3,7 @@ use Rattle.std.specs.Prelude.{false}
 use Rattle.std.specs.Int.{bit_at}
 use Rattle.std.proofs.lemmas.Bool.{eqb-true}
 use Rattle.span_sets.specs.Chunk.{is_span, window_of, bits_of}
-use Rattle.span_sets.proofs.InChunk.{in_word}
+use Rattle.span_sets.proofs.ChunkMembers.{in_word}
 use Rattle.span_sets.proofs.chunk.Chunk.has.Goals as goal
 
 pub returns-then-serial-window : goal.returns-then-serial-window

@@ -4,8 +4,8 @@ use Rattle.serial_set.specs.Span.{Covers}
 use Rattle.std.specs.Int.{bit_at}
 use Rattle.span_sets.specs.Chunk.{is_span, bits_of, hi_of, members_in}
 use Rattle.span_sets.specs.Members.{GoesOn}
-use Rattle.span_sets.proofs.InChunk.{in_word, word_ends}
-use Rattle.span_sets.proofs.InBits.{word_on, word_stops}
+use Rattle.span_sets.proofs.ChunkMembers.{in_word, word_ends}
+use Rattle.span_sets.proofs.BitMembers.{word_on, word_stops}
 use Rattle.span_sets.proofs.chunk.Chunk.last_from.Goals as goal
 
 pub overflow_sub-member : goal.overflow_sub-member

@@ -4,8 +4,8 @@ use Rattle.std.proofs.lemmas.Option.{IfSome_then}
 use Rattle.serial_set.specs.Span.{Covers}
 use Rattle.span_sets.specs.Words.{BitCovers}
 use Rattle.span_sets.specs.Chunk.{is_span, window_of, lo_of, hi_of, members_in}
-use Rattle.span_sets.proofs.InChunk.{word_ends}
-use Rattle.span_sets.proofs.InReplacement.{with_bits}
+use Rattle.span_sets.proofs.ChunkMembers.{word_ends}
+use Rattle.span_sets.proofs.ReplacementMembers.{with_bits}
 use Rattle.span_sets.proofs.chunk.Chunk.widened.Goals as goal
 
 pub returns : goal.returns

@@ -4,8 +4,8 @@ use Rattle.std.proofs.lemmas.Bool.{lt-leb}
 use Rattle.std.proofs.lemmas.Nat.{or_lt}
 use Rattle.span_sets.specs.Words.{singles}
 use Rattle.span_sets.specs.Chunk.{is_span, window_of}
-use Rattle.span_sets.proofs.InReplacement.{all_with, word_gap}
-use Rattle.span_sets.proofs.InChunk.{word_ends}
+use Rattle.span_sets.proofs.ReplacementMembers.{all_with, word_gap}
+use Rattle.span_sets.proofs.ChunkMembers.{word_ends}
 use Rattle.span_sets.proofs.chunk.Chunk.with.Goals as goal
 
 pub returns-clause-with : goal.returns-clause-with

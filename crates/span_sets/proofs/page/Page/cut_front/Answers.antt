@@ -1,6 +1,6 @@
 use Rattle.std.proofs.Common.{sym, ap, length, ◌∙◌, arith, length-drop}
 use Rattle.span_sets.specs.Positions.{end_of}
-use Rattle.span_sets.proofs.InChunks.{end_drop}
+use Rattle.span_sets.proofs.ChunkOrder.{end_drop}
 use Rattle.span_sets.proofs.page.Page.cut_front.Goals as goal
 
 pub invariant_of-self-clause-some : goal.invariant_of-self-clause-some

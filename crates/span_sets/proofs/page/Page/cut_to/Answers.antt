@@ -2,8 +2,8 @@ use Rattle.std.proofs.Common.{◌<◌, ◌≤◌, take, drop, subst, sym}
 use Rattle.std.specs.List.{All}
 use Rattle.span_sets.specs.Chunk.{hi_of, ChunksFrom}
 use Rattle.span_sets.specs.Pages.{chunks_in}
-use Rattle.span_sets.proofs.InPage.{cut_page}
-use Rattle.span_sets.proofs.InChunks.{count_less, his_rise}
+use Rattle.span_sets.proofs.PageChunks.{cut_page}
+use Rattle.span_sets.proofs.ChunkOrder.{count_less, his_rise}
 use Rattle.span_sets.proofs.page.Page.cut_to.Goals as goal
 
 pub count_ending_upto-count-requires : goal.count_ending_upto-count-requires

@@ -4,9 +4,9 @@ use Rattle.std.specs.List.Sorted.{IsNonDecreasingBy}
 use Rattle.std.proofs.lemmas.List.{take_rest}
 use Rattle.span_sets.specs.Chunk.{hi_of, ChunksFrom}
 use Rattle.span_sets.specs.Pages.{chunks_in}
-use Rattle.span_sets.proofs.InChunks.{his_rise, order_drop}
-use Rattle.span_sets.proofs.InPage.{replaced_at}
-use Rattle.span_sets.proofs.Refused.{on_ok}
+use Rattle.span_sets.proofs.ChunkOrder.{his_rise, order_drop}
+use Rattle.span_sets.proofs.PageChunks.{replaced_at}
+use Rattle.span_sets.proofs.ResultFacts.{on_ok}
 use Rattle.span_sets.proofs.page.Page.put.Goals as goal
 
 pub count_ending_below-from-requires : goal.count_ending_below-from-requires

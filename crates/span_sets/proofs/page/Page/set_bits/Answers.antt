@@ -1,8 +1,8 @@
 use Rattle.std.proofs.Common.{◌<◌, length, sym, ap, subst, arith, ◌∙◌}
 use Rattle.std.proofs.lemmas.List.{length-set}
 use Rattle.span_sets.specs.Chunk.{hi_of, ChunksFrom}
-use Rattle.span_sets.proofs.InChunks.{end_set, his_rise}
-use Rattle.span_sets.proofs.InPage.{widened_at}
+use Rattle.span_sets.proofs.ChunkOrder.{end_set, his_rise}
+use Rattle.span_sets.proofs.PageChunks.{widened_at}
 use Rattle.span_sets.proofs.page.Page.set_bits.Goals as goal
 
 pub count_ending_below-at-requires : goal.count_ending_below-at-requires

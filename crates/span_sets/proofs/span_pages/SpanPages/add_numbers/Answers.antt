@@ -1,9 +1,9 @@
 use Rattle.std.proofs.Common.{◌*◌, ◌/◌, arith}
 use Rattle.span_sets.specs.Chunk.{runs_of}
 use Rattle.span_sets.specs.SpanPages.{chunks_held}
-use Rattle.span_sets.proofs.InNear.{bits_some}
-use Rattle.span_sets.proofs.InSet.{adds_mask, mask_has}
-use Rattle.span_sets.proofs.Refused.{on_ok}
+use Rattle.span_sets.proofs.NearSpans.{bits_some}
+use Rattle.span_sets.proofs.SetChunks.{adds_mask, mask_has}
+use Rattle.span_sets.proofs.ResultFacts.{on_ok}
 use Rattle.span_sets.proofs.span_pages.SpanPages.add_numbers.Goals as goal
 
 pub add_bits-requires-clause-serials : goal.add_bits-requires-clause-serials

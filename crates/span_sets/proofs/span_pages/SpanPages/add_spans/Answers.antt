@@ -2,8 +2,8 @@ use Rattle.std.proofs.Common.{arith}
 use Rattle.span_sets.specs.Chunk.{runs_of}
 use Rattle.span_sets.specs.SpanPages.{chunks_held}
 use Rattle.span_sets.specs.Lawful.{runs_of_chunks}
-use Rattle.span_sets.proofs.InNear.{adds_none, adds_only, bits_some, covered_is_serial, some_covered}
-use Rattle.span_sets.proofs.Refused.{on_ok}
+use Rattle.span_sets.proofs.NearSpans.{adds_none, adds_only, bits_some, covered_is_serial, some_covered}
+use Rattle.span_sets.proofs.ResultFacts.{on_ok}
 use Rattle.span_sets.proofs.span_pages.SpanPages.add_spans.Goals as goal
 
 pub add_bits-requires-clause-serials : goal.add_bits-requires-clause-serials

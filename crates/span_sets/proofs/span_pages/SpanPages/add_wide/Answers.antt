@@ -2,9 +2,9 @@ use Rattle.std.proofs.Common.{◌-◌, ◌≤◌, arith, refl}
 use Rattle.span_sets.specs.Few.{few_of}
 use Rattle.span_sets.specs.SpanPages.{chunks_held}
 use Rattle.span_sets.specs.Lawful.{runs_of_chunks}
-use Rattle.span_sets.proofs.InSet.{adds_none, fills_runs, fills_serials, from_has}
-use Rattle.span_sets.proofs.InSides.{ends_fill_at, ends_keep_tight}
-use Rattle.span_sets.proofs.Refused.{on_ok}
+use Rattle.span_sets.proofs.SetChunks.{adds_none, fills_runs, fills_serials, from_has}
+use Rattle.span_sets.proofs.SpanSides.{ends_fill_at, ends_keep_tight}
+use Rattle.span_sets.proofs.ResultFacts.{on_ok}
 use Rattle.span_sets.proofs.span_pages.SpanPages.add_wide.Goals as goal
 
 pub returns-then-holds-clause-runs : goal.returns-then-holds-clause-runs

@@ -2,9 +2,9 @@ use Rattle.std.proofs.Common.{◌+◌, ◌-◌, ◌^◌, None, min, inl, inr, su
 use Rattle.span_sets.specs.Chunk.{window_of, bits_of, hi_of}
 use Rattle.span_sets.specs.Sides.{IsBack}
 use Rattle.span_sets.specs.SpanPages.{chunks_held}
-use Rattle.span_sets.proofs.InChunk.{word_ends}
-use Rattle.span_sets.proofs.InReplacement.{back_word}
-use Rattle.span_sets.proofs.InSides.{back_further, back_shared, its_own, mask_upto}
+use Rattle.span_sets.proofs.ChunkMembers.{word_ends}
+use Rattle.span_sets.proofs.ReplacementMembers.{back_word}
+use Rattle.span_sets.proofs.SpanSides.{back_further, back_shared, its_own, mask_upto}
 use Rattle.span_sets.proofs.span_pages.SpanPages.back_in.Goals as goal
 
 pub returns-in-Some : goal.returns-in-Some

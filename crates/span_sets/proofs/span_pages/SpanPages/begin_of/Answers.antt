@@ -4,7 +4,7 @@ use Rattle.span_sets.specs.Chunk.{is_span, lo_of, hi_of}
 use Rattle.span_sets.specs.Positions.{IsChunkFrom}
 use Rattle.span_sets.specs.Sides.{IsFront}
 use Rattle.span_sets.specs.SpanPages.{chunks_held}
-use Rattle.span_sets.proofs.InSides.{front_open, front_span}
+use Rattle.span_sets.proofs.SpanSides.{front_open, front_span}
 use Rattle.span_sets.proofs.span_pages.SpanPages.begin_of.Goals as goal
 
 pub returns-in-Some : goal.returns-in-Some

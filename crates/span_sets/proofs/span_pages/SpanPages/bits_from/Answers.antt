@@ -1,8 +1,8 @@
 use Rattle.std.proofs.Common.{◌+◌, ◌*◌, inl, inr, arith}
 use Rattle.std.proofs.lemmas.Bool.{cases_lt}
 use Rattle.span_sets.specs.SpanPages.{chunks_held}
-use Rattle.span_sets.proofs.InChunk.{in_or}
-use Rattle.span_sets.proofs.InSet.{from_has, from_owns}
+use Rattle.span_sets.proofs.ChunkMembers.{in_or}
+use Rattle.span_sets.proofs.SetChunks.{from_has, from_owns}
 use Rattle.span_sets.proofs.span_pages.SpanPages.bits_from.Goals as goal
 
 pub loop-found-init : goal.loop-found-init

@@ -1,7 +1,7 @@
 use Rattle.std.proofs.Common.{arith}
 use Rattle.span_sets.specs.SpanPages.{chunks_held}
 use Rattle.span_sets.specs.Lawful.{in_stretch}
-use Rattle.span_sets.proofs.InWalk.{no_chunk, first_in, none_in}
+use Rattle.span_sets.proofs.MemberWalks.{no_chunk, first_in, none_in}
 use Rattle.span_sets.proofs.span_pages.SpanPages.first_or_next.Goals as goal
 
 pub returns-in_default-clause-first : goal.returns-in_default-clause-first

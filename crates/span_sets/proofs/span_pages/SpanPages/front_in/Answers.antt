@@ -2,9 +2,9 @@ use Rattle.std.proofs.Common.{◌+◌, ◌-◌, Some, None, inl, inr, sym, subst
 use Rattle.span_sets.specs.Chunk.{window_of, bits_of, lo_of}
 use Rattle.span_sets.specs.Sides.{IsFront}
 use Rattle.span_sets.specs.SpanPages.{chunks_held}
-use Rattle.span_sets.proofs.InChunk.{word_ends}
-use Rattle.span_sets.proofs.InReplacement.{front_word}
-use Rattle.span_sets.proofs.InSides.{front_further, front_shared, its_own, mask_from}
+use Rattle.span_sets.proofs.ChunkMembers.{word_ends}
+use Rattle.span_sets.proofs.ReplacementMembers.{front_word}
+use Rattle.span_sets.proofs.SpanSides.{front_further, front_shared, its_own, mask_from}
 use Rattle.span_sets.proofs.span_pages.SpanPages.front_in.Goals as goal
 
 pub returns-in-Some : goal.returns-in-Some

@@ -1,6 +1,6 @@
 use Rattle.span_sets.specs.SpanPages.{chunks_held}
-use Rattle.span_sets.proofs.InWords.{asked}
-use Rattle.span_sets.proofs.Ordered.{none_below}
+use Rattle.span_sets.proofs.ChunkQueries.{asked}
+use Rattle.span_sets.proofs.OrderedChunks.{none_below}
 use Rattle.span_sets.proofs.span_pages.SpanPages.has_number.Goals as goal
 
 pub returns-in-Some : goal.returns-in-Some

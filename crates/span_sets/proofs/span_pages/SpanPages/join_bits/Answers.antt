@@ -6,9 +6,9 @@ use Rattle.span_sets.specs.Few.{few_of}
 use Rattle.span_sets.specs.SpanPages.{chunks_held}
 use Rattle.span_sets.specs.Words.{BitCovers}
 use Rattle.span_sets.specs.Lawful.{runs_of_chunks}
-use Rattle.span_sets.proofs.InSet.{Fills, adds_none, bits_both, bits_fill, fills_runs, fills_serials, fills_window, adds_window, from_has, tail_reaches}
-use Rattle.span_sets.proofs.InSides.{bits_keep_tight}
-use Rattle.span_sets.proofs.Refused.{on_ok}
+use Rattle.span_sets.proofs.SetChunks.{Fills, adds_none, bits_both, bits_fill, fills_runs, fills_serials, fills_window, adds_window, from_has, tail_reaches}
+use Rattle.span_sets.proofs.SpanSides.{bits_keep_tight}
+use Rattle.span_sets.proofs.ResultFacts.{on_ok}
 use Rattle.span_sets.proofs.span_pages.SpanPages.join_bits.Goals as goal
 
 pub chunk_on-requires : goal.chunk_on-requires

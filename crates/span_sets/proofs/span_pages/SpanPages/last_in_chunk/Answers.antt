@@ -3,12 +3,12 @@ use Rattle.std.specs.List.{Contains}
 use Rattle.std.proofs.lemmas.Bool.{cases_lt}
 use Rattle.std.proofs.lemmas.List.Elements.{Contains-append_right}
 use Rattle.span_sets.specs.Chunk.{hi_of}
-use Rattle.span_sets.proofs.InSides.{its_own}
+use Rattle.span_sets.proofs.SpanSides.{its_own}
 use Rattle.span_sets.specs.SpanPages.{chunks_held}
 use Rattle.span_sets.specs.Lawful.{in_stretch}
-use Rattle.span_sets.proofs.InWords.{asked}
-use Rattle.span_sets.proofs.InWalk.{goes_in}
-use Rattle.span_sets.proofs.Ordered.{none_below}
+use Rattle.span_sets.proofs.ChunkQueries.{asked}
+use Rattle.span_sets.proofs.MemberWalks.{goes_in}
+use Rattle.span_sets.proofs.OrderedChunks.{none_below}
 use Rattle.span_sets.proofs.span_pages.SpanPages.last_in_chunk.Goals as goal
 
 pub last_from-requires : goal.last_from-requires

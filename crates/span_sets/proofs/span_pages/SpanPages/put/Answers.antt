@@ -4,9 +4,9 @@ use Rattle.span_sets.specs.Chunk.{ChunksFrom, members_of}
 use Rattle.span_sets.specs.Chunks.{Replaces}
 use Rattle.span_sets.specs.Storage.{chunks_stored}
 use Rattle.span_sets.specs.Few.{few_of}
-use Rattle.span_sets.proofs.InWords.{ok_or_err, replaced_rise, replaced_serials}
+use Rattle.span_sets.proofs.ChunkQueries.{ok_or_err, replaced_rise, replaced_serials}
 use Rattle.span_sets.specs.Tight.{AreTight}
-use Rattle.span_sets.proofs.InTight.{replaced_tight}
+use Rattle.span_sets.proofs.TightChunks.{replaced_tight}
 use Rattle.span_sets.proofs.span_pages.SpanPages.put.Goals as goal
 
 pub invariant_of-self : goal.invariant_of-self

@@ -6,8 +6,8 @@ use Rattle.span_sets.specs.Chunk.{runs_of}
 use Rattle.span_sets.specs.SpanPages.{chunks_held}
 use Rattle.serial_set.specs.Walk.{left, piece_of, since, steps}
 use Rattle.span_sets.specs.Lawful.{runs_of_chunks}
-use Rattle.span_sets.proofs.InWalk.{serials_of}
-use Rattle.serial_set.proofs.Walking.{since_same, walk_on, walk_ends}
+use Rattle.span_sets.proofs.MemberWalks.{serials_of}
+use Rattle.serial_set.proofs.RunWalks.{since_same, walk_on, walk_ends}
 use Rattle.span_sets.proofs.span_pages.SpanPages.run_at.Goals as goal
 
 pub loop-next-init : goal.loop-next-init

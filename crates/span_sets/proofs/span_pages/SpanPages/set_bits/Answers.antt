@@ -3,8 +3,8 @@ use Rattle.serial_set.specs.Span.{AreSerials}
 use Rattle.span_sets.specs.Chunk.{ChunksFrom, members_of}
 use Rattle.span_sets.specs.Storage.{chunks_stored}
 use Rattle.span_sets.specs.Tight.{AreTight}
-use Rattle.span_sets.proofs.InTight.{widened_tight}
-use Rattle.span_sets.proofs.InWords.{true_or_false, widened_order, widened_serials, widened_runs}
+use Rattle.span_sets.proofs.TightChunks.{widened_tight}
+use Rattle.span_sets.proofs.ChunkQueries.{true_or_false, widened_order, widened_serials, widened_runs}
 use Rattle.span_sets.proofs.span_pages.SpanPages.set_bits.Goals as goal
 
 pub invariant_of-self : goal.invariant_of-self

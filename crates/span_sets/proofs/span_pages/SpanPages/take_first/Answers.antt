@@ -3,7 +3,7 @@ use Rattle.serial_set.specs.declared.span.Span.{Span}
 use Rattle.span_sets.specs.Chunk.{runs_of}
 use Rattle.span_sets.specs.SpanPages.{chunks_held}
 use Rattle.serial_set.specs.Walk.{IsPiece, piece_of}
-use Rattle.span_sets.proofs.Taking.{first_alone, none_left}
+use Rattle.span_sets.proofs.TakenRuns.{first_alone, none_left}
 use Rattle.span_sets.proofs.span_pages.SpanPages.take_first.Goals as goal
 
 pub returns-in_default : goal.returns-in_default

@@ -4,7 +4,7 @@ use Rattle.span_sets.specs.Chunk.{hi_of, members_of}
 use Rattle.span_sets.specs.Members.{Taken}
 use Rattle.span_sets.specs.SpanPages.{chunks_held}
 use Rattle.serial_set.specs.Walk.{piece_of}
-use Rattle.span_sets.proofs.Taking.{Rest, rest_first, rest_on}
+use Rattle.span_sets.proofs.TakenRuns.{Rest, rest_first, rest_on}
 use Rattle.span_sets.proofs.span_pages.SpanPages.take_list.Goals as goal
 
 pub take_chunk-requires : goal.take_chunk-requires

@@ -3,7 +3,7 @@ use Rattle.span_sets.specs.Chunk.{members_of}
 use Rattle.span_sets.specs.Members.{Taken}
 use Rattle.span_sets.specs.SpanPages.{chunks_held}
 use Rattle.serial_set.specs.Walk.{piece_of}
-use Rattle.span_sets.proofs.Taking.{Rest}
+use Rattle.span_sets.proofs.TakenRuns.{Rest}
 use Rattle.span_sets.proofs.span_pages.SpanPages.take_list.Given as goal
 
 abbrev pub invariant-loop-at : goal.invariant-loop-at

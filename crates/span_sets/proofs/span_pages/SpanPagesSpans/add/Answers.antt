@@ -1,8 +1,8 @@
 use Rattle.std.proofs.Common.{◌∷◌, [], length, ap, arith, inl, inr}
 use Rattle.span_sets.specs.Chunk.{runs_of}
 use Rattle.span_sets.specs.SpanPages.{chunks_held}
-use Rattle.span_sets.proofs.InWords.{ok_or_err}
-use Rattle.span_sets.proofs.InNear.{adds_more, adds_one}
+use Rattle.span_sets.proofs.ChunkQueries.{ok_or_err}
+use Rattle.span_sets.proofs.NearSpans.{adds_more, adds_one}
 use Rattle.span_sets.proofs.span_pages.SpanPagesSpans.add.Goals as goal
 
 pub returns-clause-one_more : goal.returns-clause-one_more

@@ -1,8 +1,8 @@
 use Rattle.std.proofs.Common.{length, ap, arith, inl, inr}
 use Rattle.span_sets.specs.Chunk.{runs_of}
 use Rattle.span_sets.specs.SpanPages.{chunks_held}
-use Rattle.span_sets.proofs.InWords.{ok_or_err}
-use Rattle.span_sets.proofs.InNear.{adds_more}
+use Rattle.span_sets.proofs.ChunkQueries.{ok_or_err}
+use Rattle.span_sets.proofs.NearSpans.{adds_more}
 use Rattle.span_sets.proofs.span_pages.SpanPagesSpans.add_near.Goals as goal
 
 pub returns-clause-as_many_more : goal.returns-clause-as_many_more

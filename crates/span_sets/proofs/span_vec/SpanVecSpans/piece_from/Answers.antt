@@ -3,7 +3,7 @@ use Rattle.std.specs.List.{All}
 use Rattle.std.proofs.lemmas.List.{take_all}
 use Rattle.serial_set.specs.declared.span.Span.{Span}
 use Rattle.serial_set.specs.Walk.{since}
-use Rattle.serial_set.proofs.Walking.{piece_first, since_after}
+use Rattle.serial_set.proofs.RunWalks.{piece_first, since_after}
 use Rattle.span_sets.proofs.span_vec.SpanVecSpans.piece_from.Goals as goal
 
 whole : (xs : List Span) (at : ℕ) → take (length xs - at) (drop at xs) ≡ drop at xs

@@ -1,0 +1,85 @@
+-- The meaning of the answers, by the list that was read and the query.
+use Rattle.std.proofs.Common.{◌≡◌, ◌⊎◌, inl, inr, ℕ, ℤ, false, List, Option, Some, refl, ◌∙◌, arith}
+use Rattle.std.proofs.lemmas.Int.{to_z-of_z}
+use mir.Syntax.{w32}
+use mir.Val.{SFits, of_z, to_z}
+use Rattle.ssh_cert.specs.SubjectReading.{IsReportedFault}
+use Rattle.ssh_cert.specs.declared.subject_fault.SubjectFault.{SubjectFault}
+use Rattle.ssh_cert.specs.declared.subject_fault.SubjectFault.TheVariants as subjects
+use Rattle.key_text.specs.KeyLine.{IsKeyLine}
+use Rattle.key_text.specs.LineFaults.{IsReportedFault as IsReportedLineFault}
+use Rattle.key_text.specs.declared.line_fault.LineFault.{LineFault}
+use Rattle.key_text.specs.declared.line_fault.LineFault.TheVariants as lines
+use Rattle.krl_types.specs.declared.krl_fault.KrlFault.{KrlFault}
+use Rattle.krl_types.specs.declared.krl_fault.KrlFault.TheVariants as lists
+use Rattle.krl_core.specs.declared.header.Header.{Header}
+use Rattle.krl_core.specs.Entries.{entries_of}
+use Rattle.krl_entries.specs.Entry.{Entry}
+use Rattle.krl_entries.specs.Revocations.{Revocations}
+use Rattle.krl_core.specs.Front.{IsFirstFault}
+use Rattle.krl_core.specs.Reading.{IsListAs, Says as ListSays, ran_out as runs_out, failed_read, first}
+use Rattle.krl_authority.specs.Authority.{AuthoritiesAreKeys}
+use Rattle.krl_c.specs.Answer.{Answers, AnswersBlob, AnswersBy, AnswersLine, AnswersOfLine, HasOtherAuthority, IsCompared, IsListOf, IsRefusal, answered, other_authority, of_key, no_list, list_ran_out, no_blob, ran_out, no_line, line_ran_out}
+use Rattle.krl_c.specs.Number.{line_number, refusal_number, subject_number}
+use Rattle.krl_c.specs.declared.refusal.Refusal.{Refusal}
+use Rattle.krl_c.specs.declared.refusal.Refusal.TheVariants as refusals
+
+-- an answer does not change when it is passed to C
+pub same : (number : ℤ) → SFits w32 number → to_z w32 (of_z w32 number) ≡ number
+same number fits = to_z-of_z w32 number fits
+
+-- the number of a blob's fault is returned
+pub refused : (entries : List Entry) (blob : List ℕ) (fault : SubjectFault) (number : ℤ)
+    → IsReportedFault blob fault → number ≡ subject_number fault → AnswersBlob entries blob number
+refused entries blob (subjects.Key why) number reported e = no_blob (subjects.Key why) reported e
+refused entries blob (subjects.Cert why) number reported e = no_blob (subjects.Cert why) reported e
+refused entries blob subjects.NoMemory number reported e = ran_out e
+
+-- the number of a line's fault is returned
+pub line_refused : (entries : List Entry) (text : List ℕ) (fault : LineFault) (number : ℤ)
+    → IsReportedLineFault text fault → number ≡ line_number fault → AnswersLine entries text number
+line_refused entries text lines.NoKey number reported e = no_line lines.NoKey reported e
+line_refused entries text lines.Base64 number reported e = no_line lines.Base64 reported e
+line_refused entries text lines.WordDiffers number reported e = no_line lines.WordDiffers reported e
+line_refused entries text lines.NoMemory number reported e = line_ran_out e
+
+-- the list that was read has the entries of its sections
+pub of_list : {Holds : List ℕ → Revocations → List Entry → Type 0} (text : List ℕ) (header : Header) (contents : Revocations)
+    (list : IsListAs Holds text header contents) → IsListOf text (entries_of list.sections)
+of_list text header contents list = record {
+  header = header;
+  sections = list.sections;
+  spelled = list.spelled;
+  within = list.within;
+  entries_are = refl;
+}
+
+-- a list's fault is its first one, unless an allocation failed, if its reader did not fail
+pub first_of : (text : List ℕ) (fault : KrlFault) (left : Option (List ℕ))
+    → ListSays fault text false left
+    → (fault ≡ lists.NoMemory) ⊎ IsFirstFault text (Some fault)
+first_of text fault left (runs_out is size works) = inl is
+first_of text fault left (failed_read is after) = let wrong : ⊥ = grind (arith, after.failed_is) in absurd wrong
+first_of text fault left (first is works) = inr is
+
+-- a list that gives no answer has the number of the reason
+pub list_refused : {Says : List Entry → ℤ → Type 0} (text : List ℕ) (refusal : Refusal) (number : ℤ) → IsRefusal text refusal
+    → number ≡ refusal_number refusal → AnswersBy Says text number
+list_refused text (refusals.Fault fault) number (inl is) e = list_ran_out (e ∙ (rw is refl))
+list_refused text (refusals.Fault fault) number (inr is) e = no_list fault is e
+list_refused text refusals.Authority number odd e = other_authority odd e
+
+-- by the spelling of its authorities
+pub compared : (text : List ℕ) (entries : List Entry) (is : IsListOf text entries) → AuthoritiesAreKeys is.sections → IsCompared text entries
+compared text entries is keys = record { is = is; keys = keys }
+
+pub not_compared : (text : List ℕ) (entries : List Entry) (is : IsListOf text entries) → (AuthoritiesAreKeys is.sections → ⊥) → HasOtherAuthority text
+not_compared text entries is other = record { entries = entries; is = is; other = other }
+
+-- the answer of a list for the key of a line is its answer for that key's blob
+pub of_its_blob : (list text word blob comment : List ℕ) (number : ℤ) → IsKeyLine text word blob comment
+    → Answers list blob number → AnswersOfLine list text number
+of_its_blob list text word blob comment number line (answered entries is says) = answered entries is (of_key word blob comment line says)
+of_its_blob list text word blob comment number line (other_authority odd is) = other_authority odd is
+of_its_blob list text word blob comment number line (no_list fault is_first is) = no_list fault is_first is
+of_its_blob list text word blob comment number line (list_ran_out is) = list_ran_out is

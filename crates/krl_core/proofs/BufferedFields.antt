@@ -1,0 +1,200 @@
+-- Fields that are read, one row after another.
+use Rattle.std.proofs.Common.{◌≡◌, ℕ, zero, suc, ◌+◌, ◌-◌, ◌*◌, ◌<◌, ◌≤◌, List, [], ◌∷◌, ◌++◌, length, take, drop, nat_lt, Bool, Result, Ok, Err, true, false, refl, sym, ap, subst, ◌∙◌, append_assoc, arith, length-drop}
+use Rattle.std.specs.Prelude.{OnOk, is_err}
+use Rattle.std.specs.List.{concat}
+use Rattle.std.specs.declared.alloc.AllocError.{AllocError}
+use Rattle.std.proofs.lemmas.Bool.{false≢true}
+use Rattle.std.proofs.lemmas.List.{append-nil, length-append, length-take-le, take_rest}
+use Rattle.std.proofs.lemmas.List.Folds.{concat-append}
+use Rattle.std.proofs.lemmas.Result.{on_ok_weaker}
+use Rattle.std.proofs.Math.Seq.{take-add}
+use Rattle.ssh_wire.specs.Wire.{IsBytes}
+use Rattle.byte_streams.specs.Pull.{Pull, Takes, left_of}
+use Rattle.ssh_wire.proofs.Digits.{IsBytes-append, IsBytes-drop, IsBytes-nil, IsBytes-take}
+use Rattle.krl_core.specs.declared.place.Place.{Place}
+use Rattle.krl_core.specs.Buffered.{ReadsBuffered, ReadsWhole, ReadsSome, HasStored}
+use Rattle.krl_core.specs.Front.{Passes, start, state_after}
+use Rattle.krl_core.specs.FieldStore.{GrowsAtMost, InStep, StoresEntries, FieldStore, StoresField, StoresAtMost}
+use Rattle.krl_core.specs.Place.{authority_after, names}
+use Rattle.krl_core.specs.Reading.{HasRead, IsBounded, Leaps, Walk, ReadsMore, working}
+use Rattle.krl_core.proofs.LongestFronts.{nearer, weight}
+use Rattle.krl_core.proofs.StoredEntries.{grows_then, header_stored}
+use Rattle.krl_core.proofs.Steps.{consumes_some}
+use Rattle.krl_entries.proofs.TopicAmounts.{small_in}
+use Rattle.krl_core.proofs.Walks.{Leads-push}
+
+-- ---- rows of fields
+
+stored_of : (text : List ℕ) (fields : List (List ℕ)) (p : Walk) → HasRead text fields p → HasStored fields p.place p.stored
+stored_of text fields p h = record { state = h.state; leads = h.leads; place_is = h.place_is; authority_is = h.authority_is; header_is = h.header_is; stores = h.stores }
+
+buffered_none : (place : Place) (k : FieldStore) → InStep place k.bitmap → ReadsBuffered [] place k place k
+buffered_none place k step = record {
+  stores = λ fields h. ([], (subst (λ (fs : List (List ℕ)). HasStored fs place k) (sym (append-nil fields)) h, refl));
+  are_bytes = IsBytes-nil;
+  in_step = step;
+  scope_is = refl;
+}
+
+buffered_then : (xs ys : List ℕ) (p q r : Place) (a b c : FieldStore) → ReadsBuffered xs p a q b → ReadsBuffered ys q b r c → ReadsBuffered (xs ++ ys) p a r c
+buffered_then xs ys p q r a b c h k = record {
+  stores = λ fields was.
+      let one = h.stores fields was in
+      let two = k.stores (fields ++ one.0) one.1.0 in (
+        one.0 ++ two.0,
+        (
+          subst (λ (fs : List (List ℕ)). HasStored fs r c) (append_assoc fields one.0 two.0) two.1.0,
+          concat-append one.0 two.0 ∙ ap (λ (l : List ℕ). l ++ concat two.0) one.1.1 ∙ ap (λ (l : List ℕ). xs ++ l) two.1.1,
+        ),
+      );
+  are_bytes = IsBytes-append xs ys h.are_bytes k.are_bytes;
+  in_step = k.in_step;
+  scope_is = k.scope_is ∙ h.scope_is;
+}
+
+-- a field that passes its judgement and is stored
+pub buffered_field : (place next : Place) (old new : FieldStore) (field : List ℕ) → Passes place field next → StoresField place field next old new → IsBytes field
+    → ReadsBuffered field place old next new
+buffered_field place next old new field passes stores_field bytes = record {
+  stores = λ fields h.
+      let pass : Passes h.state.place field next = subst (λ (p : Place). Passes p field next) h.place_is passes in
+      let place_is = h.place_is in
+      let authority_is = h.authority_is in
+      let named : names place old.authority field ≡ names h.state.place h.state.authority field = cc in
+      let authority : authority_after place old.authority field ≡ authority_after h.state.place h.state.authority field = cc in (
+        field ∷ [],
+        (
+          record {
+            state = state_after h.state field next;
+            leads = Leads-push start h.state fields field next h.leads pass;
+            place_is = refl;
+            authority_is = stores_field.authority_is ∙ authority;
+            header_is = header_stored place h.state.place next field old new h.state.header stores_field h.place_is h.header_is;
+            stores = subst (λ n. StoresEntries new (h.state.entries ++ n)) named (stores_field.stores h.state.entries h.stores);
+          },
+          append-nil field,
+        ),
+      );
+  are_bytes = bytes;
+  in_step = stores_field.in_step;
+  scope_is = stores_field.scope_is;
+}
+
+-- ---- some of the bytes
+
+pub some_none : (bytes : List ℕ) (place : Place) (k : FieldStore) → InStep place k.bitmap → ReadsSome bytes 0 (Ok (tt {0})) place k place k
+some_none bytes place k step = record {
+  within = omega arith;
+  ok = buffered_none place k step;
+  grows = record { held_is = omega arith; stored_is = λ m s. subst (λ (n : ℕ). StoresAtMost k n) (omega arith) s; scope_is = λ s. s; same_scope = refl };
+  none = λ _. (refl, refl);
+}
+
+-- more of the bytes
+pub some_more : (bytes : List ℕ) (at n : ℕ) (result : Result (Unit {0}) AllocError) (p q r : Place) (a b c : FieldStore) → ReadsSome bytes at (Ok (tt {0})) p a q b
+    → n ≤ length (drop at bytes) → OnOk result (ReadsBuffered (take n (drop at bytes)) q b r c) → GrowsAtMost n b c → (at + n ≡ 0 → (r ≡ p) × (c ≡ a))
+    → ReadsSome bytes (at + n) result p a r c
+some_more bytes at n result p q r a b c h within ok grows none = record {
+  within = omega (arith, within, h.within, length-drop at bytes);
+  ok = on_ok_weaker result (λ k. subst (λ (l : List ℕ). ReadsBuffered l p a r c) (sym (take-add at n bytes)) (buffered_then (take at bytes) (take n (drop at bytes)) p q r a b c h.ok k)) ok;
+  grows = grows_then a b c at n h.grows grows;
+  none = none;
+}
+
+pub some_then : (bytes : List ℕ) (at n : ℕ) (result : Result (Unit {0}) AllocError) (p q r : Place) (a b c : FieldStore) → ReadsSome bytes at (Ok (tt {0})) p a q b
+    → ReadsSome (drop at bytes) n result q b r c → ReadsSome bytes (at + n) result p a r c
+some_then bytes at n result p q r a b c h k =
+    some_more bytes at n result p q r a b c h k.within k.ok k.grows
+    (λ at_none. let one = h.none (omega arith) in let two = k.none (omega arith) in (two.0 ∙ one.0, two.1 ∙ one.1))
+
+-- the rest of the bytes
+pub some_after : (bytes : List ℕ) (at n : ℕ) (result : Result (Unit {0}) AllocError) (p q r : Place) (a b c : FieldStore) → ReadsSome bytes at (Ok (tt {0})) p a q b
+    → ReadsSome (take (length bytes - at) (drop at bytes)) n result q b r c → ReadsSome bytes (at + n) result p a r c
+some_after bytes at n result p q r a b c h k =
+    some_then bytes at n result p q r a b c h (subst (λ (xs : List ℕ). ReadsSome xs n result q b r c) (take_rest bytes at) k)
+
+pub some_ok : (bytes : List ℕ) (n : ℕ) (result : Result (Unit {0}) AllocError) (p q : Place) (a b : FieldStore) → is_err result ≡ false → ReadsSome bytes n result p a q b
+    → ReadsSome bytes n (Ok (tt {0})) p a q b
+some_ok bytes n (Ok done) p q a b off h = record { within = h.within; ok = h.ok; grows = h.grows; none = h.none }
+some_ok bytes n (Err fault) p q a b off h = absurd (cc)
+
+-- ---- one field
+
+-- the field at the front of the rest of the bytes
+front_of : (bytes : List ℕ) (at : ℕ) (empty : Bool) (size : ℕ) (result : Result Place AllocError) (q : Place) (b c : FieldStore)
+    → ReadsWhole (take (length bytes - at) (drop at bytes)) empty size result q b c → ReadsWhole (drop at bytes) empty size result q b c
+front_of bytes at empty size result q b c h = subst (λ (xs : List ℕ). ReadsWhole xs empty size result q b c) (take_rest bytes at) h
+
+some_bytes : (at size : ℕ) → (size ≡ 0 → nat_lt 0 at ≡ true) → at + size ≡ 0 → ⊥
+some_bytes zero zero some e = false≢true (some refl)
+some_bytes zero (suc size) some e = absurd (omega (arith, e))
+some_bytes (suc at) size some e = absurd (omega (arith, e))
+
+pub field_buffered : (bytes : List ℕ) (at size : ℕ) (p q next : Place) (a b c : FieldStore) → IsBytes bytes → ReadsSome bytes at (Ok (tt {0})) p a q b
+    → ReadsWhole (take (length bytes - at) (drop at bytes)) (nat_lt 0 at) size (Ok next) q b c → ReadsSome bytes (at + size) (Ok (tt {0})) p a next c
+field_buffered bytes at size p q next a b c are h there =
+    let field = front_of bytes at _ size (Ok next) q b c there in
+    some_more bytes at size (Ok (tt {0})) p q next a b c h field.within
+    (buffered_field q next b c (take size (drop at bytes)) field.passes field.stores_field (IsBytes-take size (drop at bytes) (IsBytes-drop at bytes are)))
+    field.grows (λ none. absurd (some_bytes at size field.some none))
+
+pub field_refused : (bytes : List ℕ) (at size : ℕ) (error : AllocError) (p q : Place) (a b c : FieldStore) → ReadsSome bytes at (Ok (tt {0})) p a q b
+    → ReadsWhole (take (length bytes - at) (drop at bytes)) (nat_lt 0 at) size (Err error) q b c → ReadsSome bytes (at + size) (Err error) p a q c
+field_refused bytes at size error p q a b c h there =
+    let field = front_of bytes at _ size (Err error) q b c there in
+    some_more bytes at size (Err error) p q q a b c h field.within tt field.grows (λ none. absurd (some_bytes at size field.some none))
+
+pub buffered_nearer : (bytes : List ℕ) (at size : ℕ) (q next : Place) (b c : FieldStore) → at + size ≤ length bytes
+    → ReadsWhole (take (length bytes - at) (drop at bytes)) (nat_lt 0 at) size (Ok next) q b c
+    → 2 * (length bytes - (at + size)) + weight next < 2 * (length bytes - at) + weight q
+buffered_nearer bytes at size q next b c within there =
+    let field = front_of bytes at _ size (Ok next) q b c there in
+    let near = nearer q next _ field.passes.judged in
+    omega (arith, near, field.passes.whole, length-take-le size (drop at bytes) field.within, within)
+
+-- ---- a walk
+
+pub reads_buffered : (old : Walk) (new : Pull) (place : Place) (stored : FieldStore) (bytes : List ℕ) → Takes old.pull bytes new
+    → ReadsBuffered bytes old.place old.stored place stored → ReadsMore old (working new place stored)
+reads_buffered old new place stored bytes takes crosses text fields h =
+    let more = crosses.stores fields (stored_of text fields old h) in
+    let now = more.1.0 in
+    let after = consumes_some (left_of old.pull) (left_of new) h.rest bytes h.left_is takes.bytes in
+    let joined : concat (fields ++ more.0) ≡ concat fields ++ bytes = concat-append fields more.0 ∙ ap (λ (l : List ℕ). concat fields ++ l) more.1.1 in (
+      more.0,
+      record {
+        state = now.state;
+        leads = now.leads;
+        place_is = now.place_is;
+        authority_is = now.authority_is;
+        header_is = now.header_is;
+        stores = now.stores;
+        are_bytes = subst IsBytes (sym joined) (IsBytes-append (concat fields) bytes h.are_bytes crosses.are_bytes);
+        rest = after.0;
+        left_is = after.1;
+        parts = h.parts ∙ ap (λ (l : List ℕ). concat fields ++ l) after.2 ∙ sym (append_assoc (concat fields) bytes after.0) ∙ ap (λ (l : List ℕ). l ++ after.0) (sym joined);
+        taken_is = omega (arith, takes.taken, h.taken_is, ap length joined, length-append (concat fields) bytes);
+        works = takes.working;
+        faultless = refl;
+      },
+    )
+
+pub bounded_buffered : (old : Walk) (new : Pull) (stored : FieldStore) (bytes : List ℕ) → IsBounded old.pull old.stored → Takes old.pull bytes new
+    → GrowsAtMost (length bytes) old.stored stored → IsBounded new stored
+bounded_buffered old new stored bytes b takes grows = record {
+  limit_is = takes.limit ∙ b.limit_is;
+  within = omega (arith, takes.within, takes.taken, b.limit_is);
+  all_is = λ every.
+      let was = b.all_is (sym grows.same_scope ∙ every) in
+      (omega (arith, grows.held_is, was.0, takes.taken), subst (λ (n : ℕ). StoresAtMost stored n) (sym takes.taken) (grows.stored_is old.pull.taken was.1));
+  scope_is = grows.scope_is b.scope_is;
+  asked_is = small_in stored.scope stored.contents (grows.scope_is b.scope_is);
+}
+
+pub leaps_buffered : (old : Walk) (new : Pull) (place : Place) (stored : FieldStore) (bytes : List ℕ) → IsBounded old.pull old.stored → Takes old.pull bytes new
+    → ReadsBuffered bytes old.place old.stored place stored → 0 < length bytes → Leaps old (working new place stored)
+leaps_buffered old new place stored bytes b takes crosses some = record {
+  taken = omega (arith, takes.taken);
+  within = omega (arith, takes.within, takes.taken, b.limit_is);
+  scope_is = crosses.scope_is;
+}

@@ -1,0 +1,67 @@
+-- The first fields of a list, whose sizes depend on no length.
+use Rattle.std.proofs.Common.{◌≡◌, ℕ, ◌+◌, ◌<◌, ◌≤◌, Bool, true, false, List, [], ◌∷◌, length, Ok, refl, ap, arith}
+use Rattle.std.specs.List.{concat}
+use Rattle.std.proofs.lemmas.List.{length-append}
+use Rattle.krl_types.specs.declared.krl_fault.KrlFault.{KrlFault}
+use Rattle.krl_core.specs.declared.place.Place.{Place}
+use Rattle.krl_core.specs.declared.place.Place.TheVariants as places
+use Rattle.krl_core.specs.declared.place.header.HeaderPlace.TheVariants as headers
+use Rattle.krl_core.specs.Place.{expected, judge}
+use Rattle.krl_core.specs.Front.{State, start, state_after, Leads, Passes}
+use Rattle.krl_core.specs.Reading.{HasFixedFields, is_fixed}
+use Rattle.krl_core.proofs.Judgements.{same_place}
+
+-- a large field is not one of the first
+pub late_where_large : (p : Place) → 32 < (expected p).size → is_fixed p ≡ false
+late_where_large (places.Header (headers.Reserved n)) large = refl
+late_where_large (places.Header (headers.Comment n)) large = refl
+late_where_large (places.Header first) large = absurd (omega arith)
+late_where_large _ large = refl
+
+-- how many bytes the first fields have from a place on
+abbrev fixed_left : Place → ℕ
+fixed_left (places.Header headers.Magic) = 40
+fixed_left (places.Header headers.FormatVersion) = 32
+fixed_left (places.Header headers.Version) = 28
+fixed_left (places.Header headers.Date) = 20
+fixed_left (places.Header headers.Flags) = 12
+fixed_left (places.Header headers.ReservedLength) = 4
+fixed_left _ = 0
+
+good_place : (good : Bool) (fault : KrlFault) (p q : Place) → judge good fault p ≡ Ok q → p ≡ q
+good_place true fault p q is = same_place p q is
+good_place false fault p q is = absurd (cc)
+
+none_left : (p : Place) → is_fixed p ≡ false → fixed_left p ≡ 0
+none_left (places.Header headers.Magic) past = absurd (cc)
+none_left (places.Header headers.FormatVersion) past = absurd (cc)
+none_left (places.Header headers.Version) past = absurd (cc)
+none_left (places.Header headers.Date) past = absurd (cc)
+none_left (places.Header headers.Flags) past = absurd (cc)
+none_left (places.Header headers.ReservedLength) past = absurd (cc)
+none_left _ past = refl
+
+field_left : (p next : Place) (field : List ℕ) → Passes p field next → fixed_left p ≤ length field + fixed_left next
+field_left (places.Header headers.Magic) next field passes =
+    omega (arith, passes.whole, ap fixed_left (good_place _ _ (places.Header headers.FormatVersion) next passes.judged))
+field_left (places.Header headers.FormatVersion) next field passes =
+    omega (arith, passes.whole, ap fixed_left (good_place _ _ (places.Header headers.Version) next passes.judged))
+field_left (places.Header headers.Version) next field passes =
+    omega (arith, passes.whole, ap fixed_left (same_place (places.Header headers.Date) next passes.judged))
+field_left (places.Header headers.Date) next field passes =
+    omega (arith, passes.whole, ap fixed_left (same_place (places.Header headers.Flags) next passes.judged))
+field_left (places.Header headers.Flags) next field passes =
+    omega (arith, passes.whole, ap fixed_left (same_place (places.Header headers.ReservedLength) next passes.judged))
+field_left (places.Header headers.ReservedLength) next field passes = omega (arith, passes.whole)
+field_left _ next field passes = omega arith
+
+fields_left : (from last : State) (fields : List (List ℕ)) → Leads from fields last → is_fixed last.place ≡ false → fixed_left from.place ≤ length (concat fields)
+fields_left from last [] leads past =
+    omega (arith, ap (λ (state : State). fixed_left state.place) leads, none_left last.place past)
+fields_left from last (field ∷ fields) leads past =
+    omega (arith, field_left from.place leads.0 field leads.1.0, fields_left (state_after from field leads.0) last fields leads.1.1 past, length-append field (concat fields))
+
+-- The first fields have 40 bytes together.
+pub fixed_room : (text : List ℕ) → HasFixedFields text → 40 ≤ length text
+fixed_room text has =
+    omega (arith, fields_left start has.state has.fields has.leads has.past, ap length has.parts, length-append (concat has.fields) has.rest)

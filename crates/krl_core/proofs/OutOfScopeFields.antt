@@ -1,0 +1,56 @@
+-- Fields that name nothing in scope are skipped together.
+use Rattle.std.proofs.Common.{◌≡◌, ℕ, ◌-◌, ◌*◌, ◌/◌, ◌%◌, ◌<◌, ◌≤◌, List, length, take, Result, Ok, refl, sym, ap, subst, ◌∙◌, arith}
+use Rattle.std.specs.Prelude.{None, OnOk}
+use Rattle.std.specs.declared.alloc.AllocError.{AllocError}
+use Rattle.std.proofs.lemmas.List.{length-take-le}
+use Rattle.std.proofs.lemmas.Result.{on_ok_weaker}
+use Rattle.ssh_wire.specs.Wire.{IsBytes, number_of}
+use Rattle.ssh_wire.proofs.Digits.{IsBytes-take}
+use Rattle.krl_core.specs.declared.place.Place.{Place}
+use Rattle.krl_core.specs.declared.place.Place.TheVariants as places
+use Rattle.krl_core.specs.declared.place.bitmap.BitmapPlace.TheVariants as bitmaps
+use Rattle.krl_core.specs.declared.place.serials.SerialsPlace.TheVariants as serials
+use Rattle.krl_core.specs.Buffered.{AreBitsOutOfScope, ReadsBuffered, ReadsSome, MaySkip}
+use Rattle.krl_entries.specs.Scope.{AreOutOfScope}
+use Rattle.krl_core.specs.FieldStore.{InStep, FieldStore, Skips, StoresNoMore, held_with_open}
+use Rattle.krl_core.specs.Place.{next_bits, next_serial}
+use Rattle.krl_core.proofs.SerialFields.{buffered_serials}
+use Rattle.krl_core.proofs.StoredEntries.{stored_same}
+use Rattle.krl_core.proofs.SkippedBits.{buffered_bits, stays_grow}
+use Rattle.krl_entries.proofs.SkippedSerials.{take_fewer}
+
+pub serials_buffered : (bytes : List ℕ) (count : ℕ) (place next : Place) (stored : FieldStore) (left after : ℕ) → place ≡ places.Serials (serials.Serial left after) → next ≡ next_serial (left - count) after
+    → count ≤ length bytes → count ≤ left → count % 8 ≡ 0 → (count ≡ 0 → ⊥) → IsBytes bytes → InStep place stored.bitmap → AreOutOfScope stored.scope stored.authority bytes count
+    → ReadsSome bytes count (Ok (tt {0})) place stored next stored
+serials_buffered bytes count place next stored left after at to there within whole some are step out_of_scope =
+    let eights : 8 * (count / 8) ≡ count = omega arith in
+    let none : stored.bitmap.pending ≡ None = subst (λ (p : Place). InStep p stored.bitmap) at step in
+    let all : ReadsBuffered (take (8 * (count / 8)) bytes) (places.Serials (serials.Serial left after)) stored (next_serial (left - 8 * (count / 8)) after) stored =
+    buffered_serials (count / 8) stored left after bytes (omega (arith, some)) none are (omega (arith, eights)) (omega (arith, eights)) (subst (AreOutOfScope stored.scope stored.authority bytes) (sym eights) out_of_scope) in
+    let counted : ReadsBuffered (take count bytes) (places.Serials (serials.Serial left after)) stored (next_serial (left - count) after) stored =
+    subst (λ (n : ℕ). ReadsBuffered (take n bytes) (places.Serials (serials.Serial left after)) stored (next_serial (left - n) after) stored) eights all in
+    record {
+      within = there;
+      ok = subst (λ (p : Place). ReadsBuffered (take count bytes) p stored next stored) (sym at) (subst (λ (p : Place). ReadsBuffered (take count bytes) (places.Serials (serials.Serial left after)) stored p stored) (sym to) counted);
+      grows = stays_grow count stored stored (omega arith) (stored_same stored stored refl refl refl);
+      none = λ z. absurd (some z);
+    }
+
+pub bits_buffered : (bytes : List ℕ) (count : ℕ) (result : Result (Unit {0}) AllocError) (place next : Place) (old new : FieldStore) (offset size left after : ℕ)
+    → place ≡ places.Bitmap (bitmaps.Byte offset size left after) → next ≡ next_bits offset size (left - count) after → MaySkip old offset size left bytes count → (count ≡ 0 → ⊥) → IsBytes bytes
+    → InStep place old.bitmap → OnOk result (Skips count old new) → held_with_open new ≤ held_with_open old → StoresNoMore old new → ReadsSome bytes count result place old next new
+bits_buffered bytes count result place next old new offset size left after at to may some are step skips held stays =
+    let xs : List ℕ = take count bytes in
+    let long : length xs ≡ count = length-take-le count bytes may.there in
+    let stepped = subst (λ (p : Place). InStep p old.bitmap) at step in
+    let first : take 1 xs ≡ take 1 bytes = take_fewer 1 count bytes (omega (arith, some)) in
+    let crosses = λ (s : Skips count old new).
+    buffered_bits old new offset size left after xs stepped (IsBytes-take count bytes are) (omega (arith, long, may.within)) may.left_is
+    (λ same. subst (λ (l : List ℕ). number_of l < 128) (sym first) (may.sign_free same)) may.fits (subst (AreBitsOutOfScope old offset left) (sym long) may.bits_out_of_scope) (subst (λ (n : ℕ). Skips n old new) (sym long) s) in
+    let lands : next_bits offset size (left - length xs) after ≡ next = ap (λ (n : ℕ). next_bits offset size (left - n) after) long ∙ sym to in
+    record {
+      within = may.there;
+      ok = on_ok_weaker result (λ s. subst (λ (p : Place). ReadsBuffered xs p old next new) (sym at) (subst (λ (p : Place). ReadsBuffered xs (places.Bitmap (bitmaps.Byte offset size left after)) old p new) lands (crosses s))) skips;
+      grows = stays_grow count old new held stays;
+      none = λ z. absurd (some z);
+    }

@@ -1,0 +1,41 @@
+-- Progress: each step takes one field or several.
+use Rattle.std.proofs.Common.{◌≡◌, ◌+◌, ◌-◌, ◌*◌, ◌<◌, [], ◌∷◌, Bool, Result, Ok, Err, false, refl, inl, inr, arith}
+use Rattle.std.specs.Prelude.{IfOk, IsTrue}
+use Rattle.krl_types.specs.declared.krl_fault.KrlFault.{KrlFault}
+use Rattle.krl_core.specs.Front.{limit}
+use Rattle.krl_core.specs.Reading.{Advances, Follows, Walk, ReadsMore, ReadsOneMore, is_fixed}
+use Rattle.krl_core.specs.declared.place.Place.{Place}
+use Rattle.krl_core.specs.declared.place.Place.TheVariants as places
+use Rattle.krl_core.specs.declared.place.header.HeaderPlace.{HeaderPlace}
+use Rattle.krl_core.proofs.LongestFronts.{weight, weight_below}
+use Rattle.krl_core.proofs.WholeLists.{step_nearer}
+
+pub one_or_more : (old new : Walk) → ReadsOneMore old new → ReadsMore old new
+one_or_more old new one text fields h = let more = one text fields h in (more.0 ∷ [], more.1)
+
+pub more_of : (result : Result Bool KrlFault) (old : Walk) (new : Walk) → IfOk result (λ more. IsTrue more → ReadsOneMore old new) → IfOk result (λ more. IsTrue more → ReadsMore old new)
+more_of (Ok more) old new h = λ on. one_or_more old new (h on)
+more_of (Err fault) old new h = h
+
+pub advance_nearer : (old new : Walk) → Advances old new → 2 * (limit - new.pull.taken) + weight new.place < 2 * (limit - old.pull.taken) + weight old.place
+advance_nearer old new (inl follows) = step_nearer old new follows
+advance_nearer old new (inr leaps) = omega (arith, leaps.taken, leaps.within, weight_below new.place)
+
+pub advance_scope : (old new : Walk) → Advances old new → new.stored.scope ≡ old.stored.scope
+advance_scope old new (inl follows) = follows.scope_is
+advance_scope old new (inr leaps) = leaps.scope_is
+
+pub advances_of : (result : Result Bool KrlFault) (old : Walk) (new : Walk) → IfOk result (λ more. IsTrue more → Follows old new) → IfOk result (λ more. IsTrue more → Advances old new)
+advances_of (Ok more) old new h = λ on. inl (h on)
+advances_of (Err fault) old new h = h
+
+-- an allocation can fail after the header
+pub late_past_header : (p : Place) → ((at : HeaderPlace) → p ≡ places.Header at → ⊥) → is_fixed p ≡ false
+late_past_header (places.Header at) past = absurd (past at refl)
+late_past_header (places.SectionType signed) past = refl
+late_past_header (places.Signature at) past = refl
+late_past_header (places.List at) past = refl
+late_past_header (places.Certificates at) past = refl
+late_past_header (places.Serials at) past = refl
+late_past_header (places.Bitmap at) past = refl
+late_past_header (places.Extension at) past = refl

@@ -1,0 +1,308 @@
+-- A walk goes through all fields of a spelling.
+use Rattle.std.proofs.Common.{◌≡◌, ℕ, zero, suc, ◌+◌, ◌-◌, ◌*◌, ◌%◌, ◌==◌, ◌<◌, ◌≤◌, ◌^◌, Bool, true, false, not, cond, eqb, ltb, leb, eq-eqb, List, [], ◌∷◌, ◌++◌, length, Result, Ok, Err, refl, sym, ap, subst, ◌∙◌, append_assoc, arith, inl, inr}
+use Rattle.std.specs.List.{AllByRecursion}
+use Rattle.std.specs.Int.{bit_at, leading_zeros, w8}
+use Rattle.std.proofs.lemmas.Bool.{cases_lt, cases_Bool, ne_eqb, le-ltb, lt-ltb, le-leb, lt-leb, eqb-true}
+use Rattle.std.proofs.lemmas.List.{length-append}
+use Rattle.ssh_wire.specs.Wire.{IsBytes, number, number_of, string, strings}
+use Rattle.ssh_wire.proofs.Digits.{IsBytes-back, IsBytes-front}
+use Rattle.ssh_wire.proofs.Fields.{IsBytes-in_string, length-string, length-number, length-numbers}
+use Rattle.krl_types.specs.declared.krl_fault.KrlFault.{KrlFault}
+use Rattle.krl_types.specs.declared.krl_fault.KrlFault.TheVariants as faults
+use Rattle.krl_core.specs.declared.header.Header.{Header}
+use Rattle.krl_core.specs.declared.place.list.ItemKind.{ItemKind}
+use Rattle.krl_core.specs.declared.place.list.ItemKind.TheVariants as kinds
+use Rattle.krl_core.specs.declared.place.Place.{Place}
+use Rattle.krl_core.specs.declared.place.Place.TheVariants as places
+use Rattle.krl_core.specs.declared.place.header.HeaderPlace.TheVariants as headers
+use Rattle.krl_core.specs.declared.place.list.ListPlace.TheVariants as lists
+use Rattle.krl_core.specs.declared.place.certificates.CertificatesPlace.TheVariants as certificates
+use Rattle.krl_core.specs.declared.place.serials.SerialsPlace.TheVariants as serials
+use Rattle.krl_core.specs.declared.place.bitmap.BitmapPlace.TheVariants as bitmaps
+use Rattle.krl_core.specs.declared.place.extension.ExtensionPlace.TheVariants as extensions
+use Rattle.krl_core.specs.Front.{HasRoom}
+use Rattle.krl_core.specs.Krl.{Subsection, Serials, Range, Bitmap, Ids, SubsectionExtension, SpellsEach, SpellsSubsection, SpellsExtension, IsPositive, magic, header_text, numbers_text}
+use Rattle.krl_core.specs.Place.{Expected, expected, judge, length_within, within, item_size, next_item, next_subsection, next_serial, next_bits, base_of, bits_judged, passes_end, highest_bit}
+use Rattle.std.proofs.lemmas.Nat.Bits.{bit_at_above, bit_at_cat_low, bit_at_cat_high}
+use Rattle.krl_core.proofs.Bitmaps.{number_of-byte, low_more, low_none}
+use Rattle.serial_set.proofs.Bits.{highest_bit as top_bit}
+use Rattle.krl_core.proofs.PlaceRows.{Goes, goes_none, goes_one, goes_then, goes_from}
+use Rattle.krl_core.proofs.Lists.{header_parts}
+use Rattle.krl_entries.proofs.Numbers.{number_again4, number_again8, number_of-one}
+use Rattle.krl_core.proofs.RestSpellings.{IsItem}
+
+-- ---- a field, and the place after it
+
+-- the length of content that is read in parts
+pub content_goes : (p q r : Place) (content rest : List ℕ) → HasRoom (expected p) → (expected p).size ≡ 4 → length content < 2 ^ 32
+    → ((field : List ℕ) → number_of field ≡ length content → (expected p).judged field ≡ Ok q) → Goes q (content ++ rest) r rest → Goes p (string content ++ rest) r rest
+unfolding string
+content_goes p q r content rest room size fits judged w =
+    goes_from p r (string content ++ rest) (number 4 (length content) ++ (content ++ rest)) rest (append_assoc (number 4 (length content)) content rest)
+    (goes_then p q r (number 4 (length content) ++ (content ++ rest)) (content ++ rest) rest
+    (goes_one p q (number 4 (length content)) (content ++ rest) room (length-number 4 (length content) ∙ sym size) (judged (number 4 (length content)) (number_again4 (length content) fits))) w)
+
+-- a string: its length, and its content
+pub string_goes : (p : Place) (q : Place) (r : Place) (content rest : List ℕ) → HasRoom (expected p) → (expected p).size ≡ 4 → length content < 2 ^ 32
+    → ((field : List ℕ) → number_of field ≡ length content → (expected p).judged field ≡ Ok q)
+    → HasRoom (expected q) → length content ≡ (expected q).size → (expected q).judged content ≡ Ok r → Goes p (string content ++ rest) r rest
+string_goes p q r content rest room size fits judged room' size' judged' = content_goes p q r content rest room size fits judged (goes_one q r content rest room' size' judged')
+
+-- a length that fits passes, and the judgement is that of its value
+pub within_is : (left : ℕ) (next : ℕ → Result Place KrlFault) (size n : ℕ) → size ≡ n → n ≤ left - 4 → within left next size ≡ next n
+within_is left next size n e le =
+    let f : ltb (left - 4) size ≡ false = le-ltb (left - 4) size (omega arith) in
+    ap (λ (b : Bool). cond b (Err faults.Length) (next size)) f ∙ ap next e
+
+judge_is : (b : Bool) (why : KrlFault) (p : Place) → b ≡ true → judge b why p ≡ Ok p
+judge_is b why p e = ap (λ (x : Bool). judge x why p) e
+
+-- ---- the header
+
+pub header_goes : (header : Header) (flags : ℕ) (reserved rest : List ℕ) → length reserved < 2 ^ 32 → length header.comment < 2 ^ 32
+    → Goes (places.Header headers.Magic) (header_text header flags reserved ++ rest) (places.SectionType false) rest
+unfolding number number_of
+header_goes header flags reserved rest fits fits' =
+    let r1 : List ℕ = string header.comment ++ rest in
+    let r2 : List ℕ = string reserved ++ r1 in
+    let r3 : List ℕ = number 8 flags ++ r2 in
+    let r4 : List ℕ = number 8 header.date ++ r3 in
+    let r5 : List ℕ = number 8 header.version ++ r4 in
+    let r6 : List ℕ = number 4 1 ++ r5 in
+    let w0 = string_goes (places.Header headers.CommentLength) (places.Header (headers.Comment (length header.comment))) (places.SectionType false) header.comment rest tt refl fits'
+    (λ field e. ap (λ (n : ℕ). Ok (places.Header (headers.Comment n))) e) tt refl refl in
+    let w1 = goes_then (places.Header headers.ReservedLength) (places.Header headers.CommentLength) (places.SectionType false) r2 r1 rest
+    (string_goes (places.Header headers.ReservedLength) (places.Header (headers.Reserved (length reserved))) (places.Header headers.CommentLength) reserved r1 tt refl fits
+    (λ field e. ap (λ (n : ℕ). Ok (places.Header (headers.Reserved n))) e) tt refl refl) w0 in
+    let w2 = goes_then (places.Header headers.Flags) (places.Header headers.ReservedLength) (places.SectionType false) r3 r2 rest (goes_one (places.Header headers.Flags) (places.Header headers.ReservedLength) (number 8 flags) r2 tt (length-number 8 flags) refl) w1 in
+    let w3 = goes_then (places.Header headers.Date) (places.Header headers.Flags) (places.SectionType false) r4 r3 rest (goes_one (places.Header headers.Date) (places.Header headers.Flags) (number 8 header.date) r3 tt (length-number 8 header.date) refl) w2 in
+    let w4 = goes_then (places.Header headers.Version) (places.Header headers.Date) (places.SectionType false) r5 r4 rest (goes_one (places.Header headers.Version) (places.Header headers.Date) (number 8 header.version) r4 tt (length-number 8 header.version) refl) w3 in
+    let w5 = goes_then (places.Header headers.FormatVersion) (places.Header headers.Version) (places.SectionType false) r6 r5 rest (goes_one (places.Header headers.FormatVersion) (places.Header headers.Version) (number 4 1) r5 tt refl refl) w4 in
+    goes_from (places.Header headers.Magic) (places.SectionType false) (header_text header flags reserved ++ rest) (magic ++ r6) rest (header_parts header flags reserved rest)
+    (goes_then (places.Header headers.Magic) (places.Header headers.FormatVersion) (places.SectionType false) (magic ++ r6) r6 rest (goes_one (places.Header headers.Magic) (places.Header headers.FormatVersion) magic r6 tt refl refl) w5)
+
+-- ---- the items of a list
+
+item_goes : (kind : ItemKind) (total left after : ℕ) (item rest : List ℕ) → total ≡ 4 + length item + left → total < 2 ^ 32 → IsItem kind item
+    → Goes (next_item kind total after) (string item ++ rest) (next_item kind left after) rest
+item_goes kind zero left after item rest e fits good = absurd (omega arith)
+item_goes kind (suc k) left after item rest e fits good =
+    let at : ℕ → ℕ → Place = λ size more. places.List (lists.Item kind size more after) in
+    let left_is : suc k - 4 - length item ≡ left = omega arith in
+    let room : 4 ≤ suc k = omega arith in
+    string_goes (places.List (lists.ItemLength kind (suc k) after)) (at (length item) left) (next_item kind left after) item rest room refl (omega arith)
+    (λ field e'. within_is (suc k) (λ size. judge (size == item_size kind size) faults.HashLength (at size (suc k - 4 - size))) (number_of field) (length item) e' (omega arith)
+    ∙ judge_is (eqb (length item) (item_size kind (length item))) faults.HashLength (at (length item) (suc k - 4 - length item)) (eq-eqb (length item) (item_size kind (length item)) good)
+    ∙ ap (λ (m : ℕ). Ok (at (length item) m)) left_is) tt good refl
+
+pub items_go : (kind : ItemKind) (items : List (List ℕ)) (total left after : ℕ) (rest : List ℕ) → total ≡ length (strings items) + left → total < 2 ^ 32 → AllByRecursion (IsItem kind) items
+    → Goes (next_item kind total after) (strings items ++ rest) (next_item kind left after) rest
+items_go kind [] total left after rest e fits good =
+    subst (λ (m : ℕ). Goes (next_item kind total after) rest (next_item kind m after) rest) (let same : total ≡ left = omega arith in same) (goes_none (next_item kind total after) rest)
+items_go kind (item ∷ items) total left after rest e fits good =
+    let mid : ℕ = length (strings items) + left in
+    let whole : length (strings (item ∷ items)) ≡ 4 + length item + length (strings items) = omega (arith, length-append (string item) (strings items), length-string item) in
+    goes_from (next_item kind total after) (next_item kind left after) (strings (item ∷ items) ++ rest) (string item ++ (strings items ++ rest)) rest (append_assoc (string item) (strings items) rest)
+    (goes_then (next_item kind total after) (next_item kind mid after) (next_item kind left after) (string item ++ (strings items ++ rest)) (strings items ++ rest) rest
+    (item_goes kind total mid after item (strings items ++ rest) (omega arith) fits good.0) (items_go kind items mid left after rest refl (omega arith) good.1))
+
+-- items that may have any size
+pub any_size : (items : List (List ℕ)) → AllByRecursion (λ item. length item ≡ length item) items
+any_size [] = tt
+any_size (item ∷ items) = (refl, any_size items)
+
+-- ---- subsections of serials
+
+serial_goes : (total left after n : ℕ) (rest : List ℕ) → total ≡ 8 + left → Goes (next_serial total after) (number 8 n ++ rest) (next_serial left after) rest
+serial_goes zero left after n rest e = absurd (omega arith)
+serial_goes (suc k) left after n rest e =
+    let left_is : suc k - 8 ≡ left = omega arith in
+    let room : 8 ≤ suc k = omega arith in
+    goes_one (places.Serials (serials.Serial (suc k) after)) (next_serial left after) (number 8 n) rest room (length-number 8 n) (ap (λ (m : ℕ). Ok (next_serial m after)) left_is)
+
+serials_go : (items : List ℕ) (total left after : ℕ) (rest : List ℕ) → total ≡ length (numbers_text items) + left → Goes (next_serial total after) (numbers_text items ++ rest) (next_serial left after) rest
+serials_go [] total left after rest e = subst (λ (m : ℕ). Goes (next_serial total after) rest (next_serial m after) rest) (let same : total ≡ left = omega arith in same) (goes_none (next_serial total after) rest)
+serials_go (n ∷ items) total left after rest e =
+    let mid : ℕ = length (numbers_text items) + left in
+    let whole : length (numbers_text (n ∷ items)) ≡ 8 + length (numbers_text items) = omega (arith, length-append (number 8 n) (numbers_text items), length-number 8 n) in
+    goes_from (next_serial total after) (next_serial left after) (numbers_text (n ∷ items) ++ rest) (number 8 n ++ (numbers_text items ++ rest)) rest (append_assoc (number 8 n) (numbers_text items) rest)
+    (goes_then (next_serial total after) (next_serial mid after) (next_serial left after) (number 8 n ++ (numbers_text items ++ rest)) (numbers_text items ++ rest) rest
+    (serial_goes total mid after n (numbers_text items ++ rest) (omega arith)) (serials_go items mid left after rest refl))
+
+-- ---- the bytes of a bitmap
+
+-- no set bit is the bit of a number past the last one
+not_passes : (base byte : ℕ) → byte < 256 → ((k : ℕ) → bit_at byte k ≡ 1 → base + k < 2 ^ 64) → passes_end base byte ≡ false
+not_passes base zero lt within = refl
+not_passes base (suc b) lt within =
+    let top = within (highest_bit (suc b)) (top_bit (suc b) (leading_zeros w8 (suc b)) (omega arith) lt refl).0 in
+    rw (ne_eqb (suc b) 0 (λ e. absurd (omega arith)), lt-leb 18446744073709551616 (base + highest_bit (suc b)) (omega (arith, top))) refl
+
+bits_pass : (offset size left after byte : ℕ) → (left ≡ size → byte < 128) → passes_end (base_of offset left) byte ≡ false
+    → bits_judged offset size left after byte ≡ Ok (next_bits offset size (left - 1) after)
+bits_pass offset size left after byte sign passes =
+    let W : Result Place KrlFault = judge (not (passes_end (base_of offset left) byte)) faults.BitmapWraps (next_bits offset size (left - 1) after) in
+    let w : W ≡ Ok (next_bits offset size (left - 1) after) = ap (λ (b : Bool). judge (not b) faults.BitmapWraps (next_bits offset size (left - 1) after)) passes in
+    let tested = λ (b : Bool). cond b (cond (ltb byte 128) W (Err faults.BitmapNegative)) W in
+    elim (cases_Bool (eqb left size)) [
+      | inl e ↦ ap tested e ∙ ap (λ (b : Bool). cond b W (Err faults.BitmapNegative)) (lt-ltb byte 128 (sign (eqb-true left size e))) ∙ w
+      | inr e ↦ ap tested e ∙ w
+    ]
+
+low_bytes : (bits : List ℕ) → IsBytes bits → number_of bits < 2 ^ (8 * length bits)
+low_bytes [] fits = low_none
+low_bytes (b ∷ bits) fits = low_more b bits (fits 0) (low_bytes bits (λ i. fits (suc i)))
+
+bits_go : (bits : List ℕ) (offset size after : ℕ) (rest : List ℕ) → IsBytes bits → length bits ≤ size → (length bits ≡ size → IsPositive bits)
+    → ((k : ℕ) → bit_at (number_of bits) k ≡ 1 → offset + k < 2 ^ 64)
+    → Goes (next_bits offset size (length bits) after) (bits ++ rest) (next_subsection after) rest
+bits_go [] offset size after rest fits le sign within = goes_none (next_subsection after) rest
+bits_go (b ∷ bits) offset size after rest fits le sign within =
+    let n = 8 * length bits in
+    let byte : b < 256 = fits 0 in
+    let tail_fits : IsBytes bits = λ i. fits (suc i) in
+    let low = low_bytes bits tail_fits in
+    let whole : (k : ℕ) → bit_at (b * 2 ^ n + number_of bits) k ≡ 1 → bit_at (number_of (b ∷ bits)) k ≡ 1 = λ k e. subst (λ (m : ℕ). bit_at m k ≡ 1) (sym (number_of-byte b bits)) e in
+    let base : base_of offset (suc (length bits)) ≡ offset + n = omega arith in
+    let passes : passes_end (base_of offset (suc (length bits))) b ≡ false = not_passes (base_of offset (suc (length bits))) b byte
+    (λ k set.
+    let le' : n ≤ n + k = omega arith in
+    let at : n + k - n ≡ k = omega arith in
+    let high = within (n + k) (whole (n + k) (bit_at_cat_high b n (number_of bits) (n + k) low le' ∙ ap (bit_at b) at ∙ set)) in
+    omega (arith, high, base)) in
+    let one : number_of (b ∷ []) ≡ b = number_of-one b in
+    let judged : bits_judged offset size (suc (length bits)) after (number_of (b ∷ [])) ≡ Ok (next_bits offset size (suc (length bits) - 1) after) =
+    ap (bits_judged offset size (suc (length bits)) after) one ∙ bits_pass offset size (suc (length bits)) after b (λ e. sign e) passes in
+    let less : suc (length bits) - 1 ≡ length bits = omega arith in
+    goes_then (places.Bitmap (bitmaps.Byte offset size (suc (length bits)) after)) (next_bits offset size (length bits) after) (next_subsection after) (b ∷ (bits ++ rest)) (bits ++ rest) rest
+    (goes_one (places.Bitmap (bitmaps.Byte offset size (suc (length bits)) after)) (next_bits offset size (length bits) after) (b ∷ []) (bits ++ rest) tt refl
+    (judged ∙ ap (λ (m : ℕ). Ok (next_bits offset size m after)) less))
+    (bits_go bits offset size after rest tail_fits (omega arith) (λ e. absurd (omega arith))
+    (λ k set. within k (elim (cases_lt k n) [
+      | inl lt ↦ whole k (bit_at_cat_low b n (number_of bits) k lt ∙ set)
+      | inr ge ↦ let z = bit_at_above (number_of bits) n k low ge in absurd (omega (arith, z, set))
+    ])))
+
+-- ---- subsections
+
+-- an extension that fills the part around it
+pub extension_goes : (left after : ℕ) (content rest : List ℕ) → SpellsExtension content → left ≡ length content → left < 2 ^ 32
+    → Goes (places.Extension (extensions.NameLength left after)) (content ++ rest) (next_subsection after) rest
+unfolding number_of
+extension_goes left after content rest h size fits =
+    let name = h.name in
+    let contents = h.contents in
+    let n = length contents in
+    let all : length content ≡ 4 + length name + (1 + (4 + n)) =
+    ap length h.spelled ∙ length-append (string name) (0 ∷ string contents) ∙ (let e : length (string name) + length (0 ∷ string contents) ≡ 4 + length name + (1 + (4 + n)) = omega (arith, length-string name, length-string contents) in e) in
+    let left_is : left - 4 - length name ≡ 5 + n = omega (arith, all, size) in
+    let room : 4 ≤ left = omega (arith, all, size) in
+    let r1 : List ℕ = string contents ++ rest in
+    let last = string_goes (places.Extension (extensions.ContentsLength (4 + n) after)) (places.Extension (extensions.Contents n after)) (next_subsection after) contents rest (let r : 4 ≤ 4 + n = omega arith in r) refl (omega (arith, all, size, fits))
+    (λ field e. let four : 4 + n - 4 ≡ n = omega arith in
+    judge_is (eqb (number_of field) (4 + n - 4)) faults.Length (places.Extension (extensions.Contents (4 + n - 4) after)) (eq-eqb (number_of field) (4 + n - 4) (e ∙ sym four)) ∙ ap (λ (m : ℕ). Ok (places.Extension (extensions.Contents m after))) four) tt refl refl in
+    let critical = goes_then (places.Extension (extensions.Critical (5 + n) after)) (places.Extension (extensions.ContentsLength (4 + n) after)) (next_subsection after) (0 ∷ r1) r1 rest
+    (goes_one (places.Extension (extensions.Critical (5 + n) after)) (places.Extension (extensions.ContentsLength (4 + n) after)) (0 ∷ []) r1 (let r : 1 ≤ 5 + n = omega arith in r) refl
+    (ap (λ (m : ℕ). Ok (places.Extension (extensions.ContentsLength m after))) (let e : 5 + n - 1 ≡ 4 + n = omega arith in e))) last in
+    let start_parts : content ++ rest ≡ string name ++ (0 ∷ r1) = ap (λ (x : List ℕ). x ++ rest) h.spelled ∙ append_assoc (string name) (0 ∷ string contents) rest in
+    goes_from (places.Extension (extensions.NameLength left after)) (next_subsection after) (content ++ rest) (string name ++ (0 ∷ r1)) rest start_parts
+    (goes_then (places.Extension (extensions.NameLength left after)) (places.Extension (extensions.Critical (5 + n) after)) (next_subsection after) (string name ++ (0 ∷ r1)) (0 ∷ r1) rest
+    (string_goes (places.Extension (extensions.NameLength left after)) (places.Extension (extensions.Name (length name) (5 + n) after)) (places.Extension (extensions.Critical (5 + n) after)) name (0 ∷ r1) room refl (omega (arith, all, size, fits))
+    (λ field e. within_is left (λ m. Ok (places.Extension (extensions.Name m (left - 4 - m) after))) (number_of field) (length name) e (omega (arith, all, size)) ∙ ap (λ (m : ℕ). Ok (places.Extension (extensions.Name (length name) m after))) left_is) tt refl refl)
+    critical)
+
+-- the type byte of a subsection, the length of its content, and the content
+part_goes : (left type_byte : ℕ) (p q : Place) (text content rest : List ℕ) (next : (size after : ℕ) → Result Place KrlFault) → text ≡ type_byte ∷ string content → length text ≤ left → length content < 2 ^ 32
+    → (expected (places.Certificates (certificates.SubsectionType left))).judged (type_byte ∷ []) ≡ Ok p → expected p ≡ length_within (left - 1) (λ size. next size (left - 1 - 4 - size))
+    → next (length content) (left - length text) ≡ Ok q → Goes q (content ++ rest) (next_subsection (left - length text)) rest
+    → Goes (places.Certificates (certificates.SubsectionType left)) (text ++ rest) (next_subsection (left - length text)) rest
+part_goes left type_byte p q text content rest next spelled le fits typed is judged walk =
+    let at = places.Certificates (certificates.SubsectionType left) in
+    let end = next_subsection (left - length text) in
+    let size : length text ≡ 5 + length content = ap length spelled ∙ (let e : length (type_byte ∷ string content) ≡ 5 + length content = omega (arith, length-string content) in e) in
+    let after : left - 1 - 4 - length content ≡ left - length text = omega (arith, size) in
+    let room : 4 ≤ left - 1 = omega (arith, size) in
+    goes_from at end (text ++ rest) (type_byte ∷ (string content ++ rest)) rest (ap (λ (x : List ℕ). x ++ rest) spelled)
+    (goes_then at p end (type_byte ∷ (string content ++ rest)) (string content ++ rest) rest
+    (goes_one at p (type_byte ∷ []) (string content ++ rest) (let some : 1 ≤ left = omega (arith, size) in some) refl typed)
+    (content_goes p q end content rest (subst (λ (d : Expected). HasRoom d) (sym is) room) (ap (λ (d : Expected). d.size) is) fits
+    (λ field e. ap (λ (d : Expected). d.judged field) is ∙ within_is (left - 1) (λ size. next size (left - 1 - 4 - size)) (number_of field) (length content) e (omega (arith, size))
+    ∙ ap (next (length content)) after ∙ judged) walk))
+
+subsection_goes : (left : ℕ) (sub : Subsection) (text rest : List ℕ) → SpellsSubsection text sub → length text ≤ left → IsBytes text
+    → Goes (places.Certificates (certificates.SubsectionType left)) (text ++ rest) (next_subsection (left - length text)) rest
+unfolding number_of
+subsection_goes left (Serials numbers) text rest h le fits =
+    let n = length h.content in
+    let b = left - length text in
+    let all : n ≡ length (numbers_text numbers) = ap length h.content_is.0 in
+    let eight : n % 8 ≡ 0 = omega (arith, all ∙ length-numbers numbers) in
+    part_goes left 0x20 (places.Serials (serials.SerialsLength (left - 1))) (next_serial n b) text h.content rest (λ size after. judge (size % 8 == 0) faults.Length (next_serial size after)) h.spelled le h.fits refl refl
+    (judge_is (eqb (n % 8) 0) faults.Length (next_serial n b) (eq-eqb (n % 8) 0 eight))
+    (goes_from (next_serial n b) (next_subsection b) (h.content ++ rest) (numbers_text numbers ++ rest) rest (ap (λ (x : List ℕ). x ++ rest) h.content_is.0) (serials_go numbers n 0 b rest (omega (arith, all))))
+subsection_goes left (Range min max) text rest h le fits =
+    let content = h.content in
+    let n = length content in
+    let all : n ≡ 16 = ap length h.content_is.0 ∙ length-append (number 8 min) (number 8 max) ∙ (let e : length (number 8 min) + length (number 8 max) ≡ 16 = omega (arith, length-number 8 min, length-number 8 max) in e) in
+    let b = left - length text in
+    let low : number_of (number 8 min) ≡ min = number_again8 min (omega (arith, h.content_is.1, h.content_is.2)) in
+    let high : number_of (number 8 max) ≡ max = number_again8 max h.content_is.2 in
+    let second = goes_one (places.Serials (serials.RangeMax min b)) (next_subsection b) (number 8 max) rest tt (length-number 8 max)
+    (judge_is (leb min (number_of (number 8 max))) faults.RangeReversed (next_subsection b) (le-leb min (number_of (number 8 max)) (omega (arith, high, h.content_is.1)))) in
+    let first = goes_one (places.Serials (serials.RangeMin b)) (places.Serials (serials.RangeMax min b)) (number 8 min) (number 8 max ++ rest) tt (length-number 8 min) (ap (λ (m : ℕ). Ok (places.Serials (serials.RangeMax m b))) low) in
+    let parts : content ++ rest ≡ number 8 min ++ (number 8 max ++ rest) = ap (λ (x : List ℕ). x ++ rest) h.content_is.0 ∙ append_assoc (number 8 min) (number 8 max) rest in
+    let walk = goes_from (places.Serials (serials.RangeMin b)) (next_subsection b) (content ++ rest) (number 8 min ++ (number 8 max ++ rest)) rest parts
+    (goes_then (places.Serials (serials.RangeMin b)) (places.Serials (serials.RangeMax min b)) (next_subsection b) (number 8 min ++ (number 8 max ++ rest)) (number 8 max ++ rest) rest first second) in
+    part_goes left 0x21 (places.Serials (serials.RangeLength (left - 1))) (places.Serials (serials.RangeMin b)) text content rest (λ size after. judge (size == 16) faults.Length (places.Serials (serials.RangeMin after))) h.spelled le h.fits refl refl
+    (judge_is (eqb n 16) faults.Length (places.Serials (serials.RangeMin b)) (eq-eqb n 16 all)) walk
+subsection_goes left (Bitmap offset value) text rest h le fits =
+    let content = h.content in
+    let n = length content in
+    let m = h.content_is in
+    let bits = m.bytes in
+    let b = left - length text in
+    let all : n ≡ 8 + (4 + length bits) = ap length m.spelled ∙ length-append (number 8 offset) (string bits) ∙ (let e : length (number 8 offset) + length (string bits) ≡ 8 + (4 + length bits) = omega (arith, length-number 8 offset, length-string bits) in e) in
+    let content_bytes : IsBytes content = IsBytes-in_string content (IsBytes-back (0x22 ∷ []) (string content) (subst IsBytes h.spelled fits)) in
+    let bits_bytes : IsBytes bits = IsBytes-in_string bits (IsBytes-back (number 8 offset) (string bits) (subst IsBytes m.spelled content_bytes)) in
+    let less : n - 8 ≡ 4 + length bits = omega (arith, all) in
+    let fewer : n - 8 - 4 ≡ length bits = omega (arith, all) in
+    let within' : (k : ℕ) → bit_at (number_of bits) k ≡ 1 → offset + k < 2 ^ 64 = λ k set. m.within k (subst (λ (v : ℕ). bit_at v k ≡ 1) (sym m.value_is) set) in
+    let walk_bits = bits_go bits offset (length bits) b rest bits_bytes (omega arith) (λ e. m.positive) within' in
+    let sized = content_goes (places.Bitmap (bitmaps.Size offset (n - 8) b)) (next_bits offset (length bits) (length bits) b) (next_subsection b) bits rest (let r : 4 ≤ n - 8 = omega (arith, all) in r) refl (omega (arith, all, h.fits))
+    (λ field e. judge_is (eqb (number_of field) (n - 8 - 4)) faults.Length (next_bits offset (n - 8 - 4) (n - 8 - 4) b) (eq-eqb (number_of field) (n - 8 - 4) (e ∙ sym fewer))
+    ∙ ap (λ (k : ℕ). Ok (next_bits offset k k b)) fewer) walk_bits in
+    let first = goes_one (places.Bitmap (bitmaps.Offset n b)) (places.Bitmap (bitmaps.Size offset (n - 8) b)) (number 8 offset) (string bits ++ rest) (let r : 8 ≤ n = omega (arith, all) in r) (length-number 8 offset)
+    (ap (λ (k : ℕ). Ok (places.Bitmap (bitmaps.Size k (n - 8) b))) (number_again8 offset m.offset_fits)) in
+    let parts : content ++ rest ≡ number 8 offset ++ (string bits ++ rest) = ap (λ (x : List ℕ). x ++ rest) m.spelled ∙ append_assoc (number 8 offset) (string bits) rest in
+    let walk = goes_from (places.Bitmap (bitmaps.Offset n b)) (next_subsection b) (content ++ rest) (number 8 offset ++ (string bits ++ rest)) rest parts
+    (goes_then (places.Bitmap (bitmaps.Offset n b)) (places.Bitmap (bitmaps.Size offset (n - 8) b)) (next_subsection b) (number 8 offset ++ (string bits ++ rest)) (string bits ++ rest) rest first sized) in
+    part_goes left 0x22 (places.Bitmap (bitmaps.Length (left - 1))) (places.Bitmap (bitmaps.Offset n b)) text content rest (λ size after. Ok (places.Bitmap (bitmaps.Offset size after))) h.spelled le h.fits refl refl refl walk
+subsection_goes left (Ids texts) text rest h le fits =
+    let n = length h.content in
+    let b = left - length text in
+    let at = next_item kinds.Id n b in
+    part_goes left 0x23 (places.List (lists.IdsLength (left - 1))) at text h.content rest (λ size after. Ok (next_item kinds.Id size after)) h.spelled le h.fits refl refl refl
+    (goes_from at (next_subsection b) (h.content ++ rest) (strings texts ++ rest) rest (ap (λ (x : List ℕ). x ++ rest) h.content_is)
+    (items_go kinds.Id texts n 0 b rest (omega (arith, ap length h.content_is)) h.fits (any_size texts)))
+subsection_goes left SubsectionExtension text rest h le fits =
+    let n = length h.content in
+    let b = left - length text in
+    part_goes left 0x39 (places.Extension (extensions.SubsectionLength (left - 1))) (places.Extension (extensions.NameLength n b)) text h.content rest (λ size after. Ok (places.Extension (extensions.NameLength size after))) h.spelled le h.fits refl refl refl
+    (extension_goes n b h.content rest h.content_is refl h.fits)
+
+pub subsections_go : (subs : List Subsection) (body rest : List ℕ) (total : ℕ) → SpellsEach SpellsSubsection body subs → total ≡ length body → IsBytes body
+    → Goes (next_subsection total) (body ++ rest) (places.SectionType false) rest
+subsections_go [] body rest total h e fits =
+    let none : total ≡ 0 = e ∙ ap length h in
+    goes_from (next_subsection total) (places.SectionType false) (body ++ rest) rest rest (ap (λ (x : List ℕ). x ++ rest) h)
+    (subst (λ (m : ℕ). Goes (next_subsection m) rest (places.SectionType false) rest) (sym none) (goes_none (places.SectionType false) rest))
+subsections_go (sub ∷ subs) body rest zero (first, (later, (parts, spelled, others))) e fits =
+    absurd (omega (arith, e, ap length parts, length-append first later, ap length spelled.spelled))
+subsections_go (sub ∷ subs) body rest (suc k) (first, (later, (parts, spelled, others))) e fits =
+    let len = length-append first later in
+    let all = subst IsBytes parts fits in
+    let left : suc k - length first ≡ length later = omega (arith, e, ap length parts, len) in
+    goes_from (places.Certificates (certificates.SubsectionType (suc k))) (places.SectionType false) (body ++ rest) (first ++ (later ++ rest)) rest (ap (λ (x : List ℕ). x ++ rest) parts ∙ append_assoc first later rest)
+    (goes_then (places.Certificates (certificates.SubsectionType (suc k))) (next_subsection (suc k - length first)) (places.SectionType false) (first ++ (later ++ rest)) (later ++ rest) rest
+    (subsection_goes (suc k) sub first (later ++ rest) spelled (omega (arith, e, ap length parts, len)) (IsBytes-front first later all))
+    (subsections_go subs later rest (suc k - length first) others left (IsBytes-back first later all)))

@@ -1,0 +1,198 @@
+-- A row of fields that leads to the end of a list spells its sections, and has their entries.
+use Rattle.std.proofs.Common.{◌≡◌, ℕ, zero, suc, ◌+◌, ◌-◌, ◌<◌, ◌≤◌, ◌^◌, ◌⊎◌, Bool, true, false, cond, ltb, List, [], ◌∷◌, ◌++◌, length, map, Result, Ok, refl, sym, ap, subst, ◌∙◌, append_assoc, arith, inl, inr}
+use Rattle.std.specs.List.{flat_map, AllByRecursion}
+use Rattle.std.proofs.lemmas.Bool.{ltb-false}
+use Rattle.std.proofs.lemmas.List.{length-append}
+use Rattle.ssh_wire.specs.Wire.{IsBytes, number, number_of, string, strings}
+use Rattle.ssh_wire.proofs.Fields.{length-string, length-number}
+use Rattle.krl_types.specs.declared.krl_fault.KrlFault.{KrlFault}
+use Rattle.krl_types.specs.declared.krl_fault.KrlFault.TheVariants as faults
+use Rattle.krl_core.specs.declared.header.Header.{Header}
+use Rattle.krl_core.specs.declared.place.list.ItemKind.{ItemKind}
+use Rattle.krl_core.specs.declared.place.Place.{Place}
+use Rattle.krl_entries.specs.Entry.{Entry, SerialsEntry}
+use Rattle.krl_core.specs.Entries.{entries_of, section_entries, subsection_entries}
+use Rattle.krl_core.specs.Krl.{SpelledSection, Certificates, Signature, Extension, Subsection, SpellsEach, SpellsSection, SpellsSubsection, SignaturesLast, IsSignature}
+use Rattle.krl_entries.specs.Naming.{NamesSame}
+use Rattle.krl_core.specs.Place.{within, item_entry, next_item, next_subsection, next_serial}
+use Rattle.krl_entries.proofs.Numbers.{number_back4, number_back8}
+use Rattle.krl_core.proofs.RestSpellings.{Rest, LastFor, FromSections, FromNumber, FromLength, FromContent, FromItems, FromItem, FromSubsections, FromCertificates, FromExtension, Completes, IsItem, Items, SerialItems}
+use Rattle.krl_entries.proofs.SameNames.{same_refl, same_is, same_then, same_append}
+use Rattle.krl_core.proofs.Judgements.{held_back, same_place}
+
+-- ---- judgements that passed
+
+pub fits_within : (left : ℕ) (next : ℕ → Result Place KrlFault) (size : ℕ) (q : Place) → within left next size ≡ Ok q → (size ≤ left - 4) × (next size ≡ Ok q)
+fits_within left next size q e =
+    let w = held_back (ltb (left - 4) size) faults.Length (next size) q e in
+    (ltb-false (left - 4) size w.0, w.1)
+
+pub chosen : (b : Bool) (p : Place) (x : Result Place KrlFault) (q : Place) → cond b (Ok p) x ≡ Ok q → ((b ≡ true) × (p ≡ q)) ⊎ ((b ≡ false) × (x ≡ Ok q))
+chosen true p x q e = inl (refl, same_place p q e)
+chosen false p x q e = inr (refl, e)
+
+-- ---- one field at the front
+
+pub number_front : (Then : ℕ → Rest) (field tail : List ℕ) (more : List Entry) → IsBytes field → length field ≡ 8 → Then (number_of field) tail more → FromNumber Then (field ++ tail) more
+number_front Then field tail more fits size h =
+    let n = number_back8 field size fits in
+    record { value = number_of field; rest = tail; parts = ap (λ (x : List ℕ). x ++ tail) (sym n.0); fits = n.1; then_is = h }
+
+pub length_front : (Then : ℕ → Rest) (field tail : List ℕ) (more : List Entry) → IsBytes field → length field ≡ 4 → Then (number_of field) tail more → FromLength Then (field ++ tail) more
+length_front Then field tail more fits size h =
+    let n = number_back4 field size fits in
+    record { size = number_of field; rest = tail; parts = ap (λ (x : List ℕ). x ++ tail) (sym n.0); fits = n.1; then_is = h }
+
+pub content_front : (size : ℕ) (Then : List ℕ → Rest) (field tail : List ℕ) (more : List Entry) → length field ≡ size → Then field tail more → FromContent size Then (field ++ tail) more
+content_front size Then field tail more len h = record { content = field; rest = tail; parts = refl; size_is = len; then_is = h }
+
+pub item_front : (size : ℕ) (entry : List ℕ → Entry) (Then : Rest) (field tail : List ℕ) (more : List Entry) → length field ≡ size → Then tail more → FromItem size entry Then (field ++ tail) (entry field ∷ more)
+item_front size entry Then field tail more len h =
+    record { content = field; rest = tail; others = more; parts = refl; size_is = len; named = refl; then_is = h }
+
+-- a length and the bytes that it counts are a string
+pub whole_string : (size : ℕ) (content rest after bytes : List ℕ) → bytes ≡ number 4 size ++ after → after ≡ content ++ rest → length content ≡ size → bytes ≡ string content ++ rest
+unfolding string
+whole_string size content rest after bytes e f len =
+    e ∙ ap (λ (n : ℕ). number 4 n ++ after) (sym len) ∙ ap (λ (x : List ℕ). number 4 (length content) ++ x) f ∙ sym (append_assoc (number 4 (length content)) content rest)
+
+pub string_parts : (field tail content rest : List ℕ) → IsBytes field → length field ≡ 4 → length content ≡ number_of field → tail ≡ content ++ rest → field ++ tail ≡ string content ++ rest
+string_parts field tail content rest fits size len parts =
+    whole_string (number_of field) content rest tail (field ++ tail) (ap (λ (x : List ℕ). x ++ tail) (sym (number_back4 field size fits).0)) parts len
+
+items_none : {X : Type 0} (spell : X → List ℕ) (Good : X → Type 0) (entry : X → Entry) (Then : Rest) (bytes : List ℕ) (more : List Entry) → Then bytes more → FromItems spell Good entry 0 Then bytes more
+items_none spell Good entry Then bytes more h =
+    record { items = []; rest = bytes; others = more; parts = refl; size_is = refl; good = tt; named = refl; then_is = h }
+
+-- a string in front of the other strings
+pub string_more : (Good : List ℕ → Type 0) (entry : List ℕ → Entry) (left : ℕ) (Then : Rest) (field tail : List ℕ) (more : List Entry) (after : ℕ) → IsBytes field → length field ≡ 4
+    → left ≡ 4 + number_of field + after → (h : FromItem (number_of field) entry (FromItems string Good entry after Then) tail more) → Good h.content
+    → FromItems string Good entry left Then (field ++ tail) more
+string_more Good entry left Then field tail more after fits size total h good =
+    let k = h.then_is in
+    record {
+      items = h.content ∷ k.items;
+      rest = k.rest;
+      others = k.others;
+      parts = string_parts field tail h.content h.rest fits size h.size_is h.parts ∙ ap (λ (x : List ℕ). string h.content ++ x) k.parts ∙ sym (append_assoc (string h.content) (flat_map string k.items) k.rest);
+      size_is = omega (arith, length-append (string h.content) (flat_map string k.items), length-string h.content, h.size_is, k.size_is, total);
+      good = (good, k.good);
+      named = h.named ∙ ap (λ (x : List Entry). entry h.content ∷ x) k.named;
+      then_is = k.then_is;
+    }
+
+pub serial_more : (K : Type 0) (a : List ℕ) (left after : ℕ) (field tail : List ℕ) (more : List Entry) → IsBytes field → length field ≡ 8 → 8 ≤ left
+    → SerialItems K a (left - 8) after tail more → SerialItems K a left after (field ++ tail) (SerialsEntry a (number_of field ∷ []) ∷ more)
+serial_more K a left after field tail more fits size room k =
+    let n = number_back8 field size fits in record {
+      items = number_of field ∷ k.items;
+      rest = k.rest;
+      others = k.others;
+      parts = ap (λ (x : List ℕ). x ++ tail) (sym n.0) ∙ ap (λ (x : List ℕ). number 8 (number_of field) ++ x) k.parts ∙ sym (append_assoc (number 8 (number_of field)) (flat_map (number 8) k.items) k.rest);
+      size_is = omega (arith, length-append (number 8 (number_of field)) (flat_map (number 8) k.items), length-number 8 (number_of field), k.size_is, room);
+      good = (n.1, k.good);
+      named = ap (λ (x : List Entry). SerialsEntry a (number_of field ∷ []) ∷ x) k.named;
+      then_is = k.then_is;
+    }
+
+pub subsections_from : (last h : Header) (a : List ℕ) (left : ℕ) (bytes : List ℕ) (more : List Entry) → Completes last h a (next_subsection left) bytes more → FromSubsections (last ≡ h) a left bytes more
+subsections_from last h a zero bytes more k =
+    record { subsections = []; body = []; rest = bytes; others = more; parts = refl; size_is = refl; spelled = refl; named = same_refl more; then_is = k }
+subsections_from last h a (suc left) bytes more k = k
+
+pub serials_from : (last h : Header) (a : List ℕ) (left after : ℕ) (bytes : List ℕ) (more : List Entry) → Completes last h a (next_serial left after) bytes more → SerialItems (last ≡ h) a left after bytes more
+serials_from last h a zero after bytes more k =
+    items_none (number 8) (λ n. n < 2 ^ 64) (λ n. SerialsEntry a (n ∷ [])) (FromSubsections (last ≡ h) a after) bytes more (subsections_from last h a after bytes more k)
+serials_from last h a (suc left) after bytes more k = k
+
+pub items_from : (last h : Header) (kind : ItemKind) (a : List ℕ) (left after : ℕ) (bytes : List ℕ) (more : List Entry) → Completes last h a (next_item kind left after) bytes more
+    → Items (last ≡ h) kind a left after bytes more
+items_from last h kind a zero after bytes more k =
+    items_none string (IsItem kind) (item_entry kind a) (FromSubsections (last ≡ h) a after) bytes more (subsections_from last h a after bytes more k)
+items_from last h kind a (suc left) after bytes more k = k
+
+pub sections_from : (K : Type 0) (a : List ℕ) (bytes : List ℕ) (more : List Entry) → FromSubsections K a 0 bytes more → FromSections false K bytes more
+sections_from K a bytes more h = only h.subsections h.body h.spelled h.size_is h.parts h.named
+  where
+    only : (subs : List Subsection) (body : List ℕ) → SpellsEach SpellsSubsection body subs → length body ≡ 0 → bytes ≡ body ++ h.rest
+        → NamesSame more (flat_map (subsection_entries a) subs ++ h.others) → FromSections false K bytes more
+    only [] body none size parts named =
+        let rest : bytes ≡ h.rest = parts ∙ ap (λ (x : List ℕ). x ++ h.rest) none in
+        let k = h.then_is in
+        record {
+          sections = k.sections;
+          spelled = subst (λ (x : List ℕ). SpellsEach SpellsSection x k.sections) (sym rest) k.spelled;
+          last = k.last;
+          named = same_then more h.others (entries_of k.sections) named k.named;
+          known = k.known;
+        }
+    only (sub ∷ subs) body (first, (more', (e, spelled, others))) size parts named =
+        absurd (omega (arith, ap length spelled.spelled, ap length e, length-append first more', size))
+
+-- ---- sections
+
+sections_more : (signed : Bool) (K : Type 0) (section : SpelledSection) (text tail rest : List ℕ) (more others : List Entry) (k : FromSections false K rest others)
+    → tail ≡ text ++ rest → SpellsSection text section → NamesSame more (section_entries section ++ others) → SignaturesLast (section ∷ k.sections)
+    → signed ≡ false → FromSections signed K tail more
+sections_more signed K section text tail rest more others k parts spelled named last off = record {
+  sections = section ∷ k.sections;
+  spelled = (text, (rest, (parts, spelled, k.spelled)));
+  last = subst (λ (b : Bool). LastFor b (section ∷ k.sections)) (sym off) last;
+  named = same_then more (section_entries section ++ others) (section_entries section ++ entries_of k.sections) named
+      (same_append (section_entries section) others (section_entries section) (entries_of k.sections) (same_refl (section_entries section)) k.named);
+  known = k.known;
+}
+
+-- a section of items of any kind
+pub items_section : (K : Type 0) (signed : Bool) (kind : ItemKind) (a : List ℕ) (type_byte : ℕ) (section : SpelledSection) (bytes : List ℕ) (more : List Entry) → signed ≡ false → (l : FromLength (λ n. Items K kind a n 0) bytes more)
+    → (length (strings l.then_is.items) < 2 ^ 32 → SpellsSection (type_byte ∷ string (strings l.then_is.items)) section)
+    → section_entries section ≡ map (item_entry kind a) l.then_is.items → ((others : List SpelledSection) → SignaturesLast others → SignaturesLast (section ∷ others))
+    → FromSections signed K (type_byte ∷ bytes) more
+items_section K signed kind a type_byte section bytes more off l spelled names last =
+    let h = l.then_is in
+    let k = sections_from K a h.rest h.others h.then_is in
+    let content : List ℕ = strings h.items in
+    let parts = whole_string l.size content h.rest l.rest bytes l.parts h.parts h.size_is in
+    sections_more signed K section (type_byte ∷ string content) (type_byte ∷ bytes) h.rest more h.others k (ap (λ (x : List ℕ). type_byte ∷ x) parts) (spelled (omega (arith, l.fits, h.size_is)))
+    (same_is more (section_entries section ++ h.others) (h.named ∙ ap (λ (x : List Entry). x ++ h.others) (sym names))) (last k.sections k.last) off
+
+pub certificates_section : (K : Type 0) (signed : Bool) (bytes : List ℕ) (more : List Entry) → signed ≡ false → FromLength (FromCertificates K) bytes more → FromSections signed K (1 ∷ bytes) more
+certificates_section K signed bytes more off l =
+    let h = l.then_is in
+    let content : List ℕ = string h.authority ++ (string h.reserved ++ h.body) in
+    let parts = whole_string l.size content h.rest l.rest bytes l.parts h.parts h.size_is in
+    sections_more signed K (Certificates h.authority h.subsections) (1 ∷ string content) (1 ∷ bytes) h.rest more h.others h.then_is (ap (λ (x : List ℕ). 1 ∷ x) parts)
+    (record { content = content; spelled = refl; fits = omega (arith, l.fits, h.size_is); content_is = record { reserved = h.reserved; body = h.body; spelled = refl; subsections_are = h.spelled } })
+    h.named h.then_is.last off
+
+pub extension_section : (K : Type 0) (signed : Bool) (bytes : List ℕ) (more : List Entry) → signed ≡ false → FromLength (λ n. FromExtension n (FromSections false K)) bytes more → FromSections signed K (255 ∷ bytes) more
+extension_section K signed bytes more off l =
+    let h = l.then_is in
+    let parts = whole_string l.size h.content h.rest l.rest bytes l.parts h.parts h.size_is in
+    sections_more signed K Extension (255 ∷ string h.content) (255 ∷ bytes) h.rest more more h.then_is (ap (λ (x : List ℕ). 255 ∷ x) parts)
+    (record { content = h.content; spelled = refl; fits = omega (arith, l.fits, h.size_is); content_is = h.spelled }) (same_refl more) h.then_is.last off
+
+signature_last : (signed : Bool) (sections : List SpelledSection) → AllByRecursion IsSignature sections → LastFor signed (Signature ∷ sections)
+signature_last true sections h = (tt, h)
+signature_last false sections h = h
+
+pub signature_section : (K : Type 0) (signed : Bool) (bytes : List ℕ) (more : List Entry)
+    → FromLength (λ n. FromContent n (λ k. FromLength (λ m. FromContent m (λ s. FromSections true K)))) bytes more → FromSections signed K (4 ∷ bytes) more
+signature_section K signed bytes more l =
+    let key = l.then_is in
+    let m = key.then_is in
+    let sig = m.then_is in
+    let k = sig.then_is in
+    let one = whole_string l.size key.content key.rest l.rest bytes l.parts key.parts key.size_is in
+    let two = whole_string m.size sig.content sig.rest m.rest key.rest m.parts sig.parts sig.size_is in
+    let parts : 4 ∷ bytes ≡ (4 ∷ (string key.content ++ string sig.content)) ++ sig.rest =
+    ap (λ (x : List ℕ). 4 ∷ x) (one ∙ ap (λ (x : List ℕ). string key.content ++ x) two ∙ sym (append_assoc (string key.content) (string sig.content) sig.rest)) in
+    let spells : SpellsSection (4 ∷ (string key.content ++ string sig.content)) Signature =
+    record { key = key.content; signature = sig.content; spelled = refl; key_fits = omega (arith, l.fits, key.size_is); signature_fits = omega (arith, m.fits, sig.size_is) } in
+    record {
+      sections = Signature ∷ k.sections;
+      spelled = (4 ∷ (string key.content ++ string sig.content), (sig.rest, (parts, spells, k.spelled)));
+      last = signature_last signed k.sections k.last;
+      named = k.named;
+      known = k.known;
+    }

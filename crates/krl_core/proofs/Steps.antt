@@ -1,0 +1,267 @@
+-- The effect of a step on the fields that were read, and what its faults say about the text.
+use Rattle.std.proofs.Common.{◌≡◌, ℕ, ◌+◌, ◌-◌, ◌<◌, ◌≤◌, ◌⊎◌, Bool, true, false, ltb, List, [], ◌∷◌, ◌++◌, length, take, Option, Some, None, Err, refl, sym, ap, subst, ◌∙◌, append_assoc, arith, inl, inr, IsSome}
+use Rattle.std.specs.List.{concat}
+use Rattle.std.specs.Io.KnownBytes.{Consumes, IsAtEnd, Keeps}
+use Rattle.std.proofs.KnownBytes.{Keeps-refl}
+use Rattle.std.proofs.lemmas.Bool.{le-ltb, lt-ltb}
+use Rattle.std.proofs.lemmas.List.{append-nil, length-append, take_all}
+use Rattle.std.proofs.lemmas.List.Folds.{concat-append}
+use Rattle.std.proofs.Math.Seq.{take-append_seam}
+use Rattle.ssh_wire.specs.Wire.{IsBytes}
+use Rattle.byte_streams.specs.Pull.{Pull, Takes, Refuses, after_ahead, left_of}
+use Rattle.ssh_wire.specs.declared.pull_fault.PullFault.{PullFault}
+use Rattle.ssh_wire.specs.declared.pull_fault.PullFault.TheVariants as pulls
+use Rattle.ssh_wire.proofs.TruncatedFields.{take-after}
+use Rattle.ssh_wire.proofs.Digits.{IsBytes-append}
+use Rattle.krl_types.specs.declared.krl_fault.KrlFault.{KrlFault}
+use Rattle.krl_types.specs.declared.krl_fault.KrlFault.TheVariants as faults
+use Rattle.krl_core.specs.declared.place.Place.{Place}
+use Rattle.krl_core.specs.Front.{State, start, state_after, Leads, Passes, HasRoom, Reported, no_room, refused, too_long, ends_early, IsFirstFault, limit}
+use Rattle.krl_core.specs.FieldStore.{GrowsAtMost, StoresEntries, FieldStore, StoresField, StoresAtMost}
+use Rattle.krl_core.specs.Place.{can_end, expected, names, authority_after}
+use Rattle.krl_core.specs.Reading.{Walk, working, HasRead, IsBounded, LooksFor, Missed, no_room as room_missed, cut, Says, ran_out, failed_read, first, Refused, is_fixed}
+use Rattle.krl_types.specs.KrlFault.{reported_as}
+use Rattle.krl_core.proofs.StoredEntries.{header_stored}
+use Rattle.krl_core.proofs.Fronts.{first_fault_is, end_size, end_room}
+use Rattle.krl_entries.proofs.TopicAmounts.{small_in}
+use Rattle.krl_core.proofs.Walks.{Leads-push}
+use Rattle.krl_core.proofs.LongestFronts.{end_or_early}
+
+-- ---- the bytes that a reader has left
+
+pub consumes_some : (a b : Option (List ℕ)) (rest field : List ℕ) → a ≡ Some rest → Consumes a b field
+    → (after : List ℕ) × (b ≡ Some after) × (rest ≡ field ++ after)
+consumes_some None b rest field e h = absurd (cc)
+consumes_some (Some xs) None rest field e h = absurd h
+consumes_some (Some xs) (Some ys) rest field e h = let same : xs ≡ rest = cc in (ys, refl, sym same ∙ h)
+
+pub stores_some : (a b : Option (List ℕ)) (rest : List ℕ) → a ≡ Some rest → Keeps a b → b ≡ Some rest
+stores_some None b rest e h = absurd (cc)
+stores_some (Some xs) None rest e h = absurd h
+stores_some (Some xs) (Some ys) rest e h = let same : xs ≡ rest = cc in ap (λ (l : List ℕ). Some l) (h ∙ same)
+
+pub at_end_none : (a : Option (List ℕ)) (rest : List ℕ) → a ≡ Some rest → IsAtEnd a → rest ≡ []
+at_end_none None rest e h = absurd (cc)
+at_end_none (Some xs) rest e h = let same : xs ≡ rest = cc in sym same ∙ h
+
+ahead_left : (ahead : Option ℕ) (source : Option (List ℕ)) (rest : List ℕ) (p : Pull) → p.ahead ≡ ahead → p.source ≡ source
+    → left_of p ≡ Some rest → IsSome p.ahead → rest ≡ [] → ⊥
+ahead_left None source rest p e f left some none = let s = rw e at some in absurd (cc)
+ahead_left (Some byte) None rest p e f left some none = let l = rw (e, f) at left in absurd (cc)
+ahead_left (Some byte) (Some xs) rest p e f left some none = let l = rw (e, f) at left in absurd (cc)
+
+-- a byte that was looked at is left
+pub ahead_some : (p : Pull) (rest : List ℕ) → left_of p ≡ Some rest → IsSome p.ahead → rest ≡ [] → ⊥
+ahead_some p rest left some none = ahead_left p.ahead p.source rest p refl refl left some none
+
+-- Fields of the text lead to a place, and the reader has the rest of the text left.
+pub record HasCome (text : List ℕ) (fields : List (List ℕ)) (reading : Walk) : Type 0 where
+  pub state : State
+  pub leads : Leads start fields state
+  pub place_is : reading.place ≡ state.place
+  pub rest : List ℕ
+  pub left_is : left_of reading.pull ≡ Some rest
+  pub parts : text ≡ concat fields ++ rest
+  pub taken_is : reading.pull.taken ≡ length (concat fields)
+
+abbrev pub come : {text : List ℕ} {fields : List (List ℕ)} {p : Walk} → HasRead text fields p → HasCome text fields p
+come h = record { state = h.state; leads = h.leads; place_is = h.place_is; rest = h.rest; left_is = h.left_is; parts = h.parts; taken_is = h.taken_is }
+
+-- ---- the front that was read
+
+-- the report at the place that was reached is the first fault
+pub reported_there : (text : List ℕ) (fields : List (List ℕ)) (p : Walk) (h : HasCome text fields p) (fault : Option KrlFault)
+    → length (concat fields) ≤ limit
+    → Reported p.place (take (limit - length (concat fields)) h.rest) (ltb limit (length text)) fault → IsFirstFault text fault
+reported_there text fields p h fault le reported =
+    let parts : take limit text ≡ concat fields ++ take (limit - length (concat fields)) h.rest =
+    ap (take limit) h.parts ∙ take-after (concat fields) h.rest limit le in
+    first_fault_is text fault (record {
+      last = h.state;
+      rest = take (limit - length (concat fields)) h.rest;
+      walks = record { fields = fields; leads = h.leads; parts = parts };
+      reported = subst (λ (place : Place). Reported place (take (limit - length (concat fields)) h.rest) (ltb limit (length text)) fault) h.place_is reported;
+    })
+
+-- the same for other bytes that begin with the fields
+reported_given : (fields : List (List ℕ)) (state : State) (came : List ℕ) (fault : Option KrlFault) → Leads start fields state
+    → length (concat fields) + length came ≤ limit → Reported state.place came false fault → IsFirstFault (concat fields ++ came) fault
+reported_given fields state came fault leads le reported =
+    let len = length-append (concat fields) came in
+    let whole : take limit (concat fields ++ came) ≡ concat fields ++ came = take_all limit (concat fields ++ came) (omega (arith, len)) in
+    let off : ltb limit (length (concat fields ++ came)) ≡ false = le-ltb limit (length (concat fields ++ came)) (omega (arith, len)) in
+    first_fault_is (concat fields ++ came) fault (record {
+      last = state;
+      rest = came;
+      walks = record { fields = fields; leads = leads; parts = whole };
+      reported = subst (λ (b : Bool). Reported state.place came b fault) (sym off) reported;
+    })
+
+-- ---- faults
+
+-- the reader failed in a field, or at the test for the end
+pub says_read : (old : Walk) (mid new : Pull) (text : List ℕ) (fields : List (List ℕ)) → IsBounded old.pull old.stored
+    → HasCome text fields old → Keeps (left_of old.pull) (left_of mid) → mid.taken ≡ old.pull.taken → mid.limit ≡ old.pull.limit
+    → HasRoom (expected old.place) → Refuses mid (expected old.place).size pulls.Read new → Says faults.Read text new.failed new.source
+says_read old mid new text fields bounded h stores_field taken limit_is room r =
+    let left = stores_some (left_of old.pull) (left_of mid) h.rest h.left_is stores_field in
+    let m = r.misses in
+    let after = consumes_some (left_of mid) (left_of new) h.rest m.came left m.bytes in
+    let le : length (concat fields) + length m.came ≤ limit = omega (arith, m.within, taken, limit_is, bounded.limit_is, h.taken_is) in
+    let room' : HasRoom (expected h.state.place) = subst (λ (p : Place). HasRoom (expected p)) h.place_is room in
+    let short : length m.came < (expected h.state.place).size = subst (λ (p : Place). length m.came < (expected p).size) h.place_is m.part in
+    failed_read refl (record {
+      given = concat fields ++ m.came;
+      later = after.0;
+      parts = h.parts ∙ ap (λ (l : List ℕ). concat fields ++ l) after.2 ∙ sym (append_assoc (concat fields) m.came after.0);
+      left_is = ap (λ (ahead : Option ℕ). after_ahead ahead new.source) (sym m.reports.0) ∙ after.1;
+      failed_is = m.reports.1;
+      reported = elim (end_or_early h.state.place m.came room' short) [
+        | inl t ↦ inl (reported_given fields h.state m.came None h.leads le t)
+        | inr t ↦ inr (reported_given fields h.state m.came (Some faults.EndsEarly) h.leads le t)
+      ];
+    })
+
+says_early : (old : Walk) (mid new : Pull) (text : List ℕ) (fields : List (List ℕ)) → IsBounded old.pull old.stored
+    → HasCome text fields old → LooksFor old.place old.pull false mid
+    → HasRoom (expected old.place) → Refuses mid (expected old.place).size pulls.EndsEarly new → Says faults.EndsEarly text new.failed new.source
+says_early old mid new text fields bounded h looks room r =
+    let left = stores_some (left_of old.pull) (left_of mid) h.rest h.left_is looks.bytes in
+    let m = r.misses in
+    let after = consumes_some (left_of mid) (left_of new) h.rest m.came left m.bytes in
+    let none : after.0 ≡ [] = at_end_none (left_of new) after.0 after.1 m.reports.0 in
+    let all : h.rest ≡ m.came = after.2 ∙ ap (λ (l : List ℕ). m.came ++ l) none ∙ append-nil m.came in
+    let len : length h.rest ≡ length m.came = ap length all in
+    let total : length text ≡ length (concat fields) + length h.rest = ap length h.parts ∙ length-append (concat fields) h.rest in
+    let le : length (concat fields) + length h.rest ≤ limit = omega (arith, len, m.within, looks.taken, looks.limit_is, bounded.limit_is, h.taken_is) in
+    let off : ltb limit (length text) ≡ false = le-ltb limit (length text) (omega (arith, total)) in
+    let whole : take (limit - length (concat fields)) h.rest ≡ h.rest = take_all (limit - length (concat fields)) h.rest (omega arith) in
+    let reported : Reported old.place h.rest false (Some faults.EndsEarly) =
+    ends_early room (omega (arith, m.part, len)) (λ at_end. ahead_some mid h.rest left (looks.goes_on refl at_end.0) at_end.1) refl refl in
+    first (reported_there text fields old h (Some faults.EndsEarly) (omega arith)
+    (rw (whole, off) reported)) m.reports.1
+
+says_long : (old : Walk) (mid new : Pull) (text : List ℕ) (fields : List (List ℕ)) → IsBounded old.pull old.stored
+    → HasCome text fields old → LooksFor old.place old.pull false mid
+    → HasRoom (expected old.place) → Refuses mid (expected old.place).size pulls.TooLong new → Says faults.TooLong text new.failed new.source
+says_long old mid new text fields bounded h looks room r =
+    let left = stores_some (left_of old.pull) (left_of mid) h.rest h.left_is looks.bytes in
+    let m = r.misses in
+    let after = consumes_some (left_of mid) (left_of new) h.rest m.came left m.bytes in
+    let some : 0 < length after.0 = not_empty after.0 (ahead_some new after.0 after.1 m.reports.1) in
+    let len : length h.rest ≡ length m.came + length after.0 = ap length after.2 ∙ length-append m.came after.0 in
+    let total : length text ≡ length (concat fields) + length h.rest = ap length h.parts ∙ length-append (concat fields) h.rest in
+    let full : length (concat fields) + length m.came ≡ limit = omega (arith, m.reports.0, r.taken, r.limit, looks.taken, looks.limit_is, bounded.limit_is, h.taken_is) in
+    let on : ltb limit (length text) ≡ true = lt-ltb limit (length text) (omega (arith, total, len, full, some)) in
+    let left_size : limit - length (concat fields) ≡ length m.came = omega arith in
+    let front : take (limit - length (concat fields)) h.rest ≡ m.came =
+    ap (λ (n : ℕ). take n h.rest) left_size ∙ ap (take (length m.came)) after.2 ∙ take-append_seam m.came after.0 in
+    let reported : Reported old.place m.came true (Some faults.TooLong) = too_long room m.part refl refl in
+    first (reported_there text fields old h (Some faults.TooLong) (omega arith) (rw (front, on) reported)) m.reports.2
+  where
+    not_empty : (l : List ℕ) → (l ≡ [] → ⊥) → 0 < length l
+    not_empty [] h = absurd (h refl)
+    not_empty (x ∷ l) h = omega arith
+
+-- an allocation failed after the first fields
+pub says_ran_out : (old : Walk) (new : Pull) (text : List ℕ) (fields : List (List ℕ)) (fault : KrlFault) → HasCome text fields old
+    → is_fixed old.place ≡ false → fault ≡ faults.NoMemory → new.failed ≡ false → Says fault text new.failed new.source
+says_ran_out old new text fields fault h late is works = ran_out is (record {
+  fields = fields;
+  state = h.state;
+  rest = h.rest;
+  leads = h.leads;
+  parts = h.parts;
+  past = subst (λ (p : Place). is_fixed p ≡ false) h.place_is late;
+}) works
+
+pub says_cut : (old : Walk) (mid new : Pull) (text : List ℕ) (fields : List (List ℕ)) (why : PullFault) → IsBounded old.pull old.stored
+    → HasCome text fields old → LooksFor old.place old.pull false mid
+    → HasRoom (expected old.place) → Refuses mid (expected old.place).size why new → (reported_as why ≡ faults.NoMemory → is_fixed old.place ≡ false) → Says (reported_as why) text new.failed new.source
+says_cut old mid new text fields pulls.EndsEarly bounded h looks room r late = says_early old mid new text fields bounded h looks room r
+says_cut old mid new text fields pulls.TooLong bounded h looks room r late = says_long old mid new text fields bounded h looks room r
+says_cut old mid new text fields pulls.Read bounded h looks room r late =
+    says_read old mid new text fields bounded h looks.bytes looks.taken looks.limit_is room r
+says_cut old mid new text fields pulls.NoMemory bounded h looks room r late = says_ran_out old new text fields faults.NoMemory h (late refl) refl r.misses.reports
+
+-- a field that was not taken
+pub missed_says : (old : Walk) (mid new : Pull) (fault : KrlFault) → IsBounded old.pull old.stored
+    → LooksFor old.place old.pull false mid → Missed old.place mid fault new → (fault ≡ faults.NoMemory → is_fixed old.place ≡ false) → Refused fault old new
+missed_says old mid new fault bounded looks (room_missed full is same) late text fields h =
+    let le : length (concat fields) ≤ limit = omega (arith, bounded.within, h.taken_is) in
+    subst (λ (f : KrlFault). Says f text new.failed new.source) (sym is)
+    (first (reported_there text fields old (come h) (Some faults.Length) le (no_room full refl)) (ap (λ p. p.failed) same ∙ looks.works))
+missed_says old mid new fault bounded looks (cut why room r is) late text fields h =
+    subst (λ (f : KrlFault). Says f text new.failed new.source) (sym is) (says_cut old mid new text fields why bounded (come h) looks room r (λ e. late (is ∙ e)))
+
+-- a field that was refused
+pub refused_says : (old : Walk) (mid new : Pull) (field : List ℕ) (fault : KrlFault) → IsBounded old.pull old.stored
+    → LooksFor old.place old.pull false mid → Takes mid field new → HasRoom (expected old.place) → length field ≡ (expected old.place).size
+    → ((fault ≡ faults.NoMemory) × (is_fixed old.place ≡ false)) ⊎ ((expected old.place).judged field ≡ Err fault) → Refused fault old new
+refused_says old mid new field fault bounded looks takes room size (inl none) text fields h = says_ran_out old new text fields fault (come h) none.1 none.0 takes.working
+refused_says old mid new field fault bounded looks takes room size (inr judged) text fields h =
+    let left = stores_some (left_of old.pull) (left_of mid) h.rest h.left_is looks.bytes in
+    let after = consumes_some (left_of mid) (left_of new) h.rest field left takes.bytes in
+    let within : length (concat fields) + length field ≤ limit = omega (arith, takes.within, looks.taken, looks.limit_is, bounded.limit_is, h.taken_is) in
+    let front : take (limit - length (concat fields)) h.rest ≡ field ++ take (limit - length (concat fields) - length field) after.0 =
+    ap (take (limit - length (concat fields))) after.2 ∙ take-after field after.0 (limit - length (concat fields)) (omega arith) in
+    first (reported_there text fields old (come h) (Some fault) (omega arith)
+    (refused field (take (limit - length (concat fields) - length field) after.0) fault room front size judged refl)) takes.working
+
+-- ---- one more field
+
+pub one_more : (old : Walk) (mid new : Pull) (place : Place) (stored : FieldStore) (field : List ℕ) → old.fault ≡ None
+    → LooksFor old.place old.pull false mid → Takes mid field new → Passes old.place field place → IsBytes field
+    → StoresField old.place field place old.stored stored → (text : List ℕ) (fields : List (List ℕ)) → HasRead text fields old
+    → (f : List ℕ) × HasRead text (fields ++ f ∷ []) (working new place stored)
+one_more old mid new place stored field faultless looks takes passes bytes stores_field text fields h =
+    let left = stores_some (left_of old.pull) (left_of mid) h.rest h.left_is looks.bytes in
+    let after = consumes_some (left_of mid) (left_of new) h.rest field left takes.bytes in
+    let pass : Passes h.state.place field place = subst (λ (p : Place). Passes p field place) h.place_is passes in
+    let joined : concat (fields ++ field ∷ []) ≡ concat fields ++ field = concat-append fields (field ∷ []) ∙ ap (λ (l : List ℕ). concat fields ++ l) (append-nil field) in
+    let place_is = h.place_is in
+    let authority_is = h.authority_is in
+    let named : names old.place old.stored.authority field ≡ names h.state.place h.state.authority field = cc in
+    let authority : authority_after old.place old.stored.authority field ≡ authority_after h.state.place h.state.authority field = cc in (
+      field,
+      record {
+        state = state_after h.state field place;
+        leads = Leads-push start h.state fields field place h.leads pass;
+        place_is = refl;
+        authority_is = stores_field.authority_is ∙ authority;
+        header_is = header_stored old.place h.state.place place field old.stored stored h.state.header stores_field h.place_is h.header_is;
+        stores = subst (λ n. StoresEntries stored (h.state.entries ++ n)) named (stores_field.stores h.state.entries h.stores);
+        are_bytes = subst IsBytes (sym joined) (IsBytes-append (concat fields) field h.are_bytes bytes);
+        rest = after.0;
+        left_is = after.1;
+        parts = h.parts ∙ ap (λ (l : List ℕ). concat fields ++ l) after.2 ∙ sym (append_assoc (concat fields) field after.0) ∙ ap (λ (l : List ℕ). l ++ after.0) (sym joined);
+        taken_is = omega (arith, takes.taken, looks.taken, h.taken_is, ap length joined, length-append (concat fields) field);
+        works = takes.working;
+        faultless = refl;
+      },
+    )
+
+pub bounded_more : (old : Walk) (mid new : Pull) (stored : FieldStore) (field : List ℕ) → IsBounded old.pull old.stored
+    → LooksFor old.place old.pull false mid → Takes mid field new → GrowsAtMost (length field) old.stored stored → IsBounded new stored
+bounded_more old mid new stored field b looks takes grows =
+    let taken : new.taken ≡ old.pull.taken + length field = omega (arith, takes.taken, looks.taken) in
+    record {
+      limit_is = takes.limit ∙ looks.limit_is ∙ b.limit_is;
+      within = omega (arith, takes.within, takes.taken, looks.limit_is, b.limit_is);
+      all_is = λ every.
+          let was = b.all_is (sym grows.same_scope ∙ every) in
+          (omega (arith, grows.held_is, was.0, taken), subst (λ (n : ℕ). StoresAtMost stored n) (sym taken) (grows.stored_is old.pull.taken was.1));
+      scope_is = grows.scope_is b.scope_is;
+      asked_is = small_in stored.scope stored.contents (grows.scope_is b.scope_is);
+    }
+
+-- ---- the parts of a step
+
+-- the reader failed at the test for the end
+pub end_refused : (old : Walk) (new : Pull) (fault : KrlFault) → IsBounded old.pull old.stored → fault ≡ faults.Read
+    → can_end old.place ≡ true → Refuses old.pull 1 pulls.Read new → Refused fault old new
+end_refused old new fault bounded is may r text fields h =
+    let one : (expected old.place).size ≡ 1 = end_size old.place may in
+    let refuses : Refuses old.pull (expected old.place).size pulls.Read new = subst (λ (n : ℕ). Refuses old.pull n pulls.Read new) (sym one) r in
+    subst (λ (f : KrlFault). Says f text new.failed new.source) (sym is)
+    (says_read old old.pull new text fields bounded (come h) (Keeps-refl (left_of old.pull)) refl refl (end_room old.place may) refuses)

@@ -1,0 +1,10 @@
+use Rattle.std.proofs.Common.{◌-◌, Ok, length}
+use Rattle.krl_core.specs.Buffered.{ReadsSome}
+use Rattle.krl_core.proofs.buffered.read_buffered.Given as goal
+
+-- the fields so far were read
+abbrev pub invariant-fields : goal.invariant-fields
+invariant-fields g l = ReadsSome l.bytes l.at (Ok (tt {0})) l.initial.place l.initial.stored l.place l.stored
+
+abbrev pub decreases-fields : goal.decreases-fields
+decreases-fields g l = length l.bytes - l.at

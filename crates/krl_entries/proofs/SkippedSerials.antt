@@ -1,0 +1,35 @@
+-- Serial numbers at the front of some bytes that are skipped.
+use Rattle.std.proofs.Common.{◌≡◌, ℕ, ◌+◌, ◌-◌, ◌*◌, ◌%◌, ◌<◌, ◌≤◌, inl, inr, List, [], ◌∷◌, length, take, drop, sym, ap, ◌∙◌, subst, arith, get_or}
+use Rattle.std.proofs.lemmas.Bool.{cases_lt}
+use Rattle.std.proofs.lemmas.List.{drop-take, take-take}
+pub use Rattle.std.proofs.lemmas.List.{take-take as take_fewer}
+use Rattle.ssh_wire.specs.Wire.{number_of}
+use Rattle.krl_entries.specs.Scope.{NoneHolds, serial_at}
+use Rattle.krl_entries.proofs.Numbers.{number_of-one}
+
+-- a serial number that lies within the first bytes is the same in them
+pub serial_within : (bytes : List ℕ) (k count : ℕ) → 8 * k + 8 ≤ count → serial_at bytes k ≡ serial_at (take count bytes) k
+serial_within bytes k count fits =
+    let parts : 8 * k + (count - 8 * k) ≡ count = omega arith in
+    let front : drop (8 * k) (take count bytes) ≡ take (count - 8 * k) (drop (8 * k) bytes) =
+    ap (λ (n : ℕ). drop (8 * k) (take n bytes)) (sym parts) ∙ drop-take (8 * k) (count - 8 * k) bytes in
+    ap number_of (sym (ap (take 8) front ∙ take-take 8 (count - 8 * k) (drop (8 * k) bytes) (omega arith)))
+
+-- the first byte as a number
+pub first_byte : (bytes : List ℕ) (bound : ℕ) → 0 < length bytes → get_or bytes 0 0 < bound → number_of (take 1 bytes) < bound
+first_byte [] bound some lt = absurd (omega arith)
+first_byte (b ∷ bs) bound some lt = omega (arith, number_of-one b)
+
+-- one more serial number without the property
+pub none_more : (Holds : ℕ → Type 0) (bytes : List ℕ) (at value : ℕ) → at % 8 ≡ 0 → value ≡ number_of (take (at + 8 - at) (drop at bytes)) → (Holds value → ⊥)
+    → NoneHolds Holds bytes at → NoneHolds Holds bytes (at + 8)
+none_more Holds bytes at value whole is other none k fits holds =
+    elim (cases_lt (8 * k) at) [
+      | inl below ↦ none k (omega (arith, below, whole)) holds
+      | inr here ↦ (
+          let same : 8 * k ≡ at = omega (arith, here, fits) in
+          let eight : at + 8 - at ≡ 8 = omega arith in
+          let value_is : serial_at bytes k ≡ value = ap (λ (n : ℕ). number_of (take 8 (drop n bytes))) same ∙ ap (λ (n : ℕ). number_of (take n (drop at bytes))) (sym eight) ∙ sym is in
+          other (subst Holds value_is holds)
+          )
+    ]

@@ -1,0 +1,12 @@
+use Rattle.std.proofs.Common.{◌≡◌, ◌<◌, length}
+use Rattle.std.specs.List.{slice_get}
+use Rattle.krl_entries.proofs.entries_by_authority.EntriesByAuthority.at.Given as goal
+
+abbrev pub invariant-loop-listed : goal.invariant-loop-listed
+invariant-loop-listed g l = record {
+  inside : l.left < length l.walk;
+  same : slice_get l.walk l.left ≡ slice_get l.self l.index;
+}
+
+abbrev pub decreases-loop-listed : goal.decreases-loop-listed
+decreases-loop-listed g l = length l.walk

@@ -1,0 +1,19 @@
+use Rattle.std.proofs.Common.{◌≡◌}
+use Rattle.std.proofs.lemmas.Result.{on_ok_weaker}
+use Rattle.sha1.specs.Sha1.{sha1}
+use Rattle.sha2.specs.Sha256.{sha256}
+use Rattle.krl_entries.specs.Naming.{KeyOf, Sha1Of, Sha256Of}
+use Rattle.krl_entries.proofs.MoreQuestions.{finds_both}
+use Rattle.krl_entries.proofs.questions.find_key.Goals as goal
+
+pub returns : goal.returns
+returns g c =
+    let blob = c.args.blob.now in
+    let front = c.args.front.now in
+    let old = c.args.found.now in
+    let one = c.find_blob.new.found in
+    let two = c.find_sha1.new.found in
+    let new = c.find_sha256.new.found in
+    on_ok_weaker c.find_sha256.result (λ last.
+    finds_both front old one new (λ name. name ≡ KeyOf blob) _ c.in_ok-find_blob.ensures
+    (finds_both front one two new (λ name. name ≡ Sha1Of (sha1 blob)) (λ name. name ≡ Sha256Of (sha256 blob)) c.in_ok-find_sha1.ensures last)) c.find_sha256.ensures

@@ -1,0 +1,13 @@
+use Rattle.std.proofs.Common.{arith}
+use Rattle.std.proofs.lemmas.Bool.{false≢true}
+use Rattle.sha1.specs.Sha1.{sha1}
+use Rattle.krl_entries.proofs.Sets.{set_has}
+use Rattle.krl_entries.proofs.revocations.Revocations.has_sha1.Goals as goal
+
+pub returns-then-is_empty : goal.returns-then-is_empty
+returns-then-is_empty g c =
+    rw (← c.self.view_is) (λ h. absurd (false≢true h), λ h. absurd (omega (arith, h.1, c.is_empty.ensures.0 c.if-is_empty.true)))
+
+pub returns : goal.returns
+returns g c =
+    rw (← c.self.view_is) (set_has (sha1 c.args.blob.now) c.self.inside.sha1s.keys c.contains.result (rw c.digest.ensures at c.contains.ensures))

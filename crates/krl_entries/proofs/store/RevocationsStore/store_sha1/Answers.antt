@@ -1,0 +1,7 @@
+use Rattle.std.proofs.lemmas.Result.{on_ok_weaker}
+use Rattle.krl_entries.specs.Scope.{all}
+use Rattle.krl_entries.proofs.AddedMeaning.{means_more_within}
+use Rattle.krl_entries.proofs.store.RevocationsStore.store_sha1.Goals as goal
+
+pub returns-clause-means : goal.returns-clause-means
+returns-clause-means g c = on_ok_weaker c.add_sha1.result (means_more_within all _ _ _) c.add_sha1.ensures.means

@@ -1,0 +1,16 @@
+pub mod Changes
+pub mod Revocations
+pub mod Entry
+pub mod Ids
+pub mod Inserting
+pub mod Naming
+pub mod Revoked
+pub mod Scope
+pub mod Questions
+pub mod Rising
+pub mod AuthorityEntries
+pub mod Texts
+pub mod Tested
+pub mod Reasons
+pub mod Canonical
+pub mod Gathered

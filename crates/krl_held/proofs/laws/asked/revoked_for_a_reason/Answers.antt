@@ -1,8 +1,0 @@
-use Rattle.krl_held.proofs.Reasoned.{any_is_revoked, reason_of_revoked}
-use Rattle.krl_held.proofs.laws.asked.revoked_for_a_reason.Goals as goal
-
-pub returns-clause-reason : goal.returns-clause-reason
-returns-clause-reason c = reason_of_revoked
-
-pub returns-clause-tested : goal.returns-clause-tested
-returns-clause-tested c = any_is_revoked

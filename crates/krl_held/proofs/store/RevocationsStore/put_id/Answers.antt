@@ -1,7 +1,0 @@
-use Rattle.std.proofs.lemmas.Result.{on_ok_weaker}
-use Rattle.krl_held.specs.Scope.{all}
-use Rattle.krl_held.proofs.MeansMore.{means_more_within}
-use Rattle.krl_held.proofs.store.RevocationsStore.put_id.Goals as goal
-
-pub returns-clause-means : goal.returns-clause-means
-returns-clause-means g c = on_ok_weaker c.add_id.result (means_more_within all _ _ _) c.add_id.ensures.means

@@ -1,6 +1,0 @@
-use Rattle.krl_held.specs.Texts.{bytes_of}
-use Rattle.krl_held.proofs.Sets.{read_has}
-use Rattle.krl_held.proofs.texts.has_text.Goals as goal
-
-pub returns : goal.returns
-returns c = read_has bytes_of c.args.text.now c.args.set.now.keys c.contains.result c.contains.ensures

@@ -1,0 +1,75 @@
+-- Keys that are expected are answered for.
+use Rattle.std.proofs.Common.{◌≡◌, ℕ, ◌+◌, ◌<◌, inl, inr, length, get_or, List, [], ◌∷◌, Option}
+use Rattle.std.proofs.Common.{Some, None, Result, Ok, Err, refl, sym, subst, ◌∙◌, arith}
+use Rattle.std.proofs.lemmas.Bool.{cases_lt}
+use Rattle.std.proofs.lemmas.List.{get_or_default}
+use Rattle.std.specs.Prelude.{◌≢◌, IfOk}
+use Rattle.std.specs.Result.{IsErr}
+use Rattle.krl_types.specs.Subject.{CertNames, Subject}
+use Rattle.ssh_cert.specs.SubjectReading.{subject_of}
+use Rattle.ssh_cert.specs.declared.subject_fault.SubjectFault.{SubjectFault}
+use Rattle.key_files.specs.Keys.{Named, FileKey, GivesKey, IsRefused, keys_of}
+use Rattle.key_files.specs.RunFault.{RunFault, ended_by}
+use Rattle.key_files.specs.declared.cause.Cause.{Cause}
+use Rattle.key_files.specs.declared.cause.Cause.TheVariants as causes
+use Rattle.krl_entries.specs.Revocations.{Revocations}
+use Rattle.krl_entries.specs.Naming.{KeyOf}
+use Rattle.krl_entries.specs.Questions.{Asks, AsksMore, HasCert}
+use Rattle.krl_entries.proofs.MoreQuestions.{under_stays}
+use Rattle.key_listing.specs.Expected.{AreExpected}
+
+-- a key whose blob cannot be read is the last that counts
+pub unread_expected : (Expected : Subject → Type 0) (key : FileKey) (keys : List (Result FileKey RunFault)) → IsErr (subject_of key.line.blob) → AreExpected Expected (Ok key ∷ keys)
+unread_expected Expected key keys err = by (subject_of key.line.blob) err
+  where
+    by : (read : Result Subject SubjectFault) → IsErr read → IfOk read (λ asked. Expected asked × AreExpected Expected keys)
+    by (Ok asked) err = absurd (cc)
+    by (Err fault) err = tt
+
+-- so is a fault of the file
+pub fault_expected : (Expected : Subject → Type 0) (next : Result FileKey RunFault) (stop : RunFault) (keys : List (Result FileKey RunFault)) → GivesKey next (Err stop) → stop.cause ≢ causes.NoMemory → AreExpected Expected (next ∷ keys)
+fault_expected Expected next stop keys is known = by stop.cause is known
+  where
+    by : (cause : Cause) → IsRefused (ended_by cause) next stop → cause ≢ causes.NoMemory → AreExpected Expected (next ∷ keys)
+    by causes.NoMemory is known = absurd (known refl)
+    by (causes.Output count) is known = absurd is
+    by cause is known = subst (λ (n : Result FileKey RunFault). AreExpected Expected (n ∷ keys)) (sym is) tt
+
+-- ---- more queries
+
+asked_more : (old new : Revocations) (asked : Subject) → AsksMore old new → Asks old asked → Asks new asked
+asked_more old new asked more h = (more (KeyOf asked.plain) h.0, by asked.cert h.1)
+  where
+    by : (cert : Option CertNames) → HasCert old cert → HasCert new cert
+    by None h = tt
+    by (Some cert) h = (more (KeyOf cert.authority) h.0, (under_stays old new [] cert.key_id cert.serial more h.1.0, under_stays old new cert.authority cert.key_id cert.serial more h.1.1))
+
+-- keys that were expected are still expected
+pub keys_more : (old new : Revocations) (keys : List (Result FileKey RunFault)) → AsksMore old new → AreExpected (Asks old) keys → AreExpected (Asks new) keys
+keys_more old new [] more h = tt
+keys_more old new (Err stop ∷ keys) more h = tt
+keys_more old new (Ok key ∷ keys) more h = by (subject_of key.line.blob) (keys_more old new keys more) h
+  where
+    by : (read : Result Subject SubjectFault) → (AreExpected (Asks old) keys → AreExpected (Asks new) keys) → IfOk read (λ asked. Asks old asked × AreExpected (Asks old) keys) → IfOk read (λ asked. Asks new asked × AreExpected (Asks new) keys)
+    by (Ok asked) rest h = (asked_more old new asked more h.0, rest h.1)
+    by (Err fault) rest h = tt
+
+-- a key that is in the queries, before keys that are expected
+pub key_expected : (old new : Revocations) (key : FileKey) (keys : List (Result FileKey RunFault)) → AsksMore old new → IfOk (subject_of key.line.blob) (Asks old) → AreExpected (Asks new) keys → AreExpected (Asks new) (Ok key ∷ keys)
+key_expected old new key keys more h rest = by (subject_of key.line.blob) h
+  where
+    by : (read : Result Subject SubjectFault) → IfOk read (Asks old) → IfOk read (λ asked. Asks new asked × AreExpected (Asks new) keys)
+    by (Ok asked) h = (asked_more old new asked more h, rest)
+    by (Err fault) h = tt
+
+-- If the files so far were expected and the next one is, all of them are.
+pub files_more : (old new : Revocations) (files : List Named) (i : ℕ) (file : Named) → AsksMore old new → ((k : ℕ) (d : Named) → k < i → AreExpected (Asks old) (keys_of (get_or files k d)))
+    → i < length files → file ≡ get_or files i file → AreExpected (Asks new) (keys_of file) → (k : ℕ) (d : Named) → k < i + 1 → AreExpected (Asks new) (keys_of (get_or files k d))
+files_more old new files i file more before lt is now k d next =
+    elim (cases_lt k i) [
+      | inl less ↦ keys_more old new (keys_of (get_or files k d)) more (before k d less)
+      | inr over ↦ (
+          let same : i ≡ k = omega (arith, next, over) in
+          subst (λ (n : ℕ). AreExpected (Asks new) (keys_of (get_or files n d))) same (subst (λ (f : Named). AreExpected (Asks new) (keys_of f)) (is ∙ get_or_default files i file d lt) now)
+          )
+    ]

@@ -1,0 +1,141 @@
+-- The lines of a list's contents that are printed so far.
+use Rattle.std.proofs.Common.{◌≡◌, ℕ, ◌+◌, ◌<◌, ◌==◌, Bool, true, false, List, [], ◌∷◌, ◌++◌, length, map, drop, get_or, Result, Ok, Err, refl, sym, ap, subst, ◌∙◌, append_assoc, add-one, arith}
+use Rattle.std.specs.Prelude.{Option, Some}
+use Rattle.std.specs.List.{flat_map}
+use Rattle.std.proofs.lemmas.List.{map-append, take-append-drop}
+use Rattle.std.proofs.Math.Seq.{drop-cons}
+use Rattle.std.proofs.lemmas.Bool.Decides.{nat_tests}
+use Rattle.serial_set.specs.declared.span.Span.{Span}
+use Rattle.serial_set.specs.Span.{IsRuns, AreSerials}
+use Rattle.serial_set.specs.Walk.{IsPiece, left, next_of, since}
+use Rattle.serial_set.proofs.RunWalks.{walk_on}
+use Rattle.key_listing.specs.Carries.{Carries}
+use Rattle.krl_entries.specs.Revocations.{Revocations, Section}
+use Rattle.krl_core.specs.declared.header.Header.{Header}
+use Rattle.krl_runs.specs.Contents.{Known, all_said, authority_line, comment_line, comment_lines}
+use Rattle.krl_runs.specs.Contents.{contents_items, contents_lines, date_line, fact_line}
+use Rattle.krl_runs.specs.Contents.{header_lines, section_lines, serials_line, version_line}
+use Rattle.key_listing.specs.Run.{said_of}
+use Rattle.krl_runs.specs.declared.contents.fact.Fact.TheVariants.{Id, Key, Sha1, Hash}
+use Rattle.key_listing.specs.Printer.{Printer}
+use Rattle.key_listing.specs.Run.{Item}
+use Rattle.key_files.specs.RunFault.{RunFault}
+use Rattle.key_listing.proofs.RunParts.{carries_more, carries_none, carries_then}
+
+abbrev said : Result (Unit {0}) RunFault
+said = Ok tt
+
+-- All the lines are those that are printed so far and those that are left.
+pub record IsSaid (name : List ℕ) (all left : List (List ℕ)) (old now : Printer) : Type 0 where
+  pub done : List (List ℕ)
+  pub parts : all ≡ done ++ left
+  pub carried : Carries (all_said name done) said old now
+
+pub none_said : (name : List ℕ) (all : List (List ℕ)) (now : Printer) → IsSaid name all all now now
+none_said name all now = record { done = []; parts = refl; carried = carries_none tt now }
+
+both_said : (name : List ℕ) (xs ys : List (List ℕ)) → all_said name (xs ++ ys) ≡ all_said name xs ++ all_said name ys
+both_said name xs ys = map-append (said_of name) xs ys
+
+-- some more lines are printed
+pub more_said : (name : List ℕ) (all lines left : List (List ℕ)) (old mid new : Printer) → IsSaid name all (lines ++ left) old mid
+    → Carries (all_said name lines) said mid new → IsSaid name all left old new
+more_said name all lines left old mid new is carries = record {
+  done = is.done ++ lines;
+  parts = is.parts ∙ sym (append_assoc is.done lines left);
+  carried =
+      subst (λ (items : List Item). Carries items said old new) (sym (both_said name is.done lines)) (carries_then (all_said name is.done) (all_said name lines) tt said old mid new is.carried carries);
+}
+
+-- the next of them ended the run
+pub saying_stops : {A B : Type 0} (name : List ℕ) (all lines left : List (List ℕ)) (stop : RunFault) (old mid new : Printer) → IsSaid name all (lines ++ left) old mid
+    → Carries {A = A} (all_said name lines) (Err stop) mid new → Carries {A = B} (all_said name all) (Err stop) old new
+saying_stops {A} {B} name all lines left stop old mid new is carries =
+    let front = carries_then {B = A} (all_said name is.done) (all_said name lines) tt (Err stop) old mid new is.carried carries in
+    let more = carries_more {A = A} {B = B} (all_said name is.done ++ all_said name lines) (all_said name left) stop old new front in
+    let items : all_said name all ≡ (all_said name is.done ++ all_said name lines) ++ all_said name left =
+    ap (all_said name) is.parts ∙ both_said name is.done (lines ++ left) ∙ ap (λ (items : List Item). all_said name is.done ++ items) (both_said name lines left)
+    ∙ sym (append_assoc (all_said name is.done) (all_said name lines) (all_said name left)) in
+    subst (λ (items : List Item). Carries {A = B} items (Err stop) old new) (sym items) more
+
+-- the last of them, whatever its result is
+pub last_said : {B : Type 0} (name : List ℕ) (all lines : List (List ℕ)) (result : Result B RunFault) (old mid new : Printer) → IsSaid name all lines old mid
+    → Carries (all_said name lines) result mid new → Carries (all_said name all) result old new
+last_said {B} name all lines result old mid new is carries =
+    let items : all_said name all ≡ all_said name is.done ++ all_said name lines = ap (all_said name) is.parts ∙ both_said name is.done lines in
+    subst (λ (items : List Item). Carries {A = B} items result old new) (sym items) (carries_then (all_said name is.done) (all_said name lines) tt result old mid new is.carried carries)
+
+-- the lines of some authorities, and of the keys and the hashes
+abbrev pub held_lines : List Section → Revocations → List (List ℕ)
+held_lines sections r =
+    flat_map section_lines sections ++ (map (fact_line Key) r.keys ++ (map (fact_line Sha1) r.sha1s ++ map (fact_line Hash) r.sha256s))
+
+pub held_first : (name : List ℕ) (r : Revocations) (now : Printer) → IsSaid name (contents_lines r) (held_lines r.sections r) now now
+unfolding contents_lines
+held_first name r now = none_said name (contents_lines r) now
+
+-- the lines of a header are those of its version, its date and its comment
+pub header_started : (name : List ℕ) (header : Header) (now : Printer)
+    → IsSaid name (header_lines header) (version_line header.version ∷ date_line header.date ∷ comment_lines header.comment) now now
+unfolding header_lines
+header_started name header now = none_said name (header_lines header) now
+
+-- a comment without bytes has no line, and any other has one
+pub no_comment : (comment : List ℕ) → (length comment == 0) ≡ true → comment_lines comment ≡ []
+no_comment [] none = refl
+no_comment (byte ∷ bytes) none = absurd (grind (arith, nat_tests))
+
+pub some_comment : (comment : List ℕ) → (length comment == 0) ≡ false → comment_lines comment ≡ comment_line comment ∷ []
+some_comment [] some = absurd cc
+some_comment (byte ∷ bytes) some = refl
+
+-- the spans from a place on are the one there and the others
+pub spans_next : (spans : List Span) (i : ℕ) (d : Span) → i < length spans
+    → map serials_line (drop i spans) ≡ serials_line (get_or spans i d) ∷ map serials_line (drop (i + 1) spans)
+spans_next spans i d lt =
+    let parts : drop i spans ≡ get_or spans i d ∷ drop (i + 1) spans = rw add-one (drop-cons spans i d lt) in
+    ap (λ (xs : List Span). map serials_line xs) parts
+
+-- or those of a piece and the others, where a walk continues
+pub piece_next : (spans piece : List Span) (n : ℕ) (before next : Option ℕ) → IsRuns spans → AreSerials spans → before ≡ Some n → IsPiece spans n piece → next ≡ next_of piece
+    → map serials_line (left before spans) ≡ map serials_line piece ++ map serials_line (left next spans)
+piece_next spans piece n before next r fits b p e =
+    let k = length piece in
+    let rest : left next spans ≡ drop k (since n spans) = ap (λ (o : Option ℕ). left o spans) e ∙ walk_on spans piece n r fits p in
+    let parts : left before spans ≡ piece ++ left next spans =
+    ap (λ (o : Option ℕ). left o spans) b ∙ sym (take-append-drop k (since n spans)) ∙ ap (λ (xs : List Span). xs ++ drop k (since n spans)) (sym p.front) ∙ ap (λ (xs : List Span). piece ++ xs) (sym rest) in
+    ap (λ (xs : List Span). map serials_line xs) parts ∙ map-append serials_line piece (left next spans)
+
+-- the lines of an authority and those of the others
+pub held_next : (section : Section) (rest : List Section) (r : Revocations) → held_lines (section ∷ rest) r ≡ section_lines section ++ held_lines rest r
+held_next section rest r =
+    append_assoc (section_lines section) (flat_map section_lines rest) (map (fact_line Key) r.keys ++ (map (fact_line Sha1) r.sha1s ++ map (fact_line Hash) r.sha256s))
+
+pub section_started : (name : List ℕ) (section : Section) (now : Printer)
+    → IsSaid name (section_lines section) (authority_line section.authority ∷ (map serials_line section.spans ++ map (fact_line Id) section.ids)) now now
+unfolding section_lines
+section_started name section now = none_said name (section_lines section) now
+
+-- ---- the contents, if they are requested
+
+pub not_asked : (name : List ℕ) (dump : Bool) (known : Known) (now : Printer) → dump ≡ false → Carries (contents_items name dump known) said now now
+unfolding contents_items
+not_asked name false known now asked = carries_none tt now
+not_asked name true known now asked = absurd cc
+
+pub contents_said : {B : Type 0} (name : List ℕ) (dump : Bool) (known : Known) (result : Result B RunFault) (old mid new : Printer) → dump ≡ true
+    → Carries (all_said name (header_lines known.header)) said old mid → Carries (all_said name (contents_lines known.contents)) result mid new
+    → Carries (contents_items name dump known) result old new
+unfolding contents_items
+contents_said name false known result old mid new asked first second = absurd cc
+contents_said {B} name true known result old mid new asked first second =
+    subst (λ (items : List Item). Carries {A = B} items result old new) (sym (both_said name (header_lines known.header) (contents_lines known.contents)))
+    (carries_then (all_said name (header_lines known.header)) (all_said name (contents_lines known.contents)) tt result old mid new first second)
+
+pub contents_stop : {A B : Type 0} (name : List ℕ) (dump : Bool) (known : Known) (stop : RunFault) (old new : Printer) → dump ≡ true
+    → Carries {A = A} (all_said name (header_lines known.header)) (Err stop) old new → Carries {A = B} (contents_items name dump known) (Err stop) old new
+unfolding contents_items
+contents_stop name false known stop old new asked first = absurd cc
+contents_stop {A} {B} name true known stop old new asked first =
+    subst (λ (items : List Item). Carries {A = B} items (Err stop) old new) (sym (both_said name (header_lines known.header) (contents_lines known.contents)))
+    (carries_more {A = A} {B = B} (all_said name (header_lines known.header)) (all_said name (contents_lines known.contents)) stop old new first)

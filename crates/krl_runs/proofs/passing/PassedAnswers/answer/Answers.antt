@@ -1,8 +1,0 @@
--- The answer for a key of the queries is that of the stored entries.
-use Rattle.std.proofs.Common.{rules}
-use Rattle.ssh_cert.specs.AnyKey.{asked_of, plain_of}
-use Rattle.krl_runs.proofs.passing.PassedAnswers.answer.Goals as goal
-
-pub returns : goal.returns
-returns c = λ answering is.
-    rw (is.say c.args.key.now.name c.args.key.now.number c.args.key.now.line (asked_of c.args.any.now) (plain_of c.args.any.now) c.requires.expected) (search rules)

@@ -1,0 +1,217 @@
+//! Where a list is written, locked against other updates of it.
+
+use crate::locking::{Lock, lock_beside, lock_from_writers, lock_list, unlock};
+use crate::names::followed;
+use crate::waiting::Waiting;
+use key_files::{Cause, FileFault};
+use std::fs::{self, File, Metadata, OpenOptions};
+use std::io::{self, ErrorKind};
+use std::os::unix::fs::MetadataExt;
+
+/// The source of the new list, besides its lines.
+#[derive(Clone, Copy, PartialEq, Eq)]
+pub enum MadeOf {
+    /// Nothing: it is a new list.
+    Lines,
+    /// The list with this name, which is read once it is held.
+    List,
+    /// The bytes from a pipe or a device.
+    Stream,
+}
+
+/// Where a list is written.
+#[derive(Drop)]
+pub enum Target {
+    /// Over an existing list.
+    List(OldList),
+    /// At this path, where no file exists.
+    Free(String),
+    /// Into a pipe or a device.
+    Stream(File),
+}
+
+/// A regular file that a list replaces.
+#[derive(Drop)]
+pub struct OldList {
+    /// The file, open for writing.
+    pub file: File,
+    /// Its metadata when it was opened.
+    pub found: Metadata,
+    /// Its path, with links followed.
+    pub path: String,
+}
+
+/// Where a list is written. No other update reads or writes it while this is held.
+#[derive(Drop)]
+pub struct Locked {
+    /// The place.
+    pub target: Target,
+    // None if a list is written in place, since it is locked itself, and for a stream.
+    pub(crate) lock: Option<Lock>,
+}
+
+// The file to which a name refers.
+#[derive(Drop)]
+enum Opened {
+    List(File, Metadata),
+    Nothing,
+    Stream(File),
+}
+
+/// Where to write the list with this name, once no other update holds it; none if the name leads to
+/// another file by then. It is opened for writing, and also for reading if the list is made from
+/// it, so a user who may not do that, or may not follow the link to it, gets an error. A list that
+/// is made from a stream is written only to a stream, and a list that is made from a list never to
+/// a stream.
+pub fn lock_target(
+    rt: &HostRuntime,
+    name: &str,
+    made_of: MadeOf,
+    waiting: &mut Waiting,
+) -> Result<Option<Locked>, Cause> {
+    // A link that is created later is not followed.
+    let path = path_of(rt, name)?;
+    let list = match (named(rt, name, made_of)?, made_of) {
+        (Opened::Stream(file), MadeOf::Lines | MadeOf::Stream) => {
+            return Ok(Some(Locked {
+                target: Target::Stream(file),
+                lock: None,
+            }));
+        }
+        (Opened::List(_, found), MadeOf::Lines | MadeOf::List) => Some(found),
+        (Opened::Nothing, MadeOf::Lines) => None,
+        _ => return Err(Cause::File(FileFault::Open)),
+    };
+    let lock = lock_beside(rt, path.as_str(), list.as_ref(), waiting)?;
+    let target = match &lock {
+        Some(_) => beside_lock(rt, name, path, made_of, waiting),
+        None => in_place(rt, name, path, made_of, waiting),
+    };
+    match target {
+        Ok(Some(target)) => Ok(Some(Locked { target, lock })),
+        Ok(None) => {
+            unlock_all(rt, lock);
+            Ok(None)
+        }
+        Err(cause) => {
+            unlock_all(rt, lock);
+            Err(cause)
+        }
+    }
+}
+
+/// Lets other updates continue.
+pub fn release(rt: &HostRuntime, locked: Locked) {
+    unlock_all(rt, locked.lock);
+}
+
+fn unlock_all(rt: &HostRuntime, lock: Option<Lock>) {
+    if let Some(lock) = lock {
+        unlock(rt, lock);
+    }
+}
+
+// The file to which the name refers once the lock beside it is taken, if that is still at the path.
+fn beside_lock(
+    rt: &HostRuntime,
+    name: &str,
+    path: String,
+    made_of: MadeOf,
+    waiting: &mut Waiting,
+) -> Result<Option<Target>, Cause> {
+    match named(rt, name, made_of)? {
+        Opened::List(file, found) if leads_to_path(rt, name, path.as_str(), Some(&found))? => {
+            if made_of == MadeOf::List {
+                lock_from_writers(rt, &file, waiting)?;
+            }
+            Ok(Some(Target::List(OldList { file, found, path })))
+        }
+        Opened::Nothing if leads_to_path(rt, name, path.as_str(), None)? => {
+            Ok(Some(Target::Free(path)))
+        }
+        _ => Ok(None),
+    }
+}
+
+// The list to be written in place, locked.
+fn in_place(
+    rt: &HostRuntime,
+    name: &str,
+    path: String,
+    made_of: MadeOf,
+    waiting: &mut Waiting,
+) -> Result<Option<Target>, Cause> {
+    match named(rt, name, made_of)? {
+        Opened::List(file, _) => {
+            lock_list(rt, &file, waiting)?;
+            let Ok(found) = file.metadata() else {
+                return Err(Cause::File(FileFault::Open));
+            };
+            if leads_to_path(rt, name, path.as_str(), Some(&found))? {
+                Ok(Some(Target::List(OldList { file, found, path })))
+            } else {
+                Ok(None)
+            }
+        }
+        Opened::Nothing if made_of == MadeOf::Lines => Err(Cause::File(FileFault::Open)),
+        _ => Ok(None),
+    }
+}
+
+// Opens what the name refers to.
+fn named(rt: &HostRuntime, name: &str, made_of: MadeOf) -> Result<Opened, Cause> {
+    let mut options = OpenOptions::new();
+    options.read(made_of == MadeOf::List).write(true);
+    let file = match options.open(rt, name) {
+        Ok(file) => file,
+        Err(error) if error.kind() == ErrorKind::NotFound && !name.is_empty() => {
+            return Ok(Opened::Nothing);
+        }
+        Err(_) => return Err(Cause::File(FileFault::Open)),
+    };
+    match file.metadata() {
+        Ok(found) if found.is_file() => Ok(Opened::List(file, found)),
+        Ok(_) => Ok(Opened::Stream(file)),
+        Err(_) => Err(Cause::File(FileFault::Open)),
+    }
+}
+
+// The path of the file to which the name leads.
+fn path_of(rt: &HostRuntime, name: &str) -> Result<String, Cause> {
+    followed(rt, name).map_err(|error| unopened(&error))
+}
+
+// Whether the name still leads to the path, and the old list is there, or no file if there is no
+// old list.
+fn leads_to_path(
+    rt: &HostRuntime,
+    name: &str,
+    path: &str,
+    old: Option<&Metadata>,
+) -> Result<bool, Cause> {
+    Ok(path_of(rt, name)?.as_str() == path && is_at(rt, path, old))
+}
+
+// Whether the old list is at this path, or no file if there is no old list. Its name may have led
+// to it in another way, like a link in `/proc`, or may refer to another file by now.
+pub(crate) fn is_at(rt: &HostRuntime, path: &str, old: Option<&Metadata>) -> bool {
+    match (fs::symlink_metadata(rt, path), old) {
+        (Ok(found), Some(old)) => is_same(&found, old),
+        (Err(error), None) => error.kind() == ErrorKind::NotFound,
+        _ => false,
+    }
+}
+
+// Whether both are metadata of the same file.
+pub(crate) fn is_same(left: &Metadata, right: &Metadata) -> bool {
+    left.dev() == right.dev() && left.ino() == right.ino()
+}
+
+// Why a list could not be opened.
+pub(crate) fn unopened(error: &io::Error) -> Cause {
+    if error.kind() == ErrorKind::OutOfMemory {
+        Cause::NoMemory
+    } else {
+        Cause::File(FileFault::Open)
+    }
+}
