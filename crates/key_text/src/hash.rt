@@ -8,7 +8,7 @@ use sha1::Sha1;
 use sha2::{Digest, Sha256};
 
 /// The hash of a fingerprint.
-#[derive(Clone, Copy, PartialEq, Eq)]
+#[derive(Clone, Copy)]
 pub enum Hash {
     /// MD5 (RFC 1321), for the fingerprints before OpenSSH 6.8.
     Md5,

@@ -19,7 +19,7 @@ use ssh_cert::read_any;
 use std::alloc::{AllocError, Global};
 
 /// The form in which findings are printed.
-#[derive(Clone, Copy, PartialEq, Eq)]
+#[derive(Clone, Copy)]
 pub enum Form {
     /// For people.
     Text,

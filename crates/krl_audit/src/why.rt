@@ -10,7 +10,7 @@ use ssh_cert::SubjectFault;
 use std::alloc::{AllocError, Global};
 
 /// Why a file is not read.
-#[derive(Clone, Copy, PartialEq, Eq)]
+#[derive(Clone, Copy)]
 pub enum Refusal {
     /// There is no file of this name.
     Missing,

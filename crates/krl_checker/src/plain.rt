@@ -4,7 +4,7 @@ ghost use Rattle.std.specs.Prelude.{◌≡◌};
 ghost use Rattle.krl_checker.specs.Text.{plain_why, plain_word};
 
 /// Why a plain list is not put in force, although sshd(8) reads it.
-#[derive(Clone, Copy, PartialEq, Eq)]
+#[derive(Clone, Copy)]
 pub enum PlainRefusal {
     /// Its version must not be below that of another list, or another list's below its own, and it
     /// has none.

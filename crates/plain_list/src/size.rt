@@ -11,7 +11,7 @@ const LEAST: u32 = 1_024;
 const MOST: u32 = 16_384;
 
 /// The treatment of a key by sshd, by the key's size.
-#[derive(Clone, Copy, PartialEq, Eq)]
+#[derive(Clone, Copy)]
 pub enum Size {
     /// It skips the line of an RSA key of fewer than 1,024 bits.
     Short,

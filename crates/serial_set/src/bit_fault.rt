@@ -3,7 +3,7 @@ ghost use Rattle.std.specs.Prelude.{◌≡◌};
 ghost use Rattle.serial_set.specs.BitFault.{fault_number};
 
 /// Why a bitmap cannot be read.
-#[derive(Clone, Copy, PartialEq, Eq)]
+#[derive(Clone, Copy)]
 pub enum BitFault {
     /// The first byte is 0x80 or more, so the bitmap's number is negative.
     Negative,
