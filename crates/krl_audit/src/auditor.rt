@@ -151,7 +151,10 @@ impl<'q, 'w, W: Sink> Auditor<'q, 'w, W> {
         ensures judge { self.new.judge ≡ self.old.judge }
     {
         let alloc = self.run.alloc;
-        let made = match self.judge.judge(alloc, location, outcome, &mut self.run.line) {
+        let made = match self
+            .judge
+            .judge(alloc, location, outcome, &mut self.run.line)
+        {
             Ok(made) => made,
             Err(_) => return Err(RunFault::whole(location.name, Cause::NoMemory)),
         };

@@ -80,5 +80,8 @@ fn one_more(count: u64, is_one: bool) -> u64
 fn is_key(kind: LineKind) -> bool
     ensures { result ≡ is_key kind }
 {
-    matches!(kind, LineKind::Distrusted | LineKind::Fine | LineKind::Revoked)
+    matches!(
+        kind,
+        LineKind::Distrusted | LineKind::Fine | LineKind::Revoked
+    )
 }

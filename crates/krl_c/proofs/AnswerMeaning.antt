@@ -1,27 +1,25 @@
 -- The meaning of the answers, by the list that was read and the query.
-use Rattle.std.proofs.Common.{◌≡◌, ◌⊎◌, inl, inr, ℕ, ℤ, false, List, Option, Some, refl, ◌∙◌, arith}
-use Rattle.std.proofs.lemmas.Int.{to_z-of_z}
-use mir.Syntax.{w32}
-use mir.Val.{SFits, of_z, to_z}
-use Rattle.ssh_cert.specs.SubjectReading.{IsReportedFault}
-use Rattle.ssh_cert.specs.declared.subject_fault.SubjectFault.{SubjectFault}
-use Rattle.ssh_cert.specs.declared.subject_fault.SubjectFault.TheVariants as subjects
+use Rattle.krl_c.proofs.Common.{◌∙◌, ◌≡◌, ◌⊎◌, answered, Answers, AnswersBlob, AnswersBy}
+use Rattle.krl_c.proofs.Common.{AnswersLine, AnswersOfLine, arith, entries_of, Entry, false}
+use Rattle.krl_c.proofs.Common.{HasOtherAuthority, inl, inr, IsCompared, IsListOf, IsRefusal}
+use Rattle.krl_c.proofs.Common.{IsReportedFault, line_number, line_ran_out, LineFault, List}
+use Rattle.krl_c.proofs.Common.{list_ran_out, no_blob, no_line, no_list, of_key, of_z, Option}
+use Rattle.krl_c.proofs.Common.{other_authority, ran_out, refl, refusal_number, SFits, Some}
+use Rattle.krl_c.proofs.Common.{subject_number, SubjectFault, to_z, to_z-of_z, w32, ℕ, ℤ}
 use Rattle.key_text.specs.KeyLine.{IsKeyLine}
-use Rattle.key_text.specs.LineFaults.{IsReportedFault as IsReportedLineFault}
-use Rattle.key_text.specs.declared.line_fault.LineFault.{LineFault}
-use Rattle.key_text.specs.declared.line_fault.LineFault.TheVariants as lines
 use Rattle.krl_types.specs.declared.krl_fault.KrlFault.{KrlFault}
-use Rattle.krl_types.specs.declared.krl_fault.KrlFault.TheVariants as lists
 use Rattle.krl_core.specs.declared.header.Header.{Header}
-use Rattle.krl_core.specs.Entries.{entries_of}
-use Rattle.krl_entries.specs.Entry.{Entry}
 use Rattle.krl_entries.specs.Revocations.{Revocations}
 use Rattle.krl_core.specs.Front.{IsFirstFault}
-use Rattle.krl_core.specs.Reading.{IsListAs, Says as ListSays, ran_out as runs_out, failed_read, first}
+use Rattle.krl_core.specs.Reading.{IsListAs, failed_read, first}
 use Rattle.krl_authority.specs.Authority.{AuthoritiesAreKeys}
-use Rattle.krl_c.specs.Answer.{Answers, AnswersBlob, AnswersBy, AnswersLine, AnswersOfLine, HasOtherAuthority, IsCompared, IsListOf, IsRefusal, answered, other_authority, of_key, no_list, list_ran_out, no_blob, ran_out, no_line, line_ran_out}
-use Rattle.krl_c.specs.Number.{line_number, refusal_number, subject_number}
 use Rattle.krl_c.specs.declared.refusal.Refusal.{Refusal}
+use Rattle.ssh_cert.specs.declared.subject_fault.SubjectFault.TheVariants as subjects
+use Rattle.key_text.specs.LineFaults.{IsReportedFault as IsReportedLineFault}
+use Rattle.key_text.specs.declared.line_fault.LineFault.TheVariants as lines
+use Rattle.krl_types.specs.declared.krl_fault.KrlFault.TheVariants as lists
+use Rattle.krl_core.specs.Reading.{Says as ListSays}
+use Rattle.krl_core.specs.Reading.{ran_out as runs_out}
 use Rattle.krl_c.specs.declared.refusal.Refusal.TheVariants as refusals
 
 -- an answer does not change when it is passed to C

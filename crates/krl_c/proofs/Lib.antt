@@ -1,3 +1,4 @@
+mod Common
 pub mod WrittenTexts
 pub mod OneAnswer
 pub mod PrintedWords

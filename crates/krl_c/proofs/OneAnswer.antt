@@ -1,15 +1,14 @@
 -- One call has one answer, unless an allocation fails.
-use Rattle.std.proofs.Common.{◌≡◌, ◌⊎◌, inl, inr, ℕ, ℤ, List, Result, Ok, Err, sym, ap, subst, ◌∙◌}
+use Rattle.krl_c.proofs.Common.{◌∙◌, ◌≡◌, ◌⊎◌, answered, AnswersBlob, AnswersBy, AnswersLine, ap}
+use Rattle.krl_c.proofs.Common.{Entry, Err, HasOne, inl, inr, IsSubject, IsSubjectFault}
+use Rattle.krl_c.proofs.Common.{line_number, line_ran_out, LineFault, List, list_number}
+use Rattle.krl_c.proofs.Common.{list_ran_out, names, no_blob, no_line, no_list, no_memory, of_key}
+use Rattle.krl_c.proofs.Common.{Ok, other_authority, ran_out, Result, said, Says, spares}
+use Rattle.krl_c.proofs.Common.{subject_number, SubjectFault, subst, sym, ℕ, ℤ}
 use Rattle.krl_types.specs.Subject.{Subject}
-use Rattle.ssh_cert.specs.declared.subject_fault.SubjectFault.{SubjectFault}
-use Rattle.ssh_cert.specs.SubjectReading.{IsSubject, IsSubjectFault}
 use Rattle.key_text.specs.KeyLine.{IsKeyLine}
 use Rattle.key_text.specs.LineFaults.{IsFirstLineFault}
 use Rattle.key_text.specs.LineReading.{Content, content}
-use Rattle.key_text.specs.declared.line_fault.LineFault.{LineFault}
-use Rattle.krl_entries.specs.Entry.{Entry}
-use Rattle.krl_c.specs.Answer.{AnswersBlob, AnswersBy, AnswersLine, HasOne, Says, names, spares, said, no_blob, ran_out, answered, other_authority, no_list, list_ran_out, of_key, no_line, line_ran_out}
-use Rattle.krl_c.specs.Number.{list_number, line_number, no_memory, subject_number}
 
 -- the two are equal, or one of them is `no_memory`
 abbrev pub Once : ℤ → ℤ → Type 0

@@ -1,17 +1,15 @@
 -- A plain list has one answer, unless an allocation fails.
-use Rattle.std.proofs.Common.{◌≡◌, ◌≤◌, ◌<◌, inl, inr, ℕ, ℤ, Bool, true, false, List, [], ◌∷◌, ◌++◌, length, sym, ap, ◌∙◌, arith, get_or}
+use Rattle.krl_c.proofs.Common.{[], ◌++◌, ◌<◌, ◌∙◌, ◌∷◌, ◌≡◌, ◌≤◌, Answers, AnswersBlob, ap, arith}
+use Rattle.krl_c.proofs.Common.{Bool, Entry, false, get_or, inl, inr, length, length-append, List}
+use Rattle.krl_c.proofs.Common.{no_memory, plain_number, sym, true, ℕ, ℤ}
 use Rattle.std.proofs.Math.Seq.{get_or-append_seam}
-use Rattle.std.proofs.lemmas.List.{length-append}
-use Rattle.krl_entries.specs.Entry.{Entry}
 use Rattle.plain_list.specs.Key.{line_key}
 use Rattle.plain_list.specs.List.{AreRead, HasFault, IsFirstFault, entries_of, limit, lines_of}
 use Rattle.plain_list.specs.declared.fault.LineCause.{LineCause}
 use Rattle.plain_list.specs.declared.fault.PlainFault.{PlainFault}
-use Rattle.plain_list.specs.declared.fault.PlainFault.TheVariants as faults
-use Rattle.krl_c.specs.Answer.{Answers, AnswersBlob}
 use Rattle.krl_c.specs.Any.{AnswersIf, AnswersPlain, no_plain, plain}
-use Rattle.krl_c.specs.Number.{no_memory, plain_number}
 use Rattle.krl_c.proofs.OneAnswer.{Once}
+use Rattle.plain_list.specs.declared.fault.PlainFault.TheVariants as faults
 
 -- A list of which each line is read has no line that is refused.
 not_read : (lines : List (List ℕ)) (number : ℕ) (cause : LineCause) → AreRead lines → IsFirstFault lines number cause → ⊥

@@ -1,21 +1,19 @@
 -- The words for the number of a fault are those that the fault prints.
-use Rattle.std.proofs.Common.{◌≡◌, refl}
+use Rattle.krl_c.proofs.Common.{◌≡◌, line_number, LineFault, list_number, refl, subject_number}
+use Rattle.krl_c.proofs.Common.{SubjectFault}
 use Rattle.ssh_wire.specs.declared.fault.WireFault.TheVariants.{Short, Negative, NotShortest}
 use Rattle.ssh_key.specs.declared.fault.KeyFault.{KeyFault}
-use Rattle.ssh_key.specs.declared.fault.KeyFault.TheVariants as keys
-use Rattle.key_text.specs.LineFault.{fault_text as line_fault_text}
-use Rattle.key_text.specs.declared.line_fault.LineFault.{LineFault}
-use Rattle.key_text.specs.declared.line_fault.LineFault.TheVariants as lines
 use Rattle.ssh_cert.specs.SubjectFault.{subject_fault_text}
 use Rattle.ssh_cert.specs.declared.fault.CertFault.{CertFault}
-use Rattle.ssh_cert.specs.declared.fault.CertFault.TheVariants as certs
-use Rattle.ssh_cert.specs.declared.subject_fault.SubjectFault.{SubjectFault}
-use Rattle.ssh_cert.specs.declared.subject_fault.SubjectFault.TheVariants as subjects
 use Rattle.krl_types.specs.KrlFault.{fault_text}
 use Rattle.krl_types.specs.declared.krl_fault.KrlFault.{KrlFault}
-use Rattle.krl_types.specs.declared.krl_fault.KrlFault.TheVariants as lists
-use Rattle.krl_c.specs.Number.{line_number, list_number, subject_number}
 use Rattle.krl_c.specs.Words.{words}
+use Rattle.ssh_key.specs.declared.fault.KeyFault.TheVariants as keys
+use Rattle.key_text.specs.LineFault.{fault_text as line_fault_text}
+use Rattle.key_text.specs.declared.line_fault.LineFault.TheVariants as lines
+use Rattle.ssh_cert.specs.declared.fault.CertFault.TheVariants as certs
+use Rattle.ssh_cert.specs.declared.subject_fault.SubjectFault.TheVariants as subjects
+use Rattle.krl_types.specs.declared.krl_fault.KrlFault.TheVariants as lists
 
 pub of_list : (fault : KrlFault) → ¬ (fault ≡ lists.NoMemory) → words (list_number fault) ≡ fault_text fault
 of_list lists.Magic not = refl

@@ -1,19 +1,17 @@
 -- The bits of reasons.
-use Rattle.std.proofs.Common.{◌≡◌, ◌/◌, ◌%◌, ◌<◌, ℕ, ℤ, zero, suc, Bool, true, false, List, [], ◌∷◌, refl, ap, ◌∙◌, arith}
-use Rattle.std.specs.Prelude.{◌↔◌, IsTrue}
+use Rattle.krl_c.proofs.Common.{[], ◌%◌, ◌/◌, ◌<◌, ◌↔◌, ◌∙◌, ◌∷◌, ◌≡◌, ap, arith, Bool, Entry}
+use Rattle.krl_c.proofs.Common.{false, IsReportedFault, IsTrue, List, refl, subject_number}
+use Rattle.krl_c.proofs.Common.{SubjectFault, suc, true, zero, ℕ, ℤ}
 use Rattle.std.specs.Int.{bit_at}
 use Rattle.std.proofs.lemmas.Nat.Bits.{bit_at-suc, bit_at-zero, bit_at_lowest}
-use Rattle.ssh_cert.specs.SubjectReading.{IsReportedFault}
-use Rattle.ssh_cert.specs.declared.subject_fault.SubjectFault.{SubjectFault}
-use Rattle.ssh_cert.specs.declared.subject_fault.SubjectFault.TheVariants as subjects
 use Rattle.krl_types.specs.Subject.{Subject}
-use Rattle.krl_entries.specs.Entry.{Entry}
 use Rattle.krl_entries.specs.Reasons.{IsReason, has_reason}
 use Rattle.krl_entries.specs.declared.reasons.Reason.{Reason}
-use Rattle.krl_entries.specs.declared.reasons.Reason.TheVariants as reasons
 use Rattle.krl_entries.specs.declared.reasons.Reasons.{Reasons}
-use Rattle.krl_c.specs.Number.{subject_number}
-use Rattle.krl_c.specs.Why.{ExplainsBlob, HasReasons, bit_of, bits_in, flags_of, no_blob, place_of, ran_out, with_bit}
+use Rattle.krl_c.specs.Why.{ExplainsBlob, HasReasons, bit_of, bits_in, flags_of, no_blob, place_of}
+use Rattle.krl_c.specs.Why.{ran_out, with_bit}
+use Rattle.ssh_cert.specs.declared.subject_fault.SubjectFault.TheVariants as subjects
+use Rattle.krl_entries.specs.declared.reasons.Reason.TheVariants as reasons
 
 -- ---- one bit
 

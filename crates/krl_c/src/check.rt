@@ -69,7 +69,11 @@ fn revokes(alloc: Global, list: &[u8], asked: &Subject) -> Result<bool, Refusal>
 }
 
 // Streams a list, and stores only the answers to the query.
-pub(crate) fn stream(alloc: Global, list: &[u8], asked: &Subject) -> Result<Findings<Held>, KrlFault>
+pub(crate) fn stream(
+    alloc: Global,
+    list: &[u8],
+    asked: &Subject,
+) -> Result<Findings<Held>, KrlFault>
     ensures found { IfOk result (λ findings. (entries : List Entry)
         × IsListOf list.now entries × MeansInScope (asked_in findings) findings.found entries) }
     ensures asked { IfOk result (λ findings. Asks findings.topics asked.now) }

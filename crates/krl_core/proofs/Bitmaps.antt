@@ -1,17 +1,10 @@
 -- A bitmap, byte by byte.
-use Rattle.std.proofs.Common.{◌≡◌, ℕ, ◌+◌, ◌-◌, ◌*◌, ◌<◌, ◌≤◌, ◌^◌, ◌⊎◌, List, [], ◌∷◌, length, refl, sym, ap, subst, ◌∙◌, arith, inl, inr}
-use Rattle.std.specs.Int.{bit_at}
-use Rattle.std.proofs.lemmas.Bool.{cases_lt}
-use Rattle.std.proofs.lemmas.Nat.Bits.{bit_at-zero, bit_at_above, bit_at_cat_low, bit_at_cat_high}
-use Rattle.std.proofs.Math.Nat.{mul-le-mul_right}
-use Rattle.std.proofs.lemmas.Nat.{pow-add}
-use Rattle.serial_set.specs.BitRuns.{big_endian}
-use Rattle.ssh_wire.specs.Wire.{number_of}
+use Rattle.krl_core.proofs.Common.{[], ◌*◌, ◌+◌, ◌-◌, ◌<◌, ◌^◌, ◌∙◌, ◌∷◌, ◌≡◌, ◌≤◌, ◌⊎◌, ap, arith}
+use Rattle.krl_core.proofs.Common.{big_endian, bit_at, bit_at-zero, bit_at_above, bit_at_cat_high}
+use Rattle.krl_core.proofs.Common.{bit_at_cat_low, BitmapEntry, bytes_as_bits, cases_lt, inl, inr}
+use Rattle.krl_core.proofs.Common.{length, List, mul-le-mul_right, NamesSame, number_of, pow-add}
+use Rattle.krl_core.proofs.Common.{refl, same_nothing, same_serials, subst, sym, ℕ}
 use Rattle.ssh_wire.proofs.Magnitudes.{number_of-cons}
-use Rattle.ssh_wire.proofs.Digits.{bytes_as_bits}
-use Rattle.krl_entries.specs.Entry.{BitmapEntry}
-use Rattle.krl_entries.specs.Naming.{NamesSame}
-use Rattle.krl_entries.proofs.SameNames.{same_nothing, same_serials}
 
 -- a bitmap that is fed byte by byte has the number of the wire format
 pub bitmap_number : (bytes : List ℕ) → big_endian bytes ≡ number_of bytes

@@ -1,35 +1,30 @@
 -- The entries of a byte of a bitmap.
-use Rattle.std.proofs.Common.{◌≡◌, ℕ, ◌+◌, ◌-◌, ◌*◌, ◌^◌, ◌<◌, ◌≤◌, ◌↔◌, Bool, true, false, not, cond, eqb, ltb, leb, leb-false, eq-eqb, zero, suc, Option, None, List, [], ◌∷◌, ◌++◌, length, reverse, Ok, Err, refl, sym, ap, subst, ◌∙◌, append_assoc, arith}
-use Rattle.std.specs.Option.{option_to_list}
-use Rattle.std.specs.Int.{bit_at, leading_zeros, w8}
-use Rattle.std.proofs.lemmas.Bool.{ne_eqb, ltb-true}
-use Rattle.std.proofs.lemmas.List.{append-nil, length-append, length-reverse, reverse-append}
-use Rattle.std.proofs.lemmas.Nat.Bits.{bit_at-zero}
-use Rattle.serial_set.specs.declared.span.Span.{Span}
+use Rattle.krl_core.proofs.Common.{[], ◌*◌, ◌++◌, ◌+◌, ◌-◌, ◌<◌, ◌^◌, ◌↔◌, ◌∙◌, ◌∷◌, ◌≡◌, ◌≤◌, Adds}
+use Rattle.krl_core.proofs.Common.{AddsEntries, all_append, ap, append-nil, append_assoc, arith}
+use Rattle.krl_core.proofs.Common.{base_of, bit_at, bit_at-zero, BitmapEntry, BitNames, BitRuns}
+use Rattle.krl_core.proofs.Common.{bits_judged, Bool, Closes, cond, Entry, eq-eqb, eqb, Err, false}
+use Rattle.krl_core.proofs.Common.{Feeds, FieldStore, GrowsAtMost, HasFault, held, held_with_open}
+use Rattle.krl_core.proofs.Common.{highest_bit, iff_both, iff_none, iff_or, iff_swap, InStep}
+use Rattle.krl_core.proofs.Common.{IsSerials, judge, leading_zeros, leb, leb-false, length}
+use Rattle.krl_core.proofs.Common.{length-append, length-reverse, List, lowest, ltb, ltb-true}
+use Rattle.krl_core.proofs.Common.{MeansInScope, NamesSame, ne_eqb, next_bits, next_subsection}
+use Rattle.krl_core.proofs.Common.{None, not, number_of, Ok, one_more, open_run, Option}
+use Rattle.krl_core.proofs.Common.{option_to_list, passes_end, Place, refl, reverse, reverse-append}
+use Rattle.krl_core.proofs.Common.{Revocations, run_entries, same_append, same_is, same_refl}
+use Rattle.krl_core.proofs.Common.{same_serials, same_swap, same_then, Scope, SerialOf, ShowsFault}
+use Rattle.krl_core.proofs.Common.{some_append, Span, StoresBits, StoresEntries, StoresField}
+use Rattle.krl_core.proofs.Common.{StoresNoMore, subst, suc, sym, true, w8, zero, ℕ}
 use Rattle.serial_set.specs.declared.bit_fault.BitFault.{BitFault}
 use Rattle.serial_set.specs.declared.bit_fault.BitFault.TheVariants.{Negative, Wraps}
 use Rattle.serial_set.specs.Span.{Covers}
-use Rattle.serial_set.specs.BitRuns.{BitRuns, BitNames, Feeds, HasFault, ShowsFault, lowest}
+use Rattle.serial_set.proofs.RisingLists.{covers_append}
+use Rattle.krl_entries.proofs.Runs.{run_entries-name, run_entries-serials}
+use Rattle.krl_core.proofs.StoredEntries.{grows_one, open_entries, stored_same, stored_then}
 use Rattle.krl_types.specs.declared.krl_fault.KrlFault.TheVariants as faults
-use Rattle.krl_core.specs.declared.place.Place.{Place}
-use Rattle.krl_entries.specs.Entry.{Entry, BitmapEntry}
-use Rattle.krl_entries.specs.Naming.{NamesSame, SerialOf}
-use Rattle.krl_entries.specs.Revocations.{Revocations, held}
-use Rattle.krl_entries.specs.Scope.{MeansInScope, Scope}
-use Rattle.krl_entries.specs.Changes.{run_entries}
-use Rattle.krl_core.specs.FieldStore.{FieldStore, StoresEntries, AddsEntries, Adds, InStep, StoresBits, StoresField, Closes, held_with_open, open_run, GrowsAtMost, StoresNoMore}
-use Rattle.ssh_wire.specs.Wire.{number_of}
 use Rattle.krl_core.specs.declared.place.Place.TheVariants as places
 use Rattle.krl_core.specs.declared.place.bitmap.BitmapPlace.TheVariants as bitmaps
-use Rattle.krl_core.specs.Place.{base_of, bits_judged, judge, next_bits, next_subsection, passes_end, highest_bit}
 use Rattle.serial_set.proofs.Bits.{highest_bit as top_bit}
-use Rattle.serial_set.proofs.RisingLists.{covers_append}
-use Rattle.krl_entries.proofs.SameNames.{same_serials, same_append, same_refl, same_is, same_then, same_swap, some_append, one_more, IsSerials}
-use Rattle.krl_entries.proofs.Runs.{run_entries-name, run_entries-serials}
 use Rattle.std.proofs.Math.Logic.Iff as Iff
-use Rattle.krl_entries.proofs.Equivalences.{iff_both, iff_none, iff_or, iff_swap}
-use Rattle.krl_entries.proofs.Elements.{all_append}
-use Rattle.krl_core.proofs.StoredEntries.{grows_one, open_entries, stored_same, stored_then}
 
 -- ---- runs by the numbers in them
 

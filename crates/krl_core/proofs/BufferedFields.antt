@@ -1,26 +1,18 @@
 -- Fields that are read, one row after another.
-use Rattle.std.proofs.Common.{◌≡◌, ℕ, zero, suc, ◌+◌, ◌-◌, ◌*◌, ◌<◌, ◌≤◌, List, [], ◌∷◌, ◌++◌, length, take, drop, nat_lt, Bool, Result, Ok, Err, true, false, refl, sym, ap, subst, ◌∙◌, append_assoc, arith, length-drop}
-use Rattle.std.specs.Prelude.{OnOk, is_err}
-use Rattle.std.specs.List.{concat}
-use Rattle.std.specs.declared.alloc.AllocError.{AllocError}
-use Rattle.std.proofs.lemmas.Bool.{false≢true}
-use Rattle.std.proofs.lemmas.List.{append-nil, length-append, length-take-le, take_rest}
-use Rattle.std.proofs.lemmas.List.Folds.{concat-append}
-use Rattle.std.proofs.lemmas.Result.{on_ok_weaker}
-use Rattle.std.proofs.Math.Seq.{take-add}
-use Rattle.ssh_wire.specs.Wire.{IsBytes}
-use Rattle.byte_streams.specs.Pull.{Pull, Takes, left_of}
-use Rattle.ssh_wire.proofs.Digits.{IsBytes-append, IsBytes-drop, IsBytes-nil, IsBytes-take}
-use Rattle.krl_core.specs.declared.place.Place.{Place}
-use Rattle.krl_core.specs.Buffered.{ReadsBuffered, ReadsWhole, ReadsSome, HasStored}
-use Rattle.krl_core.specs.Front.{Passes, start, state_after}
-use Rattle.krl_core.specs.FieldStore.{GrowsAtMost, InStep, StoresEntries, FieldStore, StoresField, StoresAtMost}
-use Rattle.krl_core.specs.Place.{authority_after, names}
-use Rattle.krl_core.specs.Reading.{HasRead, IsBounded, Leaps, Walk, ReadsMore, working}
+use Rattle.krl_core.proofs.Common.{[], ◌*◌, ◌++◌, ◌+◌, ◌-◌, ◌<◌, ◌∙◌, ◌∷◌, ◌≡◌, ◌≤◌, AllocError, ap}
+use Rattle.krl_core.proofs.Common.{append-nil, append_assoc, arith, authority_after, Bool, concat}
+use Rattle.krl_core.proofs.Common.{concat-append, drop, Err, false, false≢true, FieldStore}
+use Rattle.krl_core.proofs.Common.{GrowsAtMost, HasRead, HasStored, InStep, is_err, IsBounded}
+use Rattle.krl_core.proofs.Common.{IsBytes, IsBytes-append, IsBytes-drop, IsBytes-nil, IsBytes-take}
+use Rattle.krl_core.proofs.Common.{Leaps, left_of, length, length-append, length-drop}
+use Rattle.krl_core.proofs.Common.{length-take-le, List, names, nat_lt, Ok, on_ok_weaker, OnOk}
+use Rattle.krl_core.proofs.Common.{Passes, Place, Pull, ReadsBuffered, ReadsMore, ReadsSome}
+use Rattle.krl_core.proofs.Common.{ReadsWhole, refl, Result, small_in, start, state_after}
+use Rattle.krl_core.proofs.Common.{StoresAtMost, StoresEntries, StoresField, subst, suc, sym, take}
+use Rattle.krl_core.proofs.Common.{take-add, take_rest, Takes, true, Walk, working, zero, ℕ}
 use Rattle.krl_core.proofs.LongestFronts.{nearer, weight}
 use Rattle.krl_core.proofs.StoredEntries.{grows_then, header_stored}
 use Rattle.krl_core.proofs.Steps.{consumes_some}
-use Rattle.krl_entries.proofs.TopicAmounts.{small_in}
 use Rattle.krl_core.proofs.Walks.{Leads-push}
 
 -- ---- rows of fields

@@ -1,18 +1,35 @@
 -- The expected field, in front of the spelling after it.
-use Rattle.std.proofs.Common.{◌≡◌, ℕ, ◌-◌, ◌%◌, ◌==◌, ◌<◌, ◌≤◌, Bool, true, false, eqb, ltb, leb, leb-true, eq-eqb, List, [], ◌∷◌, ◌++◌, map, get_or, Ok, refl, sym, ap, subst, ◌∙◌, append_assoc, arith, inl, inr}
-use Rattle.std.specs.List.{concat, flat_map}
-use Rattle.std.specs.Str.{bytes_eq}
-use Rattle.std.proofs.lemmas.Bool.{eqb-true, ltb-true}
-use Rattle.std.proofs.lemmas.List.{append-nil, length-append}
+use Rattle.krl_core.proofs.Common.{[], ◌%◌, ◌++◌, ◌-◌, ◌<◌, ◌==◌, ◌∙◌, ◌∷◌, ◌≡◌, ◌≤◌, ap}
+use Rattle.krl_core.proofs.Common.{append-nil, append_assoc, arith, authority_after, base_of}
+use Rattle.krl_core.proofs.Common.{Bitmap, BitmapEntry, Bool, bytes_eq, can_end, concat, Entry}
+use Rattle.krl_core.proofs.Common.{eq-eqb, eqb, eqb-true, false, flat_map, get_or, Header}
+use Rattle.krl_core.proofs.Common.{header_after, IdEntry, Ids, inl, inr, IsBytes, IsBytes-back}
+use Rattle.krl_core.proofs.Common.{IsBytes-front, item_entry, item_size, judge, Keys, Leads, leb}
+use Rattle.krl_core.proofs.Common.{leb-true, length-append, length-number, length-string, List, ltb}
+use Rattle.krl_core.proofs.Common.{ltb-true, magic, map, names, next_bits, next_item, next_serial}
+use Rattle.krl_core.proofs.Common.{next_subsection, number, number_back4, number_back8, number_of}
+use Rattle.krl_core.proofs.Common.{Ok, one_byte, passed_ok, Passes, passes_end, Place, Range}
+use Rattle.krl_core.proofs.Common.{RangeEntry, refl, same_append, same_is, same_refl, same_then}
+use Rattle.krl_core.proofs.Common.{section_of_type, Serials, SerialsEntry, Sha1s, Sha256s, State}
+use Rattle.krl_core.proofs.Common.{state_after, string, strings, subsection_of_type}
+use Rattle.krl_core.proofs.Common.{SubsectionExtension, subst, sym, true, ℕ}
 use Rattle.std.proofs.lemmas.Slice.Eq.{bytes_eq-Decides}
-use Rattle.ssh_wire.specs.Wire.{IsBytes, number, number_of, string, strings}
-use Rattle.ssh_wire.proofs.Fields.{length-string, length-number}
-use Rattle.ssh_wire.proofs.Steps.{passed_ok}
-use Rattle.ssh_wire.proofs.Digits.{IsBytes-back, IsBytes-front}
+use Rattle.krl_core.proofs.Bits.{judged_parts}
+use Rattle.krl_core.proofs.SpelledSections.{fits_within, chosen, number_front, length_front}
+use Rattle.krl_core.proofs.SpelledSections.{content_front, string_parts, item_front, string_more}
+use Rattle.krl_core.proofs.SpelledSections.{serial_more, items_from, subsections_from, serials_from}
+use Rattle.krl_core.proofs.SpelledSections.{sections_from, items_section, certificates_section}
+use Rattle.krl_core.proofs.SpelledSections.{extension_section, signature_section}
+use Rattle.krl_core.proofs.SpelledSubsections.{subsections_more, part_front, serials_same}
+use Rattle.krl_core.proofs.SpelledSubsections.{bits_from, bits_more}
+use Rattle.krl_core.proofs.RestSpellings.{FromItem, FromBits, FromSections, FromLength, FromContent}
+use Rattle.krl_core.proofs.RestSpellings.{FromExtension, FromCritical, FromComment}
+use Rattle.krl_core.proofs.RestSpellings.{FromHeaderReserved, FromFlags, FromDate, FromSubsections}
+use Rattle.krl_core.proofs.RestSpellings.{FromReserved, FromCertificates, FromPart, Completes}
+use Rattle.krl_core.proofs.RestSpellings.{IsItem, Items}
+use Rattle.krl_core.proofs.Judgements.{held_back, same_place}
 use Rattle.krl_types.specs.declared.krl_fault.KrlFault.TheVariants as faults
-use Rattle.krl_core.specs.declared.header.Header.{Header}
 use Rattle.krl_core.specs.declared.place.list.ItemKind.TheVariants as kinds
-use Rattle.krl_core.specs.declared.place.Place.{Place}
 use Rattle.krl_core.specs.declared.place.Place.TheVariants as places
 use Rattle.krl_core.specs.declared.place.header.HeaderPlace.TheVariants as headers
 use Rattle.krl_core.specs.declared.place.signature.SignaturePlace.TheVariants as signatures
@@ -21,17 +38,6 @@ use Rattle.krl_core.specs.declared.place.certificates.CertificatesPlace.TheVaria
 use Rattle.krl_core.specs.declared.place.serials.SerialsPlace.TheVariants as serials
 use Rattle.krl_core.specs.declared.place.bitmap.BitmapPlace.TheVariants as bitmaps
 use Rattle.krl_core.specs.declared.place.extension.ExtensionPlace.TheVariants as extensions
-use Rattle.krl_entries.specs.Entry.{Entry, SerialsEntry, RangeEntry, BitmapEntry, IdEntry}
-use Rattle.krl_core.specs.Front.{State, Passes, Leads, state_after}
-use Rattle.krl_core.specs.Krl.{Keys, Sha1s, Sha256s, Serials, Range, Bitmap, Ids, SubsectionExtension, magic}
-use Rattle.krl_core.specs.Place.{can_end, judge, names, authority_after, header_after, item_entry, item_size, next_item, next_subsection, next_serial, next_bits, section_of_type, subsection_of_type, base_of, passes_end}
-use Rattle.krl_core.proofs.Bits.{judged_parts}
-use Rattle.krl_core.proofs.SpelledSections.{fits_within, chosen, number_front, length_front, content_front, string_parts, item_front, string_more, serial_more, items_from, subsections_from, serials_from, sections_from, items_section, certificates_section, extension_section, signature_section}
-use Rattle.krl_core.proofs.SpelledSubsections.{subsections_more, part_front, serials_same, bits_from, bits_more}
-use Rattle.krl_entries.proofs.Numbers.{number_back4, number_back8, one_byte}
-use Rattle.krl_entries.proofs.SameNames.{same_refl, same_is, same_then, same_append}
-use Rattle.krl_core.proofs.RestSpellings.{FromItem, FromBits, FromSections, FromLength, FromContent, FromExtension, FromCritical, FromComment, FromHeaderReserved, FromFlags, FromDate, FromSubsections, FromReserved, FromCertificates, FromPart, Completes, IsItem, Items}
-use Rattle.krl_core.proofs.Judgements.{held_back, same_place}
 
 -- equal places after a field have the same spelling
 along : (last h : Header) (a : List ℕ) (p q : Place) (bytes : List ℕ) (more : List Entry) → p ≡ q → Completes last h a q bytes more → Completes last h a p bytes more

@@ -1,15 +1,11 @@
 -- The first fields of a list, whose sizes depend on no length.
-use Rattle.std.proofs.Common.{◌≡◌, ℕ, ◌+◌, ◌<◌, ◌≤◌, Bool, true, false, List, [], ◌∷◌, length, Ok, refl, ap, arith}
-use Rattle.std.specs.List.{concat}
-use Rattle.std.proofs.lemmas.List.{length-append}
-use Rattle.krl_types.specs.declared.krl_fault.KrlFault.{KrlFault}
-use Rattle.krl_core.specs.declared.place.Place.{Place}
+use Rattle.krl_core.proofs.Common.{[], ◌+◌, ◌<◌, ◌∷◌, ◌≡◌, ◌≤◌, ap, arith, Bool, concat, expected}
+use Rattle.krl_core.proofs.Common.{false, HasFixedFields, is_fixed, judge, KrlFault, Leads, length}
+use Rattle.krl_core.proofs.Common.{length-append, List, Ok, Passes, Place, refl, start, State}
+use Rattle.krl_core.proofs.Common.{state_after, true, ℕ}
+use Rattle.krl_core.proofs.Judgements.{same_place}
 use Rattle.krl_core.specs.declared.place.Place.TheVariants as places
 use Rattle.krl_core.specs.declared.place.header.HeaderPlace.TheVariants as headers
-use Rattle.krl_core.specs.Place.{expected, judge}
-use Rattle.krl_core.specs.Front.{State, start, state_after, Leads, Passes}
-use Rattle.krl_core.specs.Reading.{HasFixedFields, is_fixed}
-use Rattle.krl_core.proofs.Judgements.{same_place}
 
 -- a large field is not one of the first
 pub late_where_large : (p : Place) → 32 < (expected p).size → is_fixed p ≡ false

@@ -1,18 +1,16 @@
 -- The fronts of one text: one begins the other, only one is the longest, and its report is unique.
-use Rattle.std.proofs.Common.{◌≡◌, ℕ, ◌<◌, Bool, true, false, ltb, List, [], ◌∷◌, ◌++◌, length, take, drop, Option, Some, None, Ok, Err, refl, sym, ap, subst, ◌∙◌, append_assoc, arith, inl, inr, ◌⊎◌}
-use Rattle.std.specs.List.{concat}
-use Rattle.std.proofs.lemmas.List.{append-nil, length-append}
-use Rattle.std.proofs.lemmas.List.Folds.{concat-append}
+use Rattle.krl_core.proofs.Common.{[], ◌++◌, ◌<◌, ◌∙◌, ◌∷◌, ◌≡◌, ◌⊎◌, ap, append-nil, append_assoc}
+use Rattle.krl_core.proofs.Common.{arith, Bool, can_end, concat, concat-append, drop, ended}
+use Rattle.krl_core.proofs.Common.{ends_early, Err, expected, false, HasRoom, inl, inr, IsEnd}
+use Rattle.krl_core.proofs.Common.{IsFirstFault, IsFront, IsLongestFront, KrlFault, Leads, length}
+use Rattle.krl_core.proofs.Common.{length-append, limit, List, ltb, never_err, no_room, None, Ok}
+use Rattle.krl_core.proofs.Common.{Option, Place, refl, refused, Reported, Some, start, State}
+use Rattle.krl_core.proofs.Common.{state_after, subst, sym, take, too_long, true, ℕ}
 use Rattle.std.proofs.Math.Seq.{take-append_seam, drop-append_seam}
-use Rattle.krl_types.specs.declared.krl_fault.KrlFault.{KrlFault}
-use Rattle.krl_types.specs.declared.krl_fault.KrlFault.TheVariants as faults
-use Rattle.krl_core.specs.declared.place.Place.{Place}
 use Rattle.krl_core.specs.declared.place.Place.TheVariants.{SectionType}
-use Rattle.krl_core.specs.Place.{can_end, expected}
-use Rattle.krl_core.specs.Front.{State, start, state_after, HasRoom, Leads, IsEnd, Reported, ended, no_room, refused, too_long, ends_early, IsFront, IsLongestFront, IsFirstFault, limit}
 use Rattle.krl_core.proofs.Walks.{EndsReported}
 use Rattle.krl_core.proofs.Judgements.{same_place}
-use Rattle.ssh_wire.proofs.Steps.{never_err}
+use Rattle.krl_types.specs.declared.krl_fault.KrlFault.TheVariants as faults
 
 -- prefixes of one list that have the same length are the same
 pub append_same : (a b x y : List ℕ) → length a ≡ length b → a ++ x ≡ b ++ y → (a ≡ b) × (x ≡ y)

@@ -1,37 +1,30 @@
 -- The entries of the fields of a front have at most four intervals for each of their bytes.
-use Rattle.std.proofs.Common.{◌≡◌, ℕ, ◌+◌, ◌*◌, ◌<◌, ◌≤◌, Bool, true, false, List, [], ◌∷◌, ◌++◌, length, refl, sym, ap, subst, ◌∙◌, inl, inr, arith, length-append}
-use Rattle.std.specs.Prelude.{◌↔◌, sum_by}
-use Rattle.std.specs.List.{All, AllByRecursion, concat}
-use Rattle.std.specs.Str.{bytes_eq}
+use Rattle.krl_core.proofs.Common.{[], ◌*◌, ◌++◌, ◌+◌, ◌<◌, ◌↔◌, ◌∙◌, ◌∷◌, ◌≡◌, ◌≤◌, All}
+use Rattle.krl_core.proofs.Common.{all_append, AllByRecursion, ap, arith, Bool, bytes_eq, concat}
+use Rattle.krl_core.proofs.Common.{Entry, EntryNames, false, false≢true, held, HoldsSerial, iff_or}
+use Rattle.krl_core.proofs.Common.{inl, inr, IsBytes, IsBytes-back, IsBytes-front, IsListed, Leads}
+use Rattle.krl_core.proofs.Common.{length, length-append, List, Means, names, number_of}
+use Rattle.krl_core.proofs.Common.{number_of-one, Passes, Place, refl, Revocations, Section}
+use Rattle.krl_core.proofs.Common.{SerialOf, SomeNames, SomeSection, Span, start, State}
+use Rattle.krl_core.proofs.Common.{state_after, subst, sum_by, sym, true, ℕ}
 use Rattle.std.specs.declared.cmp.Ordering.TheVariants.{Less}
-use Rattle.std.proofs.lemmas.Bool.{false≢true}
 use Rattle.std.proofs.lemmas.List.Sums.{sum_by-cons, sum_by-append}
 use Rattle.std.proofs.lemmas.Slice.Eq.{bytes_eq-Decides}
 use Rattle.std.proofs.lemmas.List.Elements.{All-tail}
-use Rattle.serial_set.specs.declared.span.Span.{Span}
 use Rattle.serial_set.specs.Span.{Covers}
 use Rattle.serial_set.proofs.LeastLists.{runs_least}
 use Rattle.serial_set.proofs.RisingLists.{covers_append}
+use Rattle.krl_entries.specs.Rising.{AllAbove, RisesBy, bytes_cmp}
+use Rattle.krl_entries.proofs.Intervals.{IsByteOnly, entry_authority, interval_names, intervals_of}
+use Rattle.krl_entries.proofs.Intervals.{length-intervals, most}
+use Rattle.krl_entries.proofs.OneMeaning.{section_authority, held_first, not_before_itself}
+use Rattle.krl_entries.proofs.OneMeaning.{above_named}
 use Rattle.std.proofs.Math.Logic.Iff as Iff
-use Rattle.krl_entries.proofs.Equivalences.{iff_or}
-use Rattle.ssh_wire.specs.Wire.{IsBytes, number_of}
-use Rattle.ssh_wire.proofs.Digits.{IsBytes-back, IsBytes-front}
-use Rattle.krl_core.specs.declared.place.Place.{Place}
 use Rattle.krl_core.specs.declared.place.list.ItemKind.TheVariants as kinds
 use Rattle.krl_core.specs.declared.place.Place.TheVariants as places
 use Rattle.krl_core.specs.declared.place.list.ListPlace.TheVariants as lists
 use Rattle.krl_core.specs.declared.place.serials.SerialsPlace.TheVariants as serials
 use Rattle.krl_core.specs.declared.place.bitmap.BitmapPlace.TheVariants as bitmaps
-use Rattle.krl_entries.specs.Revocations.{Revocations, HoldsSerial, IsListed, Means, Section, SomeSection, held}
-use Rattle.krl_entries.specs.Entry.{Entry}
-use Rattle.krl_core.specs.Front.{Leads, Passes, State, state_after, start}
-use Rattle.krl_entries.specs.Naming.{EntryNames, SerialOf, SomeNames}
-use Rattle.krl_core.specs.Place.{names}
-use Rattle.krl_entries.specs.Rising.{AllAbove, RisesBy, bytes_cmp}
-use Rattle.krl_entries.proofs.Intervals.{IsByteOnly, entry_authority, interval_names, intervals_of, length-intervals, most}
-use Rattle.krl_entries.proofs.Numbers.{number_of-one}
-use Rattle.krl_entries.proofs.OneMeaning.{section_authority, held_first, not_before_itself, above_named}
-use Rattle.krl_entries.proofs.Elements.{all_append}
 
 -- ---- the intervals of entries under one authority
 

@@ -1,8 +1,6 @@
 -- Judgements that passed: the places after them.
-use Rattle.std.proofs.Common.{◌≡◌, Bool, true, false, cond, Result, Ok, Err, refl}
-use Rattle.ssh_wire.proofs.Steps.{ok_is}
-use Rattle.krl_types.specs.declared.krl_fault.KrlFault.{KrlFault}
-use Rattle.krl_core.specs.declared.place.Place.{Place}
+use Rattle.krl_core.proofs.Common.{◌≡◌, Bool, cond, Err, false, KrlFault, Ok, ok_is, Place, refl}
+use Rattle.krl_core.proofs.Common.{Result, true}
 
 abbrev pub done : Place → Result Place KrlFault
 done p = Ok p

@@ -1,3 +1,4 @@
+mod Common
 pub mod Judgements
 pub mod Fronts
 pub mod FixedFields

@@ -1,11 +1,7 @@
 -- The end of a list after it was found.
-use Rattle.std.proofs.Common.{◌≡◌, ℕ, true, List, [], ◌++◌, None, refl, sym, subst, ap, ◌∙◌}
-use Rattle.std.specs.List.{concat}
-use Rattle.std.proofs.lemmas.List.{append-nil}
-use Rattle.byte_streams.specs.Pull.{Pull, left_of}
-use Rattle.krl_core.specs.declared.place.Place.{Place}
-use Rattle.krl_core.specs.FieldStore.{FieldStore}
-use Rattle.krl_core.specs.Reading.{Ends, EndsAfter, HasRead, IsReached, Walk, working}
+use Rattle.krl_core.proofs.Common.{[], ◌++◌, ◌∙◌, ◌≡◌, ap, append-nil, concat, Ends, EndsAfter}
+use Rattle.krl_core.proofs.Common.{FieldStore, HasRead, IsReached, left_of, List, None, Place, Pull}
+use Rattle.krl_core.proofs.Common.{refl, subst, sym, true, Walk, working, ℕ}
 use Rattle.krl_core.proofs.Steps.{at_end_none}
 
 -- a walk that found the end of the list

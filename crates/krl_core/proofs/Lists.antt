@@ -1,25 +1,17 @@
 -- A whole list is spelled, and means the entries of its sections.
-use Rattle.std.proofs.Common.{◌≡◌, ℕ, ◌<◌, ◌≤◌, ◌^◌, Bool, true, false, ltb, List, ◌++◌, length, Option, None, refl, sym, ap, subst, ◌∙◌, append_assoc}
-use Rattle.std.specs.List.{concat}
-use Rattle.ssh_wire.specs.Wire.{IsBytes, number, string}
-use Rattle.krl_core.specs.declared.header.Header.{Header}
-use Rattle.krl_entries.specs.Revocations.{Revocations}
-use Rattle.krl_entries.specs.Entry.{Entry}
-use Rattle.krl_core.specs.Entries.{entries_of}
-use Rattle.std.proofs.lemmas.Bool.{ltb-false}
-use Rattle.std.proofs.lemmas.List.{append-nil, take_all}
-use Rattle.krl_types.specs.declared.krl_fault.KrlFault.{KrlFault}
-use Rattle.krl_core.specs.declared.place.Place.{Place}
-use Rattle.krl_core.specs.Front.{State, start, Leads, limit, IsEnd, IsFirstFault, Reported, ended, no_room, refused, too_long, ends_early}
-use Rattle.krl_core.specs.Krl.{SpelledSection, Spells, header_text, magic}
-use Rattle.krl_entries.specs.Naming.{NamesSame}
-use Rattle.krl_core.specs.Place.{can_end}
-use Rattle.krl_core.specs.Reading.{HoldsAll, HoldsInScope, IsList, IsListAs, IsWholeAs}
-use Rattle.krl_entries.specs.Scope.{Scope, all as every_name}
+use Rattle.krl_core.proofs.Common.{◌++◌, ◌<◌, ◌^◌, ◌∙◌, ◌≡◌, ◌≤◌, ap, append-nil, append_assoc}
+use Rattle.krl_core.proofs.Common.{Bool, can_end, concat, ended, ends_early, entries_of, Entry}
+use Rattle.krl_core.proofs.Common.{false, Header, header_text, HoldsAll, HoldsInScope, IsBytes}
+use Rattle.krl_core.proofs.Common.{IsEnd, IsFirstFault, IsList, IsListAs, IsWholeAs, KrlFault}
+use Rattle.krl_core.proofs.Common.{Leads, length, limit, List, ltb, ltb-false, magic}
+use Rattle.krl_core.proofs.Common.{means_all_within, NamesSame, no_room, None, number, Option}
+use Rattle.krl_core.proofs.Common.{Place, refl, refused, Reported, Revocations, same_within, Scope}
+use Rattle.krl_core.proofs.Common.{SpelledSection, Spells, start, State, string, subst, sym}
+use Rattle.krl_core.proofs.Common.{take_all, too_long, true, ℕ}
 use Rattle.krl_core.proofs.Fields.{completes}
 use Rattle.krl_core.proofs.RestSpellings.{FromText, FromFormat}
-use Rattle.krl_entries.proofs.ScopedMeaning.{means_all_within, same_within}
 use Rattle.krl_core.proofs.SpelledSections.{whole_string}
+use Rattle.krl_entries.specs.Scope.{all as every_name}
 
 -- the fields of a header and the bytes after it
 pub header_parts : (header : Header) (flags : ℕ) (reserved rest : List ℕ) → header_text header flags reserved ++ rest

@@ -1,13 +1,16 @@
 -- From each place and for any bytes, the fields lead to a place where something is reported.
-use Rattle.std.proofs.Common.{◌≡◌, ℕ, zero, suc, ◌+◌, ◌*◌, ◌<◌, ◌≤◌, ◌⊎◌, Bool, true, false, ltb, List, [], ◌∷◌, ◌++◌, length, take, drop, Option, Some, None, Ok, refl, sym, ap, arith, inl, inr, ◌∙◌}
-use Rattle.std.specs.Prelude.{IfSome}
-use Rattle.std.proofs.lemmas.Bool.{cases_lt, cases_Bool, false≢true}
-use Rattle.std.proofs.lemmas.List.{take-append-drop, length-take, length-drop}
-use Rattle.ssh_wire.proofs.Steps.{ok_or_not}
-use Rattle.krl_types.specs.declared.krl_fault.KrlFault.{KrlFault}
+use Rattle.krl_core.proofs.Common.{[], ◌*◌, ◌++◌, ◌+◌, ◌<◌, ◌∙◌, ◌∷◌, ◌≡◌, ◌≤◌, ◌⊎◌, ap, arith}
+use Rattle.krl_core.proofs.Common.{Bool, can_end, cases_Bool, cases_lt, drop, ended, ends_early}
+use Rattle.krl_core.proofs.Common.{expected, false, false≢true, HasRoom, IfSome, inl, inr}
+use Rattle.krl_core.proofs.Common.{IsFirstFault, ItemKind, KrlFault, length, length-drop}
+use Rattle.krl_core.proofs.Common.{length-take, limit, List, ltb, next_item, next_subsection}
+use Rattle.krl_core.proofs.Common.{no_room, None, Ok, ok_or_not, Option, Place, refl, refused}
+use Rattle.krl_core.proofs.Common.{Reported, Some, start, State, state_after, suc, sym, take}
+use Rattle.krl_core.proofs.Common.{take-append-drop, too_long, true, zero, ℕ}
+use Rattle.krl_core.proofs.Fronts.{first_fault_is}
+use Rattle.krl_core.proofs.Walks.{EndsReported, walks_one, walks_from, reported_here, reported_then}
+use Rattle.krl_core.proofs.Judgements.{done, same_place}
 use Rattle.krl_types.specs.declared.krl_fault.KrlFault.TheVariants as faults
-use Rattle.krl_core.specs.declared.place.list.ItemKind.{ItemKind}
-use Rattle.krl_core.specs.declared.place.Place.{Place}
 use Rattle.krl_core.specs.declared.place.Place.TheVariants as places
 use Rattle.krl_core.specs.declared.place.bitmap.BitmapPlace.TheVariants as bitmaps
 use Rattle.krl_core.specs.declared.place.serials.SerialsPlace.TheVariants as serials
@@ -16,11 +19,6 @@ use Rattle.krl_core.specs.declared.place.signature.SignaturePlace.TheVariants as
 use Rattle.krl_core.specs.declared.place.list.ListPlace.TheVariants as lists
 use Rattle.krl_core.specs.declared.place.certificates.CertificatesPlace.TheVariants as certificates
 use Rattle.krl_core.specs.declared.place.extension.ExtensionPlace.TheVariants as extensions
-use Rattle.krl_core.specs.Place.{can_end, expected, next_item, next_subsection}
-use Rattle.krl_core.specs.Front.{State, start, state_after, HasRoom, Reported, ended, no_room, refused, too_long, ends_early, IsFirstFault, limit}
-use Rattle.krl_core.proofs.Fronts.{first_fault_is}
-use Rattle.krl_core.proofs.Walks.{EndsReported, walks_one, walks_from, reported_here, reported_then}
-use Rattle.krl_core.proofs.Judgements.{done, same_place}
 
 room_or_not : (size : ℕ) (room : Option ℕ) → IfSome room (λ left. size ≤ left) ⊎ (IfSome room (λ left. size ≤ left) → ⊥)
 room_or_not size None = inl tt

@@ -1,14 +1,16 @@
 -- One header and one list of sections spell a text.
-use Rattle.std.proofs.Common.{◌≡◌, ℕ, ◌+◌, ◌<◌, ◌^◌, List, [], ◌∷◌, ◌++◌, length, refl, sym, ap, subst, ◌∙◌, append_assoc, arith}
-use Rattle.std.specs.List.{AllByRecursion}
-use Rattle.std.proofs.lemmas.List.{append-nil, append_cancel_left, length-append}
-use Rattle.ssh_wire.specs.Wire.{number, number_of, string, strings}
-use Rattle.ssh_wire.proofs.Fields.{length-number, length-string, length-numbers}
-use Rattle.krl_core.specs.declared.header.Header.{Header}
-use Rattle.krl_core.specs.Krl.{SpelledSection, Certificates, Keys, Sha1s, Sha256s, Signature, Extension, Subsection, Serials, Range, Bitmap, Ids, SubsectionExtension, Spells, SpellsEach, SpellsSection, SpellsSubsection, SpellsContent, SpellsCertificates, SubsectionContent, SpellsBitmap, header_text, numbers_text, magic, subsection_type}
+use Rattle.krl_core.proofs.Common.{[], ◌++◌, ◌+◌, ◌<◌, ◌^◌, ◌∙◌, ◌∷◌, ◌≡◌, AllByRecursion, ap}
+use Rattle.krl_core.proofs.Common.{append-nil, append_assoc, append_cancel_left, arith, Bitmap}
+use Rattle.krl_core.proofs.Common.{Certificates, Extension, Header, header_text, Ids, Keys, length}
+use Rattle.krl_core.proofs.Common.{length-append, length-number, length-numbers, length-string}
+use Rattle.krl_core.proofs.Common.{List, magic, number, number_again4, number_again8, number_of}
+use Rattle.krl_core.proofs.Common.{numbers_text, Range, refl, Serials, Sha1s, Sha256s, Signature}
+use Rattle.krl_core.proofs.Common.{SpelledSection, Spells, SpellsBitmap, SpellsCertificates}
+use Rattle.krl_core.proofs.Common.{SpellsContent, SpellsEach, SpellsSection, SpellsSubsection}
+use Rattle.krl_core.proofs.Common.{string, strings, Subsection, subsection_type, SubsectionContent}
+use Rattle.krl_core.proofs.Common.{SubsectionExtension, subst, sym, ℕ}
 use Rattle.krl_core.proofs.Fronts.{append_same}
 use Rattle.krl_core.proofs.Lists.{header_parts}
-use Rattle.krl_entries.proofs.Numbers.{number_again4, number_again8}
 
 -- ---- fields
 

@@ -1,23 +1,17 @@
 -- Fields that name nothing in scope are skipped together.
-use Rattle.std.proofs.Common.{◌≡◌, ℕ, ◌-◌, ◌*◌, ◌/◌, ◌%◌, ◌<◌, ◌≤◌, List, length, take, Result, Ok, refl, sym, ap, subst, ◌∙◌, arith}
-use Rattle.std.specs.Prelude.{None, OnOk}
-use Rattle.std.specs.declared.alloc.AllocError.{AllocError}
-use Rattle.std.proofs.lemmas.List.{length-take-le}
-use Rattle.std.proofs.lemmas.Result.{on_ok_weaker}
-use Rattle.ssh_wire.specs.Wire.{IsBytes, number_of}
-use Rattle.ssh_wire.proofs.Digits.{IsBytes-take}
-use Rattle.krl_core.specs.declared.place.Place.{Place}
-use Rattle.krl_core.specs.declared.place.Place.TheVariants as places
-use Rattle.krl_core.specs.declared.place.bitmap.BitmapPlace.TheVariants as bitmaps
-use Rattle.krl_core.specs.declared.place.serials.SerialsPlace.TheVariants as serials
-use Rattle.krl_core.specs.Buffered.{AreBitsOutOfScope, ReadsBuffered, ReadsSome, MaySkip}
-use Rattle.krl_entries.specs.Scope.{AreOutOfScope}
-use Rattle.krl_core.specs.FieldStore.{InStep, FieldStore, Skips, StoresNoMore, held_with_open}
-use Rattle.krl_core.specs.Place.{next_bits, next_serial}
+use Rattle.krl_core.proofs.Common.{◌%◌, ◌*◌, ◌-◌, ◌/◌, ◌<◌, ◌∙◌, ◌≡◌, ◌≤◌, AllocError, ap}
+use Rattle.krl_core.proofs.Common.{AreBitsOutOfScope, AreOutOfScope, arith, FieldStore}
+use Rattle.krl_core.proofs.Common.{held_with_open, InStep, IsBytes, IsBytes-take, length}
+use Rattle.krl_core.proofs.Common.{length-take-le, List, MaySkip, next_bits, next_serial, None}
+use Rattle.krl_core.proofs.Common.{number_of, Ok, on_ok_weaker, OnOk, Place, ReadsBuffered}
+use Rattle.krl_core.proofs.Common.{ReadsSome, refl, Result, Skips, StoresNoMore, subst, sym, take}
+use Rattle.krl_core.proofs.Common.{take_fewer, ℕ}
 use Rattle.krl_core.proofs.SerialFields.{buffered_serials}
 use Rattle.krl_core.proofs.StoredEntries.{stored_same}
 use Rattle.krl_core.proofs.SkippedBits.{buffered_bits, stays_grow}
-use Rattle.krl_entries.proofs.SkippedSerials.{take_fewer}
+use Rattle.krl_core.specs.declared.place.Place.TheVariants as places
+use Rattle.krl_core.specs.declared.place.bitmap.BitmapPlace.TheVariants as bitmaps
+use Rattle.krl_core.specs.declared.place.serials.SerialsPlace.TheVariants as serials
 
 pub serials_buffered : (bytes : List ℕ) (count : ℕ) (place next : Place) (stored : FieldStore) (left after : ℕ) → place ≡ places.Serials (serials.Serial left after) → next ≡ next_serial (left - count) after
     → count ≤ length bytes → count ≤ left → count % 8 ≡ 0 → (count ≡ 0 → ⊥) → IsBytes bytes → InStep place stored.bitmap → AreOutOfScope stored.scope stored.authority bytes count

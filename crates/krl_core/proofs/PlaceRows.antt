@@ -1,11 +1,7 @@
 -- Rows of fields by their places alone.
-use Rattle.std.proofs.Common.{◌≡◌, ℕ, List, [], ◌∷◌, ◌++◌, length, Ok, refl, sym, ap, subst, ◌∙◌, append_assoc}
-use Rattle.std.specs.List.{concat}
-use Rattle.std.proofs.lemmas.List.{append-nil}
-use Rattle.std.proofs.lemmas.List.Folds.{concat-append}
-use Rattle.krl_core.specs.declared.place.Place.{Place}
-use Rattle.krl_core.specs.Front.{State, Passes, HasRoom, state_after, Leads}
-use Rattle.krl_core.specs.Place.{expected}
+use Rattle.krl_core.proofs.Common.{[], ◌++◌, ◌∙◌, ◌∷◌, ◌≡◌, ap, append-nil, append_assoc, concat}
+use Rattle.krl_core.proofs.Common.{concat-append, expected, HasRoom, Leads, length, List, Ok}
+use Rattle.krl_core.proofs.Common.{Passes, Place, refl, State, state_after, subst, sym, ℕ}
 use Rattle.krl_core.proofs.Walks.{Walks}
 
 -- some fields lead from a place to the last one, and leave the rest of the bytes

@@ -1,14 +1,11 @@
 -- Progress: each step takes one field or several.
-use Rattle.std.proofs.Common.{◌≡◌, ◌+◌, ◌-◌, ◌*◌, ◌<◌, [], ◌∷◌, Bool, Result, Ok, Err, false, refl, inl, inr, arith}
-use Rattle.std.specs.Prelude.{IfOk, IsTrue}
-use Rattle.krl_types.specs.declared.krl_fault.KrlFault.{KrlFault}
-use Rattle.krl_core.specs.Front.{limit}
-use Rattle.krl_core.specs.Reading.{Advances, Follows, Walk, ReadsMore, ReadsOneMore, is_fixed}
-use Rattle.krl_core.specs.declared.place.Place.{Place}
-use Rattle.krl_core.specs.declared.place.Place.TheVariants as places
+use Rattle.krl_core.proofs.Common.{[], ◌*◌, ◌+◌, ◌-◌, ◌<◌, ◌∷◌, ◌≡◌, Advances, arith, Bool, Err}
+use Rattle.krl_core.proofs.Common.{false, Follows, IfOk, inl, inr, is_fixed, IsTrue, KrlFault}
+use Rattle.krl_core.proofs.Common.{limit, Ok, Place, ReadsMore, ReadsOneMore, refl, Result, Walk}
 use Rattle.krl_core.specs.declared.place.header.HeaderPlace.{HeaderPlace}
 use Rattle.krl_core.proofs.LongestFronts.{weight, weight_below}
 use Rattle.krl_core.proofs.WholeLists.{step_nearer}
+use Rattle.krl_core.specs.declared.place.Place.TheVariants as places
 
 pub one_or_more : (old new : Walk) → ReadsOneMore old new → ReadsMore old new
 one_or_more old new one text fields h = let more = one text fields h in (more.0 ∷ [], more.1)

@@ -1,19 +1,10 @@
 -- A walk that continues with the questions alone.
-use Rattle.std.proofs.Common.{◌≡◌, ℕ, ◌∙◌, sym, ap, List, ◌++◌, subst, subst₂}
+use Rattle.krl_core.proofs.Common.{◌++◌, ◌∙◌, ◌≡◌, all, ap, Asked, asked_in, BitRuns, Entry}
+use Rattle.krl_core.proofs.Common.{FieldStore, FindsIn, HasRead, Header, IsBounded, IsInScope, List}
+use Rattle.krl_core.proofs.Common.{MeansInScope, NamesSame, option_to_list, Pull, Revocations}
+use Rattle.krl_core.proofs.Common.{run_entries, Scope, small_in, stored_header, StoresEntries}
+use Rattle.krl_core.proofs.Common.{subst, subst₂, sym, Walk, ℕ}
 use Rattle.std.proofs.Math.Logic.Iff as Iff
-use Rattle.std.specs.Option.{option_to_list}
-use Rattle.serial_set.specs.BitRuns.{BitRuns}
-use Rattle.krl_entries.specs.Changes.{run_entries}
-use Rattle.krl_entries.specs.Revocations.{Revocations}
-use Rattle.krl_entries.specs.Entry.{Entry}
-use Rattle.krl_entries.specs.Naming.{NamesSame}
-use Rattle.krl_entries.specs.Questions.{Asked, FindsIn, asked_in}
-use Rattle.krl_entries.specs.Scope.{all, MeansInScope, Scope, IsInScope}
-use Rattle.krl_entries.proofs.TopicAmounts.{small_in}
-use Rattle.byte_streams.specs.Pull.{Pull}
-use Rattle.krl_core.specs.declared.header.Header.{Header}
-use Rattle.krl_core.specs.FieldStore.{StoresEntries, FieldStore, stored_header}
-use Rattle.krl_core.specs.Reading.{HasRead, IsBounded, Walk}
 
 -- the answers from the stored entries mean the same in the scope of the questions
 found_within : (front : Revocations) (asked : Asked) (entries : List Entry) → FindsIn front asked → MeansInScope all front entries → MeansInScope (asked_in asked) asked.found entries

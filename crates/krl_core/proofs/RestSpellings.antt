@@ -1,12 +1,13 @@
 -- The rest of a list from each place on: its spelling, if a row of fields leads to the end of the
 -- list and uses up the bytes, and its entries.
-use Rattle.std.proofs.Common.{◌≡◌, ℕ, ◌+◌, ◌-◌, ◌*◌, ◌<◌, ◌≤◌, ◌^◌, Bool, true, false, List, [], ◌∷◌, ◌++◌, length, map}
-use Rattle.std.specs.List.{flat_map, AllByRecursion}
-use Rattle.std.specs.Int.{bit_at}
-use Rattle.ssh_wire.specs.Wire.{number, number_of, string}
-use Rattle.krl_core.specs.declared.header.Header.{Header}
-use Rattle.krl_core.specs.declared.place.list.ItemKind.{ItemKind}
-use Rattle.krl_core.specs.declared.place.Place.{Place}
+use Rattle.krl_core.proofs.Common.{[], ◌*◌, ◌++◌, ◌+◌, ◌-◌, ◌<◌, ◌^◌, ◌∷◌, ◌≡◌, ◌≤◌, AllByRecursion}
+use Rattle.krl_core.proofs.Common.{bit_at, BitmapEntry, Bool, entries_of, Entry, false, flat_map}
+use Rattle.krl_core.proofs.Common.{Header, IsPositive, IsSignature, item_entry, item_size, ItemKind}
+use Rattle.krl_core.proofs.Common.{length, List, magic, map, NamesSame, number, number_of, Place}
+use Rattle.krl_core.proofs.Common.{RangeEntry, SerialsEntry, SignaturesLast, SpelledSection}
+use Rattle.krl_core.proofs.Common.{SpellsBitmap, SpellsEach, SpellsExtension, SpellsSection}
+use Rattle.krl_core.proofs.Common.{SpellsSubsection, string, Subsection, subsection_entries}
+use Rattle.krl_core.proofs.Common.{subsection_type, SubsectionContent, true, ℕ}
 use Rattle.krl_core.specs.declared.place.Place.TheVariants as places
 use Rattle.krl_core.specs.declared.place.header.HeaderPlace.TheVariants as headers
 use Rattle.krl_core.specs.declared.place.signature.SignaturePlace.TheVariants as signatures
@@ -15,11 +16,6 @@ use Rattle.krl_core.specs.declared.place.certificates.CertificatesPlace.TheVaria
 use Rattle.krl_core.specs.declared.place.serials.SerialsPlace.TheVariants as serials
 use Rattle.krl_core.specs.declared.place.bitmap.BitmapPlace.TheVariants as bitmaps
 use Rattle.krl_core.specs.declared.place.extension.ExtensionPlace.TheVariants as extensions
-use Rattle.krl_entries.specs.Entry.{Entry, SerialsEntry, RangeEntry, BitmapEntry}
-use Rattle.krl_core.specs.Entries.{entries_of, subsection_entries}
-use Rattle.krl_core.specs.Krl.{SpelledSection, Subsection, SpellsEach, SpellsSection, SpellsSubsection, SubsectionContent, SpellsExtension, SpellsBitmap, SignaturesLast, IsSignature, IsPositive, subsection_type, magic}
-use Rattle.krl_entries.specs.Naming.{NamesSame}
-use Rattle.krl_core.specs.Place.{item_entry, item_size}
 
 -- a property of the bytes that are left and of the entries of their fields
 abbrev pub Rest : Type 1

@@ -1,26 +1,18 @@
 -- Serial numbers, of eight bytes each, that are skipped together.
-use Rattle.std.proofs.Common.{◌≡◌, ℕ, ◌+◌, ◌-◌, ◌*◌, ◌<◌, ◌≤◌, List, [], ◌∷◌, ◌++◌, length, take, drop, zero, suc, inl, inr, refl, sym, ap, subst, ◌∙◌, append_assoc, arith, length-drop}
-use Rattle.std.specs.Prelude.{None}
-use Rattle.std.specs.List.{concat}
-use Rattle.std.proofs.lemmas.List.{append-nil, drop-drop, length-take-le}
-use Rattle.std.proofs.Math.Seq.{take-add}
-use Rattle.serial_set.specs.BitRuns.{BitRuns}
-use Rattle.ssh_wire.specs.Wire.{IsBytes, number_of}
-use Rattle.ssh_wire.proofs.Digits.{IsBytes-take}
-use Rattle.krl_core.specs.declared.place.Place.{Place}
-use Rattle.krl_core.specs.declared.place.Place.TheVariants as places
-use Rattle.krl_core.specs.declared.place.serials.SerialsPlace.TheVariants as serials
-use Rattle.krl_core.specs.Buffered.{ReadsBuffered}
-use Rattle.krl_entries.specs.Entry.{Entry, SerialsEntry}
-use Rattle.krl_core.specs.Front.{Leads, Passes, State, start, state_after}
-use Rattle.krl_core.specs.FieldStore.{InStep, StoresEntries, FieldStore}
-use Rattle.krl_entries.specs.Naming.{Name, SerialOf, SomeNames}
-use Rattle.krl_core.specs.Place.{authority_after, header_after, names, next_serial}
-use Rattle.krl_entries.specs.Scope.{AreOutOfScope, InScope, Scope, serial_at}
-use Rattle.krl_entries.proofs.Elements.{contains_cases, contains_none}
+use Rattle.krl_core.proofs.Common.{[], ◌*◌, ◌++◌, ◌+◌, ◌-◌, ◌<◌, ◌∙◌, ◌∷◌, ◌≡◌, ◌≤◌, ap, append-nil}
+use Rattle.krl_core.proofs.Common.{append_assoc, AreOutOfScope, arith, authority_after, BitRuns}
+use Rattle.krl_core.proofs.Common.{concat, contains_cases, contains_none, drop, drop-drop, Entry}
+use Rattle.krl_core.proofs.Common.{FieldStore, header_after, inl, inr, InScope, InStep, IsBytes}
+use Rattle.krl_core.proofs.Common.{IsBytes-take, Leads, length, length-drop, length-take-le, List}
+use Rattle.krl_core.proofs.Common.{Name, names, next_serial, None, number_of, Passes, Place}
+use Rattle.krl_core.proofs.Common.{ReadsBuffered, refl, Scope, serial_at, SerialOf, SerialsEntry}
+use Rattle.krl_core.proofs.Common.{SomeNames, start, State, state_after, StoresEntries, subst, suc}
+use Rattle.krl_core.proofs.Common.{sym, take, take-add, zero, ℕ}
 use Rattle.krl_core.proofs.StoredEntries.{header_stays}
 use Rattle.krl_core.proofs.SkippedBits.{skipped_stored}
 use Rattle.krl_core.proofs.Walks.{Leads-append}
+use Rattle.krl_core.specs.declared.place.Place.TheVariants as places
+use Rattle.krl_core.specs.declared.place.serials.SerialsPlace.TheVariants as serials
 
 -- the first serial numbers, as fields
 eights : ℕ → List ℕ → List (List ℕ)

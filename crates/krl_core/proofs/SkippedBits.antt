@@ -1,35 +1,27 @@
 -- Bytes of a bitmap that are skipped together.
-use Rattle.std.proofs.Common.{◌≡◌, ℕ, ◌+◌, ◌-◌, ◌*◌, ◌^◌, ◌<◌, ◌≤◌, Bool, true, false, not, eqb, leb, ltb, cond, List, [], ◌∷◌, ◌++◌, length, map, take, Result, Ok, Err, refl, sym, ap, subst, ◌∙◌, append_assoc, arith, zero, suc, inl, inr}
-use Rattle.std.specs.Prelude.{None, Option, Some}
-use Rattle.std.proofs.lemmas.Bool.{eqb-true, false≢true, lt-leb, lt-ltb}
+use Rattle.krl_core.proofs.Common.{[], ◌*◌, ◌++◌, ◌+◌, ◌-◌, ◌<◌, ◌^◌, ◌∙◌, ◌∷◌, ◌≡◌, ◌≤◌, Adds, ap}
+use Rattle.krl_core.proofs.Common.{append-nil, append_assoc, AreBitsOutOfScope, arith}
+use Rattle.krl_core.proofs.Common.{authority_after, base_of, BitmapEntry, BitNames, BitRuns}
+use Rattle.krl_core.proofs.Common.{bits_judged, bits_within, Bool, concat, cond, Entry, eqb}
+use Rattle.krl_core.proofs.Common.{eqb-true, Err, false, false≢true, FieldStore, GrowsAtMost}
+use Rattle.krl_core.proofs.Common.{header_after, held_with_open, highest_bit, inl, inr, InScope}
+use Rattle.krl_core.proofs.Common.{InStep, IsBytes, IsBytes-tail, judge, KrlFault, Leads, leb}
+use Rattle.krl_core.proofs.Common.{length, List, lt-leb, lt-ltb, ltb, map, MeansInScope, Name}
+use Rattle.krl_core.proofs.Common.{names, NamesSame, next_bits, next_subsection, None, not}
+use Rattle.krl_core.proofs.Common.{number_of, number_of-one, Ok, Option, option_to_list, Passes}
+use Rattle.krl_core.proofs.Common.{passes_end, Place, RangeEntry, ReadsBuffered, refl, Result}
+use Rattle.krl_core.proofs.Common.{Revocations, run_entries, same_append, same_refl, Scope}
+use Rattle.krl_core.proofs.Common.{SerialOf, Skips, Some, SomeNames, Span, start, State}
+use Rattle.krl_core.proofs.Common.{state_after, StoresEntries, StoresNoMore, subst, suc, sym, take}
+use Rattle.krl_core.proofs.Common.{true, zero, ℕ}
 use Rattle.std.proofs.lemmas.Bool.Decides.{nat_tests}
-use Rattle.std.proofs.lemmas.List.{append-nil}
-use Rattle.std.specs.Option.{option_to_list}
-use Rattle.serial_set.specs.declared.span.Span.{Span}
-use Rattle.serial_set.specs.BitRuns.{BitNames, BitRuns}
 use Rattle.serial_set.proofs.Bits.{bit_below}
-use Rattle.ssh_wire.specs.Wire.{IsBytes, number_of}
-use Rattle.ssh_wire.proofs.Digits.{IsBytes-tail}
-use Rattle.krl_types.specs.declared.krl_fault.KrlFault.{KrlFault}
-use Rattle.krl_types.specs.declared.krl_fault.KrlFault.TheVariants as faults
-use Rattle.krl_core.specs.declared.place.Place.{Place}
-use Rattle.krl_core.specs.declared.place.Place.TheVariants as places
-use Rattle.krl_core.specs.declared.place.bitmap.BitmapPlace.TheVariants as bitmaps
-use Rattle.krl_entries.specs.Entry.{BitmapEntry, Entry, RangeEntry}
-use Rattle.krl_core.specs.Buffered.{AreBitsOutOfScope, ReadsBuffered}
-use Rattle.krl_core.specs.Front.{Leads, Passes, State, start, state_after}
-use Rattle.std.specs.List.{concat}
-use Rattle.krl_entries.specs.Changes.{run_entries}
-use Rattle.krl_entries.specs.Revocations.{Revocations}
-use Rattle.krl_core.specs.FieldStore.{Adds, GrowsAtMost, InStep, StoresEntries, FieldStore, Skips, StoresNoMore, held_with_open}
-use Rattle.krl_entries.specs.Naming.{Name, NamesSame, SerialOf, SomeNames}
-use Rattle.krl_entries.specs.Scope.{InScope, MeansInScope, Scope}
-use Rattle.krl_entries.proofs.Numbers.{number_of-one}
-use Rattle.krl_entries.proofs.SameNames.{same_append, same_refl}
 use Rattle.krl_entries.proofs.AddedMeaning.{nothing_more_within}
 use Rattle.krl_core.proofs.StoredEntries.{closes_run, header_stays, stored_wider}
 use Rattle.krl_core.proofs.Walks.{Leads-append}
-use Rattle.krl_core.specs.Place.{next_subsection, authority_after, base_of, bits_judged, bits_within, header_after, highest_bit, judge, names, next_bits, passes_end}
+use Rattle.krl_types.specs.declared.krl_fault.KrlFault.TheVariants as faults
+use Rattle.krl_core.specs.declared.place.Place.TheVariants as places
+use Rattle.krl_core.specs.declared.place.bitmap.BitmapPlace.TheVariants as bitmaps
 
 -- each byte as a field
 abbrev pub singles : List ℕ → List (List ℕ)

@@ -1,18 +1,26 @@
 -- A walk goes through all fields of a spelling.
-use Rattle.std.proofs.Common.{◌≡◌, ℕ, zero, suc, ◌+◌, ◌-◌, ◌*◌, ◌%◌, ◌==◌, ◌<◌, ◌≤◌, ◌^◌, Bool, true, false, not, cond, eqb, ltb, leb, eq-eqb, List, [], ◌∷◌, ◌++◌, length, Result, Ok, Err, refl, sym, ap, subst, ◌∙◌, append_assoc, arith, inl, inr}
-use Rattle.std.specs.List.{AllByRecursion}
-use Rattle.std.specs.Int.{bit_at, leading_zeros, w8}
-use Rattle.std.proofs.lemmas.Bool.{cases_lt, cases_Bool, ne_eqb, le-ltb, lt-ltb, le-leb, lt-leb, eqb-true}
-use Rattle.std.proofs.lemmas.List.{length-append}
-use Rattle.ssh_wire.specs.Wire.{IsBytes, number, number_of, string, strings}
-use Rattle.ssh_wire.proofs.Digits.{IsBytes-back, IsBytes-front}
-use Rattle.ssh_wire.proofs.Fields.{IsBytes-in_string, length-string, length-number, length-numbers}
-use Rattle.krl_types.specs.declared.krl_fault.KrlFault.{KrlFault}
+use Rattle.krl_core.proofs.Common.{[], ◌%◌, ◌*◌, ◌++◌, ◌+◌, ◌-◌, ◌<◌, ◌==◌, ◌^◌, ◌∙◌, ◌∷◌, ◌≡◌, ◌≤◌}
+use Rattle.krl_core.proofs.Common.{AllByRecursion, ap, append_assoc, arith, base_of, bit_at}
+use Rattle.krl_core.proofs.Common.{bit_at_above, bit_at_cat_high, bit_at_cat_low, Bitmap}
+use Rattle.krl_core.proofs.Common.{bits_judged, Bool, cases_Bool, cases_lt, cond, eq-eqb, eqb}
+use Rattle.krl_core.proofs.Common.{eqb-true, Err, Expected, expected, false, HasRoom, Header}
+use Rattle.krl_core.proofs.Common.{header_text, highest_bit, Ids, inl, inr, IsBytes, IsBytes-back}
+use Rattle.krl_core.proofs.Common.{IsBytes-front, IsBytes-in_string, IsPositive, item_size}
+use Rattle.krl_core.proofs.Common.{ItemKind, judge, KrlFault, le-leb, le-ltb, leading_zeros, leb}
+use Rattle.krl_core.proofs.Common.{length, length-append, length-number, length-numbers}
+use Rattle.krl_core.proofs.Common.{length-string, length_within, List, lt-leb, lt-ltb, ltb, magic}
+use Rattle.krl_core.proofs.Common.{ne_eqb, next_bits, next_item, next_serial, next_subsection, not}
+use Rattle.krl_core.proofs.Common.{number, number_again4, number_again8, number_of, number_of-one}
+use Rattle.krl_core.proofs.Common.{numbers_text, Ok, passes_end, Place, Range, refl, Result}
+use Rattle.krl_core.proofs.Common.{Serials, SpellsEach, SpellsExtension, SpellsSubsection, string}
+use Rattle.krl_core.proofs.Common.{strings, Subsection, SubsectionExtension, subst, suc, sym, true}
+use Rattle.krl_core.proofs.Common.{w8, within, zero, ℕ}
+use Rattle.krl_core.proofs.Bitmaps.{number_of-byte, low_more, low_none}
+use Rattle.krl_core.proofs.PlaceRows.{Goes, goes_none, goes_one, goes_then, goes_from}
+use Rattle.krl_core.proofs.Lists.{header_parts}
+use Rattle.krl_core.proofs.RestSpellings.{IsItem}
 use Rattle.krl_types.specs.declared.krl_fault.KrlFault.TheVariants as faults
-use Rattle.krl_core.specs.declared.header.Header.{Header}
-use Rattle.krl_core.specs.declared.place.list.ItemKind.{ItemKind}
 use Rattle.krl_core.specs.declared.place.list.ItemKind.TheVariants as kinds
-use Rattle.krl_core.specs.declared.place.Place.{Place}
 use Rattle.krl_core.specs.declared.place.Place.TheVariants as places
 use Rattle.krl_core.specs.declared.place.header.HeaderPlace.TheVariants as headers
 use Rattle.krl_core.specs.declared.place.list.ListPlace.TheVariants as lists
@@ -20,16 +28,7 @@ use Rattle.krl_core.specs.declared.place.certificates.CertificatesPlace.TheVaria
 use Rattle.krl_core.specs.declared.place.serials.SerialsPlace.TheVariants as serials
 use Rattle.krl_core.specs.declared.place.bitmap.BitmapPlace.TheVariants as bitmaps
 use Rattle.krl_core.specs.declared.place.extension.ExtensionPlace.TheVariants as extensions
-use Rattle.krl_core.specs.Front.{HasRoom}
-use Rattle.krl_core.specs.Krl.{Subsection, Serials, Range, Bitmap, Ids, SubsectionExtension, SpellsEach, SpellsSubsection, SpellsExtension, IsPositive, magic, header_text, numbers_text}
-use Rattle.krl_core.specs.Place.{Expected, expected, judge, length_within, within, item_size, next_item, next_subsection, next_serial, next_bits, base_of, bits_judged, passes_end, highest_bit}
-use Rattle.std.proofs.lemmas.Nat.Bits.{bit_at_above, bit_at_cat_low, bit_at_cat_high}
-use Rattle.krl_core.proofs.Bitmaps.{number_of-byte, low_more, low_none}
 use Rattle.serial_set.proofs.Bits.{highest_bit as top_bit}
-use Rattle.krl_core.proofs.PlaceRows.{Goes, goes_none, goes_one, goes_then, goes_from}
-use Rattle.krl_core.proofs.Lists.{header_parts}
-use Rattle.krl_entries.proofs.Numbers.{number_again4, number_again8, number_of-one}
-use Rattle.krl_core.proofs.RestSpellings.{IsItem}
 
 -- ---- a field, and the place after it
 

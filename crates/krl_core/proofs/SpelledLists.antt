@@ -1,31 +1,27 @@
 -- A list that is spelled has no fault if it is within the limit.
-use Rattle.std.proofs.Common.{◌≡◌, ℕ, ◌+◌, ◌-◌, ◌<◌, ◌≤◌, ◌^◌, ◌⊎◌, Bool, true, false, ltb, List, [], ◌∷◌, ◌++◌, length, take, Some, None, Ok, refl, sym, ap, subst, ◌∙◌, append_assoc, arith, inl, inr, Option}
-use Rattle.std.specs.List.{AllByRecursion}
-use Rattle.std.proofs.lemmas.Bool.{le-ltb}
-use Rattle.std.proofs.lemmas.List.{length-append, take_all}
-use Rattle.ssh_wire.specs.Wire.{IsBytes, number_of, string, strings}
-use Rattle.ssh_wire.proofs.Digits.{IsBytes-back, IsBytes-front}
-use Rattle.ssh_wire.proofs.Fields.{IsBytes-in_string, length-string}
-use Rattle.krl_types.specs.declared.krl_fault.KrlFault.{KrlFault}
+use Rattle.krl_core.proofs.Common.{[], ◌++◌, ◌+◌, ◌-◌, ◌<◌, ◌^◌, ◌∙◌, ◌∷◌, ◌≡◌, ◌≤◌, ◌⊎◌}
+use Rattle.krl_core.proofs.Common.{AllByRecursion, ap, append_assoc, arith, Bool, Certificates}
+use Rattle.krl_core.proofs.Common.{ended, expected, Extension, failed_read, false, first, Header}
+use Rattle.krl_core.proofs.Common.{header_text, inl, inr, IsBytes, IsBytes-back, IsBytes-front}
+use Rattle.krl_core.proofs.Common.{IsBytes-in_string, IsFirstFault, ItemKind, Keys, KrlFault}
+use Rattle.krl_core.proofs.Common.{le-ltb, length, length-append, length-string, limit, List, ltb}
+use Rattle.krl_core.proofs.Common.{next_item, next_subsection, None, number_of, Ok, Option, Place}
+use Rattle.krl_core.proofs.Common.{ran_out, refl, Reported, Says, Sha1s, Sha256s, Signature, Some}
+use Rattle.krl_core.proofs.Common.{SpelledSection, Spells, SpellsEach, SpellsSection, start, string}
+use Rattle.krl_core.proofs.Common.{strings, subst, sym, take, take_all, true, ℕ}
+use Rattle.krl_core.proofs.Fronts.{first_fault_is, one_reported}
+use Rattle.krl_core.proofs.PlaceRows.{Goes, goes_none, goes_one, goes_then, goes_from, arrives}
+use Rattle.krl_core.proofs.RestSpellings.{LastFor, IsItem}
+use Rattle.krl_core.proofs.SpelledFields.{string_goes, content_goes, within_is, header_goes}
+use Rattle.krl_core.proofs.SpelledFields.{items_go, any_size, extension_goes, subsections_go}
 use Rattle.krl_types.specs.declared.krl_fault.KrlFault.TheVariants as faults
-use Rattle.krl_core.specs.declared.header.Header.{Header}
-use Rattle.krl_core.specs.declared.place.list.ItemKind.{ItemKind}
 use Rattle.krl_core.specs.declared.place.list.ItemKind.TheVariants as kinds
-use Rattle.krl_core.specs.declared.place.Place.{Place}
 use Rattle.krl_core.specs.declared.place.Place.TheVariants as places
 use Rattle.krl_core.specs.declared.place.header.HeaderPlace.TheVariants as headers
 use Rattle.krl_core.specs.declared.place.signature.SignaturePlace.TheVariants as signatures
 use Rattle.krl_core.specs.declared.place.list.ListPlace.TheVariants as lists
 use Rattle.krl_core.specs.declared.place.certificates.CertificatesPlace.TheVariants as certificates
 use Rattle.krl_core.specs.declared.place.extension.ExtensionPlace.TheVariants as extensions
-use Rattle.krl_core.specs.Front.{start, limit, IsFirstFault, Reported, ended}
-use Rattle.krl_core.specs.Krl.{SpelledSection, Certificates, Keys, Sha1s, Sha256s, Signature, Extension, Spells, SpellsEach, SpellsSection, header_text}
-use Rattle.krl_core.specs.Place.{expected, next_item, next_subsection}
-use Rattle.krl_core.specs.Reading.{Says, ran_out, failed_read, first}
-use Rattle.krl_core.proofs.Fronts.{first_fault_is, one_reported}
-use Rattle.krl_core.proofs.PlaceRows.{Goes, goes_none, goes_one, goes_then, goes_from, arrives}
-use Rattle.krl_core.proofs.RestSpellings.{LastFor, IsItem}
-use Rattle.krl_core.proofs.SpelledFields.{string_goes, content_goes, within_is, header_goes, items_go, any_size, extension_goes, subsections_go}
 
 abbrev signed_after : SpelledSection → Bool
 signed_after Signature = true

@@ -1,24 +1,22 @@
 -- A row of fields that leads to the end of a list spells its sections, and has their entries.
-use Rattle.std.proofs.Common.{◌≡◌, ℕ, zero, suc, ◌+◌, ◌-◌, ◌<◌, ◌≤◌, ◌^◌, ◌⊎◌, Bool, true, false, cond, ltb, List, [], ◌∷◌, ◌++◌, length, map, Result, Ok, refl, sym, ap, subst, ◌∙◌, append_assoc, arith, inl, inr}
-use Rattle.std.specs.List.{flat_map, AllByRecursion}
-use Rattle.std.proofs.lemmas.Bool.{ltb-false}
-use Rattle.std.proofs.lemmas.List.{length-append}
-use Rattle.ssh_wire.specs.Wire.{IsBytes, number, number_of, string, strings}
-use Rattle.ssh_wire.proofs.Fields.{length-string, length-number}
-use Rattle.krl_types.specs.declared.krl_fault.KrlFault.{KrlFault}
-use Rattle.krl_types.specs.declared.krl_fault.KrlFault.TheVariants as faults
-use Rattle.krl_core.specs.declared.header.Header.{Header}
-use Rattle.krl_core.specs.declared.place.list.ItemKind.{ItemKind}
-use Rattle.krl_core.specs.declared.place.Place.{Place}
-use Rattle.krl_entries.specs.Entry.{Entry, SerialsEntry}
-use Rattle.krl_core.specs.Entries.{entries_of, section_entries, subsection_entries}
-use Rattle.krl_core.specs.Krl.{SpelledSection, Certificates, Signature, Extension, Subsection, SpellsEach, SpellsSection, SpellsSubsection, SignaturesLast, IsSignature}
-use Rattle.krl_entries.specs.Naming.{NamesSame}
-use Rattle.krl_core.specs.Place.{within, item_entry, next_item, next_subsection, next_serial}
-use Rattle.krl_entries.proofs.Numbers.{number_back4, number_back8}
-use Rattle.krl_core.proofs.RestSpellings.{Rest, LastFor, FromSections, FromNumber, FromLength, FromContent, FromItems, FromItem, FromSubsections, FromCertificates, FromExtension, Completes, IsItem, Items, SerialItems}
-use Rattle.krl_entries.proofs.SameNames.{same_refl, same_is, same_then, same_append}
+use Rattle.krl_core.proofs.Common.{[], ◌++◌, ◌+◌, ◌-◌, ◌<◌, ◌^◌, ◌∙◌, ◌∷◌, ◌≡◌, ◌≤◌, ◌⊎◌}
+use Rattle.krl_core.proofs.Common.{AllByRecursion, ap, append_assoc, arith, Bool, Certificates}
+use Rattle.krl_core.proofs.Common.{cond, entries_of, Entry, Extension, false, flat_map, Header, inl}
+use Rattle.krl_core.proofs.Common.{inr, IsBytes, IsSignature, item_entry, ItemKind, KrlFault}
+use Rattle.krl_core.proofs.Common.{length, length-append, length-number, length-string, List, ltb}
+use Rattle.krl_core.proofs.Common.{ltb-false, map, NamesSame, next_item, next_serial}
+use Rattle.krl_core.proofs.Common.{next_subsection, number, number_back4, number_back8, number_of}
+use Rattle.krl_core.proofs.Common.{Ok, Place, refl, Result, same_append, same_is, same_refl}
+use Rattle.krl_core.proofs.Common.{same_then, section_entries, SerialsEntry, Signature}
+use Rattle.krl_core.proofs.Common.{SignaturesLast, SpelledSection, SpellsEach, SpellsSection}
+use Rattle.krl_core.proofs.Common.{SpellsSubsection, string, strings, Subsection}
+use Rattle.krl_core.proofs.Common.{subsection_entries, subst, suc, sym, true, within, zero, ℕ}
+use Rattle.krl_core.proofs.RestSpellings.{Rest, LastFor, FromSections, FromNumber, FromLength}
+use Rattle.krl_core.proofs.RestSpellings.{FromContent, FromItems, FromItem, FromSubsections}
+use Rattle.krl_core.proofs.RestSpellings.{FromCertificates, FromExtension, Completes, IsItem, Items}
+use Rattle.krl_core.proofs.RestSpellings.{SerialItems}
 use Rattle.krl_core.proofs.Judgements.{held_back, same_place}
+use Rattle.krl_types.specs.declared.krl_fault.KrlFault.TheVariants as faults
 
 -- ---- judgements that passed
 

@@ -1,22 +1,16 @@
 -- A row of fields that leads to the end of a list spells the subsections of a section of
 -- certificates, and has their entries.
-use Rattle.std.proofs.Common.{◌≡◌, ℕ, zero, suc, ◌+◌, ◌-◌, ◌*◌, ◌<◌, ◌≤◌, ◌↔◌, false, List, [], ◌∷◌, ◌++◌, length, map, refl, sym, ap, subst, ◌∙◌, append_assoc, arith, inl, inr}
-use Rattle.std.specs.List.{flat_map}
-use Rattle.std.proofs.lemmas.List.{length-append}
-use Rattle.std.proofs.lemmas.Nat.Bits.{bit_at-zero}
-use Rattle.ssh_wire.specs.Wire.{IsBytes, number_of, string}
-use Rattle.ssh_wire.proofs.Fields.{length-string}
-use Rattle.krl_core.specs.declared.header.Header.{Header}
-use Rattle.krl_entries.specs.Entry.{Entry, SerialsEntry, BitmapEntry}
-use Rattle.krl_core.specs.Entries.{subsection_entries}
-use Rattle.krl_core.specs.Krl.{Subsection, SpellsSubsection, SubsectionContent, subsection_type}
-use Rattle.krl_entries.specs.Naming.{EntryNames, NamesSame, SerialOf}
-use Rattle.krl_core.specs.Place.{next_bits, base_of, passes_end}
-use Rattle.krl_entries.proofs.Numbers.{number_back4}
+use Rattle.krl_core.proofs.Common.{[], ◌*◌, ◌++◌, ◌+◌, ◌-◌, ◌<◌, ◌↔◌, ◌∙◌, ◌∷◌, ◌≡◌, ◌≤◌, ap}
+use Rattle.krl_core.proofs.Common.{append_assoc, AreSerials, arith, base_of, bit_at-zero}
+use Rattle.krl_core.proofs.Common.{BitmapEntry, contains_one, Entry, EntryNames, false, flat_map}
+use Rattle.krl_core.proofs.Common.{Header, inl, inr, IsBytes, length, length-append, length-string}
+use Rattle.krl_core.proofs.Common.{List, map, mapped_name, NamesSame, next_bits, number_back4}
+use Rattle.krl_core.proofs.Common.{number_of, passes_end, refl, same_append, same_is, same_refl}
+use Rattle.krl_core.proofs.Common.{same_serials, same_then, SerialOf, SerialsEntry}
+use Rattle.krl_core.proofs.Common.{SpellsSubsection, string, Subsection, subsection_entries}
+use Rattle.krl_core.proofs.Common.{subsection_type, SubsectionContent, subst, suc, sym, zero, ℕ}
 use Rattle.krl_core.proofs.RestSpellings.{FromSubsections, FromPart, FromBits, Completes}
 use Rattle.krl_core.proofs.Bitmaps.{low_more, low_none, bit_of-byte, same_no_bits, same_bits}
-use Rattle.krl_entries.proofs.Equivalences.{contains_one}
-use Rattle.krl_entries.proofs.SameNames.{AreSerials, mapped_name, same_serials, same_refl, same_is, same_then, same_append}
 use Rattle.krl_core.proofs.SpelledSections.{string_parts, subsections_from}
 use Rattle.krl_core.proofs.Bits.{not_past_at}
 

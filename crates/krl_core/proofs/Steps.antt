@@ -1,31 +1,29 @@
 -- The effect of a step on the fields that were read, and what its faults say about the text.
-use Rattle.std.proofs.Common.{◌≡◌, ℕ, ◌+◌, ◌-◌, ◌<◌, ◌≤◌, ◌⊎◌, Bool, true, false, ltb, List, [], ◌∷◌, ◌++◌, length, take, Option, Some, None, Err, refl, sym, ap, subst, ◌∙◌, append_assoc, arith, inl, inr, IsSome}
-use Rattle.std.specs.List.{concat}
+use Rattle.krl_core.proofs.Common.{[], ◌++◌, ◌+◌, ◌-◌, ◌<◌, ◌∙◌, ◌∷◌, ◌≡◌, ◌≤◌, ◌⊎◌, after_ahead}
+use Rattle.krl_core.proofs.Common.{ap, append-nil, append_assoc, arith, authority_after, Bool}
+use Rattle.krl_core.proofs.Common.{can_end, concat, concat-append, cut, ends_early, Err, expected}
+use Rattle.krl_core.proofs.Common.{failed_read, false, FieldStore, first, GrowsAtMost, HasRead}
+use Rattle.krl_core.proofs.Common.{HasRoom, inl, inr, is_fixed, IsBounded, IsBytes, IsBytes-append}
+use Rattle.krl_core.proofs.Common.{IsFirstFault, IsSome, KrlFault, le-ltb, Leads, left_of, length}
+use Rattle.krl_core.proofs.Common.{length-append, limit, List, LooksFor, lt-ltb, ltb, Missed, names}
+use Rattle.krl_core.proofs.Common.{no_room, None, Option, Passes, Place, Pull, ran_out, refl}
+use Rattle.krl_core.proofs.Common.{Refused, refused, Refuses, Reported, Says, small_in, Some, start}
+use Rattle.krl_core.proofs.Common.{State, state_after, StoresAtMost, StoresEntries, StoresField}
+use Rattle.krl_core.proofs.Common.{subst, sym, take, take_all, Takes, too_long, true, Walk, working}
+use Rattle.krl_core.proofs.Common.{ℕ}
 use Rattle.std.specs.Io.KnownBytes.{Consumes, IsAtEnd, Keeps}
 use Rattle.std.proofs.KnownBytes.{Keeps-refl}
-use Rattle.std.proofs.lemmas.Bool.{le-ltb, lt-ltb}
-use Rattle.std.proofs.lemmas.List.{append-nil, length-append, take_all}
-use Rattle.std.proofs.lemmas.List.Folds.{concat-append}
 use Rattle.std.proofs.Math.Seq.{take-append_seam}
-use Rattle.ssh_wire.specs.Wire.{IsBytes}
-use Rattle.byte_streams.specs.Pull.{Pull, Takes, Refuses, after_ahead, left_of}
 use Rattle.ssh_wire.specs.declared.pull_fault.PullFault.{PullFault}
-use Rattle.ssh_wire.specs.declared.pull_fault.PullFault.TheVariants as pulls
 use Rattle.ssh_wire.proofs.TruncatedFields.{take-after}
-use Rattle.ssh_wire.proofs.Digits.{IsBytes-append}
-use Rattle.krl_types.specs.declared.krl_fault.KrlFault.{KrlFault}
-use Rattle.krl_types.specs.declared.krl_fault.KrlFault.TheVariants as faults
-use Rattle.krl_core.specs.declared.place.Place.{Place}
-use Rattle.krl_core.specs.Front.{State, start, state_after, Leads, Passes, HasRoom, Reported, no_room, refused, too_long, ends_early, IsFirstFault, limit}
-use Rattle.krl_core.specs.FieldStore.{GrowsAtMost, StoresEntries, FieldStore, StoresField, StoresAtMost}
-use Rattle.krl_core.specs.Place.{can_end, expected, names, authority_after}
-use Rattle.krl_core.specs.Reading.{Walk, working, HasRead, IsBounded, LooksFor, Missed, no_room as room_missed, cut, Says, ran_out, failed_read, first, Refused, is_fixed}
 use Rattle.krl_types.specs.KrlFault.{reported_as}
 use Rattle.krl_core.proofs.StoredEntries.{header_stored}
 use Rattle.krl_core.proofs.Fronts.{first_fault_is, end_size, end_room}
-use Rattle.krl_entries.proofs.TopicAmounts.{small_in}
 use Rattle.krl_core.proofs.Walks.{Leads-push}
 use Rattle.krl_core.proofs.LongestFronts.{end_or_early}
+use Rattle.ssh_wire.specs.declared.pull_fault.PullFault.TheVariants as pulls
+use Rattle.krl_types.specs.declared.krl_fault.KrlFault.TheVariants as faults
+use Rattle.krl_core.specs.Reading.{no_room as room_missed}
 
 -- ---- the bytes that a reader has left
 

@@ -1,24 +1,18 @@
 -- The field store after one more entry.
-use Rattle.std.proofs.Common.{◌≡◌, ℕ, ◌+◌, ◌≤◌, Option, None, Some, List, [], ◌∷◌, ◌++◌, length, take, drop, refl, sym, ap, subst, ◌∙◌, append_assoc, arith, inl, inr}
-use Rattle.std.specs.Option.{option_to_list}
-use Rattle.std.proofs.lemmas.List.{append-nil, length-take-le}
-use Rattle.std.proofs.Math.Seq.{take-add}
-use Rattle.serial_set.specs.declared.span.Span.{Span}
-use Rattle.krl_entries.specs.Revocations.{Revocations}
-use Rattle.krl_entries.specs.Entry.{Entry, RangeEntry, SerialsEntry}
-use Rattle.krl_entries.specs.Naming.{NamesSame}
-use Rattle.krl_entries.specs.Changes.{run_entries}
-use Rattle.krl_core.specs.Front.{start}
-use Rattle.krl_core.specs.FieldStore.{FieldStore, StoresEntries, Adds, StoresField, ChangesOnlyEntries, Closes, StoresNoMore, GrowsAtMost}
-use Rattle.krl_core.specs.FieldStore.{StoresAtMost, held_with_open, stored_header, stored_header_after, open_run}
-use Rattle.krl_core.specs.Place.{header_after}
-use Rattle.krl_core.specs.declared.header.Header.{Header}
-use Rattle.krl_core.specs.declared.place.Place.{Place}
+use Rattle.krl_core.proofs.Common.{[], ◌++◌, ◌+◌, ◌∙◌, ◌∷◌, ◌≡◌, ◌≤◌, Adds, ap, append-nil}
+use Rattle.krl_core.proofs.Common.{append_assoc, arith, ChangesOnlyEntries, Closes, drop, Entry}
+use Rattle.krl_core.proofs.Common.{FieldStore, GrowsAtMost, Header, header_after, held_with_open}
+use Rattle.krl_core.proofs.Common.{inl, inr, length, length-take-le, List, MeansInScope}
+use Rattle.krl_core.proofs.Common.{MeansMoreInScope, NamesSame, None, open_run, Option}
+use Rattle.krl_core.proofs.Common.{option_to_list, Place, RangeEntry, refl, Revocations}
+use Rattle.krl_core.proofs.Common.{run_entries, same_append, same_between, same_is, same_none}
+use Rattle.krl_core.proofs.Common.{same_refl, same_then, same_zero, Scope, SerialsEntry, Some, Span}
+use Rattle.krl_core.proofs.Common.{start, stored_header, stored_header_after, StoresAtMost}
+use Rattle.krl_core.proofs.Common.{StoresEntries, StoresField, StoresNoMore, subst, sym, take}
+use Rattle.krl_core.proofs.Common.{take-add, ℕ}
+use Rattle.krl_entries.proofs.Runs.{run_entries-append}
 use Rattle.krl_core.specs.declared.place.Place.TheVariants as places
 use Rattle.krl_core.specs.declared.place.header.HeaderPlace.TheVariants as headers
-use Rattle.krl_entries.specs.Scope.{MeansMoreInScope, MeansInScope, Scope}
-use Rattle.krl_entries.proofs.Runs.{run_entries-append}
-use Rattle.krl_entries.proofs.SameNames.{same_refl, same_is, same_then, same_append, same_between, same_zero, same_none}
 
 abbrev pub open_entries : FieldStore → List Entry
 open_entries stored = run_entries stored.authority (open_run stored)

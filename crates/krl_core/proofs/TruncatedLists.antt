@@ -1,22 +1,17 @@
 -- A list that is truncated.
-use Rattle.std.proofs.Common.{◌≡◌, ℕ, ◌≤◌, ◌⊎◌, Bool, true, false, ltb, List, [], ◌∷◌, ◌++◌, length, Option, Some, None, refl, sym, ap, subst, ◌∙◌, append_assoc, arith, inl, inr}
-use Rattle.std.specs.List.{concat}
-use Rattle.std.proofs.lemmas.Bool.{le-ltb}
-use Rattle.std.proofs.lemmas.List.{append-nil, length-append, take_all}
-use Rattle.std.proofs.lemmas.List.Folds.{concat-append}
-use Rattle.ssh_wire.specs.Wire.{IsBytes}
-use Rattle.ssh_wire.proofs.Steps.{never_err}
-use Rattle.krl_core.specs.declared.header.Header.{Header}
-use Rattle.krl_types.specs.declared.krl_fault.KrlFault.{KrlFault}
-use Rattle.krl_types.specs.declared.krl_fault.KrlFault.TheVariants as faults
-use Rattle.krl_core.specs.declared.place.Place.{Place}
-use Rattle.krl_core.specs.Front.{State, start, limit, Passes, Leads, IsFirstFault, Reported, ended, no_room, refused, too_long, ends_early}
-use Rattle.krl_core.specs.Krl.{SpelledSection, Spells}
-use Rattle.krl_core.specs.Place.{can_end, expected}
+use Rattle.krl_core.proofs.Common.{[], ◌++◌, ◌∙◌, ◌∷◌, ◌≡◌, ◌≤◌, ◌⊎◌, ap, append-nil, append_assoc}
+use Rattle.krl_core.proofs.Common.{arith, Bool, can_end, concat, concat-append, ended, ends_early}
+use Rattle.krl_core.proofs.Common.{expected, false, Header, inl, inr, IsBytes, IsFirstFault}
+use Rattle.krl_core.proofs.Common.{KrlFault, le-ltb, Leads, length, length-append, limit, List, ltb}
+use Rattle.krl_core.proofs.Common.{never_err, no_room, None, Option, Passes, Place, refl, refused}
+use Rattle.krl_core.proofs.Common.{Reported, Some, SpelledSection, Spells, start, State, subst, sym}
+use Rattle.krl_core.proofs.Common.{take_all, too_long, true, ℕ}
 use Rattle.krl_core.proofs.LongestFronts.{each_is_judged}
-use Rattle.krl_core.proofs.Fronts.{append_same, end_room, end_short, end_size, fronts_compare, leads_to_one, Leads-split}
+use Rattle.krl_core.proofs.Fronts.{append_same, end_room, end_short, end_size, fronts_compare}
+use Rattle.krl_core.proofs.Fronts.{leads_to_one, Leads-split}
 use Rattle.krl_core.proofs.Lists.{unfaulted_row}
 use Rattle.krl_core.proofs.SpelledLists.{spelled_unfaulted}
+use Rattle.krl_types.specs.declared.krl_fault.KrlFault.TheVariants as faults
 
 -- the faults that may be reported for a truncated list
 abbrev IsCutFault : Option KrlFault → Type 0

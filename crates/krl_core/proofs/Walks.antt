@@ -1,11 +1,7 @@
 -- A walk from field to field, and the report at its end.
-use Rattle.std.proofs.Common.{◌≡◌, ℕ, Bool, List, [], ◌∷◌, ◌++◌, Option, refl, sym, ap, subst, ◌∙◌, append_assoc}
-use Rattle.std.specs.List.{concat}
-use Rattle.std.proofs.lemmas.List.{append-nil}
-use Rattle.std.proofs.lemmas.List.Folds.{concat-append}
-use Rattle.krl_types.specs.declared.krl_fault.KrlFault.{KrlFault}
-use Rattle.krl_core.specs.declared.place.Place.{Place}
-use Rattle.krl_core.specs.Front.{State, Passes, state_after, Leads, Reported}
+use Rattle.krl_core.proofs.Common.{[], ◌++◌, ◌∙◌, ◌∷◌, ◌≡◌, ap, append-nil, append_assoc, Bool}
+use Rattle.krl_core.proofs.Common.{concat, concat-append, KrlFault, Leads, List, Option, Passes}
+use Rattle.krl_core.proofs.Common.{Place, refl, Reported, State, state_after, subst, sym, ℕ}
 
 -- a row of whole fields leads from one state to another, and leaves the rest of the bytes
 pub record Walks (state : State) (bytes : List ℕ) (last : State) (rest : List ℕ) : Type 0 where

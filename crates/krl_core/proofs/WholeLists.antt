@@ -1,28 +1,18 @@
 -- A whole list, read field by field.
-use Rattle.std.proofs.Common.{◌≡◌, ℕ, ◌+◌, ◌-◌, ◌*◌, ◌<◌, true, false, ltb, take, List, [], ◌++◌, length, Option, Some, None, refl, sym, ap, subst, ◌∙◌, append_assoc, arith}
-use Rattle.std.specs.List.{concat}
-use Rattle.std.specs.Option.{option_to_list}
-use Rattle.std.proofs.lemmas.List.{append-nil, take_all}
-use Rattle.std.proofs.lemmas.Bool.{le-ltb}
-use Rattle.serial_set.specs.declared.span.Span.{Span}
+use Rattle.krl_core.proofs.Common.{[], ◌*◌, ◌++◌, ◌+◌, ◌-◌, ◌<◌, ◌∙◌, ◌≡◌, ap, append-nil}
+use Rattle.krl_core.proofs.Common.{append_assoc, arith, can_end, concat, ended, Ends, EndsAfter}
+use Rattle.krl_core.proofs.Common.{Entry, false, FieldStore, Follows, HasRead, Header, HoldsInScope}
+use Rattle.krl_core.proofs.Common.{InStep, IsBounded, IsBytes, IsFirstFault, IsReached, IsWholeAs}
+use Rattle.krl_core.proofs.Common.{IsWithinLimit, le-ltb, left_of, length, limit, List, ltb}
+use Rattle.krl_core.proofs.Common.{NamesSame, None, OfHeader, open_run, Option, option_to_list}
+use Rattle.krl_core.proofs.Common.{Place, Pull, ReadsMore, refl, Revocations, run_entries}
+use Rattle.krl_core.proofs.Common.{same_within, Some, Span, subst, sym, take, take_all, true, Walk}
+use Rattle.krl_core.proofs.Common.{ℕ}
 use Rattle.std.specs.Io.KnownBytes.{IsAtEnd}
-use Rattle.byte_streams.specs.Pull.{Pull, left_of}
-use Rattle.ssh_wire.specs.Wire.{IsBytes}
-use Rattle.krl_core.specs.declared.header.Header.{Header}
-use Rattle.krl_core.specs.declared.place.Place.{Place}
 use Rattle.krl_core.specs.declared.place.Place.TheVariants.{SectionType}
-use Rattle.krl_entries.specs.Revocations.{Revocations}
-use Rattle.krl_entries.specs.Entry.{Entry}
-use Rattle.krl_core.specs.Front.{limit, IsFirstFault, ended}
-use Rattle.krl_entries.specs.Changes.{run_entries}
-use Rattle.krl_core.specs.FieldStore.{FieldStore, InStep, open_run}
-use Rattle.krl_entries.specs.Naming.{NamesSame}
-use Rattle.krl_core.specs.Place.{can_end}
-use Rattle.krl_core.specs.Reading.{Ends, EndsAfter, Walk, HasRead, Follows, HoldsInScope, IsBounded, IsReached, IsWholeAs, IsWithinLimit, OfHeader, ReadsMore}
 use Rattle.krl_core.proofs.LongestFronts.{weight, nearer}
 use Rattle.krl_core.proofs.Fronts.{first_fault_is}
 use Rattle.krl_entries.specs.Scope.{all as every_name}
-use Rattle.krl_entries.proofs.ScopedMeaning.{same_within}
 
 -- some more fields were read, without a fault
 pub record LeadsOn (old new : Walk) : Type 0 where

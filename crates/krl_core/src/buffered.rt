@@ -5,8 +5,8 @@ ghost use Rattle.krl_core.specs.Buffered.{AreBitsOutOfScope, ReadsNext, ReadsSom
 ghost use Rattle.krl_entries.specs.Scope.{AreOutOfScope};
 ghost use Rattle.krl_core.specs.FieldStore.{InStep};
 
-use crate::judging::{next_bits, next_serial};
 use crate::field_store::FieldStore;
+use crate::judging::{next_bits, next_serial};
 use crate::place::{BitmapPlace, CertificatesPlace, ListPlace, Place, SerialsPlace};
 use krl_entries::Store;
 use std::alloc::AllocError;
@@ -106,7 +106,13 @@ fn serials_out_of_scope<T: Store>(stored: &FieldStore<T>, left: u32, bytes: &[u8
 
 // How many bytes at the front of a bitmap may be skipped together: none of their serial numbers is
 // in scope, and none of the bytes is refused. The bitmap has `left` of its `size` bytes left.
-fn bits_out_of_scope<T: Store>(stored: &FieldStore<T>, offset: u64, size: u32, left: u32, bytes: &[u8]) -> usize
+fn bits_out_of_scope<T: Store>(
+    stored: &FieldStore<T>,
+    offset: u64,
+    size: u32,
+    left: u32,
+    bytes: &[u8],
+) -> usize
     requires there { 0 < length bytes.now }
     ensures { 0 < result → MaySkip stored.now offset size left bytes.now result }
 {

@@ -272,7 +272,8 @@ impl<T: Store> FieldStore<T> {
         ensures { result ≡ false → (s : ℕ) → lo ≤ s → s ≤ hi
             → InScope self.now.scope (SerialOf self.now.authority s) → ⊥ }
     {
-        self.store.may_have_in_scope(self.authority.as_slice(), lo, hi)
+        self.store
+            .may_have_in_scope(self.authority.as_slice(), lo, hi)
     }
 
     /// How many bytes at the front are serial numbers, of eight bytes each, that are not in scope

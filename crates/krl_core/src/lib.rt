@@ -2,9 +2,9 @@
 #![tactic(auto)]
 
 mod buffered;
+mod field_store;
 mod header;
 mod judging;
-mod field_store;
 pub mod laws;
 mod place;
 mod read;

@@ -21,8 +21,8 @@ ghost use Rattle.krl_core.specs.Reading.{ReportsFailure, is_fixed, working};
 ghost use Rattle.krl_entries.specs.Scope.{IsInScope, all};
 
 use crate::buffered::read_buffered;
-use crate::header::Header;
 use crate::field_store::FieldStore;
+use crate::header::Header;
 use crate::place::{HeaderPlace, Place};
 use byte_streams::{Pull, Source};
 use krl_entries::{Findings, Questions, Revocations, Store};
@@ -357,7 +357,11 @@ fn take<'a, R: Source + Drop>(
 
 // Judges the field that was taken, stores what it names, and returns the place after it.
 #[inline(always)]
-fn judge_and_store<T: Store>(place: Place, stored: &mut FieldStore<T>, field: &[u8]) -> Result<Place, KrlFault>
+fn judge_and_store<T: Store>(
+    place: Place,
+    stored: &mut FieldStore<T>,
+    field: &[u8],
+) -> Result<Place, KrlFault>
     requires room { HasRoom (expected place) }
     requires size { length field.now ≡ (expected place).size }
     requires in_step { InStep place stored.old.bitmap }

@@ -1,22 +1,17 @@
 -- Additions to the findings.
-use Rattle.std.proofs.Common.{◌≡◌, ℕ, ◌+◌, ◌<◌, ◌≤◌, List, [], ◌∷◌, ◌++◌, length, take, Result, Ok, Err, refl, sym, ap, subst, ◌∙◌, append_assoc, arith, inl, inr, get_or, zero, suc}
-use Rattle.std.specs.Prelude.{◌↔◌, OnErr, OnOk, Some}
-use Rattle.std.specs.declared.alloc.AllocError.{AllocError}
-use Rattle.std.proofs.Math.Logic.Iff as Iff
-use Rattle.std.proofs.lemmas.Bool.{cases_lt}
-use Rattle.std.proofs.lemmas.List.{append-nil}
+use Rattle.krl_entries.proofs.Common.{[], ◌++◌, ◌+◌, ◌<◌, ◌↔◌, ◌∙◌, ◌∷◌, ◌≡◌, ◌≤◌, AllocError, ap}
+use Rattle.krl_entries.proofs.Common.{append-nil, append_assoc, arith, Asked, cases_lt, Entry, Err}
+use Rattle.krl_entries.proofs.Common.{get_or, held, HoldsOnlyTopics, HoldsSerial, inl, inr, InScope}
+use Rattle.krl_entries.proofs.Common.{IsStoredAtMost, length, List, MeansInScope, MeansMore}
+use Rattle.krl_entries.proofs.Common.{MeansMoreInScope, Name, Ok, OnErr, OnOk, RangeEntry, refl}
+use Rattle.krl_entries.proofs.Common.{Result, Revocations, run_entries, Scope, SerialOf, Some}
+use Rattle.krl_entries.proofs.Common.{SomeNames, Span, subst, suc, sym, take, zero, ℕ}
 use Rattle.krl_entries.proofs.Runs.{run_entries-append}
-use Rattle.serial_set.specs.declared.span.Span.{Span}
-use Rattle.krl_entries.specs.Changes.{MeansMore, run_entries}
-use Rattle.krl_entries.specs.Revocations.{Revocations, HoldsSerial, IsStoredAtMost, held}
-use Rattle.krl_entries.specs.Entry.{Entry, RangeEntry}
-use Rattle.krl_entries.specs.Naming.{Name, SerialOf, SomeNames}
-use Rattle.krl_entries.specs.Questions.{Asked}
-use Rattle.krl_entries.specs.Scope.{InScope, HoldsOnlyTopics, MeansMoreInScope, MeansInScope, Scope}
 use Rattle.krl_entries.proofs.Equivalences.{iff_or}
 use Rattle.krl_entries.proofs.AddedMeaning.{means_more_within}
 use Rattle.krl_entries.proofs.SameNames.{some_append}
 use Rattle.krl_entries.proofs.TopicAdditions.{IsAbout, within_with}
+use Rattle.std.proofs.Math.Logic.Iff as Iff
 
 -- an entry about a topic was added, or nothing was
 pub within_or_same : (result : Result (Unit {0}) AllocError) (topics old new : Revocations) (entry : Entry) → OnOk result (MeansMore old new (entry ∷ [])) → OnErr result (new ≡ old)

@@ -1,16 +1,11 @@
 -- Revocations that mean some entries more, for all names and for those in scope.
-use Rattle.std.proofs.Common.{List}
-use Rattle.std.specs.Prelude.{◌⊎◌, ◌↔◌}
-use Rattle.std.proofs.Math.Logic.Iff as Iff
-use Rattle.krl_entries.specs.Canonical.{entries_in}
-use Rattle.krl_entries.specs.Changes.{MeansMore}
-use Rattle.krl_entries.specs.Revocations.{Revocations, HoldsName, IsOrderly}
-use Rattle.krl_entries.specs.Entry.{Entry}
-use Rattle.krl_entries.specs.Naming.{Name, SomeNames}
-use Rattle.krl_entries.specs.Scope.{InScope, MeansMoreInScope, Scope}
+use Rattle.krl_entries.proofs.Common.{◌↔◌, ◌⊎◌, entries_in, Entry, HoldsName, InScope, IsOrderly}
+use Rattle.krl_entries.proofs.Common.{List, MeansMore, MeansMoreInScope, Name, Revocations, Scope}
+use Rattle.krl_entries.proofs.Common.{SomeNames}
 use Rattle.krl_entries.proofs.Equivalences.{iff_or}
 use Rattle.krl_entries.proofs.OwnEntries.{means_itself}
 use Rattle.krl_entries.proofs.SameNames.{some_append, some_first}
+use Rattle.std.proofs.Math.Logic.Iff as Iff
 
 -- the new revocations are in order, and add exactly the names of the entries
 pub means_more_names : (old new : Revocations) (more : List Entry) → IsOrderly old → MeansMore old new more

@@ -1,19 +1,15 @@
 -- Additions keep sections in order and mean one entry more.
-use Rattle.std.proofs.Common.{◌≡◌, ℕ, ◌+◌, ◌<◌, ◌≤◌, ◌⊎◌, List, [], ◌∷◌, ◌++◌, ◌↔◌, length, refl, sym, ap, subst, inl, inr, arith}
-use Rattle.std.specs.List.{Contains, All}
-use Rattle.std.proofs.lemmas.List.Elements.{All-cons, All-head, All-tail}
-use Rattle.std.proofs.lemmas.List.Sums.{sum_by-cons, sum_by-append}
-use Rattle.serial_set.specs.declared.span.Span.{Span}
+use Rattle.krl_entries.proofs.Common.{[], ◌++◌, ◌+◌, ◌<◌, ◌↔◌, ◌∷◌, ◌≡◌, ◌≤◌, ◌⊎◌, Addition, AddsTo}
+use Rattle.krl_entries.proofs.Common.{All, All-cons, All-head, All-tail, ap, AreSerials, arith}
+use Rattle.krl_entries.proofs.Common.{Contains, Covers, empty_section, inl, inr, IsListed, IsRuns}
+use Rattle.krl_entries.proofs.Common.{length, List, Puts, refl, Rises, RisesBy, Section, size_of}
+use Rattle.krl_entries.proofs.Common.{Span, subst, sum_by-append, sum_by-cons, sym, TakesAddition}
+use Rattle.krl_entries.proofs.Common.{TakesId, TakesSerials, ℕ}
 use Rattle.serial_set.specs.BitRuns.{IsInterval}
-use Rattle.serial_set.specs.Span.{Covers, IsRuns, AreSerials}
-use Rattle.krl_entries.specs.declared.addition.Addition.{Addition}
-use Rattle.krl_entries.specs.Rising.{RisesBy, Rises}
-use Rattle.krl_entries.specs.Changes.{TakesAddition, TakesSerials, TakesId, AddsTo, Puts, empty_section}
-use Rattle.krl_entries.specs.Revocations.{Section, IsListed, size_of}
 use Rattle.krl_entries.proofs.RisingLists.{inserts_rise}
 use Rattle.krl_entries.proofs.SectionChanges.{changes_rise}
-use Rattle.std.proofs.Math.Logic.Iff as Iff
 use Rattle.krl_entries.proofs.Equivalences.{contains_middle, iff_or, iff_swap}
+use Rattle.std.proofs.Math.Logic.Iff as Iff
 
 -- ---- inserted byte strings
 

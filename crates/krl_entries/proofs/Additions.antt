@@ -1,15 +1,10 @@
 -- The effect of an addition on all revocations.
-use Rattle.std.proofs.Common.{ℕ, ◌⊎◌, List, ◌++◌, inr}
-use Rattle.std.specs.Prelude.{◌↔◌}
-use Rattle.std.specs.List.{All}
-use Rattle.krl_entries.specs.declared.addition.Addition.{Addition}
-use Rattle.krl_entries.specs.declared.addition.Addition.TheVariants.{Serials, Id}
-use Rattle.krl_entries.specs.Rising.{RisesBy}
-use Rattle.krl_entries.specs.Changes.{AddsTo, IsOneChange, TakesAddition, added_entries}
-use Rattle.krl_entries.specs.Revocations.{HoldsName, Section, SomeSection, revocations_of, IsListed, IsOrderly, Means}
-use Rattle.krl_entries.specs.Entry.{Entry}
-use Rattle.krl_entries.specs.Naming.{IdOf, Name, SerialOf, SomeNames}
-use Rattle.krl_entries.proofs.AddedSections.{InOrder, adds_rise, adds_listed, takes_serials_listed, takes_id_listed}
+use Rattle.krl_entries.proofs.Common.{◌++◌, ◌↔◌, ◌⊎◌, added_entries, Addition, AddsTo, All, Entry}
+use Rattle.krl_entries.proofs.Common.{HoldsName, Id, IdOf, inr, IsListed, IsOneChange, IsOrderly}
+use Rattle.krl_entries.proofs.Common.{List, Means, Name, revocations_of, RisesBy, Section, SerialOf}
+use Rattle.krl_entries.proofs.Common.{Serials, SomeNames, SomeSection, TakesAddition, ℕ}
+use Rattle.krl_entries.proofs.AddedSections.{InOrder, adds_rise, adds_listed, takes_serials_listed}
+use Rattle.krl_entries.proofs.AddedSections.{takes_id_listed}
 use Rattle.krl_entries.proofs.SomeSections.{HeldIn, no_section, some_adds}
 use Rattle.krl_entries.proofs.Entries.{addition_step}
 use Rattle.krl_entries.proofs.Equivalences.{iff_none}

@@ -1,12 +1,8 @@
 -- How much an addition increases what is held and what is stored.
-use Rattle.std.proofs.Common.{◌≡◌, ℕ, ◌+◌, ◌≤◌, List, [], ◌∷◌, ◌++◌, length, map, refl, sym, ap, subst, ◌∙◌, inl, inr, arith}
-use Rattle.std.specs.Prelude.{sum_by}
-use Rattle.std.specs.List.{Contains}
-use Rattle.std.proofs.Math.Logic.{⊎_map}
-use Rattle.krl_entries.specs.declared.addition.Addition.{Addition}
-use Rattle.krl_entries.specs.declared.addition.Addition.TheVariants.{Serials, Id}
-use Rattle.krl_entries.specs.Changes.{TakesAddition, AddsTo, HoldsMore, bytes_in, empty_section}
-use Rattle.krl_entries.specs.Revocations.{Section, SomeSection, section_size}
+use Rattle.krl_entries.proofs.Common.{[], ⊎_map, ◌++◌, ◌+◌, ◌∙◌, ◌∷◌, ◌≡◌, ◌≤◌, Addition, AddsTo}
+use Rattle.krl_entries.proofs.Common.{ap, arith, bytes_in, Contains, empty_section, HoldsMore, Id}
+use Rattle.krl_entries.proofs.Common.{inl, inr, length, List, map, refl, Section, section_size}
+use Rattle.krl_entries.proofs.Common.{Serials, SomeSection, subst, sum_by, sym, TakesAddition, ℕ}
 use Rattle.krl_entries.proofs.Members.{absent_parts}
 use Rattle.krl_entries.proofs.SectionChanges.{takes_authority}
 use Rattle.krl_entries.proofs.AddedSections.{put_size}

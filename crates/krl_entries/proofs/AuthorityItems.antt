@@ -1,19 +1,15 @@
 -- The contents of all sections as one list: each item with its authority.
-use Rattle.std.proofs.Common.{◌≡◌, ℕ, ◌+◌, List, [], ◌∷◌, map, refl, ap, ap₂, arith}
-use Rattle.std.specs.Prelude.{◌↔◌, sum_by}
-use Rattle.std.specs.List.{All, Contains, flat_map}
-use Rattle.std.proofs.Math.Logic.{⊎_map}
-use Rattle.std.proofs.Math.Logic.Iff as Iff
-use Rattle.std.proofs.lemmas.List.Elements.{All-head, All-tail}
+use Rattle.krl_entries.proofs.Common.{[], ⊎_map, ◌+◌, ◌↔◌, ◌∷◌, ◌≡◌, All, All-head, All-tail, ap}
+use Rattle.krl_entries.proofs.Common.{ap₂, arith, Contains, flat_map, IsListed, List, map, refl}
+use Rattle.krl_entries.proofs.Common.{RisesBy, Section, SomeSection, sum_by, sum_by-append}
+use Rattle.krl_entries.proofs.Common.{sum_by-cons, ℕ}
 use Rattle.std.proofs.lemmas.List.Folds.{fold-map}
-use Rattle.std.proofs.lemmas.List.Sums.{sum_by-append, sum_by-cons}
-use Rattle.krl_entries.specs.Revocations.{IsListed, Section, SomeSection}
-use Rattle.krl_entries.specs.Rising.{RisesBy}
 use Rattle.krl_entries.proofs.Equivalences.{contains_append, contains_cons, iff_both, iff_or}
 use Rattle.krl_entries.proofs.DistinctLists.{Once, once_append}
 use Rattle.krl_entries.proofs.OneMeaning.{above_held, section_authority}
 use Rattle.krl_entries.proofs.RisingLists.{less_apart}
 use Rattle.krl_entries.proofs.Elements.{contains_none}
+use Rattle.std.proofs.Math.Logic.Iff as Iff
 
 module _ {Y : Type 0} where
   abbrev under_one : (a : List ℕ) → List Y → List (List ℕ × Y)

@@ -1,15 +1,14 @@
 -- Lists in which each element occurs once. A sum over such a list is at most the sum over any list
 -- with all its elements.
-use Rattle.std.proofs.Common.{◌≡◌, ℕ, ◌≤◌, List, [], ◌∷◌, ◌++◌, length, map, map-id, refl, sym, ap, subst, inl, inr, arith}
-use Rattle.std.specs.Prelude.{⊤, sum_by}
-use Rattle.std.specs.List.{Contains}
-use Rattle.std.proofs.Math.Logic.{⊎_elim}
-use Rattle.std.proofs.lemmas.List.Elements.{Contains-append_cases}
-use Rattle.std.proofs.lemmas.List.Sums.{sum_by-append, sum_by-cons}
-use Rattle.krl_entries.specs.Rising.{Rises, RisesBy}
+use Rattle.krl_entries.proofs.Common.{[], ⊎_elim, ◌++◌, ◌∷◌, ◌≡◌, ◌≤◌, ap, arith, Contains}
+use Rattle.krl_entries.proofs.Common.{Contains-append_cases, inl, inr, length, List, map, map-id}
+use Rattle.krl_entries.proofs.Common.{refl, Rises, RisesBy, subst, sum_by, sum_by-append}
+use Rattle.krl_entries.proofs.Common.{sum_by-cons, sym, ℕ}
+use Rattle.std.specs.Prelude.{⊤}
 use Rattle.krl_entries.proofs.Equivalences.{contains_middle}
 use Rattle.krl_entries.proofs.Members.{absent_above}
-use Rattle.krl_entries.proofs.Elements.{contains_cases, contains_here, contains_later, contains_none}
+use Rattle.krl_entries.proofs.Elements.{contains_cases, contains_here, contains_later}
+use Rattle.krl_entries.proofs.Elements.{contains_none}
 
 -- each element occurs once
 abbrev pub Once : {X : Type 0} → List X → Type 0

@@ -1,13 +1,7 @@
 -- Elements of lists, and entries and sections with a property.
-use Rattle.std.proofs.Common.{◌≡◌, ℕ, zero, suc, ◌<◌, ◌⊎◌, List, [], ◌∷◌, ◌++◌, length, refl, inl}
-use Rattle.std.proofs.Common.{inr}
-use Rattle.std.proofs.Common.{arith}
-use Rattle.std.specs.List.{AllByRecursion, Contains}
-use Rattle.serial_set.specs.declared.span.Span.{Span}
-use Rattle.serial_set.specs.Span.{Covers, IsRuns}
-use Rattle.krl_entries.specs.Revocations.{Section, SomeSection}
-use Rattle.krl_entries.specs.Entry.{Entry}
-use Rattle.krl_entries.specs.Naming.{Name, SomeNames}
+use Rattle.krl_entries.proofs.Common.{[], ◌++◌, ◌<◌, ◌∷◌, ◌≡◌, ◌⊎◌, AllByRecursion, arith, Contains}
+use Rattle.krl_entries.proofs.Common.{Covers, Entry, inl, inr, IsRuns, length, List, Name, refl}
+use Rattle.krl_entries.proofs.Common.{Section, SomeNames, SomeSection, Span, suc, zero, ℕ}
 
 pub contains_here : {X : Type 0} (x : X) (xs : List X) → Contains (x ∷ xs) x
 contains_here x xs = (0, omega arith, refl)

@@ -1,21 +1,15 @@
 -- The names that a section holds after an addition.
-use Rattle.std.proofs.Common.{◌≡◌, ℕ, List, [], ◌∷◌, Bor, sym, ap, subst, ◌∙◌, inl, inr}
-use Rattle.std.specs.Prelude.{◌↔◌}
-use Rattle.std.specs.List.{Contains}
-use Rattle.serial_set.specs.declared.span.Span.{Span}
-use Rattle.serial_set.specs.Span.{Covers}
-use Rattle.krl_entries.specs.declared.addition.Addition.{Addition}
-use Rattle.krl_entries.specs.declared.addition.Addition.TheVariants.{Serials, Id}
-use Rattle.krl_entries.specs.Changes.{TakesAddition, added_entries, empty_section, run_entries}
-use Rattle.krl_entries.specs.Revocations.{Section}
-use Rattle.krl_entries.specs.Entry.{RangeEntry, IdEntry}
-use Rattle.krl_entries.specs.Naming.{EntryNames, IdOf, Name, SerialOf, SomeNames}
+use Rattle.krl_entries.proofs.Common.{[], ◌↔◌, ◌∙◌, ◌∷◌, ◌≡◌, added_entries, Addition, ap, Bor}
+use Rattle.krl_entries.proofs.Common.{Contains, Covers, empty_section, EntryNames, Id, IdEntry}
+use Rattle.krl_entries.proofs.Common.{IdOf, inl, inr, List, Name, RangeEntry, run_entries, Section}
+use Rattle.krl_entries.proofs.Common.{SerialOf, Serials, SomeNames, Span, subst, sym, TakesAddition}
+use Rattle.krl_entries.proofs.Common.{ℕ}
 use Rattle.krl_entries.proofs.AddedSections.{put_held}
 use Rattle.krl_entries.proofs.Runs.{run_entries-name}
 use Rattle.krl_entries.proofs.Equivalences.{iff_none, iff_or}
-use Rattle.std.proofs.Math.Logic.Iff as Iff
 use Rattle.krl_entries.proofs.SomeSections.{HeldIn, Step}
 use Rattle.krl_entries.proofs.Elements.{contains_none}
+use Rattle.std.proofs.Math.Logic.Iff as Iff
 
 -- a part of a section that an addition does not change is held as before
 stays : (addition : Addition) (b a : List ℕ) (Q : Section → Type 0) → ((from to : Section) → TakesAddition addition from to → (to.authority ≡ from.authority) × (Q to ↔ Q from)) → (Q (empty_section b) → ⊥)

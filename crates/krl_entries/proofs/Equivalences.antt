@@ -1,10 +1,10 @@
 -- Equivalences between alternatives, and for the elements of lists.
-use Rattle.std.proofs.Common.{◌≡◌, ◌⊎◌, ◌↔◌, List, [], ◌∷◌, ◌++◌, subst, inl, inr}
-use Rattle.std.specs.List.{Contains}
-use Rattle.std.proofs.Math.Logic.{⊎_elim, ⊎_map, ⊎_swap}
+use Rattle.krl_entries.proofs.Common.{[], ⊎_elim, ⊎_map, ⊎_swap, ◌++◌, ◌↔◌, ◌∷◌, ◌≡◌, ◌⊎◌, Contains}
+use Rattle.krl_entries.proofs.Common.{Contains-append_cases, Contains-append_left}
+use Rattle.krl_entries.proofs.Common.{Contains-append_right, inl, inr, List, subst}
+use Rattle.krl_entries.proofs.Elements.{contains_cases, contains_here, contains_later}
+use Rattle.krl_entries.proofs.Elements.{contains_none}
 use Rattle.std.proofs.Math.Logic.Iff as Iff
-use Rattle.std.proofs.lemmas.List.Elements.{Contains-append_cases, Contains-append_left, Contains-append_right}
-use Rattle.krl_entries.proofs.Elements.{contains_cases, contains_here, contains_later, contains_none}
 
 pub iff_or : {A B C D : Type 0} → (A ↔ B) → (C ↔ D) → ((A ⊎ C) ↔ (B ⊎ D))
 iff_or h k = (⊎_map h.0 k.0, ⊎_map h.1 k.1)

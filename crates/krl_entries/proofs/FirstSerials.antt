@@ -1,12 +1,10 @@
 -- The first number that is asked about.
-use Rattle.std.proofs.Common.{◌≡◌, ℕ, ◌+◌, ◌<◌, ◌≤◌, List, [], ◌∷◌, length, take, Option, Some, None, refl, sym, subst, arith, inl, inr, max, get_or, eqb, false, zero, suc}
-use Rattle.std.specs.Prelude.{◌↔◌}
-use Rattle.serial_set.specs.declared.span.Span.{Span}
-use Rattle.serial_set.specs.Span.{Covers, IsRuns, RunsFrom}
+use Rattle.krl_entries.proofs.Common.{[], ◌+◌, ◌<◌, ◌↔◌, ◌∷◌, ◌≡◌, ◌≤◌, arith, Covers, eqb, false}
+use Rattle.krl_entries.proofs.Common.{get_or, inl, inr, IsFirst, IsRuns, length, List, max}
+use Rattle.krl_entries.proofs.Common.{names_from, None, Option, refl, RunsFrom, Some, Span, subst}
+use Rattle.krl_entries.proofs.Common.{suc, sym, take, zero, ℕ}
 use Rattle.serial_set.specs.Walk.{IsPiece, since}
-use Rattle.serial_set.proofs.RisingLists.{names_from}
 use Rattle.serial_set.proofs.RunWalks.{since_from, since_runs, since_to}
-use Rattle.krl_entries.specs.Questions.{IsFirst}
 
 -- properties of the same numbers have the same first number
 pub first_as : (Member Other : ℕ → Type 0) (lo hi : ℕ) (first : Option ℕ) → ((s : ℕ) → Other s ↔ Member s) → IsFirst Member lo hi first → IsFirst Other lo hi first

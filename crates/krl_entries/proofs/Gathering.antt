@@ -1,11 +1,10 @@
 -- The revocations of a list after an addition under an authority.
-use Rattle.std.proofs.Common.{◌≡◌, ℕ, ◌+◌, ◌≤◌, List, ◌++◌, refl, sym, ap, subst, inl, inr, arith}
-use Rattle.std.specs.Prelude.{Some, Result, Ok, Err, MatchResult, OnOk, OnErr}
-use Rattle.std.specs.declared.alloc.AllocError.{AllocError}
-use Rattle.krl_entries.specs.declared.addition.Addition.{Addition}
-use Rattle.krl_entries.specs.Changes.{HoldsMore, IsOneChange, MeansMore, TakesAddition, added_entries, bytes_in}
-use Rattle.krl_entries.specs.Gathered.{AddsUnder, Gathered, HasPlace, whole, with_section}
-use Rattle.krl_entries.specs.Revocations.{IsNamed, IsOrderly, IsStoredAtMost, Means, Revocations, Section, held, stored}
+use Rattle.krl_entries.proofs.Common.{◌++◌, ◌+◌, ◌≡◌, ◌≤◌, added_entries, Addition, AddsUnder}
+use Rattle.krl_entries.proofs.Common.{AllocError, ap, arith, bytes_in, Err, Gathered, HasPlace}
+use Rattle.krl_entries.proofs.Common.{held, HoldsMore, inl, inr, IsNamed, IsOneChange, IsOrderly}
+use Rattle.krl_entries.proofs.Common.{IsStoredAtMost, List, MatchResult, Means, MeansMore, Ok}
+use Rattle.krl_entries.proofs.Common.{OnErr, OnOk, refl, Result, Revocations, Section, Some, stored}
+use Rattle.krl_entries.proofs.Common.{subst, sym, TakesAddition, whole, with_section, ℕ}
 use Rattle.krl_entries.proofs.Additions.{adds_mean, takes_listed}
 use Rattle.krl_entries.proofs.Amounts.{adds_held, adds_named, adds_stored, held_stays, named_stored}
 use Rattle.krl_entries.proofs.SeparateSections.{changed_orderly, in_order, place_of}

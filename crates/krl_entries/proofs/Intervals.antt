@@ -1,20 +1,15 @@
 -- Intervals with exactly the serials of an entry.
-use Rattle.std.proofs.Common.{◌≡◌, ℕ, zero, suc, ◌+◌, ◌-◌, ◌<◌, ◌≤◌, ◌⊎◌, ◌↔◌, List, [], ◌∷◌, ◌++◌, length, refl, sym, subst, inl, inr, arith, length-append}
-use Rattle.std.specs.Int.{bit_at}
-use Rattle.std.specs.List.{Contains}
-use Rattle.std.proofs.lemmas.Bool.{cases_lt}
+use Rattle.krl_entries.proofs.Common.{[], ⊎_map, ◌++◌, ◌+◌, ◌-◌, ◌<◌, ◌↔◌, ◌∷◌, ◌≡◌, ◌≤◌, ◌⊎◌}
+use Rattle.krl_entries.proofs.Common.{arith, bit_at, BitmapEntry, cases_lt, Contains, Covers}
+use Rattle.krl_entries.proofs.Common.{covers_append, Entry, EntryNames, inl, inr, length}
+use Rattle.krl_entries.proofs.Common.{length-append, List, RangeEntry, refl, SerialOf, SerialsEntry}
+use Rattle.krl_entries.proofs.Common.{Span, subst, suc, sym, zero, ℕ}
 use Rattle.std.proofs.lemmas.Nat.Bits.{bit_at-lt}
-use Rattle.serial_set.specs.declared.span.Span.{Span}
-use Rattle.serial_set.specs.Span.{Covers}
 use Rattle.serial_set.specs.BitRuns.{BitNames}
 use Rattle.serial_set.proofs.Bits.{bit_below}
-use Rattle.serial_set.proofs.RisingLists.{covers_append}
-use Rattle.std.proofs.Math.Logic.{⊎_map}
-use Rattle.std.proofs.Math.Logic.Iff as Iff
 use Rattle.krl_entries.proofs.Equivalences.{contains_cons, iff_both, iff_or}
 use Rattle.krl_entries.proofs.Elements.{contains_none}
-use Rattle.krl_entries.specs.Entry.{Entry, SerialsEntry, RangeEntry, BitmapEntry}
-use Rattle.krl_entries.specs.Naming.{EntryNames, SerialOf}
+use Rattle.std.proofs.Math.Logic.Iff as Iff
 
 -- ---- consecutive numbers
 

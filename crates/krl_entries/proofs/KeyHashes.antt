@@ -1,15 +1,12 @@
 -- The hashes of the keys that are asked about.
-use Rattle.std.proofs.Common.{◌≡◌, ℕ, ◌⊎◌, Bool, List, [], ◌∷◌, sym, ap, subst, inl, inr}
-use Rattle.std.specs.Prelude.{◌↔◌, IsTrue}
-use Rattle.std.specs.BTreeMap.{is_at}
-use Rattle.std.specs.List.{Contains, list_any}
-use Rattle.std.proofs.Math.Logic.Iff as Iff
-use Rattle.krl_entries.specs.Changes.{Puts}
-use Rattle.krl_entries.specs.Questions.{HashesOf}
-use Rattle.krl_entries.specs.Rising.{bytes_cmp}
+use Rattle.krl_entries.proofs.Common.{[], ◌↔◌, ◌∷◌, ◌≡◌, ◌⊎◌, ap, Bool, bytes_cmp, Contains}
+use Rattle.krl_entries.proofs.Common.{HashesOf, inl, inr, is_at, IsTrue, List, list_any, Puts}
+use Rattle.krl_entries.proofs.Common.{subst, sym, ℕ}
 use Rattle.krl_entries.proofs.AddedSections.{put_held}
 use Rattle.krl_entries.proofs.Sets.{set_has}
-use Rattle.krl_entries.proofs.Elements.{contains_cases, contains_here, contains_later, contains_none}
+use Rattle.krl_entries.proofs.Elements.{contains_cases, contains_here, contains_later}
+use Rattle.krl_entries.proofs.Elements.{contains_none}
+use Rattle.std.proofs.Math.Logic.Iff as Iff
 
 -- each key is hashed or left, and each hash is one of a key
 pub record AreHashedSoFar (hash : List ℕ → List ℕ) (keys hashes left : List (List ℕ)) : Type 0 where

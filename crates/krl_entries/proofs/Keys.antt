@@ -1,11 +1,8 @@
 -- The meaning of one more key or hash.
-use Rattle.std.proofs.Common.{◌≡◌, ℕ, ◌⊎◌, List, [], ◌∷◌, ◌++◌, length, sym, subst, inl, inr}
-use Rattle.std.specs.Prelude.{◌↔◌}
-use Rattle.std.specs.List.{All}
-use Rattle.krl_entries.specs.Changes.{Puts}
-use Rattle.krl_entries.specs.Revocations.{HoldsName, Section, revocations_of, IsOrderly, Means}
-use Rattle.krl_entries.specs.Entry.{Entry, KeyEntry, Sha1Entry, Sha256Entry}
-use Rattle.krl_entries.specs.Naming.{EntryNames, KeyOf, Name, Sha1Of, Sha256Of}
+use Rattle.krl_entries.proofs.Common.{[], ◌++◌, ◌↔◌, ◌∷◌, ◌≡◌, ◌⊎◌, All, Entry, EntryNames}
+use Rattle.krl_entries.proofs.Common.{HoldsName, inl, inr, IsOrderly, KeyEntry, KeyOf, length, List}
+use Rattle.krl_entries.proofs.Common.{Means, Name, Puts, revocations_of, Section, Sha1Entry, Sha1Of}
+use Rattle.krl_entries.proofs.Common.{Sha256Entry, Sha256Of, subst, sym, ℕ}
 use Rattle.krl_entries.proofs.AddedSections.{all_middle, put_held, put_rises}
 use Rattle.krl_entries.proofs.Equivalences.{iff_none}
 use Rattle.krl_entries.proofs.SameMeaning.{means_more}

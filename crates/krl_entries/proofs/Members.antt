@@ -1,10 +1,6 @@
 -- The elements of rising lists.
-use Rattle.std.proofs.Common.{ℕ, List, [], ◌∷◌, ◌++◌, map, sym, subst}
-use Rattle.std.specs.List.{Contains}
-use Rattle.std.proofs.Math.Logic.{⊎_elim}
-use Rattle.std.proofs.lemmas.List.{map-append}
-use Rattle.std.proofs.lemmas.List.Elements.{Contains-append_cases}
-use Rattle.krl_entries.specs.Rising.{AllBelow, AllAbove}
+use Rattle.krl_entries.proofs.Common.{[], ⊎_elim, ◌++◌, ◌∷◌, AllAbove, AllBelow, Contains}
+use Rattle.krl_entries.proofs.Common.{Contains-append_cases, List, map, map-append, subst, sym, ℕ}
 use Rattle.krl_entries.proofs.RisingLists.{less_apart}
 use Rattle.krl_entries.proofs.Elements.{contains_cases, contains_none}
 

@@ -1,19 +1,15 @@
 -- The findings in a list's front when more is asked about.
-use Rattle.std.proofs.Common.{◌≡◌, ℕ, ◌+◌, ◌-◌, ◌<◌, ◌≤◌, ◌⊎◌, ◌↔◌, List, [], ◌∷◌, Ok, Err, refl, sym, ap, ap₂, subst, inl, inr, arith}
-use Rattle.std.specs.Prelude.{Contains, Result, OnOk}
-use Rattle.std.proofs.Math.Logic.{⊎_elim, ⊎_map}
-use Rattle.std.proofs.Math.Logic.Iff as Iff
-use Rattle.sha1.specs.Sha1.{sha1}
-use Rattle.sha2.specs.Sha256.{sha256}
-use Rattle.krl_entries.specs.Changes.{MeansMore}
-use Rattle.krl_entries.specs.Revocations.{Revocations, HoldsName, IsOrderly, serials_in}
-use Rattle.krl_entries.specs.Entry.{Entry, RangeEntry, IdEntry, KeyEntry, Sha1Entry, Sha256Entry}
-use Rattle.krl_entries.specs.Naming.{EntryNames, IdOf, KeyOf, Name, SerialOf, Sha1Of, Sha256Of}
-use Rattle.krl_entries.specs.Questions.{Asked, AsksMore, Finds, FindsIn, HasUnder, IsOfKey}
-use Rattle.krl_entries.specs.Scope.{IsTopic}
+use Rattle.krl_entries.proofs.Common.{[], ⊎_elim, ⊎_map, ◌+◌, ◌-◌, ◌<◌, ◌↔◌, ◌∷◌, ◌≡◌, ◌≤◌, ◌⊎◌, ap}
+use Rattle.krl_entries.proofs.Common.{ap₂, arith, Asked, AsksMore, Contains, Entry, EntryNames, Err}
+use Rattle.krl_entries.proofs.Common.{Finds, FindsIn, HasUnder, HoldsName, IdEntry, IdOf, inl, inr}
+use Rattle.krl_entries.proofs.Common.{IsOfKey, IsOrderly, IsTopic, KeyEntry, KeyOf, List, MeansMore}
+use Rattle.krl_entries.proofs.Common.{Name, Ok, OnOk, RangeEntry, refl, Result, Revocations}
+use Rattle.krl_entries.proofs.Common.{SerialOf, serials_in, sha1, Sha1Entry, Sha1Of, sha256}
+use Rattle.krl_entries.proofs.Common.{Sha256Entry, Sha256Of, subst, sym, ℕ}
 use Rattle.krl_entries.proofs.Equivalences.{iff_none, iff_or}
 use Rattle.krl_entries.proofs.AddedMeaning.{means_more_names}
 use Rattle.krl_entries.proofs.SerialCounts.{serials_grow, serials_stay}
+use Rattle.std.proofs.Math.Logic.Iff as Iff
 
 -- a consequence of two facts about a success
 pub on_ok_with : {T E P Q R : Type 0} (r : Result T E) → (P → Q → R) → OnOk r P → OnOk r Q → OnOk r R

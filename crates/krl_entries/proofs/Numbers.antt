@@ -1,9 +1,9 @@
 -- Numbers in wire format: their bytes, and the numbers that bytes spell.
-use Rattle.std.proofs.Common.{◌≡◌, ℕ, ◌^◌, ◌<◌, List, [], ◌∷◌, length, refl, sym, ap, ◌∙◌, arith}
-use Rattle.std.specs.Int.{w32, w64, from_be_bytes}
-use Rattle.std.proofs.lemmas.Nat.{be_bytes_4, be_bytes_8, from_be_bytes-to_be_bytes_4, from_be_bytes-to_be_bytes_8}
-use Rattle.ssh_wire.specs.Wire.{number, number_of}
-use Rattle.ssh_wire.specs.Wire.{IsBytes}
+use Rattle.krl_entries.proofs.Common.{[], ◌<◌, ◌^◌, ◌∙◌, ◌∷◌, ◌≡◌, ap, arith, from_be_bytes}
+use Rattle.krl_entries.proofs.Common.{IsBytes, length, List, number, number_of, refl, sym, w32, w64}
+use Rattle.krl_entries.proofs.Common.{ℕ}
+use Rattle.std.proofs.lemmas.Nat.{be_bytes_4, be_bytes_8, from_be_bytes-to_be_bytes_4}
+use Rattle.std.proofs.lemmas.Nat.{from_be_bytes-to_be_bytes_8}
 
 -- the number that four bytes spell
 pub value4 : (a b c d : ℕ) → number_of (a ∷ b ∷ c ∷ d ∷ []) ≡ from_be_bytes w32 (a ∷ b ∷ c ∷ d ∷ [])

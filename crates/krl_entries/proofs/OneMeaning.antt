@@ -1,25 +1,17 @@
 -- Revocations that mean the same entries are equal.
-use Rattle.std.proofs.Common.{◌≡◌, ℕ, List, [], ◌∷◌, refl, sym, ap, subst, ◌∙◌, inl, inr, arith}
-use Rattle.std.specs.Prelude.{◌↔◌}
-use Rattle.std.specs.List.{Contains, All}
-use Rattle.std.specs.declared.cmp.Ordering.{Ordering}
-use Rattle.std.specs.declared.cmp.Ordering.TheVariants.{Less, Equal, Greater}
-use Rattle.std.specs.Ordering.{ordering_reverse}
-use Rattle.std.proofs.Math.Logic.{⊎_elim}
-use Rattle.std.proofs.lemmas.Cmp.{nat_list_cmp_total}
-use Rattle.std.proofs.lemmas.Map.Lookups.{exact_bytes}
-use Rattle.std.proofs.lemmas.List.Elements.{All-tail}
-use Rattle.serial_set.specs.declared.span.Span.{Span}
-use Rattle.serial_set.specs.Span.{Covers}
+use Rattle.krl_entries.proofs.Common.{[], ⊎_elim, ◌↔◌, ◌∙◌, ◌∷◌, ◌≡◌, All, All-tail, AllAbove, ap}
+use Rattle.krl_entries.proofs.Common.{arith, bytes_cmp, Contains, Covers, Entry, Equal, exact_bytes}
+use Rattle.krl_entries.proofs.Common.{Greater, HoldsName, IdOf, inl, inr, IsListed, KeyOf, Less}
+use Rattle.krl_entries.proofs.Common.{List, Means, Name, nat_list_cmp_total, Ordering}
+use Rattle.krl_entries.proofs.Common.{ordering_reverse, refl, Revocations, revocations_of, Rises}
+use Rattle.krl_entries.proofs.Common.{RisesBy, Section, section_with, SerialOf, Sha1Of, Sha256Of}
+use Rattle.krl_entries.proofs.Common.{SomeSection, Span, subst, sym, ℕ}
 use Rattle.serial_set.proofs.LeastLists.{runs_unique}
-use Rattle.krl_entries.specs.Revocations.{Revocations, HoldsName, IsListed, Means, Section, SomeSection, revocations_of, section_with}
-use Rattle.krl_entries.specs.Entry.{Entry}
-use Rattle.krl_entries.specs.Naming.{IdOf, KeyOf, Name, SerialOf, Sha1Of, Sha256Of}
-use Rattle.std.proofs.Math.Logic.Iff as Iff
 use Rattle.krl_entries.proofs.SomeSections.{HeldIn, no_section}
-use Rattle.krl_entries.specs.Rising.{bytes_cmp, AllAbove, Rises, RisesBy}
 use Rattle.krl_entries.proofs.RisingLists.{AllAbove-earlier, before_trans, less_apart}
-use Rattle.krl_entries.proofs.Elements.{contains_cases, contains_here, contains_later, contains_none, some_serial, some_text, some_weaker}
+use Rattle.krl_entries.proofs.Elements.{contains_cases, contains_here, contains_later}
+use Rattle.krl_entries.proofs.Elements.{contains_none, some_serial, some_text, some_weaker}
+use Rattle.std.proofs.Math.Logic.Iff as Iff
 
 -- ---- the order of two byte strings
 

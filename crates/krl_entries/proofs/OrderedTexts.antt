@@ -1,30 +1,24 @@
 -- A few byte strings in order.
-use Rattle.std.proofs.Common.{◌≡◌, false, get_or, ℕ, zero, suc, ◌+◌, ◌<◌, ◌≤◌, List, [], ◌∷◌, length, take, drop, map, refl, sym, ap, subst, ◌∙◌, inl, inr, arith}
-use Rattle.std.specs.Prelude.{◌↔◌, Result, Ok, Err, MatchOption, insert}
-use Rattle.std.specs.List.{AllByRecursion, AllWithin, AllZip, Contains, HoldsAt}
-use Rattle.std.specs.List.Sorted.{IsBinarySearchResult, IsSearchInRange, IsSortedBy}
-use Rattle.std.specs.Ordering.{is_lt, ordering_reverse}
+use Rattle.krl_entries.proofs.Common.{[], ◌+◌, ◌<◌, ◌↔◌, ◌∙◌, ◌∷◌, ◌≡◌, ◌≤◌, AllAbove}
+use Rattle.krl_entries.proofs.Common.{AllByRecursion, AllWithin, AllZip, ap, arith, BTreeSet}
+use Rattle.krl_entries.proofs.Common.{bytes_cmp, bytes_of, Contains, contains, drop, Err}
+use Rattle.krl_entries.proofs.Common.{exact_bytes, false, get_or, GoesTo, HoldsAt, inl, inr, insert}
+use Rattle.krl_entries.proofs.Common.{Inserts, is_lt, IsBinarySearchResult, IsFromIterResult}
+use Rattle.krl_entries.proofs.Common.{IsSearchInRange, IsSortedBy, length, Less, List, map, map-id}
+use Rattle.krl_entries.proofs.Common.{MatchOption, nat_list_cmp_total, Ok, ordering_reverse, Puts}
+use Rattle.krl_entries.proofs.Common.{refl, Result, Rises, RisesBy, subst, suc, sym, take}
+use Rattle.krl_entries.proofs.Common.{take-append-drop, texts_of, vec_len, zero, ℕ}
 use Rattle.std.specs.Result.{result_err}
-use Rattle.std.specs.declared.cmp.Ordering.TheVariants.{Less}
-use Rattle.std.proofs.lemmas.Cmp.{nat_list_cmp_total}
 use Rattle.std.proofs.lemmas.List.Sorted.{searchable_from_sorted}
-use Rattle.std.proofs.lemmas.Map.Lookups.{exact_bytes}
-use Rattle.std.proofs.lemmas.List.{map-id, take-append-drop}
 use Rattle.std.proofs.lemmas.Slice.Zip.{AllZip-map}
-use Rattle.std.proofs.Math.Logic.Iff as Iff
-use Rattle.std.specs.BTreeSet.{BTreeSet, IsFromIterResult, contains}
-use Rattle.std.specs.Vec.{vec_len}
 use Rattle.std.specs.Global.{Vec}
-use Rattle.krl_entries.specs.Changes.{Puts}
-use Rattle.krl_entries.specs.Ids.{GoesTo}
-use Rattle.krl_entries.specs.Inserting.{Inserts}
-use Rattle.krl_entries.specs.Rising.{bytes_cmp, AllAbove, Rises, RisesBy}
 use Rattle.krl_entries.proofs.OneMeaning.{same_texts}
 use Rattle.krl_entries.proofs.RisingLists.{inserts_map, inserts_rise, turned}
 use Rattle.krl_entries.proofs.Sets.{by_read, read_has, read_sorted, rises_sorted}
 use Rattle.krl_entries.proofs.Members.{absent_parts}
-use Rattle.krl_entries.proofs.Elements.{contains_cases, contains_here, contains_later, contains_none}
-use Rattle.krl_entries.specs.Texts.{bytes_of, texts_of}
+use Rattle.krl_entries.proofs.Elements.{contains_cases, contains_here, contains_later}
+use Rattle.krl_entries.proofs.Elements.{contains_none}
+use Rattle.std.proofs.Math.Logic.Iff as Iff
 
 -- ---- the place of a byte string
 

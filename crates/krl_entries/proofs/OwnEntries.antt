@@ -1,22 +1,17 @@
 -- Revocations mean their own entries.
-use Rattle.std.proofs.Common.{◌≡◌, ℕ, List, [], ◌∷◌, ◌++◌, map}
-use Rattle.std.specs.Prelude.{◌↔◌}
-use Rattle.std.specs.List.{All, Contains, flat_map}
-use Rattle.std.proofs.Math.Logic.{⊎_elim}
-use Rattle.std.proofs.Math.Logic.Iff as Iff
-use Rattle.std.proofs.lemmas.List.Elements.{All-head, All-tail}
-use Rattle.serial_set.specs.Span.{AreSerials}
-use Rattle.krl_entries.specs.Canonical.{entries_in, section_entries}
-use Rattle.krl_entries.specs.Changes.{run_entries}
-use Rattle.krl_entries.specs.Revocations.{Revocations, HoldsName, IsListed, IsOrderly, Means, Section, SomeSection}
-use Rattle.krl_entries.specs.Entry.{Entry, RangeEntry, IdEntry, KeyEntry, Sha1Entry, Sha256Entry}
-use Rattle.krl_entries.specs.Naming.{EntryNames, IdOf, KeyOf, Name, SerialOf, Sha1Of, Sha256Of, SomeNames}
+use Rattle.krl_entries.proofs.Common.{[], ⊎_elim, ◌++◌, ◌↔◌, ◌∷◌, ◌≡◌, All, All-head, All-tail}
+use Rattle.krl_entries.proofs.Common.{AreSerials, Contains, entries_in, Entry, EntryNames, flat_map}
+use Rattle.krl_entries.proofs.Common.{HoldsName, IdEntry, IdOf, IsListed, IsOrderly, KeyEntry}
+use Rattle.krl_entries.proofs.Common.{KeyOf, List, map, Means, Name, RangeEntry, Revocations}
+use Rattle.krl_entries.proofs.Common.{run_entries, Section, section_entries, SerialOf, Sha1Entry}
+use Rattle.krl_entries.proofs.Common.{Sha1Of, Sha256Entry, Sha256Of, SomeNames, SomeSection, ℕ}
 use Rattle.krl_entries.proofs.Runs.{run_entries-name}
 use Rattle.krl_entries.proofs.Equivalences.{contains_cons, iff_or}
 use Rattle.krl_entries.proofs.Entries.{runs_name_none}
 use Rattle.krl_entries.proofs.SameNames.{mapped_name, some_append, some_first, some_last}
 use Rattle.krl_entries.proofs.SomeSections.{HeldIn, no_section}
 use Rattle.krl_entries.proofs.Elements.{contains_none, some_cases}
+use Rattle.std.proofs.Math.Logic.Iff as Iff
 
 -- ---- texts of one kind
 

@@ -1,13 +1,10 @@
 -- Entries that name none of the topics of some questions, and entries that name the same of them.
-use Rattle.std.proofs.Common.{◌≡◌, ℕ, ◌≤◌, ◌⊎◌, List, [], ◌∷◌, Some, sym, subst, ◌∙◌, arith, inl, inr}
-use Rattle.std.specs.Prelude.{◌↔◌}
-use Rattle.std.specs.List.{Contains}
-use Rattle.sha1.specs.Sha1.{sha1}
-use Rattle.sha2.specs.Sha256.{sha256}
-use Rattle.krl_entries.specs.Revocations.{Revocations, HoldsId, HoldsSerial}
-use Rattle.krl_entries.specs.Entry.{BitmapEntry, Entry, IdEntry, KeyEntry, RangeEntry, SerialsEntry, Sha1Entry, Sha256Entry}
-use Rattle.krl_entries.specs.Naming.{EntryNames, IdOf, KeyOf, Name, SerialOf, Sha1Of, Sha256Of, SomeNames}
-use Rattle.krl_entries.specs.Scope.{InScope, IsTopic}
+use Rattle.krl_entries.proofs.Common.{[], ◌↔◌, ◌∙◌, ◌∷◌, ◌≡◌, ◌≤◌, ◌⊎◌, arith, BitmapEntry}
+use Rattle.krl_entries.proofs.Common.{Contains, Entry, EntryNames, HoldsId, HoldsSerial, IdEntry}
+use Rattle.krl_entries.proofs.Common.{IdOf, inl, inr, InScope, IsTopic, KeyEntry, KeyOf, List, Name}
+use Rattle.krl_entries.proofs.Common.{RangeEntry, Revocations, SerialOf, SerialsEntry, sha1}
+use Rattle.krl_entries.proofs.Common.{Sha1Entry, Sha1Of, sha256, Sha256Entry, Sha256Of, Some}
+use Rattle.krl_entries.proofs.Common.{SomeNames, subst, sym, ℕ}
 
 -- ---- entries that name none of the topics
 

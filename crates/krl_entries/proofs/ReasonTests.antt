@@ -1,29 +1,24 @@
 -- The tests find exactly the reasons why something is revoked.
-use Rattle.std.proofs.Common.{◌≡◌, ℕ, Bool, List, [], Option, Some, None, refl, sym, ap, ◌∙◌, subst, inl, inr}
-use Rattle.std.specs.Prelude.{◌↔◌, IsTrue}
+use Rattle.krl_entries.proofs.Common.{[], ◌↔◌, ◌∙◌, ◌≡◌, any_reason, ap, Asks, Bool, cert_reasons}
+use Rattle.krl_entries.proofs.Common.{Contains, entries_in, Entry, has_reason, HasCert}
+use Rattle.krl_entries.proofs.Common.{held_reasons, holds_name, HoldsName, IdOf, inl, inr}
+use Rattle.krl_entries.proofs.Common.{is_revoked, IsReason, IsTrue, key_reasons, KeyOf, List, Means}
+use Rattle.krl_entries.proofs.Common.{MeansInScope, Name, no_key_reasons, no_name_reasons, None}
+use Rattle.krl_entries.proofs.Common.{Option, reasons_by, reasons_of, refl, Revocations, revokes}
+use Rattle.krl_entries.proofs.Common.{SerialOf, sha1, Sha1Of, sha256, Sha256Of, Some, some_names}
+use Rattle.krl_entries.proofs.Common.{SomeNames, subst, sym, with_cert, ℕ}
 use Rattle.std.specs.Cmp.{both_ways}
-use Rattle.std.specs.List.{Contains}
-use Rattle.std.proofs.Math.Logic.Iff as Iff
-use Rattle.sha1.specs.Sha1.{sha1}
-use Rattle.sha2.specs.Sha256.{sha256}
 use Rattle.krl_types.specs.Subject.{CertNames, Subject}
-use Rattle.krl_entries.specs.Canonical.{entries_in}
-use Rattle.krl_entries.specs.Entry.{Entry}
-use Rattle.krl_entries.specs.Naming.{IdOf, KeyOf, Name, SerialOf, Sha1Of, Sha256Of, SomeNames}
-use Rattle.krl_entries.specs.Questions.{Asks, HasCert}
-use Rattle.krl_entries.specs.Reasons.{IsReason, any_reason, cert_reasons, has_reason, held_reasons, is_revoked, key_reasons, no_key_reasons, no_name_reasons, reasons_by, reasons_of, revokes, with_cert}
-use Rattle.krl_entries.specs.Revocations.{HoldsName, Means, Revocations}
 use Rattle.krl_entries.specs.Revoked.{Revoked}
-use Rattle.krl_entries.specs.Scope.{MeansInScope}
-use Rattle.krl_entries.specs.Tested.{holds_name, some_names}
 use Rattle.krl_entries.specs.declared.reasons.KeyReasons.{KeyReasons}
 use Rattle.krl_entries.specs.declared.reasons.NameReasons.{NameReasons}
 use Rattle.krl_entries.specs.declared.reasons.Reason.{Reason}
-use Rattle.krl_entries.specs.declared.reasons.Reason.TheVariants as reasons
 use Rattle.krl_entries.specs.declared.reasons.Reasons.{Reasons}
 use Rattle.krl_entries.proofs.OwnEntries.{means_itself}
 use Rattle.krl_entries.proofs.QuestionAnswers.{NamesSameTopics, same_serials}
 use Rattle.krl_entries.proofs.RevokedTests.{name_tested, none_tested, revoked_tested, some_tested}
+use Rattle.std.proofs.Math.Logic.Iff as Iff
+use Rattle.krl_entries.specs.declared.reasons.Reason.TheVariants as reasons
 
 -- ---- the tests of names
 

@@ -1,26 +1,24 @@
 -- The tests of names find exactly those that entries name or that are held, and the test of whether
 -- something is revoked is true exactly for what entries revoke.
-use Rattle.std.proofs.Common.{◌≡◌, ℕ, ◌≤◌, ◌-◌, Bool, false, List, [], ◌∷◌, arith, sym, subst}
-use Rattle.std.specs.Prelude.{◌↔◌, ◌==◌, ◌||◌, ◌&&◌, nat_lt, nat_le, Option, Some, None, IsTrue}
-use Rattle.std.specs.Int.{bit_at}
-use Rattle.std.specs.List.{Contains, list_any}
-use Rattle.std.specs.Str.{bytes_eq}
-use Rattle.std.proofs.lemmas.Bool.Decides.{Decides-and, Decides-eqb, Decides-ltb, Decides-or, nat_tests}
+use Rattle.krl_entries.proofs.Common.{[], ◌&&◌, ◌-◌, ◌==◌, ◌||◌, ◌↔◌, ◌∷◌, ◌≡◌, ◌≤◌, any_of_key}
+use Rattle.krl_entries.proofs.Common.{any_of_name, any_reason, arith, bit_at, BitmapEntry, Bool}
+use Rattle.krl_entries.proofs.Common.{bytes_eq, Contains, Covers, Entry, entry_names, EntryNames}
+use Rattle.krl_entries.proofs.Common.{false, has, has_names, holds_name, HoldsName, id_reasons}
+use Rattle.krl_entries.proofs.Common.{IdEntry, IdOf, is_among, is_revoked, IsTrue, key_reasons}
+use Rattle.krl_entries.proofs.Common.{KeyEntry, KeyNamed, KeyOf, List, list_any, Means, Name}
+use Rattle.krl_entries.proofs.Common.{nat_le, nat_lt, None, Option, RangeEntry, reasons_by}
+use Rattle.krl_entries.proofs.Common.{Revocations, revokes, Section, serial_reasons, SerialOf}
+use Rattle.krl_entries.proofs.Common.{SerialsEntry, sha1, Sha1Entry, Sha1Of, sha256, Sha256Entry}
+use Rattle.krl_entries.proofs.Common.{Sha256Of, Some, some_names, SomeNames, SomeSection, subst}
+use Rattle.krl_entries.proofs.Common.{sym, with_cert, ℕ}
+use Rattle.std.proofs.lemmas.Bool.Decides.{Decides-and, Decides-eqb, Decides-ltb, Decides-or}
+use Rattle.std.proofs.lemmas.Bool.Decides.{nat_tests}
 use Rattle.std.proofs.lemmas.Slice.Eq.{bytes_eq-Decides}
-use Rattle.std.proofs.Math.Logic.Iff as Iff
-use Rattle.sha1.specs.Sha1.{sha1}
-use Rattle.sha2.specs.Sha256.{sha256}
-use Rattle.serial_set.specs.Span.{Covers, has}
-use Rattle.serial_set.proofs.RisingLists.{has_names}
 use Rattle.krl_types.specs.Subject.{CertNames, Subject}
-use Rattle.krl_entries.specs.Revocations.{HoldsName, Means, Revocations, Section, SomeSection}
-use Rattle.krl_entries.specs.Entry.{BitmapEntry, Entry, IdEntry, KeyEntry, RangeEntry, SerialsEntry, Sha1Entry, Sha256Entry}
-use Rattle.krl_entries.specs.Naming.{EntryNames, IdOf, KeyNamed, KeyOf, Name, SerialOf, Sha1Of, Sha256Of, SomeNames}
-use Rattle.krl_entries.specs.Reasons.{any_of_key, any_of_name, any_reason, id_reasons, is_revoked, key_reasons, reasons_by, revokes, serial_reasons, with_cert}
 use Rattle.krl_entries.specs.Revoked.{Revoked}
-use Rattle.krl_entries.specs.Tested.{entry_names, holds_name, is_among, some_names}
 use Rattle.krl_entries.proofs.Equivalences.{contains_cons}
 use Rattle.krl_entries.proofs.Elements.{contains_none}
+use Rattle.std.proofs.Math.Logic.Iff as Iff
 
 -- ---- the names of entries
 

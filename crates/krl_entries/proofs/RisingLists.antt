@@ -1,11 +1,8 @@
 -- Rising lists: the elements before and after one.
-use Rattle.std.proofs.Common.{◌≡◌, ℕ, List, [], ◌∷◌, ◌++◌, map, sym, ap, subst, ◌∙◌}
-use Rattle.std.specs.declared.cmp.Ordering.TheVariants.{Less, Equal, Greater}
-use Rattle.std.specs.Ordering.{ordering_reverse}
-use Rattle.std.proofs.lemmas.Cmp.{nat_list_cmp_total, tied_itself}
-use Rattle.krl_entries.specs.Rising.{bytes_cmp, AllBelow, AllAbove, RisesBy}
-use Rattle.krl_entries.specs.Inserting.{Inserts}
-use Rattle.std.proofs.lemmas.List.{map-append}
+use Rattle.krl_entries.proofs.Common.{[], ◌++◌, ◌∙◌, ◌∷◌, ◌≡◌, AllAbove, AllBelow, ap, bytes_cmp}
+use Rattle.krl_entries.proofs.Common.{Equal, Greater, Inserts, Less, List, map, map-append}
+use Rattle.krl_entries.proofs.Common.{nat_list_cmp_total, ordering_reverse, RisesBy, subst, sym}
+use Rattle.krl_entries.proofs.Common.{tied_itself, ℕ}
 
 pub before_trans : (a b c : List ℕ) → bytes_cmp a b ≡ Less → bytes_cmp b c ≡ Less → bytes_cmp a c ≡ Less
 before_trans a b c p q = nat_list_cmp_total.trans a b c p q

@@ -1,16 +1,9 @@
 -- The serial numbers with which runs begin, as one list.
-use Rattle.std.proofs.Common.{◌≡◌, ℕ, ◌+◌, ◌-◌, ◌<◌, ◌≤◌, List, [], ◌∷◌, length, map, ◌∙◌, inl, inr, arith}
-use Rattle.std.specs.Prelude.{sum_by}
-use Rattle.std.specs.List.{All, Contains}
-use Rattle.std.proofs.Math.Logic.{⊎_elim}
-use Rattle.std.proofs.lemmas.List.{length-map}
-use Rattle.std.proofs.lemmas.List.Elements.{All-head, All-tail, All-weaker}
-use Rattle.serial_set.specs.declared.span.Span.{Span}
-use Rattle.serial_set.specs.Span.{Covers, RunsFrom}
-use Rattle.serial_set.proofs.RisingLists.{names_from}
-use Rattle.krl_entries.specs.Revocations.{Revocations, HoldsSerial, IsListed, IsOrderly, Section, SomeSection, held}
-use Rattle.krl_entries.specs.Rising.{RisesBy}
-use Rattle.krl_entries.specs.Scope.{BeginsRun}
+use Rattle.krl_entries.proofs.Common.{[], ⊎_elim, ◌+◌, ◌-◌, ◌<◌, ◌∙◌, ◌∷◌, ◌≡◌, ◌≤◌, All, All-head}
+use Rattle.krl_entries.proofs.Common.{All-tail, All-weaker, arith, BeginsRun, Contains, Covers}
+use Rattle.krl_entries.proofs.Common.{held, HoldsSerial, inl, inr, IsListed, IsOrderly, length}
+use Rattle.krl_entries.proofs.Common.{length-map, List, map, names_from, Revocations, RisesBy}
+use Rattle.krl_entries.proofs.Common.{RunsFrom, Section, SomeSection, Span, sum_by, ℕ}
 use Rattle.krl_entries.proofs.DistinctLists.{Once, sum_ones}
 use Rattle.krl_entries.proofs.OneMeaning.{held_first, section_authority}
 use Rattle.krl_entries.proofs.AuthorityItems.{in_under, once_under, some_listed, sum_under, under}

@@ -1,13 +1,10 @@
 -- The entries of runs of serials.
-use Rattle.std.proofs.Common.{◌≡◌, ℕ, ◌<◌, ◌≤◌, ◌↔◌, List, [], ◌∷◌, ◌++◌, refl, ap}
-use Rattle.std.proofs.Math.Logic.Iff as Iff
-use Rattle.serial_set.specs.declared.span.Span.{Span}
-use Rattle.serial_set.specs.Span.{Covers}
-use Rattle.krl_entries.specs.Changes.{run_entries}
-use Rattle.krl_entries.specs.Entry.{Entry, RangeEntry}
-use Rattle.krl_entries.specs.Naming.{EntryNames, SerialOf, SomeNames}
+use Rattle.krl_entries.proofs.Common.{[], ◌++◌, ◌<◌, ◌↔◌, ◌∷◌, ◌≡◌, ◌≤◌, ap, Covers, Entry}
+use Rattle.krl_entries.proofs.Common.{EntryNames, List, RangeEntry, refl, run_entries, SerialOf}
+use Rattle.krl_entries.proofs.Common.{SomeNames, Span, ℕ}
 use Rattle.krl_entries.proofs.Equivalences.{iff_both, iff_or}
 use Rattle.krl_entries.proofs.SameNames.{AreSerials}
+use Rattle.std.proofs.Math.Logic.Iff as Iff
 
 -- the entries of runs name the numbers in them
 pub run_entries-name : (a : List ℕ) (runs : List Span) (b : List ℕ) (s : ℕ)

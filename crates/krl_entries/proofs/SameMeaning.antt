@@ -1,13 +1,11 @@
 -- Revocations, and lists of entries that name the same.
-use Rattle.std.proofs.Common.{List, ◌++◌, ◌∷◌, [], rules}
-use Rattle.std.specs.Prelude.{◌↔◌, ◌⊎◌}
-use Rattle.std.proofs.Math.Logic.Iff as Iff
-use Rattle.krl_entries.specs.Revocations.{Revocations, HoldsName, IsOrderly, Means, nothing}
-use Rattle.krl_entries.specs.Entry.{Entry}
-use Rattle.krl_entries.specs.Naming.{EntryNames, IdOf, KeyOf, Name, NamesSame, SerialOf, Sha1Of, Sha256Of, SomeNames}
+use Rattle.krl_entries.proofs.Common.{[], ◌++◌, ◌↔◌, ◌∷◌, ◌⊎◌, Entry, EntryNames, HoldsName, IdOf}
+use Rattle.krl_entries.proofs.Common.{IsOrderly, KeyOf, List, Means, Name, NamesSame, nothing}
+use Rattle.krl_entries.proofs.Common.{Revocations, rules, SerialOf, Sha1Of, Sha256Of, SomeNames}
 use Rattle.krl_entries.proofs.Equivalences.{iff_none, iff_or}
 use Rattle.krl_entries.proofs.SameNames.{some_append}
 use Rattle.krl_entries.proofs.Elements.{contains_none}
+use Rattle.std.proofs.Math.Logic.Iff as Iff
 
 pub same_meaning : (r : Revocations) (entries others : List Entry) → Means r entries → NamesSame entries others → Means r others
 same_meaning r entries others m same = record { orderly = m.orderly; names = λ name. Iff.trans (m.names name) (same name) }

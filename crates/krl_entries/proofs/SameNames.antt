@@ -1,12 +1,12 @@
 -- Lists of entries that name the same.
-use Rattle.std.proofs.Common.{◌≡◌, ℕ, ◌<◌, ◌≤◌, ◌⊎◌, ◌↔◌, List, [], ◌∷◌, ◌++◌, map, sym, subst, append_assoc, arith, inl, inr}
-use Rattle.std.specs.List.{AllByRecursion, Contains}
-use Rattle.std.proofs.Math.Logic.{⊎_elim}
-use Rattle.std.proofs.Math.Logic.Iff as Iff
-use Rattle.krl_entries.specs.Entry.{Entry, SerialsEntry, RangeEntry, BitmapEntry}
-use Rattle.krl_entries.specs.Naming.{EntryNames, Name, NamesSame, SerialOf, SomeNames}
-use Rattle.krl_entries.proofs.Equivalences.{contains_cons, contains_one, iff_both, iff_none, iff_or, iff_swap}
+use Rattle.krl_entries.proofs.Common.{[], ⊎_elim, ◌++◌, ◌<◌, ◌↔◌, ◌∷◌, ◌≡◌, ◌≤◌, ◌⊎◌}
+use Rattle.krl_entries.proofs.Common.{AllByRecursion, append_assoc, arith, BitmapEntry, Contains}
+use Rattle.krl_entries.proofs.Common.{Entry, EntryNames, inl, inr, List, map, Name, NamesSame}
+use Rattle.krl_entries.proofs.Common.{RangeEntry, SerialOf, SerialsEntry, SomeNames, subst, sym, ℕ}
+use Rattle.krl_entries.proofs.Equivalences.{contains_cons, contains_one, iff_both, iff_none, iff_or}
+use Rattle.krl_entries.proofs.Equivalences.{iff_swap}
 use Rattle.krl_entries.proofs.Elements.{contains_none, some_left, some_right, some_cases}
+use Rattle.std.proofs.Math.Logic.Iff as Iff
 
 -- ---- joined lists
 

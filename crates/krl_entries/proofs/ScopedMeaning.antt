@@ -1,11 +1,8 @@
 -- The meaning of revocations within a scope.
-use Rattle.std.proofs.Common.{List, []}
-use Rattle.std.proofs.Math.Logic.Iff as Iff
-use Rattle.krl_entries.specs.Revocations.{Revocations, Means, nothing}
-use Rattle.krl_entries.specs.Entry.{Entry}
-use Rattle.krl_entries.specs.Naming.{NamesSame}
-use Rattle.krl_entries.specs.Scope.{all, MeansInScope, Scope}
+use Rattle.krl_entries.proofs.Common.{[], all, Entry, List, Means, MeansInScope, NamesSame, nothing}
+use Rattle.krl_entries.proofs.Common.{Revocations, Scope}
 use Rattle.krl_entries.proofs.SameMeaning.{nothing_meant}
+use Rattle.std.proofs.Math.Logic.Iff as Iff
 
 -- revocations that mean some entries mean them within any scope
 pub means_within : (scope : Scope) (r : Revocations) (entries : List Entry) → Means r entries → MeansInScope scope r entries

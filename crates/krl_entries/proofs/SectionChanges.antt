@@ -1,29 +1,18 @@
 -- The effect of an addition to one section on all sections.
-use Rattle.std.proofs.Common.{◌≡◌, ℕ, List, [], ◌∷◌, ◌++◌, map, refl, sym, ap, subst, ◌∙◌, inl, inr, cond}
-use Rattle.std.specs.Prelude.{Option, Some, None, MatchOption, Result, Ok, Err, MatchResult, OnErr, OnOk}
-use Rattle.std.specs.declared.alloc.AllocError.{AllocError}
-use Rattle.std.specs.Borrow.{Bor}
+use Rattle.krl_entries.proofs.Common.{[], ◌++◌, ◌∙◌, ◌∷◌, ◌≡◌, Addition, AddsTo, AllAbove}
+use Rattle.krl_entries.proofs.Common.{AllByRecursion, AllocError, ap, Bor, bytes_cmp, ChangesOne}
+use Rattle.krl_entries.proofs.Common.{cond, empty_section, Equal, Err, exact_bytes, Greater, Id}
+use Rattle.krl_entries.proofs.Common.{inl, inr, insert_entry, is_at, is_eq, IsStrictlySortedBy}
+use Rattle.krl_entries.proofs.Common.{Less, List, map, map-append, match_ordering, MatchOption}
+use Rattle.krl_entries.proofs.Common.{MatchResult, name_of, named_sections, None, Ok, OnErr, OnOk}
+use Rattle.krl_entries.proofs.Common.{Option, option_copied, Ordering, refl, Result, RisesBy}
+use Rattle.krl_entries.proofs.Common.{Section, section_of, sections_of, Serials, Some, SomeSection}
+use Rattle.krl_entries.proofs.Common.{Span, Stands, subst, sym, TakesAddition, ℕ}
 use Rattle.std.specs.Global.{Vec}
-use Rattle.std.specs.Option.{option_copied}
-use Rattle.std.specs.List.{AllByRecursion}
-use Rattle.std.specs.List.Sorted.{IsStrictlySortedBy}
-use Rattle.std.specs.declared.cmp.Ordering.{Ordering}
-use Rattle.std.specs.declared.cmp.Ordering.TheVariants.{Less, Equal, Greater}
-use Rattle.std.specs.Ordering.{match_ordering, is_eq}
-use Rattle.std.specs.BTreeMap.{insert_entry, is_at}
 use Rattle.std.specs.Map.{lookup, set_value}
-use Rattle.std.proofs.lemmas.Map.Lookups.{exact_bytes}
-use Rattle.std.proofs.lemmas.List.{map-append}
-use Rattle.serial_set.specs.declared.span.Span.{Span}
-use Rattle.krl_entries.specs.declared.addition.Addition.{Addition}
-use Rattle.krl_entries.specs.declared.addition.Addition.TheVariants.{Serials, Id}
 use Rattle.krl_entries.specs.declared.authority_entries.AuthorityEntries.{AuthorityEntries}
-use Rattle.krl_entries.specs.Inserting.{Stands}
-use Rattle.krl_entries.specs.Rising.{bytes_cmp, AllAbove, RisesBy}
-use Rattle.krl_entries.specs.Changes.{TakesAddition, AddsTo, ChangesOne, empty_section}
-use Rattle.krl_entries.specs.Revocations.{Section, SomeSection}
-use Rattle.krl_entries.specs.AuthorityEntries.{name_of, section_of, sections_of, named_sections}
-use Rattle.krl_entries.proofs.RisingLists.{above_map, back_above, below_map, front_below, inserts_map, rises_changed, tied}
+use Rattle.krl_entries.proofs.RisingLists.{above_map, back_above, below_map, front_below}
+use Rattle.krl_entries.proofs.RisingLists.{inserts_map, rises_changed, tied}
 
 pub takes_authority : (addition : Addition) (from to : Section) → TakesAddition addition from to → to.authority ≡ from.authority
 takes_authority (Serials near) from to t = ap (λ (s : Section). s.authority) t.same

@@ -1,12 +1,7 @@
 -- The one section of an authority.
-use Rattle.std.proofs.Common.{◌≡◌, ℕ, ◌⊎◌, List, [], ◌∷◌, ◌++◌, sym, subst, ◌∙◌, inl, inr}
-use Rattle.std.specs.Prelude.{◌↔◌}
-use Rattle.std.specs.List.{Contains}
-use Rattle.std.proofs.Math.Logic.{⊎_elim, ⊎_map}
-use Rattle.serial_set.specs.Span.{Covers}
-use Rattle.krl_entries.specs.Inserting.{Stands}
-use Rattle.krl_entries.specs.Revocations.{HoldsId, HoldsSerial, Section, SomeSection}
-use Rattle.krl_entries.specs.Rising.{AllAbove, AllBelow}
+use Rattle.krl_entries.proofs.Common.{[], ⊎_elim, ⊎_map, ◌++◌, ◌↔◌, ◌∙◌, ◌∷◌, ◌≡◌, ◌⊎◌, AllAbove}
+use Rattle.krl_entries.proofs.Common.{AllBelow, Contains, Covers, HoldsId, HoldsSerial, inl, inr}
+use Rattle.krl_entries.proofs.Common.{List, Section, SomeSection, Stands, subst, sym, ℕ}
 use Rattle.krl_entries.proofs.RisingLists.{less_apart}
 use Rattle.krl_entries.proofs.SomeSections.{some_middle}
 use Rattle.krl_entries.proofs.Elements.{some_weaker}

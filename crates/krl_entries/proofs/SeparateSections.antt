@@ -1,26 +1,19 @@
 -- Sections that are kept apart.
-use Rattle.std.proofs.Common.{◌≡◌, ◌⊎◌, ℕ, false, List, [], ◌∷◌, ◌++◌, refl, sym, ap, subst, ◌∙◌, inl, inr, cond}
-use Rattle.std.specs.Prelude.{Option, Some, None, Result, Ok, Err, MatchResult, IfOk, OnErr}
-use Rattle.std.specs.declared.alloc.AllocError.{AllocError}
-use Rattle.std.specs.List.{All, AllByRecursion}
-use Rattle.std.specs.declared.cmp.Ordering.{Ordering}
-use Rattle.std.specs.declared.cmp.Ordering.TheVariants.{Less, Equal, Greater}
-use Rattle.std.specs.Ordering.{is_eq}
-use Rattle.std.specs.BTreeMap.{is_at}
+use Rattle.krl_entries.proofs.Common.{[], ◌++◌, ◌∙◌, ◌∷◌, ◌≡◌, ◌⊎◌, Addition, All, AllByRecursion}
+use Rattle.krl_entries.proofs.Common.{AllocError, ap, apart_of, bytes_cmp, cond, empty_section}
+use Rattle.krl_entries.proofs.Common.{Equal, Err, exact_bytes, false, Greater, HasPlace, IfOk, inl}
+use Rattle.krl_entries.proofs.Common.{inr, is_at, is_eq, IsListed, IsOneChange, IsOrderly, IsTaken}
+use Rattle.krl_entries.proofs.Common.{Less, List, MatchResult, named_sections, None, Ok, OnErr}
+use Rattle.krl_entries.proofs.Common.{Option, Ordering, refl, Result, revocations_of, RisesBy}
+use Rattle.krl_entries.proofs.Common.{Section, section_of, sections_of, Some, SomeSection, Span}
+use Rattle.krl_entries.proofs.Common.{subst, sym, TakesOut, with_section, ℕ}
 use Rattle.std.specs.Map.{lookup, set_value}
-use Rattle.std.proofs.lemmas.Map.Lookups.{exact_bytes}
-use Rattle.serial_set.specs.declared.span.Span.{Span}
-use Rattle.krl_entries.specs.declared.addition.Addition.{Addition}
 use Rattle.krl_entries.specs.declared.authority_entries.Apart.{Apart}
 use Rattle.krl_entries.specs.declared.authority_entries.AuthorityEntries.{AuthorityEntries}
-use Rattle.krl_entries.specs.Rising.{bytes_cmp, RisesBy}
-use Rattle.krl_entries.specs.Changes.{IsOneChange, empty_section}
-use Rattle.krl_entries.specs.Gathered.{HasPlace, IsTaken, TakesOut, with_section}
-use Rattle.krl_entries.specs.AuthorityEntries.{apart_of, section_of, sections_of, named_sections}
-use Rattle.krl_entries.specs.Revocations.{IsListed, IsOrderly, Section, SomeSection, revocations_of}
 use Rattle.krl_entries.proofs.AddedSections.{InOrder, all_middle}
 use Rattle.krl_entries.proofs.Additions.{adds_orderly, orderly_with, takes_listed}
-use Rattle.krl_entries.proofs.SectionChanges.{Mapped, Named, at_name, named_lookup, named_set, none_found, takes_authority}
+use Rattle.krl_entries.proofs.SectionChanges.{Mapped, Named, at_name, named_lookup, named_set}
+use Rattle.krl_entries.proofs.SectionChanges.{none_found, takes_authority}
 use Rattle.krl_entries.proofs.RisingLists.{rises_changed, tied}
 use Rattle.krl_entries.proofs.SomeSections.{some_middle}
 

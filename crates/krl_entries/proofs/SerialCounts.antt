@@ -1,8 +1,6 @@
 -- How many serial numbers are held after a change.
-use Rattle.std.proofs.Common.{◌≡◌, ℕ, ◌+◌, ◌≤◌, List, ◌∷◌, sym, ap₂, inl, inr, arith}
-use Rattle.std.specs.Prelude.{◌⊎◌}
-use Rattle.std.proofs.lemmas.List.Sums.{sum_by-cons}
-use Rattle.krl_entries.specs.Revocations.{Revocations, HoldsSerial, IsOrderly, serials_in}
+use Rattle.krl_entries.proofs.Common.{◌+◌, ◌∷◌, ◌≡◌, ◌≤◌, ◌⊎◌, ap₂, arith, HoldsSerial, inl, inr}
+use Rattle.krl_entries.proofs.Common.{IsOrderly, List, Revocations, serials_in, sum_by-cons, sym, ℕ}
 use Rattle.krl_entries.proofs.Equivalences.{contains_cons}
 use Rattle.krl_entries.proofs.DistinctLists.{sum_within}
 use Rattle.krl_entries.proofs.Serials.{count_serials, in_serials, once_serials, serials_of}

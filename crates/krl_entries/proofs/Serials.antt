@@ -1,19 +1,16 @@
 -- The held serial numbers, as one list.
-use Rattle.std.proofs.Common.{◌≡◌, ℕ, zero, suc, ◌+◌, ◌-◌, ◌<◌, ◌≤◌, List, [], ◌∷◌, ap, ◌∙◌, arith}
-use Rattle.std.specs.Prelude.{◌↔◌, sum_by}
-use Rattle.std.specs.List.{Contains, flat_map, range_with_len}
-use Rattle.std.proofs.Math.Logic.Iff as Iff
+use Rattle.krl_entries.proofs.Common.{[], ◌+◌, ◌-◌, ◌<◌, ◌↔◌, ◌∙◌, ◌∷◌, ◌≡◌, ◌≤◌, All-weaker, ap}
+use Rattle.krl_entries.proofs.Common.{arith, Contains, Covers, flat_map, HoldsSerial, IsListed}
+use Rattle.krl_entries.proofs.Common.{IsOrderly, List, names_from, range_with_len, Revocations}
+use Rattle.krl_entries.proofs.Common.{RunsFrom, Section, serials_in, Span, span_size, suc, sum_by}
+use Rattle.krl_entries.proofs.Common.{zero, ℕ}
 use Rattle.std.proofs.lemmas.List.Concat.{length-flat_map}
-use Rattle.std.proofs.lemmas.List.Elements.{All-weaker}
 use Rattle.std.proofs.lemmas.List.FromFn.{get_or-range_with_len, length-range_with_len}
-use Rattle.serial_set.specs.declared.span.Span.{Span}
-use Rattle.serial_set.specs.Span.{Covers, RunsFrom}
-use Rattle.serial_set.proofs.RisingLists.{names_from}
-use Rattle.krl_entries.specs.Revocations.{Revocations, HoldsSerial, IsListed, IsOrderly, Section, serials_in, span_size}
 use Rattle.krl_entries.proofs.Equivalences.{contains_append, iff_or}
 use Rattle.krl_entries.proofs.DistinctLists.{Once, once_append, sum_ones}
 use Rattle.krl_entries.proofs.AuthorityItems.{in_under, once_under, some_listed, sum_under, under}
 use Rattle.krl_entries.proofs.Elements.{contains_none}
+use Rattle.std.proofs.Math.Logic.Iff as Iff
 
 -- ---- consecutive numbers
 

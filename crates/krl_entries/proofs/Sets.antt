@@ -1,22 +1,14 @@
 -- Byte strings in a set of the standard library, which are its keys or are read from them.
-use Rattle.std.proofs.Common.{◌≡◌, ℕ, List, [], ◌∷◌, ◌++◌, ◌||◌, map, Bool, refl, sym, ap, subst, ◌∙◌, inl, inr}
-use Rattle.std.specs.Prelude.{◌⊎◌, IsTrue, ◌↔◌}
-use Rattle.std.specs.List.{AllByRecursion, Contains, list_any}
-use Rattle.std.specs.List.Sorted.{IsStrictlySortedBy}
-use Rattle.std.specs.declared.cmp.Ordering.{Ordering}
-use Rattle.std.specs.declared.cmp.Ordering.TheVariants.{Less, Equal, Greater}
-use Rattle.std.specs.Ordering.{match_ordering, is_eq}
-use Rattle.std.specs.BTreeMap.{is_at}
-use Rattle.std.specs.BTreeSet.{insert_key}
-use Rattle.std.proofs.lemmas.Bool.{false≢true}
+use Rattle.krl_entries.proofs.Common.{[], ◌++◌, ◌||◌, ◌↔◌, ◌∙◌, ◌∷◌, ◌≡◌, ◌⊎◌, AllByRecursion, ap}
+use Rattle.krl_entries.proofs.Common.{Bool, bytes_cmp, Contains, Equal, exact_bytes, false≢true}
+use Rattle.krl_entries.proofs.Common.{Greater, inl, inr, insert_key, is_at, is_eq}
+use Rattle.krl_entries.proofs.Common.{IsStrictlySortedBy, IsTrue, Less, List, list_any, map}
+use Rattle.krl_entries.proofs.Common.{match_ordering, Ordering, Puts, refl, Rises, subst, sym, ℕ}
 use Rattle.std.proofs.lemmas.Bool.Decides.{Decides-or}
-use Rattle.std.proofs.Math.Logic.Iff as Iff
 use Rattle.krl_entries.proofs.Equivalences.{contains_cons}
-use Rattle.std.proofs.lemmas.Map.Lookups.{exact_bytes}
-use Rattle.krl_entries.specs.Changes.{Puts}
-use Rattle.krl_entries.specs.Rising.{bytes_cmp, Rises}
 use Rattle.krl_entries.proofs.RisingLists.{back_above, front_below, tied}
 use Rattle.krl_entries.proofs.Elements.{contains_here, contains_later, contains_none}
+use Rattle.std.proofs.Math.Logic.Iff as Iff
 
 pub rises_sorted : (ks : List (List ℕ)) → IsStrictlySortedBy bytes_cmp ks → Rises ks
 unfolding IsStrictlySortedBy

@@ -1,11 +1,10 @@
 -- Serial numbers at the front of some bytes that are skipped.
-use Rattle.std.proofs.Common.{◌≡◌, ℕ, ◌+◌, ◌-◌, ◌*◌, ◌%◌, ◌<◌, ◌≤◌, inl, inr, List, [], ◌∷◌, length, take, drop, sym, ap, ◌∙◌, subst, arith, get_or}
-use Rattle.std.proofs.lemmas.Bool.{cases_lt}
-use Rattle.std.proofs.lemmas.List.{drop-take, take-take}
-pub use Rattle.std.proofs.lemmas.List.{take-take as take_fewer}
-use Rattle.ssh_wire.specs.Wire.{number_of}
-use Rattle.krl_entries.specs.Scope.{NoneHolds, serial_at}
+use Rattle.krl_entries.proofs.Common.{[], ◌%◌, ◌*◌, ◌+◌, ◌-◌, ◌<◌, ◌∙◌, ◌∷◌, ◌≡◌, ◌≤◌, ap, arith}
+use Rattle.krl_entries.proofs.Common.{cases_lt, drop, drop-take, get_or, inl, inr, length, List}
+use Rattle.krl_entries.proofs.Common.{NoneHolds, number_of, serial_at, subst, sym, take, take-take}
+use Rattle.krl_entries.proofs.Common.{ℕ}
 use Rattle.krl_entries.proofs.Numbers.{number_of-one}
+pub use Rattle.std.proofs.lemmas.List.{take-take as take_fewer}
 
 -- a serial number that lies within the first bytes is the same in them
 pub serial_within : (bytes : List ℕ) (k count : ℕ) → 8 * k + 8 ≤ count → serial_at bytes k ≡ serial_at (take count bytes) k

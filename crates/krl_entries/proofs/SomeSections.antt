@@ -1,15 +1,10 @@
 -- Properties of some section after an addition, and how much is held and in what order.
-use Rattle.std.proofs.Common.{◌≡◌, ℕ, ◌+◌, ◌≤◌, ◌⊎◌, List, [], ◌∷◌, ◌++◌, refl, sym, ap, subst, inl, inr, arith}
-use Rattle.std.specs.Prelude.{◌↔◌, sum_by}
-use Rattle.std.proofs.lemmas.List.Sums.{sum_by-cons, sum_by-append}
-use Rattle.krl_entries.specs.declared.addition.Addition.{Addition}
-use Rattle.krl_entries.specs.Changes.{TakesAddition, AddsTo, empty_section}
-use Rattle.std.specs.List.{Contains}
-use Rattle.serial_set.specs.Span.{Covers}
-use Rattle.krl_entries.specs.Revocations.{Section, SomeSection}
-use Rattle.krl_entries.specs.Naming.{IdOf, Name, SerialOf}
-use Rattle.std.proofs.Math.Logic.Iff as Iff
+use Rattle.krl_entries.proofs.Common.{[], ◌++◌, ◌+◌, ◌↔◌, ◌∷◌, ◌≡◌, ◌≤◌, ◌⊎◌, Addition, AddsTo, ap}
+use Rattle.krl_entries.proofs.Common.{arith, Contains, Covers, empty_section, IdOf, inl, inr, List}
+use Rattle.krl_entries.proofs.Common.{Name, refl, Section, SerialOf, SomeSection, subst, sum_by}
+use Rattle.krl_entries.proofs.Common.{sum_by-append, sum_by-cons, sym, TakesAddition, ℕ}
 use Rattle.krl_entries.proofs.Equivalences.{iff_across, iff_front, iff_none, iff_or, iff_swap}
+use Rattle.std.proofs.Math.Logic.Iff as Iff
 
 -- ---- some section
 

@@ -1,13 +1,10 @@
 -- Revocations stay within some topics if the additions are about them.
-use Rattle.std.proofs.Common.{◌≡◌, ◌-◌, ◌<◌, List, [], ◌∷◌, subst, subst₂, inl, inr, arith}
-use Rattle.std.specs.Prelude.{◌⊎◌, ◌↔◌, Contains}
-use Rattle.std.proofs.Math.Logic.{⊎_elim}
-use Rattle.std.proofs.lemmas.Bool.{cases_lt}
-use Rattle.krl_entries.specs.Changes.{MeansMore}
-use Rattle.krl_entries.specs.Revocations.{Revocations, HoldsId, HoldsName, HoldsSerial, IsOrderly}
-use Rattle.krl_entries.specs.Entry.{Entry, SerialsEntry, RangeEntry, BitmapEntry, IdEntry, KeyEntry, Sha1Entry, Sha256Entry}
-use Rattle.krl_entries.specs.Naming.{EntryNames, IdOf, KeyOf, Name, SerialOf, Sha1Of, Sha256Of, SomeNames}
-use Rattle.krl_entries.specs.Scope.{IsTopic, HoldsOnlyTopics}
+use Rattle.krl_entries.proofs.Common.{[], ⊎_elim, ◌-◌, ◌<◌, ◌↔◌, ◌∷◌, ◌≡◌, ◌⊎◌, arith, BitmapEntry}
+use Rattle.krl_entries.proofs.Common.{cases_lt, Contains, Entry, EntryNames, HoldsId, HoldsName}
+use Rattle.krl_entries.proofs.Common.{HoldsOnlyTopics, HoldsSerial, IdEntry, IdOf, inl, inr}
+use Rattle.krl_entries.proofs.Common.{IsOrderly, IsTopic, KeyEntry, KeyOf, List, MeansMore, Name}
+use Rattle.krl_entries.proofs.Common.{RangeEntry, Revocations, SerialOf, SerialsEntry, Sha1Entry}
+use Rattle.krl_entries.proofs.Common.{Sha1Of, Sha256Entry, Sha256Of, SomeNames, subst, subst₂}
 use Rattle.krl_entries.proofs.AddedMeaning.{means_more_names}
 
 -- ---- some entries more

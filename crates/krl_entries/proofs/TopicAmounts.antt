@@ -1,17 +1,13 @@
 -- How much is held within some topics.
-use Rattle.std.proofs.Common.{◌≡◌, ℕ, ◌+◌, ◌*◌, ◌≤◌, List, [], ◌∷◌, length, map, None, Some, refl, subst, ap, get_or, mul-le-mul_right, inl, inr, arith}
-use Rattle.std.specs.Prelude.{sum_by}
-use Rattle.std.specs.List.{All, Contains}
-use Rattle.std.proofs.lemmas.List.{length-map}
-use Rattle.std.proofs.Math.Logic.{⊎_map}
-use Rattle.std.proofs.lemmas.List.Elements.{All-head, All-tail, All-weaker, Contains-get_or}
+use Rattle.krl_entries.proofs.Common.{[], ⊎_map, ◌*◌, ◌+◌, ◌∷◌, ◌≡◌, ◌≤◌, All, All-head, All-tail}
+use Rattle.krl_entries.proofs.Common.{All-weaker, ap, arith, Contains, Contains-get_or, get_or}
+use Rattle.krl_entries.proofs.Common.{held, HoldsId, HoldsOnlyTopics, inl, inr, IsInScope, IsListed}
+use Rattle.krl_entries.proofs.Common.{IsNamed, IsOrderly, IsSmall, IsSmallIn, length, length-map}
+use Rattle.krl_entries.proofs.Common.{List, map, mul-le-mul_right, None, refl, Revocations, Rises}
+use Rattle.krl_entries.proofs.Common.{Scope, Section, section_size, serials_in, sha1, sha256}
+use Rattle.krl_entries.proofs.Common.{size_of, Some, SomeSection, stored, subst, sum_by}
+use Rattle.krl_entries.proofs.Common.{sum_by-cons, sum_by-le, ℕ}
 use Rattle.std.proofs.lemmas.List.Folds.{fold-map}
-use Rattle.std.proofs.lemmas.List.Sums.{sum_by-cons, sum_by-le}
-use Rattle.sha1.specs.Sha1.{sha1}
-use Rattle.sha2.specs.Sha256.{sha256}
-use Rattle.krl_entries.specs.Revocations.{Revocations, HoldsId, IsListed, IsNamed, IsOrderly, Section, SomeSection, held, section_size, serials_in, size_of, stored}
-use Rattle.krl_entries.specs.Rising.{Rises}
-use Rattle.krl_entries.specs.Scope.{IsSmall, IsSmallIn, HoldsOnlyTopics, Scope, IsInScope}
 use Rattle.krl_entries.proofs.Amounts.{some_contains}
 use Rattle.krl_entries.proofs.Equivalences.{contains_cons}
 use Rattle.krl_entries.proofs.DistinctLists.{Once, once_rising, once_texts, sum_ones, sum_within}

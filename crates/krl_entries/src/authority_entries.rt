@@ -27,7 +27,10 @@ impl<S: Spans> AuthorityEntries<S> {
     ghost use Rattle.krl_entries.specs.AuthorityEntries.{apart_of, section_of};
 
     // A section that holds only the addition.
-    pub(crate) fn with(alloc: Global, addition: Addition<'_>) -> Result<AuthorityEntries<S>, AllocError>
+    pub(crate) fn with(
+        alloc: Global,
+        addition: Addition<'_>,
+    ) -> Result<AuthorityEntries<S>, AllocError>
         requires { IsOneChange addition }
         ensures { (authority : List ℕ) → IfOk result (λ section. TakesAddition addition.entry
             (empty_section authority) (section_of S.spans (authority, section))) }

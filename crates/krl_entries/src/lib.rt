@@ -3,12 +3,12 @@
 
 mod addition;
 mod asking;
+mod authority_entries;
+mod entries_by_authority;
 mod field;
 mod findings;
 mod gathered;
 mod getters;
-mod authority_entries;
-mod entries_by_authority;
 mod ids;
 mod key_hashes;
 pub mod laws;

@@ -1,15 +1,9 @@
 -- The best of a cell and of others, and the best of all sorts.
-use Rattle.std.proofs.Common.{◌≡◌, ℕ, ◌+◌, ◌≤◌, ◌<◌, ◌⊎◌, inl, inr, List, length, take, refl, sym, ap, subst, ◌∙◌, arith}
-use Rattle.std.proofs.lemmas.List.{length-take-le}
-use Rattle.serial_set.specs.declared.span.Span.{Span}
-use Rattle.krl_plan.specs.declared.group.Sort.{Sort}
-use Rattle.krl_plan.specs.declared.group.Sort.TheVariants.{Serials, Range, Bitmap}
-use Rattle.krl_plan.specs.declared.group.Group.{Group}
-use Rattle.krl_plan.specs.declared.cell.Cell.{Cell}
-use Rattle.krl_plan.specs.Plan.{IsGroup}
-use Rattle.krl_plan.specs.Bitmaps.{IsBitmap}
+use Rattle.krl_plan.proofs.Common.{◌+◌, ◌<◌, ◌∙◌, ◌≡◌, ◌≤◌, ◌⊎◌, ap, arith, Bitmap, Cell, cell_with}
+use Rattle.krl_plan.proofs.Common.{Group, inl, inr, IsBest, IsBestOf, IsBitmap, IsCell, IsGroup}
+use Rattle.krl_plan.proofs.Common.{length, length-take-le, List, Range, refl, rest_cost, Serials}
+use Rattle.krl_plan.proofs.Common.{Sort, Span, subst, sym, take, Wins, ℕ}
 use Rattle.krl_plan.specs.Lists.{IsList}
-use Rattle.krl_plan.specs.Search.{IsBest, IsBestOf, IsCell, Wins, cell_with, rest_cost}
 
 abbrev pub group_of : Sort → ℕ → Group
 group_of sort count = record { sort = sort; count = count }

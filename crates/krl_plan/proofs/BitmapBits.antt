@@ -1,15 +1,10 @@
 -- The bits of a bitmap, found from the last serial to the first.
-use Rattle.std.proofs.Common.{◌≡◌, ℕ, zero, suc, ◌+◌, ◌-◌, ◌*◌, ◌^◌, ◌<◌, ◌≤◌, Bool, true}
-use Rattle.std.proofs.Common.{false, leb, cond, List, [], ◌∷◌, ◌++◌, length, get_or, refl, sym, ap}
-use Rattle.std.proofs.Common.{◌∙◌, arith, append_assoc}
-use Rattle.std.specs.Prelude.{◌&&◌, ◌||◌}
+use Rattle.krl_plan.proofs.Common.{[], ◌&&◌, ◌*◌, ◌++◌, ◌+◌, ◌-◌, ◌<◌, ◌^◌, ◌||◌, ◌∙◌, ◌∷◌, ◌≡◌}
+use Rattle.krl_plan.proofs.Common.{◌≤◌, Above, ap, append_assoc, arith, bitmap_of, bits_of, Bool}
+use Rattle.krl_plan.proofs.Common.{cond, false, get_or, has, le-leb, leb, length, List, lt-leb}
+use Rattle.krl_plan.proofs.Common.{refl, runs_at, RunsFrom, Span, suc, sym, true, zero, ℕ}
 use Rattle.std.proofs.Math.Nat.{pow-le-pow_right, pow-succ'}
-use Rattle.std.proofs.lemmas.Bool.{le-leb, lt-leb}
 use Rattle.std.proofs.Math.Bool.{and-false, or-false}
-use Rattle.serial_set.specs.declared.span.Span.{Span}
-use Rattle.serial_set.specs.Span.{RunsFrom, has}
-use Rattle.serial_set.proofs.RisingLists.{runs_at}
-use Rattle.krl_plan.specs.Written.{Above, bitmap_of, bits_of}
 
 -- ---- one serial
 

@@ -1,18 +1,11 @@
 -- The bitmaps that begin at the first run, after one more run in front.
-use Rattle.std.proofs.Common.{◌≡◌, ℕ, zero, suc, ◌+◌, ◌-◌, ◌/◌, ◌%◌, ◌^◌, ◌<◌, ◌≤◌, ◌⊎◌, inl, inr, List, [], ◌∷◌, get_or, length, take, refl, sym, ap, ◌∙◌, arith}
-use Rattle.std.specs.List.{All, Contains}
-use Rattle.std.proofs.lemmas.Bool.{cases_lt}
-use Rattle.std.proofs.lemmas.List.Elements.{Contains-get_or}
-use Rattle.serial_set.specs.declared.span.Span.{Span}
-use Rattle.serial_set.specs.Span.{IsRuns, RunsFrom}
-use Rattle.krl_plan.specs.declared.group.Sort.TheVariants.{Bitmap}
-use Rattle.krl_plan.specs.declared.cell.Cell.{Cell}
-use Rattle.krl_plan.specs.declared.monotonic_queue.Candidate.{Candidate}
-use Rattle.krl_plan.specs.Plan.{IsGroup, reach}
-use Rattle.krl_plan.specs.Bitmaps.{IsBitmap, IsBitmapOf, last_of, bitmap_candidate}
+use Rattle.krl_plan.proofs.Common.{[], ◌%◌, ◌+◌, ◌-◌, ◌/◌, ◌<◌, ◌^◌, ◌∙◌, ◌∷◌, ◌≡◌, ◌≤◌, ◌⊎◌, All}
+use Rattle.krl_plan.proofs.Common.{ap, arith, Bitmap, bitmap_candidate, Candidate, cases_lt, Cell}
+use Rattle.krl_plan.proofs.Common.{cell_with, Contains, Contains-get_or, Forgets, get_or, inl, inr}
+use Rattle.krl_plan.proofs.Common.{IsBestOf, IsBitmap, IsBitmapOf, IsCell, IsFilled, IsFirstOf}
+use Rattle.krl_plan.proofs.Common.{IsGroup, IsLeastOf, IsRuns, last_of, length, List, Pushes, reach}
+use Rattle.krl_plan.proofs.Common.{refl, rest_cost, RunsFrom, Span, suc, sym, take, Wins, zero, ℕ}
 use Rattle.krl_plan.proofs.ChosenGroups.{group_few}
-use Rattle.krl_plan.specs.Search.{IsBestOf, IsCell, Wins, cell_with, rest_cost}
-use Rattle.krl_plan.specs.MonotonicQueue.{Forgets, IsFilled, IsFirstOf, IsLeastOf, Pushes}
 use Rattle.krl_plan.proofs.BestCandidates.{group_of, one_better, same_cell}
 use Rattle.krl_plan.proofs.Candidates.{forgets_filled, longer_filled, pushes_filled, same_candidate}
 

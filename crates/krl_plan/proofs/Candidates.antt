@@ -1,13 +1,12 @@
 -- Monotonic queues: a candidate added, the farthest dropped, and the least.
-use Rattle.std.proofs.lemmas.Grind.{common_steps}
-use Rattle.std.proofs.Common.{◌≡◌, ℕ, ◌+◌, ◌-◌, ◌^◌, ◌<◌, ◌≤◌, ◌⊎◌, inl, inr, suc, List, [], ◌∷◌, ◌++◌, length, take, drop, get_or, refl, sym, ap, subst, ◌∙◌, arith, length-drop, length-take}
-use Rattle.std.specs.List.{All, Contains}
-use Rattle.std.proofs.lemmas.Bool.{cases_lt}
-use Rattle.std.proofs.lemmas.List.{get_or-drop, get_or-take, get_or_default, length-take-le}
-use Rattle.std.proofs.lemmas.List.Elements.{All-contains, Contains-append_left, Contains-push, Contains-push_cases}
+use Rattle.krl_plan.proofs.Common.{[], ◌++◌, ◌+◌, ◌-◌, ◌<◌, ◌^◌, ◌∙◌, ◌∷◌, ◌≡◌, ◌≤◌, ◌⊎◌, All}
+use Rattle.krl_plan.proofs.Common.{All-contains, AnswersFor, ap, AreOrdered, arith, Candidate}
+use Rattle.krl_plan.proofs.Common.{cases_lt, common_steps, Contains, Contains-append_left}
+use Rattle.krl_plan.proofs.Common.{Contains-push, Contains-push_cases, drop, Forgets, get_or}
+use Rattle.krl_plan.proofs.Common.{get_or-drop, get_or-take, get_or_default, inl, inr, IsFilled}
+use Rattle.krl_plan.proofs.Common.{IsFirstOf, IsLeastOf, length, length-drop, length-take}
+use Rattle.krl_plan.proofs.Common.{length-take-le, List, Pushes, refl, subst, suc, sym, take, ℕ}
 use Rattle.std.proofs.lemmas.List.Sorted.{IsNonDecreasingBy-take}
-use Rattle.krl_plan.specs.declared.monotonic_queue.Candidate.{Candidate}
-use Rattle.krl_plan.specs.MonotonicQueue.{AnswersFor, AreOrdered, Forgets, IsFilled, IsFirstOf, IsLeastOf, Pushes}
 
 pub ordered_take : (n : ℕ) (candidates : List Candidate) → n ≤ length candidates → AreOrdered candidates → AreOrdered (take n candidates)
 ordered_take n candidates le s =

@@ -1,19 +1,11 @@
 -- The best groups, one after another, are the least plan.
-use Rattle.std.proofs.Common.{◌≡◌, ℕ, zero, suc, ◌+◌, ◌-◌, ◌*◌, ◌<◌, ◌≤◌, inl, inr, List, [], ◌∷◌}
-use Rattle.std.proofs.Common.{length, take, drop, refl, sym, ap, subst, ◌∙◌, arith}
-use Rattle.std.proofs.lemmas.Bool.{cases_lt}
-use Rattle.std.proofs.lemmas.List.{length-take-le}
-use Rattle.serial_set.specs.declared.span.Span.{Span}
-use Rattle.serial_set.specs.Span.{IsRuns, RunsFrom}
-use Rattle.serial_set.proofs.RisingLists.{RunsFrom-weaker}
-use Rattle.krl_plan.specs.declared.group.Sort.{Sort}
-use Rattle.krl_plan.specs.declared.group.Sort.TheVariants.{Serials, Range, Bitmap}
-use Rattle.krl_plan.specs.declared.group.Group.{Group}
-use Rattle.krl_plan.specs.declared.cell.Cell.{Cell}
+use Rattle.krl_plan.proofs.Common.{[], ◌*◌, ◌+◌, ◌-◌, ◌<◌, ◌∙◌, ◌∷◌, ◌≡◌, ◌≤◌, Allows, ap, arith}
+use Rattle.krl_plan.proofs.Common.{Bitmap, cases_lt, Cell, cost, drop, end_of, Group, inl, inr}
+use Rattle.krl_plan.proofs.Common.{IsBest, IsCheapest, IsFirst, IsGroup, IsLeastCost, IsLeastPlan}
+use Rattle.krl_plan.proofs.Common.{IsPlan, IsRuns, length, length-take-le, List, Prefers, Range}
+use Rattle.krl_plan.proofs.Common.{refl, rest_cost, RunsFrom, RunsFrom-weaker, Serials, Sort, Span}
+use Rattle.krl_plan.proofs.Common.{subst, suc, sym, take, zero, ℕ}
 use Rattle.krl_plan.specs.Sorts.{rank}
-use Rattle.krl_plan.specs.Plan.{Allows, IsCheapest, IsGroup, IsLeastPlan, IsPlan, Prefers, cost}
-use Rattle.krl_plan.specs.Plan.{end_of}
-use Rattle.krl_plan.specs.Search.{IsBest, IsFirst, IsLeastCost, rest_cost}
 
 -- ---- runs
 

@@ -1,15 +1,13 @@
 -- Runs that are copied from a set, and the numbers at which its chunks begin.
-use Rattle.std.proofs.lemmas.Grind.{common_steps}
-use Rattle.std.proofs.Common.{◌≡◌, ℕ, ◌+◌, ◌*◌, ◌<◌, ◌≤◌, inl, inr, List, [], ◌∷◌, ◌++◌, length, take, drop, sym, ap, subst, ◌∙◌, arith, append_assoc, length-take, length-take-le}
-use Rattle.std.specs.Prelude.{Option, Some}
-use Rattle.std.proofs.lemmas.Bool.{cases_lt}
-use Rattle.std.proofs.lemmas.List.{append-nil, drop-append-le, drop-drop, drop_all, get_or_append_left, get_or_push, length_push, take-append-drop, take-append-le, take_all}
-use Rattle.serial_set.specs.declared.span.Span.{Span}
-use Rattle.serial_set.specs.Span.{IsRuns, AreSerials}
-use Rattle.serial_set.specs.Walk.{IsPiece, left, next_of, since, steps}
-use Rattle.serial_set.proofs.RunWalks.{walk_ends, walk_on}
+use Rattle.krl_plan.proofs.Common.{[], ◌*◌, ◌++◌, ◌+◌, ◌<◌, ◌∙◌, ◌∷◌, ◌≡◌, ◌≤◌, ap, append-nil}
+use Rattle.krl_plan.proofs.Common.{append_assoc, AreSerials, arith, BeginChunks, cases_lt}
+use Rattle.krl_plan.proofs.Common.{common_steps, Copies, drop, drop-append-le, drop-drop, drop_all}
+use Rattle.krl_plan.proofs.Common.{get_or_append_left, get_or_push, inl, inr, IsPiece, IsRuns, left}
+use Rattle.krl_plan.proofs.Common.{length, length-take, length-take-le, length_push, List, next_of}
+use Rattle.krl_plan.proofs.Common.{Option, since, Some, Span, steps, subst, sym, take}
+use Rattle.krl_plan.proofs.Common.{take-append-drop, take-append-le, take_all, walk_ends, walk_on}
+use Rattle.krl_plan.proofs.Common.{ℕ}
 use Rattle.krl_plan.proofs.ChosenGroups.{IsRuns-drop}
-use Rattle.krl_plan.specs.Copies.{BeginChunks, Copies}
 
 -- ---- copies
 

@@ -1,13 +1,10 @@
 -- The table of costs and choices: one more run in front, and the walk that gives the plan.
-use Rattle.std.proofs.Common.{◌≡◌, ℕ, zero, suc, ◌+◌, ◌-◌, ◌*◌, ◌<◌, ◌≤◌, List, [], ◌∷◌, ◌++◌, length, drop, get_or, slice_index, refl, sym, ap, subst, ◌∙◌, arith, append_assoc, length-drop}
-use Rattle.std.proofs.lemmas.List.{append-nil, drop-drop, drop_all, get_or_append_left, get_or_push, length_push}
-use Rattle.serial_set.specs.declared.span.Span.{Span}
-use Rattle.serial_set.specs.Span.{IsRuns}
-use Rattle.krl_plan.specs.declared.group.Group.{Group}
-use Rattle.krl_plan.specs.declared.cell.Cell.{Cell}
-use Rattle.krl_plan.specs.Plan.{IsGroup, IsLeastPlan, IsPlan, Prefers}
-use Rattle.krl_plan.specs.Search.{IsBest, IsLeastCost}
-use Rattle.krl_plan.specs.Table.{AreChoices, IsChoice}
+use Rattle.krl_plan.proofs.Common.{[], ◌*◌, ◌++◌, ◌+◌, ◌-◌, ◌<◌, ◌∙◌, ◌∷◌, ◌≡◌, ◌≤◌, ap, append-nil}
+use Rattle.krl_plan.proofs.Common.{append_assoc, AreChoices, arith, Cell, drop, drop-drop, drop_all}
+use Rattle.krl_plan.proofs.Common.{get_or, get_or_append_left, get_or_push, Group, IsBest, IsChoice}
+use Rattle.krl_plan.proofs.Common.{IsGroup, IsLeastCost, IsLeastPlan, IsPlan, IsRuns, length}
+use Rattle.krl_plan.proofs.Common.{length-drop, length_push, List, Prefers, refl, slice_index, Span}
+use Rattle.krl_plan.proofs.Common.{subst, suc, sym, zero, ℕ}
 use Rattle.krl_plan.proofs.ChosenGroups.{Rests, best_first, best_least}
 use Rattle.krl_plan.proofs.BestCandidates.{best_bounded}
 

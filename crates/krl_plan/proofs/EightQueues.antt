@@ -1,13 +1,9 @@
 -- The queues of bitmaps, one for each remainder, after one more run.
-use Rattle.std.proofs.Common.{◌≡◌, ℕ, ◌+◌, ◌/◌, ◌%◌, ◌^◌, ◌<◌, List, ◌∷◌, inl, inr, get_or, length, set, sym, ap, subst, ◌∙◌, arith}
-use Rattle.std.proofs.lemmas.Bool.{cases_eq}
-use Rattle.std.proofs.lemmas.List.{get_or-set_other, get_or-set_same, length-set}
-use Rattle.serial_set.specs.declared.span.Span.{Span}
-use Rattle.serial_set.specs.Span.{IsRuns}
-use Rattle.krl_plan.specs.declared.monotonic_queue.Candidate.{Candidate}
-use Rattle.krl_plan.specs.declared.monotonic_queue.MonotonicQueue.{MonotonicQueue}
-use Rattle.krl_plan.specs.Bitmaps.{IsBitmapOf, bitmap_candidate}
-use Rattle.krl_plan.specs.MonotonicQueue.{Forgets, IsFilled, Pushes}
+use Rattle.krl_plan.proofs.Common.{◌%◌, ◌+◌, ◌/◌, ◌<◌, ◌^◌, ◌∙◌, ◌∷◌, ◌≡◌, ap, arith}
+use Rattle.krl_plan.proofs.Common.{bitmap_candidate, Candidate, cases_eq, Forgets, get_or}
+use Rattle.krl_plan.proofs.Common.{get_or-set_other, get_or-set_same, inl, inr, IsBitmapOf}
+use Rattle.krl_plan.proofs.Common.{IsFilled, IsRuns, length, length-set, List, MonotonicQueue}
+use Rattle.krl_plan.proofs.Common.{Pushes, set, Span, subst, sym, ℕ}
 use Rattle.krl_plan.proofs.BitmapCandidates.{IsLonger, bitmap_forgot, bitmap_kept, bitmap_pushed}
 
 -- each queue has the bitmaps of its remainder

@@ -1,12 +1,8 @@
 -- The bytes of a subsection, put one field after another.
-use Rattle.std.proofs.Common.{◌≡◌, ℕ, zero, suc, ◌+◌, ◌-◌, ◌<◌, List, [], ◌∷◌, ◌++◌, length, take}
-use Rattle.std.proofs.Common.{get_or, refl, sym, ap, ◌∙◌, arith, append_assoc, length-append}
-use Rattle.std.proofs.lemmas.List.{take_all}
-use Rattle.serial_set.specs.declared.span.Span.{Span}
-use Rattle.ssh_wire.specs.Wire.{number, string}
-use Rattle.ssh_wire.proofs.Fields.{length-number, length-string}
-use Rattle.krl_plan.specs.Plan.{reach}
-use Rattle.krl_plan.specs.Written.{bitmap_of, first_of}
+use Rattle.krl_plan.proofs.Common.{[], ◌++◌, ◌+◌, ◌-◌, ◌<◌, ◌∙◌, ◌∷◌, ◌≡◌, ap, append_assoc, arith}
+use Rattle.krl_plan.proofs.Common.{bitmap_of, first_of, get_or, length, length-append}
+use Rattle.krl_plan.proofs.Common.{length-number, length-string, List, number, reach, refl, Span}
+use Rattle.krl_plan.proofs.Common.{string, suc, sym, take, take_all, zero, ℕ}
 use Rattle.krl_plan.proofs.Reach.{reach-take}
 
 pub first-get : (runs : List Span) (d : Span) → 0 < length runs

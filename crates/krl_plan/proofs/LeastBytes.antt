@@ -1,13 +1,9 @@
 -- The runs of a plan take at least 17 bytes for every 64 of them, as in a bitmap of every other
 -- serial.
-use Rattle.std.proofs.Common.{ℕ, ◌+◌, ◌*◌, ◌≤◌, List, [], ◌∷◌, length, take, drop, arith, zero, suc}
-use Rattle.std.proofs.lemmas.List.{length-drop, length-take-le}
-use Rattle.serial_set.specs.declared.span.Span.{Span}
-use Rattle.serial_set.specs.Span.{IsRuns, RunsFrom}
-use Rattle.krl_plan.specs.declared.group.Sort.{Sort}
-use Rattle.krl_plan.specs.declared.group.Sort.TheVariants.{Serials, Range, Bitmap}
-use Rattle.krl_plan.specs.declared.group.Group.{Group}
-use Rattle.krl_plan.specs.Plan.{Allows, IsPlan, bytes_of, cost, end_of, reach, serial_count}
+use Rattle.krl_plan.proofs.Common.{[], ◌*◌, ◌+◌, ◌∷◌, ◌≤◌, Allows, arith, Bitmap, bytes_of, cost}
+use Rattle.krl_plan.proofs.Common.{drop, end_of, Group, IsPlan, IsRuns, length, length-drop}
+use Rattle.krl_plan.proofs.Common.{length-take-le, List, Range, reach, RunsFrom, serial_count}
+use Rattle.krl_plan.proofs.Common.{Serials, Sort, Span, suc, take, zero, ℕ}
 use Rattle.krl_plan.proofs.ChosenGroups.{IsRuns-drop}
 
 -- each run after the first ends at least two numbers past the one before

@@ -1,3 +1,4 @@
+mod Common
 pub mod ZeroSpan
 pub mod PlanTexts
 pub mod Candidates

@@ -1,16 +1,11 @@
 -- The lists that begin at the first run, after one more run in front.
-use Rattle.std.proofs.Common.{◌≡◌, ℕ, zero, suc, ◌+◌, ◌-◌, ◌*◌, ◌^◌, ◌<◌, ◌≤◌, ◌⊎◌, inl, inr, List, [], ◌∷◌, get_or, length, take, refl, ap, ◌∙◌, arith}
-use Rattle.std.specs.List.{All, Contains}
-use Rattle.std.proofs.lemmas.List.{length-take-le}
-use Rattle.std.proofs.lemmas.List.Elements.{All-cons, All-nil, All-tail, Contains-get_or}
-use Rattle.serial_set.specs.declared.span.Span.{Span}
-use Rattle.krl_plan.specs.declared.group.Sort.TheVariants.{Serials}
-use Rattle.krl_plan.specs.declared.cell.Cell.{Cell}
-use Rattle.krl_plan.specs.declared.monotonic_queue.Candidate.{Candidate}
-use Rattle.krl_plan.specs.Plan.{Allows, IsGroup, IsSmall, serial_count}
+use Rattle.krl_plan.proofs.Common.{[], ◌*◌, ◌+◌, ◌-◌, ◌<◌, ◌^◌, ◌∙◌, ◌∷◌, ◌≡◌, ◌≤◌, ◌⊎◌, All}
+use Rattle.krl_plan.proofs.Common.{All-cons, All-nil, All-tail, Allows, ap, arith, Candidate, Cell}
+use Rattle.krl_plan.proofs.Common.{cell_with, Contains, Contains-get_or, Forgets, get_or, inl, inr}
+use Rattle.krl_plan.proofs.Common.{IsBestOf, IsCell, IsFilled, IsGroup, IsLeastOf, IsSmall, length}
+use Rattle.krl_plan.proofs.Common.{length-take-le, List, Pushes, refl, rest_cost, serial_count}
+use Rattle.krl_plan.proofs.Common.{Serials, Span, suc, take, Wins, zero, ℕ}
 use Rattle.krl_plan.specs.Lists.{IsList, list_candidate}
-use Rattle.krl_plan.specs.Search.{IsBestOf, IsCell, Wins, cell_with, rest_cost}
-use Rattle.krl_plan.specs.MonotonicQueue.{Forgets, IsFilled, IsLeastOf, Pushes}
 use Rattle.krl_plan.proofs.BestCandidates.{group_of, one_better, same_cell}
 use Rattle.krl_plan.proofs.Candidates.{forgets_filled, pushes_filled, same_candidate}
 

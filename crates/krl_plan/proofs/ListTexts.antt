@@ -1,14 +1,9 @@
 -- The subsection that lists serials.
-use Rattle.std.proofs.Common.{◌≡◌, ℕ, zero, suc, ◌+◌, ◌-◌, ◌*◌, ◌≤◌, List, [], ◌∷◌, ◌++◌, length}
-use Rattle.std.proofs.Common.{take, drop, refl, sym, ap, ◌∙◌, arith, append_assoc, length-append}
-use Rattle.std.specs.List.{All, flat_map}
-use Rattle.std.proofs.lemmas.List.{drop_at, take_all, take_at}
-use Rattle.std.proofs.lemmas.Grind.{flat_map-append}
-use Rattle.serial_set.specs.declared.span.Span.{Span}
-use Rattle.ssh_wire.specs.Wire.{number, string}
-use Rattle.ssh_wire.proofs.Fields.{length-number, length-numbers}
-use Rattle.krl_plan.specs.Plan.{IsSmall, serial_count}
-use Rattle.krl_plan.specs.Written.{serials_from, serials_of}
+use Rattle.krl_plan.proofs.Common.{[], ◌*◌, ◌++◌, ◌+◌, ◌-◌, ◌∙◌, ◌∷◌, ◌≡◌, ◌≤◌, All, ap}
+use Rattle.krl_plan.proofs.Common.{append_assoc, arith, drop, drop_at, flat_map, flat_map-append}
+use Rattle.krl_plan.proofs.Common.{IsSmall, length, length-append, length-number, length-numbers}
+use Rattle.krl_plan.proofs.Common.{List, number, refl, serial_count, serials_from, serials_of, Span}
+use Rattle.krl_plan.proofs.Common.{string, suc, sym, take, take_all, take_at, zero, ℕ}
 
 length-serials_from : (first count : ℕ) → length (serials_from first count) ≡ count
 length-serials_from first zero = refl

@@ -1,19 +1,14 @@
 -- A list of runs has one least plan, and the length of a plan's text is its cost.
-use Rattle.std.proofs.Common.{◌≡◌, ℕ, ◌+◌, ◌^◌, ◌<◌, inl, inr, List, [], ◌∷◌, length, take, drop, refl, sym}
-use Rattle.std.proofs.Common.{ap, subst, ◌∙◌, arith, length-append}
-use Rattle.serial_set.specs.declared.span.Span.{Span}
-use Rattle.serial_set.specs.Span.{IsRuns}
-use Rattle.ssh_wire.specs.Wire.{number, string}
-use Rattle.ssh_wire.proofs.Fields.{length-number, length-string}
-use Rattle.krl_plan.specs.declared.group.Sort.{Sort}
-use Rattle.krl_plan.specs.declared.group.Sort.TheVariants as sorts
-use Rattle.krl_plan.specs.declared.group.Group.{Group}
-use Rattle.krl_plan.specs.Plan.{Before, Allows, IsLeastPlan, IsPlan, Prefers, bytes_of, cost, reach}
-use Rattle.krl_plan.specs.Written.{bitmap_of, bitmap_size, content_of, first_of, group_text}
-use Rattle.krl_plan.specs.Written.{plan_text}
+use Rattle.krl_plan.proofs.Common.{[], ◌+◌, ◌<◌, ◌^◌, ◌∙◌, ◌∷◌, ◌≡◌, Allows, ap, arith, Before}
+use Rattle.krl_plan.proofs.Common.{bitmap_of, bitmap_size, bytes_of, content_of, cost, drop}
+use Rattle.krl_plan.proofs.Common.{first_of, Group, group_text, inl, inr, IsLeastPlan, IsPlan}
+use Rattle.krl_plan.proofs.Common.{IsRuns, length, length-append, length-number, length-string}
+use Rattle.krl_plan.proofs.Common.{List, number, plan_text, Prefers, reach, refl, Sort, Span}
+use Rattle.krl_plan.proofs.Common.{string, subst, sym, take, ℕ}
 use Rattle.krl_plan.proofs.ChosenGroups.{IsRuns-drop}
 use Rattle.krl_plan.proofs.GroupTexts.{length-bitmap_of}
 use Rattle.krl_plan.proofs.ListTexts.{length-listed, small_few}
+use Rattle.krl_plan.specs.declared.group.Sort.TheVariants as sorts
 
 not_both : (a b : Group) → Before a b → Before b a → ⊥
 not_both a b p q = grind arith

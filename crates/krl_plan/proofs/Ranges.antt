@@ -1,9 +1,6 @@
 -- The plan that has a range for each run. No least plan costs more.
-use Rattle.std.proofs.Common.{◌≡◌, ◌*◌, ◌≤◌, List, [], ◌∷◌, length, refl, arith}
-use Rattle.serial_set.specs.declared.span.Span.{Span}
-use Rattle.krl_plan.specs.declared.group.Sort.TheVariants.{Range}
-use Rattle.krl_plan.specs.declared.group.Group.{Group}
-use Rattle.krl_plan.specs.Plan.{IsCheapest, IsPlan, cost}
+use Rattle.krl_plan.proofs.Common.{[], ◌*◌, ◌∷◌, ◌≡◌, ◌≤◌, arith, cost, Group, IsCheapest, IsPlan}
+use Rattle.krl_plan.proofs.Common.{length, List, Range, refl, Span}
 
 abbrev pub ranges : List Span → List Group
 ranges [] = []

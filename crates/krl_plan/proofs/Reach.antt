@@ -1,10 +1,7 @@
 -- How far runs reach, by their indexes.
-use Rattle.std.proofs.Common.{◌≡◌, ℕ, zero, suc, ◌+◌, ◌-◌, ◌<◌, ◌≤◌, List, [], ◌∷◌, length, take}
-use Rattle.std.proofs.Common.{get_or, refl, ap, arith, add-one}
-use Rattle.serial_set.specs.declared.span.Span.{Span}
-use Rattle.serial_set.specs.Span.{IsRuns}
-use Rattle.serial_set.proofs.RisingLists.{runs_at}
-use Rattle.krl_plan.specs.Plan.{end_of, reach}
+use Rattle.krl_plan.proofs.Common.{[], ◌+◌, ◌-◌, ◌<◌, ◌∷◌, ◌≡◌, ◌≤◌, add-one, ap, arith, end_of}
+use Rattle.krl_plan.proofs.Common.{get_or, IsRuns, length, List, reach, refl, runs_at, Span, suc}
+use Rattle.krl_plan.proofs.Common.{take, zero, ℕ}
 
 end_take : (run : Span) (runs : List Span) (i : ℕ) (d : Span) → i ≤ length runs
     → end_of run (take i runs) ≡ (get_or (run ∷ runs) i d).hi

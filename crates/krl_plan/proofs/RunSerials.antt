@@ -1,24 +1,18 @@
 -- The serials of runs: split at a position, from the first serial to the last, and bit by bit.
-use Rattle.std.proofs.Common.{◌≡◌, ℕ, zero, suc, ◌+◌, ◌*◌, ◌/◌, ◌^◌, ◌<◌, ◌≤◌, ◌⊎◌, inl, inr, Bool}
-use Rattle.std.proofs.Common.{true, false, cond, List, [], ◌∷◌, length, take, drop, refl, sym, ap}
-use Rattle.std.proofs.Common.{subst, ◌∙◌, arith}
-use Rattle.std.specs.Prelude.{◌↔◌, IsTrue}
+use Rattle.krl_plan.proofs.Common.{[], ◌*◌, ◌+◌, ◌/◌, ◌<◌, ◌^◌, ◌↔◌, ◌∙◌, ◌∷◌, ◌≡◌, ◌≤◌, ◌⊎◌, ap}
+use Rattle.krl_plan.proofs.Common.{AreSerials, arith, bitmap_of, bits_of, Bool, cond, Covers}
+use Rattle.krl_plan.proofs.Common.{covers_append, drop, end_of, false, false_from_ne_true, first_of}
+use Rattle.krl_plan.proofs.Common.{has, has_names, inl, inr, IsRuns, IsTrue, length, List}
+use Rattle.krl_plan.proofs.Common.{mul_assoc, mul_comm, number_of, reach, refl, RunsFrom, Span}
+use Rattle.krl_plan.proofs.Common.{subst, suc, sym, take, take-append-drop, true, zero, ℕ}
 use Rattle.std.specs.Int.{bit_at}
-use Rattle.std.proofs.Math.Logic.Iff as Iff
-use Rattle.std.proofs.Math.Nat.{mul_assoc, mul_comm, pow-succ'}
-use Rattle.std.proofs.lemmas.Bool.{false_from_ne_true}
-use Rattle.std.proofs.lemmas.List.{take-append-drop}
+use Rattle.std.proofs.Math.Nat.{pow-succ'}
 use Rattle.std.proofs.lemmas.Nat.Bits.{bit_at-suc, bit_at-zero, bit_at_lowest}
-use Rattle.serial_set.specs.declared.span.Span.{Span}
-use Rattle.serial_set.specs.Span.{AreSerials, Covers, IsRuns, RunsFrom, has}
-use Rattle.serial_set.proofs.RisingLists.{covers_append, has_names}
-use Rattle.ssh_wire.specs.Wire.{number_of}
 use Rattle.ssh_wire.proofs.Magnitudes.{number_of-cons}
 use Rattle.ssh_wire.proofs.Digits.{bytes_as_bits}
-use Rattle.krl_plan.specs.Plan.{end_of, reach}
-use Rattle.krl_plan.specs.Written.{bitmap_of, bits_of, first_of}
 use Rattle.krl_plan.proofs.BitmapBits.{bits_of_lt}
 use Rattle.krl_plan.proofs.GroupTexts.{length-bitmap_of}
+use Rattle.std.proofs.Math.Logic.Iff as Iff
 
 -- ---- split in two
 

@@ -1,15 +1,14 @@
 -- Two tests that agree give the same answers.
-use Rattle.std.proofs.Common.{◌≡◌, ◌++◌, Bool, true, false, List, [], ◌∷◌, map, Some, Result, Ok, Err, refl, ap, ap₂, ◌∙◌}
+use Rattle.krl_runs.proofs.Common.{[], ◌++◌, ◌∙◌, ◌∷◌, ◌≡◌, answer_of, ap, ap₂, ask_by, Bool, Err}
+use Rattle.krl_runs.proofs.Common.{false, file_items, file_key_item, FileKey, files_items}
+use Rattle.krl_runs.proofs.Common.{is_answered, Item, key_item, keys_of, List, map, Named, Ok, refl}
+use Rattle.krl_runs.proofs.Common.{Result, RunFault, said, Some, Subject, subject_item, true}
+use Rattle.krl_runs.proofs.Common.{unanswered_of}
 use Rattle.ssh_cert.specs.SubjectReading.{subject_of}
 use Rattle.ssh_cert.specs.declared.subject_fault.SubjectFault.{SubjectFault}
 use Rattle.ssh_key.specs.Key.{PublicKey}
 use Rattle.ssh_key.specs.KeyReading.{key_at}
 use Rattle.ssh_key.specs.declared.fault.KeyFault.{KeyFault}
-use Rattle.krl_types.specs.Subject.{Subject}
-use Rattle.key_files.specs.Keys.{Named, FileKey, keys_of}
-use Rattle.key_files.specs.RunFault.{RunFault}
-use Rattle.krl_runs.specs.Query.{answer_of, ask_by}
-use Rattle.key_listing.specs.Run.{Item, file_items, files_items, file_key_item, is_answered, key_item, said, subject_item, unanswered_of}
 
 -- for a key
 next_same : (one other : Subject → Bool) → ((asked : Subject) → one asked ≡ other asked) → (next : Result FileKey RunFault) → file_key_item (ask_by one) next ≡ file_key_item (ask_by other) next

@@ -1,13 +1,10 @@
 -- How much is asked about files, and how much is found.
-use Rattle.std.proofs.Common.{◌≡◌, ℕ, ◌+◌, ◌*◌, ◌≤◌, List, ◌∷◌, length, Option, Some, None, Result, Ok, refl, arith}
+use Rattle.krl_runs.proofs.Common.{◌*◌, ◌+◌, ◌∷◌, ◌≡◌, ◌≤◌, arith, blob_room, CertNames, FileKey}
+use Rattle.krl_runs.proofs.Common.{key_room, keys_room, length, List, names_size, None, nothing, Ok}
+use Rattle.krl_runs.proofs.Common.{Option, refl, Result, Revocations, RunFault, serials_in, Some}
+use Rattle.krl_runs.proofs.Common.{stored, Subject, subject_size, ℕ}
 use Rattle.std.proofs.lemmas.List.Sums.{sum_by-cons}
-use Rattle.krl_types.specs.Subject.{CertNames, Subject}
 use Rattle.ssh_cert.specs.Sizes.{IsWithinBlob, names_length}
-use Rattle.key_files.specs.Keys.{FileKey}
-use Rattle.key_files.specs.RunFault.{RunFault}
-use Rattle.key_files.specs.Sizes.{blob_room, key_room, keys_room}
-use Rattle.krl_entries.specs.Revocations.{Revocations, nothing, serials_in, stored}
-use Rattle.krl_entries.specs.Questions.{names_size, subject_size}
 use Rattle.krl_entries.specs.Scope.{IsSmall}
 use Rattle.krl_runs.specs.Questions.{AsksAtMost, IsFewFor}
 

@@ -1,22 +1,17 @@
 -- Keys that are expected are answered for.
-use Rattle.std.proofs.Common.{◌≡◌, ℕ, ◌+◌, ◌<◌, inl, inr, length, get_or, List, [], ◌∷◌, Option}
-use Rattle.std.proofs.Common.{Some, None, Result, Ok, Err, refl, sym, subst, ◌∙◌, arith}
+use Rattle.krl_runs.proofs.Common.{[], ◌+◌, ◌<◌, ◌∙◌, ◌∷◌, ◌≡◌, ◌≢◌, AreExpected, arith, Asks}
+use Rattle.krl_runs.proofs.Common.{AsksMore, CertNames, ended_by, Err, FileKey, get_or, GivesKey}
+use Rattle.krl_runs.proofs.Common.{HasCert, IfOk, inl, inr, IsErr, IsRefused, keys_of, length, List}
+use Rattle.krl_runs.proofs.Common.{Named, None, Ok, Option, refl, Result, Revocations, RunFault}
+use Rattle.krl_runs.proofs.Common.{Some, Subject, subst, sym, ℕ}
 use Rattle.std.proofs.lemmas.Bool.{cases_lt}
 use Rattle.std.proofs.lemmas.List.{get_or_default}
-use Rattle.std.specs.Prelude.{◌≢◌, IfOk}
-use Rattle.std.specs.Result.{IsErr}
-use Rattle.krl_types.specs.Subject.{CertNames, Subject}
 use Rattle.ssh_cert.specs.SubjectReading.{subject_of}
 use Rattle.ssh_cert.specs.declared.subject_fault.SubjectFault.{SubjectFault}
-use Rattle.key_files.specs.Keys.{Named, FileKey, GivesKey, IsRefused, keys_of}
-use Rattle.key_files.specs.RunFault.{RunFault, ended_by}
 use Rattle.key_files.specs.declared.cause.Cause.{Cause}
-use Rattle.key_files.specs.declared.cause.Cause.TheVariants as causes
-use Rattle.krl_entries.specs.Revocations.{Revocations}
 use Rattle.krl_entries.specs.Naming.{KeyOf}
-use Rattle.krl_entries.specs.Questions.{Asks, AsksMore, HasCert}
 use Rattle.krl_entries.proofs.MoreQuestions.{under_stays}
-use Rattle.key_listing.specs.Expected.{AreExpected}
+use Rattle.key_files.specs.declared.cause.Cause.TheVariants as causes
 
 -- a key whose blob cannot be read is the last that counts
 pub unread_expected : (Expected : Subject → Type 0) (key : FileKey) (keys : List (Result FileKey RunFault)) → IsErr (subject_of key.line.blob) → AreExpected Expected (Ok key ∷ keys)

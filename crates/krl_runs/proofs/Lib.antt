@@ -1,3 +1,4 @@
+mod Common
 pub mod AgreeingTests
 pub mod QueryRuns
 pub mod ExpectedKeys

@@ -1,5 +1,6 @@
 -- A text has one reading if its known contents are unique and exclude a fault.
-use Rattle.std.proofs.Common.{◌≡◌, ◌⊎◌, ℕ, false, List, Result, Ok, Err, Option, Some, None, ap, inl, inr}
+use Rattle.std.proofs.Common.{◌≡◌, ◌⊎◌, ℕ, false, List, Result, Ok, Err, Option, Some, None, ap}
+use Rattle.std.proofs.Common.{inl, inr}
 use Rattle.krl_core.specs.Front.{IsFirstFault}
 use Rattle.krl_core.specs.Reading.{IsReadAs, Says, ran_out, failed_read, first}
 use Rattle.krl_types.specs.declared.krl_fault.KrlFault.{KrlFault}

@@ -1,26 +1,20 @@
 -- The lines of a list's contents that are printed so far.
-use Rattle.std.proofs.Common.{◌≡◌, ℕ, ◌+◌, ◌<◌, ◌==◌, Bool, true, false, List, [], ◌∷◌, ◌++◌, length, map, drop, get_or, Result, Ok, Err, refl, sym, ap, subst, ◌∙◌, append_assoc, add-one, arith}
-use Rattle.std.specs.Prelude.{Option, Some}
-use Rattle.std.specs.List.{flat_map}
-use Rattle.std.proofs.lemmas.List.{map-append, take-append-drop}
-use Rattle.std.proofs.Math.Seq.{drop-cons}
+use Rattle.krl_runs.proofs.Common.{[], ◌++◌, ◌+◌, ◌<◌, ◌==◌, ◌∙◌, ◌∷◌, ◌≡◌, add-one, all_said, ap}
+use Rattle.krl_runs.proofs.Common.{append_assoc, arith, authority_line, Bool, carries_more}
+use Rattle.krl_runs.proofs.Common.{carries_none, carries_then, comment_line, comment_lines}
+use Rattle.krl_runs.proofs.Common.{contents_items, contents_lines, date_line, drop, drop-cons, Err}
+use Rattle.krl_runs.proofs.Common.{fact_line, false, flat_map, get_or, Hash, Header, header_lines}
+use Rattle.krl_runs.proofs.Common.{Id, IsPiece, Item, Key, Known, left, length, List, map, next_of}
+use Rattle.krl_runs.proofs.Common.{Ok, Option, refl, Result, Revocations, RunFault, said_of}
+use Rattle.krl_runs.proofs.Common.{Section, section_lines, serials_line, Sha1, since, Some, subst}
+use Rattle.krl_runs.proofs.Common.{sym, take-append-drop, true, version_line, ℕ}
+use Rattle.std.proofs.lemmas.List.{map-append}
 use Rattle.std.proofs.lemmas.Bool.Decides.{nat_tests}
 use Rattle.serial_set.specs.declared.span.Span.{Span}
 use Rattle.serial_set.specs.Span.{IsRuns, AreSerials}
-use Rattle.serial_set.specs.Walk.{IsPiece, left, next_of, since}
 use Rattle.serial_set.proofs.RunWalks.{walk_on}
 use Rattle.key_listing.specs.Carries.{Carries}
-use Rattle.krl_entries.specs.Revocations.{Revocations, Section}
-use Rattle.krl_core.specs.declared.header.Header.{Header}
-use Rattle.krl_runs.specs.Contents.{Known, all_said, authority_line, comment_line, comment_lines}
-use Rattle.krl_runs.specs.Contents.{contents_items, contents_lines, date_line, fact_line}
-use Rattle.krl_runs.specs.Contents.{header_lines, section_lines, serials_line, version_line}
-use Rattle.key_listing.specs.Run.{said_of}
-use Rattle.krl_runs.specs.declared.contents.fact.Fact.TheVariants.{Id, Key, Sha1, Hash}
 use Rattle.key_listing.specs.Printer.{Printer}
-use Rattle.key_listing.specs.Run.{Item}
-use Rattle.key_files.specs.RunFault.{RunFault}
-use Rattle.key_listing.proofs.RunParts.{carries_more, carries_none, carries_then}
 
 abbrev said : Result (Unit {0}) RunFault
 said = Ok tt

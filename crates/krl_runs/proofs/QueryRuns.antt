@@ -1,33 +1,29 @@
 -- A run, by the stored entries of a list or by the fault of a refused list.
-use Rattle.std.proofs.Common.{◌≡◌, ℕ, true, false, List, [], ◌∷◌, ◌++◌, Bool, Option, Some, None, Result, Ok, Err, refl, sym, ap, subst, ◌∙◌, append_assoc}
+use Rattle.krl_runs.proofs.Common.{[], ◌++◌, ◌∙◌, ◌∷◌, ◌≡◌, all_said, answer_of, AnswersAbout, ap}
+use Rattle.krl_runs.proofs.Common.{append_assoc, ask, ask_by, asked_run_of, Asks, before, Bool}
+use Rattle.krl_runs.proofs.Common.{carries_more, carries_passed, carries_then, carries_withheld}
+use Rattle.krl_runs.proofs.Common.{contents_items, dump_text, entries_of, Err, false, files_items}
+use Rattle.krl_runs.proofs.Common.{HasEntries, Header, IsHeld, IsOrderly, Item, Known, known_lines}
+use Rattle.krl_runs.proofs.Common.{known_of, krl_cause, List, Named, None, Ok, Option, outcome_of}
+use Rattle.krl_runs.proofs.Common.{Passed, query_run_of, refl, Result, Revocations, revokes}
+use Rattle.krl_runs.proofs.Common.{run_fault_of, RunFault, RunOutcome, Some, Stopped, Subject}
+use Rattle.krl_runs.proofs.Common.{subst, sym, true, ℕ}
 use Rattle.std.specs.List.{concat}
 use Rattle.krl_entries.proofs.RevokedTests.{revokes_meant}
 use Rattle.krl_entries.specs.Canonical.{entries_in}
-use Rattle.krl_entries.specs.Revocations.{Revocations, IsOrderly}
 use Rattle.krl_entries.specs.Entry.{Entry}
-use Rattle.key_files.specs.declared.cause.Cause.TheVariants as causes
 use Rattle.krl_entries.proofs.OwnEntries.{means_itself}
 use Rattle.krl_entries.proofs.ScopedMeaning.{means_within}
-use Rattle.krl_core.specs.Entries.{entries_of}
 use Rattle.krl_core.specs.Front.{IsFirstFault}
-use Rattle.krl_entries.specs.Reasons.{is_revoked as is_named, revokes}
-use Rattle.krl_entries.specs.Questions.{Asks}
 use Rattle.krl_core.specs.Reading.{HoldsInScope, IsList, IsListAs, OfHeader}
-use Rattle.krl_types.specs.Subject.{Subject}
 use Rattle.krl_entries.proofs.ReasonTests.{found_tested, meant_tested}
-use Rattle.krl_core.specs.declared.header.Header.{Header}
 use Rattle.krl_types.specs.declared.krl_fault.KrlFault.{KrlFault}
-use Rattle.krl_types.specs.declared.krl_fault.KrlFault.TheVariants as faults
 use Rattle.key_listing.specs.Carries.{Carries}
 use Rattle.key_listing.specs.Printer.{Printer}
-use Rattle.krl_runs.specs.Contents.{Known, all_said, contents_items, dump_text, known_lines, known_of}
-use Rattle.key_files.specs.RunFault.{krl_cause}
-use Rattle.krl_runs.specs.Query.{AnswersAbout, HasEntries, IsHeld, answer_of, ask, ask_by, asked_run_of, query_run_of}
-use Rattle.key_files.specs.Keys.{Named}
-use Rattle.key_listing.specs.Run.{Item, RunOutcome, Passed, Stopped, before, files_items, outcome_of}
-use Rattle.key_files.specs.RunFault.{RunFault, run_fault_of}
 use Rattle.krl_runs.proofs.AgreeingTests.{files_same}
-use Rattle.key_listing.proofs.RunParts.{carries_more, carries_passed, carries_then, carries_withheld}
+use Rattle.key_files.specs.declared.cause.Cause.TheVariants as causes
+use Rattle.krl_entries.specs.Reasons.{is_revoked as is_named}
+use Rattle.krl_types.specs.declared.krl_fault.KrlFault.TheVariants as faults
 
 -- A list that was read is stored.
 pub held : (text : List ℕ) (header : Header) (contents : Revocations)

@@ -3,8 +3,8 @@
 
 mod contents;
 pub mod laws;
-mod streaming;
 mod query;
 mod questions;
+mod streaming;
 
 pub use query::query_run;

@@ -61,7 +61,10 @@ pub fn open_inputs<'a>(
 }
 
 /// The authority of `-s`, with its file read.
-pub fn open_authority<'a>(rt: &HostRuntime, name: &AuthorityOption<&'a str>) -> AuthorityOption<Named<'a>> {
+pub fn open_authority<'a>(
+    rt: &HostRuntime,
+    name: &AuthorityOption<&'a str>,
+) -> AuthorityOption<Named<'a>> {
     match name {
         AuthorityOption::NotGiven => AuthorityOption::NotGiven,
         AuthorityOption::All => AuthorityOption::All,

@@ -4,8 +4,8 @@
 
 mod clock;
 mod files;
-mod locked_list;
 mod in_place;
+mod locked_list;
 mod locking;
 mod names;
 mod replacing;

@@ -1,8 +1,8 @@
 //! Replacing a list whole or not at all: its bytes are written to a new file beside it, which is
 //! then renamed.
 
-use crate::locked_list::{Locked, OldList, Target, is_at, is_same, unopened};
 use crate::in_place::{send_all, write_in_place};
+use crate::locked_list::{Locked, OldList, Target, is_at, is_same, unopened};
 use crate::names::{beside, new_name};
 use crate::rights::{first_mode, keep_rights};
 use key_files::Cause;

@@ -9,8 +9,8 @@ use key_files::{Cause, FileFault, Named, RunFault};
 use krl_job::{AuthorityOption, Job};
 use krl_make::{Old, make_run};
 use krl_system::{
-    Locked, MadeOf, Target, Waiting, Written, buffered, date, lock_target, open_authority, open_inputs,
-    release, write_list,
+    Locked, MadeOf, Target, Waiting, Written, buffered, date, lock_target, open_authority,
+    open_inputs, release, write_list,
 };
 use std::fs::{self, File};
 

@@ -1,15 +1,9 @@
 -- The sections of authorities, put one after another.
-use Rattle.std.proofs.lemmas.Grind.{common_steps}
-use Rattle.std.proofs.Common.{◌≡◌, ◌≤◌, List, [], ◌∷◌, ◌++◌, ℕ, length, Result, Ok, Err, refl, sym, ap, subst, ◌∙◌, append_assoc, arith}
-use Rattle.std.proofs.lemmas.List.{append-nil}
-use Rattle.krl_entries.specs.Revocations.{Section}
-use Rattle.krl_core.specs.Front.{limit}
-use Rattle.krl_plan.specs.declared.group.Group.{Group}
-use Rattle.krl_plan.proofs.OnePlan.{one_plan}
-use Rattle.krl_plan.specs.Plan.{IsLeastPlan}
-use Rattle.krl_writer.specs.declared.text_fault.TextFault.{TextFault}
-use Rattle.krl_writer.specs.KrlText.{EachPlan, authorities_text, authority_text}
-use Rattle.krl_writer.specs.InLimit.{AddsAuthorities, AddsAuthority, Refuses}
+use Rattle.krl_writer.proofs.Common.{[], ◌++◌, ◌∙◌, ◌∷◌, ◌≡◌, ◌≤◌, AddsAuthorities, AddsAuthority}
+use Rattle.krl_writer.proofs.Common.{ap, append-nil, append_assoc, arith, authorities_text}
+use Rattle.krl_writer.proofs.Common.{authority_text, common_steps, EachPlan, Err, Group}
+use Rattle.krl_writer.proofs.Common.{IsLeastPlan, length, limit, List, Ok, one_plan, refl, Refuses}
+use Rattle.krl_writer.proofs.Common.{Result, Section, subst, sym, TextFault, ℕ}
 use Rattle.krl_writer.proofs.Limits.{refuses_front}
 
 -- The outcome of putting the sections that are left is the outcome of putting all.

@@ -1,23 +1,22 @@
 -- The sections of a written list name exactly the stored revocations.
-use Rattle.std.proofs.Common.{◌≡◌, ℕ, ◌+◌, ◌-◌, ◌*◌, ◌≤◌, ◌↔◌, inl, List, [], ◌∷◌, length, take, drop, subst, arith}
-use Rattle.std.specs.List.{flat_map}
+use Rattle.krl_writer.proofs.Common.{[], ◌*◌, ◌+◌, ◌-◌, ◌↔◌, ◌∷◌, ◌≡◌, ◌≤◌, all_append, Allows}
+use Rattle.krl_writer.proofs.Common.{arith, bitmap_size, drop, first_of, flat_map, Group}
+use Rattle.krl_writer.proofs.Common.{group_subsection, iff_both, iff_none, iff_or, inl, IsGroup}
+use Rattle.krl_writer.proofs.Common.{IsPlan, length, List, plan_subsections, subsection_entries}
+use Rattle.krl_writer.proofs.Common.{subst, take, ℕ}
 use Rattle.serial_set.specs.declared.span.Span.{Span}
-use Rattle.serial_set.specs.Span.{AreSerials, IsRuns, Covers as Names}
+use Rattle.serial_set.specs.Span.{AreSerials, IsRuns}
 use Rattle.krl_plan.specs.declared.group.Sort.{Sort}
-use Rattle.krl_plan.specs.declared.group.Sort.TheVariants as sorts
-use Rattle.krl_plan.specs.declared.group.Group.{Group}
-use Rattle.krl_core.specs.Entries.{subsection_entries}
-use Rattle.krl_writer.specs.KrlText.{group_subsection, plan_subsections}
 use Rattle.krl_entries.specs.Naming.{SerialOf, SomeNames}
-use Rattle.std.proofs.Math.Logic.Iff as Iff
-use Rattle.krl_entries.proofs.Equivalences.{iff_both, iff_none, iff_or}
-use Rattle.krl_entries.proofs.SameNames.{IsSerials, AreSerials as AreSerialEntries, some_append}
-use Rattle.krl_entries.proofs.Elements.{all_append}
-use Rattle.krl_plan.specs.Plan.{Allows, IsGroup, IsPlan}
-use Rattle.krl_plan.specs.Written.{bitmap_size, first_of}
-use Rattle.krl_plan.proofs.RunSerials.{AreSerials-drop, AreSerials-take, bits_name, names_parts, names_within}
+use Rattle.krl_entries.proofs.SameNames.{IsSerials, some_append}
+use Rattle.krl_plan.proofs.RunSerials.{AreSerials-drop, AreSerials-take, bits_name, names_parts}
+use Rattle.krl_plan.proofs.RunSerials.{names_within}
 use Rattle.krl_plan.proofs.ChosenGroups.{IsRuns-drop, RunsFrom-take}
 use Rattle.krl_writer.proofs.Spelling.{serials_name}
+use Rattle.serial_set.specs.Span.{Covers as Names}
+use Rattle.krl_plan.specs.declared.group.Sort.TheVariants as sorts
+use Rattle.std.proofs.Math.Logic.Iff as Iff
+use Rattle.krl_entries.proofs.SameNames.{AreSerials as AreSerialEntries}
 
 -- ---- a group
 

@@ -1,13 +1,8 @@
 -- Reading a list that was written.
-use Rattle.std.proofs.Common.{◌≡◌, ℕ, ◌<◌, ◌≤◌, ◌^◌, List, [], ◌∷◌, length, sym, subst}
-use Rattle.krl_core.specs.declared.header.Header.{Header}
-use Rattle.krl_plan.specs.declared.group.Group.{Group}
-use Rattle.krl_entries.specs.Revocations.{Revocations, IsOrderly, Means, Section}
-use Rattle.krl_core.specs.Entries.{entries_of}
-use Rattle.krl_core.specs.Front.{limit}
-use Rattle.krl_core.specs.Krl.{SpelledSection, Spells}
-use Rattle.krl_writer.specs.KrlText.{EachPlan, IsKrlText, sections_of}
-use Rattle.krl_plan.specs.Plan.{IsLeastPlan, IsPlan}
+use Rattle.krl_writer.proofs.Common.{[], ◌<◌, ◌^◌, ◌∷◌, ◌≡◌, ◌≤◌, EachPlan, entries_of, Group}
+use Rattle.krl_writer.proofs.Common.{Header, IsKrlText, IsLeastPlan, IsOrderly, IsPlan, length}
+use Rattle.krl_writer.proofs.Common.{limit, List, Means, Revocations, Section, sections_of}
+use Rattle.krl_writer.proofs.Common.{SpelledSection, Spells, subst, sym, ℕ}
 use Rattle.krl_core.specs.Reading.{IsList}
 use Rattle.krl_writer.proofs.WrittenNames.{sections_mean}
 use Rattle.krl_entries.proofs.OneMeaning.{one_meaning}

@@ -1,17 +1,14 @@
 -- The sections of a written list are spelled, one after another.
-use Rattle.std.proofs.Common.{◌≡◌, ℕ, ◌+◌, ◌^◌, ◌<◌, ◌≤◌, List, [], ◌∷◌, ◌++◌, length, refl, arith, length-append}
-use Rattle.std.specs.List.{All}
-use Rattle.std.proofs.lemmas.List.Elements.{All-tail, recursion_from_All}
-use Rattle.ssh_wire.specs.Wire.{number, string, strings}
-use Rattle.ssh_wire.proofs.Fields.{length-number, length-string}
-use Rattle.krl_core.specs.Front.{limit}
-use Rattle.krl_plan.specs.declared.group.Group.{Group}
-use Rattle.krl_core.specs.declared.header.Header.{Header}
-use Rattle.krl_entries.specs.Revocations.{Revocations, IsListed, IsOrderly, Section}
-use Rattle.krl_core.specs.Krl.{Certificates, Ids, Keys, SpelledSection, Sha1s, Sha256s, SignaturesLast, Spells, SpellsEach, SpellsHashes, SpellsSection, SpellsSubsection, header_text}
-use Rattle.krl_writer.specs.KrlText.{EachPlan, authorities_text, authority_content, authority_sections, authority_text, listed_as, listed_text, plan_subsections, sections_of, sections_text, text_of}
-use Rattle.krl_plan.specs.Plan.{IsPlan}
-use Rattle.krl_plan.specs.Written.{plan_text}
+use Rattle.krl_writer.proofs.Common.{[], ◌++◌, ◌+◌, ◌<◌, ◌^◌, ◌∷◌, ◌≡◌, ◌≤◌, All, All-tail, arith}
+use Rattle.krl_writer.proofs.Common.{authorities_text, authority_content, authority_sections}
+use Rattle.krl_writer.proofs.Common.{authority_text, Certificates, EachPlan, Group, Header}
+use Rattle.krl_writer.proofs.Common.{header_text, Ids, IsListed, IsOrderly, IsPlan, Keys, length}
+use Rattle.krl_writer.proofs.Common.{length-append, length-number, length-string, limit, List}
+use Rattle.krl_writer.proofs.Common.{listed_as, listed_text, number, plan_subsections, plan_text}
+use Rattle.krl_writer.proofs.Common.{recursion_from_All, refl, Revocations, Section, sections_of}
+use Rattle.krl_writer.proofs.Common.{sections_text, Sha1s, Sha256s, SignaturesLast, SpelledSection}
+use Rattle.krl_writer.proofs.Common.{Spells, SpellsEach, SpellsHashes, SpellsSection}
+use Rattle.krl_writer.proofs.Common.{SpellsSubsection, string, strings, text_of, ℕ}
 use Rattle.krl_writer.proofs.Spelling.{each_append, listed_spelled, plan_spelled}
 
 -- ---- an authority

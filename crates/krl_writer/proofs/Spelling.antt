@@ -1,26 +1,26 @@
 -- The text of a written list is spelled as one.
-use Rattle.std.proofs.Common.{◌≡◌, ℕ, zero, suc, ◌+◌, ◌-◌, ◌*◌, ◌/◌, ◌^◌, ◌<◌, ◌≤◌, ◌↔◌, inl, inr, List, [], ◌∷◌, ◌++◌, length, take, drop, refl, sym, ap, subst, ◌∙◌, arith, append_assoc}
-use Rattle.std.specs.List.{AllByRecursion, Contains}
+use Rattle.krl_writer.proofs.Common.{[], ◌*◌, ◌++◌, ◌+◌, ◌-◌, ◌/◌, ◌<◌, ◌^◌, ◌↔◌, ◌∙◌, ◌∷◌, ◌≡◌}
+use Rattle.krl_writer.proofs.Common.{◌≤◌, All-contains_itself, All-weaker, Allows, ap, append-nil}
+use Rattle.krl_writer.proofs.Common.{append_assoc, arith, bitmap_of, bitmap_size, bits_of, Contains}
+use Rattle.krl_writer.proofs.Common.{contains_append, contains_cons, contains_none, content_few}
+use Rattle.krl_writer.proofs.Common.{content_of, drop, first_of, Group, group_subsection}
+use Rattle.krl_writer.proofs.Common.{group_text, iff_or, inl, inr, IsGroup, IsPlan, IsPositive}
+use Rattle.krl_writer.proofs.Common.{length, length-string, List, listed_as, listed_text}
+use Rattle.krl_writer.proofs.Common.{plan_subsections, plan_text, reach, recursion_from_All, refl}
+use Rattle.krl_writer.proofs.Common.{serials_from, serials_of, SpellsBitmap, SpellsEach}
+use Rattle.krl_writer.proofs.Common.{SpellsSubsection, string, strings, subst, suc, sym, take, zero}
+use Rattle.krl_writer.proofs.Common.{ℕ}
+use Rattle.std.specs.List.{AllByRecursion}
 use Rattle.std.proofs.lemmas.Bool.{cases_lt}
-use Rattle.std.proofs.lemmas.List.{append-nil}
-use Rattle.std.proofs.lemmas.List.Elements.{All-contains_itself, All-weaker, recursion_from_All}
-use Rattle.std.proofs.Math.Logic.Iff as Iff
 use Rattle.serial_set.specs.declared.span.Span.{Span}
-use Rattle.serial_set.specs.Span.{AreSerials, IsRuns, Covers as Names, RunsFrom}
-use Rattle.ssh_wire.specs.Wire.{string, strings}
-use Rattle.ssh_wire.proofs.Fields.{length-string}
+use Rattle.serial_set.specs.Span.{AreSerials, IsRuns, RunsFrom}
 use Rattle.krl_plan.specs.declared.group.Sort.{Sort}
-use Rattle.krl_plan.specs.declared.group.Sort.TheVariants as sorts
-use Rattle.krl_plan.specs.declared.group.Group.{Group}
 use Rattle.krl_plan.proofs.ChosenGroups.{IsRuns-drop, RunsFrom-take}
-use Rattle.krl_plan.proofs.RunSerials.{AreSerials-drop, AreSerials-take, bits_name, last_fits, number-bitmap, top_bit_clear}
-use Rattle.krl_plan.proofs.OnePlan.{content_few}
-use Rattle.krl_plan.specs.Plan.{Allows, IsGroup, IsPlan, reach}
-use Rattle.krl_plan.specs.Written.{bitmap_of, bitmap_size, bits_of, content_of, first_of, group_text, plan_text, serials_from, serials_of}
-use Rattle.krl_core.specs.Krl.{IsPositive, SpellsBitmap, SpellsEach, SpellsSubsection}
-use Rattle.krl_entries.proofs.Equivalences.{contains_append, contains_cons, iff_or}
-use Rattle.krl_entries.proofs.Elements.{contains_none}
-use Rattle.krl_writer.specs.KrlText.{group_subsection, listed_as, listed_text, plan_subsections}
+use Rattle.krl_plan.proofs.RunSerials.{AreSerials-drop, AreSerials-take, bits_name, last_fits}
+use Rattle.krl_plan.proofs.RunSerials.{number-bitmap, top_bit_clear}
+use Rattle.std.proofs.Math.Logic.Iff as Iff
+use Rattle.serial_set.specs.Span.{Covers as Names}
+use Rattle.krl_plan.specs.declared.group.Sort.TheVariants as sorts
 
 -- ---- lists of serials
 

@@ -1,24 +1,19 @@
 -- The sections of a written list name exactly the stored authorities, keys and hashes.
-use Rattle.std.proofs.Common.{◌≡◌, ℕ, List, [], ◌∷◌, ◌++◌, inl, inr, map, refl, sym, subst, ◌∙◌, arith}
-use Rattle.std.specs.Prelude.{◌↔◌}
-use Rattle.std.specs.List.{All, Contains, flat_map}
-use Rattle.std.proofs.Math.Logic.Iff as Iff
-use Rattle.std.proofs.lemmas.Grind.{flat_map-append, common_steps}
-use Rattle.std.proofs.lemmas.List.{append-nil}
-use Rattle.std.proofs.lemmas.List.Elements.{All-tail}
-use Rattle.krl_plan.specs.declared.group.Group.{Group}
-use Rattle.krl_entries.specs.Revocations.{Revocations, HoldsName, IsListed, IsOrderly, Means, Section, SomeSection}
+use Rattle.krl_writer.proofs.Common.{[], ◌++◌, ◌↔◌, ◌∙◌, ◌∷◌, ◌≡◌, All, All-tail, append-nil, arith}
+use Rattle.krl_writer.proofs.Common.{authority_sections, common_steps, Contains, EachPlan}
+use Rattle.krl_writer.proofs.Common.{entries_of, flat_map, flat_map-append, Group, HoldsName, Ids}
+use Rattle.krl_writer.proofs.Common.{iff_or, inl, inr, IsListed, IsOrderly, IsPlan, List, listed_as}
+use Rattle.krl_writer.proofs.Common.{map, Means, plan_subsections, refl, Revocations, Section}
+use Rattle.krl_writer.proofs.Common.{sections_of, some_cases, SomeSection, subsection_entries}
+use Rattle.krl_writer.proofs.Common.{subst, sym, ℕ}
 use Rattle.krl_entries.specs.Entry.{Entry, IdEntry, KeyEntry, Sha1Entry, Sha256Entry}
-use Rattle.krl_core.specs.Krl.{Ids}
-use Rattle.krl_core.specs.Entries.{entries_of, subsection_entries}
-use Rattle.krl_writer.specs.KrlText.{EachPlan, authority_sections, listed_as, plan_subsections, sections_of}
-use Rattle.krl_entries.specs.Naming.{EntryNames, IdOf, KeyOf, Name, SerialOf, Sha1Of, Sha256Of, SomeNames}
-use Rattle.krl_plan.specs.Plan.{IsPlan}
+use Rattle.krl_entries.specs.Naming.{EntryNames, IdOf, KeyOf, Name, SerialOf, Sha1Of, Sha256Of}
+use Rattle.krl_entries.specs.Naming.{SomeNames}
 use Rattle.krl_writer.proofs.Meaning.{plan_names, plan_serials}
-use Rattle.krl_entries.proofs.Equivalences.{iff_or}
-use Rattle.krl_entries.proofs.SameNames.{mapped_name, same_is, serials_only, some_append, some_first, some_last}
+use Rattle.krl_entries.proofs.SameNames.{mapped_name, same_is, serials_only, some_append}
+use Rattle.krl_entries.proofs.SameNames.{some_first, some_last}
 use Rattle.krl_entries.proofs.SomeSections.{HeldIn, no_section}
-use Rattle.krl_entries.proofs.Elements.{some_cases}
+use Rattle.std.proofs.Math.Logic.Iff as Iff
 
 -- if no entry names it, the list of entries does not
 unmapped : {X : Type 0} (f : X → Entry) (name : Name) → ((x : X) → EntryNames (f x) name → ⊥) → (xs : List X) → SomeNames (map f xs) name → ⊥

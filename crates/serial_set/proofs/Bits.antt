@@ -1,13 +1,10 @@
 -- Which serials the bits of a number name.
-use Rattle.std.proofs.Common.{◌≡◌, ℕ, ◌+◌, ◌-◌, ◌*◌, ◌%◌, ◌^◌, ◌<◌, ◌≤◌, ◌⊎◌, sym, subst, ap, ◌∙◌}
-use Rattle.std.proofs.Common.{inl, inr, arith, suc}
+use Rattle.serial_set.proofs.Common.{◌%◌, ◌*◌, ◌+◌, ◌-◌, ◌<◌, ◌^◌, ◌∙◌, ◌≡◌, ◌≤◌, ◌⊎◌, ap, arith}
+use Rattle.serial_set.proofs.Common.{bit_at, bit_at_above, bit_at_cat_high, bit_at_cat_low}
+use Rattle.serial_set.proofs.Common.{BitNames, cases_lt, inl, inr, pow-suc, subst, suc, sym, ℕ}
 use lib.Count.{count_leading_zeros}
-use Rattle.std.specs.Int.{bit_at}
-use Rattle.std.proofs.Math.Nat.{div-eq_of_lt-le, pow-suc}
-use Rattle.std.proofs.lemmas.Bool.{cases_lt}
+use Rattle.std.proofs.Math.Nat.{div-eq_of_lt-le}
 use Rattle.std.proofs.lemmas.Nat.{leading_top}
-use Rattle.std.proofs.lemmas.Nat.Bits.{bit_at_above, bit_at_cat_low, bit_at_cat_high}
-use Rattle.serial_set.specs.BitRuns.{BitNames}
 
 zero_is_not_one : (n : ℕ) → n ≡ 0 → n ≡ 1 → ⊥
 zero_is_not_one n a b = omega arith

@@ -1,12 +1,10 @@
 -- The runs of a byte while its bits are read from the highest to the lowest.
-use Rattle.std.proofs.Common.{◌≡◌, ℕ, ◌+◌, ◌-◌, ◌*◌, ◌<◌, ◌≤◌, ◌⊎◌, List, [], ◌∷◌, ◌++◌, Option, Some, None, length, reverse, get_or, sym, subst, ap, ◌∙◌, inl, inr, arith}
-use Rattle.std.specs.List.{All}
-use Rattle.std.specs.Option.{option_to_list}
-use Rattle.std.proofs.lemmas.Bool.{cases_eq}
-use Rattle.std.proofs.lemmas.List.{append-nil, reverse-append, get_or-reverse, length-reverse}
-use Rattle.serial_set.specs.declared.span.Span.{Span}
-use Rattle.serial_set.specs.Span.{SpanCovers, Covers, RunsFrom, IsRuns, IsRunsOf}
-use Rattle.serial_set.specs.BitRuns.{BitNames, IsInterval, IsInStep}
+use Rattle.serial_set.proofs.Common.{[], ◌*◌, ◌++◌, ◌+◌, ◌-◌, ◌<◌, ◌∙◌, ◌∷◌, ◌≡◌, ◌≤◌, ◌⊎◌, All, ap}
+use Rattle.serial_set.proofs.Common.{append-nil, arith, BitNames, cases_eq, Covers, get_or}
+use Rattle.serial_set.proofs.Common.{get_or-reverse, inl, inr, IsInStep, IsInterval, IsRuns}
+use Rattle.serial_set.proofs.Common.{IsRunsOf, length, length-reverse, List, None, Option}
+use Rattle.serial_set.proofs.Common.{option_to_list, reverse, reverse-append, RunsFrom, Some, Span}
+use Rattle.serial_set.proofs.Common.{SpanCovers, subst, sym, ℕ}
 use Rattle.serial_set.proofs.RisingLists.{RunsFrom-weaker, runs_at, names_at}
 use Rattle.serial_set.proofs.Bits.{bit_below}
 

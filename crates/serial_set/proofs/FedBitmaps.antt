@@ -1,20 +1,17 @@
 -- A bitmap that is fed byte by byte, as a whole.
-use Rattle.std.proofs.Common.{◌≡◌, ℕ, ◌+◌, ◌-◌, ◌*◌, ◌^◌, ◌<◌, ◌≤◌, ◌⊎◌, List, [], ◌∷◌, ◌++◌, Option, Some, None, length, reverse, refl, sym, subst, ap, ◌∙◌, inl, inr, arith, zero, suc, append_assoc, length-append}
-use Rattle.std.specs.Prelude.{IfSome}
-use Rattle.std.specs.List.{All}
-use Rattle.std.specs.Option.{option_to_list}
-use Rattle.std.proofs.Math.Nat.{pow-suc}
-use Rattle.std.proofs.lemmas.Bool.{cases_eq, cases_lt}
-use Rattle.std.proofs.lemmas.List.{append-nil, reverse-append}
-use Rattle.std.proofs.lemmas.List.Elements.{All-head, All-tail}
-use Rattle.std.proofs.lemmas.Nat.Bits.{bit_at-zero}
-use Rattle.serial_set.specs.declared.span.Span.{Span}
+use Rattle.serial_set.proofs.Common.{[], ◌*◌, ◌++◌, ◌+◌, ◌-◌, ◌<◌, ◌^◌, ◌∙◌, ◌∷◌, ◌≡◌, ◌≤◌, ◌⊎◌}
+use Rattle.serial_set.proofs.Common.{All, All-head, All-tail, ap, append-nil, append_assoc}
+use Rattle.serial_set.proofs.Common.{AreSerials, arith, big_endian, bit_at-zero, BitNames, BitRuns}
+use Rattle.serial_set.proofs.Common.{cases_eq, cases_lt, Covers, Feeds, FeedsAll, HasFault, IfSome}
+use Rattle.serial_set.proofs.Common.{inl, inr, IsRunsOf, length, length-append, List, lowest, None}
+use Rattle.serial_set.proofs.Common.{Option, option_to_list, PassesEnd, pow-suc, refl, reverse}
+use Rattle.serial_set.proofs.Common.{reverse-append, runs_after, RunsFrom, Some, Span, SpanCovers}
+use Rattle.serial_set.proofs.Common.{start, subst, suc, sym, zero, ℕ}
 use Rattle.serial_set.specs.declared.bit_fault.BitFault.{BitFault}
 use Rattle.serial_set.specs.declared.bit_fault.BitFault.TheVariants.{Negative, Wraps}
-use Rattle.serial_set.specs.Span.{SpanCovers, Covers, RunsFrom, IsRunsOf, AreSerials}
-use Rattle.serial_set.specs.BitRuns.{BitRuns, start, lowest, BitNames, big_endian, HasFault, PassesEnd, Feeds, FeedsAll, runs_after}
 use Rattle.serial_set.proofs.ByteRuns.{OnFrom, OnFrom-runs}
-use Rattle.serial_set.proofs.RisingLists.{RunsFrom-weaker, names_append, names_left, names_right, runs_join}
+use Rattle.serial_set.proofs.RisingLists.{RunsFrom-weaker, names_append, names_left, names_right}
+use Rattle.serial_set.proofs.RisingLists.{runs_join}
 use Rattle.serial_set.proofs.Bits.{bit_below, BitNames-split, BitNames-join}
 
 -- ---- lists

@@ -1,11 +1,7 @@
 -- Spans that rise and may touch: their runs have the same members.
-use Rattle.std.proofs.Common.{ℕ, ◌+◌, ◌<◌, ◌≤◌, ◌⊎◌, List, [], ◌∷◌, ◌++◌, sym, subst, inl, inr}
-use Rattle.std.proofs.Common.{arith}
-use Rattle.std.specs.Prelude.{Bool}
-use Rattle.std.proofs.lemmas.Bool.{cases_lt}
-use Rattle.std.proofs.lemmas.Bool.Decides.{eqb_tells}
-use Rattle.serial_set.specs.declared.span.Span.{Span}
-use Rattle.serial_set.specs.Span.{SpanCovers, Covers, RunsFrom, IsRunsOf}
+use Rattle.serial_set.proofs.Common.{[], ◌++◌, ◌+◌, ◌<◌, ◌∷◌, ◌≤◌, ◌⊎◌, arith, Bool, cases_lt}
+use Rattle.serial_set.proofs.Common.{Covers, eqb_tells, inl, inr, IsRunsOf, List, RunsFrom, Span}
+use Rattle.serial_set.proofs.Common.{SpanCovers, subst, sym, ℕ}
 use Rattle.serial_set.specs.Joined.{Rises, glued_by, glued, joined}
 
 glued_runs : (a : ℕ) (x : Span) (ys : List Span) → a ≤ x.lo → x.lo ≤ x.hi

@@ -1,14 +1,9 @@
 -- A span that is put after runs, touching the last of them or past it.
-use Rattle.std.proofs.Common.{◌≡◌, ℕ, ◌+◌, ◌<◌, ◌≤◌, ◌⊎◌, List, [], ◌∷◌, ◌++◌, sym, subst, inl, inr}
-use Rattle.std.proofs.Common.{arith}
-use Rattle.std.specs.Prelude.{◌↔◌}
-use Rattle.std.specs.List.{All}
-use Rattle.std.proofs.lemmas.Bool.{cases_lt}
-use Rattle.std.proofs.lemmas.List.Elements.{All-nil}
-use Rattle.serial_set.specs.declared.span.Span.{Span}
-use Rattle.serial_set.specs.Span.{AddsSpan, Covers, IsRuns, RunsFrom}
-use Rattle.serial_set.proofs.RisingLists.{names_append, names_left, names_right, runs_apart, runs_front}
-use Rattle.serial_set.proofs.RisingLists.{runs_join, runs_middle}
+use Rattle.serial_set.proofs.Common.{[], ◌++◌, ◌+◌, ◌<◌, ◌↔◌, ◌∷◌, ◌≡◌, ◌≤◌, ◌⊎◌, AddsSpan, All}
+use Rattle.serial_set.proofs.Common.{All-nil, arith, cases_lt, Covers, inl, inr, IsRuns, List}
+use Rattle.serial_set.proofs.Common.{RunsFrom, Span, subst, sym, ℕ}
+use Rattle.serial_set.proofs.RisingLists.{names_append, names_left, names_right, runs_apart}
+use Rattle.serial_set.proofs.RisingLists.{runs_front, runs_join, runs_middle}
 
 -- the end of a list changes by the numbers of a span
 pub adds_end : (old new front xs ys : List Span) (a lo hi : ℕ) → old ≡ front ++ xs → new ≡ front ++ ys → IsRuns old → All (λ t. t.hi + 2 ≤ a) front → RunsFrom a ys → ((s : ℕ) → Covers ys s ↔ (Covers xs s ⊎ ((lo ≤ s) × (s ≤ hi)))) → AddsSpan old lo hi new

@@ -1,10 +1,7 @@
 -- One set has one rising list, and no list of intervals with the same members is shorter.
-use Rattle.std.proofs.Common.{◌≡◌, ℕ, ◌+◌, ◌≤◌, ◌⊎◌, List, [], ◌∷◌, ◌++◌, length, take, refl, sym}
-use Rattle.std.proofs.Common.{subst, ap, ◌∙◌, inl, inr, arith, length-append}
-use Rattle.std.specs.Prelude.{◌↔◌}
-use Rattle.std.proofs.lemmas.Bool.{cases_lt}
-use Rattle.serial_set.specs.declared.span.Span.{Span}
-use Rattle.serial_set.specs.Span.{SpanCovers, Covers, RunsFrom, IsRuns}
+use Rattle.serial_set.proofs.Common.{[], ◌++◌, ◌+◌, ◌↔◌, ◌∙◌, ◌∷◌, ◌≡◌, ◌≤◌, ◌⊎◌, ap, arith}
+use Rattle.serial_set.proofs.Common.{cases_lt, Covers, inl, inr, IsRuns, length, length-append}
+use Rattle.serial_set.proofs.Common.{List, refl, RunsFrom, Span, SpanCovers, subst, sym, take, ℕ}
 use Rattle.serial_set.proofs.RisingLists.{names_append, names_left, names_right, names_from}
 
 -- ---- one list

@@ -1,16 +1,9 @@
 -- Rising lists of spans: their members, and how they are split and joined.
-use Rattle.std.proofs.Common.{ℕ, ◌+◌, ◌-◌, ◌<◌, ◌≤◌, List, [], ◌∷◌, ◌++◌, ◌⊎◌, length, get_or, inl}
-use Rattle.std.proofs.Common.{inr, arith, zero, suc, leb}
-use Rattle.std.specs.Prelude.{◌↔◌, ◌&&◌}
-use Rattle.std.specs.Bool.{Decides}
-use Rattle.std.proofs.Math.Logic.{⊎_elim}
-use Rattle.std.proofs.lemmas.Bool.{le-leb, leb-true}
-use Rattle.std.proofs.lemmas.Bool.Decides.{Decides-and, Decides-or}
-use Rattle.std.specs.List.{All}
+use Rattle.serial_set.proofs.Common.{[], ⊎_elim, ◌&&◌, ◌++◌, ◌+◌, ◌-◌, ◌<◌, ◌↔◌, ◌∷◌, ◌≤◌, ◌⊎◌, All}
+use Rattle.serial_set.proofs.Common.{All-cons, All-head, All-nil, All-tail, arith, Covers, Decides}
+use Rattle.serial_set.proofs.Common.{Decides-and, Decides-or, get_or, has, inl, inr, le-leb, leb}
+use Rattle.serial_set.proofs.Common.{leb-true, length, List, RunsFrom, Span, suc, zero, ℕ}
 use Rattle.std.specs.List.Sorted.{IsNonDecreasingBy}
-use Rattle.std.proofs.lemmas.List.Elements.{All-nil, All-cons, All-head, All-tail}
-use Rattle.serial_set.specs.declared.span.Span.{Span}
-use Rattle.serial_set.specs.Span.{Covers, RunsFrom, has}
 
 pub names_append : (xs ys : List Span) (s : ℕ) → Covers (xs ++ ys) s → Covers xs s ⊎ Covers ys s
 names_append [] ys s n = inr n

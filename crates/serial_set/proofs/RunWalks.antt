@@ -1,17 +1,11 @@
 -- A walk over runs: what is left of them after a piece, and that the walk comes to its end.
-use Rattle.std.proofs.Common.{◌≡◌, ℕ, zero, suc, ◌+◌, ◌-◌, ◌^◌, ◌<◌, ◌≤◌, min, max, List, [], ◌∷◌}
-use Rattle.std.proofs.Common.{length, get_or, take, drop, refl, sym, subst, ap, ◌∙◌, inl, inr}
-use Rattle.std.proofs.Common.{arith, length-drop, length-take}
-use Rattle.std.specs.Prelude.{Bool, nat_le, Option, Some, None}
-use Rattle.std.specs.List.{All}
-use Rattle.std.specs.Option.{SomeIff}
-use Rattle.std.proofs.lemmas.Bool.Decides.{leb_tells}
-use Rattle.std.proofs.lemmas.List.{take_min}
-use Rattle.std.proofs.lemmas.List.Elements.{All-head, All-tail}
-use Rattle.serial_set.specs.declared.span.Span.{Span}
-use Rattle.serial_set.specs.Span.{Covers, RunsFrom, IsRuns, AreSerials}
-use Rattle.serial_set.specs.Walk.{since_by, since, clipped, past, next_by, next_of, left, steps}
-use Rattle.serial_set.specs.Walk.{IsPiece}
+use Rattle.serial_set.proofs.Common.{[], ◌+◌, ◌-◌, ◌<◌, ◌^◌, ◌∙◌, ◌∷◌, ◌≡◌, ◌≤◌, All, All-head}
+use Rattle.serial_set.proofs.Common.{All-tail, ap, AreSerials, arith, Bool, clipped, Covers, drop}
+use Rattle.serial_set.proofs.Common.{get_or, inl, inr, IsPiece, IsRuns, leb_tells, left, length}
+use Rattle.serial_set.proofs.Common.{length-drop, length-take, List, max, min, nat_le, next_by}
+use Rattle.serial_set.proofs.Common.{next_of, None, Option, past, refl, RunsFrom, since, since_by}
+use Rattle.serial_set.proofs.Common.{Some, SomeIff, Span, steps, subst, suc, sym, take, take_min}
+use Rattle.serial_set.proofs.Common.{zero, ℕ}
 use Rattle.serial_set.proofs.RisingLists.{names_from, RunsFrom-weaker}
 use Rattle.serial_set.proofs.LeastLists.{runs_unique}
 

@@ -1,13 +1,11 @@
 -- Consecutive bits, and the members that they represent.
-use Rattle.std.proofs.Common.{◌≡◌, ℕ, ◌+◌, ◌-◌, ◌*◌, ◌^◌, ◌<◌, ◌≤◌, inl, inr, Some, None, arith, ap, sym, subst, ◌∙◌, w64}
-use Rattle.std.specs.Prelude.{bit_and, false}
-use Rattle.std.specs.Int.{bit_at, bit_not, trailing_zeros}
-use Rattle.std.proofs.lemmas.Bool.{cases_eq, cases_lt}
-use Rattle.std.proofs.lemmas.Nat.Bits.{bit_at_and, bit_at_not, bit_at-lt, bit_at-zero, bit_at_mask_inside, bit_at_mask_below, bit_at-trailing_zeros}
-use Rattle.span_sets.specs.declared.chunk.Chunk.{Chunk}
-use Rattle.serial_set.specs.Span.{Covers}
-use Rattle.span_sets.specs.Chunk.{is_span, window_of, bits_of, members_in, lo_of, hi_of}
-use Rattle.span_sets.specs.Members.{IsFirst, IsFirstBit, GoesOn}
+use Rattle.span_sets.proofs.Common.{◌*◌, ◌+◌, ◌-◌, ◌<◌, ◌^◌, ◌∙◌, ◌≡◌, ◌≤◌, ap, arith, bit_and}
+use Rattle.span_sets.proofs.Common.{bit_at, bit_at-lt, bit_at-trailing_zeros, bit_at-zero}
+use Rattle.span_sets.proofs.Common.{bit_at_and, bit_at_mask_below, bit_at_mask_inside, bit_at_not}
+use Rattle.span_sets.proofs.Common.{bit_not, bits_of, cases_eq, cases_lt, Chunk, Covers, false}
+use Rattle.span_sets.proofs.Common.{GoesOn, hi_of, inl, inr, is_span, IsFirst, IsFirstBit, lo_of}
+use Rattle.span_sets.proofs.Common.{members_in, None, Some, subst, sym, trailing_zeros, w64}
+use Rattle.span_sets.proofs.Common.{window_of, ℕ}
 use Rattle.span_sets.proofs.ChunkMembers.{in_word, word_ends}
 
 pub none_set : (bits bit m : ℕ) → m ≡ 2 ^ 64 - 2 ^ bit → bit_and bits m ≡ 0 → IsFirstBit bits bit None

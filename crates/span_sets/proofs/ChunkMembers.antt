@@ -1,17 +1,12 @@
 -- Members of one chunk, and masks of bits.
-use Rattle.std.proofs.Common.{◌≡◌, ℕ, ◌+◌, ◌-◌, ◌*◌, ◌/◌, ◌%◌, ◌^◌, ◌<◌, ◌≤◌, min, refl, sym, subst, ap, ◌∙◌, inl, inr, arith, zero, suc}
-use Rattle.std.specs.Prelude.{Bool, true, false, ◌↔◌, ◌⊎◌, bit_or}
-use Rattle.std.specs.Int.{bit_at}
-use Rattle.std.proofs.lemmas.Bool.{cases_lt}
-use Rattle.std.proofs.lemmas.Nat.{one_shl, pow_pos}
-use Rattle.std.proofs.Math.Pow.{pow_mono}
-use Rattle.std.proofs.lemmas.Nat.Bits.{ones_shr, bit_at_or, bit_at-lt, bit_at_mask_inside, bit_at_mask_below, bit_at_mask_above}
-use Rattle.std.proofs.lemmas.Bool.Decides.{eqb_tells}
-use Rattle.span_sets.specs.declared.chunk.Chunk.{Chunk}
-use Rattle.serial_set.specs.Span.{Covers}
-use Rattle.span_sets.specs.Words.{BitCovers, single_by, singles}
-use Rattle.span_sets.specs.Chunk.{is_span, window_of, bits_of, members_in, members_by, lo_of, lo_by, hi_of, hi_by}
-use Rattle.span_sets.specs.Lawful.{next_bit, this_bit, singles_to}
+use Rattle.span_sets.proofs.Common.{◌%◌, ◌*◌, ◌+◌, ◌-◌, ◌/◌, ◌<◌, ◌^◌, ◌↔◌, ◌∙◌, ◌≡◌, ◌≤◌, ◌⊎◌, ap}
+use Rattle.span_sets.proofs.Common.{arith, bit_at, bit_at-lt, bit_at_mask_above, bit_at_mask_below}
+use Rattle.span_sets.proofs.Common.{bit_at_mask_inside, bit_at_or, bit_or, BitCovers, bits_of, Bool}
+use Rattle.span_sets.proofs.Common.{cases_lt, Chunk, Covers, eqb_tells, false, hi_by, hi_of, inl}
+use Rattle.span_sets.proofs.Common.{inr, is_span, lo_by, lo_of, members_by, members_in, min}
+use Rattle.span_sets.proofs.Common.{next_bit, one_shl, ones_shr, pow_mono, pow_pos, refl, single_by}
+use Rattle.span_sets.proofs.Common.{singles, singles_to, subst, suc, sym, this_bit, true, window_of}
+use Rattle.span_sets.proofs.Common.{zero, ℕ}
 
 pub singles_from : (count base bits s : ℕ) → BitCovers count base bits s
     → Covers (singles count base bits) s

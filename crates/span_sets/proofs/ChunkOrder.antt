@@ -1,14 +1,10 @@
 -- Chunks in order: their positions, and where they end.
-use Rattle.std.proofs.Common.{◌≡◌, ℕ, ◌+◌, ◌-◌, ◌<◌, ◌≤◌, List, [], ◌∷◌, ◌++◌, length, get_or, take, drop, refl, sym, ap, subst, inl, inr, arith, zero, suc, set, ◌∙◌}
-use Rattle.std.specs.List.{All}
-use Rattle.std.specs.List.Sorted.{IsNonDecreasingBy}
-use Rattle.std.proofs.lemmas.Bool.{cases_lt, cases_eq}
-use Rattle.std.proofs.lemmas.List.{take-append-drop, take_all, length-set, get_or-set_same, get_or-set_other}
-use Rattle.std.proofs.lemmas.List.Elements.{All-nil, All-cons, All-head, All-tail}
-use Rattle.span_sets.specs.declared.chunk.Chunk.{Chunk}
-use Rattle.span_sets.specs.Chunk.{lo_of, hi_of, ChunksFrom}
-use Rattle.span_sets.specs.Positions.{end_of}
-use Rattle.span_sets.specs.Lawful.{stretch}
+use Rattle.span_sets.proofs.Common.{[], ◌++◌, ◌+◌, ◌-◌, ◌<◌, ◌∙◌, ◌∷◌, ◌≡◌, ◌≤◌, All, All-cons}
+use Rattle.span_sets.proofs.Common.{All-head, All-nil, All-tail, ap, arith, cases_eq, cases_lt}
+use Rattle.span_sets.proofs.Common.{Chunk, ChunksFrom, drop, end_of, get_or, get_or-set_other}
+use Rattle.span_sets.proofs.Common.{get_or-set_same, hi_of, inl, inr, IsNonDecreasingBy, length}
+use Rattle.span_sets.proofs.Common.{length-set, List, lo_of, refl, set, stretch, subst, suc, sym}
+use Rattle.span_sets.proofs.Common.{take, take-append-drop, take_all, zero, ℕ}
 use Rattle.span_sets.proofs.OrderedChunks.{chunks_back}
 
 pub chunks_each : (a : ℕ) (es : List Chunk) → ChunksFrom a es → All (λ e. a ≤ lo_of e) es

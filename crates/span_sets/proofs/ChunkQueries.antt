@@ -1,18 +1,13 @@
 -- A set's chunks: queries, and the result of one change.
-use Rattle.std.proofs.Common.{◌≡◌, ℕ, ◌+◌, ◌*◌, ◌^◌, ◌<◌, ◌≤◌, ◌⊎◌, ◌↔◌, List, [], ◌∷◌, ◌++◌, Some, Result, Ok, Err, OnOk, OnErr, sym, subst, inl, inr, arith, ◌∙◌, refl}
-use Rattle.std.specs.List.{All}
-use Rattle.std.proofs.Math.Logic.{⊎_elim, ⊎_map}
-use Rattle.std.proofs.lemmas.List.Elements.{All-nil, All-weaker}
-use Rattle.span_sets.specs.declared.chunk.Chunk.{Chunk}
-use Rattle.std.specs.Prelude.{Bool, true, false, IsTrue}
-use Rattle.serial_set.specs.Span.{Covers, AreSerials, IsRunsOf}
-use Rattle.span_sets.specs.Words.{BitCovers}
-use Rattle.span_sets.specs.Chunk.{members_in, lo_of, hi_of, ChunksFrom, members_of, runs_of}
-use Rattle.span_sets.specs.Chunks.{Replaces}
-use Rattle.span_sets.specs.Positions.{IsChunkFrom, WordWidened}
-use Rattle.span_sets.specs.Lawful.{runs_of_chunks}
-use Rattle.serial_set.proofs.RisingLists.{names_append, names_left}
-use Rattle.span_sets.proofs.OrderedChunks.{has_append, has_left, has_right, has_from, none_below, chunks_back}
+use Rattle.span_sets.proofs.Common.{[], ⊎_elim, ⊎_map, ◌*◌, ◌++◌, ◌+◌, ◌<◌, ◌^◌, ◌↔◌, ◌∙◌, ◌∷◌, ◌≡◌}
+use Rattle.span_sets.proofs.Common.{◌≤◌, ◌⊎◌, All, All-nil, All-weaker, AreSerials, arith}
+use Rattle.span_sets.proofs.Common.{BitCovers, Bool, Chunk, ChunksFrom, Covers, Err, false, hi_of}
+use Rattle.span_sets.proofs.Common.{inl, inr, IsChunkFrom, IsRunsOf, IsTrue, List, lo_of}
+use Rattle.span_sets.proofs.Common.{members_in, members_of, names_append, names_left, Ok, OnErr}
+use Rattle.span_sets.proofs.Common.{OnOk, refl, Replaces, Result, runs_of, runs_of_chunks, Some}
+use Rattle.span_sets.proofs.Common.{subst, sym, true, WordWidened, ℕ}
+use Rattle.span_sets.proofs.OrderedChunks.{has_append, has_left, has_right, has_from, none_below}
+use Rattle.span_sets.proofs.OrderedChunks.{chunks_back}
 use Rattle.span_sets.proofs.Replacements.{replaced_order}
 
 -- a member of one chunk is a member of all

@@ -1,3 +1,4 @@
+mod Common
 pub mod SpanLookup
 pub mod ListsOfLists
 pub mod BitMembers

@@ -1,9 +1,12 @@
 -- A list of lists: what the lists before a position have, the one at the position, and those after it.
-use Rattle.std.proofs.Common.{◌≡◌, ℕ, ◌+◌, ◌-◌, ◌<◌, ◌≤◌, List, [], ◌∷◌, ◌++◌, length, get_or, take, drop, sym, ap, subst, arith, suc, set, ◌∙◌, add-zero, length-append, length-drop}
-use Rattle.std.specs.List.{All, flat_map, insert}
-use Rattle.std.proofs.lemmas.List.{append_assoc, take-append-drop, drop_more, drop_at, drop-drop, drop-set, drop-set-lt, get_or-drop, length-take-le, set_split, take_more_set, get_or_append_left, get_or-append-add}
+use Rattle.span_sets.proofs.Common.{[], ◌++◌, ◌+◌, ◌-◌, ◌<◌, ◌∙◌, ◌∷◌, ◌≡◌, ◌≤◌, add-zero, All}
+use Rattle.span_sets.proofs.Common.{All-head, ap, append_assoc, arith, drop, drop-drop, drop-set}
+use Rattle.span_sets.proofs.Common.{drop-set-lt, drop_at, drop_more, flat_map, get_or}
+use Rattle.span_sets.proofs.Common.{get_or-append-add, get_or-drop, get_or_append_left, insert}
+use Rattle.span_sets.proofs.Common.{length, length-append, length-drop, length-take-le, List, set}
+use Rattle.span_sets.proofs.Common.{set_split, subst, suc, sym, take, take-append-drop}
+use Rattle.span_sets.proofs.Common.{take_more_set, ℕ}
 use Rattle.std.proofs.lemmas.List.Concat.{flat_map-append}
-use Rattle.std.proofs.lemmas.List.Elements.{All-head}
 
 pub all_left : {X : Type 0} (P : X → Type 0) (xs ys : List X) → All P (xs ++ ys) → All P xs
 all_left P xs ys h = λ k d q. subst P (get_or_append_left xs ys d k q) (h k d (omega (arith, length-append xs ys)))

@@ -1,11 +1,7 @@
 -- Members that are found one after another, and their runs.
-use Rattle.std.proofs.Common.{ℕ, ◌≤◌, List, Some, None, arith}
-use Rattle.span_sets.specs.declared.chunk.Chunk.{Chunk}
-use Rattle.serial_set.specs.Span.{AreSerials, Covers}
-use Rattle.span_sets.specs.Chunk.{members_in, hi_of, ChunksFrom, members_of, runs_of}
-use Rattle.span_sets.specs.Positions.{IsChunkFrom}
-use Rattle.span_sets.specs.Members.{IsFirst, GoesOn}
-use Rattle.span_sets.specs.Lawful.{runs_of_chunks}
+use Rattle.span_sets.proofs.Common.{◌≤◌, AreSerials, arith, Chunk, ChunksFrom, Covers, GoesOn}
+use Rattle.span_sets.proofs.Common.{hi_of, IsChunkFrom, IsFirst, List, members_in, members_of, None}
+use Rattle.span_sets.proofs.Common.{runs_of, runs_of_chunks, Some, ℕ}
 use Rattle.span_sets.proofs.ChunkQueries.{asked}
 use Rattle.span_sets.proofs.OrderedChunks.{none_below}
 

@@ -1,13 +1,13 @@
 -- An interval that is added to a rising list: it is merged with the spans that it touches.
-use Rattle.std.proofs.Common.{◌≡◌, ℕ, ◌+◌, ◌-◌, ◌<◌, ◌≤◌, List, [], ◌∷◌, ◌++◌, ◌⊎◌, length, get_or, take, drop, refl, sym, ap, subst, inl, inr, arith, min, max, ◌∙◌, sub-one, add-zero, length-take, length-drop}
-use Rattle.std.specs.List.{All}
-use Rattle.std.proofs.lemmas.Bool.{cases_lt}
-use Rattle.std.proofs.lemmas.List.Elements.{All-nil, All-head, All-tail, All-take, All-drop}
-use Rattle.std.proofs.lemmas.List.{drop-drop, take-append-drop, get_or-take, get_or-drop, get_or_default}
+use Rattle.span_sets.proofs.Common.{[], ◌++◌, ◌+◌, ◌-◌, ◌<◌, ◌∙◌, ◌∷◌, ◌≡◌, ◌≤◌, ◌⊎◌, add-zero}
+use Rattle.span_sets.proofs.Common.{AddsSpan, All, All-drop, All-head, All-nil, All-tail, All-take}
+use Rattle.span_sets.proofs.Common.{ap, arith, cases_lt, Covers, drop, drop-drop, get_or}
+use Rattle.span_sets.proofs.Common.{get_or-drop, get_or-take, get_or_default, inl, inr, IsRuns}
+use Rattle.span_sets.proofs.Common.{length, length-drop, length-take, List, max, min, names_append}
+use Rattle.span_sets.proofs.Common.{names_left, names_right, refl, runs_apart, runs_front}
+use Rattle.span_sets.proofs.Common.{runs_join, runs_middle, RunsFrom, RunsFrom-weaker, Span}
+use Rattle.span_sets.proofs.Common.{SpanCovers, sub-one, subst, sym, take, take-append-drop, ℕ}
 use Rattle.std.proofs.lemmas.Slice.{between_is}
-use Rattle.serial_set.specs.declared.span.Span.{Span}
-use Rattle.serial_set.specs.Span.{SpanCovers, Covers, RunsFrom, IsRuns, AddsSpan}
-use Rattle.serial_set.proofs.RisingLists.{names_append, names_left, names_right, RunsFrom-weaker, runs_front, runs_middle, runs_apart, runs_join}
 
 -- where the last span of `m ∷ ms` ends
 abbrev pub last_end : Span → List Span → ℕ

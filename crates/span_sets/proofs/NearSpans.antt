@@ -1,21 +1,14 @@
 -- Spans that lie near each other, and their bits.
-use Rattle.std.proofs.Common.{◌≡◌, ℕ, ◌+◌, ◌-◌, ◌*◌, ◌%◌, ◌^◌, ◌<◌, ◌≤◌, ◌⊎◌, List, [], ◌∷◌, ◌++◌, length, length-append, get_or, take, ap, sym, subst, inl, inr, arith}
-use Rattle.std.specs.Prelude.{◌↔◌, bit_or}
-use Rattle.std.specs.Int.{bit_at}
-use Rattle.std.specs.List.{All}
-use Rattle.std.proofs.lemmas.Bool.{cases_lt}
-use Rattle.std.proofs.lemmas.Nat.Bits.{bit_at-zero}
-use Rattle.std.proofs.lemmas.List.{take_more}
-use Rattle.std.proofs.lemmas.List.Elements.{All-head, All-tail}
-use Rattle.serial_set.specs.declared.span.Span.{Span}
+use Rattle.span_sets.proofs.Common.{[], ◌%◌, ◌*◌, ◌++◌, ◌+◌, ◌-◌, ◌<◌, ◌^◌, ◌↔◌, ◌∷◌, ◌≡◌, ◌≤◌, ◌⊎◌}
+use Rattle.span_sets.proofs.Common.{AddsSpan, All, All-head, All-tail, ap, arith, bit_at}
+use Rattle.span_sets.proofs.Common.{bit_at-zero, bit_or, BitCovers, cases_lt, Covers, get_or, inl}
+use Rattle.span_sets.proofs.Common.{inr, IsRuns, length, length-append, List, names_append}
+use Rattle.span_sets.proofs.Common.{names_left, names_right, runs_least, Span, SpanCovers, subst}
+use Rattle.span_sets.proofs.Common.{sym, take, take_more, ℕ}
 use Rattle.span_sets.proofs.ChunkMembers.{in_or}
-use Rattle.serial_set.specs.Span.{SpanCovers, Covers, AddsSpan, IsRuns}
 use Rattle.serial_set.specs.BitRuns.{IsInterval}
 use Rattle.serial_set.specs.Near.{AddsSpans, LiesIn}
-use Rattle.span_sets.specs.Words.{BitCovers}
 use Rattle.span_sets.proofs.SetChunks.{mask_has}
-use Rattle.serial_set.proofs.LeastLists.{runs_least}
-use Rattle.serial_set.proofs.RisingLists.{names_append, names_left, names_right}
 
 -- one more span
 pub covers_more : (spans : List Span) (i : ℕ) (d : Span) (s : ℕ) → i < length spans → Covers (take (i + 1) spans) s ↔ (Covers (take i spans) s ⊎ SpanCovers (get_or spans i d) s)

@@ -1,12 +1,7 @@
 -- A set with only one chunk: queries, and the result of one change.
-use Rattle.std.proofs.Common.{◌≡◌, ℕ, ◌<◌, ◌≤◌, List, [], ◌∷◌, length, get_or, refl, sym, ap, arith}
-use Rattle.std.specs.List.{All}
-use Rattle.std.proofs.lemmas.List.{append-nil}
-use Rattle.std.proofs.lemmas.List.Elements.{All-nil, All-cons}
-use Rattle.span_sets.specs.declared.chunk.Chunk.{Chunk}
-use Rattle.span_sets.specs.Chunk.{lo_of, hi_of}
-use Rattle.span_sets.specs.Chunks.{Replaces}
-use Rattle.span_sets.specs.Positions.{IsListFrom, Widened, WordWidened}
+use Rattle.span_sets.proofs.Common.{[], ◌<◌, ◌∷◌, ◌≡◌, ◌≤◌, All, All-cons, All-nil, ap, append-nil}
+use Rattle.span_sets.proofs.Common.{arith, Chunk, get_or, hi_of, IsListFrom, length, List, lo_of}
+use Rattle.span_sets.proofs.Common.{refl, Replaces, sym, Widened, WordWidened, ℕ}
 
 pub list_one : (e : Chunk) (n : ℕ) → n ≤ hi_of e → IsListFrom (e ∷ []) n (e ∷ [])
 list_one e n h = record {

@@ -1,14 +1,9 @@
 -- Chunks in order: how they are split and joined, and which members they have.
-use Rattle.std.proofs.Common.{ℕ, ◌+◌, ◌<◌, ◌≤◌, ◌⊎◌, List, [], ◌∷◌, ◌++◌, sym, subst, inl, inr}
-use Rattle.std.proofs.Common.{arith}
-use Rattle.std.specs.List.{All}
+use Rattle.span_sets.proofs.Common.{[], ◌++◌, ◌+◌, ◌<◌, ◌∷◌, ◌≤◌, ◌⊎◌, All, All-head, All-tail}
+use Rattle.span_sets.proofs.Common.{arith, Chunk, ChunksFrom, Covers, hi_of, in_stretch, inl, inr}
+use Rattle.span_sets.proofs.Common.{List, lo_of, members_in, members_of, names_append, names_left}
+use Rattle.span_sets.proofs.Common.{names_right, stretch, subst, sym, ℕ}
 use Rattle.std.proofs.lemmas.Grind.{flat_map-append}
-use Rattle.std.proofs.lemmas.List.Elements.{All-head, All-tail}
-use Rattle.span_sets.specs.declared.chunk.Chunk.{Chunk}
-use Rattle.serial_set.specs.Span.{Covers}
-use Rattle.span_sets.specs.Chunk.{members_in, lo_of, hi_of, ChunksFrom, members_of}
-use Rattle.span_sets.specs.Lawful.{in_stretch, stretch}
-use Rattle.serial_set.proofs.RisingLists.{names_append, names_left, names_right}
 
 -- ---- split and joined
 

@@ -1,13 +1,9 @@
 -- A page: the chunks that one change replaces.
-use Rattle.std.proofs.Common.{◌≡◌, ℕ, ◌+◌, ◌<◌, ◌≤◌, ◌⊎◌, List, ◌∷◌, ◌++◌, length, get_or, set, suc, take, drop, sym, ap, subst, inl, inr, arith, ◌∙◌}
-use Rattle.std.specs.List.{All}
-use Rattle.std.proofs.lemmas.List.{take-append-drop, drop-drop, drop_more, set_split}
-use Rattle.std.proofs.lemmas.List.Elements.{All-take, All-drop}
-use Rattle.span_sets.specs.declared.chunk.Chunk.{Chunk}
-use Rattle.span_sets.specs.Chunk.{lo_of, hi_of}
-use Rattle.span_sets.specs.Chunks.{Replaces}
-use Rattle.span_sets.specs.Positions.{CutTo, Widened, WordWidened}
-use Rattle.span_sets.specs.Lawful.{stretch}
+use Rattle.span_sets.proofs.Common.{◌++◌, ◌+◌, ◌<◌, ◌∙◌, ◌∷◌, ◌≡◌, ◌≤◌, ◌⊎◌, All, All-drop}
+use Rattle.span_sets.proofs.Common.{All-take, ap, arith, Chunk, CutTo, drop, drop-drop, drop_more}
+use Rattle.span_sets.proofs.Common.{get_or, hi_of, inl, inr, length, List, lo_of, Replaces, set}
+use Rattle.span_sets.proofs.Common.{set_split, stretch, subst, suc, sym, take, take-append-drop}
+use Rattle.span_sets.proofs.Common.{Widened, WordWidened, ℕ}
 
 -- among chunks that a number does not split, those that end past it begin past it
 past_whole : (number n : ℕ) (es : List Chunk) → All (λ e. (hi_of e ≤ number) ⊎ (number < lo_of e)) es → All (λ e. number < hi_of e) (drop n es) → All (λ e. number < lo_of e) (drop n es)

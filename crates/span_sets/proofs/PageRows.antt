@@ -1,20 +1,19 @@
 -- A list of pages.
-use Rattle.std.proofs.Common.{◌≡◌, ℕ, ◌+◌, ◌-◌, ◌<◌, ◌≤◌, ◌⊎◌, List, [], ◌∷◌, ◌++◌, length, get_or, take, drop, refl, sym, ap, subst, inl, inr, arith, zero, suc, min, set, ◌∙◌, length-append, length-drop, add-zero}
-use Rattle.std.specs.List.{All, insert}
-use Rattle.std.specs.List.Sorted.{IsNonDecreasingBy}
-use Rattle.std.proofs.lemmas.Bool.{cases_lt}
-use Rattle.std.proofs.lemmas.List.{append-nil, append_assoc, take-append-drop, drop_all, drop_at, drop-drop, drop-set-lt, get_or-drop, length-take-le, take_all, take_at, take-take, take_more_set}
+use Rattle.span_sets.proofs.Common.{[], ◌++◌, ◌+◌, ◌-◌, ◌<◌, ◌∙◌, ◌∷◌, ◌≡◌, ◌≤◌, ◌⊎◌, add-zero, All}
+use Rattle.span_sets.proofs.Common.{All-append, All-head, All-nil, All-tail, ap, append-nil}
+use Rattle.span_sets.proofs.Common.{append_assoc, arith, cases_lt, Chunk, chunks_in, chunks_of}
+use Rattle.span_sets.proofs.Common.{ChunksFrom, CutTo, drop, drop-drop, drop-set-lt, drop_all}
+use Rattle.span_sets.proofs.Common.{drop_at, end_of, get_or, get_or-drop, hi_of, inl, inr, insert}
+use Rattle.span_sets.proofs.Common.{IsListFrom, IsNonDecreasingBy, IsSplit, length, length-append}
+use Rattle.span_sets.proofs.Common.{length-drop, length-take-le, List, lo_of, min, refl, Replaces}
+use Rattle.span_sets.proofs.Common.{set, stretch, subst, suc, sym, take, take-append-drop}
+use Rattle.span_sets.proofs.Common.{take-take, take_all, take_at, take_more_set, WordWidened, zero}
+use Rattle.span_sets.proofs.Common.{ℕ}
 use Rattle.std.proofs.lemmas.List.Concat.{flat_map-append}
-use Rattle.std.proofs.lemmas.List.Elements.{All-nil, All-head, All-tail, All-append}
-use Rattle.span_sets.specs.declared.chunk.Chunk.{Chunk}
 use Rattle.span_sets.specs.declared.page.Page.{Page}
-use Rattle.span_sets.specs.Chunk.{lo_of, hi_of, ChunksFrom}
-use Rattle.span_sets.specs.Chunks.{Replaces}
-use Rattle.span_sets.specs.Pages.{chunks_in, chunks_of, IsSplit}
-use Rattle.span_sets.specs.Positions.{end_of, IsListFrom, CutTo, WordWidened}
-use Rattle.span_sets.specs.Lawful.{stretch}
 use Rattle.span_sets.proofs.Parts.{rises_before}
-use Rattle.span_sets.proofs.ListsOfLists.{all_left, all_right, flat_cut, flat_drop, flat_at, part_at, part_set, first_of}
+use Rattle.span_sets.proofs.ListsOfLists.{all_left, all_right, flat_cut, flat_drop, flat_at}
+use Rattle.span_sets.proofs.ListsOfLists.{part_at, part_set, first_of}
 use Rattle.span_sets.proofs.ChunkOrder.{chunks_each, end_most, end_upto, end_back, chunks_past}
 use Rattle.span_sets.proofs.OrderedChunks.{chunks_front, chunks_back}
 

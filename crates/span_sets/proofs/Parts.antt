@@ -1,13 +1,15 @@
 -- Facts that hold up to a position in a list, or from it on, as facts on the two parts.
-use Rattle.std.specs.Borrow.{Bor}
+use Rattle.std.proofs.Common.{Bor, ◌≡◌, Bool, true, false, leb, ltb, ℕ, ◌+◌, ◌-◌, ◌<◌, ◌≤◌, ap}
+use Rattle.std.proofs.Common.{get_or, List, length, take, drop, sym, subst, arith, length-drop}
+use Rattle.std.proofs.Common.{length-take, All, leb-true, leb-false, ltb-true, ltb-false}
+use Rattle.std.proofs.Common.{get_or-take, get_or-drop, length-take-le}
 use denote.Param.Members.{Mut}
 use Rattle.std.specs.Fn.{Called, ComputesKey}
-use Rattle.std.proofs.Common.{◌≡◌, Bool, true, false, leb, ltb, ℕ, ◌+◌, ◌-◌, ◌<◌, ◌≤◌, ap, get_or, List, length, take, drop, sym, subst, arith, length-drop, length-take}
-use Rattle.std.specs.List.{All, AllWithin}
+use Rattle.std.specs.List.{AllWithin}
 use Rattle.std.specs.List.Sorted.{IsNonDecreasingBy, IsPartitionedBy, IsPartitionPoint}
-use Rattle.std.proofs.lemmas.Bool.{leb-true, leb-false, ltb-true, ltb-false}
-use Rattle.std.proofs.lemmas.List.Sorted.{IsPartitionPoint-from_clause, IsPartitionedBy-leb, IsPartitionedBy-ltb}
-use Rattle.std.proofs.lemmas.List.{get_or-take, get_or-drop, get_or_default, length-take-le}
+use Rattle.std.proofs.lemmas.List.Sorted.{IsPartitionPoint-from_clause, IsPartitionedBy-leb}
+use Rattle.std.proofs.lemmas.List.Sorted.{IsPartitionedBy-ltb}
+use Rattle.std.proofs.lemmas.List.{get_or_default}
 
 All-front : {X : Type 0} (P : X → Type 0) (xs : List X) (i : ℕ) → AllWithin P xs 0 i → All P (take i xs)
 All-front P xs i h k d q =

@@ -1,20 +1,14 @@
 -- Members of the chunks by which an addition replaces others.
-use Rattle.std.proofs.Common.{◌≡◌, ℕ, ◌+◌, ◌-◌, ◌*◌, ◌%◌, ◌^◌, ◌<◌, ◌≤◌, ◌⊎◌, List, [], ◌++◌, length, sym, subst, ap, ◌∙◌, inl, inr, arith, length-append, w64}
-use Rattle.std.specs.Prelude.{true, false, Option, Some, None, IfSome, bit_or, ◌↔◌}
-use Rattle.std.specs.Int.{bit_at, trailing_zeros, trailing_ones}
-use Rattle.std.specs.List.{All}
-use Rattle.std.specs.Option.{option_to_list}
-use Rattle.std.proofs.lemmas.Bool.{le-leb}
-use Rattle.std.proofs.Math.Logic.{⊎_elim, ⊎_map}
-use Rattle.std.proofs.lemmas.List.Elements.{All-nil, All-cons, All-append}
-use Rattle.std.proofs.lemmas.Nat.Bits.{bit_at_ones, bit_at-trailing_ones, bit_at-trailing_zeros}
-use Rattle.span_sets.specs.declared.chunk.Chunk.{Chunk}
-use Rattle.serial_set.specs.Span.{Covers}
-use Rattle.span_sets.specs.Words.{BitCovers, singles}
-use Rattle.span_sets.specs.Chunk.{is_span, window_of, bits_of, members_in, lo_of, lo_by, hi_of, hi_by, ChunksFrom, members_of}
-use Rattle.span_sets.specs.Replacement.{lo_or, hi_or, Has, IsReplacement}
-use Rattle.span_sets.specs.Tight.{IsFull, IsTight}
-use Rattle.span_sets.specs.Lawful.{singles_to, stretch}
+use Rattle.span_sets.proofs.Common.{[], ⊎_elim, ⊎_map, ◌%◌, ◌*◌, ◌++◌, ◌+◌, ◌-◌, ◌<◌, ◌^◌, ◌↔◌, ◌∙◌}
+use Rattle.span_sets.proofs.Common.{◌≡◌, ◌≤◌, ◌⊎◌, All, All-append, All-cons, All-nil, ap, arith}
+use Rattle.span_sets.proofs.Common.{bit_at, bit_at-trailing_ones, bit_at-trailing_zeros}
+use Rattle.span_sets.proofs.Common.{bit_at_ones, bit_or, BitCovers, bits_of, Chunk, ChunksFrom}
+use Rattle.span_sets.proofs.Common.{Covers, false, Has, hi_by, hi_of, hi_or, IfSome, inl, inr}
+use Rattle.span_sets.proofs.Common.{is_span, IsFull, IsReplacement, IsTight, le-leb, length}
+use Rattle.span_sets.proofs.Common.{length-append, List, lo_by, lo_of, lo_or, members_in}
+use Rattle.span_sets.proofs.Common.{members_of, None, Option, option_to_list, singles, singles_to}
+use Rattle.span_sets.proofs.Common.{Some, stretch, subst, sym, trailing_ones, trailing_zeros, true}
+use Rattle.span_sets.proofs.Common.{w64, window_of, ℕ}
 use Rattle.span_sets.proofs.ChunkMembers.{in_mask, in_or, in_span, in_word, word_ends, singles_from}
 use Rattle.span_sets.proofs.ChunkQueries.{one_has}
 use Rattle.span_sets.proofs.OrderedChunks.{chunks_join, has_append, has_left, has_right}

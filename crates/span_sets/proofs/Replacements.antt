@@ -1,12 +1,8 @@
 -- The effect of one change on the order, the members and the runs of chunks.
-use Rattle.std.proofs.Common.{ℕ, ◌+◌, ◌<◌, ◌≤◌, ◌⊎◌, List, ◌++◌, sym, subst, inl, inr, arith}
-use Rattle.std.specs.List.{All}
-use Rattle.std.proofs.lemmas.List.Elements.{All-weaker}
-use Rattle.span_sets.specs.declared.chunk.Chunk.{Chunk}
-use Rattle.serial_set.specs.Span.{Covers, IsRunsOf}
-use Rattle.span_sets.specs.Chunk.{lo_of, hi_of, ChunksFrom, members_of, runs_of}
-use Rattle.span_sets.specs.Lawful.{runs_of_chunks}
-use Rattle.span_sets.specs.Chunks.{Replaces, Keeps}
+use Rattle.span_sets.proofs.Common.{◌++◌, ◌+◌, ◌<◌, ◌≤◌, ◌⊎◌, All, All-weaker, arith, Chunk}
+use Rattle.span_sets.proofs.Common.{ChunksFrom, Covers, hi_of, inl, inr, IsRunsOf, Keeps, List}
+use Rattle.span_sets.proofs.Common.{lo_of, members_of, Replaces, runs_of, runs_of_chunks, subst}
+use Rattle.span_sets.proofs.Common.{sym, ℕ}
 use Rattle.span_sets.proofs.OrderedChunks.{chunks_raise, chunks_front, chunks_back, chunks_join}
 use Rattle.span_sets.proofs.OrderedChunks.{has_append, has_left, has_right}
 

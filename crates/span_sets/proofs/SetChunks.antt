@@ -1,28 +1,21 @@
 -- Chunks of a set: the one at a number, and how a change affects the set's runs.
-use Rattle.std.proofs.Common.{◌≡◌, ℕ, ◌+◌, ◌-◌, ◌*◌, ◌/◌, ◌%◌, ◌^◌, ◌<◌, ◌≤◌, ◌⊎◌, List, [], ◌∷◌, ◌++◌, length, sym, subst, inl, inr, arith}
-use Rattle.std.specs.Prelude.{Option, Some, None, IfSome, bit_or, ◌↔◌}
-use Rattle.std.specs.List.{All}
-use Rattle.std.proofs.lemmas.Bool.{cases_lt}
-use Rattle.std.proofs.Math.Logic.{⊎_elim, ⊎_map, ⊎_swap}
-use Rattle.std.proofs.lemmas.List.Elements.{All-nil, All-cons, All-head, All-tail, All-append}
-use Rattle.serial_set.specs.declared.span.Span.{Span}
-use Rattle.span_sets.specs.declared.chunk.Chunk.{Chunk}
-use Rattle.serial_set.specs.Span.{Covers, IsRunsOf, AreSerials, AddsSpan}
-use Rattle.span_sets.specs.Words.{BitCovers}
-use Rattle.span_sets.specs.Chunk.{members_in, lo_of, hi_of, ChunksFrom, members_of, runs_of}
-use Rattle.span_sets.specs.Chunks.{Replaces, Keeps}
-use Rattle.span_sets.specs.Replacement.{lo_or, hi_or, Has, IsReplacement}
+use Rattle.span_sets.proofs.Common.{[], ⊎_elim, ⊎_map, ⊎_swap, ◌%◌, ◌*◌, ◌++◌, ◌+◌, ◌-◌, ◌/◌, ◌<◌}
+use Rattle.span_sets.proofs.Common.{◌^◌, ◌↔◌, ◌∷◌, ◌≡◌, ◌≤◌, ◌⊎◌, AddsSpan, All, All-append}
+use Rattle.span_sets.proofs.Common.{All-cons, All-head, All-nil, All-tail, AreSerials, arith}
+use Rattle.span_sets.proofs.Common.{bit_or, BitCovers, cases_lt, Chunk, ChunksFrom, Covers, Has}
+use Rattle.span_sets.proofs.Common.{hi_of, hi_or, IfSome, in_stretch, inl, inr, IsChunkFrom}
+use Rattle.span_sets.proofs.Common.{IsReplacement, IsRunsOf, Keeps, length, List, lo_of, lo_or}
+use Rattle.span_sets.proofs.Common.{members_in, members_of, names_append, None, Option, Replaces}
+use Rattle.span_sets.proofs.Common.{runs_least, runs_of, runs_of_chunks, Some, Span, stretch, subst}
+use Rattle.span_sets.proofs.Common.{sym, ℕ}
 use Rattle.span_sets.specs.Additions.{IsAt}
-use Rattle.span_sets.specs.Positions.{IsChunkFrom}
-use Rattle.span_sets.specs.Lawful.{in_stretch, stretch, runs_of_chunks}
 use Rattle.span_sets.proofs.ListsOfLists.{all_left, all_right}
 use Rattle.span_sets.proofs.ChunkOrder.{chunks_each}
 use Rattle.span_sets.proofs.ChunkMembers.{in_mask, in_or}
 use Rattle.span_sets.proofs.ReplacementMembers.{all_set}
 use Rattle.span_sets.proofs.ChunkQueries.{members_part, members_own}
-use Rattle.serial_set.proofs.RisingLists.{names_append}
-use Rattle.serial_set.proofs.LeastLists.{runs_least}
-use Rattle.span_sets.proofs.OrderedChunks.{chunks_back, has_append, has_left, has_right, none_below, has_from}
+use Rattle.span_sets.proofs.OrderedChunks.{chunks_back, has_append, has_left, has_right, none_below}
+use Rattle.span_sets.proofs.OrderedChunks.{has_from}
 use Rattle.span_sets.proofs.Replacements.{replaced_order, replaced_runs}
 
 -- ---- the chunk at a number

@@ -1,26 +1,18 @@
 -- The two ends of an added span, and the set's chunks after the addition.
-use Rattle.std.proofs.Common.{◌≡◌, ℕ, ◌+◌, ◌-◌, ◌*◌, ◌/◌, ◌%◌, ◌^◌, ◌<◌, ◌≤◌, ◌⊎◌, List, [], ◌∷◌, get_or, min, sym, subst, ap, ◌∙◌, inl, inr, arith}
-use Rattle.std.specs.Prelude.{Bool, true, false, Option, Some, None, IfSome, ◌↔◌}
-use Rattle.std.specs.List.{All}
-use Rattle.std.proofs.lemmas.Bool.{cases_lt}
-use Rattle.std.proofs.lemmas.Bool.Decides.{leb_tells}
-use Rattle.std.proofs.Math.Logic.{⊎_map}
-use Rattle.std.proofs.lemmas.List.Elements.{All-nil, All-cons, All-append}
-use Rattle.span_sets.specs.declared.chunk.Chunk.{Chunk}
-use Rattle.serial_set.specs.Span.{Covers, AreSerials}
-use Rattle.span_sets.specs.Chunk.{is_span, members_in, members_by, lo_of, lo_by, hi_of, hi_by, ChunksFrom, members_of}
-use Rattle.span_sets.specs.Replacement.{lo_or, hi_or, Has}
+use Rattle.span_sets.proofs.Common.{[], ⊎_map, ◌%◌, ◌*◌, ◌+◌, ◌-◌, ◌/◌, ◌<◌, ◌^◌, ◌↔◌, ◌∙◌, ◌∷◌}
+use Rattle.span_sets.proofs.Common.{◌≡◌, ◌≤◌, ◌⊎◌, All, All-append, All-cons, All-nil, ap, Apart}
+use Rattle.span_sets.proofs.Common.{AreSerials, AreTight, arith, BitCovers, Bool, cases_lt, Chunk}
+use Rattle.span_sets.proofs.Common.{ChunksFrom, Covers, false, get_or, Has, hi_by, hi_of, hi_or}
+use Rattle.span_sets.proofs.Common.{IfSome, in_stretch, inl, inr, is_span, IsBack, IsChunkFrom}
+use Rattle.span_sets.proofs.Common.{IsFront, IsFull, IsTight, KeepsTight, leb_tells, List, lo_by}
+use Rattle.span_sets.proofs.Common.{lo_of, lo_or, members_by, members_in, members_of, min}
+use Rattle.span_sets.proofs.Common.{names_left, names_right, None, Option, Some, stretch, subst}
+use Rattle.span_sets.proofs.Common.{sym, true, ℕ}
 use Rattle.span_sets.specs.Additions.{IsAt}
-use Rattle.span_sets.specs.Sides.{IsFront, IsBack}
-use Rattle.span_sets.specs.Positions.{IsChunkFrom}
-use Rattle.span_sets.specs.Words.{BitCovers}
-use Rattle.span_sets.specs.Tight.{IsFull, IsTight, Apart, AreTight, KeepsTight}
-use Rattle.span_sets.specs.Lawful.{in_stretch, stretch}
 use Rattle.span_sets.proofs.ChunkOrder.{chunks_each}
 use Rattle.span_sets.proofs.ChunkMembers.{in_mask, word_ends}
 use Rattle.span_sets.proofs.SetChunks.{Fills, at_member, ends_before}
 use Rattle.span_sets.proofs.ChunkQueries.{members_part, members_own}
-use Rattle.serial_set.proofs.RisingLists.{names_left, names_right}
 use Rattle.span_sets.proofs.OrderedChunks.{chunks_back}
 
 span_is_full : (e : Chunk) → is_span e ≡ true → IsFull e

@@ -1,25 +1,16 @@
 -- Runs that are taken one after another.
-use Rattle.std.proofs.Common.{◌≡◌, ℕ, ◌+◌, ◌<◌, ◌≤◌, ◌⊎◌, List, [], ◌∷◌, ◌++◌, Some, None, get_or}
-use Rattle.std.proofs.Common.{length, take, max, refl, sym, subst, inl, inr, arith, ◌∙◌}
-use Rattle.std.proofs.Common.{append_assoc}
-use Rattle.std.specs.List.{All}
-use Rattle.std.proofs.lemmas.Bool.{cases_lt}
-use Rattle.std.proofs.lemmas.List.Elements.{All-append, All-cons, All-head, All-nil, All-tail}
-use Rattle.std.proofs.lemmas.List.Elements.{All-weaker}
-use Rattle.span_sets.specs.declared.chunk.Chunk.{Chunk}
-use Rattle.serial_set.specs.declared.span.Span.{Span}
-use Rattle.span_sets.specs.Chunk.{hi_of, lo_of, members_of, members_in, runs_of, ChunksFrom}
-use Rattle.span_sets.specs.Members.{GoesOn, IsFirst, Reads, Taken}
-use Rattle.span_sets.specs.Positions.{IsChunkFrom}
-use Rattle.serial_set.specs.Span.{AddsSpan, Covers, IsRuns, RunsFrom}
-use Rattle.serial_set.specs.Walk.{IsPiece, since}
-use Rattle.span_sets.specs.Lawful.{in_stretch, runs_of_chunks, stretch}
+use Rattle.span_sets.proofs.Common.{[], ◌++◌, ◌+◌, ◌<◌, ◌∙◌, ◌∷◌, ◌≡◌, ◌≤◌, ◌⊎◌, AddsSpan, All}
+use Rattle.span_sets.proofs.Common.{All-append, All-cons, All-head, All-nil, All-tail, All-weaker}
+use Rattle.span_sets.proofs.Common.{append_assoc, arith, cases_lt, Chunk, ChunksFrom, Covers}
+use Rattle.span_sets.proofs.Common.{get_or, GoesOn, hi_of, in_stretch, inl, inr, IsChunkFrom}
+use Rattle.span_sets.proofs.Common.{IsFirst, IsPiece, IsRuns, length, List, lo_of, max, members_in}
+use Rattle.span_sets.proofs.Common.{members_of, names_append, names_at, names_left, names_right}
+use Rattle.span_sets.proofs.Common.{None, Reads, refl, runs_first, runs_front, runs_middle, runs_of}
+use Rattle.span_sets.proofs.Common.{runs_of_chunks, runs_reach, RunsFrom, since, since_from}
+use Rattle.span_sets.proofs.Common.{since_runs, since_to, Some, Span, stretch, subst, sym, take}
+use Rattle.span_sets.proofs.Common.{Taken, ℕ}
 use Rattle.span_sets.proofs.ChunkQueries.{asked}
 use Rattle.span_sets.proofs.OrderedChunks.{chunks_back, chunks_front}
-use Rattle.serial_set.proofs.LeastLists.{runs_first}
-use Rattle.serial_set.proofs.RisingLists.{names_append, names_at, names_left, names_right, runs_front}
-use Rattle.serial_set.proofs.RisingLists.{runs_middle, runs_reach}
-use Rattle.serial_set.proofs.RunWalks.{since_from, since_runs, since_to}
 
 -- ---- a span after others
 

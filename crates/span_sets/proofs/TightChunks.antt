@@ -1,23 +1,16 @@
 -- Tight chunks: at most three for each of their runs.
-use Rattle.std.proofs.Common.{◌≡◌, ℕ, ◌+◌, ◌-◌, ◌*◌, ◌<◌, ◌≤◌, ◌⊎◌, List, [], ◌∷◌, ◌++◌, length, get_or, sym, subst, inl, inr, arith, zero, suc, ◌∙◌}
-use Rattle.std.specs.Prelude.{Bool, true}
-use Rattle.std.specs.List.{All}
-use Rattle.std.proofs.lemmas.Bool.{cases_lt, false≢true}
-use Rattle.std.proofs.lemmas.Bool.Decides.{eqb_tells, leb_tells}
-use Rattle.std.proofs.lemmas.List.Elements.{All-head, All-tail, All-cons, All-append, All-weaker}
-use Rattle.serial_set.specs.declared.span.Span.{Span}
-use Rattle.span_sets.specs.declared.chunk.Chunk.{Chunk}
-use Rattle.serial_set.specs.Span.{Covers, IsRuns}
+use Rattle.span_sets.proofs.Common.{[], ◌*◌, ◌++◌, ◌+◌, ◌-◌, ◌<◌, ◌∙◌, ◌∷◌, ◌≡◌, ◌≤◌, ◌⊎◌, All}
+use Rattle.span_sets.proofs.Common.{All-append, All-cons, All-head, All-tail, All-weaker, Apart}
+use Rattle.span_sets.proofs.Common.{AreTight, arith, Bool, cases_lt, Chunk, chunks_rise, ChunksFrom}
+use Rattle.span_sets.proofs.Common.{Covers, eqb_tells, false≢true, get_or, hi_of, in_stretch, inl}
+use Rattle.span_sets.proofs.Common.{inr, is_span, IsFull, IsRuns, IsTight, KeepsTight, leb_tells}
+use Rattle.span_sets.proofs.Common.{length, List, lo_of, members_in, members_of, names_append}
+use Rattle.span_sets.proofs.Common.{Replaces, runs_of, Span, stretch, subst, suc, sym, true}
+use Rattle.span_sets.proofs.Common.{WordWidened, zero, ℕ}
 use Rattle.serial_set.specs.Joined.{Rises, glued, glued_by, joined}
-use Rattle.span_sets.specs.Chunk.{is_span, members_in, lo_of, hi_of, ChunksFrom, members_of, runs_of}
-use Rattle.span_sets.specs.Chunks.{Replaces}
-use Rattle.span_sets.specs.Positions.{WordWidened}
-use Rattle.span_sets.specs.Tight.{IsFull, IsTight, Apart, AreTight, KeepsTight}
-use Rattle.span_sets.specs.Lawful.{in_stretch, stretch, chunks_rise}
 use Rattle.serial_set.proofs.JoinedRuns.{joined_of, Rises-weaker}
 use Rattle.span_sets.proofs.ListsOfLists.{all_left, all_right}
 use Rattle.span_sets.proofs.ChunkOrder.{chunks_each}
-use Rattle.serial_set.proofs.RisingLists.{names_append}
 use Rattle.span_sets.proofs.OrderedChunks.{has_from}
 
 -- ---- spans

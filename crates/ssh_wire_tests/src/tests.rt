@@ -4,8 +4,8 @@ mod cursor;
 mod page;
 mod put;
 
-use test_fixtures::misprinted;
 use ssh_wire::{Bytes, PullFault, WireFault};
+use test_fixtures::misprinted;
 
 const WIRE_FAULTS: [(WireFault, &str); 3] = [
     (WireFault::Short, "wire 1 Short"),

@@ -1,10 +1,10 @@
 //! Buffers in front of readers: fields within them, over their ends, and past a failure.
 
 use byte_streams::{Failed, FromBuffer, Pull, Source};
-use test_fixtures::{Giver, Then};
 use ssh_wire::PullFault;
 use std::alloc::Global;
 use std::io::{self, BufReader};
+use test_fixtures::{Giver, Then};
 
 // A buffer in front of a reader that gives five bytes at a call.
 fn buffered<'a>(

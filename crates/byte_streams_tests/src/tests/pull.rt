@@ -1,9 +1,9 @@
 //! Fields from readers that give few bytes at a call, fail, or never end.
 
 use byte_streams::{FromRead, Pull};
-use test_fixtures::{Giver, Then};
 use ssh_wire::PullFault;
 use std::alloc::{AllocError, Global};
+use test_fixtures::{Giver, Then};
 
 /// A call of a reader, and its result.
 #[derive(Clone, Copy)]

@@ -2,9 +2,9 @@
 
 use crate::tests::pull::Step::{AtEnd, Byte, Rest, RestRefused, Taken};
 use crate::tests::pull::{TEXT, meets_all, pull, text_of};
-use test_fixtures::Then;
 use ssh_wire::PullFault;
 use std::alloc::{AllocError, Global};
+use test_fixtures::Then;
 
 // Whether the rest of a reader of the bytes, this far below the limit, is all of them, and nothing
 // follows.

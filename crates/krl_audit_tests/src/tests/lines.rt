@@ -3,9 +3,9 @@
 use crate::tests::keys::{ALICE, ALICE_PRINT, AUTHORITY, AUTHORITY_PRINT, BOB, BOB_PRINT};
 use crate::tests::made::{ALL, FINDINGS, NOTHING, alice_and_bob, all_of_bob, nothing, said_of};
 use krl_audit::visible_name;
-use test_fixtures::joined;
 use std::alloc::Global;
 use std::process::Abort;
+use test_fixtures::joined;
 
 // The line of a key, with what is before and after it.
 fn line_of(rt: &impl Abort, alloc: Global, before: &str, key: &str, after: &str) -> String {

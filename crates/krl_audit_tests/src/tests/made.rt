@@ -6,11 +6,11 @@ use key_listing::{Printer, Run};
 use key_text::{read_line, sha1_of, sha256_of};
 use krl_audit::{Auditor, Counts, Form, Judge, Refusal, Shown};
 use krl_entries::Revocations;
-use test_fixtures::Taker;
 use span_sets::Held;
 use ssh_wire::Bytes;
 use std::alloc::Global;
 use std::process::Abort;
+use test_fixtures::Taker;
 
 /// Revoked keys and unread lines are printed.
 pub const FINDINGS: Shown = Shown {

@@ -6,9 +6,9 @@ use byte_streams::{Sink, ToWrite};
 use key_listing::{Printer, Run};
 use key_text::{sha1_of, sha256_of};
 use krl_audit::{Auditor, Counts, Judge, ListFacts, Refusal, Stated};
-use test_fixtures::{Taker, joined};
 use std::alloc::Global;
 use std::process::Abort;
+use test_fixtures::{Taker, joined};
 
 // The objects about one file.
 fn objects_of(

@@ -11,9 +11,9 @@ use key_files::RunFault;
 use key_listing::{Printer, Run};
 use krl_audit::{Auditor, Counts, Form, Judge, Shown};
 use krl_entries::Revocations;
-use test_fixtures::Taker;
 use span_sets::Held;
 use std::alloc::{AllocError, Global};
+use test_fixtures::Taker;
 
 /// Audits one file by a list, and names what it finds.
 fn audit_one<W: Sink>(

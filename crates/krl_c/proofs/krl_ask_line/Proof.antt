@@ -1,48 +1,33 @@
 -- The borrowed value is queried, and stays borrowed.
-use Rattle.std.proofs.Common.{◌≡◌, ℕ, ℤ, List, [], ◌∷◌, ◌++◌, refl, sym, subst}
-use Rattle.std.proofs.raw_atomic.Walks.{proved_at}
-use Rattle.std.proofs.alloc.Calls.{Goes-blank}
-use lib.Dec.{T}
-use base.Logic.{ent, id⊢, fst∗, never}
-use base.Fml.{ftrue, flft}
-use mir.Syntax.{w32, named}
-use mir.Val.{Val, vptr, has_ty, WT}
-use prog.Wp.{WpFn}
+use Rattle.krl_c.proofs.Common.{ !, [], ‵, ◌$◌, ◌++◌, ◌∵◌, ◌∷◌, ◌≡◌, ◌⊛◌, addr, alloc_all, and_then}
+use Rattle.krl_c.proofs.Common.{AnswersLine, AnswersStored, at_ret, await, block_ptr, blocks}
+use Rattle.krl_c.proofs.Common.{calls_at, done, ends_at, ent, enter, env, exec, fact, feq_i, first}
+use Rattle.krl_c.proofs.Common.{fjoin, flft, frame, framed, free_all, fsplit, fst∗, ftrue, get}
+use Rattle.krl_c.proofs.Common.{Goes-blank, Goes-dropped, group, has_ty, heard, i32, id⊢}
+use Rattle.krl_c.proofs.Common.{in_a_block, Is, join, keep, lands_as, Lasts, lasts, later, List}
+use Rattle.krl_c.proofs.Common.{lone, Lone-is, look_at, move, named, never, no_more, nothing}
+use Rattle.krl_c.proofs.Common.{of_opd, only, pass_all, peeks, pick, plain, prop, proved_at, qed}
+use Rattle.krl_c.proofs.Common.{raw, RawPtr, rawptr_Tells, rawptr_vals, refl, regoal, returns, says}
+use Rattle.krl_c.proofs.Common.{sets, sets_last, shared_of, shows, SliceRefOf, some, split}
+use Rattle.krl_c.proofs.Common.{stay_dropped, Stays, stop, subst, suffices, sym, T, tables, through}
+use Rattle.krl_c.proofs.Common.{triple_of, Typed, u8, use1, Val, vptr, w32, walk_of, WpFn, WT, yes}
+use Rattle.krl_c.proofs.Common.{ℕ, ℤ}
 use types.Logic.{sem}
-use contract.Monad.{fact}
-use contract.Running.{tables}
-use types.Kit.{‵, raw, ◌⊛◌, some, later, regoal, at_ret, prop, ◌$◌, ◌∵◌, !, qed, done, move, drop, keep, use1, await, pick, split, join, group, frame, fsplit, fjoin, feq_i, suffices}
-use types.Run.{enter, of_opd, addr, stop, first, blocks, exec, no_more, and_then, returns}
-use types.ByLocal.{alloc_all, pass_all, free_all, look_at, get, through, sets, sets_last, lands_as, env}
-use denote.Exit.{yes}
+use types.Kit.{drop}
 use denote.RattleType.{owns}
-use denote.Memory.{lone, shared_of}
-use denote.Laws.{Is, Typed, shows}
-use denote.Steps.{nothing, peeks, heard, only}
-use denote.Signature.{plain}
 use denote.SharingLaws.{contraction}
 use denote.Opens.{hide}
 use denote.Slice.{ShrSlice, shr_slice_vals, shr_slice_Tells}
-use denote.RawPtr.{RawPtr, block_ptr, in_a_block, rawptr_vals, rawptr_Tells}
-use denote.Builtin.{SliceRefOf, u8, i32}
 use denote.Signed.{sint_Lawful}
 use denote.Struct.Lending.{lent_at, lent_at_shr_laws}
-use denote.Triple.Call.{calls_at}
-use denote.Triple.Clauses.{Lasts, lasts}
-use denote.Triple.Spec.{triple_of}
-use denote.Triple.Table.{framed}
-use denote.Triple.Walked.{Stays, says, walk_of, stay_dropped, Goes-dropped, ends_at}
-use borrow.Struct.Leaves.{Lone-is}
+use Rattle.krl_c.specs.Loan.{is_lent}
+use Rattle.krl_c.proofs.krl_ask_line.Statement.{statement}
+use Rattle.krl_c.proofs.stored.ask_of_line.Met.{met}
 use Rattle.std.specs.contracts.alloc.Global.{the_row as Z}
 use Rattle.std.proofs.alloc.Global.TheLaws.{the_row_laws as heap_laws}
-use Rattle.krl_c.specs.Answer.{AnswersLine}
-use Rattle.krl_c.specs.Stored.{AnswersStored}
-use Rattle.krl_c.specs.Loan.{is_lent}
 use Rattle.krl_c.specs.contracts.krl_ask_line as f
-use Rattle.krl_c.proofs.krl_ask_line.Statement.{statement}
 use Rattle.krl_c.proofs.krl_ask_line.Code as code
 use Rattle.krl_c.specs.contracts.stored.ask_of_line as e
-use Rattle.krl_c.proofs.stored.ask_of_line.Met.{met}
 use Rattle.krl_c.specs.contracts.stored.Stored.{the_row as K}
 use Rattle.krl_c.proofs.stored.Stored.TheLaws.{the_row_laws as laws}
 

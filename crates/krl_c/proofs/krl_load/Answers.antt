@@ -1,8 +1,5 @@
 -- The list is stored, or the stored list stays unchanged.
-use Rattle.std.proofs.Common.{refl, rules, ◌∙◌}
-use mir.Syntax.{w32}
-use mir.Val.{SFits}
-use Rattle.krl_c.specs.Stored.{loaded, not_loaded_for}
+use Rattle.krl_c.proofs.Common.{◌∙◌, loaded, not_loaded_for, refl, rules, SFits, w32}
 use Rattle.krl_c.proofs.AnswerMeaning.{same}
 use Rattle.krl_c.proofs.krl_load.Goals as goal
 

@@ -6,10 +6,10 @@ use key_listing::{Printer, Run};
 use krl_audit::{Auditor, Counts, Form, Judge, Refusal, Shown};
 use krl_checker::{Checker, PlainRefusal, Role};
 use krl_entries::Revocations;
-use test_fixtures::{CONTAINER, FIVE, GITHUB, GITHUB_LINE, HEADER, OTHER_LINE, Taker, joined};
 use span_sets::Held;
 use std::alloc::Global;
 use std::process::Abort;
+use test_fixtures::{CONTAINER, FIVE, GITHUB, GITHUB_LINE, HEADER, OTHER_LINE, Taker, joined};
 
 /// A condition that a list is checked for.
 #[derive(Clone, Copy)]

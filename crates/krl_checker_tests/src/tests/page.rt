@@ -6,8 +6,8 @@ use key_files::RunFault;
 use key_listing::Printer;
 use krl_checker::{Checker, Role};
 use krl_entries::Revocations;
-use test_fixtures::{FIVE, GITHUB, GITHUB_LINE, OTHER_LINE, Taker, list_of};
 use span_sets::Held;
+use test_fixtures::{FIVE, GITHUB, GITHUB_LINE, OTHER_LINE, Taker, list_of};
 
 /// Whether a list, which was read from these bytes, does all that it must: the exit status.
 fn status_of<W: Sink>(

@@ -3,10 +3,10 @@
 use crate::tests::full::Full;
 use crate::tests::lists::{list_of, read_from, spans_from};
 use krl_core::{KrlFault, Revocations};
-use test_fixtures::{BITMAP, Giver, Then, joined};
 use span_sets::{Held, SpanVec};
 use std::alloc::Global;
 use std::process::Abort;
+use test_fixtures::{BITMAP, Giver, Then, joined};
 
 // The serials from 1 to 2^64-1.
 const RANGE: &[u8] = b"\x01\0\0\0\x1d\0\0\0\0\0\0\0\0\x21\0\0\0\x10\0\0\0\0\0\0\0\x01\

@@ -5,11 +5,11 @@ ghost use Rattle.std.specs.Prelude.{◌≤◌};
 use crate::tests::lists::{list_of, read_from, spans_from, text_of};
 use crate::tests::said::{ALL, Said, hold};
 use krl_core::{Authorities, Listed, Revocations};
-use test_fixtures::{joined, strings};
 use serial_set::Spans;
 use span_sets::Held;
 use std::alloc::{AllocError, Global};
 use std::process::Abort;
+use test_fixtures::{joined, strings};
 
 // The number of entries of each kind: enough for a tree of five levels.
 const COUNT: usize = 40_000;

@@ -6,12 +6,12 @@ use krl_authority::authorities_are_keys;
 use krl_core::{Header, Revocations, read_krl};
 use krl_types::KrlFault;
 use krl_writer::{TextFault, krl_text};
-use test_fixtures::{HEADER, PUBLISHED, joined, strings};
 use span_sets::Held;
 use ssh_cert::{Subject, subject};
 use ssh_wire::Bytes;
 use std::alloc::{AllocError, Global};
 use std::process::Abort;
+use test_fixtures::{HEADER, PUBLISHED, joined, strings};
 
 /// Whether one revoked key is what is asked about, or its certificate's authority.
 fn is_revoked_by(alloc: Global, blob: &[u8], asked: &Subject) -> Result<bool, AllocError> {

@@ -4,11 +4,11 @@ use crate::tests::lists::{list_of, spans_from};
 use crate::tests::rows::{ROWS, Row};
 use byte_streams::FromRead;
 use krl_core::{KrlFault, Reading};
-use test_fixtures::{BITMAP, FIVE, Giver, HEADER, Then};
 use serial_set::Spans;
 use span_sets::{Held, SpanVec};
 use std::alloc::Global;
 use std::process::Abort;
+use test_fixtures::{BITMAP, FIVE, Giver, HEADER, Then};
 
 // The fault of a list, or the number of its spans.
 fn reported(alloc: Global, giver: Giver<'_>) -> Result<u128, KrlFault> {

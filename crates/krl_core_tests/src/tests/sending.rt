@@ -5,9 +5,9 @@ use crate::tests::said::held_of_runs;
 use byte_streams::ToWrite;
 use krl_core::Revocations;
 use krl_writer::{WriteFault, write_krl};
-use test_fixtures::{FIVE, Taker};
 use span_sets::Held;
 use std::alloc::Global;
+use test_fixtures::{FIVE, Taker};
 
 // The result of writing a list to a device.
 fn send(alloc: Global, held: &Revocations<Held>, device: &mut Taker) -> Result<(), WriteFault> {

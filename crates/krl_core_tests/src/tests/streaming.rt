@@ -10,11 +10,11 @@ use byte_streams::{FromBuffer, Source};
 use key_text::{sha1_of, sha256_of};
 use krl_core::{KrlFault, Questions, Reading, Store, Walk};
 use krl_entries::{Reason, Reasons};
-use test_fixtures::{Giver, Then};
 use span_sets::Held;
 use std::alloc::Global;
 use std::io::BufReader;
 use std::process::Abort;
+use test_fixtures::{Giver, Then};
 
 // Authorities whose keys are revoked, by the blob and by each hash.
 const C: &[u8] = b"C, by its blob";

@@ -3,10 +3,10 @@
 use crate::tests::lists::{list_of, read_from, text_of};
 use crate::tests::said::{ALL, Said, held_of, held_of_runs};
 use krl_core::Revocations;
-use test_fixtures::{EIGHT_AND_ONE, joined};
 use span_sets::Held;
 use std::alloc::Global;
 use std::process::Abort;
+use test_fixtures::{EIGHT_AND_ONE, joined};
 
 // The revocations are written as the header and these bytes, and reading these gives the same text
 // again.

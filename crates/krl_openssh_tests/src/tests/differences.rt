@@ -5,13 +5,13 @@ use crate::tests::made::certificates;
 use byte_streams::FromRead;
 use krl_core::read_krl;
 use krl_openssh::{Difference, first_difference};
+use span_sets::Held;
+use std::alloc::Global;
+use std::process::Abort;
 use test_fixtures::{
     BITMAP, FIVE, GITHUB, HEADER, ID_A, KEY_SECTION, SHA256_SECTION, joined, list_of, repeated,
     strings,
 };
-use span_sets::Held;
-use std::alloc::Global;
-use std::process::Abort;
 
 // Whether a list is read and has this difference.
 fn differs(rt: &impl Abort, alloc: Global, list: &[u8], wanted: Option<Difference>) -> bool {

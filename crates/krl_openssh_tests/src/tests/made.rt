@@ -1,8 +1,8 @@
 //! Lists, of their parts.
 
-use test_fixtures::{HEADER, joined, strings};
 use std::alloc::Global;
 use std::process::Abort;
+use test_fixtures::{HEADER, joined, strings};
 
 /// A section or a subsection of this type with these bytes.
 pub fn section(rt: &impl Abort, alloc: Global, type_byte: u8, content: &[u8]) -> Vec<u8> {

@@ -3,9 +3,9 @@
 use byte_streams::FromRead;
 use krl_core::read_krl;
 use krl_openssh::first_difference;
-use test_fixtures::{FIVE, list_of};
 use span_sets::Held;
 use std::alloc::Global;
+use test_fixtures::{FIVE, list_of};
 
 /// Whether OpenSSH reads a list too, and as the same names.
 fn is_read_alike(alloc: Global, list: &[u8]) -> bool {

@@ -1,11 +1,11 @@
 //! The least plan of worked lists of runs, and its cost beside that of every plan of short lists.
 
 use krl_plan::{Group, Sort, least_plan, put_least_plan};
-use test_fixtures::EIGHT_AND_ONE;
 use serial_set::Spans;
 use span_sets::Held;
 use std::alloc::{AllocError, Global};
 use std::process::Abort;
+use test_fixtures::EIGHT_AND_ONE;
 
 // The ends of a run of serials.
 type Run = (u64, u64);

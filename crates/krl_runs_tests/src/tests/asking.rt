@@ -1,9 +1,9 @@
 //! Querying lists for the keys of files.
 
 use crate::tests::runs::{CLOSED, File, KEY, LONG, ONE, Said, asks, joined, repeated};
-use test_fixtures::{CERT_LINE, CONTAINER, HEADER, ID_A, KEY_SECTION, OTHER_LINE};
 use std::alloc::Global;
 use std::process::Abort;
+use test_fixtures::{CERT_LINE, CONTAINER, HEADER, ID_A, KEY_SECTION, OTHER_LINE};
 
 const OTHER: File<'static> = ("a", Some(&[OTHER_LINE, b" x y\n"]));
 

@@ -7,10 +7,10 @@ use byte_streams::FromRead;
 use key_files::{FileFault, load};
 use key_listing::ListMode;
 use key_text::Hash;
-use test_fixtures::{GITHUB_LINE, Giver, Taker, Then};
 use ssh_wire::Bytes;
 use std::alloc::Global;
 use std::process::Abort;
+use test_fixtures::{GITHUB_LINE, Giver, Taker, Then};
 
 // Queries the list that names the published key for the files, with a device as the output.
 fn asked_of_key(rt: &impl Abort, alloc: Global, files: &[File], device: Taker) -> Ran {

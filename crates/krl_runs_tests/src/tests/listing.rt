@@ -3,9 +3,9 @@
 use crate::tests::runs::{CLOSED, File, LONG, Said, joined, listed, named, repeated, says};
 use key_listing::ListMode;
 use key_text::Hash;
-use test_fixtures::{CERT_LINE, CONTAINER, GITHUB_LINE, OTHER_LINE, Taker};
 use std::alloc::Global;
 use std::process::Abort;
+use test_fixtures::{CERT_LINE, CONTAINER, GITHUB_LINE, OTHER_LINE, Taker};
 
 // The run prints this listing of a file at the moment 0.
 fn lists(

@@ -4,12 +4,12 @@ use crate::tests::runs::{CLOSED, File, LONG, all_named, holding, joined, named, 
 use byte_streams::FromRead;
 use key_files::fault_text;
 use krl_make::{AuthorityOption, Old, make_run};
+use std::alloc::Global;
+use std::process::Abort;
 use test_fixtures::{
     CERT_LINE, CONTAINER, FIVE, GITHUB, GITHUB_LINE, HEADER, ID_A, KEY_SECTION, OTHER, OTHER_LINE,
     SHA256_SECTION,
 };
-use std::alloc::Global;
-use std::process::Abort;
 
 // Makes the list `r.krl` from the old one, the authority and the files, at the moment 0. Returns
 // the list, or the line of the fault.
@@ -91,7 +91,13 @@ const MADE: [(&[&[u8]], &[&[u8]]); 7] = [
 #[test]
 fn of_lines(rt: HostRuntime) {
     for (i, (lines, sections)) in MADE.iter().enumerate() {
-        makes(&rt, rt.alloc(), i, (&AuthorityOption::All, *lines), *sections);
+        makes(
+            &rt,
+            rt.alloc(),
+            i,
+            (&AuthorityOption::All, *lines),
+            *sections,
+        );
     }
 }
 
@@ -187,7 +193,13 @@ fn takes_long(rt: &impl Abort, alloc: Global, size: usize) {
     let lines = repeated(rt, alloc, b"# a\n", size);
     let parts: [&[u8]; 7] = [&lines, b"#", &letters, b"\n", GITHUB_LINE, b" ", &letters];
     let text = joined(rt, alloc, &parts);
-    makes(rt, alloc, size, (&AuthorityOption::All, &[&text]), &[KEY_SECTION]);
+    makes(
+        rt,
+        alloc,
+        size,
+        (&AuthorityOption::All, &[&text]),
+        &[KEY_SECTION],
+    );
     is_authority(rt, alloc, size, &text, GITHUB)
 }
 
@@ -227,7 +239,14 @@ fn refuses(
 #[test]
 fn refused(rt: HostRuntime) {
     for (i, (lines, fault)) in REFUSED.iter().enumerate() {
-        refuses(&rt, rt.alloc(), i, None, (&AuthorityOption::All, *lines), *fault);
+        refuses(
+            &rt,
+            rt.alloc(),
+            i,
+            None,
+            (&AuthorityOption::All, *lines),
+            *fault,
+        );
     }
     let cut = Some(&HEADER[..43]);
     refuses(

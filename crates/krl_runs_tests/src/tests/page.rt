@@ -11,10 +11,10 @@ use krl_make::{AuthorityOption, Old, make_run};
 use krl_runs::query_run;
 use krl_spec::{SpecFault, Under, read_spec};
 use krl_system::{MadeOf, Waiting, Written, lock_target, release, write_list};
-use test_fixtures::{GITHUB, GITHUB_LINE};
 use span_sets::Held;
 use ssh_cert::subject;
 use std::alloc::Global;
+use test_fixtures::{GITHUB, GITHUB_LINE};
 
 /// The entries of a specification file, under all authorities.
 fn revoked_by(alloc: Global, lines: &[u8]) -> Result<Revocations<Held>, SpecFault> {

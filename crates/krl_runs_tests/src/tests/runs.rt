@@ -5,10 +5,10 @@ use key_files::{FileFault, Named, fault_text};
 use key_listing::{Done, ListMode, list_run};
 use key_text::Hash;
 use krl_runs::query_run;
-use test_fixtures::{GITHUB_LINE, Giver, HEADER, KEY_SECTION, Taker};
 use ssh_wire::Bytes;
 use std::alloc::Global;
 use std::process::Abort;
+use test_fixtures::{GITHUB_LINE, Giver, HEADER, KEY_SECTION, Taker};
 
 /// The list that names the published key.
 pub const ONE: &[&[u8]] = &[&HEADER, KEY_SECTION];

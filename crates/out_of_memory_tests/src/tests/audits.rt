@@ -7,9 +7,9 @@ use key_files::{Cause, RunFault};
 use key_listing::{Printer, Run};
 use krl_audit::{Auditor, Counts, Form, Judge, ListFacts, Outcome, Shown, Stated, read_outcome};
 use krl_core::Revocations;
-use test_fixtures::{CERT_LINE, CONTAINER, GITHUB, GITHUB_LINE, joined};
 use span_sets::Held;
 use std::alloc::{AllocError, Global};
+use test_fixtures::{CERT_LINE, CONTAINER, GITHUB, GITHUB_LINE, joined};
 
 // The text that is printed for the lines of `audited`.
 const SAID: &[u8] = b"f:1: unread: no key type stands there

@@ -8,9 +8,9 @@ use key_listing::{Printer, Run};
 use krl_audit::{Auditor, Counts, Form, Judge, Shown};
 use krl_checker::{Checker, Role};
 use krl_core::Revocations;
-use test_fixtures::{GITHUB, GITHUB_LINE, OTHER_LINE};
 use span_sets::Held;
 use std::alloc::{AllocError, Global};
+use test_fixtures::{GITHUB, GITHUB_LINE, OTHER_LINE};
 
 // A list with a signature.
 const SIGNED: &[u8] = b"SSHKRL\n\0\0\0\0\x01\0\0\0\0\0\0\0\x01\0\0\0\0\0\0\0\0\

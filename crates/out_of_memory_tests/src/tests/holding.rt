@@ -3,12 +3,12 @@
 use crate::tests::answered::{answered, ran_out};
 use crate::tests::parts::{SHA256, blob_of};
 use krl_core::Revocations;
-use test_fixtures::GITHUB_LINE;
 use span_sets::Held;
 use std::alloc::AllocError;
 use std::io::{self, Write};
 use std::process::Abort;
 use std::test::Fail;
+use test_fixtures::GITHUB_LINE;
 
 /// Counts the bytes that it takes.
 #[derive(Drop)]

@@ -7,11 +7,11 @@ use key_text::{
     FingerprintFault, Hash, LineFault, PrivateFault, fingerprint, parse_fingerprint, read_line,
     read_private, read_public_half, sha256_of,
 };
-use test_fixtures::{CERT_LINE, CONTAINER, GITHUB_LINE, GITHUB_PRINT, joined};
 use ssh_cert::{SubjectFault, read_cert, subject};
 use ssh_key::{plain_blob, read_key};
 use std::alloc::AllocError;
 use std::process::Abort;
+use test_fixtures::{CERT_LINE, CONTAINER, GITHUB_LINE, GITHUB_PRINT, joined};
 
 #[test]
 fn a_line(rt: HostRuntime) {

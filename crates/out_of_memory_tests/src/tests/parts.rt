@@ -14,11 +14,7 @@ pub const SHA256: [u8; 32] = [
 
 /// The list with these bytes after its header.
 pub fn list_of(rt: &(impl AllocGlobal + Abort + Print), sections: &[u8]) -> Option<Vec<u8>> {
-    answered(
-        rt,
-        test_fixtures::list_of(rt.alloc(), sections),
-        AllocError,
-    )
+    answered(rt, test_fixtures::list_of(rt.alloc(), sections), AllocError)
 }
 
 /// The blob of a line.

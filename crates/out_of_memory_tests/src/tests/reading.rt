@@ -4,13 +4,11 @@ use crate::tests::answered::{answered, ran_out};
 use crate::tests::parts::list_of;
 use byte_streams::{FromRead, Pull};
 use krl_core::{Header, KrlFault, Reading, Revocations, read_krl};
-use test_fixtures::{
-    BITMAP, FIVE, Giver, HEADER, ID_A, KEY_SECTION, SHA256_SECTION, Then, joined,
-};
 use span_sets::Held;
 use ssh_wire::PullFault;
 use std::alloc::{AllocError, Global};
 use std::process::Abort;
+use test_fixtures::{BITMAP, FIVE, Giver, HEADER, ID_A, KEY_SECTION, SHA256_SECTION, Then, joined};
 
 #[test]
 fn a_field(rt: HostRuntime) {

@@ -10,13 +10,13 @@ use key_text::{Hash, LineFault};
 use krl_make::{AuthorityOption, Old, make_run};
 use krl_runs::query_run;
 use krl_spec::{KeyCause, SpecCause};
+use ssh_wire::Bytes;
+use std::alloc::{AllocError, Global};
+use std::process::Abort;
 use test_fixtures::{
     CERT_LINE, CONTAINER, GITHUB_LINE, Giver, ID_A, KEY_SECTION, OTHER_LINE, SHA256_SECTION, Then,
     joined,
 };
-use ssh_wire::Bytes;
-use std::alloc::{AllocError, Global};
-use std::process::Abort;
 
 #[test]
 fn a_file_that_is_loaded(rt: HostRuntime) {

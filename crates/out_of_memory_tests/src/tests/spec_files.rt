@@ -5,10 +5,10 @@ use crate::tests::answered::{answered, ran_out};
 use crate::tests::holding::size;
 use krl_core::Revocations;
 use krl_spec::{SpecCause, Under, read_spec};
-use test_fixtures::{CERT_LINE, GITHUB_LINE, GITHUB_PRINT, OTHER_LINE, joined};
 use plain_list::{PlainFault, read_plain};
 use span_sets::Held;
 use std::alloc::AllocError;
+use test_fixtures::{CERT_LINE, GITHUB_LINE, GITHUB_PRINT, OTHER_LINE, joined};
 
 // Eight lines, each of which names one more entry.
 const LINES: [&[u8]; 14] = [

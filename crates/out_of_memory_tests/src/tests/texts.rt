@@ -5,10 +5,10 @@ use crate::tests::holding::{Counter, held, one_of_each};
 use byte_streams::ToWrite;
 use krl_core::{Header, Revocations};
 use krl_writer::{TextFault, WriteFault, krl_text, write_krl};
-use test_fixtures::{HEADER, KEY_SECTION, SHA256_SECTION, joined};
 use span_sets::Held;
 use ssh_wire::Bytes;
 use std::alloc::{AllocError, Global};
+use test_fixtures::{HEADER, KEY_SECTION, SHA256_SECTION, joined};
 
 // A header of version 1 without a comment.
 fn header(alloc: Global) -> Header {

@@ -2,13 +2,13 @@
 
 use key_text::{LineFault, read_line};
 use krl_entries::Revocations;
-use test_fixtures::{CERT_LINE, GITHUB, GITHUB_LINE, OTHER, OTHER_LINE, joined, repeated};
 use plain_list::{LineCause, PlainFault, read_plain};
 use span_sets::Held;
 use ssh_cert::{SubjectFault, subject};
 use ssh_key::KeyFault;
 use std::alloc::Global;
 use std::process::Abort;
+use test_fixtures::{CERT_LINE, GITHUB, GITHUB_LINE, OTHER, OTHER_LINE, joined, repeated};
 
 /// Whether a list revokes the key or the certificate of a line, or why it is refused.
 pub fn asked(rt: &impl Abort, alloc: Global, list: &[u8], line: &[u8]) -> Result<bool, PlainFault> {

@@ -1,11 +1,11 @@
 //! The caller of the page.
 
 use krl_entries::Revocations;
-use test_fixtures::{GITHUB, GITHUB_LINE, OTHER};
 use plain_list::{PlainFault, read_plain};
 use span_sets::Held;
 use ssh_cert::subject;
 use std::alloc::Global;
+use test_fixtures::{GITHUB, GITHUB_LINE, OTHER};
 
 /// Whether a plain list revokes the key of a blob. A blob that is no key is revoked.
 fn is_revoked_by(alloc: Global, list: &[u8], blob: &[u8]) -> Result<bool, PlainFault> {

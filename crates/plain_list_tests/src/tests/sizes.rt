@@ -2,12 +2,12 @@
 
 use crate::tests::lists::asked;
 use base64::engine::general_purpose::STANDARD;
-use test_fixtures::{GITHUB_LINE, joined, strings};
 use plain_list::{LineCause, PlainFault};
 use ssh_cert::SubjectFault;
 use ssh_key::KeyFault;
 use std::alloc::Global;
 use std::process::Abort;
+use test_fixtures::{GITHUB_LINE, joined, strings};
 
 // A number of this many bytes, the first of which is `first`. A zero byte before it keeps the
 // number from being negative.

@@ -1,11 +1,11 @@
 //! The subjects of blobs.
 
 use crate::tests::parts::{Part, certificate, changed};
-use test_fixtures::{GITHUB, OTHER, strings};
 use ssh_cert::{CertFault, SubjectFault, subject};
 use ssh_key::KeyFault;
 use ssh_wire::WireFault;
 use std::alloc::{AllocError, Global};
+use test_fixtures::{GITHUB, OTHER, strings};
 
 // Whether the subject of the blob has this plain key, and the names of the published certificate by
 // this authority, or no names if none is given.

@@ -1,9 +1,9 @@
 //! Faults as they are printed.
 
-use test_fixtures::misprinted;
 use ssh_cert::{CertFault, SubjectFault};
 use ssh_key::KeyFault;
 use ssh_wire::WireFault;
+use test_fixtures::misprinted;
 
 const SHORT: KeyFault = KeyFault::Wire(WireFault::Short);
 

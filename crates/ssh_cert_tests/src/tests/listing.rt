@@ -3,9 +3,9 @@
 use crate::tests::parts::{Part, changed, with};
 use cert_listing::{list_cert, time_text};
 use key_text::Hash;
-use test_fixtures::{PUBLISHED, joined, repeated, strings};
 use ssh_cert::{push_escaped, read_cert};
 use std::alloc::{AllocError, Global};
+use test_fixtures::{PUBLISHED, joined, repeated, strings};
 
 // The listing of the blob's certificate at the moment 0.
 fn listing(alloc: Global, blob: &[u8], hash: Hash) -> Option<Vec<u8>> {

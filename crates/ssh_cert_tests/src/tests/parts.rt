@@ -1,8 +1,8 @@
 //! Certificates made from their parts.
 
-use test_fixtures::strings;
 use ssh_cert::{CertFault, read_cert};
 use std::alloc::{AllocError, Global};
+use test_fixtures::strings;
 
 /// A field of the certificate that the tests change, in the order of the format.
 #[derive(Clone, Copy, PartialEq, Eq)]

@@ -1,9 +1,9 @@
 //! Reading certificates, and the fault of each change of a field.
 
 use crate::tests::parts::{Part, certificate, changed, has_fault};
-use test_fixtures::{OTHER, PUBLISHED, strings};
 use ssh_cert::{Cert, CertFault, Role, read_cert};
 use ssh_key::Kind;
+use test_fixtures::{OTHER, PUBLISHED, strings};
 
 // Whether the numbers are those of the published certificate.
 fn has_numbers(cert: &Cert) -> bool {

@@ -3,10 +3,10 @@
 use crate::tests::made::{Container, PLAIN, armoured, around, is_read};
 use crate::tests::parts::KEYS;
 use key_text::{PrivateFault, is_container, read_private, read_public_half};
-use test_fixtures::{CONTAINER, GITHUB, joined, strings};
 use ssh_key::Kind;
 use ssh_wire::WireFault;
 use std::alloc::{AllocError, Global};
+use test_fixtures::{CONTAINER, GITHUB, joined, strings};
 
 #[test]
 fn published(rt: HostRuntime) {

@@ -1,9 +1,9 @@
 //! The texts of faults.
 
 use key_text::{FingerprintFault, LineFault, PrivateFault};
-use test_fixtures::misprinted;
 use ssh_key::KeyFault;
 use ssh_wire::WireFault;
+use test_fixtures::misprinted;
 
 const OF_KEYS: [(KeyFault, &str); 8] = [
     (KeyFault::Wire(WireFault::Short), "key 1 Wire, wire 1 Short"),

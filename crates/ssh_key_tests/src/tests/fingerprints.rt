@@ -2,9 +2,9 @@
 
 use crate::tests::parts::{has_digits, has_fingerprint};
 use key_text::{FingerprintFault, Hash, parse_fingerprint, sha1_of, sha256_of};
-use test_fixtures::{GITHUB, GITHUB_PRINT};
 use std::alloc::Global;
 use std::process::Abort;
+use test_fixtures::{GITHUB, GITHUB_PRINT};
 
 // The bytes have this fingerprint.
 fn is_printed(rt: &impl Abort, alloc: Global, hash: Hash, bytes: &[u8], text: &[u8]) {

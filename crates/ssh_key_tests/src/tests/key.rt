@@ -1,10 +1,10 @@
 //! Keys read from blobs, and the faults of blobs.
 
 use crate::tests::parts::{KEYS, has_fault};
-use test_fixtures::{GITHUB, PUBLISHED, joined, strings};
 use ssh_key::{KeyFault, Kind, PublicKey, plain_blob, read_fields, read_key};
 use ssh_wire::{Cursor, WireFault};
 use std::alloc::{AllocError, Global};
+use test_fixtures::{GITHUB, PUBLISHED, joined, strings};
 
 // Whether the key has this kind and size and these public fields, and gives this blob.
 fn is_that(

@@ -3,9 +3,9 @@
 use crate::tests::made::{Container, FIELDS, armoured, is_read};
 use base64::engine::general_purpose::STANDARD;
 use key_text::read_line;
-use test_fixtures::{GITHUB, PUBLISHED, joined, strings};
 use ssh_key::{plain_blob, read_key};
 use std::alloc::{AllocError, Global};
+use test_fixtures::{GITHUB, PUBLISHED, joined, strings};
 
 // A security key whose application has this length.
 fn device_key(alloc: Global, size: usize) -> Result<Vec<u8>, AllocError> {

@@ -1,8 +1,8 @@
 //! Lines that give a key, and lines that give none.
 
 use key_text::{LineFault, has_key, read_line};
-use test_fixtures::{GITHUB, GITHUB_LINE, joined};
 use std::alloc::{AllocError, Global};
+use test_fixtures::{GITHUB, GITHUB_LINE, joined};
 
 // Whether the line of the key between two texts gives it and this comment.
 fn reads(alloc: Global, before: &[u8], after: &[u8], comment: &[u8]) -> Result<bool, AllocError> {

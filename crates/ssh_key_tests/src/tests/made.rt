@@ -2,8 +2,8 @@
 
 use base64::engine::general_purpose::STANDARD;
 use key_text::read_private;
-use test_fixtures::{GITHUB, joined, strings};
 use std::alloc::{AllocError, Global};
+use test_fixtures::{GITHUB, joined, strings};
 
 /// The parts of a container: its cipher, the number of its keys, the blob, the second of the check
 /// words, of which the first is 1, the fields of the key, the comment and the padding.

@@ -7,10 +7,10 @@ ghost use Rattle.key_text.specs.KeyLine.{IsKeyLine};
 ghost use Rattle.key_text.specs.declared.hash.Hash.TheVariants.{Sha256};
 
 use key_text::{Hash, LineFault, fingerprint, read_line};
-use test_fixtures::{GITHUB, GITHUB_LINE, GITHUB_PRINT};
 use ssh_key::laws::read_where_spelled;
 use ssh_key::{KeyFault, read_key};
 use std::alloc::Global;
+use test_fixtures::{GITHUB, GITHUB_LINE, GITHUB_PRINT};
 
 /// The size in bits of the key of a blob, as `ssh-keygen -l` prints it.
 fn key_bits(blob: &[u8]) -> Result<u32, KeyFault>

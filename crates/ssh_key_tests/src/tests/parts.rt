@@ -1,10 +1,10 @@
 //! Keys of each kind, and the expected fingerprints and digests.
 
 use key_text::{Hash, fingerprint};
-use test_fixtures::PUBLISHED;
 use ssh_key::{KeyFault, Kind, read_key};
 use std::alloc::{AllocError, Global};
 use std::process::Abort;
+use test_fixtures::PUBLISHED;
 
 /// A kind, the strings of the blob of one of its keys, and the size of that key in bits.
 pub const KEYS: [(Kind, &[&[u8]], u32); 9] = [

@@ -5,8 +5,8 @@ ghost use Rattle.ssh_wire.specs.Reading.{Gives};
 ghost use Rattle.ssh_wire.specs.Rows.{Text, fault_unless, passes, row_at, step};
 ghost use Rattle.ssh_wire_tests.specs.declared.tests.page.SignatureFault.TheVariants.{Length, Wire};
 
-use test_fixtures::strings;
 use ssh_wire::{Cursor, WireFault};
+use test_fixtures::strings;
 
 /// Why bytes do not begin with a signature.
 #[derive(Debug, Drop, PartialEq)]

@@ -1,7 +1,5 @@
 -- The keys on the lines are asked, or the list is refused.
-use Rattle.std.proofs.Common.{rules, ◌∙◌}
-use mir.Syntax.{w32}
-use mir.Val.{SFits}
+use Rattle.std.proofs.Common.{rules, ◌∙◌, w32, SFits}
 use Rattle.plain_list.specs.List.{entries_of, lines_of}
 use Rattle.krl_c.specs.Any.{no_plain, plain}
 use Rattle.krl_c.proofs.AnswerMeaning.{same}

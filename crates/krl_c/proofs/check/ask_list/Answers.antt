@@ -1,10 +1,7 @@
 -- The answer is whether the list names the key of the query; otherwise it is the list's first
 -- fault, or the blob's.
-use Rattle.std.proofs.Common.{refl, sym, rules, ◌∙◌}
-use Rattle.std.proofs.lemmas.Bool.{false≢true}
-use mir.Syntax.{w32}
-use mir.Val.{SFits}
-use Rattle.krl_c.specs.Answer.{answered, said, names, spares}
+use Rattle.krl_c.proofs.Common.{◌∙◌, answered, false≢true, names, refl, rules, said, SFits, spares}
+use Rattle.krl_c.proofs.Common.{sym, w32}
 use Rattle.krl_c.proofs.AnswerMeaning.{list_refused, refused, same}
 use Rattle.krl_c.proofs.check.ask_list.Goals as goal
 

@@ -1,9 +1,6 @@
 -- The list is queried for the key of the line; otherwise the answer is the list's first fault, or
 -- the line's.
-use Rattle.std.proofs.Common.{rules, ◌∙◌}
-use mir.Syntax.{w32}
-use mir.Val.{SFits}
-use Rattle.krl_c.specs.Answer.{answered}
+use Rattle.krl_c.proofs.Common.{◌∙◌, answered, rules, SFits, w32}
 use Rattle.krl_c.proofs.AnswerMeaning.{line_refused, list_refused, of_its_blob, same}
 use Rattle.krl_c.proofs.check.ask_list_of_line.Goals as goal
 

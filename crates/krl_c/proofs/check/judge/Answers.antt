@@ -1,6 +1,5 @@
 -- A list that was read is accepted or refused by its authorities.
-use Rattle.std.proofs.Common.{sym, ◌∙◌}
-use Rattle.std.proofs.lemmas.Bool.{false≢true}
+use Rattle.krl_c.proofs.Common.{◌∙◌, false≢true, sym}
 use Rattle.krl_c.proofs.AnswerMeaning.{compared, not_compared}
 use Rattle.krl_c.proofs.check.judge.Goals as goal
 

@@ -1,7 +1,6 @@
 -- The findings are those of the query, or the list's first fault is reported: borrowed bytes do not
 -- fail.
-use Rattle.std.proofs.Common.{[]}
-use Rattle.krl_core.specs.Entries.{entries_of}
+use Rattle.krl_c.proofs.Common.{[], entries_of}
 use Rattle.krl_c.proofs.AnswerMeaning.{first_of, of_list}
 use Rattle.krl_c.proofs.check.stream.Goals as goal
 

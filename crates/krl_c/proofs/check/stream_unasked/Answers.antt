@@ -1,9 +1,8 @@
 -- The list was streamed to its end, or its first fault is reported: borrowed bytes do not fail.
-use Rattle.std.proofs.Common.{[]}
-use Rattle.krl_core.specs.Entries.{entries_of}
+use Rattle.krl_c.proofs.Common.{[], entries_of}
 use Rattle.krl_c.proofs.AnswerMeaning.{first_of, of_list}
-use Rattle.krl_c.proofs.check.stream_unasked.Goals as goal
 use Rattle.krl_c.proofs.check.stream_unasked.Goals.{in-Ok, in-Err}
+use Rattle.krl_c.proofs.check.stream_unasked.Goals as goal
 
 pub ask-requires : goal.ask-requires
 ask-requires c = c.new-none.ensures.of_any _

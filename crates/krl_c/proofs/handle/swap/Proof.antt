@@ -1,35 +1,24 @@
 -- `swap` reads the value at the pointer and writes the other one there.
-use Rattle.std.proofs.Common.{◌≡◌, List, [], ◌∷◌, ◌++◌, refl, sym, ap, subst, ◌∙◌}
-use Rattle.std.proofs.raw_atomic.Walks.{proved_at}
-use lib.Dec.{T}
-use base.Fraction.{full_share}
-use base.Logic.{ent, id⊢}
-use base.Fml.{ftrue, fat, flft}
-use mir.Syntax.{Ty, named}
-use mir.Val.{Val, has_ty, WT}
-use prog.Wp.{WpFn}
-use contract.Running.{tables}
-use types.Kit.{‵, ◌⊛◌, some, at_ret, prop, Sq, ◌$◌, ◌∵◌, !, qed, move, keep, use1, use2, pick, split, join, fsplit, fsplit3, fjoin, rewrite, fjoin3, suffices, frame, done}
-use types.Run.{enter, of_opd, load, look, store, stop, fld, assigns_last, first, blocks, exec, returns}
-use types.ByLocal.{alloc_all, pass_all, free_all, look_at, get, through, sets, sets_last, env}
+use Rattle.krl_c.proofs.Common.{ !, [], ‵, ◌$◌, ◌++◌, ◌∙◌, ◌∵◌, ◌∷◌, ◌≡◌, ◌⊛◌, alloc_all, ap}
+use Rattle.krl_c.proofs.Common.{assigns_last, at_ret, blocks, cell_at, closes, done, ends_at, ent}
+use Rattle.krl_c.proofs.Common.{enter, env, exec, fat, first, fjoin, fjoin3, fld, flft, frame}
+use Rattle.krl_c.proofs.Common.{free_all, fsplit, fsplit3, ftrue, full_share, get, Goes-blank}
+use Rattle.krl_c.proofs.Common.{Goes-ref, has_ty, id⊢, in_a_block, Is, join, keep, lies_at, List}
+use Rattle.krl_c.proofs.Common.{load, lone, Lone-is, look, look_at, move, named, nothing, of_opd}
+use Rattle.krl_c.proofs.Common.{only, opens, part_at, pass_all, peeks, pick, plain, prop, proved_at}
+use Rattle.krl_c.proofs.Common.{Ptr, qed, refl, returns, rewrite, sets, sets_last, shows, some}
+use Rattle.krl_c.proofs.Common.{split, Sq, stay_dropped, stay_ref, Stays, stop, store, subst}
+use Rattle.krl_c.proofs.Common.{suffices, sym, T, tables, through, Ty, Typed, use1, use2, Val}
+use Rattle.krl_c.proofs.Common.{walk_of, WpFn, WT, yes}
 use types.Part.{whole, sub, look_in}
-use denote.Exit.{yes}
-use denote.Memory.{cell_at, lone, part_at}
-use denote.Laws.{Is, Typed, shows}
-use denote.Steps.{nothing, opens, closes, peeks, only}
-use denote.Signature.{plain}
-use denote.RawPtr.{Ptr, lies_at, in_a_block}
 use denote.Ref.{MutRef, mut_vals, mut_Tells}
-use denote.Triple.Walked.{Stays, walk_of, stay_ref, stay_dropped, Goes-ref, ends_at}
 use Rattle.std.proofs.mem.Facts.{says_two}
-use Rattle.std.proofs.alloc.Calls.{Goes-blank}
-use borrow.Struct.Leaves.{Lone-is}
 use borrow.Table.OneValue.{part_out, part_in}
-use Rattle.krl_c.specs.contracts.handle.swap as f
 use Rattle.krl_c.proofs.handle.swap.Statement.{statement}
+use Rattle.krl_c.proofs.handle.Krl.TheLaws.{lowers}
+use Rattle.krl_c.specs.contracts.handle.swap as f
 use Rattle.krl_c.proofs.handle.swap.Code as code
 use Rattle.krl_c.specs.contracts.handle.Krl.{the_row as R}
-use Rattle.krl_c.proofs.handle.Krl.TheLaws.{lowers}
 use Rattle.krl_c.specs.contracts.stored.Stored.{the_row as K}
 use Rattle.krl_c.proofs.stored.Stored.TheLaws.{the_row_laws as laws}
 

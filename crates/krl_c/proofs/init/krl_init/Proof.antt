@@ -1,40 +1,25 @@
 -- The empty value, without a list, is made and written to the handle.
-use Rattle.std.proofs.Common.{◌≡◌, ℕ, List, [], ◌∷◌, ◌++◌, refl, sym, subst}
-use Rattle.std.proofs.raw_atomic.Walks.{proved_at}
-use Rattle.std.proofs.alloc.Calls.{Goes-blank}
-use lib.Dec.{T}
-use base.Fraction.{full_share}
-use base.Logic.{ent, id⊢}
-use base.Fml.{ftrue, froom}
-use mir.Syntax.{Ty}
-use mir.Val.{Val, vunit, has_ty, WT}
-use prog.Wp.{WpFn}
-use contract.Monad.{fact}
-use contract.Running.{tables}
-use types.Kit.{‵, raw, ◌⊛◌, some, later, prop, Sq, ◌$◌, ◌∵◌, !, qed, done, move, drop, keep, use1, use2, pick, await, split, join, feq_i, rewrite, regoal, suffices, group}
-use types.Run.{enter, of_opd, unit_lit, init, stop, no_more, and_then, assigns, returns}
-use types.ByLocal.{alloc_all, pass_all, free_all, look_at, get, through, sets, lands_as}
-use denote.Exit.{yes}
-use denote.Memory.{lone, part_at}
-use denote.Laws.{Is, Typed, shows}
-use denote.Steps.{nothing, peeks, heard, only}
-use denote.Signature.{plain}
-use denote.RawPtr.{Ptr, RawPtr, block_ptr, lies_at, room_at, in_a_block, rawptr_vals, rawptr_Tells}
-use denote.Triple.Call.{calls_at}
-use denote.Triple.Clauses.{Lasts, lasts}
-use denote.Triple.Spec.{triple_of}
-use denote.Triple.Table.{framed}
-use denote.Triple.Walked.{Stays, walk_of, stay_dropped, Goes-dropped, ends_at}
-use borrow.Struct.Leaves.{Lone-is}
+use Rattle.krl_c.proofs.Common.{ !, [], ‵, ◌$◌, ◌++◌, ◌∵◌, ◌∷◌, ◌≡◌, ◌⊛◌, alloc_all, and_then}
+use Rattle.krl_c.proofs.Common.{assigns, await, block_ptr, calls_at, done, ends_at, ent, enter}
+use Rattle.krl_c.proofs.Common.{fact, feq_i, framed, free_all, froom, ftrue, full_share, get}
+use Rattle.krl_c.proofs.Common.{Goes-blank, Goes-dropped, group, has_ty, heard, id⊢, in_a_block}
+use Rattle.krl_c.proofs.Common.{init, Is, join, keep, lands_as, Lasts, lasts, later, lies_at, List}
+use Rattle.krl_c.proofs.Common.{lone, Lone-is, look_at, move, no_more, nothing, of_opd, only}
+use Rattle.krl_c.proofs.Common.{part_at, pass_all, peeks, pick, plain, prop, proved_at, Ptr, qed}
+use Rattle.krl_c.proofs.Common.{raw, RawPtr, rawptr_Tells, rawptr_vals, refl, regoal, returns}
+use Rattle.krl_c.proofs.Common.{rewrite, room_at, sets, shows, some, split, Sq, stay_dropped, Stays}
+use Rattle.krl_c.proofs.Common.{stop, subst, suffices, sym, T, tables, through, triple_of, Ty}
+use Rattle.krl_c.proofs.Common.{Typed, unit_lit, unloaded, use1, use2, Val, vunit, walk_of, WpFn}
+use Rattle.krl_c.proofs.Common.{WT, yes, ℕ}
+use types.Kit.{drop}
 use borrow.Table.OneValue.{part_in}
+use Rattle.krl_c.proofs.init.krl_init.Statement.{statement}
+use Rattle.krl_c.proofs.stored.empty.Met.{met}
 use Rattle.std.specs.contracts.alloc.Global.{the_row as Z}
 use Rattle.std.proofs.alloc.Global.TheLaws.{the_row_laws as heap_laws}
-use Rattle.krl_c.specs.Stored.{unloaded}
 use Rattle.krl_c.specs.contracts.init.krl_init as f
-use Rattle.krl_c.proofs.init.krl_init.Statement.{statement}
 use Rattle.krl_c.proofs.init.krl_init.Code as code
 use Rattle.krl_c.specs.contracts.stored.empty as e
-use Rattle.krl_c.proofs.stored.empty.Met.{met}
 use Rattle.krl_c.specs.contracts.stored.Stored.{the_row as K}
 use Rattle.krl_c.proofs.stored.Stored.TheLaws.{the_row_laws as laws}
 

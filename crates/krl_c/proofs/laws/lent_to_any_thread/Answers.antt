@@ -1,7 +1,6 @@
 -- Many threads may read the stored list at the same time.
-use base.Fml.{ftrue}
+use Rattle.krl_c.proofs.Common.{block_of, block_ptr, count_of, ftrue, in_block, null_ptr, Ptr}
 use base.Shift.{Keyless}
-use denote.RawPtr.{Ptr, block_ptr, null_ptr, block_of, count_of, in_block}
 use Rattle.krl_c.proofs.stored.Stored.TheSendSync.{the_sync}
 use Rattle.krl_c.proofs.laws.lent_to_any_thread.Goals as goal
 

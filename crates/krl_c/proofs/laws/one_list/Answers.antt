@@ -1,7 +1,6 @@
 -- The list has one spelling and one first fault.
-use Rattle.std.proofs.Common.{Some, None, sym, ap, subst, ◌∙◌}
+use Rattle.krl_c.proofs.Common.{◌∙◌, ap, entries_of, None, Some, subst, sym}
 use Rattle.krl_authority.specs.Authority.{AuthoritiesAreKeys}
-use Rattle.krl_core.specs.Entries.{entries_of}
 use Rattle.krl_c.proofs.laws.one_list.Goals as goal
 
 pub returns : goal.returns

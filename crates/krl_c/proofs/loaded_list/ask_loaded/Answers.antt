@@ -1,9 +1,6 @@
 -- The answer is whether the list names the key of the query, or the blob's fault.
-use Rattle.std.proofs.Common.{refl, rules, arith, ◌∙◌}
-use mir.Syntax.{w32}
-use mir.Val.{SFits}
+use Rattle.krl_c.proofs.Common.{◌∙◌, arith, names, refl, rules, said, SFits, spares, w32}
 use Rattle.krl_entries.specs.Revoked.{Revoked}
-use Rattle.krl_c.specs.Answer.{said, names, spares}
 use Rattle.krl_c.proofs.AnswerMeaning.{refused, same}
 use Rattle.krl_c.proofs.loaded_list.ask_loaded.Goals as goal
 

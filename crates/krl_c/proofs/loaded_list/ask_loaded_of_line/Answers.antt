@@ -1,8 +1,5 @@
 -- The list is queried for the key of the line, or the answer is the line's fault.
-use Rattle.std.proofs.Common.{rules, ◌∙◌}
-use mir.Syntax.{w32}
-use mir.Val.{SFits}
-use Rattle.krl_c.specs.Answer.{of_key}
+use Rattle.krl_c.proofs.Common.{◌∙◌, of_key, rules, SFits, w32}
 use Rattle.krl_c.proofs.AnswerMeaning.{line_refused, same}
 use Rattle.krl_c.proofs.loaded_list.ask_loaded_of_line.Goals as goal
 

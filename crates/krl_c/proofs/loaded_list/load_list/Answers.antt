@@ -1,8 +1,6 @@
 -- The list is read, and its authorities are checked, or its first fault is reported: borrowed bytes
 -- do not fail.
-use Rattle.std.proofs.Common.{sym, ◌∙◌}
-use Rattle.std.proofs.lemmas.Bool.{false≢true}
-use Rattle.krl_core.specs.Entries.{entries_of}
+use Rattle.krl_c.proofs.Common.{◌∙◌, entries_of, false≢true, sym}
 use Rattle.krl_c.proofs.AnswerMeaning.{compared, not_compared, of_list}
 use Rattle.krl_c.proofs.loaded_list.load_list.Goals as goal
 

@@ -1,8 +1,5 @@
 -- The stored list is queried.
-use Rattle.std.proofs.Common.{sym, ◌∙◌, rules}
-use Rattle.std.proofs.lemmas.Bool.{false≢true}
-use mir.Syntax.{w32}
-use mir.Val.{SFits}
+use Rattle.krl_c.proofs.Common.{◌∙◌, false≢true, rules, SFits, sym, w32}
 use Rattle.krl_c.proofs.AnswerMeaning.{same}
 use Rattle.krl_c.proofs.stored.ask.Goals as goal
 

@@ -1,6 +1,5 @@
 -- The findings give the reasons for the query, if the list's authorities can be compared.
-use Rattle.std.proofs.Common.{sym, ◌∙◌}
-use Rattle.std.proofs.lemmas.Bool.{false≢true}
+use Rattle.krl_c.proofs.Common.{◌∙◌, false≢true, sym}
 use Rattle.krl_c.proofs.AnswerMeaning.{compared, not_compared}
 use Rattle.krl_c.proofs.why.explain.Goals as goal
 

@@ -1,10 +1,7 @@
 -- The answer is why the list names the key of the query; otherwise it is the list's first fault, or
 -- the blob's.
-use Rattle.std.proofs.Common.{◌<◌, ◌^◌, sym, subst, rules, ◌∙◌, arith}
-use Rattle.std.proofs.lemmas.Int.{to_z_pos}
-use mir.Syntax.{w32}
-use mir.Val.{SFits}
-use Rattle.krl_c.specs.Answer.{answered}
+use Rattle.krl_c.proofs.Common.{◌<◌, ◌^◌, ◌∙◌, answered, arith, rules, SFits, subst, sym, to_z_pos}
+use Rattle.krl_c.proofs.Common.{w32}
 use Rattle.krl_c.specs.Why.{HasReasons, explained}
 use Rattle.krl_c.proofs.ReasonBits.{has_reasons, unexplained}
 use Rattle.krl_c.proofs.AnswerMeaning.{list_refused, same}

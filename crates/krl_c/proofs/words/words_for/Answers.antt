@@ -1,8 +1,6 @@
 -- Below zero, the words depend on the number without its sign.
-use Rattle.std.proofs.Common.{◌≡◌, ℤ, pos, negsuc, ◌<ℤ◌, unsigned_abs, sym, ap, ◌∙◌, refl, arith, rules}
-use Rattle.std.proofs.lemmas.Int.{ints, to_z-of_z}
-use mir.Syntax.{w32}
-use mir.Val.{SFits, of_z, to_z}
+use Rattle.krl_c.proofs.Common.{◌<ℤ◌, ◌∙◌, ◌≡◌, ap, arith, ints, negsuc, of_z, pos, refl, rules}
+use Rattle.krl_c.proofs.Common.{SFits, sym, to_z, to_z-of_z, unsigned_abs, w32, ℤ}
 use Rattle.krl_c.specs.Words.{or_unknown, refusal, words}
 use Rattle.krl_c.proofs.words.words_for.Goals as goal
 

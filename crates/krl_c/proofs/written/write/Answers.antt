@@ -1,7 +1,6 @@
 -- The first piece comes before the bytes that the rest writes.
-use Rattle.std.proofs.Common.{◌≡◌, ◌++◌, ◌<◌, length, drop, ap, ◌∙◌, arith}
+use Rattle.std.proofs.Common.{◌≡◌, ◌++◌, ◌<◌, length, drop, ap, ◌∙◌, arith, length-take-le}
 use Rattle.std.proofs.lemmas.Grind.{common_steps}
-use Rattle.std.proofs.lemmas.List.{length-take-le}
 use Rattle.krl_c.specs.Written.{written}
 use Rattle.krl_c.proofs.WrittenTexts.{begun, put, rest}
 use Rattle.krl_c.proofs.written.write.Goals as goal

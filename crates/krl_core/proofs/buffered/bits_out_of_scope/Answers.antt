@@ -1,5 +1,4 @@
-use Rattle.std.proofs.Common.{arith}
-use Rattle.krl_entries.proofs.SkippedSerials.{first_byte}
+use Rattle.krl_core.proofs.Common.{arith, first_byte}
 use Rattle.krl_core.proofs.buffered.bits_out_of_scope.Goals as goal
 
 pub returns-then-is_out_of_scope : goal.returns-then-is_out_of_scope

@@ -1,5 +1,4 @@
-use Rattle.std.proofs.Common.{◌-◌, Ok, length}
-use Rattle.krl_core.specs.Buffered.{ReadsSome}
+use Rattle.krl_core.proofs.Common.{◌-◌, length, Ok, ReadsSome}
 use Rattle.krl_core.proofs.buffered.read_buffered.Given as goal
 
 -- the fields so far were read

@@ -1,8 +1,7 @@
-use Rattle.std.proofs.Common.{Result, arith, subst, length, take, drop, ◌-◌, nat_lt}
-use Rattle.std.specs.declared.alloc.AllocError.{AllocError}
-use Rattle.krl_core.specs.Buffered.{ReadsWhole}
-use Rattle.krl_core.specs.declared.place.Place.{Place}
-use Rattle.krl_core.proofs.BufferedFields.{buffered_nearer, field_buffered, field_refused, some_none}
+use Rattle.krl_core.proofs.Common.{◌-◌, AllocError, arith, drop, length, nat_lt, Place, ReadsWhole}
+use Rattle.krl_core.proofs.Common.{Result, subst, take}
+use Rattle.krl_core.proofs.BufferedFields.{buffered_nearer, field_buffered, field_refused}
+use Rattle.krl_core.proofs.BufferedFields.{some_none}
 use Rattle.krl_core.proofs.buffered.read_each.Goals as goal
 
 pub fields-init : goal.fields-init

@@ -1,7 +1,4 @@
-use Rattle.std.proofs.Common.{arith, subst, sym}
-use Rattle.krl_core.specs.Buffered.{ReadsSome}
-use Rattle.krl_core.specs.FieldStore.{InStep, FieldStore}
-use Rattle.krl_core.specs.declared.place.Place.{Place}
+use Rattle.krl_core.proofs.Common.{arith, FieldStore, InStep, Place, ReadsSome, subst, sym}
 use Rattle.krl_core.proofs.buffered.read_front.Goals as goal
 
 pub read_each-requires : goal.read_each-requires

@@ -1,8 +1,5 @@
-use Rattle.std.proofs.Common.{ℕ, ◌+◌, ◌*◌, ◌≤◌, arith, subst}
-use Rattle.std.proofs.lemmas.List.{length-take}
-use Rattle.krl_entries.specs.Naming.{SerialOf}
-use Rattle.krl_entries.specs.Scope.{InScope}
-use Rattle.krl_entries.proofs.SkippedSerials.{serial_within}
+use Rattle.krl_core.proofs.Common.{◌*◌, ◌+◌, ◌≤◌, arith, InScope, length-take, serial_within}
+use Rattle.krl_core.proofs.Common.{SerialOf, subst, ℕ}
 use Rattle.krl_core.proofs.buffered.serials_out_of_scope.Goals as goal
 
 pub returns-clause-out_of_scope : goal.returns-clause-out_of_scope

@@ -1,7 +1,4 @@
-use Rattle.std.proofs.Common.{refl}
-use Rattle.std.proofs.lemmas.Bool.{false≢true}
-use Rattle.std.proofs.lemmas.Result.{err_from_is_err_and}
-use Rattle.krl_core.specs.Reading.{working}
+use Rattle.krl_core.proofs.Common.{err_from_is_err_and, false≢true, refl, working}
 use Rattle.krl_core.proofs.FixedFields.{late_where_large}
 use Rattle.krl_core.proofs.Steps.{end_refused, missed_says, refused_says, one_more, bounded_more}
 use Rattle.krl_core.proofs.reading.read_field.Goals as goal

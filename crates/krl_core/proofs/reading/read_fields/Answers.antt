@@ -1,9 +1,5 @@
-use Rattle.std.proofs.Common.{◌≡◌, ℕ, List, length, take, inr, refl, sym, subst, arith, ◌∙◌}
-use Rattle.std.proofs.lemmas.Bool.{false≢true}
-use Rattle.std.proofs.lemmas.List.{length-take-le}
-use Rattle.byte_streams.specs.Pull.{at_hand}
-use Rattle.krl_core.specs.FieldStore.{GrowsAtMost}
-use Rattle.krl_core.specs.Reading.{working}
+use Rattle.krl_core.proofs.Common.{◌∙◌, ◌≡◌, arith, at_hand, false≢true, GrowsAtMost, inr, length}
+use Rattle.krl_core.proofs.Common.{length-take-le, List, refl, subst, sym, take, working, ℕ}
 use Rattle.krl_core.proofs.Progress.{advances_of, late_past_header, more_of}
 use Rattle.krl_core.proofs.BufferedFields.{bounded_buffered, leaps_buffered, reads_buffered}
 use Rattle.krl_core.proofs.Steps.{come, says_ran_out}

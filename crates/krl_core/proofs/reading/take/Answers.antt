@@ -1,9 +1,5 @@
-use Rattle.std.proofs.Common.{◌≡◌, ℕ, length, take, subst, arith}
-use Rattle.std.proofs.lemmas.List.{length-take-le}
-use Rattle.std.proofs.lemmas.Result.{err_from_is_err_and}
-use Rattle.byte_streams.specs.Pull.{Refuses}
-use Rattle.krl_core.specs.Place.{expected}
-use Rattle.krl_core.specs.Reading.{cut}
+use Rattle.krl_core.proofs.Common.{◌≡◌, arith, cut, err_from_is_err_and, expected, length}
+use Rattle.krl_core.proofs.Common.{length-take-le, Refuses, subst, take, ℕ}
 use Rattle.krl_core.proofs.reading.take.Goals as goal
 
 pub returns-in_err-fill-clause-err : goal.returns-in_err-fill-clause-err

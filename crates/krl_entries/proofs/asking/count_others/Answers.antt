@@ -1,6 +1,4 @@
-use Rattle.std.proofs.Common.{arith, sym, ◌∙◌}
-use Rattle.std.proofs.lemmas.Bool.{false≢true}
-use Rattle.serial_set.specs.Span.{Covers}
+use Rattle.krl_entries.proofs.Common.{◌∙◌, arith, Covers, false≢true, sym}
 use Rattle.krl_entries.proofs.SkippedSerials.{none_more}
 use Rattle.krl_entries.proofs.asking.count_others.Goals as goal
 

@@ -1,6 +1,4 @@
-use Rattle.std.proofs.Common.{◌≡◌, ◌-◌, ◌≤◌, ◌%◌, length}
-use Rattle.serial_set.specs.Span.{Covers}
-use Rattle.krl_entries.specs.Scope.{NoneHolds}
+use Rattle.krl_entries.proofs.Common.{◌%◌, ◌-◌, ◌≡◌, ◌≤◌, Covers, length, NoneHolds}
 use Rattle.krl_entries.proofs.asking.count_others.Given as goal
 
 -- none of the serial numbers so far is a member

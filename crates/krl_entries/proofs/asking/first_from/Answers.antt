@@ -1,5 +1,4 @@
-use Rattle.std.proofs.Common.{sym, ◌∙◌, arith, subst}
-use Rattle.std.proofs.lemmas.Bool.{eqb-true}
+use Rattle.std.proofs.Common.{sym, ◌∙◌, arith, subst, eqb-true}
 use Rattle.krl_entries.proofs.FirstSerials.{none_from, not_none, some_from}
 use Rattle.serial_set.specs.Walk.{IsPiece}
 use Rattle.krl_entries.proofs.asking.first_from.Goals as goal

@@ -1,6 +1,5 @@
-use Rattle.std.proofs.Common.{ℕ, ap, sym, ◌∙◌}
+use Rattle.krl_entries.proofs.Common.{◌∙◌, ap, number_of, sym, ℕ}
 use Rattle.byteorder.specs.Endian.{big_number}
-use Rattle.ssh_wire.specs.Wire.{number_of}
 use Rattle.krl_entries.proofs.field.u32_of.Goals as goal
 
 pub returns : goal.returns

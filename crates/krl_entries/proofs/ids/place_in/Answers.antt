@@ -1,7 +1,5 @@
-use Rattle.std.proofs.Common.{rules}
+use Rattle.krl_entries.proofs.Common.{bytes_cmp, bytes_of, rules}
 use Rattle.std.proofs.lemmas.Fn.{always_returns_same}
-use Rattle.krl_entries.specs.Rising.{bytes_cmp}
-use Rattle.krl_entries.specs.Texts.{bytes_of}
 use Rattle.krl_entries.proofs.OrderedTexts.{searched}
 use Rattle.krl_entries.proofs.ids.place_in.Goals as goal
 

@@ -1,5 +1,4 @@
-use Rattle.std.proofs.Common.{subst}
-use Rattle.krl_entries.specs.Ids.{GoesTo}
+use Rattle.krl_entries.proofs.Common.{GoesTo, subst}
 use Rattle.krl_entries.proofs.OrderedTexts.{goes_in}
 use Rattle.krl_entries.proofs.ids.put_few.Goals as goal
 

@@ -1,11 +1,7 @@
-use Rattle.std.proofs.Common.{sym, subst, ◌∙◌}
+use Rattle.krl_entries.proofs.Common.{◌∙◌, bytes_of, IfOk-weaker, IsFromIterResult, map-id, Puts}
+use Rattle.krl_entries.proofs.Common.{subst, sym, texts_of}
 use Rattle.std.proofs.lemmas.Iterator.{items_from_drains}
 use Rattle.std.proofs.lemmas.Iterator.Adapters.{YieldsList-from_vec}
-use Rattle.std.proofs.lemmas.List.{map-id}
-use Rattle.std.proofs.lemmas.Result.{IfOk-weaker}
-use Rattle.std.specs.BTreeSet.{IsFromIterResult}
-use Rattle.krl_entries.specs.Changes.{Puts}
-use Rattle.krl_entries.specs.Texts.{bytes_of, texts_of}
 use Rattle.krl_entries.proofs.OrderedTexts.{cloned, collected, rises_again}
 use Rattle.krl_entries.proofs.Sets.{by_read}
 use Rattle.krl_entries.proofs.ids.spread.Goals as goal

@@ -1,5 +1,4 @@
-use Rattle.std.proofs.Common.{refl, subst}
-use Rattle.krl_entries.specs.Questions.{HashesOf}
+use Rattle.krl_entries.proofs.Common.{HashesOf, refl, subst}
 use Rattle.krl_entries.proofs.KeyHashes.{hashed_has}
 use Rattle.krl_entries.proofs.key_hashes.asks_hash.Goals as goal
 

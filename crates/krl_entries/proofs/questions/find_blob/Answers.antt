@@ -1,8 +1,4 @@
-use Rattle.std.proofs.Common.{sym, ◌∙◌}
-use Rattle.std.proofs.lemmas.Bool.{false≢true}
-use Rattle.std.proofs.lemmas.Result.{on_ok_weaker}
-use Rattle.krl_entries.specs.Entry.{KeyEntry}
-use Rattle.krl_entries.specs.Naming.{KeyOf}
+use Rattle.krl_entries.proofs.Common.{◌∙◌, false≢true, KeyEntry, KeyOf, on_ok_weaker, sym}
 use Rattle.krl_entries.proofs.MoreQuestions.{finds_none, finds_one, just_key}
 use Rattle.krl_entries.proofs.questions.find_blob.Goals as goal
 

@@ -1,8 +1,4 @@
-use Rattle.std.proofs.Common.{sym, ◌∙◌}
-use Rattle.std.proofs.lemmas.Bool.{false≢true}
-use Rattle.std.proofs.lemmas.Result.{on_ok_weaker}
-use Rattle.krl_entries.specs.Entry.{IdEntry}
-use Rattle.krl_entries.specs.Naming.{IdOf}
+use Rattle.krl_entries.proofs.Common.{◌∙◌, false≢true, IdEntry, IdOf, on_ok_weaker, sym}
 use Rattle.krl_entries.proofs.MoreQuestions.{finds_none, finds_one, just_id}
 use Rattle.krl_entries.proofs.questions.find_id.Goals as goal
 

@@ -1,8 +1,4 @@
-use Rattle.std.proofs.Common.{◌≡◌}
-use Rattle.std.proofs.lemmas.Result.{on_ok_weaker}
-use Rattle.sha1.specs.Sha1.{sha1}
-use Rattle.sha2.specs.Sha256.{sha256}
-use Rattle.krl_entries.specs.Naming.{KeyOf, Sha1Of, Sha256Of}
+use Rattle.krl_entries.proofs.Common.{◌≡◌, KeyOf, on_ok_weaker, sha1, Sha1Of, sha256, Sha256Of}
 use Rattle.krl_entries.proofs.MoreQuestions.{finds_both}
 use Rattle.krl_entries.proofs.questions.find_key.Goals as goal
 

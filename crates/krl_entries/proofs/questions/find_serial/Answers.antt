@@ -1,8 +1,4 @@
-use Rattle.std.proofs.Common.{sym, ◌∙◌}
-use Rattle.std.proofs.lemmas.Bool.{false≢true}
-use Rattle.std.proofs.lemmas.Result.{on_ok_weaker}
-use Rattle.krl_entries.specs.Entry.{RangeEntry}
-use Rattle.krl_entries.specs.Naming.{SerialOf}
+use Rattle.krl_entries.proofs.Common.{◌∙◌, false≢true, on_ok_weaker, RangeEntry, SerialOf, sym}
 use Rattle.krl_entries.proofs.MoreQuestions.{finds_none, finds_one, just_serial}
 use Rattle.krl_entries.proofs.questions.find_serial.Goals as goal
 

@@ -1,9 +1,4 @@
-use Rattle.std.proofs.Common.{sym, ◌∙◌}
-use Rattle.std.proofs.lemmas.Bool.{false≢true}
-use Rattle.std.proofs.lemmas.Result.{on_ok_weaker}
-use Rattle.sha1.specs.Sha1.{sha1}
-use Rattle.krl_entries.specs.Entry.{Sha1Entry}
-use Rattle.krl_entries.specs.Naming.{Sha1Of}
+use Rattle.krl_entries.proofs.Common.{◌∙◌, false≢true, on_ok_weaker, sha1, Sha1Entry, Sha1Of, sym}
 use Rattle.krl_entries.proofs.MoreQuestions.{finds_none, finds_one, just_sha1}
 use Rattle.krl_entries.proofs.questions.find_sha1.Goals as goal
 

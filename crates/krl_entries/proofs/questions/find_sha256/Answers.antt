@@ -1,9 +1,5 @@
-use Rattle.std.proofs.Common.{sym, ◌∙◌}
-use Rattle.std.proofs.lemmas.Bool.{false≢true}
-use Rattle.std.proofs.lemmas.Result.{on_ok_weaker}
-use Rattle.sha2.specs.Sha256.{sha256}
-use Rattle.krl_entries.specs.Entry.{Sha256Entry}
-use Rattle.krl_entries.specs.Naming.{Sha256Of}
+use Rattle.krl_entries.proofs.Common.{◌∙◌, false≢true, on_ok_weaker, sha256, Sha256Entry, Sha256Of}
+use Rattle.krl_entries.proofs.Common.{sym}
 use Rattle.krl_entries.proofs.MoreQuestions.{finds_none, finds_one, just_sha256}
 use Rattle.krl_entries.proofs.questions.find_sha256.Goals as goal
 

@@ -1,6 +1,4 @@
-use Rattle.std.proofs.Common.{subst}
-use Rattle.krl_entries.specs.Changes.{Puts}
-use Rattle.krl_entries.specs.Texts.{bytes_of, texts_of}
+use Rattle.krl_entries.proofs.Common.{bytes_of, Puts, subst, texts_of}
 use Rattle.krl_entries.proofs.Sets.{read_puts}
 use Rattle.krl_entries.proofs.texts.put_text.Goals as goal
 

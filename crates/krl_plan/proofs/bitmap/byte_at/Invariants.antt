@@ -1,5 +1,4 @@
-use Rattle.std.proofs.Common.{◌≡◌, ◌+◌, ◌-◌}
-use Rattle.krl_plan.specs.Written.{Above, bits_of}
+use Rattle.krl_plan.proofs.Common.{◌+◌, ◌-◌, ◌≡◌, Above, bits_of}
 use Rattle.krl_plan.proofs.bitmap.byte_at.Given as goal
 
 abbrev pub invariant-loop-bit : goal.invariant-loop-bit

@@ -1,5 +1,4 @@
-use Rattle.std.proofs.Common.{◌≡◌, ◌+◌, ◌-◌, suc, ℕ, leb, subst, sym, ap, ◌∙◌, arith}
-use Rattle.krl_plan.specs.Written.{Above}
+use Rattle.krl_plan.proofs.Common.{◌+◌, ◌-◌, ◌∙◌, ◌≡◌, Above, ap, arith, leb, subst, suc, sym, ℕ}
 use Rattle.krl_plan.proofs.BitmapBits.{last_run_decides, no_run_has}
 use Rattle.krl_plan.proofs.ZeroSpan.{zero_span}
 use Rattle.krl_plan.proofs.bitmap.has_serial.Goals as goal

@@ -1,5 +1,4 @@
-use Rattle.std.proofs.Common.{◌+◌}
-use Rattle.krl_plan.specs.Written.{Above}
+use Rattle.krl_plan.proofs.Common.{◌+◌, Above}
 use Rattle.krl_plan.proofs.bitmap.has_serial.Given as goal
 
 abbrev pub invariant-loop-count : goal.invariant-loop-count

@@ -1,5 +1,4 @@
-use Rattle.std.proofs.Common.{◌≡◌, ◌+◌, ◌*◌, ◌++◌}
-use Rattle.krl_plan.specs.Written.{Above, bitmap_of, first_of}
+use Rattle.krl_plan.proofs.Common.{◌*◌, ◌++◌, ◌+◌, ◌≡◌, Above, bitmap_of, first_of}
 use Rattle.krl_plan.proofs.bitmap.put_bits.Given as goal
 
 abbrev pub invariant-loop-index : goal.invariant-loop-index

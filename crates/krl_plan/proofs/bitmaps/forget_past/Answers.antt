@@ -1,8 +1,6 @@
-use Rattle.std.proofs.Common.{◌≡◌, ◌<◌, inl, inr, ◌∙◌, arith, get_or, length, set, subst, sym}
-use Rattle.std.proofs.lemmas.Bool.{cases_lt}
-use Rattle.std.proofs.lemmas.List.{get_or-set_other, get_or-set_same, get_or_default}
-use Rattle.krl_plan.specs.declared.monotonic_queue.MonotonicQueue.{MonotonicQueue}
-use Rattle.krl_plan.specs.MonotonicQueue.{Forgets}
+use Rattle.krl_plan.proofs.Common.{◌<◌, ◌∙◌, ◌≡◌, arith, cases_lt, Forgets, get_or}
+use Rattle.krl_plan.proofs.Common.{get_or-set_other, get_or-set_same, get_or_default, inl, inr}
+use Rattle.krl_plan.proofs.Common.{length, MonotonicQueue, set, subst, sym}
 use Rattle.krl_plan.proofs.bitmaps.forget_past.Goals as goal
 
 pub loop-i-preserved : goal.loop-i-preserved

@@ -1,6 +1,4 @@
-use Rattle.std.proofs.Common.{◌≡◌, ℕ, ◌<◌, ◌≤◌, get_or, length}
-use Rattle.krl_plan.specs.declared.monotonic_queue.MonotonicQueue.{MonotonicQueue}
-use Rattle.krl_plan.specs.MonotonicQueue.{Forgets}
+use Rattle.krl_plan.proofs.Common.{◌<◌, ◌≡◌, ◌≤◌, Forgets, get_or, length, MonotonicQueue, ℕ}
 use Rattle.krl_plan.proofs.bitmaps.forget_past.Given as goal
 
 abbrev pub invariant-loop-i : goal.invariant-loop-i

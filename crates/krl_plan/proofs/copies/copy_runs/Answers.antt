@@ -1,6 +1,4 @@
-use Rattle.std.proofs.Common.{◌∙◌, ap, sym, subst}
-use Rattle.serial_set.specs.Walk.{IsPiece, next_of}
-use Rattle.serial_set.proofs.RunWalks.{walk_ends}
+use Rattle.krl_plan.proofs.Common.{◌∙◌, ap, IsPiece, next_of, subst, sym, walk_ends}
 use Rattle.krl_plan.proofs.CopiedRuns.{copied_more}
 use Rattle.krl_plan.proofs.copies.copy_runs.Goals as goal
 

@@ -1,5 +1,4 @@
-use Rattle.std.proofs.Common.{◌≡◌, ◌++◌}
-use Rattle.serial_set.specs.Walk.{left, steps}
+use Rattle.krl_plan.proofs.Common.{◌++◌, ◌≡◌, left, steps}
 use Rattle.krl_plan.proofs.copies.copy_runs.Given as goal
 
 abbrev pub invariant-loop-next : goal.invariant-loop-next

@@ -1,6 +1,5 @@
-use Rattle.std.proofs.Common.{◌≡◌, ◌+◌, ◌/◌, ◌++◌, ◌∷◌, ℕ, get_or, sym, ap, ◌∙◌}
-use Rattle.ssh_wire.specs.Wire.{number, string}
-use Rattle.krl_plan.specs.Written.{bitmap_of, bitmap_size, first_of}
+use Rattle.krl_plan.proofs.Common.{◌++◌, ◌+◌, ◌/◌, ◌∙◌, ◌∷◌, ◌≡◌, ap, bitmap_of, bitmap_size}
+use Rattle.krl_plan.proofs.Common.{first_of, get_or, number, string, sym, ℕ}
 use Rattle.krl_plan.proofs.GroupTexts.{bitmap_put, first-get, length-bitmap_of}
 use Rattle.krl_plan.proofs.ZeroSpan.{zero_span}
 use Rattle.krl_plan.proofs.group_text.put_bitmap.Goals as goal

@@ -1,11 +1,7 @@
-use Rattle.std.proofs.Common.{◌≡◌, ◌+◌, ◌++◌, [], ◌∷◌, List, ℕ, ap, sym, ◌∙◌, arith, take, get_or}
-use Rattle.std.specs.List.{flat_map}
-use Rattle.std.proofs.lemmas.List.{take_more}
-use Rattle.serial_set.specs.declared.span.Span.{Span}
-use Rattle.serial_set.proofs.RisingLists.{runs_at}
-use Rattle.ssh_wire.specs.Wire.{number}
-use Rattle.krl_plan.specs.Written.{serials_of}
-use Rattle.krl_plan.proofs.ListTexts.{all_listed, length-begun, length-listed, listed_more, small_few, string_ended}
+use Rattle.krl_plan.proofs.Common.{[], ◌++◌, ◌+◌, ◌∙◌, ◌∷◌, ◌≡◌, ap, arith, flat_map, get_or, List}
+use Rattle.krl_plan.proofs.Common.{number, runs_at, serials_of, Span, sym, take, take_more, ℕ}
+use Rattle.krl_plan.proofs.ListTexts.{all_listed, length-begun, length-listed, listed_more}
+use Rattle.krl_plan.proofs.ListTexts.{small_few, string_ended}
 use Rattle.krl_plan.proofs.ZeroSpan.{zero_span}
 use Rattle.krl_plan.proofs.group_text.put_listed.Goals as goal
 

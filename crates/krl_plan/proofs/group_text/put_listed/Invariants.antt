@@ -1,7 +1,4 @@
-use Rattle.std.proofs.Common.{◌≡◌, ◌++◌, take}
-use Rattle.std.specs.List.{flat_map}
-use Rattle.ssh_wire.specs.Wire.{number}
-use Rattle.krl_plan.specs.Written.{serials_of}
+use Rattle.krl_plan.proofs.Common.{◌++◌, ◌≡◌, flat_map, number, serials_of, take}
 use Rattle.krl_plan.proofs.group_text.put_listed.Given as goal
 
 abbrev pub invariant-loop-run : goal.invariant-loop-run

@@ -1,8 +1,5 @@
-use Rattle.std.proofs.Common.{◌≡◌, ◌+◌, ◌-◌, ◌++◌, ◌∷◌, ℕ, arith, get_or, length, sym, ap, ◌∙◌}
-use Rattle.serial_set.proofs.RisingLists.{runs_at}
-use Rattle.ssh_wire.specs.Wire.{number, string}
-use Rattle.krl_plan.specs.Plan.{reach}
-use Rattle.krl_plan.specs.Written.{first_of}
+use Rattle.krl_plan.proofs.Common.{◌++◌, ◌+◌, ◌-◌, ◌∙◌, ◌∷◌, ◌≡◌, ap, arith, first_of, get_or}
+use Rattle.krl_plan.proofs.Common.{length, number, reach, runs_at, string, sym, ℕ}
 use Rattle.krl_plan.proofs.GroupTexts.{first-get, range_put, reach-get}
 use Rattle.krl_plan.proofs.ZeroSpan.{zero_span}
 use Rattle.krl_plan.proofs.group_text.put_range.Goals as goal

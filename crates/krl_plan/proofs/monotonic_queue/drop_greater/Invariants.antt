@@ -1,5 +1,4 @@
-use Rattle.std.proofs.Common.{◌≡◌, ℕ, ◌<◌, ◌≤◌, get_or, length, take}
-use Rattle.krl_plan.specs.declared.monotonic_queue.Candidate.{Candidate}
+use Rattle.krl_plan.proofs.Common.{◌<◌, ◌≡◌, ◌≤◌, Candidate, get_or, length, take, ℕ}
 use Rattle.krl_plan.proofs.monotonic_queue.drop_greater.Given as goal
 
 abbrev pub invariant-loop-newest : goal.invariant-loop-newest

@@ -1,5 +1,4 @@
-use Rattle.std.proofs.Common.{◌≡◌, ℕ, ◌-◌, ◌+◌, ◌<◌, ◌≤◌, drop, get_or, length}
-use Rattle.krl_plan.specs.declared.monotonic_queue.Candidate.{Candidate}
+use Rattle.krl_plan.proofs.Common.{◌+◌, ◌-◌, ◌<◌, ◌≡◌, ◌≤◌, Candidate, drop, get_or, length, ℕ}
 use Rattle.krl_plan.proofs.monotonic_queue.drop_past.Given as goal
 
 abbrev pub invariant-loop-oldest : goal.invariant-loop-oldest

@@ -1,12 +1,6 @@
-use Rattle.std.proofs.Common.{◌≡◌, ◌+◌, ◌++◌, ℕ, List, ap, drop, get_or, refl, subst, sym, take, ◌∙◌}
-use Rattle.serial_set.specs.declared.span.Span.{Span}
-use Rattle.serial_set.specs.Span.{IsRuns}
-use Rattle.serial_set.specs.Walk.{left, since}
-use Rattle.serial_set.proofs.RunWalks.{since_same}
-use Rattle.krl_plan.specs.declared.group.Sort.TheVariants.{Serials}
-use Rattle.krl_plan.specs.declared.group.Group.{Group}
-use Rattle.krl_plan.specs.Plan.{IsGroup}
-use Rattle.krl_plan.specs.Written.{group_text, plan_text}
+use Rattle.krl_plan.proofs.Common.{◌++◌, ◌+◌, ◌∙◌, ◌≡◌, ap, drop, get_or, Group, group_text}
+use Rattle.krl_plan.proofs.Common.{IsGroup, IsRuns, left, List, plan_text, refl, Serials, since}
+use Rattle.krl_plan.proofs.Common.{since_same, Span, subst, sym, take, ℕ}
 use Rattle.krl_plan.proofs.ChosenGroups.{RunsFrom-take}
 use Rattle.krl_plan.proofs.CopiedRuns.{copied_first}
 use Rattle.krl_plan.proofs.PlanTexts.{Putting, Putting-more, next_group}

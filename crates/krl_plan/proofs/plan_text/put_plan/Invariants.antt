@@ -1,6 +1,4 @@
-use Rattle.std.proofs.Common.{◌++◌, drop}
-use Rattle.serial_set.specs.Walk.{left}
-use Rattle.krl_plan.specs.Written.{plan_text}
+use Rattle.krl_plan.proofs.Common.{◌++◌, drop, left, plan_text}
 use Rattle.krl_plan.proofs.PlanTexts.{Putting}
 use Rattle.krl_plan.proofs.plan_text.put_plan.Given as goal
 

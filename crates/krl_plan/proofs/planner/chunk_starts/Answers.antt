@@ -1,6 +1,5 @@
-use Rattle.std.proofs.Common.{◌≡◌, ◌*◌, ap, arith, drop, length, sym, take, ◌∙◌}
-use Rattle.serial_set.specs.Walk.{left, since}
-use Rattle.serial_set.proofs.RunWalks.{since_same}
+use Rattle.krl_plan.proofs.Common.{◌*◌, ◌∙◌, ◌≡◌, ap, arith, drop, left, length, since, since_same}
+use Rattle.krl_plan.proofs.Common.{sym, take}
 use Rattle.krl_plan.proofs.CopiedRuns.{chunk_ends, chunk_passed, starts_more}
 use Rattle.krl_plan.proofs.planner.chunk_starts.Goals as goal
 

@@ -1,6 +1,4 @@
-use Rattle.std.proofs.Common.{◌≡◌, ◌*◌, drop, length}
-use Rattle.serial_set.specs.Walk.{left, steps}
-use Rattle.krl_plan.specs.Copies.{BeginChunks}
+use Rattle.krl_plan.proofs.Common.{◌*◌, ◌≡◌, BeginChunks, drop, left, length, steps}
 use Rattle.krl_plan.proofs.planner.chunk_starts.Given as goal
 
 abbrev pub invariant-loop-next : goal.invariant-loop-next

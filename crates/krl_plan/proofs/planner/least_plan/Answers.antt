@@ -1,10 +1,7 @@
-use Rattle.std.proofs.Common.{◌≡◌, ℕ, ◌*◌, ◌≤◌, arith, drop, length, subst, sym, take, ap}
+use Rattle.krl_plan.proofs.Common.{◌*◌, ◌≡◌, ◌≤◌, ap, arith, cost, drop, IsLeastPlan, Knows, length}
+use Rattle.krl_plan.proofs.Common.{length_push, since, subst, sym, take, ℕ}
 use Rattle.std.proofs.lemmas.Result.{IfOk-weaker}
-use Rattle.std.proofs.lemmas.List.{length_push}
-use Rattle.serial_set.specs.Walk.{since}
-use Rattle.krl_plan.specs.Plan.{IsLeastPlan, cost}
 use Rattle.krl_plan.proofs.Ranges.{cheapest_small}
-use Rattle.krl_plan.specs.Table.{Knows}
 use Rattle.krl_plan.proofs.CopiedRuns.{last_chunk}
 use Rattle.krl_plan.proofs.planner.least_plan.Goals as goal
 

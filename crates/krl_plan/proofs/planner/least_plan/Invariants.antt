@@ -1,6 +1,4 @@
-use Rattle.std.proofs.Common.{◌*◌, drop, length}
-use Rattle.krl_plan.specs.Copies.{BeginChunks}
-use Rattle.krl_plan.specs.Table.{Knows}
+use Rattle.krl_plan.proofs.Common.{◌*◌, BeginChunks, drop, Knows, length}
 use Rattle.krl_plan.proofs.planner.least_plan.Given as goal
 
 abbrev pub invariant-loop-number : goal.invariant-loop-number

@@ -1,7 +1,5 @@
 -- A comment without bytes has no line, and any other has one.
-use Rattle.std.proofs.Common.{◌∙◌, sym}
-use Rattle.krl_runs.specs.Contents.{comment_line}
-use Rattle.key_listing.proofs.RunParts.{carries_none}
+use Rattle.krl_runs.proofs.Common.{◌∙◌, carries_none, comment_line, sym}
 use Rattle.krl_runs.proofs.PrintedContents.{no_comment, some_comment}
 use Rattle.krl_runs.proofs.contents.print_comment.Goals as goal
 

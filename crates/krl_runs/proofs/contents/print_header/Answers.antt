@@ -1,7 +1,6 @@
 -- Each line is printed, or ends the run.
-use Rattle.std.proofs.Common.{◌∷◌, []}
-use Rattle.std.proofs.lemmas.Result.{err_from_is_err_and}
-use Rattle.krl_runs.specs.Contents.{comment_lines, date_line, version_line}
+use Rattle.krl_runs.proofs.Common.{[], ◌∷◌, comment_lines, date_line, err_from_is_err_and}
+use Rattle.krl_runs.proofs.Common.{version_line}
 use Rattle.krl_runs.proofs.PrintedContents.{header_started, last_said, more_said, saying_stops}
 use Rattle.krl_runs.proofs.contents.print_header.Goals as goal
 

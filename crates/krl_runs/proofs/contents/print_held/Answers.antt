@@ -1,9 +1,8 @@
 -- Each part is printed, or ends the run.
-use Rattle.std.proofs.Common.{map}
-use Rattle.std.proofs.lemmas.Result.{err_from_is_err_and}
-use Rattle.krl_runs.specs.Contents.{fact_line, section_lines}
-use Rattle.krl_runs.specs.declared.contents.fact.Fact.TheVariants.{Key, Sha1, Hash}
-use Rattle.krl_runs.proofs.PrintedContents.{held_first, held_next, last_said, more_said, saying_stops}
+use Rattle.krl_runs.proofs.Common.{err_from_is_err_and, fact_line, Hash, Key, map, section_lines}
+use Rattle.krl_runs.proofs.Common.{Sha1}
+use Rattle.krl_runs.proofs.PrintedContents.{held_first, held_next, last_said, more_said}
+use Rattle.krl_runs.proofs.PrintedContents.{saying_stops}
 use Rattle.krl_runs.proofs.contents.print_held.Goals as goal
 
 pub loop-listed-init : goal.loop-listed-init

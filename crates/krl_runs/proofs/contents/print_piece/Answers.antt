@@ -1,7 +1,5 @@
 -- Each span is printed, or ends the run.
-use Rattle.std.proofs.Common.{◌∷◌, [], get_or}
-use Rattle.std.proofs.lemmas.Result.{err_from_is_err_and}
-use Rattle.krl_runs.specs.Contents.{serials_line}
+use Rattle.krl_runs.proofs.Common.{[], ◌∷◌, err_from_is_err_and, get_or, serials_line}
 use Rattle.krl_runs.proofs.PrintedContents.{more_said, none_said, saying_stops, spans_next}
 use Rattle.krl_runs.proofs.contents.print_piece.Goals as goal
 

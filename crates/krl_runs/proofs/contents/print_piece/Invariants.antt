@@ -1,6 +1,5 @@
 -- The spans so far are printed, and the others are left.
-use Rattle.std.proofs.Common.{drop, map}
-use Rattle.krl_runs.specs.Contents.{serials_line}
+use Rattle.krl_runs.proofs.Common.{drop, map, serials_line}
 use Rattle.krl_runs.proofs.PrintedContents.{IsSaid}
 use Rattle.krl_runs.proofs.contents.print_piece.Given as goal
 

@@ -1,8 +1,6 @@
 -- Each part is printed, or ends the run.
-use Rattle.std.proofs.Common.{◌∷◌, [], map}
-use Rattle.std.proofs.lemmas.Result.{err_from_is_err_and}
-use Rattle.krl_runs.specs.Contents.{authority_line, fact_line, serials_line}
-use Rattle.krl_runs.specs.declared.contents.fact.Fact.TheVariants.{Id}
+use Rattle.krl_runs.proofs.Common.{[], ◌∷◌, authority_line, err_from_is_err_and, fact_line, Id, map}
+use Rattle.krl_runs.proofs.Common.{serials_line}
 use Rattle.krl_runs.proofs.PrintedContents.{last_said, more_said, saying_stops, section_started}
 use Rattle.krl_runs.proofs.contents.print_section.Goals as goal
 

@@ -1,11 +1,8 @@
 -- Each piece is printed, or ends the run.
-use Rattle.std.proofs.Common.{◌∙◌, ap, map, refl, sym, subst}
-use Rattle.std.specs.Prelude.{List}
-use Rattle.std.proofs.lemmas.Result.{err_from_is_err_and}
+use Rattle.krl_runs.proofs.Common.{◌∙◌, ap, err_from_is_err_and, IsPiece, List, map, next_of, refl}
+use Rattle.krl_runs.proofs.Common.{serials_line, subst, sym}
 use Rattle.serial_set.specs.declared.span.Span.{Span}
-use Rattle.serial_set.specs.Walk.{IsPiece, next_of}
 use Rattle.serial_set.proofs.RunWalks.{since_same, walk_ends}
-use Rattle.krl_runs.specs.Contents.{serials_line}
 use Rattle.krl_runs.proofs.PrintedContents.{IsSaid, more_said, none_said, piece_next, saying_stops}
 use Rattle.krl_runs.proofs.contents.print_spans.Goals as goal
 

@@ -1,7 +1,5 @@
 -- The spans before the number are printed, and the others are left.
-use Rattle.std.proofs.Common.{map}
-use Rattle.serial_set.specs.Walk.{left, steps}
-use Rattle.krl_runs.specs.Contents.{serials_line}
+use Rattle.krl_runs.proofs.Common.{left, map, serials_line, steps}
 use Rattle.krl_runs.proofs.PrintedContents.{IsSaid}
 use Rattle.krl_runs.proofs.contents.print_spans.Given as goal
 

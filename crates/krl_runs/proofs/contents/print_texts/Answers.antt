@@ -1,7 +1,5 @@
 -- Each text is printed, or ends the run.
-use Rattle.std.proofs.Common.{◌∷◌, []}
-use Rattle.std.proofs.lemmas.Result.{err_from_is_err_and}
-use Rattle.krl_runs.specs.Contents.{fact_line}
+use Rattle.krl_runs.proofs.Common.{[], ◌∷◌, err_from_is_err_and, fact_line}
 use Rattle.krl_runs.proofs.PrintedContents.{more_said, none_said, saying_stops}
 use Rattle.krl_runs.proofs.contents.print_texts.Goals as goal
 

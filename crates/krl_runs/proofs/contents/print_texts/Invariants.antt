@@ -1,6 +1,5 @@
 -- The texts so far are printed, and the others are left.
-use Rattle.std.proofs.Common.{map}
-use Rattle.krl_runs.specs.Contents.{fact_line}
+use Rattle.krl_runs.proofs.Common.{fact_line, map}
 use Rattle.krl_runs.proofs.PrintedContents.{IsSaid}
 use Rattle.krl_runs.proofs.contents.print_texts.Given as goal
 

@@ -1,8 +1,6 @@
 -- A text has one list of entries, because it has one spelling and one first fault.
-use Rattle.std.proofs.Common.{◌≡◌, ℕ, List, sym, ap, ◌∙◌}
+use Rattle.krl_runs.proofs.Common.{◌∙◌, ◌≡◌, ap, entries_of, HasEntries, List, sym, ℕ}
 use Rattle.krl_entries.specs.Entry.{Entry}
-use Rattle.krl_core.specs.Entries.{entries_of}
-use Rattle.krl_runs.specs.Query.{HasEntries}
 use Rattle.krl_runs.proofs.OneReading.{one_way}
 use Rattle.krl_runs.proofs.laws.one_asked_reading.Goals as goal
 

@@ -1,11 +1,7 @@
 -- A text has one reading, because it has one spelling and one first fault.
-use Rattle.std.proofs.Common.{◌≡◌, ℕ, List, sym, ap, subst, ◌∙◌}
-use Rattle.krl_entries.specs.Revocations.{Revocations, Means}
-use Rattle.krl_core.specs.Entries.{entries_of}
+use Rattle.krl_runs.proofs.Common.{◌∙◌, ◌≡◌, ap, entries_of, Header, IsHeld, Known, List, Means}
+use Rattle.krl_runs.proofs.Common.{Revocations, subst, sym, ℕ}
 use Rattle.krl_core.specs.Krl.{SpelledSection}
-use Rattle.krl_core.specs.declared.header.Header.{Header}
-use Rattle.krl_runs.specs.Contents.{Known}
-use Rattle.krl_runs.specs.Query.{IsHeld}
 use Rattle.krl_runs.proofs.OneReading.{one_way}
 use Rattle.krl_runs.proofs.laws.one_reading.Goals as goal
 

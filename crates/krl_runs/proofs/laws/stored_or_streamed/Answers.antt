@@ -1,7 +1,5 @@
 -- Both print the answers of the one spelling of the list.
-use Rattle.std.proofs.Common.{sym, ap, ◌∙◌}
-use Rattle.krl_core.specs.Entries.{entries_of}
-use Rattle.krl_entries.specs.Reasons.{is_revoked, revokes}
+use Rattle.krl_runs.proofs.Common.{◌∙◌, ap, entries_of, is_revoked, revokes, sym}
 use Rattle.krl_entries.proofs.ReasonTests.{meant_tested}
 use Rattle.krl_runs.proofs.AgreeingTests.{files_same}
 use Rattle.krl_runs.proofs.laws.stored_or_streamed.Goals as goal

@@ -1,6 +1,5 @@
 -- The run prints the contents, or only the answers.
-use Rattle.std.proofs.Common.{refl}
-use Rattle.krl_runs.specs.Query.{asked, asked_run_of, dumped, query_run_of}
+use Rattle.krl_runs.proofs.Common.{asked, asked_run_of, dumped, query_run_of, refl}
 use Rattle.krl_runs.proofs.query.ask.Goals as goal
 
 pub returns-then-dump : goal.returns-then-dump

@@ -1,8 +1,5 @@
 -- The contents and then the files are answered for.
-use Rattle.std.proofs.Common.{refl, get_or}
-use Rattle.std.proofs.lemmas.Result.{err_from_is_err_and}
-use Rattle.key_files.specs.Keys.{keys_of}
-use Rattle.krl_runs.specs.Contents.{known_of}
+use Rattle.krl_runs.proofs.Common.{err_from_is_err_and, get_or, keys_of, known_of, refl}
 use Rattle.krl_runs.proofs.QueryRuns.{dump_stops, read_run}
 use Rattle.key_listing.proofs.AnswerableKeys.{all_expected}
 use Rattle.krl_runs.proofs.query.ask_held.Goals as goal

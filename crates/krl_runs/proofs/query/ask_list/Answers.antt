@@ -1,6 +1,5 @@
 -- The list is read, or refused.
-use Rattle.std.proofs.Common.{Ok, Err}
-use Rattle.krl_runs.specs.Contents.{known_of}
+use Rattle.krl_runs.proofs.Common.{Err, known_of, Ok}
 use Rattle.krl_runs.proofs.QueryRuns.{held, refused_run}
 use Rattle.krl_runs.proofs.query.ask_list.Goals as goal
 

@@ -1,7 +1,6 @@
 -- The keys of the files so far are still in the queries, and those of one more file are too.
-use Rattle.std.proofs.Common.{◌*◌, ◌+◌, ap, arith, take}
+use Rattle.krl_runs.proofs.Common.{◌*◌, ◌+◌, ap, arith, file_size, files_size, take}
 use Rattle.std.proofs.lemmas.List.Sums.{sum_by_more}
-use Rattle.key_files.specs.Sizes.{file_size, files_size}
 use Rattle.krl_runs.proofs.Bounds.{asks_then}
 use Rattle.krl_runs.proofs.ExpectedKeys.{files_more}
 use Rattle.krl_runs.proofs.questions.ask_about.Goals as goal

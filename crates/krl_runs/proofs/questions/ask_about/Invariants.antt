@@ -1,11 +1,6 @@
 -- The keys of the files so far are in the queries, and no more than these files have room for.
-use Rattle.std.proofs.Common.{ℕ, ◌*◌, ◌<◌, take}
-use Rattle.key_files.specs.Keys.{Named, keys_of}
-use Rattle.key_files.specs.Sizes.{files_size}
-use Rattle.krl_entries.specs.Questions.{Asks, FindsIn}
-use Rattle.krl_entries.specs.Revocations.{IsOrderly}
-use Rattle.std.specs.List.{slice_index_or}
-use Rattle.key_listing.specs.Expected.{AreExpected}
+use Rattle.krl_runs.proofs.Common.{◌*◌, ◌<◌, AreExpected, Asks, files_size, FindsIn, IsOrderly}
+use Rattle.krl_runs.proofs.Common.{keys_of, Named, slice_index_or, take, ℕ}
 use Rattle.krl_runs.specs.Questions.{AsksAtMost}
 use Rattle.krl_runs.proofs.questions.ask_about.Given as goal
 

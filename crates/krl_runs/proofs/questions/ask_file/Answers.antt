@@ -1,12 +1,8 @@
 -- Each key is added to the queries, up to the first fault.
-use Rattle.std.proofs.Common.{◌∷◌, ◌≡◌, Result, ap, ◌∙◌}
-use Rattle.std.specs.Prelude.{◌≢◌}
-use Rattle.key_files.specs.Keys.{FileKey, keys_of}
-use Rattle.key_files.specs.RunFault.{RunFault}
+use Rattle.krl_runs.proofs.Common.{◌∙◌, ◌∷◌, ◌≡◌, ◌≢◌, ap, AreExpected, Asks, FileKey, keys_of}
+use Rattle.krl_runs.proofs.Common.{Result, RunFault}
 use Rattle.key_files.specs.declared.cause.Cause.TheVariants.{NoMemory}
-use Rattle.krl_entries.specs.Questions.{Asks}
 use Rattle.krl_entries.proofs.MoreQuestions.{on_ok_with}
-use Rattle.key_listing.specs.Expected.{AreExpected}
 use Rattle.krl_runs.proofs.Bounds.{room_next}
 use Rattle.krl_runs.proofs.ExpectedKeys.{fault_expected, key_expected}
 use Rattle.krl_runs.proofs.questions.ask_file.Goals as goal

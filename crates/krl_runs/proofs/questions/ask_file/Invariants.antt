@@ -1,10 +1,7 @@
 -- If all keys that are left are in the queries, all keys of the file are. The file has room for the queries and for the
 -- keys that are left.
-use Rattle.key_files.specs.Keys.{keys_of}
-use Rattle.key_files.specs.Sizes.{file_size}
-use Rattle.krl_entries.specs.Revocations.{IsOrderly, Revocations}
-use Rattle.krl_entries.specs.Questions.{Asks, AsksMore, FindsIn}
-use Rattle.key_listing.specs.Expected.{AreExpected}
+use Rattle.krl_runs.proofs.Common.{AreExpected, Asks, AsksMore, file_size, FindsIn, IsOrderly}
+use Rattle.krl_runs.proofs.Common.{keys_of, Revocations}
 use Rattle.krl_runs.proofs.Bounds.{LeavesRoom}
 use Rattle.krl_runs.proofs.questions.ask_file.Given as goal
 

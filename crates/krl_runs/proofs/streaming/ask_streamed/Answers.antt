@@ -1,7 +1,6 @@
 -- The list ends within its front, continues after it, or is refused.
-use Rattle.std.proofs.Common.{Ok, Err, [], ◌∙◌}
+use Rattle.krl_runs.proofs.Common.{[], ◌∙◌, Err, known_of, Ok}
 use Rattle.krl_core.proofs.WholeLists.{whole_unfaulted}
-use Rattle.krl_runs.specs.Contents.{known_of}
 use Rattle.krl_runs.proofs.QueryRuns.{asked_refused, held_list, held_run}
 use Rattle.krl_runs.proofs.streaming.ask_streamed.Goals as goal
 

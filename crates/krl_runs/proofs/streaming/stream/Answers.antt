@@ -1,8 +1,5 @@
 -- The list was streamed to its end, or was refused.
-use Rattle.std.proofs.Common.{Ok, Err}
-use Rattle.krl_entries.specs.Reasons.{is_revoked}
-use Rattle.krl_runs.specs.Query.{ask_by}
-use Rattle.key_files.specs.Sizes.{files_size}
+use Rattle.krl_runs.proofs.Common.{ask_by, Err, files_size, is_revoked, Ok}
 use Rattle.krl_runs.proofs.Bounds.{few_found}
 use Rattle.krl_runs.proofs.QueryRuns.{asked_run, asked_refused, streamed_answers, streamed_list}
 use Rattle.krl_runs.proofs.streaming.stream.Goals as goal

@@ -1,8 +1,8 @@
 -- The list is refused, or an allocation failed first.
 use Rattle.std.proofs.Common.{Ok, Err}
 use Rattle.krl_runs.proofs.QueryRuns.{asked_refused, asked_ran_out, list_entries}
-use Rattle.krl_runs.proofs.streaming.stream_unasked.Goals as goal
 use Rattle.krl_runs.proofs.streaming.stream_unasked.Goals.{in-Ok, in-Err}
+use Rattle.krl_runs.proofs.streaming.stream_unasked.Goals as goal
 
 pub returns : goal.returns
 returns g c =

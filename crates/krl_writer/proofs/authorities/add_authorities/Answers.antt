@@ -1,5 +1,6 @@
 use Rattle.std.proofs.lemmas.Result.{err_from_is_err_and}
-use Rattle.krl_writer.proofs.AuthoritySections.{Listing-end, Listing-more, Listing-refused, Listing-start}
+use Rattle.krl_writer.proofs.AuthoritySections.{Listing-end, Listing-more, Listing-refused}
+use Rattle.krl_writer.proofs.AuthoritySections.{Listing-start}
 use Rattle.krl_writer.proofs.authorities.add_authorities.Goals as goal
 
 pub loop-one-init : goal.loop-one-init

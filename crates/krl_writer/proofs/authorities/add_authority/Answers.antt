@@ -1,13 +1,9 @@
-use Rattle.std.proofs.Common.{◌<◌, ◌++◌, List, ℕ, ap, arith, length, length-append, refl, subst, ◌∙◌}
-use Rattle.std.proofs.lemmas.Result.{err_from_is_err_and}
-use Rattle.ssh_wire.specs.Wire.{string}
-use Rattle.krl_entries.specs.Revocations.{Section, section_with}
-use Rattle.krl_core.specs.Front.{limit}
-use Rattle.krl_plan.proofs.ListTexts.{length-begun}
-use Rattle.krl_writer.specs.declared.text_fault.TextFault.TheVariants.{TooLong}
-use Rattle.krl_writer.specs.KrlText.{authority_content, listed_text}
-use Rattle.krl_writer.specs.InLimit.{Refuses}
-use Rattle.krl_writer.proofs.Limits.{any_plan, authority_parts, refuses_front, refuses_more, refuses_string, string_put}
+use Rattle.krl_writer.proofs.Common.{◌++◌, ◌<◌, ◌∙◌, ap, arith, authority_content}
+use Rattle.krl_writer.proofs.Common.{err_from_is_err_and, length, length-append, length-begun}
+use Rattle.krl_writer.proofs.Common.{limit, List, listed_text, refl, Refuses, Section, section_with}
+use Rattle.krl_writer.proofs.Common.{string, subst, TooLong, ℕ}
+use Rattle.krl_writer.proofs.Limits.{any_plan, authority_parts, refuses_front, refuses_more}
+use Rattle.krl_writer.proofs.Limits.{refuses_string, string_put}
 use Rattle.krl_writer.proofs.authorities.add_authority.Goals as goal
 
 pub returns-in_err-add_string : goal.returns-in_err-add_string

@@ -1,8 +1,5 @@
-use Rattle.std.proofs.Common.{◌++◌, List, ℕ, arith, refl, subst, ◌∙◌}
-use Rattle.std.proofs.lemmas.Result.{err_from_is_err_and}
-use Rattle.ssh_wire.specs.Wire.{string, strings}
-use Rattle.krl_plan.proofs.ListTexts.{length-begun}
-use Rattle.krl_writer.specs.InLimit.{Refuses}
+use Rattle.krl_writer.proofs.Common.{◌++◌, ◌∙◌, arith, err_from_is_err_and, length-begun, List}
+use Rattle.krl_writer.proofs.Common.{refl, Refuses, string, strings, subst, ℕ}
 use Rattle.krl_writer.proofs.Limits.{put_more, refuses_front, refuses_string, string_put}
 use Rattle.krl_writer.proofs.strings.add_listed.Goals as goal
 

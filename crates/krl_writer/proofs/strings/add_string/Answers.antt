@@ -1,6 +1,4 @@
-use Rattle.std.proofs.Common.{arith, length-append}
-use Rattle.ssh_wire.specs.Wire.{string}
-use Rattle.ssh_wire.proofs.Fields.{length-string}
+use Rattle.krl_writer.proofs.Common.{arith, length-append, length-string, string}
 use Rattle.krl_writer.proofs.strings.add_string.Goals as goal
 
 pub returns-then-text-gt-LIMIT : goal.returns-then-text-gt-LIMIT

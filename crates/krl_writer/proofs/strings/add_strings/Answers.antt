@@ -1,7 +1,5 @@
-use Rattle.std.proofs.Common.{◌++◌, sym, ◌∙◌}
-use Rattle.std.proofs.lemmas.List.{append-nil}
-use Rattle.std.proofs.lemmas.Result.{err_from_is_err_and}
-use Rattle.ssh_wire.specs.Wire.{string, strings}
+use Rattle.krl_writer.proofs.Common.{◌++◌, ◌∙◌, append-nil, err_from_is_err_and, string, strings}
+use Rattle.krl_writer.proofs.Common.{sym}
 use Rattle.krl_writer.proofs.Limits.{put_more, refuses_front}
 use Rattle.krl_writer.proofs.strings.add_strings.Goals as goal
 

@@ -1,6 +1,4 @@
-use Rattle.std.proofs.Common.{◌≡◌, ◌≤◌, ◌++◌, length}
-use Rattle.ssh_wire.specs.Wire.{strings}
-use Rattle.krl_core.specs.Front.{limit}
+use Rattle.krl_writer.proofs.Common.{◌++◌, ◌≡◌, ◌≤◌, length, limit, strings}
 use Rattle.krl_writer.proofs.strings.add_strings.Given as goal
 
 abbrev pub invariant-loop-text : goal.invariant-loop-text

@@ -1,6 +1,4 @@
-use Rattle.std.proofs.Common.{subst, ◌∙◌}
-use Rattle.std.proofs.lemmas.Result.{err_from_is_err_and}
-use Rattle.krl_writer.specs.InLimit.{Refuses}
+use Rattle.krl_writer.proofs.Common.{◌∙◌, err_from_is_err_and, Refuses, subst}
 use Rattle.krl_writer.proofs.WholeTexts.{header_parts}
 use Rattle.krl_writer.proofs.text.add_header.Goals as goal
 

@@ -1,7 +1,5 @@
-use Rattle.std.proofs.Common.{◌++◌, List, ℕ, refl, subst, ◌∙◌}
-use Rattle.std.proofs.lemmas.Result.{err_from_is_err_and}
-use Rattle.krl_writer.specs.KrlText.{listed_text, texts_text}
-use Rattle.krl_writer.specs.InLimit.{Refuses}
+use Rattle.krl_writer.proofs.Common.{◌++◌, ◌∙◌, err_from_is_err_and, List, listed_text, refl}
+use Rattle.krl_writer.proofs.Common.{Refuses, subst, texts_text, ℕ}
 use Rattle.krl_writer.proofs.Limits.{put_more, refuses_front}
 use Rattle.krl_writer.proofs.text.add_texts.Goals as goal
 

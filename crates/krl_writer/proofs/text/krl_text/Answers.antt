@@ -1,9 +1,6 @@
-use Rattle.std.proofs.Common.{[], subst, sym, ap, ◌++◌, ◌<◌, List, ℕ, length, ◌∙◌, arith}
-use Rattle.std.proofs.lemmas.Result.{err_from_is_err_and}
-use Rattle.krl_core.specs.Front.{limit}
-use Rattle.krl_core.specs.Krl.{header_text}
-use Rattle.krl_writer.specs.KrlText.{authorities_text, sections_text, text_of, texts_text}
-use Rattle.krl_writer.specs.InLimit.{Refuses}
+use Rattle.krl_writer.proofs.Common.{[], ◌++◌, ◌<◌, ◌∙◌, ap, arith, authorities_text}
+use Rattle.krl_writer.proofs.Common.{err_from_is_err_and, header_text, length, limit, List, Refuses}
+use Rattle.krl_writer.proofs.Common.{sections_text, subst, sym, text_of, texts_text, ℕ}
 use Rattle.krl_writer.proofs.Limits.{refuses_front}
 use Rattle.krl_writer.proofs.ReadBack.{are_plans}
 use Rattle.krl_writer.proofs.Sizes.{text_least}

@@ -1,6 +1,6 @@
-use Rattle.std.proofs.Common.{◌+◌, ◌-◌, ◌≡◌, arith, subst, reverse}
-use Rattle.serial_set.specs.Finished.{finished_of}
-use Rattle.serial_set.proofs.ByteRuns.{SoFar, SoFar-start, SoFar-unset, OnFrom, OnFrom-past, whole_runs, none_holds}
+use Rattle.serial_set.proofs.Common.{◌+◌, ◌-◌, ◌≡◌, arith, finished_of, reverse, subst}
+use Rattle.serial_set.proofs.ByteRuns.{SoFar, SoFar-start, SoFar-unset, OnFrom, OnFrom-past}
+use Rattle.serial_set.proofs.ByteRuns.{whole_runs, none_holds}
 use Rattle.serial_set.proofs.byte_runs.runs_of_byte.Goals as goal
 
 pub loop-bit-init : goal.loop-bit-init

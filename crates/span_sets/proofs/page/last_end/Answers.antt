@@ -1,5 +1,4 @@
-use Rattle.std.proofs.Common.{ap, sym, ◌∙◌}
-use Rattle.span_sets.specs.Chunk.{hi_of}
+use Rattle.span_sets.proofs.Common.{◌∙◌, ap, hi_of, sym}
 use Rattle.span_sets.proofs.ChunkOrder.{end_at}
 use Rattle.span_sets.proofs.page.last_end.Goals as goal
 

@@ -1,12 +1,9 @@
-use Rattle.std.proofs.Common.{◌<◌, ◌≤◌, ◌⊎◌, ◌≡◌, ◌++◌, [], length, get_or, take, drop, subst, sym, ap, ◌∙◌, arith}
-use Rattle.std.specs.List.{All}
-use Rattle.std.proofs.lemmas.List.{drop_all, take_rest}
-use Rattle.span_sets.specs.declared.chunk.Chunk.{Chunk}
+use Rattle.span_sets.proofs.Common.{[], ◌++◌, ◌<◌, ◌∙◌, ◌≡◌, ◌≤◌, ◌⊎◌, All, ap, arith, Chunk}
+use Rattle.span_sets.proofs.Common.{chunks_in, chunks_of, ChunksFrom, CutTo, drop, drop_all, end_of}
+use Rattle.span_sets.proofs.Common.{get_or, hi_of, length, lo_of, subst, sym, take, take_rest}
 use Rattle.span_sets.specs.declared.page.Page.{Page}
-use Rattle.span_sets.specs.Chunk.{lo_of, hi_of, ChunksFrom}
-use Rattle.span_sets.specs.Pages.{chunks_in, chunks_of}
-use Rattle.span_sets.specs.Positions.{end_of, CutTo}
-use Rattle.span_sets.proofs.ListsOfLists.{removed_back, removed_more, removed_rest, removed_first, first_of, flat_drop_set}
+use Rattle.span_sets.proofs.ListsOfLists.{removed_back, removed_more, removed_rest, removed_first}
+use Rattle.span_sets.proofs.ListsOfLists.{first_of, flat_drop_set}
 use Rattle.span_sets.proofs.PageRows.{order_page, all_page, cut_all, cut_some}
 use Rattle.span_sets.proofs.pages.cut_from.Goals as goal
 

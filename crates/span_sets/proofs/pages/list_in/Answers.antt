@@ -1,8 +1,5 @@
-use Rattle.std.proofs.Common.{◌<◌, ◌≤◌, take, drop, length, subst, sym, ap, ◌∙◌, arith}
-use Rattle.std.specs.List.{All}
-use Rattle.span_sets.specs.Chunk.{hi_of, ChunksFrom}
-use Rattle.span_sets.specs.Pages.{chunks_in, chunks_of}
-use Rattle.span_sets.specs.Positions.{end_of, IsListFrom}
+use Rattle.span_sets.proofs.Common.{◌<◌, ◌∙◌, ◌≤◌, All, ap, arith, chunks_in, chunks_of, ChunksFrom}
+use Rattle.span_sets.proofs.Common.{drop, end_of, hi_of, IsListFrom, length, subst, sym, take}
 use Rattle.span_sets.proofs.ListsOfLists.{first_of}
 use Rattle.span_sets.proofs.PageRows.{order_page, list_at, list_none}
 use Rattle.span_sets.proofs.pages.list_in.Goals as goal

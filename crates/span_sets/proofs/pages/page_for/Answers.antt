@@ -1,5 +1,4 @@
-use Rattle.std.proofs.Common.{◌<◌, arith}
-use Rattle.span_sets.specs.Chunk.{hi_of}
+use Rattle.span_sets.proofs.Common.{◌<◌, arith, hi_of}
 use Rattle.span_sets.proofs.PageRows.{fewer_pages, rest_after}
 use Rattle.span_sets.proofs.pages.page_for.Goals as goal
 

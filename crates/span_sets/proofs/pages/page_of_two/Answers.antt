@@ -1,9 +1,5 @@
-use Rattle.std.proofs.Common.{◌≡◌, ◌+◌, ◌<◌, ◌≤◌, ◌-◌, get_or, drop, ap, sym, subst, arith}
-use Rattle.std.specs.List.{All}
-use Rattle.span_sets.specs.Chunk.{hi_of}
-use Rattle.span_sets.specs.Pages.{chunks_in, chunks_of}
-use Rattle.span_sets.specs.Positions.{end_of}
-use Rattle.span_sets.specs.Lawful.{stretch}
+use Rattle.span_sets.proofs.Common.{◌+◌, ◌-◌, ◌<◌, ◌≡◌, ◌≤◌, All, ap, arith, chunks_in, chunks_of}
+use Rattle.span_sets.proofs.Common.{drop, end_of, get_or, hi_of, stretch, subst, sym}
 use Rattle.span_sets.proofs.PageRows.{all_before, past_page}
 use Rattle.span_sets.proofs.pages.page_of_two.Goals as goal
 

@@ -1,7 +1,5 @@
-use Rattle.std.proofs.Common.{arith, ◌≡◌, [], subst, sym}
+use Rattle.span_sets.proofs.Common.{[], ◌≡◌, arith, chunks_of, Replaces, subst, sym}
 use Rattle.std.proofs.lemmas.Grind.{common_steps}
-use Rattle.span_sets.specs.Chunks.{Replaces}
-use Rattle.span_sets.specs.Pages.{chunks_of}
 use Rattle.span_sets.proofs.ChunkQueries.{replaced_none}
 use Rattle.span_sets.proofs.pages.put_chunks.Goals as goal
 

@@ -1,11 +1,7 @@
-use Rattle.std.proofs.Common.{◌<◌, ◌≤◌, ◌⊎◌, ◌+◌, length, get_or, take, drop, subst, sym, arith}
-use Rattle.std.specs.List.{All}
-use Rattle.std.proofs.lemmas.List.{drop-set-lt, get_or-set_same}
-use Rattle.span_sets.specs.declared.chunk.Chunk.{Chunk}
-use Rattle.span_sets.specs.Chunk.{lo_of, hi_of, ChunksFrom}
-use Rattle.span_sets.specs.Chunks.{Replaces}
-use Rattle.span_sets.specs.Pages.{chunks_in, chunks_of}
-use Rattle.span_sets.specs.Positions.{end_of, CutTo}
+use Rattle.span_sets.proofs.Common.{◌+◌, ◌<◌, ◌≤◌, ◌⊎◌, All, arith, Chunk, chunks_in, chunks_of}
+use Rattle.span_sets.proofs.Common.{ChunksFrom, CutTo, drop, drop-set-lt, end_of, get_or}
+use Rattle.span_sets.proofs.Common.{get_or-set_same, hi_of, length, lo_of, Replaces, subst, sym}
+use Rattle.span_sets.proofs.Common.{take}
 use Rattle.span_sets.proofs.ListsOfLists.{flat_cut, flat_drop, flat_same, all_right}
 use Rattle.span_sets.proofs.PageRows.{all_page, order_page, order_right, past_put, put_whole}
 use Rattle.span_sets.proofs.ResultFacts.{on_err}

@@ -1,6 +1,4 @@
-use Rattle.std.proofs.Common.{subst, sym, arith}
-use Rattle.span_sets.specs.Chunk.{ChunksFrom}
-use Rattle.span_sets.specs.Pages.{chunks_in}
+use Rattle.span_sets.proofs.Common.{arith, chunks_in, ChunksFrom, subst, sym}
 use Rattle.span_sets.proofs.ListsOfLists.{flat_same}
 use Rattle.span_sets.proofs.PageRows.{order_page, widened_pages}
 use Rattle.span_sets.proofs.pages.set_bits_in.Goals as goal

@@ -1,7 +1,5 @@
-use Rattle.std.proofs.Common.{◌≡◌, ◌<◌, ◌∙◌, length, get_or, sym, ap, subst, true, arith}
-use Rattle.std.specs.Result.{is_ok}
-use Rattle.span_sets.specs.Chunk.{ChunksFrom}
-use Rattle.span_sets.specs.Pages.{chunks_in, chunks_of, IsSplit}
+use Rattle.span_sets.proofs.Common.{◌<◌, ◌∙◌, ◌≡◌, ap, arith, chunks_in, chunks_of, ChunksFrom}
+use Rattle.span_sets.proofs.Common.{get_or, is_ok, IsSplit, length, subst, sym, true}
 use Rattle.span_sets.proofs.ListsOfLists.{flat_same, flat_split}
 use Rattle.span_sets.proofs.PageRows.{order_page, split_is}
 use Rattle.span_sets.proofs.pages.split_at.Goals as goal

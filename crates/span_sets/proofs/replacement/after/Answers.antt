@@ -1,6 +1,4 @@
-use Rattle.std.proofs.Common.{arith, subst}
-use Rattle.span_sets.specs.Replacement.{Has}
-use Rattle.span_sets.specs.Lawful.{in_stretch}
+use Rattle.span_sets.proofs.Common.{arith, Has, in_stretch, subst}
 use Rattle.span_sets.proofs.replacement.after.Goals as goal
 
 pub returns-in_default-clause-members : goal.returns-in_default-clause-members

@@ -1,11 +1,7 @@
-use Rattle.std.proofs.Common.{◌≡◌, ◌+◌, ◌*◌, ◌<◌, ◌⊎◌, inl, inr}
-use Rattle.std.specs.Prelude.{Some, true}
-use Rattle.span_sets.specs.declared.chunk.Chunk.{Chunk}
-use Rattle.span_sets.specs.Few.{few_of}
-use Rattle.span_sets.specs.Chunk.{is_span, lo_of, hi_of}
-use Rattle.span_sets.specs.Replacement.{lo_or, hi_or}
-use Rattle.span_sets.specs.Tight.{IsTight}
-use Rattle.span_sets.proofs.ReplacementMembers.{either_of, in_singles, some_weaker, three_all, three_has, word_tight}
+use Rattle.span_sets.proofs.Common.{◌*◌, ◌+◌, ◌<◌, ◌≡◌, ◌⊎◌, Chunk, few_of, hi_of, hi_or, inl, inr}
+use Rattle.span_sets.proofs.Common.{is_span, IsTight, lo_of, lo_or, Some, true}
+use Rattle.span_sets.proofs.ReplacementMembers.{either_of, in_singles, some_weaker, three_all}
+use Rattle.span_sets.proofs.ReplacementMembers.{three_has, word_tight}
 use Rattle.span_sets.proofs.replacement.replacement_of_bits.Goals as goal
 
 pub returns-clause-members : goal.returns-clause-members

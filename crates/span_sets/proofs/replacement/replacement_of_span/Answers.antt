@@ -1,11 +1,7 @@
-use Rattle.std.proofs.Common.{◌≡◌, ◌≤◌, ◌<◌, ◌+◌, arith}
-use Rattle.std.specs.Prelude.{true}
-use Rattle.span_sets.specs.declared.chunk.Chunk.{Chunk}
-use Rattle.span_sets.specs.Few.{few_of}
-use Rattle.span_sets.specs.Chunk.{is_span, lo_of, hi_of}
-use Rattle.span_sets.specs.Replacement.{lo_or, hi_or}
-use Rattle.span_sets.specs.Tight.{IsTight}
-use Rattle.span_sets.proofs.ReplacementMembers.{back_lies, either_of, front_lies, some_rest, some_weaker, three_all, three_has, three_lie}
+use Rattle.span_sets.proofs.Common.{◌+◌, ◌<◌, ◌≡◌, ◌≤◌, arith, Chunk, few_of, hi_of, hi_or, is_span}
+use Rattle.span_sets.proofs.Common.{IsTight, lo_of, lo_or, true}
+use Rattle.span_sets.proofs.ReplacementMembers.{back_lies, either_of, front_lies, some_rest}
+use Rattle.span_sets.proofs.ReplacementMembers.{some_weaker, three_all, three_has, three_lie}
 use Rattle.span_sets.proofs.replacement.replacement_of_span.Goals as goal
 
 pub returns-clause-lies : goal.returns-clause-lies

@@ -1,6 +1,7 @@
-use Rattle.std.proofs.Common.{◌≡◌, ℕ, ◌-◌, ◌<◌, List, [], ◌∷◌, ◌++◌, length, take, drop, refl, ap, ◌∙◌, arith, length-append, length-drop}
-use Rattle.std.specs.List.{insert}
-use Rattle.std.proofs.lemmas.List.{append-nil, take_rest, take_at, drop_at, drop_all, take-append-le, drop-append-le}
+use Rattle.std.proofs.Common.{◌≡◌, ℕ, ◌-◌, ◌<◌, List, [], ◌∷◌, ◌++◌, length, take, drop, refl, ap}
+use Rattle.std.proofs.Common.{◌∙◌, arith, length-append, length-drop, insert, append-nil, take_at}
+use Rattle.std.proofs.Common.{drop_at}
+use Rattle.std.proofs.lemmas.List.{take_rest, drop_all, take-append-le, drop-append-le}
 use Rattle.span_sets.proofs.row.move_last.Goals as goal
 
 turned : {X : Type 0} (xs : List X) (x : X) (at : ℕ) (row ys : List X) → row ≡ xs ++ x ∷ [] → at < length row

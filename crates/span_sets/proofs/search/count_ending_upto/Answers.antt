@@ -1,5 +1,5 @@
-use Rattle.std.proofs.Common.{◌≡◌, ◌+◌, ◌<◌, get_or, length-drop, subst, sym, ap, arith, ◌∙◌}
-use Rattle.std.proofs.lemmas.List.{get_or-drop, get_or_default}
+use Rattle.span_sets.proofs.Common.{◌+◌, ◌<◌, ◌∙◌, ◌≡◌, ap, arith, get_or, get_or-drop}
+use Rattle.span_sets.proofs.Common.{get_or_default, length-drop, subst, sym}
 use Rattle.span_sets.proofs.search.count_ending_upto.Goals as goal
 
 pub returns-else-end-number-clause-past : goal.returns-else-end-number-clause-past

@@ -1,5 +1,4 @@
-use Rattle.std.proofs.Common.{length, ◌-◌, ◌≤◌, take}
-use Rattle.std.specs.List.{All}
+use Rattle.std.proofs.Common.{length, ◌-◌, ◌≤◌, take, All}
 use Rattle.span_sets.proofs.search.count_ending_upto.Given as goal
 
 abbrev pub invariant-loop-count : goal.invariant-loop-count

@@ -1,7 +1,5 @@
-use Rattle.std.proofs.Common.{rules, take, drop, ◌<◌, ◌≤◌, ◌-◌, arith}
-use Rattle.std.specs.List.{All}
+use Rattle.span_sets.proofs.Common.{◌-◌, ◌<◌, ◌≤◌, All, arith, drop, rules, starts_rise, take}
 use Rattle.span_sets.proofs.Parts.{upto_parts}
-use Rattle.serial_set.proofs.RisingLists.{starts_rise}
 use Rattle.span_sets.proofs.span_search.count_beginning_by.Goals as goal
 
 point : (c : goal.After-partition_point) → All (λ x. x.lo - 1 ≤ c.args.number) (take c.partition_point.result c.args.spans.now) × All (λ x. c.args.number < x.lo - 1) (drop c.partition_point.result c.args.spans.now)

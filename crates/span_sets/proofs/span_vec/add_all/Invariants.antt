@@ -1,6 +1,4 @@
-use Rattle.std.proofs.Common.{◌+◌, ◌≤◌, length, take}
-use Rattle.std.specs.Vec.{vec_len, vec_capacity}
-use Rattle.serial_set.specs.Span.{AreSerials}
+use Rattle.span_sets.proofs.Common.{◌+◌, ◌≤◌, AreSerials, length, take, vec_capacity, vec_len}
 use Rattle.serial_set.specs.Near.{AddsSpans}
 use Rattle.span_sets.proofs.span_vec.add_all.Given as goal
 

@@ -1,5 +1,4 @@
-use Rattle.std.proofs.Common.{arith, subst, sym, ◌+◌, ◌-◌, ◌<◌, ◌≤◌, take, drop}
-use Rattle.std.specs.List.{All}
+use Rattle.std.proofs.Common.{arith, subst, sym, ◌+◌, ◌-◌, ◌<◌, ◌≤◌, take, drop, All}
 use Rattle.span_sets.proofs.MergedSpans.{added_joined, added_apart}
 use Rattle.span_sets.proofs.span_vec.add_to.Goals as goal
 

@@ -1,6 +1,4 @@
-use Rattle.std.proofs.Common.{[], ◌∷◌, subst, sym, arith}
-use Rattle.std.specs.Option.{option_to_list}
-use Rattle.span_sets.specs.Positions.{IsListFrom}
+use Rattle.span_sets.proofs.Common.{[], ◌∷◌, arith, IsListFrom, option_to_list, subst, sym}
 use Rattle.span_sets.proofs.OneChunkSets.{list_one, list_below}
 use Rattle.span_sets.proofs.storage.list_of.Goals as goal
 

@@ -1,5 +1,4 @@
-use Rattle.std.proofs.Common.{arith, refl}
-use Rattle.std.specs.Option.{option_to_list}
+use Rattle.std.proofs.Common.{arith, refl, option_to_list}
 use Rattle.span_sets.proofs.OneChunkSets.{one_replaced}
 use Rattle.span_sets.proofs.storage.put_by_one.Goals as goal
 

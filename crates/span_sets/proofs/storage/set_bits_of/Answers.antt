@@ -1,6 +1,4 @@
-use Rattle.std.proofs.Common.{◌∷◌, [], subst, sym}
-use Rattle.std.specs.Option.{option_to_list}
-use Rattle.span_sets.specs.Positions.{WordWidened}
+use Rattle.span_sets.proofs.Common.{[], ◌∷◌, option_to_list, subst, sym, WordWidened}
 use Rattle.span_sets.proofs.OneChunkSets.{one_widened}
 use Rattle.span_sets.proofs.storage.set_bits_of.Goals as goal
 

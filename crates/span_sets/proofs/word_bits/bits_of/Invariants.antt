@@ -1,7 +1,4 @@
-use Rattle.std.proofs.Common.{ℕ, ◌*◌, take}
-use Rattle.std.specs.Prelude.{◌↔◌}
-use Rattle.serial_set.specs.Span.{Covers}
-use Rattle.span_sets.specs.Words.{BitCovers}
+use Rattle.span_sets.proofs.Common.{◌*◌, ◌↔◌, BitCovers, Covers, take, ℕ}
 use Rattle.span_sets.proofs.word_bits.bits_of.Given as goal
 
 abbrev pub invariant-loop-span : goal.invariant-loop-span

@@ -1,6 +1,4 @@
-use Rattle.std.proofs.Common.{Some, sym, subst, arith}
-use Rattle.std.proofs.lemmas.Nat.{and_le_l}
-use Rattle.span_sets.specs.Members.{IsFirstBit}
+use Rattle.span_sets.proofs.Common.{and_le_l, arith, IsFirstBit, Some, subst, sym}
 use Rattle.span_sets.proofs.BitMembers.{none_set, first_set}
 use Rattle.span_sets.proofs.word_bits.first_bit.Goals as goal
 

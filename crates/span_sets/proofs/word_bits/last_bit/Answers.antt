@@ -1,6 +1,4 @@
-use Rattle.std.proofs.Common.{◌≡◌, arith, subst, w64}
-use Rattle.std.specs.Int.{bit_at}
-use Rattle.std.proofs.lemmas.Nat.Bits.{bit_at_not}
+use Rattle.span_sets.proofs.Common.{◌≡◌, arith, bit_at, bit_at_not, subst, w64}
 use Rattle.span_sets.proofs.BitMembers.{first_clear, set_before}
 use Rattle.span_sets.proofs.word_bits.last_bit.Goals as goal
 

@@ -1,15 +1,14 @@
 -- The stored list may be sent to another thread, and so the handle may be too.
-use base.Fraction.{full_share}
+use Rattle.krl_c.proofs.Common.{block_ptr, Exit, full_share, hidden, leaves, lies_at, null_ptr, Ptr}
+use Rattle.krl_c.proofs.Common.{unchanged, under}
 use base.Shift.{Keyless}
-use denote.Exit.{Exit, unchanged, leaves, hidden, under}
 use denote.Param.Send.{IsSend, Quiet, part_keyless, owning_send, struct_send, sendable}
 use denote.Builtin.{RawPtr}
-use denote.RawPtr.{Ptr, block_ptr, null_ptr, lies_at}
 use denote.Struct.Struct.{exits_of}
 use denote.Struct.Owning.{shape, fields, to}
 use Rattle.krl_c.specs.contracts.handle.Krl.{the_row, the_type}
-use Rattle.krl_c.specs.contracts.stored.Stored.{the_row as K}
 use Rattle.krl_c.proofs.stored.Stored.TheSendSync.{the_send}
+use Rattle.krl_c.specs.contracts.stored.Stored.{the_row as K}
 
 -- an exit that is hidden behind a part is as quiet as it was
 still : {D X : Type 0} (part : D → X) (exit : Exit X) → Quiet exit → Quiet (hidden (under part exit))

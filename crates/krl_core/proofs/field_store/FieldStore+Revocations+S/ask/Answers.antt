@@ -1,5 +1,4 @@
-use Rattle.std.proofs.Common.{sym, ap}
-use Rattle.krl_entries.specs.Questions.{Asked, asked_in}
+use Rattle.krl_core.proofs.Common.{ap, Asked, asked_in, sym}
 use Rattle.krl_core.proofs.QuestionWalks.{found_stored}
 use Rattle.krl_core.proofs.field_store.FieldStore+Revocations+S.ask.Goals as goal
 

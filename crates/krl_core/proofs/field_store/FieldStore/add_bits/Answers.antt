@@ -1,5 +1,4 @@
-use Rattle.std.proofs.Common.{arith, refl}
-use Rattle.std.proofs.lemmas.Result.{on_ok_weaker}
+use Rattle.krl_core.proofs.Common.{arith, on_ok_weaker, refl}
 use Rattle.serial_set.specs.Finished.{finished_of}
 use Rattle.krl_core.proofs.Bits.{bits_go_on, bits_close, fed_grows}
 use Rattle.krl_core.proofs.StoredEntries.{stored_same}

@@ -1,5 +1,4 @@
-use Rattle.std.proofs.Common.{◌≡◌, refl, length, arith}
-use Rattle.std.proofs.lemmas.Result.{on_ok_weaker}
+use Rattle.krl_core.proofs.Common.{◌≡◌, arith, length, on_ok_weaker, refl}
 use Rattle.krl_core.proofs.StoredEntries.{adds_all}
 use Rattle.krl_core.proofs.field_store.FieldStore.add_item.Goals as goal
 

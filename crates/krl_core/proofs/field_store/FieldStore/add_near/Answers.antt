@@ -1,6 +1,4 @@
-use Rattle.std.proofs.Common.{refl}
-use Rattle.std.proofs.lemmas.Result.{on_ok_weaker}
-use Rattle.krl_entries.specs.Changes.{run_entries}
+use Rattle.krl_core.proofs.Common.{on_ok_weaker, refl, run_entries}
 use Rattle.krl_core.proofs.StoredEntries.{adds_all}
 use Rattle.krl_core.proofs.field_store.FieldStore.add_near.Goals as goal
 

@@ -1,8 +1,5 @@
-use Rattle.std.proofs.Common.{[], ◌∷◌, arith, rules}
-use Rattle.std.proofs.lemmas.Result.{on_ok_weaker}
-use Rattle.krl_entries.specs.Entry.{RangeEntry}
+use Rattle.krl_core.proofs.Common.{[], ◌∷◌, arith, on_ok_weaker, RangeEntry, rules, same_from_one}
 use Rattle.krl_core.proofs.StoredEntries.{adds_same, adds_to_zero, grows_one}
-use Rattle.krl_entries.proofs.SameNames.{same_from_one}
 use Rattle.krl_core.proofs.field_store.FieldStore.add_range.Goals as goal
 
 pub returns-then-max-eq0-clause-adds : goal.returns-then-max-eq0-clause-adds

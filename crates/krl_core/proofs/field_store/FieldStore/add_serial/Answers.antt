@@ -1,8 +1,5 @@
-use Rattle.std.proofs.Common.{[], ◌∷◌}
-use Rattle.std.proofs.lemmas.Result.{on_ok_weaker}
-use Rattle.krl_entries.specs.Entry.{RangeEntry, SerialsEntry}
+use Rattle.krl_core.proofs.Common.{[], ◌∷◌, on_ok_weaker, RangeEntry, same_serial, SerialsEntry}
 use Rattle.krl_core.proofs.StoredEntries.{adds_same, adds_zero}
-use Rattle.krl_entries.proofs.SameNames.{same_serial}
 use Rattle.krl_core.proofs.field_store.FieldStore.add_serial.Goals as goal
 
 pub returns-then-serial-eq0-clause-adds : goal.returns-then-serial-eq0-clause-adds

@@ -1,10 +1,8 @@
-use Rattle.std.proofs.Common.{◌≡◌, ℕ, List, ◌+◌, ◌-◌, ◌≤◌, drop, length, take, length-drop, sym, subst, arith}
-use Rattle.std.proofs.lemmas.List.{take_all}
-use Rattle.serial_set.specs.declared.span.Span.{Span}
+use Rattle.krl_core.proofs.Common.{◌+◌, ◌-◌, ◌≡◌, ◌≤◌, Adds, arith, drop, held_with_open, length}
+use Rattle.krl_core.proofs.Common.{length-drop, List, run_entries, Span, subst, sym, take, take_all}
+use Rattle.krl_core.proofs.Common.{ℕ}
 use Rattle.serial_set.specs.Near.{AreNear}
 use Rattle.krl_core.proofs.StoredEntries.{stored_then, adds_first_more}
-use Rattle.krl_entries.specs.Changes.{run_entries}
-use Rattle.krl_core.specs.FieldStore.{Adds, held_with_open}
 use Rattle.krl_core.proofs.field_store.FieldStore.add_spans.Goals as goal
 
 -- the spans from a place on

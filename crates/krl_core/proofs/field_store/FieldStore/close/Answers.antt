@@ -1,5 +1,4 @@
-use Rattle.std.proofs.Common.{refl, ap, sym, ◌∙◌}
-use Rattle.std.proofs.lemmas.Result.{on_ok_weaker}
+use Rattle.krl_core.proofs.Common.{◌∙◌, ap, on_ok_weaker, refl, sym}
 use Rattle.krl_core.proofs.StoredEntries.{closes_run}
 use Rattle.krl_core.proofs.field_store.FieldStore.close.Goals as goal
 

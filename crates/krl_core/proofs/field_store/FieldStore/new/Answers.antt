@@ -1,12 +1,6 @@
-use Rattle.std.proofs.Common.{ℕ, List, [], sym, subst, ap, ◌∙◌}
-use Rattle.std.specs.Option.{option_to_list}
-use Rattle.serial_set.specs.BitRuns.{BitRuns}
-use Rattle.krl_entries.specs.Changes.{run_entries}
-use Rattle.krl_entries.specs.Revocations.{Revocations}
-use Rattle.krl_entries.specs.Scope.{MeansInScope}
-use Rattle.krl_entries.proofs.SameNames.{same_is}
-use Rattle.krl_entries.proofs.ScopedMeaning.{nothing_within}
-use Rattle.krl_core.specs.Front.{start}
+use Rattle.krl_core.proofs.Common.{[], ◌∙◌, ap, BitRuns, List, MeansInScope, nothing_within}
+use Rattle.krl_core.proofs.Common.{option_to_list, Revocations, run_entries, same_is, start, subst}
+use Rattle.krl_core.proofs.Common.{sym, ℕ}
 use Rattle.krl_core.proofs.StoredEntries.{stored_start}
 use Rattle.krl_core.proofs.field_store.FieldStore.new.Goals as goal
 

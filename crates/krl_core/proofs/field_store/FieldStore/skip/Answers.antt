@@ -1,5 +1,4 @@
-use Rattle.std.proofs.Common.{◌∙◌, sym, refl}
-use Rattle.std.proofs.lemmas.Result.{on_ok_weaker}
+use Rattle.krl_core.proofs.Common.{◌∙◌, on_ok_weaker, refl, sym}
 use Rattle.krl_core.proofs.SkippedBits.{skips_run}
 use Rattle.krl_core.proofs.field_store.FieldStore.skip.Goals as goal
 

@@ -1,13 +1,10 @@
-use Rattle.std.proofs.Common.{◌≡◌, length, subst, arith, ap, ◌∙◌}
-use Rattle.std.proofs.lemmas.Result.{on_ok_weaker}
-use Rattle.krl_core.specs.declared.place.Place.{Place}
-use Rattle.krl_core.specs.declared.place.Place.TheVariants as places
+use Rattle.krl_core.proofs.Common.{◌∙◌, ◌≡◌, ap, arith, InStep, length, on_ok_weaker, Place, subst}
 use Rattle.krl_core.specs.declared.place.bitmap.BitmapPlace.{BitmapPlace}
-use Rattle.krl_core.specs.declared.place.bitmap.BitmapPlace.TheVariants as bitmaps
-use Rattle.krl_core.specs.declared.place.serials.SerialsPlace.TheVariants as serials
-use Rattle.krl_core.specs.FieldStore.{InStep}
 use Rattle.krl_core.proofs.Bits.{good_bits, stores_bits}
 use Rattle.krl_core.proofs.StoredEntries.{grows_more, grows_one}
+use Rattle.krl_core.specs.declared.place.Place.TheVariants as places
+use Rattle.krl_core.specs.declared.place.bitmap.BitmapPlace.TheVariants as bitmaps
+use Rattle.krl_core.specs.declared.place.serials.SerialsPlace.TheVariants as serials
 use Rattle.krl_core.proofs.field_store.FieldStore.store_field.Goals as goal
 
 pub returns-in-Header-Comment-clause-grows : goal.returns-in-Header-Comment-clause-grows

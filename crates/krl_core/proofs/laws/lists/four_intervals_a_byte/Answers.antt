@@ -1,8 +1,4 @@
-use Rattle.std.proofs.Common.{subst, ◌++◌}
-use Rattle.std.specs.List.{concat}
-use Rattle.ssh_wire.specs.Wire.{IsBytes}
-use Rattle.ssh_wire.proofs.Digits.{IsBytes-take, IsBytes-front}
-use Rattle.krl_core.specs.Front.{limit}
+use Rattle.krl_core.proofs.Common.{◌++◌, concat, IsBytes, IsBytes-front, IsBytes-take, limit, subst}
 use Rattle.krl_core.proofs.IntervalBound.{four_a_byte}
 use Rattle.krl_core.proofs.laws.lists.four_intervals_a_byte.Goals as goal
 

@@ -1,5 +1,4 @@
-use Rattle.std.proofs.Common.{sym, ◌∙◌}
-use Rattle.krl_core.specs.Front.{start}
+use Rattle.krl_core.proofs.Common.{◌∙◌, start, sym}
 use Rattle.krl_core.proofs.Fronts.{fronts_compare}
 use Rattle.krl_core.proofs.laws.lists.one_front_begins_the_other.Goals as goal
 

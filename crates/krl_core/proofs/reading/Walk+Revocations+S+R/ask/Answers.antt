@@ -1,8 +1,5 @@
-use Rattle.std.proofs.Common.{◌≡◌, ◌∙◌, ap, subst, sym}
-use Rattle.serial_set.specs.BitRuns.{BitRuns}
-use Rattle.krl_entries.specs.Questions.{asked_in}
-use Rattle.krl_entries.specs.Scope.{Scope}
-use Rattle.krl_core.specs.FieldStore.{InStep, stored_header}
+use Rattle.krl_core.proofs.Common.{◌∙◌, ◌≡◌, ap, asked_in, BitRuns, InStep, Scope, stored_header}
+use Rattle.krl_core.proofs.Common.{subst, sym}
 use Rattle.krl_core.proofs.QuestionWalks.{bounded_found, found_read}
 use Rattle.krl_core.proofs.reading.Walk+Revocations+S+R.ask.Goals as goal
 

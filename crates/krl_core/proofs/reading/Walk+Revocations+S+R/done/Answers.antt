@@ -1,5 +1,4 @@
-use Rattle.krl_core.specs.Reading.{HoldsAll, HoldsInScope}
-use Rattle.krl_entries.specs.Scope.{all}
+use Rattle.krl_core.proofs.Common.{all, HoldsAll, HoldsInScope}
 use Rattle.krl_core.proofs.Lists.{holds_all, list_of_all, list_of_whole, same_holds_within}
 use Rattle.krl_core.proofs.WholeLists.{of_all, whole_holds}
 use Rattle.krl_core.proofs.reading.Walk+Revocations+S+R.done.Goals as goal

@@ -1,6 +1,4 @@
-use Rattle.std.proofs.Common.{◌≡◌, ◌≤◌, ◌+◌, ◌-◌, ◌*◌, false}
-use Rattle.krl_core.specs.Front.{limit}
-use Rattle.krl_core.specs.Reading.{IsBounded}
+use Rattle.krl_core.proofs.Common.{◌*◌, ◌+◌, ◌-◌, ◌≡◌, ◌≤◌, false, IsBounded, limit}
 use Rattle.krl_core.proofs.LongestFronts.{weight}
 use Rattle.krl_core.proofs.WholeLists.{LeadsOn}
 use Rattle.krl_core.proofs.reading.Walk.read_to.Given as goal

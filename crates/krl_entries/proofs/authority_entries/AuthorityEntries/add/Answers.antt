@@ -1,6 +1,4 @@
-use Rattle.std.proofs.Common.{refl}
-use Rattle.krl_entries.specs.Changes.{TakesId}
-use Rattle.krl_entries.specs.AuthorityEntries.{section_of}
+use Rattle.krl_entries.proofs.Common.{refl, section_of, TakesId}
 use Rattle.krl_entries.proofs.authority_entries.AuthorityEntries.add.Goals as goal
 
 pub returns-in_ok-put-in-Id : goal.returns-in_ok-put-in-Id

@@ -1,6 +1,4 @@
-use Rattle.std.proofs.Common.{sym, subst}
-use Rattle.krl_entries.specs.Changes.{AddsTo}
-use Rattle.krl_entries.specs.AuthorityEntries.{sections_of, named_sections}
+use Rattle.krl_entries.proofs.Common.{AddsTo, named_sections, sections_of, subst, sym}
 use Rattle.krl_entries.proofs.SectionChanges.{adds, sorted_rises, starts}
 use Rattle.krl_entries.proofs.entries_by_authority.EntriesByAuthority.add.Goals as goal
 

@@ -1,5 +1,4 @@
-use Rattle.std.proofs.Common.{◌≡◌, ◌<◌, length}
-use Rattle.std.specs.List.{slice_get}
+use Rattle.std.proofs.Common.{◌≡◌, ◌<◌, length, slice_get}
 use Rattle.krl_entries.proofs.entries_by_authority.EntriesByAuthority.at.Given as goal
 
 abbrev pub invariant-loop-listed : goal.invariant-loop-listed

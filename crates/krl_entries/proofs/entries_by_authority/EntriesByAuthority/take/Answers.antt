@@ -1,6 +1,4 @@
-use Rattle.std.proofs.Common.{sym, subst}
-use Rattle.krl_entries.specs.Changes.{AddsTo}
-use Rattle.krl_entries.specs.AuthorityEntries.{sections_of, named_sections}
+use Rattle.krl_entries.proofs.Common.{AddsTo, named_sections, sections_of, subst, sym}
 use Rattle.krl_entries.proofs.SeparateSections.{takes}
 use Rattle.krl_entries.proofs.SectionChanges.{sorted_rises, starts}
 use Rattle.krl_entries.proofs.entries_by_authority.EntriesByAuthority.take.Goals as goal

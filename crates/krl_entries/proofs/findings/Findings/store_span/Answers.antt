@@ -1,7 +1,4 @@
-use Rattle.std.proofs.Common.{[], arith, ◌∷◌}
-use Rattle.std.specs.Prelude.{Some}
-use Rattle.std.proofs.lemmas.Result.{on_ok_weaker}
-use Rattle.krl_entries.specs.Entry.{RangeEntry}
+use Rattle.krl_entries.proofs.Common.{[], ◌∷◌, arith, on_ok_weaker, RangeEntry, Some}
 use Rattle.krl_entries.proofs.AddedMeaning.{nothing_more_within}
 use Rattle.krl_entries.proofs.AddedFindings.{more_from, within_or_same}
 use Rattle.krl_entries.proofs.QuestionAnswers.{no_serial}

@@ -1,8 +1,4 @@
-use Rattle.std.proofs.Common.{◌∷◌, [], sym, ◌∙◌}
-use Rattle.std.specs.Prelude.{Some}
-use Rattle.std.proofs.lemmas.Bool.{false≢true}
-use Rattle.std.proofs.lemmas.Result.{on_ok_weaker}
-use Rattle.krl_entries.specs.Entry.{KeyEntry}
+use Rattle.krl_entries.proofs.Common.{[], ◌∙◌, ◌∷◌, false≢true, KeyEntry, on_ok_weaker, Some, sym}
 use Rattle.krl_entries.proofs.AddedFindings.{within_or_same}
 use Rattle.krl_entries.proofs.QuestionAnswers.{no_key}
 use Rattle.krl_entries.proofs.AddedMeaning.{means_more_within, nothing_more_within}

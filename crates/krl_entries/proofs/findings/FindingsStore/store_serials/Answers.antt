@@ -1,8 +1,5 @@
-use Rattle.std.proofs.Common.{ap, arith, List, subst, Some, ◌∙◌}
-use Rattle.std.proofs.lemmas.List.{take_all}
-use Rattle.serial_set.specs.declared.span.Span.{Span}
-use Rattle.krl_entries.specs.Changes.{run_entries}
-use Rattle.krl_entries.specs.Scope.{MeansMoreInScope}
+use Rattle.krl_entries.proofs.Common.{◌∙◌, ap, arith, List, MeansMoreInScope, run_entries, Some}
+use Rattle.krl_entries.proofs.Common.{Span, subst, take_all}
 use Rattle.krl_entries.proofs.AddedFindings.{next_span, puts_none, puts_more}
 use Rattle.krl_entries.proofs.findings.FindingsStore.store_serials.Goals as goal
 

@@ -1,6 +1,4 @@
-use Rattle.std.proofs.Common.{subst}
-use Rattle.krl_entries.specs.Gathered.{HasPlace}
-use Rattle.krl_entries.specs.AuthorityEntries.{apart_of, section_of}
+use Rattle.krl_entries.proofs.Common.{apart_of, HasPlace, section_of, subst}
 use Rattle.krl_entries.proofs.SeparateSections.{takes_out_place}
 use Rattle.krl_entries.proofs.Gathering.{apart_done, apart_place, apart_refused, whole_orderly}
 use Rattle.krl_entries.proofs.gathered.Gathered.put.Goals as goal

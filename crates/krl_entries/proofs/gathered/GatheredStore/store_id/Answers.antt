@@ -1,6 +1,4 @@
-use Rattle.std.proofs.lemmas.Result.{on_ok_weaker}
-use Rattle.krl_entries.specs.declared.addition.Addition.TheVariants.{Id}
-use Rattle.krl_entries.specs.Scope.{all}
+use Rattle.krl_entries.proofs.Common.{all, Id, on_ok_weaker}
 use Rattle.krl_entries.proofs.Gathering.{adds_mean_more, contents_stay, held_more, stored_more}
 use Rattle.krl_entries.proofs.AddedMeaning.{means_more_within}
 use Rattle.krl_entries.proofs.gathered.GatheredStore.store_id.Goals as goal

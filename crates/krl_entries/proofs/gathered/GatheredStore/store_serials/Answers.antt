@@ -1,8 +1,4 @@
-use Rattle.std.proofs.Common.{ℕ, arith, subst}
-use Rattle.std.proofs.lemmas.Result.{on_ok_weaker}
-use Rattle.krl_entries.specs.declared.addition.Addition.TheVariants.{Serials}
-use Rattle.krl_entries.specs.Revocations.{IsStoredAtMost}
-use Rattle.krl_entries.specs.Scope.{all}
+use Rattle.krl_entries.proofs.Common.{all, arith, IsStoredAtMost, on_ok_weaker, Serials, subst, ℕ}
 use Rattle.krl_entries.proofs.Gathering.{adds_mean_more, contents_stay, held_more, stored_more}
 use Rattle.krl_entries.proofs.AddedMeaning.{means_more_within}
 use Rattle.krl_entries.proofs.gathered.GatheredStore.store_serials.Goals as goal

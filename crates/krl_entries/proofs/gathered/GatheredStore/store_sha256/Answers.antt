@@ -1,5 +1,4 @@
-use Rattle.std.proofs.lemmas.Result.{on_ok_weaker}
-use Rattle.krl_entries.specs.Scope.{all}
+use Rattle.krl_entries.proofs.Common.{all, on_ok_weaker}
 use Rattle.krl_entries.proofs.AddedMeaning.{means_more_within}
 use Rattle.krl_entries.proofs.gathered.GatheredStore.store_sha256.Goals as goal
 

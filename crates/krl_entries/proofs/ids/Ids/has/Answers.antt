@@ -1,7 +1,4 @@
-use Rattle.std.proofs.Common.{ap, sym, subst, ◌∙◌}
-use Rattle.std.specs.List.{Contains}
-use Rattle.std.proofs.lemmas.Bool.{false≢true}
-use Rattle.krl_entries.specs.Ids.{GoesTo, ids_of}
+use Rattle.krl_entries.proofs.Common.{◌∙◌, ap, Contains, false≢true, GoesTo, ids_of, subst, sym}
 use Rattle.krl_entries.proofs.OrderedTexts.{not_there}
 use Rattle.krl_entries.proofs.ids.Ids.has.Goals as goal
 

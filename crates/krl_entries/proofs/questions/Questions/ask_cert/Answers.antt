@@ -1,6 +1,5 @@
 -- Topics that are added first stay topics.
-use Rattle.std.proofs.Common.{[]}
-use Rattle.krl_entries.specs.Naming.{KeyOf}
+use Rattle.krl_entries.proofs.Common.{[], KeyOf}
 use Rattle.krl_entries.proofs.MoreQuestions.{on_ok_with, under_stays}
 use Rattle.krl_entries.proofs.questions.Questions.ask_cert.Goals as goal
 

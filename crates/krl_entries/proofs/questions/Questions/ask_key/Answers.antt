@@ -1,8 +1,4 @@
-use Rattle.std.proofs.Common.{refl}
-use Rattle.std.proofs.lemmas.Result.{on_ok_weaker}
-use Rattle.krl_entries.specs.Entry.{KeyEntry}
-use Rattle.krl_entries.specs.Naming.{KeyOf}
-use Rattle.krl_entries.specs.Questions.{Asked}
+use Rattle.krl_entries.proofs.Common.{Asked, KeyEntry, KeyOf, on_ok_weaker, refl}
 use Rattle.krl_entries.proofs.MoreQuestions.{asks_entry, finds_key, now_held}
 use Rattle.krl_entries.proofs.questions.Questions.ask_key.Goals as goal
 

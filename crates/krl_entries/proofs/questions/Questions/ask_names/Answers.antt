@@ -1,7 +1,5 @@
 -- The plain key stays a topic when the names of the certificate are added.
-use Rattle.std.proofs.Common.{sym, subst}
-use Rattle.krl_entries.specs.Naming.{KeyOf}
-use Rattle.krl_entries.specs.Questions.{HasCert}
+use Rattle.krl_entries.proofs.Common.{HasCert, KeyOf, subst, sym}
 use Rattle.krl_entries.proofs.MoreQuestions.{on_ok_with}
 use Rattle.krl_entries.proofs.questions.Questions.ask_names.Goals as goal
 

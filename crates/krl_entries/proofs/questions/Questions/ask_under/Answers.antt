@@ -1,14 +1,13 @@
 -- The key ID becomes a topic, and then the serial number if there is one.
-use Rattle.std.proofs.Common.{◌≤◌, ◌<◌, refl, inl, inr, arith}
-use Rattle.std.proofs.lemmas.Result.{on_ok_weaker}
-use Rattle.krl_entries.specs.Revocations.{HoldsId, serials_in}
-use Rattle.krl_entries.specs.Entry.{IdEntry, RangeEntry}
-use Rattle.krl_entries.specs.Naming.{IdOf, SerialOf}
-use Rattle.krl_entries.specs.Questions.{Asked, AsksMore, FindsIn}
-use Rattle.krl_entries.proofs.MoreQuestions.{asks_entry, finds_name, just_id, just_serial, now_held, serials_with_id, serials_with_one}
-use Rattle.krl_entries.proofs.questions.Questions.ask_under.Goals as goal
-use Rattle.krl_entries.proofs.questions.Questions.ask_under.Goals.{In_ok-add_id, In_ok-find_id, In_ok-add_serials}
+use Rattle.krl_entries.proofs.Common.{◌<◌, ◌≤◌, arith, Asked, AsksMore, FindsIn, HoldsId, IdEntry}
+use Rattle.krl_entries.proofs.Common.{IdOf, inl, inr, on_ok_weaker, RangeEntry, refl, SerialOf}
+use Rattle.krl_entries.proofs.Common.{serials_in}
+use Rattle.krl_entries.proofs.MoreQuestions.{asks_entry, finds_name, just_id, just_serial, now_held}
+use Rattle.krl_entries.proofs.MoreQuestions.{serials_with_id, serials_with_one}
+use Rattle.krl_entries.proofs.questions.Questions.ask_under.Goals.{In_ok-add_id, In_ok-find_id}
+use Rattle.krl_entries.proofs.questions.Questions.ask_under.Goals.{In_ok-add_serials}
 use Rattle.krl_entries.proofs.questions.Questions.ask_under.Given.{Over}
+use Rattle.krl_entries.proofs.questions.Questions.ask_under.Goals as goal
 
 -- ---- the key ID
 

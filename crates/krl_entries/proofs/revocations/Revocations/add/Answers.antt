@@ -1,9 +1,8 @@
-use Rattle.std.proofs.Common.{◌≤◌, ◌+◌, length, sym, subst, arith}
-use Rattle.krl_entries.specs.Changes.{HoldsMore, bytes_in}
-use Rattle.krl_entries.specs.Revocations.{revocations_of, IsNamed, Means, held, stored}
-use Rattle.krl_entries.specs.Texts.{texts_of}
+use Rattle.krl_entries.proofs.Common.{◌+◌, ◌≤◌, arith, bytes_in, held, HoldsMore, IsNamed, length}
+use Rattle.krl_entries.proofs.Common.{Means, revocations_of, stored, subst, sym, texts_of}
 use Rattle.krl_entries.proofs.Additions.{adds_mean, adds_orderly}
-use Rattle.krl_entries.proofs.Amounts.{adds_held, adds_named, adds_stays, adds_stored, held_stays, named_stored}
+use Rattle.krl_entries.proofs.Amounts.{adds_held, adds_named, adds_stays, adds_stored, held_stays}
+use Rattle.krl_entries.proofs.Amounts.{named_stored}
 use Rattle.krl_entries.proofs.revocations.Revocations.add.Goals as goal
 
 pub invariant_of-self-2 : goal.invariant_of-self-2

@@ -1,6 +1,4 @@
-use Rattle.std.proofs.Common.{sym, subst}
-use Rattle.krl_entries.specs.Revocations.{Means}
-use Rattle.krl_entries.specs.Texts.{texts_of}
+use Rattle.krl_entries.proofs.Common.{Means, subst, sym, texts_of}
 use Rattle.krl_entries.proofs.Keys.{key_orderly, key_mean}
 use Rattle.krl_entries.proofs.revocations.Revocations.add_key.Goals as goal
 

@@ -1,6 +1,5 @@
-use Rattle.std.proofs.Common.{◌≡◌, ◌≤◌, ◌+◌, length, sym, subst, arith, rules}
-use Rattle.krl_entries.specs.Revocations.{Means, revocations_of, stored}
-use Rattle.krl_entries.specs.Texts.{texts_of}
+use Rattle.krl_entries.proofs.Common.{◌+◌, ◌≡◌, ◌≤◌, arith, length, Means, revocations_of, rules}
+use Rattle.krl_entries.proofs.Common.{stored, subst, sym, texts_of}
 use Rattle.krl_entries.proofs.AddedSections.{put_size}
 use Rattle.krl_entries.proofs.Sets.{set_puts}
 use Rattle.krl_entries.proofs.Keys.{sha1_orderly, sha1_mean}

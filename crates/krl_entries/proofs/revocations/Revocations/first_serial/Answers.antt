@@ -1,7 +1,4 @@
-use Rattle.std.proofs.Common.{refl}
-use Rattle.krl_entries.specs.AuthorityEntries.{section_of}
-use Rattle.krl_entries.specs.Revocations.{HoldsSerial}
-use Rattle.serial_set.specs.Span.{Covers}
+use Rattle.krl_entries.proofs.Common.{Covers, HoldsSerial, refl, section_of}
 use Rattle.krl_entries.proofs.SectionLookup.{no_serial_under, serial_under}
 use Rattle.krl_entries.proofs.FirstSerials.{first_as}
 use Rattle.krl_entries.proofs.revocations.Revocations.first_serial.Goals as goal

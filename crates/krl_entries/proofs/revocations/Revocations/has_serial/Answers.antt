@@ -1,8 +1,6 @@
-use Rattle.std.proofs.Common.{refl}
-use Rattle.std.proofs.Math.Logic.Iff as Iff
-use Rattle.std.proofs.lemmas.Bool.{false≢true}
-use Rattle.krl_entries.specs.AuthorityEntries.{section_of}
+use Rattle.krl_entries.proofs.Common.{false≢true, refl, section_of}
 use Rattle.krl_entries.proofs.SectionLookup.{no_serial_under, serial_under}
+use Rattle.std.proofs.Math.Logic.Iff as Iff
 use Rattle.krl_entries.proofs.revocations.Revocations.has_serial.Goals as goal
 
 pub returns-in-None : goal.returns-in-None

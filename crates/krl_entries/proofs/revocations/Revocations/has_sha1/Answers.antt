@@ -1,6 +1,4 @@
-use Rattle.std.proofs.Common.{arith}
-use Rattle.std.proofs.lemmas.Bool.{false≢true}
-use Rattle.sha1.specs.Sha1.{sha1}
+use Rattle.krl_entries.proofs.Common.{arith, false≢true, sha1}
 use Rattle.krl_entries.proofs.Sets.{set_has}
 use Rattle.krl_entries.proofs.revocations.Revocations.has_sha1.Goals as goal
 

@@ -1,6 +1,4 @@
-use Rattle.std.proofs.Common.{arith}
-use Rattle.std.proofs.lemmas.Bool.{false≢true}
-use Rattle.sha2.specs.Sha256.{sha256}
+use Rattle.krl_entries.proofs.Common.{arith, false≢true, sha256}
 use Rattle.krl_entries.proofs.Sets.{set_has}
 use Rattle.krl_entries.proofs.revocations.Revocations.has_sha256.Goals as goal
 

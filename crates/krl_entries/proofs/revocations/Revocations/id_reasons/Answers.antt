@@ -1,6 +1,5 @@
 -- A key ID under its own authority, and under all authorities.
-use Rattle.std.proofs.Common.{[]}
-use Rattle.krl_entries.specs.Naming.{IdOf}
+use Rattle.krl_entries.proofs.Common.{[], IdOf}
 use Rattle.krl_entries.proofs.ReasonTests.{both_are}
 use Rattle.krl_entries.proofs.revocations.Revocations.id_reasons.Goals as goal
 

@@ -1,5 +1,4 @@
-use Rattle.std.proofs.Common.{refl}
-use Rattle.krl_entries.specs.AuthorityEntries.{section_of}
+use Rattle.krl_entries.proofs.Common.{refl, section_of}
 use Rattle.krl_entries.proofs.SectionLookup.{no_serial_under, serial_under}
 use Rattle.krl_entries.proofs.revocations.Revocations.may_have.Goals as goal
 

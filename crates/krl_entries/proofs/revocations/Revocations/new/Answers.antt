@@ -1,5 +1,4 @@
-use Rattle.std.proofs.Common.{[], rules, subst, sym}
-use Rattle.krl_entries.specs.Revocations.{Revocations, Means}
+use Rattle.krl_entries.proofs.Common.{[], Means, Revocations, rules, subst, sym}
 use Rattle.krl_entries.proofs.SameMeaning.{nothing_meant}
 use Rattle.krl_entries.proofs.revocations.Revocations.new.Goals as goal
 

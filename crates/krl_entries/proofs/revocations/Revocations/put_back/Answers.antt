@@ -1,7 +1,4 @@
-use Rattle.krl_entries.specs.AuthorityEntries.{section_of}
-use Rattle.krl_entries.specs.Revocations.{IsOrderly, revocations_of}
-use Rattle.krl_entries.specs.Texts.{texts_of}
-use Rattle.std.proofs.Common.{sym, subst}
+use Rattle.krl_entries.proofs.Common.{IsOrderly, revocations_of, section_of, subst, sym, texts_of}
 use Rattle.krl_entries.proofs.Gathering.{whole_orderly}
 use Rattle.krl_entries.proofs.revocations.Revocations.put_back.Goals as goal
 

@@ -1,5 +1,4 @@
-use Rattle.std.proofs.Common.{ap, ◌∙◌}
-use Rattle.krl_entries.specs.Reasons.{any_reason, revokes}
+use Rattle.krl_entries.proofs.Common.{◌∙◌, any_reason, ap, revokes}
 use Rattle.krl_entries.proofs.RevokedTests.{answer_meant}
 use Rattle.krl_entries.proofs.revocations.Revocations.query.Goals as goal
 

@@ -1,7 +1,6 @@
 -- The reasons are those of the key and of a certificate's names.
-use Rattle.std.proofs.Common.{◌≡◌, subst}
-use Rattle.krl_entries.specs.Reasons.{held_reasons, no_key_reasons, no_name_reasons}
-use Rattle.krl_entries.specs.Tested.{holds_name}
+use Rattle.krl_entries.proofs.Common.{◌≡◌, held_reasons, holds_name, no_key_reasons}
+use Rattle.krl_entries.proofs.Common.{no_name_reasons, subst}
 use Rattle.krl_entries.specs.declared.reasons.Reasons.{Reasons}
 use Rattle.krl_entries.proofs.ReasonTests.{found_none, found_some, reasons_answer}
 use Rattle.krl_entries.proofs.revocations.Revocations.reasons.Goals as goal

@@ -1,6 +1,5 @@
 -- A serial number under its own authority, and under all authorities.
-use Rattle.std.proofs.Common.{[]}
-use Rattle.krl_entries.specs.Naming.{SerialOf}
+use Rattle.krl_entries.proofs.Common.{[], SerialOf}
 use Rattle.krl_entries.proofs.ReasonTests.{both_are}
 use Rattle.krl_entries.proofs.revocations.Revocations.serial_reasons.Goals as goal
 

@@ -1,5 +1,4 @@
-use Rattle.std.proofs.Common.{◌≡◌, ◌<◌, length}
-use Rattle.std.specs.List.{slice_get}
+use Rattle.std.proofs.Common.{◌≡◌, ◌<◌, length, slice_get}
 use Rattle.krl_entries.proofs.texts.Texts.at.Given as goal
 
 abbrev pub invariant-loop-text : goal.invariant-loop-text

@@ -1,8 +1,5 @@
-use Rattle.std.proofs.Common.{◌≡◌, ◌+◌, ◌%◌, ◌∷◌, inl, inr, arith, refl, take}
-use Rattle.std.proofs.lemmas.Bool.{cases_lt}
-use Rattle.krl_plan.specs.declared.group.Sort.TheVariants.{Bitmap}
-use Rattle.krl_plan.specs.Bitmaps.{last_of}
-use Rattle.krl_plan.specs.Search.{cell_with}
+use Rattle.krl_plan.proofs.Common.{◌%◌, ◌+◌, ◌∷◌, ◌≡◌, arith, Bitmap, cases_lt, cell_with, inl, inr}
+use Rattle.krl_plan.proofs.Common.{last_of, refl, take}
 use Rattle.krl_plan.proofs.BestCandidates.{group_of}
 use Rattle.krl_plan.proofs.bitmaps.Bitmaps.best.Goals as goal
 

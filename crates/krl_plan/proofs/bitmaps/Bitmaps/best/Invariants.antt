@@ -1,9 +1,5 @@
-use Rattle.std.proofs.Common.{ℕ, ◌<◌, List, ◌∷◌}
-use Rattle.serial_set.specs.declared.span.Span.{Span}
-use Rattle.serial_set.specs.Span.{IsRuns}
-use Rattle.krl_plan.specs.declared.group.Sort.TheVariants.{Bitmap}
-use Rattle.krl_plan.specs.Bitmaps.{IsBitmapOf, HasBitmaps}
-use Rattle.krl_plan.specs.Search.{IsBestOf, IsCell}
+use Rattle.krl_plan.proofs.Common.{◌<◌, ◌∷◌, Bitmap, HasBitmaps, IsBestOf, IsBitmapOf, IsCell}
+use Rattle.krl_plan.proofs.Common.{IsRuns, List, Span, ℕ}
 use Rattle.krl_plan.proofs.bitmaps.Bitmaps.best.Given as goal
 
 abbrev pub invariant-loop-remainder : goal.invariant-loop-remainder

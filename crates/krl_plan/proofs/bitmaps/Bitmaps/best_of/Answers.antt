@@ -1,7 +1,7 @@
 use Rattle.std.proofs.Common.{◌+◌, ◌^◌, ◌<◌, ◌≤◌, ◌-◌, arith, get_or, refl}
 use Rattle.krl_plan.proofs.BitmapCandidates.{before_of, bitmap_best, bitmap_is}
-use Rattle.krl_plan.proofs.bitmaps.Bitmaps.best_of.Goals as goal
 use Rattle.krl_plan.proofs.bitmaps.Bitmaps.best_of.Goals.{After-bytes_before, In-Some}
+use Rattle.krl_plan.proofs.bitmaps.Bitmaps.best_of.Goals as goal
 
 ends : (c : In-Some) → (c.args.at < c.in-Some.candidate.end) × (c.in-Some.candidate.end ≤ c.args.at + 1024)
 ends c =

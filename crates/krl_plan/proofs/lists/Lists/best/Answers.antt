@@ -1,7 +1,7 @@
 use Rattle.std.proofs.Common.{◌+◌, ◌^◌, ◌<◌, ◌≤◌, ◌-◌, refl, arith}
 use Rattle.krl_plan.proofs.ListCandidates.{list_best, list_is}
-use Rattle.krl_plan.proofs.lists.Lists.best.Goals as goal
 use Rattle.krl_plan.proofs.lists.Lists.best.Goals.{In-Some}
+use Rattle.krl_plan.proofs.lists.Lists.best.Goals as goal
 
 known : (c : In-Some) → (c.args.self.now.base ≤ c.in-Some.candidate.value) × ((c.args.at < c.in-Some.candidate.end) × (c.in-Some.candidate.end ≤ c.args.at + 1024)) × (c.in-Some.candidate.value < 2 ^ 101)
 known c =

@@ -1,9 +1,6 @@
-use Rattle.std.proofs.Common.{◌≡◌, ℕ, ◌+◌, ◌-◌, ◌^◌, List, ◌∷◌, arith, length, refl, rules, subst}
-use Rattle.serial_set.specs.declared.span.Span.{Span}
-use Rattle.krl_plan.specs.declared.group.Sort.TheVariants.{Range}
+use Rattle.krl_plan.proofs.Common.{◌+◌, ◌-◌, ◌^◌, ◌∷◌, ◌≡◌, arith, IsBest, IsKnown, Knows, length}
+use Rattle.krl_plan.proofs.Common.{List, Range, refl, rules, Span, subst, ℕ}
 use Rattle.krl_plan.specs.declared.table.Table.{Table}
-use Rattle.krl_plan.specs.Search.{IsBest}
-use Rattle.krl_plan.specs.Table.{IsKnown, Knows}
 use Rattle.krl_plan.proofs.BestCandidates.{best_of_all, group_of}
 use Rattle.krl_plan.proofs.ChosenGroups.{group_few}
 use Rattle.krl_plan.proofs.CostTable.{bounded_more, choices_more, costs_more}

@@ -1,9 +1,7 @@
-use Rattle.std.proofs.Common.{◌≡◌, ℕ, ◌+◌, ◌-◌, List, ◌++◌, ◌<◌, ◌∷◌, ap, arith, drop, get_or, length, subst, sym, ◌∙◌}
-use Rattle.std.proofs.lemmas.List.{drop-append-le, drop_more}
-use Rattle.serial_set.specs.declared.span.Span.{Span}
-use Rattle.serial_set.specs.Span.{IsRuns}
+use Rattle.krl_plan.proofs.Common.{◌++◌, ◌+◌, ◌-◌, ◌<◌, ◌∙◌, ◌∷◌, ◌≡◌, ap, arith, drop}
+use Rattle.krl_plan.proofs.Common.{drop-append-le, drop_more, get_or, IsRuns, Knows, length, List}
+use Rattle.krl_plan.proofs.Common.{Span, subst, sym, ℕ}
 use Rattle.krl_plan.proofs.ChosenGroups.{IsRuns-drop}
-use Rattle.krl_plan.specs.Table.{Knows}
 use Rattle.krl_plan.proofs.ZeroSpan.{zero_span}
 use Rattle.krl_plan.proofs.table.Table.add_all.Goals as goal
 

@@ -1,7 +1,4 @@
-use Rattle.std.proofs.Common.{List, ◌++◌, drop}
-use Rattle.serial_set.specs.declared.span.Span.{Span}
-use Rattle.serial_set.specs.Span.{IsRuns}
-use Rattle.krl_plan.specs.Table.{Knows}
+use Rattle.krl_plan.proofs.Common.{◌++◌, drop, IsRuns, Knows, List, Span}
 use Rattle.krl_plan.proofs.table.Table.add_all.Given as goal
 
 abbrev pub invariant-loop-i : goal.invariant-loop-i

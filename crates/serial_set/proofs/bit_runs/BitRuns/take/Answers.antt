@@ -1,7 +1,6 @@
-use Rattle.std.proofs.Common.{◌≡◌, ◌+◌, ◌-◌, ◌*◌, ap, inl, inr, subst, arith}
+use Rattle.serial_set.proofs.Common.{◌*◌, ◌+◌, ◌-◌, ◌≡◌, ap, arith, BitNames, finished_of, inl, inr}
+use Rattle.serial_set.proofs.Common.{subst}
 use Rattle.std.proofs.lemmas.Grind.{common_steps}
-use Rattle.serial_set.specs.BitRuns.{BitNames}
-use Rattle.serial_set.specs.Finished.{finished_of}
 use Rattle.serial_set.proofs.FedBitmaps.{byte_fits}
 use Rattle.serial_set.proofs.ByteRuns.{step_positive, finished_runs}
 use Rattle.serial_set.proofs.bit_runs.BitRuns.take.Goals as goal

@@ -1,5 +1,4 @@
-use Rattle.std.proofs.Common.{◌∙◌, ◌++◌, ◌∷◌, [], ap, arith, append_assoc}
-use Rattle.serial_set.specs.Walk.{piece_of}
+use Rattle.serial_set.proofs.Common.{[], ◌++◌, ◌∙◌, ◌∷◌, ap, append_assoc, arith, piece_of}
 use Rattle.serial_set.proofs.JoinedSpans.{ends_below, joined_after, joined_first, joined_last}
 use Rattle.serial_set.proofs.piece.Piece.join.Goals as goal
 

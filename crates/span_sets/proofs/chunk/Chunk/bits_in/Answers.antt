@@ -1,9 +1,5 @@
-use Rattle.std.proofs.Common.{◌≡◌, ℕ, ◌-◌, ◌*◌, sym, subst, ◌∙◌, arith}
-use Rattle.std.specs.Prelude.{false}
-use Rattle.std.proofs.lemmas.Nat.Bits.{bit_at-zero}
-use Rattle.serial_set.specs.Span.{Covers}
-use Rattle.span_sets.specs.Words.{BitCovers}
-use Rattle.span_sets.specs.Chunk.{is_span, window_of, members_in}
+use Rattle.span_sets.proofs.Common.{◌*◌, ◌-◌, ◌∙◌, ◌≡◌, arith, bit_at-zero, BitCovers, Covers}
+use Rattle.span_sets.proofs.Common.{false, is_span, members_in, subst, sym, window_of, ℕ}
 use Rattle.span_sets.proofs.ChunkMembers.{in_word}
 use Rattle.span_sets.proofs.chunk.Chunk.bits_in.Goals as goal
 

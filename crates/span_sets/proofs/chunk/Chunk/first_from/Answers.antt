@@ -1,7 +1,5 @@
-use Rattle.std.proofs.Common.{◌≡◌, ◌-◌, ◌+◌, Some, None, sym, subst, ap, ◌∙◌}
-use Rattle.std.specs.Prelude.{false}
-use Rattle.span_sets.specs.Chunk.{is_span, members_in}
-use Rattle.span_sets.specs.Members.{IsFirst, IsFirstBit}
+use Rattle.span_sets.proofs.Common.{◌+◌, ◌-◌, ◌∙◌, ◌≡◌, ap, false, is_span, IsFirst, IsFirstBit}
+use Rattle.span_sets.proofs.Common.{members_in, None, Some, subst, sym}
 use Rattle.span_sets.proofs.BitMembers.{word_none, word_first}
 use Rattle.span_sets.proofs.chunk.Chunk.first_from.Goals as goal
 

@@ -1,8 +1,5 @@
-use Rattle.std.proofs.Common.{◌≡◌, ◌-◌, ◌*◌, ◌/◌, ◌%◌, sym, ap, ◌∙◌, arith}
-use Rattle.std.specs.Prelude.{false}
-use Rattle.std.specs.Int.{bit_at}
-use Rattle.std.proofs.lemmas.Bool.{eqb-true}
-use Rattle.span_sets.specs.Chunk.{is_span, window_of, bits_of}
+use Rattle.span_sets.proofs.Common.{◌%◌, ◌*◌, ◌-◌, ◌/◌, ◌∙◌, ◌≡◌, ap, arith, bit_at, bits_of}
+use Rattle.span_sets.proofs.Common.{eqb-true, false, is_span, sym, window_of}
 use Rattle.span_sets.proofs.ChunkMembers.{in_word}
 use Rattle.span_sets.proofs.chunk.Chunk.has.Goals as goal
 

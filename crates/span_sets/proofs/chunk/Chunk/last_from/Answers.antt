@@ -1,9 +1,6 @@
-use Rattle.std.proofs.Common.{◌≡◌, ◌-◌, ◌+◌, ◌<◌, ◌≤◌, ℕ, sym, subst, ap, ◌∙◌, arith}
-use Rattle.std.specs.Prelude.{false}
-use Rattle.serial_set.specs.Span.{Covers}
-use Rattle.std.specs.Int.{bit_at}
-use Rattle.span_sets.specs.Chunk.{is_span, bits_of, hi_of, members_in}
-use Rattle.span_sets.specs.Members.{GoesOn}
+use Rattle.span_sets.proofs.Common.{◌+◌, ◌-◌, ◌<◌, ◌∙◌, ◌≡◌, ◌≤◌, ap, arith, bit_at, bits_of}
+use Rattle.span_sets.proofs.Common.{Covers, false, GoesOn, hi_of, is_span, members_in, subst, sym}
+use Rattle.span_sets.proofs.Common.{ℕ}
 use Rattle.span_sets.proofs.ChunkMembers.{in_word, word_ends}
 use Rattle.span_sets.proofs.BitMembers.{word_on, word_stops}
 use Rattle.span_sets.proofs.chunk.Chunk.last_from.Goals as goal

@@ -1,9 +1,7 @@
-use Rattle.std.proofs.Common.{◌≡◌, ◌+◌, ◌*◌, refl, sym, ap, subst, ◌∙◌}
-use Rattle.std.specs.Prelude.{false, ◌↔◌, ◌⊎◌, ℕ}
+use Rattle.span_sets.proofs.Common.{◌*◌, ◌+◌, ◌↔◌, ◌∙◌, ◌≡◌, ◌⊎◌, ap, BitCovers, Covers, false}
+use Rattle.span_sets.proofs.Common.{hi_of, is_span, lo_of, members_in, refl, subst, sym, window_of}
+use Rattle.span_sets.proofs.Common.{ℕ}
 use Rattle.std.proofs.lemmas.Option.{IfSome_then}
-use Rattle.serial_set.specs.Span.{Covers}
-use Rattle.span_sets.specs.Words.{BitCovers}
-use Rattle.span_sets.specs.Chunk.{is_span, window_of, lo_of, hi_of, members_in}
 use Rattle.span_sets.proofs.ChunkMembers.{word_ends}
 use Rattle.span_sets.proofs.ReplacementMembers.{with_bits}
 use Rattle.span_sets.proofs.chunk.Chunk.widened.Goals as goal

@@ -1,9 +1,5 @@
-use Rattle.std.proofs.Common.{◌≡◌, ◌+◌, ◌*◌, ap, ◌∙◌, arith, sym}
-use Rattle.std.specs.Prelude.{false, bit_or}
-use Rattle.std.proofs.lemmas.Bool.{lt-leb}
-use Rattle.std.proofs.lemmas.Nat.{or_lt}
-use Rattle.span_sets.specs.Words.{singles}
-use Rattle.span_sets.specs.Chunk.{is_span, window_of}
+use Rattle.span_sets.proofs.Common.{◌*◌, ◌+◌, ◌∙◌, ◌≡◌, ap, arith, bit_or, false, is_span, lt-leb}
+use Rattle.span_sets.proofs.Common.{or_lt, singles, sym, window_of}
 use Rattle.span_sets.proofs.ReplacementMembers.{all_with, word_gap}
 use Rattle.span_sets.proofs.ChunkMembers.{word_ends}
 use Rattle.span_sets.proofs.chunk.Chunk.with.Goals as goal

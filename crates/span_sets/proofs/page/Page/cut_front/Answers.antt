@@ -1,5 +1,4 @@
-use Rattle.std.proofs.Common.{sym, ap, length, ◌∙◌, arith, length-drop}
-use Rattle.span_sets.specs.Positions.{end_of}
+use Rattle.span_sets.proofs.Common.{◌∙◌, ap, arith, end_of, length, length-drop, sym}
 use Rattle.span_sets.proofs.ChunkOrder.{end_drop}
 use Rattle.span_sets.proofs.page.Page.cut_front.Goals as goal
 

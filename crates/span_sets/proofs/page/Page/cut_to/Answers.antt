@@ -1,7 +1,5 @@
-use Rattle.std.proofs.Common.{◌<◌, ◌≤◌, take, drop, subst, sym}
-use Rattle.std.specs.List.{All}
-use Rattle.span_sets.specs.Chunk.{hi_of, ChunksFrom}
-use Rattle.span_sets.specs.Pages.{chunks_in}
+use Rattle.span_sets.proofs.Common.{◌<◌, ◌≤◌, All, chunks_in, ChunksFrom, drop, hi_of, subst, sym}
+use Rattle.span_sets.proofs.Common.{take}
 use Rattle.span_sets.proofs.PageChunks.{cut_page}
 use Rattle.span_sets.proofs.ChunkOrder.{count_less, his_rise}
 use Rattle.span_sets.proofs.page.Page.cut_to.Goals as goal

@@ -1,9 +1,5 @@
-use Rattle.std.proofs.Common.{◌≡◌, ◌-◌, ◌<◌, ◌≤◌, length, take, drop, subst, sym, ap, ◌∙◌}
-use Rattle.std.specs.List.{All}
-use Rattle.std.specs.List.Sorted.{IsNonDecreasingBy}
-use Rattle.std.proofs.lemmas.List.{take_rest}
-use Rattle.span_sets.specs.Chunk.{hi_of, ChunksFrom}
-use Rattle.span_sets.specs.Pages.{chunks_in}
+use Rattle.span_sets.proofs.Common.{◌-◌, ◌<◌, ◌∙◌, ◌≡◌, ◌≤◌, All, ap, chunks_in, ChunksFrom, drop}
+use Rattle.span_sets.proofs.Common.{hi_of, IsNonDecreasingBy, length, subst, sym, take, take_rest}
 use Rattle.span_sets.proofs.ChunkOrder.{his_rise, order_drop}
 use Rattle.span_sets.proofs.PageChunks.{replaced_at}
 use Rattle.span_sets.proofs.ResultFacts.{on_ok}

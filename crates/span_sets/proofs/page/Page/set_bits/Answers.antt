@@ -1,5 +1,4 @@
-use Rattle.std.proofs.Common.{◌<◌, length, sym, ap, subst, arith, ◌∙◌}
-use Rattle.std.proofs.lemmas.List.{length-set}
+use Rattle.std.proofs.Common.{◌<◌, length, sym, ap, subst, arith, ◌∙◌, length-set}
 use Rattle.span_sets.specs.Chunk.{hi_of, ChunksFrom}
 use Rattle.span_sets.proofs.ChunkOrder.{end_set, his_rise}
 use Rattle.span_sets.proofs.PageChunks.{widened_at}

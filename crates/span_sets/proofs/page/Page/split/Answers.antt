@@ -1,5 +1,4 @@
-use Rattle.std.proofs.Common.{subst, sym}
-use Rattle.span_sets.specs.Chunk.{ChunksFrom}
+use Rattle.span_sets.proofs.Common.{ChunksFrom, subst, sym}
 use Rattle.span_sets.proofs.ChunkOrder.{his_rise}
 use Rattle.span_sets.proofs.page.Page.split.Goals as goal
 

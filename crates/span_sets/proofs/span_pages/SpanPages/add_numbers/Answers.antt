@@ -1,6 +1,4 @@
-use Rattle.std.proofs.Common.{◌*◌, ◌/◌, arith}
-use Rattle.span_sets.specs.Chunk.{runs_of}
-use Rattle.span_sets.specs.SpanPages.{chunks_held}
+use Rattle.span_sets.proofs.Common.{◌*◌, ◌/◌, arith, chunks_held, runs_of}
 use Rattle.span_sets.proofs.NearSpans.{bits_some}
 use Rattle.span_sets.proofs.SetChunks.{adds_mask, mask_has}
 use Rattle.span_sets.proofs.ResultFacts.{on_ok}

@@ -1,8 +1,6 @@
-use Rattle.std.proofs.Common.{arith}
-use Rattle.span_sets.specs.Chunk.{runs_of}
-use Rattle.span_sets.specs.SpanPages.{chunks_held}
-use Rattle.span_sets.specs.Lawful.{runs_of_chunks}
-use Rattle.span_sets.proofs.NearSpans.{adds_none, adds_only, bits_some, covered_is_serial, some_covered}
+use Rattle.span_sets.proofs.Common.{arith, chunks_held, runs_of, runs_of_chunks}
+use Rattle.span_sets.proofs.NearSpans.{adds_none, adds_only, bits_some, covered_is_serial}
+use Rattle.span_sets.proofs.NearSpans.{some_covered}
 use Rattle.span_sets.proofs.ResultFacts.{on_ok}
 use Rattle.span_sets.proofs.span_pages.SpanPages.add_spans.Goals as goal
 

@@ -1,7 +1,4 @@
-use Rattle.std.proofs.Common.{◌-◌, ◌≤◌, arith, refl}
-use Rattle.span_sets.specs.Few.{few_of}
-use Rattle.span_sets.specs.SpanPages.{chunks_held}
-use Rattle.span_sets.specs.Lawful.{runs_of_chunks}
+use Rattle.span_sets.proofs.Common.{◌-◌, ◌≤◌, arith, chunks_held, few_of, refl, runs_of_chunks}
 use Rattle.span_sets.proofs.SetChunks.{adds_none, fills_runs, fills_serials, from_has}
 use Rattle.span_sets.proofs.SpanSides.{ends_fill_at, ends_keep_tight}
 use Rattle.span_sets.proofs.ResultFacts.{on_ok}

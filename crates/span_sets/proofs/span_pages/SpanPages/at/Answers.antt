@@ -1,6 +1,4 @@
-use Rattle.std.proofs.Common.{arith, subst}
-use Rattle.span_sets.specs.Positions.{IsChunkFrom}
-use Rattle.span_sets.specs.SpanPages.{chunks_held}
+use Rattle.span_sets.proofs.Common.{arith, chunks_held, IsChunkFrom, subst}
 use Rattle.span_sets.proofs.SetChunks.{at_none, at_past, at_some}
 use Rattle.span_sets.proofs.span_pages.SpanPages.at.Goals as goal
 

@@ -1,7 +1,5 @@
-use Rattle.std.proofs.Common.{◌+◌, ◌-◌, ◌^◌, None, min, inl, inr, subst, arith, refl}
-use Rattle.span_sets.specs.Chunk.{window_of, bits_of, hi_of}
-use Rattle.span_sets.specs.Sides.{IsBack}
-use Rattle.span_sets.specs.SpanPages.{chunks_held}
+use Rattle.span_sets.proofs.Common.{◌+◌, ◌-◌, ◌^◌, arith, bits_of, chunks_held, hi_of, inl, inr}
+use Rattle.span_sets.proofs.Common.{IsBack, min, None, refl, subst, window_of}
 use Rattle.span_sets.proofs.ChunkMembers.{word_ends}
 use Rattle.span_sets.proofs.ReplacementMembers.{back_word}
 use Rattle.span_sets.proofs.SpanSides.{back_further, back_shared, its_own, mask_upto}

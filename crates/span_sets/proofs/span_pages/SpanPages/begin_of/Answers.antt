@@ -1,9 +1,6 @@
-use Rattle.std.proofs.Common.{◌-◌, ◌<◌, ◌≤◌, ◌⊎◌, None, IfSome, inl, inr, sym, subst, ◌∙◌, ◌≡◌, arith}
-use Rattle.std.specs.Prelude.{false}
-use Rattle.span_sets.specs.Chunk.{is_span, lo_of, hi_of}
-use Rattle.span_sets.specs.Positions.{IsChunkFrom}
-use Rattle.span_sets.specs.Sides.{IsFront}
-use Rattle.span_sets.specs.SpanPages.{chunks_held}
+use Rattle.span_sets.proofs.Common.{◌-◌, ◌<◌, ◌∙◌, ◌≡◌, ◌≤◌, ◌⊎◌, arith, chunks_held, false, hi_of}
+use Rattle.span_sets.proofs.Common.{IfSome, inl, inr, is_span, IsChunkFrom, IsFront, lo_of, None}
+use Rattle.span_sets.proofs.Common.{subst, sym}
 use Rattle.span_sets.proofs.SpanSides.{front_open, front_span}
 use Rattle.span_sets.proofs.span_pages.SpanPages.begin_of.Goals as goal
 

@@ -1,6 +1,4 @@
-use Rattle.std.proofs.Common.{◌+◌, ◌*◌, inl, inr, arith}
-use Rattle.std.proofs.lemmas.Bool.{cases_lt}
-use Rattle.span_sets.specs.SpanPages.{chunks_held}
+use Rattle.span_sets.proofs.Common.{◌*◌, ◌+◌, arith, cases_lt, chunks_held, inl, inr}
 use Rattle.span_sets.proofs.ChunkMembers.{in_or}
 use Rattle.span_sets.proofs.SetChunks.{from_has, from_owns}
 use Rattle.span_sets.proofs.span_pages.SpanPages.bits_from.Goals as goal

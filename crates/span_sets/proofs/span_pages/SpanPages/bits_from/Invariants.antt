@@ -1,8 +1,5 @@
-use Rattle.std.proofs.Common.{◌-◌, ◌+◌, ◌*◌, ◌<◌, ◌≤◌, ℕ}
-use Rattle.span_sets.specs.Chunk.{members_of}
-use Rattle.serial_set.specs.Span.{Covers}
-use Rattle.span_sets.specs.SpanPages.{chunks_held}
-use Rattle.span_sets.specs.Words.{BitCovers}
+use Rattle.span_sets.proofs.Common.{◌*◌, ◌+◌, ◌-◌, ◌<◌, ◌≤◌, BitCovers, chunks_held, Covers}
+use Rattle.span_sets.proofs.Common.{members_of, ℕ}
 use Rattle.span_sets.proofs.span_pages.SpanPages.bits_from.Given as goal
 
 abbrev pub invariant-loop-found : goal.invariant-loop-found

@@ -1,10 +1,8 @@
-use Rattle.std.proofs.Common.{◌≡◌, ◌<◌, Some, length, drop, sym, ap, subst, ◌∙◌, arith, length-drop, length-take}
-use Rattle.span_sets.specs.Chunk.{runs_of}
-use Rattle.span_sets.specs.SpanPages.{chunks_held}
-use Rattle.serial_set.specs.Walk.{left, piece_of, since, steps}
-use Rattle.span_sets.specs.Lawful.{runs_of_chunks}
+use Rattle.span_sets.proofs.Common.{◌<◌, ◌∙◌, ◌≡◌, ap, arith, chunks_held, drop, left, length}
+use Rattle.span_sets.proofs.Common.{length-drop, length-take, piece_of, runs_few, runs_of}
+use Rattle.span_sets.proofs.Common.{runs_of_chunks, since, since_same, Some, steps, subst, sym}
+use Rattle.span_sets.proofs.Common.{walk_ends, walk_on}
 use Rattle.span_sets.proofs.MemberWalks.{serials_of}
-use Rattle.serial_set.proofs.RunWalks.{since_same, runs_few, walk_on, walk_ends}
 use Rattle.span_sets.proofs.span_pages.SpanPages.count_runs.Goals as goal
 
 pub loop-next-init : goal.loop-next-init

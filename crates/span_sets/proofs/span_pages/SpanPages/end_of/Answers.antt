@@ -1,9 +1,6 @@
-use Rattle.std.proofs.Common.{◌+◌, ◌-◌, ◌^◌, ◌<◌, ◌≤◌, ◌⊎◌, None, IfSome, min, inr, sym, subst, ◌∙◌, ◌≡◌, arith, refl}
-use Rattle.std.specs.Prelude.{true, false}
-use Rattle.span_sets.specs.Chunk.{is_span, lo_of, hi_of}
-use Rattle.span_sets.specs.Positions.{IsChunkFrom}
-use Rattle.span_sets.specs.Sides.{IsBack}
-use Rattle.span_sets.specs.SpanPages.{chunks_held}
+use Rattle.span_sets.proofs.Common.{◌+◌, ◌-◌, ◌<◌, ◌^◌, ◌∙◌, ◌≡◌, ◌≤◌, ◌⊎◌, arith, chunks_held}
+use Rattle.span_sets.proofs.Common.{false, hi_of, IfSome, inr, is_span, IsBack, IsChunkFrom, lo_of}
+use Rattle.span_sets.proofs.Common.{min, None, refl, subst, sym, true}
 use Rattle.span_sets.proofs.SpanSides.{back_open, back_span}
 use Rattle.span_sets.proofs.span_pages.SpanPages.end_of.Goals as goal
 

@@ -1,7 +1,4 @@
-use Rattle.std.proofs.Common.{ℕ, ◌-◌, ◌<◌, ◌≤◌}
-use Rattle.serial_set.specs.Span.{Covers}
-use Rattle.span_sets.specs.Chunk.{members_of}
-use Rattle.span_sets.specs.SpanPages.{chunks_held}
+use Rattle.span_sets.proofs.Common.{◌-◌, ◌<◌, ◌≤◌, chunks_held, Covers, members_of, ℕ}
 use Rattle.span_sets.proofs.span_pages.SpanPages.first_member.Given as goal
 
 abbrev pub invariant-loop-first : goal.invariant-loop-first

@@ -1,6 +1,4 @@
-use Rattle.std.proofs.Common.{arith}
-use Rattle.span_sets.specs.SpanPages.{chunks_held}
-use Rattle.span_sets.specs.Lawful.{in_stretch}
+use Rattle.span_sets.proofs.Common.{arith, chunks_held, in_stretch}
 use Rattle.span_sets.proofs.MemberWalks.{no_chunk, first_in, none_in}
 use Rattle.span_sets.proofs.span_pages.SpanPages.first_or_next.Goals as goal
 

@@ -1,7 +1,5 @@
-use Rattle.std.proofs.Common.{◌+◌, ◌-◌, Some, None, inl, inr, sym, subst, arith, refl}
-use Rattle.span_sets.specs.Chunk.{window_of, bits_of, lo_of}
-use Rattle.span_sets.specs.Sides.{IsFront}
-use Rattle.span_sets.specs.SpanPages.{chunks_held}
+use Rattle.span_sets.proofs.Common.{◌+◌, ◌-◌, arith, bits_of, chunks_held, inl, inr, IsFront, lo_of}
+use Rattle.span_sets.proofs.Common.{None, refl, Some, subst, sym, window_of}
 use Rattle.span_sets.proofs.ChunkMembers.{word_ends}
 use Rattle.span_sets.proofs.ReplacementMembers.{front_word}
 use Rattle.span_sets.proofs.SpanSides.{front_further, front_shared, its_own, mask_from}

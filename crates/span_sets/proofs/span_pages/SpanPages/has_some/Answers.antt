@@ -1,5 +1,4 @@
-use Rattle.std.proofs.Common.{arith}
-use Rattle.std.proofs.lemmas.Bool.{leb-false, leb-true}
+use Rattle.std.proofs.Common.{arith, leb-false, leb-true}
 use Rattle.span_sets.proofs.span_pages.SpanPages.has_some.Goals as goal
 
 pub returns-in-Some-clause-some : goal.returns-in-Some-clause-some

@@ -1,12 +1,8 @@
-use Rattle.std.proofs.Common.{◌+◌, ◌*◌, arith, refl, bit_or}
-use Rattle.std.proofs.Common.{inl, inr}
-use Rattle.std.proofs.lemmas.Nat.{le_or_l, or_lt}
-use Rattle.span_sets.specs.Chunk.{runs_of}
-use Rattle.span_sets.specs.Few.{few_of}
-use Rattle.span_sets.specs.SpanPages.{chunks_held}
-use Rattle.span_sets.specs.Words.{BitCovers}
-use Rattle.span_sets.specs.Lawful.{runs_of_chunks}
-use Rattle.span_sets.proofs.SetChunks.{Fills, adds_none, bits_both, bits_fill, fills_runs, fills_serials, fills_window, adds_window, from_has, tail_reaches}
+use Rattle.span_sets.proofs.Common.{◌*◌, ◌+◌, arith, bit_or, BitCovers, chunks_held, few_of, inl}
+use Rattle.span_sets.proofs.Common.{inr, le_or_l, or_lt, refl, runs_of, runs_of_chunks}
+use Rattle.span_sets.proofs.SetChunks.{Fills, adds_none, bits_both, bits_fill, fills_runs}
+use Rattle.span_sets.proofs.SetChunks.{fills_serials, fills_window, adds_window, from_has}
+use Rattle.span_sets.proofs.SetChunks.{tail_reaches}
 use Rattle.span_sets.proofs.SpanSides.{bits_keep_tight}
 use Rattle.span_sets.proofs.ResultFacts.{on_ok}
 use Rattle.span_sets.proofs.span_pages.SpanPages.join_bits.Goals as goal

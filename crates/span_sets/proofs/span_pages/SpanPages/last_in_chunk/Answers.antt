@@ -1,11 +1,7 @@
-use Rattle.std.proofs.Common.{◌+◌, ◌∷◌, arith, inl, inr, refl, subst, sym}
-use Rattle.std.specs.List.{Contains}
-use Rattle.std.proofs.lemmas.Bool.{cases_lt}
-use Rattle.std.proofs.lemmas.List.Elements.{Contains-append_right}
-use Rattle.span_sets.specs.Chunk.{hi_of}
+use Rattle.span_sets.proofs.Common.{◌+◌, ◌∷◌, arith, cases_lt, chunks_held, Contains}
+use Rattle.span_sets.proofs.Common.{Contains-append_right, hi_of, in_stretch, inl, inr, refl, subst}
+use Rattle.span_sets.proofs.Common.{sym}
 use Rattle.span_sets.proofs.SpanSides.{its_own}
-use Rattle.span_sets.specs.SpanPages.{chunks_held}
-use Rattle.span_sets.specs.Lawful.{in_stretch}
 use Rattle.span_sets.proofs.ChunkQueries.{asked}
 use Rattle.span_sets.proofs.MemberWalks.{goes_in}
 use Rattle.span_sets.proofs.OrderedChunks.{none_below}

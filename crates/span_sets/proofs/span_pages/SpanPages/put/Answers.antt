@@ -1,11 +1,7 @@
-use Rattle.std.proofs.Common.{subst, sym, inl, inr}
-use Rattle.serial_set.specs.Span.{AreSerials}
-use Rattle.span_sets.specs.Chunk.{ChunksFrom, members_of}
-use Rattle.span_sets.specs.Chunks.{Replaces}
+use Rattle.span_sets.proofs.Common.{AreSerials, AreTight, ChunksFrom, few_of, inl, inr, members_of}
+use Rattle.span_sets.proofs.Common.{Replaces, subst, sym}
 use Rattle.span_sets.specs.Storage.{chunks_stored}
-use Rattle.span_sets.specs.Few.{few_of}
 use Rattle.span_sets.proofs.ChunkQueries.{ok_or_err, replaced_rise, replaced_serials}
-use Rattle.span_sets.specs.Tight.{AreTight}
 use Rattle.span_sets.proofs.TightChunks.{replaced_tight}
 use Rattle.span_sets.proofs.span_pages.SpanPages.put.Goals as goal
 

@@ -1,13 +1,10 @@
-use Rattle.std.proofs.Common.{◌≡◌, ◌<◌, ◌-◌, ◌+◌, Some, length, get_or, take, drop, sym, ap, subst, ◌∙◌, arith, length-drop}
-use Rattle.std.proofs.lemmas.List.{drop-drop, get_or-take, get_or-drop}
+use Rattle.span_sets.proofs.Common.{◌+◌, ◌-◌, ◌<◌, ◌∙◌, ◌≡◌, ap, arith, chunks_held, drop}
+use Rattle.span_sets.proofs.Common.{drop-drop, get_or, get_or-drop, get_or-take, left, length}
+use Rattle.span_sets.proofs.Common.{length-drop, piece_of, runs_of, runs_of_chunks, since}
+use Rattle.span_sets.proofs.Common.{since_same, Some, Span, steps, subst, sym, take, walk_ends}
+use Rattle.span_sets.proofs.Common.{walk_on}
 use Rattle.std.proofs.lemmas.Option.{slice_get-get_or}
-use Rattle.serial_set.specs.declared.span.Span.{Span}
-use Rattle.span_sets.specs.Chunk.{runs_of}
-use Rattle.span_sets.specs.SpanPages.{chunks_held}
-use Rattle.serial_set.specs.Walk.{left, piece_of, since, steps}
-use Rattle.span_sets.specs.Lawful.{runs_of_chunks}
 use Rattle.span_sets.proofs.MemberWalks.{serials_of}
-use Rattle.serial_set.proofs.RunWalks.{since_same, walk_on, walk_ends}
 use Rattle.span_sets.proofs.span_pages.SpanPages.run_at.Goals as goal
 
 pub loop-next-init : goal.loop-next-init

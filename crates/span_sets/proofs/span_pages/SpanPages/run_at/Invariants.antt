@@ -1,7 +1,4 @@
-use Rattle.std.proofs.Common.{◌≡◌, ◌-◌, ◌≤◌, drop}
-use Rattle.span_sets.specs.Chunk.{runs_of}
-use Rattle.span_sets.specs.SpanPages.{chunks_held}
-use Rattle.serial_set.specs.Walk.{left, steps}
+use Rattle.span_sets.proofs.Common.{◌-◌, ◌≡◌, ◌≤◌, chunks_held, drop, left, runs_of, steps}
 use Rattle.span_sets.proofs.span_pages.SpanPages.run_at.Given as goal
 
 abbrev pub invariant-loop-next : goal.invariant-loop-next

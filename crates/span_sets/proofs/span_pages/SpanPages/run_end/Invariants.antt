@@ -1,7 +1,4 @@
-use Rattle.std.proofs.Common.{◌-◌}
-use Rattle.span_sets.specs.Chunk.{members_of}
-use Rattle.span_sets.specs.Members.{GoesOn}
-use Rattle.span_sets.specs.SpanPages.{chunks_held}
+use Rattle.span_sets.proofs.Common.{◌-◌, chunks_held, GoesOn, members_of}
 use Rattle.span_sets.proofs.span_pages.SpanPages.run_end.Given as goal
 
 abbrev pub invariant-loop-member : goal.invariant-loop-member

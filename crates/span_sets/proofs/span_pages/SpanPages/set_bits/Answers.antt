@@ -1,10 +1,9 @@
-use Rattle.std.proofs.Common.{subst, sym, inl, inr}
-use Rattle.serial_set.specs.Span.{AreSerials}
-use Rattle.span_sets.specs.Chunk.{ChunksFrom, members_of}
+use Rattle.span_sets.proofs.Common.{AreSerials, AreTight, ChunksFrom, inl, inr, members_of, subst}
+use Rattle.span_sets.proofs.Common.{sym}
 use Rattle.span_sets.specs.Storage.{chunks_stored}
-use Rattle.span_sets.specs.Tight.{AreTight}
 use Rattle.span_sets.proofs.TightChunks.{widened_tight}
-use Rattle.span_sets.proofs.ChunkQueries.{true_or_false, widened_order, widened_serials, widened_runs}
+use Rattle.span_sets.proofs.ChunkQueries.{true_or_false, widened_order, widened_serials}
+use Rattle.span_sets.proofs.ChunkQueries.{widened_runs}
 use Rattle.span_sets.proofs.span_pages.SpanPages.set_bits.Goals as goal
 
 pub invariant_of-self : goal.invariant_of-self

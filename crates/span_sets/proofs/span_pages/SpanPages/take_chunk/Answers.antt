@@ -1,7 +1,4 @@
-use Rattle.std.proofs.Common.{◌+◌, arith, ap, ◌∙◌}
-use Rattle.span_sets.specs.Chunk.{hi_of, members_of}
-use Rattle.span_sets.specs.SpanPages.{chunks_held}
-use Rattle.serial_set.specs.Walk.{piece_of}
+use Rattle.span_sets.proofs.Common.{◌+◌, ◌∙◌, ap, arith, chunks_held, hi_of, members_of, piece_of}
 use Rattle.span_sets.proofs.TakenRuns.{goes_within, reads_none, reads_on, taken_on, taken_run}
 use Rattle.span_sets.proofs.span_pages.SpanPages.take_chunk.Goals as goal
 

@@ -1,8 +1,4 @@
-use Rattle.std.proofs.Common.{ℕ, ◌-◌, ◌≤◌}
-use Rattle.span_sets.specs.Chunk.{members_of}
-use Rattle.span_sets.specs.Members.{Reads, Taken}
-use Rattle.span_sets.specs.SpanPages.{chunks_held}
-use Rattle.serial_set.specs.Walk.{piece_of}
+use Rattle.span_sets.proofs.Common.{◌-◌, ◌≤◌, chunks_held, members_of, piece_of, Reads, Taken, ℕ}
 use Rattle.span_sets.proofs.span_pages.SpanPages.take_chunk.Given as goal
 
 abbrev pub invariant-loop-chunk : goal.invariant-loop-chunk

@@ -1,8 +1,5 @@
-use Rattle.std.proofs.Common.{◌≡◌, ◌∙◌, ◌++◌, ◌∷◌, [], ap, subst, sym}
-use Rattle.serial_set.specs.declared.span.Span.{Span}
-use Rattle.span_sets.specs.Chunk.{runs_of}
-use Rattle.span_sets.specs.SpanPages.{chunks_held}
-use Rattle.serial_set.specs.Walk.{IsPiece, piece_of}
+use Rattle.span_sets.proofs.Common.{[], ◌++◌, ◌∙◌, ◌∷◌, ◌≡◌, ap, chunks_held, IsPiece, piece_of}
+use Rattle.span_sets.proofs.Common.{runs_of, Span, subst, sym}
 use Rattle.span_sets.proofs.TakenRuns.{first_alone, none_left}
 use Rattle.span_sets.proofs.span_pages.SpanPages.take_first.Goals as goal
 

@@ -1,9 +1,5 @@
-use Rattle.std.proofs.Common.{◌≡◌, ◌+◌, ◌∷◌, drop, ap, sym, subst, arith, ◌∙◌}
-use Rattle.std.proofs.lemmas.List.{drop_more}
-use Rattle.span_sets.specs.Chunk.{hi_of, members_of}
-use Rattle.span_sets.specs.Members.{Taken}
-use Rattle.span_sets.specs.SpanPages.{chunks_held}
-use Rattle.serial_set.specs.Walk.{piece_of}
+use Rattle.span_sets.proofs.Common.{◌+◌, ◌∙◌, ◌∷◌, ◌≡◌, ap, arith, chunks_held, drop, drop_more}
+use Rattle.span_sets.proofs.Common.{hi_of, members_of, piece_of, subst, sym, Taken}
 use Rattle.span_sets.proofs.TakenRuns.{Rest, rest_first, rest_on}
 use Rattle.span_sets.proofs.span_pages.SpanPages.take_list.Goals as goal
 

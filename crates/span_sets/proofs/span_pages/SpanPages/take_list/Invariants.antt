@@ -1,8 +1,4 @@
-use Rattle.std.proofs.Common.{ℕ, drop}
-use Rattle.span_sets.specs.Chunk.{members_of}
-use Rattle.span_sets.specs.Members.{Taken}
-use Rattle.span_sets.specs.SpanPages.{chunks_held}
-use Rattle.serial_set.specs.Walk.{piece_of}
+use Rattle.span_sets.proofs.Common.{chunks_held, drop, members_of, piece_of, Taken, ℕ}
 use Rattle.span_sets.proofs.TakenRuns.{Rest}
 use Rattle.span_sets.proofs.span_pages.SpanPages.take_list.Given as goal
 

@@ -1,7 +1,5 @@
-use Rattle.std.proofs.Common.{◌≡◌, ◌∙◌, length, subst, sym, take}
-use Rattle.span_sets.specs.Chunk.{runs_of}
-use Rattle.span_sets.specs.SpanPages.{chunks_held}
-use Rattle.serial_set.specs.Walk.{piece_of, since}
+use Rattle.span_sets.proofs.Common.{◌∙◌, ◌≡◌, chunks_held, length, piece_of, runs_of, since, subst}
+use Rattle.span_sets.proofs.Common.{sym, take}
 use Rattle.span_sets.proofs.TakenRuns.{all_but_last, all_whole}
 use Rattle.span_sets.proofs.span_pages.SpanPages.take_whole.Goals as goal
 

@@ -1,6 +1,4 @@
-use Rattle.std.proofs.Common.{◌∷◌, [], length, ap, arith, inl, inr}
-use Rattle.span_sets.specs.Chunk.{runs_of}
-use Rattle.span_sets.specs.SpanPages.{chunks_held}
+use Rattle.span_sets.proofs.Common.{[], ◌∷◌, ap, arith, chunks_held, inl, inr, length, runs_of}
 use Rattle.span_sets.proofs.ChunkQueries.{ok_or_err}
 use Rattle.span_sets.proofs.NearSpans.{adds_more, adds_one}
 use Rattle.span_sets.proofs.span_pages.SpanPagesSpans.add.Goals as goal

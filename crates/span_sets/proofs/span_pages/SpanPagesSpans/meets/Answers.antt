@@ -1,5 +1,4 @@
-use Rattle.span_sets.specs.SpanPages.{chunks_held}
-use Rattle.span_sets.specs.Lawful.{runs_of_chunks}
+use Rattle.span_sets.proofs.Common.{chunks_held, runs_of_chunks}
 use Rattle.span_sets.proofs.span_pages.SpanPagesSpans.meets.Goals as goal
 
 pub returns-clause-some : goal.returns-clause-some

@@ -1,6 +1,5 @@
-use Rattle.std.proofs.Common.{arith, subst, ◌<◌, ◌≤◌, length, take, drop}
-use Rattle.std.specs.List.{All}
-use Rattle.std.proofs.lemmas.Bool.{leb-true, le-leb, ltb-true}
+use Rattle.std.proofs.Common.{arith, subst, ◌<◌, ◌≤◌, length, take, drop, All, leb-true, le-leb}
+use Rattle.std.proofs.Common.{ltb-true}
 use Rattle.span_sets.proofs.SpanLookup.{asked_at, asked_past}
 use Rattle.span_sets.proofs.span_vec.SpanVecSpans.has.Goals as goal
 

@@ -1,6 +1,4 @@
-use Rattle.std.proofs.Common.{arith, subst, ◌<◌, ◌≤◌, length, take, drop}
-use Rattle.std.specs.List.{All}
-use Rattle.std.proofs.lemmas.Bool.{leb-false, leb-true}
+use Rattle.std.proofs.Common.{arith, subst, ◌<◌, ◌≤◌, length, take, drop, All, leb-false, leb-true}
 use Rattle.span_sets.proofs.SpanLookup.{meets_none, meets_past, meets_some}
 use Rattle.span_sets.proofs.span_vec.SpanVecSpans.meets.Goals as goal
 

@@ -1,9 +1,6 @@
-use Rattle.std.proofs.Common.{◌≡◌, ◌∙◌, ap, arith, subst, take, drop, length, length-drop, ℕ, List, ◌-◌, ◌<◌}
-use Rattle.std.specs.List.{All}
-use Rattle.std.proofs.lemmas.List.{take_all}
-use Rattle.serial_set.specs.declared.span.Span.{Span}
-use Rattle.serial_set.specs.Walk.{since}
-use Rattle.serial_set.proofs.RunWalks.{piece_first, since_after}
+use Rattle.span_sets.proofs.Common.{◌-◌, ◌<◌, ◌∙◌, ◌≡◌, All, ap, arith, drop, length, length-drop}
+use Rattle.span_sets.proofs.Common.{List, piece_first, since, since_after, Span, subst, take}
+use Rattle.span_sets.proofs.Common.{take_all, ℕ}
 use Rattle.span_sets.proofs.span_vec.SpanVecSpans.piece_from.Goals as goal
 
 whole : (xs : List Span) (at : ℕ) → take (length xs - at) (drop at xs) ≡ drop at xs
