@@ -180,7 +180,8 @@ holds 'what the package holds' \
   $(of krl-keygen usr | grep -v -e sha256 -e /man1/ | sed 's|site-functions|vendor-completions|') \
   ./usr/share/man/man1/krl-keygen.1.gz ./usr/share/man/man1/krl.1.gz \
   $(printf './usr/share/doc/krl-keygen/%s\n' README.md NEWS.gz changelog.gz copyright \
-    docs/{DECISIONS,FORMATS,GLOSSARY,RECIPES,THEOREMS}.md bench/{README.md,libkrl.md,time.svg}) \
+    docs/{DECISIONS,DESIGN,FORMATS,GLOSSARY,RECIPES,THEOREMS}.md \
+    bench/{README.md,libkrl.md,time.svg}) \
   $(cd "$top" && find examples/ansible examples/systemd -type f \
   -printf './usr/share/doc/krl-keygen/%p\n') \
   $(cd "$top" && find demo -type f \( ! -name '*.krl' -o -path 'demo/audit/*' \) \
