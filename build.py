@@ -159,8 +159,9 @@ class Task:
         self.made = self.place = self.process = self.lock = None
         self.was_killed = self.is_waiting = False
         lines = sum(read(it).count(b"\n") for it in self.files() if it.endswith(".rt"))
-        # About how many seconds the proofs of the crate take. Each library below is loaded.
-        self.seconds = 10 + lines / 10 + 5 * len(below)
+        # About how many seconds the proofs of the crate take. Each library below is loaded, and the
+        # code of all libraries is compiled with the program's.
+        self.seconds = 10 + lines / 10 + 5 * len(below) + (80 if crate.is_program else 0)
 
     def files(self):
         walked = [
@@ -252,7 +253,7 @@ class Build:
     def begin_some(self, ready):
         """Begins to prove the crates that are ready, the longest chain first. A second process in a
         crate repeats parts of the work, so a crate gets one only if no other can use the processor,
-        or its chain is by far the longest."""
+        or its chain is by far the longest and there are more than two processors."""
         if self.lanes is None:
             self.lanes = count_lanes()
             say(f"proving and building, this once: {len(self.tasks)} crates")
@@ -263,7 +264,8 @@ class Build:
             if idle < 1 or busy and any(at.was_killed for at in (it, *busy)):
                 return
             most = 4 if it is self.last else 2
-            jobs = most if self.chain[it] > 1.8 * share else idle // (len(ready) - number)
+            is_long = self.lanes > 2 and self.chain[it] > 1.5 * share
+            jobs = most if is_long else idle // (len(ready) - number)
             it.jobs = 1 if it.was_killed else max(1, min(jobs, most, self.lanes))
             if self.begin(it):
                 busy.append(it)
