@@ -1,8 +1,8 @@
 /* The calls of krl.h that take bytes. Each one calls a proved function.
  *
  * The proved functions never get a null pointer, whatever the length. If a length is 0 they get
- * another address, and read and write nothing there. A query takes the place itself, which it only
- * reads, and not the struct around it: many threads may ask at the same time. */
+ * another address, and read and write nothing there. A query takes the memory itself, which it only
+ * reads, and not the struct with its address: many threads may ask at the same time. */
 #include "krl.h"
 
 int32_t proved_krl_check(const uint8_t *, size_t, const uint8_t *, size_t);

@@ -20,7 +20,7 @@
  * A pointer to bytes may be null if its length is 0. No other pointer may be null.
  *
  * The promises hold for a program that keeps these rules. A program that breaks a rule, for
- * example by a wrong length, or by bytes or a place that change while a call runs, may crash or
+ * example by a wrong length, or by bytes or memory that change while a call runs, may crash or
  * get a wrong answer, also KRL_OK for a revoked key.
  */
 #ifndef KRL_H
@@ -47,7 +47,7 @@ extern "C" {
  * -113 and -114 are never answered. */
 #define KRL_LIST_MAGIC (-101) /* no KRL */
 #define KRL_LIST_FORMAT_VERSION (-102) /* not format version 1 */
-#define KRL_LIST_ENDS_EARLY (-103) /* cut short, in its header or within a section */
+#define KRL_LIST_ENDS_EARLY (-103) /* truncated, in its header or within a section */
 #define KRL_LIST_UNKNOWN_SECTION (-104) /* it may revoke the key, so the list is refused */
 #define KRL_LIST_UNKNOWN_CERT_SECTION (-105)
 #define KRL_LIST_LENGTH (-106) /* a length does not fit what it is the length of */
@@ -144,22 +144,22 @@ int32_t krl_why(const uint8_t *list, size_t list_length,
 
 /* A list that is read once and asked often.
  *
- * The place is krl_size() bytes at a multiple of 16, as malloc returns them. From krl_init on they
+ * Its memory is krl_size() bytes at a multiple of 16, as malloc returns them. From krl_init on they
  * belong to the library: do not read, write, copy or move them until krl_unload. You may copy and
- * move the struct around the place.
+ * move the struct, which has their address.
  *
- * krl_ask and krl_ask_line change nothing, so any number of threads may ask one place at the same
- * time. While krl_init, krl_load or krl_unload runs, no other call may get the place: guard it by
- * a lock for readers and writers, or load a new list into another place. */
+ * krl_ask and krl_ask_line change nothing, so any number of threads may ask one list at the same
+ * time. While krl_init, krl_load or krl_unload runs, no other call may get its memory: guard it by
+ * a lock for readers and writers, or load a new list into other memory. */
 typedef struct krl {
     void *at;
 } krl;
 
-/* How many bytes a place has. Always call it: another version of the library may have another
- * number. */
+/* How many bytes of memory a list needs. Always call it: another version of the library may have
+ * another number. */
 size_t krl_size(void);
 
-/* Makes a place ready, without a list. Takes no memory. */
+/* Makes the memory ready, without a list. Calls no malloc. */
 void krl_init(void *at);
 
 /* Reads a list: KRL_OK if the handle has it now, or why not. If the list is refused, the handle
@@ -168,11 +168,12 @@ void krl_init(void *at);
 int32_t krl_load(krl *handle, const uint8_t *list, size_t list_length);
 
 /* As krl_check and krl_check_line, for the list of the handle: KRL_NOT_LOADED if it has none. They
- * only read the place. */
+ * only read its memory. */
 int32_t krl_ask(const krl *handle, const uint8_t *blob, size_t blob_length);
 int32_t krl_ask_line(const krl *handle, const uint8_t *line, size_t line_length);
 
-/* Frees the memory of the list. The place is then as krl_init leaves it, and you may free it. */
+/* Frees what the list took from malloc. The memory is then as krl_init leaves it, and you may free
+ * it. */
 void krl_unload(krl *handle);
 
 /* The words for an answer of any call but krl_why, and for an answer of krl_why below zero. For a
