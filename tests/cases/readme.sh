@@ -1,10 +1,10 @@
-# The README as a new user follows it: the walk, and each recipe of it, of RECIPES.md and of the
-# manual page, in folders of the test's own. Those for sshd and ssh are followed with real ones, for
-# which such a folder is /etc/ssh.
+# The README as a new user follows it: its first steps, and each recipe of it, of RECIPES.md and of
+# the manual page, in folders of the test's own. Those for sshd and ssh are followed with real ones,
+# for which such a folder is /etc/ssh.
 
-mkdir walk && cp -r "$top/demo" walk && ln -s "$program" walk/ssh-keygen && ln -s "$krl" walk/krl &&
-  cd walk || exit 1
-transcript 'the walk of the README' < <(awk '/^## / { here = $0 == "## First steps" }
+mkdir steps && cp -r "$top/demo" steps && ln -s "$program" steps/ssh-keygen &&
+  ln -s "$krl" steps/krl && cd steps || exit 1
+transcript 'the first steps of the README' < <(awk '/^## / { here = $0 == "## First steps" }
   /^```/ { on = !on; next } here && on' "$top/README.md")
 cd ..
 
