@@ -24,7 +24,7 @@ use Rattle.krl_core.specs.Reading.{IsList}
 use Rattle.krl_core.specs.declared.header.Header.{Header}
 use Rattle.krl_types.specs.declared.krl_fault.KrlFault.{KrlFault}
 use Rattle.krl_make.specs.declared.base.Base.{Base}
-use Rattle.krl_make.specs.Making.{Added, HasNumbers, IsAtHand, IsFileAtHand, authority_file, lines, new_list, old_list, IsOldList, HoldsMore, IsRunFault, Made, Makes, NamesSame, Returns, WritesList, WritesMade, WritesMore, after_old, base_of, cause_run_fault, file_entries, file_key, file_run_fault, files_entries, first_blob, first_key_of, header_of, made_of, make_run_of, named_blob, key_blob, text_entries, then_entries, version_of, paid}
+use Rattle.krl_make.specs.Making.{Added, HasNumbers, IsCurrentName, IsCurrentFile, authority_file, lines, new_list, old_list, IsOldList, HoldsMore, IsRunFault, Made, Makes, NamesSame, Returns, WritesList, WritesMade, WritesMore, after_old, base_of, cause_run_fault, file_entries, file_key, file_run_fault, files_entries, first_blob, first_key_of, header_of, made_of, make_run_of, named_blob, key_blob, text_entries, then_entries, version_of, paid}
 use Rattle.key_files.specs.RunFault.{krl_cause}
 use Rattle.key_files.specs.declared.cause.Cause.TheVariants as causes
 use Rattle.krl_job.specs.declared.job.AuthorityOption.{AuthorityOption}
@@ -192,9 +192,9 @@ stopped_at authority files i file front stop lt item read read' =
     let first : files_entries authority (take (i + 1) files) ≡ Err stop = rw (files_take authority files i file lt item, read, read') refl in
     ap (files_entries authority) (sym (take-append-drop (i + 1) files)) ∙ files_parts authority (take (i + 1) files) (drop (i + 1) files) ∙ ap (λ (x : Result (List Entry) RunFault). then_entries x (files_entries authority (drop (i + 1) files))) first
 
-file_at_hand : (authority : Option (List ℕ)) (files : List Named) (i : ℕ) (file : Named) (front : List Entry) (at : List ℕ) → i < length files → file ≡ get_or files i file
-    → files_entries authority (take i files) ≡ Ok front → file.name ≡ at → IsFileAtHand authority files at
-file_at_hand authority files i file front at lt item read named = record {
+current_file : (authority : Option (List ℕ)) (files : List Named) (i : ℕ) (file : Named) (front : List Entry) (at : List ℕ) → i < length files → file ≡ get_or files i file
+    → files_entries authority (take i files) ≡ Ok front → file.name ≡ at → IsCurrentFile authority files at
+current_file authority files i file front at lt item read named = record {
   front = take i files;
   file = file;
   back = drop (i + 1) files;
@@ -208,10 +208,10 @@ pub file_stops : (authority : Option (List ℕ)) (files : List Named) (i : ℕ) 
     → i < length files → file ≡ get_or files i file
     → Added (files_entries authority (take i files)) old mid
     → IsRunFault (ended_by stop.cause) (λ at. file.name ≡ at) (file_entries authority file) stop
-    → IsRunFault (ended_by stop.cause) (IsFileAtHand authority files) (files_entries authority files) stop
+    → IsRunFault (ended_by stop.cause) (IsCurrentFile authority files) (files_entries authority files) stop
 file_stops authority files i file stop old mid lt item (front, (read, adds)) is =
-    run_fault_of_part (ended_by stop.cause) (λ at. file.name ≡ at) (IsFileAtHand authority files) (file_entries authority file) (files_entries authority files) stop
-    (λ at named. file_at_hand authority files i file front at lt item read named)
+    run_fault_of_part (ended_by stop.cause) (λ at. file.name ≡ at) (IsCurrentFile authority files) (file_entries authority file) (files_entries authority files) stop
+    (λ at named. current_file authority files i file front at lt item read named)
     (λ same. stopped_at authority files i file front stop lt item read same)
     is
 
@@ -244,12 +244,12 @@ made_written view name made contents (Err stop) adds (inr (reported, long)) =
 -- ---- the run
 
 -- the current file or list of the run, given what was read
-abbrev AtHand : List ℕ → Base → AuthorityOption Named → Option ℕ → List Named → Result Made RunFault → List ℕ → Type 0
-AtHand name base authority given files read = IsAtHand name (Ok base) authority given files read
+abbrev IsCurrent : List ℕ → Base → AuthorityOption Named → Option ℕ → List Named → Result Made RunFault → List ℕ → Type 0
+IsCurrent name base authority given files read = IsCurrentName name (Ok base) authority given files read
 
 -- The fault of the old list stops the run.
 pub base_refused : (name : List ℕ) (authority : AuthorityOption Named) (version : Option ℕ) (files : List Named) (moment : ℕ) (fault : KrlFault)
-    → IsRunFault (ended_by (krl_cause fault)) (IsAtHand name (Err fault) authority version files (make_run_of name (Err fault) authority version files moment)) (make_run_of name (Err fault) authority version files moment) (run_fault_of name (krl_cause fault))
+    → IsRunFault (ended_by (krl_cause fault)) (IsCurrentName name (Err fault) authority version files (make_run_of name (Err fault) authority version files moment)) (make_run_of name (Err fault) authority version files moment) (run_fault_of name (krl_cause fault))
 unfolding make_run_of
 base_refused name authority version files moment faults.NoMemory = (name, (old_list refl refl, refl))
 base_refused name authority version files moment fault = refl
@@ -258,10 +258,10 @@ base_refused name authority version files moment fault = refl
 pub key_stops : (name : List ℕ) (given : Option ℕ) (authority : AuthorityOption Named) (file : Named) (moment : ℕ) (base : Base) (files : List Named) (version : ℕ) (stop : RunFault)
     → version_of given base.version ≡ Some version → authority ≡ FileOf file
     → IsRunFault (ended_by stop.cause) (λ at. file.name ≡ at) (file_key file) stop
-    → IsRunFault (ended_by stop.cause) (AtHand name base authority given files (after_old name authority given moment files base)) (after_old name authority given moment files base) stop
+    → IsRunFault (ended_by stop.cause) (IsCurrent name base authority given files (after_old name authority given moment files base)) (after_old name authority given moment files base) stop
 key_stops name given authority file moment base files version stop is names stops =
     let read = after_old name (FileOf file) given moment files base in
-    rw names (run_fault_of_part (ended_by stop.cause) (λ at. file.name ≡ at) (AtHand name base (FileOf file) given files read) (file_key file) read stop
+    rw names (run_fault_of_part (ended_by stop.cause) (λ at. file.name ≡ at) (IsCurrent name base (FileOf file) given files read) (file_key file) read stop
     (λ at has. authority_file base version refl is has)
     (λ same. rw (is, same) refl)
     stops)
@@ -273,11 +273,11 @@ named_by authority file blob names read = rw (names, read) refl
 -- The fault of a file or of a line stops the run.
 files_stop : (name : List ℕ) (given : Option ℕ) (authority : AuthorityOption Named) (moment : ℕ) (base : Base) (files : List Named) (version : ℕ) (signer : Option (List ℕ)) (stop : RunFault)
     → version_of given base.version ≡ Some version → named_blob authority ≡ Ok signer
-    → IsRunFault (ended_by stop.cause) (IsFileAtHand signer files) (files_entries signer files) stop
-    → IsRunFault (ended_by stop.cause) (AtHand name base authority given files (after_old name authority given moment files base)) (after_old name authority given moment files base) stop
+    → IsRunFault (ended_by stop.cause) (IsCurrentFile signer files) (files_entries signer files) stop
+    → IsRunFault (ended_by stop.cause) (IsCurrent name base authority given files (after_old name authority given moment files base)) (after_old name authority given moment files base) stop
 files_stop name given authority moment base files version signer stop is signed stops =
     let read = after_old name authority given moment files base in
-    run_fault_of_part (ended_by stop.cause) (IsFileAtHand signer files) (AtHand name base authority given files read) (files_entries signer files) read stop
+    run_fault_of_part (ended_by stop.cause) (IsCurrentFile signer files) (IsCurrent name base authority given files read) (files_entries signer files) read stop
     (λ at has. lines base version signer refl is signed has)
     (λ same. rw (is, signed, same) refl)
     stops
@@ -294,7 +294,7 @@ made_read view name given authority base files read made (Err stop) whole (inr (
 -- The list is written from the old revocations and the files, or the run stops there.
 pub list_written : {X : Type 0} (view : X → List ℕ) (name : List ℕ) (given : Option ℕ) (authority : AuthorityOption Named) (moment : ℕ) (base : Base) (files : List Named) (version : ℕ) (signer : Option (List ℕ)) (result : Result X RunFault)
     → version_of given base.version ≡ Some version → named_blob authority ≡ Ok signer
-    → WritesMore view name (header_of version moment base) base.revocations (IsFileAtHand signer files) (files_entries signer files) result
+    → WritesMore view name (header_of version moment base) base.revocations (IsCurrentFile signer files) (files_entries signer files) result
     → Makes view name (Ok base) authority given files (after_old name authority given moment files base) result
 list_written view name given authority moment base files version signer result is signed (inl (entries, (read, written))) =
     let whole = after_old name authority given moment files base in

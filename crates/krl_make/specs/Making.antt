@@ -168,13 +168,13 @@ make_run_of name reading authority version files moment = do
 -- ---- the result of the run
 
 -- The authority's file is current, if one is given.
-abbrev pub IsAuthorityAtHand : AuthorityOption Named → List ℕ → Type 0
-IsAuthorityAtHand NotGiven at = ⊥
-IsAuthorityAtHand All at = ⊥
-IsAuthorityAtHand (FileOf file) at = file.name ≡ at
+abbrev pub IsCurrentAuthority : AuthorityOption Named → List ℕ → Type 0
+IsCurrentAuthority NotGiven at = ⊥
+IsCurrentAuthority All at = ⊥
+IsCurrentAuthority (FileOf file) at = file.name ≡ at
 
 -- A file is current whose lines are read: the files before it have no fault.
-pub record IsFileAtHand (authority : Option (List ℕ)) (files : List Named) (at : List ℕ)
+pub record IsCurrentFile (authority : Option (List ℕ)) (files : List Named) (at : List ℕ)
     : Type 0 where
   pub front : List Named
   pub file : Named
@@ -186,35 +186,36 @@ pub record IsFileAtHand (authority : Option (List ℕ)) (files : List Named) (at
 
 -- The name that is current in a run that makes a list: the list while the old one is read, then the
 -- authority's file, then the files in order, and the list again while it is written.
-pub data IsAtHand (name : List ℕ) (reading : Result Base KrlFault)
-    (authority : AuthorityOption Named) (given : Option ℕ) (files : List Named) (read : Result Made RunFault) (at : List ℕ)
+pub data IsCurrentName (name : List ℕ) (reading : Result Base KrlFault)
+    (authority : AuthorityOption Named) (given : Option ℕ) (files : List Named)
+    (read : Result Made RunFault) (at : List ℕ)
     : Type 0 where
   old_list : reading ≡ Err faults.NoMemory → name ≡ at
-      → IsAtHand name reading authority given files read at
+      → IsCurrentName name reading authority given files read at
   authority_file : (base : Base) (version : ℕ) → reading ≡ Ok base
-      → version_of given base.version ≡ Some version → IsAuthorityAtHand authority at
-      → IsAtHand name reading authority given files read at
+      → version_of given base.version ≡ Some version → IsCurrentAuthority authority at
+      → IsCurrentName name reading authority given files read at
   lines : (base : Base) (version : ℕ) (signer : Option (List ℕ)) → reading ≡ Ok base
       → version_of given base.version ≡ Some version → named_blob authority ≡ Ok signer
-      → IsFileAtHand signer files at → IsAtHand name reading authority given files read at
+      → IsCurrentFile signer files at → IsCurrentName name reading authority given files read at
   new_list : (made : Made) → read ≡ Ok made → name ≡ at
-      → IsAtHand name reading authority given files read at
+      → IsCurrentName name reading authority given files read at
 
 -- The fault that stopped a run is the one that reading gives, or an allocation failed, and the
 -- fault has the current name.
 abbrev pub IsRunFault : {X : Type 0} → EndedBy → (List ℕ → Type 0) → Result X RunFault → RunFault
     → Type 0
-IsRunFault ByInput AtHand read stop = read ≡ Err stop
-IsRunFault ByMemory AtHand read stop =
-    (at : List ℕ) × (AtHand at × (stop ≡ run_fault_of at causes.NoMemory))
-IsRunFault (ByOutput count) AtHand read stop = ⊥
+IsRunFault ByInput IsCurrent read stop = read ≡ Err stop
+IsRunFault ByMemory IsCurrent read stop =
+    (at : List ℕ) × (IsCurrent at × (stop ≡ run_fault_of at causes.NoMemory))
+IsRunFault (ByOutput count) IsCurrent read stop = ⊥
 
 -- A function returned what reading gives, seen by a view, or an allocation failed.
 abbrev pub Returns : {X Y : Type 0} → (X → Y) → (List ℕ → Type 0) → Result Y RunFault
     → Result X RunFault
     → Type 0
-Returns view AtHand read (Ok x) = read ≡ Ok (view x)
-Returns view AtHand read (Err stop) = IsRunFault (ended_by stop.cause) AtHand read stop
+Returns view IsCurrent read (Ok x) = read ≡ Ok (view x)
+Returns view IsCurrent read (Err stop) = IsRunFault (ended_by stop.cause) IsCurrent read stop
 
 -- the entries that were read from files were added
 abbrev pub Added : Result (List Entry) RunFault → Revocations → Revocations → Type 0
@@ -224,8 +225,8 @@ Added read old new = (entries : List Entry) × ((read ≡ Ok entries) × HoldsMo
 abbrev pub AddsFiles : {A : Type 0} → (List ℕ → Type 0) → Result (List Entry) RunFault
     → Result A RunFault
     → Revocations → Revocations → Type 0
-AddsFiles AtHand read (Ok done) old new = Added read old new
-AddsFiles AtHand read (Err stop) old new = IsRunFault (ended_by stop.cause) AtHand read stop
+AddsFiles IsCurrent read (Ok done) old new = Added read old new
+AddsFiles IsCurrent read (Err stop) old new = IsRunFault (ended_by stop.cause) IsCurrent read stop
 
 -- The text is a list that revokes exactly what the entries revoke.
 pub record NamesSame (header : Header) (text : List ℕ) (entries : List Entry) : Type 0 where
@@ -259,11 +260,13 @@ pub record StopsAtText (name : List ℕ) (read : Result Made RunFault) (stop : R
 
 -- The run returns the list, or the fault that stopped it.
 abbrev pub Makes : {X : Type 0} → (X → List ℕ) → List ℕ → Result Base KrlFault
-    → AuthorityOption Named → Option ℕ → List Named → Result Made RunFault → Result X RunFault → Type 0
+    → AuthorityOption Named → Option ℕ → List Named → Result Made RunFault → Result X RunFault
+    → Type 0
 Makes view name reading authority given files read (Ok text) =
     (made : Made) × ((read ≡ Ok made) × IsMade made (view text))
 Makes view name reading authority given files read (Err stop) =
-    IsRunFault (ended_by stop.cause) (IsAtHand name reading authority given files read) read stop
+    IsRunFault (ended_by stop.cause)
+    (IsCurrentName name reading authority given files read) read stop
     ⊎ StopsAtText name read stop
 
 -- The text is that of the header and the revocations, and names exactly what these mean. Otherwise
@@ -289,11 +292,11 @@ WritesMade view name made (Err stop) =
 -- The list is made from the old revocations and those of the files, or the files stop the run.
 abbrev pub WritesMore : {X : Type 0} → (X → List ℕ) → List ℕ → Header → Revocations
     → (List ℕ → Type 0) → Result (List Entry) RunFault → Result X RunFault → Type 0
-WritesMore view name header old AtHand read result =
+WritesMore view name header old IsCurrent read result =
     ((entries : List Entry) × ((read ≡ Ok entries)
     × WritesMade view name (made_of header old entries) result))
     ⊎ ((stop : RunFault)
-    × ((result ≡ Err stop) × IsRunFault (ended_by stop.cause) AtHand read stop))
+    × ((result ≡ Err stop) × IsRunFault (ended_by stop.cause) IsCurrent read stop))
 
 -- ---- the old list
 

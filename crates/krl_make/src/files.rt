@@ -1,7 +1,7 @@
 //! Adding specification files to a list.
 
 ghost use Rattle.std.specs.Prelude.{◌≡◌, Ok};
-ghost use Rattle.krl_make.specs.Making.{AddsFiles, IsFileAtHand, cause_run_fault, file_entries};
+ghost use Rattle.krl_make.specs.Making.{AddsFiles, IsCurrentFile, cause_run_fault, file_entries};
 ghost use Rattle.krl_make.specs.Making.{files_entries, text_entries};
 ghost use Rattle.krl_spec.specs.Under.{authority_under};
 
@@ -18,7 +18,7 @@ pub fn add_files<'a, S: Spans>(
     under: Under,
     files: &'a [Named<'a>],
 ) -> Result<(), RunFault<'a>>
-    ensures { AddsFiles (IsFileAtHand (authority_under under.entry) files.now)
+    ensures { AddsFiles (IsCurrentFile (authority_under under.entry) files.now)
         (files_entries (authority_under under.entry) files.now) result
         revocations.old revocations.new }
 {

@@ -3,7 +3,7 @@
 ghost use Rattle.std.specs.Prelude.{◌≡◌, Ok, Result, false};
 ghost use Rattle.std.specs.Option.{ForSome};
 ghost use Rattle.krl_types.specs.declared.krl_fault.KrlFault.{KrlFault as FaultOf};
-ghost use Rattle.krl_make.specs.Making.{HasNumbers, IsBaseRead, IsFileAtHand, Makes, WritesList};
+ghost use Rattle.krl_make.specs.Making.{HasNumbers, IsBaseRead, IsCurrentFile, Makes, WritesList};
 ghost use Rattle.krl_make.specs.Making.{WritesMore, after_old, files_entries, make_run_of};
 ghost use Rattle.krl_spec.specs.Under.{authority_under};
 ghost use Rattle.krl_make.specs.declared.base.Base.{Base as BaseOf};
@@ -114,7 +114,7 @@ impl<'a> NewList<'a> {
     ) -> Result<Vec<u8>, RunFault<'a>>
         requires { HasNumbers header.now }
         ensures { WritesMore (λ made. made.items) self.now.name.now header.now held
-            (IsFileAtHand (authority_under under.entry) self.now.files.now)
+            (IsCurrentFile (authority_under under.entry) self.now.files.now)
             (files_entries (authority_under under.entry) self.now.files.now) result }
     {
         let mut revocations = held;

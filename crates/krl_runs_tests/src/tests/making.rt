@@ -248,43 +248,29 @@ fn refused(rt: HostRuntime) {
             *fault,
         );
     }
-    let cut = Some(&HEADER[..43]);
-    refuses(
-        &rt,
-        rt.alloc(),
-        6,
-        cut,
-        (&AuthorityOption::All, b"x"),
-        "r.krl: krl 3 EndsEarly",
-    );
-    let lines = (&AuthorityOption::NotGiven, b"# 1\nserial: 5".as_slice());
-    refuses(
-        &rt,
-        rt.alloc(),
-        7,
-        None,
-        lines,
-        "s: line 2: spec 4 NoAuthority",
-    );
     let full = list(&rt, rt.alloc(), u64::MAX, &[]);
     let closed = authority(&rt, rt.alloc(), None);
-    refuses(
-        &rt,
-        rt.alloc(),
-        8,
-        Some(&full),
-        (&closed, b"x"),
-        "r.krl: run 2 VersionFull",
-    );
-    refuses(&rt, rt.alloc(), 9, None, (&closed, b"x"), "ca: file 1 Open");
-    refuses(
-        &rt,
-        rt.alloc(),
-        10,
-        None,
-        (&AuthorityOption::All, b""),
-        "none: file 1 Open",
-    );
+    let all = AuthorityOption::All;
+    let others: [(Option<&[u8]>, &AuthorityOption, &[u8], &str); 5] = [
+        (Some(&HEADER[..43]), &all, b"x", "r.krl: krl 3 EndsEarly"),
+        (
+            None,
+            &AuthorityOption::NotGiven,
+            b"# 1\nserial: 5",
+            "s: line 2: spec 4 NoAuthority",
+        ),
+        (
+            Some(full.as_slice()),
+            &closed,
+            b"x",
+            "r.krl: run 2 VersionFull",
+        ),
+        (None, &closed, b"x", "ca: file 1 Open"),
+        (None, &all, b"", "none: file 1 Open"),
+    ];
+    for (i, (old, authority, lines, fault)) in others.iter().enumerate() {
+        refuses(&rt, rt.alloc(), 6 + i, *old, (*authority, *lines), *fault);
+    }
 }
 
 // The length of the list of a key ID of this length, or of the line of its fault.
