@@ -2,7 +2,7 @@
  *
  * A RevokedKeys file of sshd can be a KRL or a plain list, a file of public keys. krl_check_any
  * takes both. The other calls read KRLs alone: they answer -101 for a plain list, as for anything
- * else that is no KRL, or -103 if the file has less than 8 bytes.
+ * else that is no KRL, or -103 if the file has fewer than 8 bytes.
  *
  * Fail closed: let a key in if krl_check, krl_check_any, krl_check_line, krl_ask or krl_ask_line
  * answers KRL_OK for it, and in no other case. KRL_OK of krl_load says only that the list was read.
