@@ -15,6 +15,7 @@ use Rattle.ssh_wire.specs.Fault.{fault_text}
 use Rattle.ssh_cert.specs.CertFault.{cert_fault_text}
 use Rattle.ssh_cert.specs.SubjectFault.{subject_fault_text}
 use Rattle.ssh_cert.specs.SubjectReading.{IsSubject, certified, plain_key}
+use Rattle.ssh_cert.proofs.Certs.{opening_spelled, serial_fits}
 use Rattle.ssh_cert.specs.declared.fault.CertFault.{CertFault}
 use Rattle.ssh_cert.specs.declared.fault.CertFault.TheVariants as certs
 use Rattle.ssh_cert.specs.declared.subject_fault.SubjectFault.{SubjectFault}
@@ -144,7 +145,7 @@ names_free kinds.Ed25519Sk = ((refl, omega arith), (refl, omega arith))
 
 small_serial : (blob : List ℕ) (asked : Subject) → IsSubject blob asked → IsSmall asked.cert
 small_serial blob asked (plain_key key is same) = subst (λ (s : Subject). IsSmall s.cert) (sym same) tt
-small_serial blob asked (certified certificate is same) = subst (λ (s : Subject). IsSmall s.cert) (sym same) is.lengths.serial_fits
+small_serial blob asked (certified certificate is same) = subst (λ (s : Subject). IsSmall s.cert) (sym same) (serial_fits blob certificate is)
 
 module _ (reads : ReadsJust string_at string (λ (text : List ℕ). length text < 2 ^ 32)) where
   named_free : (blob name rest : List ℕ) → IsBytes blob → blob ≡ string name ++ rest → IsFreeName name → HasNoEscape (type_of blob)
@@ -153,7 +154,9 @@ module _ (reads : ReadsJust string_at string (λ (text : List ℕ). length text 
 
   type_free : (blob : List ℕ) (asked : Subject) → IsBytes blob → IsSubject blob asked → HasNoEscape (type_of blob)
   type_free blob asked bytes (plain_key key is same) = named_free blob (type_name key.kind) key.fields bytes is.spelled (names_free key.kind).0
-  type_free blob asked bytes (certified certificate is same) = named_free blob (certificate_name certificate.key.kind) _ bytes is.spelled (names_free certificate.key.kind).1
+  type_free blob asked bytes (certified certificate is same) =
+      let name : List ℕ = certificate_name certificate.key.kind in
+      named_free blob name (string certificate.nonce ++ is.fields) bytes (opening_spelled blob name certificate.nonce is.fields is.opening) (names_free certificate.key.kind).1
 
   key_tail_free : (blob comment : List ℕ) (asked : Subject) (all : Reasons) → HasNoEscape (type_of blob) → IsSmall asked.cert
       → HasNoEscape (key_words blob asked ++ (reasons_text asked all ++ (comment_words comment ++ 10 ∷ [])))

@@ -14,7 +14,8 @@ use Rattle.key_text.specs.LineFaults.{IsFirstLineFault}
 use Rattle.key_text.specs.LineReading.{Content, content, line_at}
 use Rattle.key_text.specs.declared.line_fault.LineFault.{LineFault}
 use Rattle.krl_types.specs.Subject.{Subject}
-use Rattle.ssh_cert.specs.SubjectReading.{IsSubject, IsSubjectFault, certified, plain_key, subject_of}
+use Rattle.ssh_cert.specs.SubjectReading.{IsSubject, IsSubjectFault, subject_of}
+use Rattle.ssh_cert.proofs.Subjects.{plain_is_key}
 use Rattle.ssh_cert.specs.declared.subject_fault.SubjectFault.{SubjectFault}
 use Rattle.plain_list.specs.Line.{before_zero, begins_with_key, content_of, is_remark}
 use Rattle.plain_list.specs.Key.{blob_key, by_size, key_cause, key_line_key, line_key, sized_key, text_key}
@@ -45,11 +46,6 @@ pub record Laws : Type 0 where
 content_fits : (line : List ℕ) → IsBytes line → IsBytes (content_of line)
 unfolding before_zero after_blanks
 content_fits line fits = IsBytes-drop (prefix_len is_blank (before_zero line)) (before_zero line) (IsBytes-take (prefix_len (λ byte. not (byte == 0)) line) line fits)
-
--- a subject has a key
-key_in : (blob : List ℕ) (asked : Subject) → IsSubject blob asked → (key : PublicKey) × IsKey asked.plain key
-key_in blob asked (plain_key key is same) = (key, rw same is)
-key_in blob asked (certified certificate is same) = (certificate.key, rw same is.key)
 
 key_is_read : Laws → (plain : List ℕ) (key : PublicKey) → IsKey plain key → key_at plain ≡ Ok key
 key_is_read laws plain key is = let back = laws.read_back plain key is in rw (← back.0) back.1
@@ -105,7 +101,7 @@ sized_refused line key cause Long has is e = long key has is (cc)
 has_key : Laws → (line : List ℕ) (read : Content) (asked : Subject) → BeginsWithKey line → IsKeyLine (content_of line) read.word read.blob read.comment
     → IsSubject read.blob asked → (key : PublicKey) × HasKey line key
 has_key laws line read asked begins is_line asks =
-    let key = key_in read.blob asked asks in
+    let key = plain_is_key read.blob asked asks in
     (key.0, record { begins = begins; word = read.word; blob = read.blob; comment = read.comment; is_line = is_line; asked = asked; asks = asks; is_key = key.1 })
 
 key_found : Laws → (line : List ℕ) (given : Option (List ℕ)) → IsBytes line → BeginsWithKey line → key_line_key (content_of line) ≡ Ok given → Revokes line given

@@ -1,8 +1,5 @@
 pub mod StringLists
-pub mod FieldLemmas
-pub mod FieldReads
-pub mod FieldFaults
-pub mod Fronts
+pub mod Meanings
 pub mod Certs
 pub mod OptionLists
 pub mod Subjects

@@ -6,7 +6,6 @@ pub mod Cert
 pub mod Field
 pub mod CertReading
 pub mod FirstFault
-pub mod Parts
 pub mod SubjectReading
 pub mod AnyKey
 pub mod Laws

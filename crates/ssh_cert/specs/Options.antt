@@ -2,8 +2,9 @@
 -- data.
 use Rattle.std.specs.Prelude.{◌≡◌, ℕ, List, [], ◌∷◌, Option, Some, None, unwrap_or}
 use Rattle.std.specs.List.{flat_map}
-use Rattle.std.specs.Option.{option_map}
+use Rattle.std.specs.Option.{option_and_then, option_map}
 use Rattle.ssh_wire.specs.Wire.{strings}
+use Rattle.ssh_cert.specs.Strings.{strings_of}
 
 -- the name of an option or an extension, and its data
 pub record CertOption : Type 0 where
@@ -24,6 +25,10 @@ pairs_of [] = Some []
 pairs_of (name ∷ []) = None
 pairs_of (name ∷ content ∷ rest) =
     option_map (λ options. record { name = name; content = content } ∷ options) (pairs_of rest)
+
+-- the options whose strings fill the bytes, if some do
+abbrev pub options_of : List ℕ → Option (List CertOption)
+options_of bytes = option_and_then pairs_of (strings_of bytes)
 
 abbrev pub pairs_in : List (List ℕ) → List CertOption
 pairs_in parts = unwrap_or (pairs_of parts) []

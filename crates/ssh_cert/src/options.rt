@@ -1,7 +1,7 @@
 //! The critical options and the extensions of a certificate.
 
 ghost use Rattle.std.specs.Prelude.{◌≡◌};
-ghost use Rattle.ssh_cert.specs.CertReading.{options_of};
+ghost use Rattle.ssh_cert.specs.Options.{options_of};
 
 use crate::strings::{Strings, count_of, strings_in};
 use std::marker::Model;

@@ -16,7 +16,7 @@ pub returns-clause-listed : goal.returns-clause-listed
 returns-clause-listed c = λ hash moment name number text word blob comment certificate has is_line is.
     let line = content word blob comment in
     let asked = of_certificate certificate in
-    let spells : SpellsKey text line asked certificate.key = record { is_line = is_line; is_asked = certified certificate is refl; is_key = is.key } in
+    let spells : SpellsKey text line asked certificate.key = record { is_line = is_line; is_asked = certified certificate is refl; is_key = is.public.is_key } in
     let read = (c.read_where_spelled.ensures blob certificate is_line.bytes).1 is in
     c.items_by_what_is_spelled.ensures.answered (certify hash moment) name number text line asked certificate.key has spells
     ∙ ap (λ (r : Result Cert CertFault). Some (said name (certificate_answer hash moment name (Some number) (result_ok r)))) read

@@ -1,7 +1,10 @@
 use Rattle.std.proofs.Common.{rules}
-use Rattle.ssh_cert.specs.CertReading.{certificate_at}
+use Rattle.ssh_cert.proofs.Certs.{blob_read}
 use Rattle.ssh_cert.proofs.reading.read_cert.Goals as goal
 
 pub returns : goal.returns
-unfolding certificate_at
-returns c = search rules steps 600000
+returns c = record {
+  exact =
+      blob_read c.args.blob.now _ _ _ _ _ _ _ _ _ _ c.new-cursor.ensures c.in_ok-string.ensures.exact c.in_ok-kind.ensures c.in_ok-nonce.ensures.exact c.in_ok-key.ensures c.in_ok-cert.ensures
+      (search rules);
+}
