@@ -24,7 +24,7 @@ use Rattle.krl_arguments.specs.declared.options.Argument.{Argument}
 use Rattle.krl_arguments.specs.declared.task.Task.{Task as TaskOf}
 use Rattle.krl_arguments.specs.Command.{AsksFor, IsCommand, ReportsError}
 use Rattle.krl_arguments.specs.Options.{program, rule_by, with_rules}
-use Rattle.krl_arguments.specs.Task.{is_set, task_in, task_of, values_of}
+use Rattle.krl_arguments.specs.Task.{found_in, is_set, values_of}
 
 -- one more argument
 pub one_more : (old new : Command) (a : Arg) (app : App) (rule : Rule) → app_of old ≡ app → a.global ≡ false → rule_of a ≡ rule → AddsArg old a new → app_of new ≡ with_rule app rule
@@ -61,9 +61,9 @@ pub values_by : (f : Found) (id : List ℕ) (values : Option (List (List ℕ))) 
 values_by f id values is = ap (λ (o : Option (List (List ℕ))). unwrap_or o []) (is ∙ raw_values-rows f id)
 
 -- the matches have the same values as the words
-pub held_by : (app : App) (words : List (List ℕ)) (m : ArgMatches) → app ≡ program → HasMatchesOf app words m → task_in (subcommand_rows_of m) ≡ task_of words
-unfolding task_of
-held_by app words m same has = ap task_in ((rw same at has) program_is_simple).1
+pub held_by : (app : App) (words : List (List ℕ)) (m : ArgMatches) → app ≡ program → HasMatchesOf app words m → subcommand_rows_of m ≡ found_in words
+unfolding found_in
+held_by app words m same has = ((rw same at has) program_is_simple).1
 
 pub free_by : (app : App) (words : List (List ℕ)) → app ≡ program → (is_simple_and_free app ≡ true → fault_of app words ≡ []) → fault_of program words ≡ []
 free_by app words same free = (rw same at free) program_is_free
@@ -72,10 +72,10 @@ pub fails_by : (app : App) (words : List (List ℕ)) (e : Error) → app ≡ pro
 fails_by app words e same kinds = (rw same at kinds) program_is_free
 
 -- the task of words that can be parsed
-pub asked_for : (words : List (List ℕ)) (asked : _) (result : Result TaskOf CommandFault) → fault_of program words ≡ [] → asked ≡ task_of words → AsksFor asked result → IsCommand words result
-asked_for words asked (Ok task) free same asks = (free, sym same ∙ asks)
-asked_for words asked (Err (Words help text)) free same asks = inl (free, (sym same ∙ asks.0, asks.1))
-asked_for words asked (Err NoMemory) free same asks = tt
+pub asked_for : (words : List (List ℕ)) (found : _) (result : Result TaskOf CommandFault) → fault_of program words ≡ [] → found ≡ found_in words → AsksFor found result → IsCommand words result
+asked_for words found (Ok task) free same asks = (free, rw same at asks)
+asked_for words found (Err (Words help text)) free same asks = inl (free, rw same at asks)
+asked_for words found (Err NoMemory) free same asks = tt
 
 -- why words cannot be parsed
 pub not_read : (words : List (List ℕ)) (e : Error) (fault : CommandFault) → HasKind (fault_of program words) e → ReportsError e fault → IsCommand words (Err fault)

@@ -1,3 +1,4 @@
 pub mod Options
 pub mod Task
+pub mod Shown
 pub mod Command

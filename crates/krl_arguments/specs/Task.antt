@@ -93,9 +93,9 @@ abbrev pub task_in : Option (List ℕ × List Row) → Option Task
 task_in None = None
 task_in (Some (name, rows)) = named_task name rows
 
--- what these words ask for, the program's name before them
-unfoldable pub task_of : List (List ℕ) → Option Task
-task_of words = task_in (subcommand_of program words)
+-- the subcommand that these words name, and its values, the program's name before them
+unfoldable pub found_in : List (List ℕ) → Option (List ℕ × List Row)
+found_in words = subcommand_of program words
 
 -- ---- the same, in the types of the program
 

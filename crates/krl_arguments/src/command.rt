@@ -4,7 +4,6 @@ ghost use Rattle.std.specs.Prelude.{◌≡◌, map};
 ghost use Rattle.clap.specs.Simple.{subcommand_rows_of};
 ghost use Rattle.krl_arguments.specs.Command.{AsksFor, IsCommand, ReportsError};
 ghost use Rattle.krl_arguments.specs.Command.{command_fault_status};
-ghost use Rattle.krl_arguments.specs.Task.{task_in};
 ghost use Rattle.krl_arguments.specs.declared.command.CommandFault.TheVariants.{NoMemory};
 
 use crate::options::program;
@@ -76,7 +75,7 @@ fn words_fault<S: AsStr>(alloc: Global, error: &Error, words: &[S]) -> CommandFa
 
 // The task of words that can be parsed.
 fn asked_for<'a>(alloc: Global, matches: &ArgMatches<'a>) -> Result<Task<'a>, CommandFault>
-    ensures { AsksFor (task_in (subcommand_rows_of matches.now)) result }
+    ensures { AsksFor (subcommand_rows_of matches.now) result }
 {
     match task_in(alloc, matches)? {
         Some(task) => Ok(task),

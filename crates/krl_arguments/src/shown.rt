@@ -1,5 +1,9 @@
 //! The text that is printed for words that are refused.
 
+ghost use Rattle.std.specs.Prelude.{◌≡◌, IfOk, string_bytes};
+ghost use Rattle.clap.specs.Matches.{subcommand_name_of};
+ghost use Rattle.krl_arguments.specs.Shown.{text_of_misuse};
+
 use crate::options::program;
 use clap::ArgMatches;
 use clap::error::ErrorKind;
@@ -37,7 +41,11 @@ pub fn text_for<S: AsStr>(alloc: Global, words: &[S]) -> Result<String, AllocErr
 }
 
 /// The text for options that do not go together.
-pub fn text_of_misuse(alloc: Global, matches: &ArgMatches<'_>) -> Result<String, AllocError> {
+#[tactic(auto, unfolding(crate::specs::Shown::text_of_misuse))]
+pub fn text_of_misuse(alloc: Global, matches: &ArgMatches<'_>) -> Result<String, AllocError>
+    ensures { IfOk result (λ text.
+        string_bytes text ≡ text_of_misuse (subcommand_name_of matches.now)) }
+{
     let text = match matches.subcommand_name() {
         Some("check") => VERSION_ALONE,
         _ => NOTHING_TO_AUDIT,
