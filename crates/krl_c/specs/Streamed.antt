@@ -1,8 +1,8 @@
 -- The stored part of a list that is streamed.
 use Rattle.std.specs.Prelude.{◌≤◌, length}
 use Rattle.krl_types.specs.Subject.{Subject}
-use Rattle.krl_entries.specs.Questions.{Asked, subject_size}
-use Rattle.krl_entries.specs.Revocations.{serials_in, stored}
+use Rattle.krl_entries.specs.Revocations.{stored}
+use Rattle.krl_queries.specs.Questions.{Asked, serials_in, subject_size}
 use Rattle.krl_entries.specs.Scope.{HoldsOnlyTopics}
 
 -- Only the subject of the query is stored: at most two serial numbers, two keys, and the bytes of

@@ -4,7 +4,7 @@ ghost use Rattle.std.specs.Prelude.{◌≡◌, ◌⊎◌, ◌↔◌, List, IfOk,
 ghost use Rattle.krl_types.specs.declared.krl_fault.KrlFault.TheVariants.{NoMemory};
 ghost use Rattle.krl_entries.specs.Entry.{Entry};
 ghost use Rattle.krl_core.specs.Front.{IsFirstFault};
-ghost use Rattle.krl_entries.specs.Questions.{Asks, asked_in};
+ghost use Rattle.krl_queries.specs.Questions.{Asks, asked_in};
 ghost use Rattle.krl_entries.specs.Revoked.{Revoked};
 ghost use Rattle.krl_entries.specs.Scope.{MeansInScope};
 ghost use Rattle.krl_c.specs.Answer.{Answers, AnswersOfLine, IsCompared, IsListOf, IsRefusal};
@@ -15,7 +15,8 @@ use crate::number::{FINE, REVOKED, of_line, of_list, of_subject};
 use crate::refusal::Refusal;
 use key_text::read_line;
 use krl_authority::authorities_are_keys;
-use krl_core::{Findings, KrlFault, Questions, Reading};
+use krl_core::{KrlFault, Reading};
+use krl_queries::{Findings, Questions};
 use span_sets::Held;
 use ssh_cert::{Subject, subject};
 use std::alloc::Global;
@@ -83,10 +84,12 @@ pub(crate) fn stream(
 {
     let reading: Reading<Held, Lent> = Reading::new(alloc, Lent::new(list));
     let mut questions: Questions<Held> = Questions::new(alloc);
-    let Ok(()) = reading.add_question(&mut questions, asked) else {
+    let front = reading.stored_so_far();
+    let Ok(()) = questions.ask(front, asked) else {
         return Err(KrlFault::NoMemory);
     };
-    let (read, _list) = reading.ask(alloc, questions).read_on();
+    let findings = Findings::of(alloc, front, questions);
+    let (read, _list) = reading.continue_over(alloc, findings).read_on();
     match read {
         Ok((_header, findings)) => Ok(findings),
         Err(fault) => Err(fault),
@@ -118,7 +121,8 @@ fn stream_unasked(alloc: Global, list: &[u8]) -> Result<(), KrlFault>
 {
     let reading: Reading<Held, Lent> = Reading::new(alloc, Lent::new(list));
     let none: Questions<Held> = Questions::new(alloc);
-    let (read, _list) = reading.ask(alloc, none).read_on();
+    let findings = Findings::of(alloc, reading.stored_so_far(), none);
+    let (read, _list) = reading.continue_over(alloc, findings).read_on();
     match read {
         Ok(_) => Ok(()),
         Err(fault) => Err(fault),

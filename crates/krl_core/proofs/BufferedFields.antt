@@ -7,7 +7,7 @@ use Rattle.krl_core.proofs.Common.{IsBytes, IsBytes-append, IsBytes-drop, IsByte
 use Rattle.krl_core.proofs.Common.{Leaps, left_of, length, length-append, length-drop}
 use Rattle.krl_core.proofs.Common.{length-take-le, List, names, nat_lt, Ok, on_ok_weaker, OnOk}
 use Rattle.krl_core.proofs.Common.{Passes, Place, Pull, ReadsBuffered, ReadsMore, ReadsSome}
-use Rattle.krl_core.proofs.Common.{ReadsWhole, refl, Result, small_in, start, state_after}
+use Rattle.krl_core.proofs.Common.{ReadsWhole, refl, Result, start, state_after}
 use Rattle.krl_core.proofs.Common.{StoresAtMost, StoresEntries, StoresField, subst, suc, sym, take}
 use Rattle.krl_core.proofs.Common.{take-add, take_rest, Takes, true, Walk, working, zero, ℕ}
 use Rattle.krl_core.proofs.LongestFronts.{nearer, weight}
@@ -180,7 +180,6 @@ bounded_buffered old new stored bytes b takes grows = record {
       let was = b.all_is (sym grows.same_scope ∙ every) in
       (omega (arith, grows.held_is, was.0, takes.taken), subst (λ (n : ℕ). StoresAtMost stored n) (sym takes.taken) (grows.stored_is old.pull.taken was.1));
   scope_is = grows.scope_is b.scope_is;
-  asked_is = small_in stored.scope stored.contents (grows.scope_is b.scope_is);
 }
 
 pub leaps_buffered : (old : Walk) (new : Pull) (place : Place) (stored : FieldStore) (bytes : List ℕ) → IsBounded old.pull old.stored → Takes old.pull bytes new

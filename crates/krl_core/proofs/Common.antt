@@ -51,15 +51,13 @@ pub use Rattle.krl_entries.proofs.SameNames.{same_serials, same_swap, same_then,
 pub use Rattle.krl_entries.proofs.SameNames.{some_append}
 pub use Rattle.krl_entries.proofs.ScopedMeaning.{means_all_within, nothing_within, same_within}
 pub use Rattle.krl_entries.proofs.SkippedSerials.{first_byte, serial_within, take_fewer}
-pub use Rattle.krl_entries.proofs.TopicAmounts.{small_in}
 pub use Rattle.krl_entries.specs.Changes.{run_entries}
 pub use Rattle.krl_entries.specs.Entry.{BitmapEntry, Entry, IdEntry, RangeEntry, SerialsEntry}
 pub use Rattle.krl_entries.specs.Naming.{EntryNames, Name, NamesSame, SerialOf, SomeNames}
-pub use Rattle.krl_entries.specs.Questions.{Asked, asked_in, FindsIn}
 pub use Rattle.krl_entries.specs.Revocations.{held, HoldsSerial, IsListed, Means, Revocations}
 pub use Rattle.krl_entries.specs.Revocations.{Section, SomeSection}
 pub use Rattle.krl_entries.specs.Scope.{all, AreOutOfScope, InScope, IsInScope, MeansInScope}
-pub use Rattle.krl_entries.specs.Scope.{MeansMoreInScope, Scope, serial_at}
+pub use Rattle.krl_entries.specs.Scope.{MeansMoreInScope, Narrows, Scope, serial_at}
 pub use Rattle.krl_types.specs.declared.krl_fault.KrlFault.{KrlFault}
 pub use Rattle.serial_set.specs.BitRuns.{big_endian, BitNames, BitRuns, Feeds, HasFault, lowest}
 pub use Rattle.serial_set.specs.BitRuns.{ShowsFault}

@@ -7,7 +7,7 @@ use Rattle.krl_core.proofs.Common.{HasRoom, inl, inr, is_fixed, IsBounded, IsByt
 use Rattle.krl_core.proofs.Common.{IsFirstFault, IsSome, KrlFault, le-ltb, Leads, left_of, length}
 use Rattle.krl_core.proofs.Common.{length-append, limit, List, LooksFor, lt-ltb, ltb, Missed, names}
 use Rattle.krl_core.proofs.Common.{no_room, None, Option, Passes, Place, Pull, ran_out, refl}
-use Rattle.krl_core.proofs.Common.{Refused, refused, Refuses, Reported, Says, small_in, Some, start}
+use Rattle.krl_core.proofs.Common.{Refused, refused, Refuses, Reported, Says, Some, start}
 use Rattle.krl_core.proofs.Common.{State, state_after, StoresAtMost, StoresEntries, StoresField}
 use Rattle.krl_core.proofs.Common.{subst, sym, take, take_all, Takes, too_long, true, Walk, working}
 use Rattle.krl_core.proofs.Common.{ℕ}
@@ -250,7 +250,6 @@ bounded_more old mid new stored field b looks takes grows =
           let was = b.all_is (sym grows.same_scope ∙ every) in
           (omega (arith, grows.held_is, was.0, taken), subst (λ (n : ℕ). StoresAtMost stored n) (sym taken) (grows.stored_is old.pull.taken was.1));
       scope_is = grows.scope_is b.scope_is;
-      asked_is = small_in stored.scope stored.contents (grows.scope_is b.scope_is);
     }
 
 -- ---- the parts of a step

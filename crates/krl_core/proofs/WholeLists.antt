@@ -102,7 +102,6 @@ of_all Holds stores h = subst Holds (sym h.1) h.2
 pub within_limit : (pull : Pull) (stored : FieldStore) → IsBounded pull stored → IsWithinLimit stored.scope stored.contents
 within_limit pull stored h = record {
   within = h.scope_is;
-  asked_is = h.asked_is;
   bounds = λ every. let b = h.all_is every in (omega (arith, b.0, h.within), omega (arith, b.1.now, h.within));
 }
 

@@ -23,7 +23,7 @@ use Rattle.krl_core.specs.FieldStore.{StoresAtMost}
 use Rattle.krl_core.specs.FieldStore.{held_with_open, stored_header}
 use Rattle.krl_core.specs.Place.{can_end, expected}
 use Rattle.krl_entries.specs.Entry.{Entry}
-use Rattle.krl_entries.specs.Scope.{IsSmallIn, MeansInScope, Scope, IsInScope, all}
+use Rattle.krl_entries.specs.Scope.{MeansInScope, Scope, IsInScope, all}
 
 -- A walk: the reader, the place where the next field is expected, the field store, whether the end
 -- of the list was found, and the fault, if any.
@@ -154,15 +154,13 @@ pub data Missed (place : Place) (old : Pull) (fault : KrlFault) (new : Pull) : T
       → fault ≡ reported_as why → Missed place old fault new
 
 -- The taken bytes are within the limit, and the stored entries within the scope. If all names are
--- in scope, the number of stored spans and the stored bytes are bounded by the taken bytes. If only
--- some topics are in scope, the stored entries are small compared with them.
+-- in scope, the number of stored spans and the stored bytes are bounded by the taken bytes.
 pub record IsBounded (pull : Pull) (stored : FieldStore) : Type 0 where
   pub limit_is : pull.limit ≡ limit
   pub within : pull.taken ≤ limit
   pub all_is : stored.scope ≡ all
       → (held_with_open stored ≤ 4 * pull.taken) × StoresAtMost stored pull.taken
   pub scope_is : StoresInScope stored
-  pub asked_is : IsSmallIn stored.scope stored.contents
 
 -- The end of the list was found: it is expected, no byte is left, and there was no fault.
 pub record IsEnded (reading : Walk) : Type 0 where
@@ -187,11 +185,9 @@ pub record HoldsInScope (scope : Scope) (text : List ℕ) (r : Revocations) (ent
   pub bounds : scope ≡ all → (held r ≤ 4 * length text) × (stored r ≤ length text)
 
 -- The stored entries are within the scope. If all names are in scope, they are bounded by the
--- largest size of a list. If only some topics are in scope, the stored entries are small compared
--- with them.
+-- largest size of a list.
 pub record IsWithinLimit (scope : Scope) (r : Revocations) : Type 0 where
   pub within : IsInScope scope r
-  pub asked_is : IsSmallIn scope r
   pub bounds : scope ≡ all → (held r ≤ 4 * limit) × (stored r ≤ limit)
 
 -- A property holds of a header whose stored parts are `stored`.

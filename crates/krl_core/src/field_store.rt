@@ -8,8 +8,8 @@ ghost use Rattle.serial_set.specs.Near.{AreNear};
 ghost use Rattle.krl_entries.specs.Revocations.{nothing};
 ghost use Rattle.krl_entries.specs.Entry.{Entry, SerialsEntry, RangeEntry};
 ghost use Rattle.krl_entries.specs.Naming.{SerialOf};
-ghost use Rattle.krl_entries.specs.Questions.{FindsIn, asked_in};
-ghost use Rattle.krl_entries.specs.Scope.{AreOutOfScope, InScope, IsInScope, all, stored_comment};
+ghost use Rattle.krl_entries.specs.Scope.{AreOutOfScope, InScope, IsInScope, Narrows, all};
+ghost use Rattle.krl_entries.specs.Scope.{stored_comment};
 ghost use Rattle.krl_core.specs.Front.{Passes, start};
 ghost use Rattle.krl_core.specs.FieldStore.{Adds, Closes, GrowsAtMost, InStep, StoresEntries};
 ghost use Rattle.krl_core.specs.FieldStore.{StoresAtMost};
@@ -24,7 +24,7 @@ use crate::header::Header;
 use crate::place::{
     BitmapPlace, CertificatesPlace, HeaderPlace, ItemKind, ListPlace, Place, SerialsPlace,
 };
-use krl_entries::{Findings, Questions, Revocations, Store, byte_of, u64_of};
+use krl_entries::{Revocations, Store, byte_of, u64_of};
 use serial_set::{BitRuns, Span, Spans, count_near};
 use ssh_wire::Bytes;
 use std::alloc::{AllocError, Global};
@@ -337,26 +337,27 @@ impl<S: Spans> FieldStore<Revocations<S>> {
         &self.store
     }
 
-    /// Continues with the questions alone. They already have what the stored entries name of their
-    /// topics.
-    pub fn ask(self, alloc: Global, questions: Questions<S>) -> FieldStore<Findings<S>>
-        requires { FindsIn self.contents questions }
+    /// Continues over another store, which answers for some topics as the stored entries do. The
+    /// comment is dropped.
+    pub fn continue_over<T: Store>(self, alloc: Global, store: T) -> FieldStore<T>
+        requires { Narrows self.contents (T.scope store) (T.contents store) }
         ensures stores { (entries : List Entry)
             → StoresEntries self entries → StoresEntries result entries }
         ensures same { result ≡ record self {
-          header = stored_header (asked_in questions) self.header;
-          contents = questions.found;
-          scope = asked_in questions;
+          header = stored_header (T.scope store) self.header;
+          contents = T.contents store;
+          scope = T.scope store;
         } }
         ensures all { self.scope ≡ all }
     {
-        let findings = Findings::of(alloc, &self.store, questions);
+        let mut rest = store;
+        rest.leave();
         let FieldStore {
             version,
             date,
             comment: _comment,
             authority,
-            store: _store,
+            store: _front,
             bitmap,
         } = self;
         FieldStore {
@@ -364,7 +365,7 @@ impl<S: Spans> FieldStore<Revocations<S>> {
             date,
             comment: Vec::new(alloc),
             authority,
-            store: findings,
+            store: rest,
             bitmap,
         }
     }

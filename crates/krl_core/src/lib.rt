@@ -11,7 +11,7 @@ mod read;
 mod reading;
 
 pub use header::{Header, MAGIC};
-pub use krl_entries::{Authorities, Findings, Listed, Questions, Revocations, Store, Texts};
+pub use krl_entries::{Authorities, Listed, Revocations, Store, Texts};
 pub use krl_types::KrlFault;
 pub use place::{
     BitmapPlace, CertificatesPlace, ExtensionPlace, HeaderPlace, ItemKind, ListPlace, Place,

@@ -6,27 +6,26 @@ ghost use Rattle.ssh_wire.specs.Wire.{IsBytes};
 ghost use Rattle.byte_streams.specs.Pull.{Refuses, Takes};
 ghost use Rattle.ssh_wire.specs.declared.pull_fault.PullFault.TheVariants as pulls;
 ghost use Rattle.krl_types.specs.declared.krl_fault.KrlFault.TheVariants.{NoMemory, Read};
-ghost use Rattle.krl_entries.specs.Revocations.{IsOrderly, held, nothing, serials_in, stored};
+ghost use Rattle.krl_entries.specs.Revocations.{IsOrderly, held, nothing, stored};
 ghost use Rattle.krl_core.specs.Front.{HasRoom, Passes, limit};
 ghost use Rattle.krl_core.specs.FieldStore.{GrowsAtMost, InStep, StoresField, StoresAtMost};
 ghost use Rattle.krl_core.specs.FieldStore.{held_with_open};
 ghost use Rattle.krl_core.specs.Place.{can_end, expected};
-ghost use Rattle.krl_entries.specs.Questions.{Asks, AsksMore, FindsIn, asked_in, subject_size};
 ghost use Rattle.krl_core.specs.Reading.{Advances, Ends, Follows, HasRead, HoldsInScope, IsBounded};
 ghost use Rattle.krl_core.specs.Reading.{IsReached};
 ghost use Rattle.krl_core.specs.Reading.{ReadsMore};
 ghost use Rattle.krl_core.specs.Reading.{IsList, IsWhole, IsWholeAs, IsWithinLimit, LooksFor};
 ghost use Rattle.krl_core.specs.Reading.{Missed, OfHeader, ReadsOneMore, Refused};
 ghost use Rattle.krl_core.specs.Reading.{ReportsFailure, is_fixed, working};
-ghost use Rattle.krl_entries.specs.Scope.{IsInScope, all};
+ghost use Rattle.krl_entries.specs.Scope.{IsInScope, Narrows, all};
 
 use crate::buffered::read_buffered;
 use crate::field_store::FieldStore;
 use crate::header::Header;
 use crate::place::{HeaderPlace, Place};
 use byte_streams::{Pull, Source};
-use krl_entries::{Findings, Questions, Revocations, Store};
-use krl_types::{KrlFault, Subject};
+use krl_entries::{Revocations, Store};
+use krl_types::KrlFault;
 use serial_set::Spans;
 use std::alloc::{AllocError, Global};
 use std::marker::Model;
@@ -116,35 +115,22 @@ impl<S: Spans, R: Source + Drop> Walk<Revocations<S>, R> {
 }
 
 impl<S: Spans, R: Source + Drop> Walk<Revocations<S>, R> {
-    /// Adds the questions about a key or a certificate, with what the stored entries name of their
-    /// topics. Fails only if an allocation fails.
-    pub fn add_question(
-        &self,
-        questions: &mut Questions<S>,
-        subject: &Subject,
-    ) -> Result<(), AllocError>
-        requires { FindsIn self.now.stored.contents questions.old }
-        ensures asked { OnOk result (Asks questions.new.topics subject.now) }
-        ensures orderly { IsOrderly questions.new.topics }
-        ensures more { OnOk result (AsksMore questions.old.topics questions.new.topics) }
-        ensures found { OnOk result (FindsIn self.now.stored.contents questions.new) }
-        ensures serials { serials_in questions.new.topics.sections
-            ≤ serials_in questions.old.topics.sections + 2 }
-        ensures stored { stored questions.new.topics
-            ≤ stored questions.old.topics + subject_size subject.now }
-        ensures keys { length questions.new.topics.keys
-            ≤ length questions.old.topics.keys + 2 }
+    /// The entries that are stored so far, for questions about them. They are part of a list: what
+    /// they do not name, the rest of it may.
+    pub fn stored_so_far(&self) -> &Revocations<S>
+        requires { self.now.fault ≡ None }
+        ensures { result.now ≡ self.now.stored.contents }
     {
-        questions.ask(self.stored.stored_so_far(), subject)
+        self.stored.stored_so_far()
     }
 
-    /// Continues with the questions alone. They already have what the stored entries name of their
-    /// topics. The comment is dropped. The answers come at the end of the list.
-    pub fn ask(self, alloc: Global, questions: Questions<S>) -> Walk<Findings<S>, R>
-        requires { FindsIn self.stored.contents questions }
+    /// Continues over another store, which answers for some topics as the stored entries do. From
+    /// then on only what is in its scope is stored. The comment is dropped.
+    pub fn continue_over<T: Store>(self, alloc: Global, store: T) -> Walk<T, R>
+        requires { Narrows self.stored.contents (T.scope store) (T.contents store) }
         ensures reads { (text : List ℕ) (fields : List (List ℕ)) → HasRead text fields self
             → HasRead text fields result }
-        ensures scope { result.stored.scope ≡ asked_in questions }
+        ensures scope { result.stored.scope ≡ T.scope store }
         ensures fault { result.fault ≡ self.fault }
         ensures bounds { IsBounded result.pull result.stored }
     {
@@ -159,7 +145,7 @@ impl<S: Spans, R: Source + Drop> Walk<Revocations<S>, R> {
         Walk {
             pull,
             place,
-            stored: stored.ask(alloc, questions),
+            stored: stored.continue_over(alloc, store),
             large,
             ended,
             fault,

@@ -16,7 +16,6 @@ pub mod Members
 pub mod RisingLists
 pub mod SameMeaning
 pub mod ScopedMeaning
-pub mod QuestionAnswers
 pub mod SectionChanges
 pub mod SomeSections
 pub mod RevokedTests
@@ -25,17 +24,6 @@ pub mod OneMeaning
 pub mod Intervals
 pub mod OwnEntries
 pub mod AddedMeaning
-pub mod DistinctLists
-pub mod AuthorityItems
-pub mod Serials
-pub mod RunStarts
-pub mod SerialCounts
-pub mod TopicAdditions
-pub mod TopicAmounts
-pub mod KeyHashes
-pub mod AddedFindings
-pub mod FirstSerials
 pub mod SkippedSerials
-pub mod MoreQuestions
 pub mod SeparateSections
 pub mod Gathering

@@ -1,12 +1,12 @@
 -- The tests find exactly the reasons why something is revoked.
-use Rattle.krl_entries.proofs.Common.{[], ◌↔◌, ◌∙◌, ◌≡◌, any_reason, ap, Asks, Bool, cert_reasons}
-use Rattle.krl_entries.proofs.Common.{Contains, entries_in, Entry, has_reason, HasCert}
-use Rattle.krl_entries.proofs.Common.{held_reasons, holds_name, HoldsName, IdOf, inl, inr}
-use Rattle.krl_entries.proofs.Common.{is_revoked, IsReason, IsTrue, key_reasons, KeyOf, List, Means}
-use Rattle.krl_entries.proofs.Common.{MeansInScope, Name, no_key_reasons, no_name_reasons, None}
-use Rattle.krl_entries.proofs.Common.{Option, reasons_by, reasons_of, refl, Revocations, revokes}
-use Rattle.krl_entries.proofs.Common.{SerialOf, sha1, Sha1Of, sha256, Sha256Of, Some, some_names}
-use Rattle.krl_entries.proofs.Common.{SomeNames, subst, sym, with_cert, ℕ}
+use Rattle.krl_entries.proofs.Common.{[], ◌↔◌, ◌∙◌, ◌≡◌, any_reason, ap, Bool, cert_reasons}
+use Rattle.krl_entries.proofs.Common.{Contains, Entry, has_reason, held_reasons, holds_name}
+use Rattle.krl_entries.proofs.Common.{HoldsName, IdOf, inl, inr, is_revoked, IsReason, IsTrue}
+use Rattle.krl_entries.proofs.Common.{key_reasons, KeyOf, List, Means, Name, no_key_reasons}
+use Rattle.krl_entries.proofs.Common.{no_name_reasons, None, Option, reasons_by, reasons_of, refl}
+use Rattle.krl_entries.proofs.Common.{Revocations, revokes, SerialOf, sha1, Sha1Of, sha256}
+use Rattle.krl_entries.proofs.Common.{Sha256Of, Some, some_names, SomeNames, subst, sym, with_cert}
+use Rattle.krl_entries.proofs.Common.{ℕ}
 use Rattle.std.specs.Cmp.{both_ways}
 use Rattle.krl_types.specs.Subject.{CertNames, Subject}
 use Rattle.krl_entries.specs.Revoked.{Revoked}
@@ -14,9 +14,7 @@ use Rattle.krl_entries.specs.declared.reasons.KeyReasons.{KeyReasons}
 use Rattle.krl_entries.specs.declared.reasons.NameReasons.{NameReasons}
 use Rattle.krl_entries.specs.declared.reasons.Reason.{Reason}
 use Rattle.krl_entries.specs.declared.reasons.Reasons.{Reasons}
-use Rattle.krl_entries.proofs.OwnEntries.{means_itself}
-use Rattle.krl_entries.proofs.QuestionAnswers.{NamesSameTopics, same_serials}
-use Rattle.krl_entries.proofs.RevokedTests.{name_tested, none_tested, revoked_tested, some_tested}
+use Rattle.krl_entries.proofs.RevokedTests.{name_tested, none_tested, some_tested}
 use Rattle.std.proofs.Math.Logic.Iff as Iff
 use Rattle.krl_entries.specs.declared.reasons.Reason.TheVariants as reasons
 
@@ -87,61 +85,25 @@ pub found_some : (names : Name → Bool) (key : KeyReasons) (plain : List ℕ) (
 unfolding reasons_by
 found_some names key plain cert some found is is_some same = same ∙ ap (λ (k : KeyReasons). with_cert names k (Some some)) is ∙ ap (with_cert names (key_reasons names plain)) (sym is_some)
 
--- ---- the reasons of the findings
-
--- entries that name the same topics give the same reasons for what is asked about
-same_reason : (topics : Revocations) (kept entries : List Entry) → NamesSameTopics topics kept entries → (subject : Subject) → Asks topics subject → (reason : Reason) → IsReason kept subject reason ↔ IsReason entries subject reason
-unfolding NamesSameTopics
-same_reason topics kept entries same subject asks reason = by subject.cert asks.1 reason
-  where
-    by : (cert : Option CertNames) → HasCert topics cert → (reason : Reason) → IsReason kept (record { plain = subject.plain; cert = cert }) reason ↔ IsReason entries (record { plain = subject.plain; cert = cert }) reason
-    by cert has reasons.Key = same (KeyOf subject.plain) asks.0
-    by cert has reasons.KeySha1 = same (Sha1Of (sha1 subject.plain)) (subject.plain, (asks.0, refl))
-    by cert has reasons.KeySha256 = same (Sha256Of (sha256 subject.plain)) (subject.plain, (asks.0, refl))
-    by None has reason = Iff.rfl
-    by (Some cert) has reasons.Authority = same (KeyOf cert.authority) has.0
-    by (Some cert) has reasons.AuthoritySha1 = same (Sha1Of (sha1 cert.authority)) (cert.authority, (has.0, refl))
-    by (Some cert) has reasons.AuthoritySha256 = same (Sha256Of (sha256 cert.authority)) (cert.authority, (has.0, refl))
-    by (Some cert) has reasons.Serial = same_serials topics kept entries same cert.authority cert.serial has.1.1.1
-    by (Some cert) has reasons.SerialOfAll = same_serials topics kept entries same [] cert.serial has.1.0.1
-    by (Some cert) has reasons.KeyId = same (IdOf cert.authority cert.key_id) has.1.1.0
-    by (Some cert) has reasons.KeyIdOfAll = same (IdOf [] cert.key_id) has.1.0.0
-
-pub reasons_within : (topics found : Revocations) (subject : Subject) (answer : Reasons) → Asks topics subject → answer ≡ held_reasons found subject → (entries : List Entry) → MeansInScope (Some topics) found entries
-    → (reason : Reason) → IsTrue (has_reason answer reason) ↔ IsReason entries subject reason
-unfolding NamesSameTopics
-reasons_within topics found subject answer asks is entries m reason =
-    let kept = entries_in found in
-    let itself = means_itself found m.orderly in
-    let same : NamesSameTopics topics kept entries = λ name topic. Iff.trans (Iff.symm (itself.names name)) (m.names name topic) in
-    Iff.trans (reasons_answer found kept itself subject answer is reason) (same_reason topics kept entries same subject asks reason)
-
 -- ---- equal reasons
 
-same_flag : (a b : Reasons) → ((reason : Reason) → IsTrue (has_reason a reason) ↔ IsTrue (has_reason b reason)) → (reason : Reason) → has_reason a reason ≡ has_reason b reason
-same_flag a b same reason = let both = same reason in both_ways (has_reason a reason) (has_reason b reason) both.0 both.1
-
-same_reasons : (a b : Reasons) → ((reason : Reason) → has_reason a reason ≡ has_reason b reason) → a ≡ b
-same_reasons a b same =
+-- two sets of reasons with the same ones are equal
+pub equal_reasons : (a b : Reasons) → ((reason : Reason) → IsTrue (has_reason a reason) ↔ IsTrue (has_reason b reason)) → a ≡ b
+equal_reasons a b both =
     let key : a.key ≡ b.key = rw (same reasons.Key, same reasons.KeySha1, same reasons.KeySha256) refl in
     let authority : a.authority ≡ b.authority = rw (same reasons.Authority, same reasons.AuthoritySha1, same reasons.AuthoritySha256) refl in
     let serial : a.serial ≡ b.serial = rw (same reasons.Serial, same reasons.SerialOfAll) refl in
     let key_id : a.key_id ≡ b.key_id = rw (same reasons.KeyId, same reasons.KeyIdOfAll) refl in
     rw (key, authority, serial, key_id) refl
-
--- the findings give the reasons that the entries give
-pub found_reasons : (topics found : Revocations) (entries : List Entry) → MeansInScope (Some topics) found entries → (subject : Subject) → Asks topics subject → held_reasons found subject ≡ reasons_of entries subject
-found_reasons topics found entries m subject asks =
-    same_reasons (held_reasons found subject) (reasons_of entries subject)
-    (same_flag (held_reasons found subject) (reasons_of entries subject)
-    (λ reason. Iff.trans (reasons_within topics found subject (held_reasons found subject) asks refl entries m reason) (Iff.symm (reasons_named entries subject reason))))
+  where
+    same : (reason : Reason) → has_reason a reason ≡ has_reason b reason
+    same reason = both_ways (has_reason a reason) (has_reason b reason) (both reason).0 (both reason).1
 
 -- revocations give the reasons of the entries that they mean
 pub meant_reasons : (r : Revocations) (entries : List Entry) → Means r entries → (subject : Subject) → held_reasons r subject ≡ reasons_of entries subject
 meant_reasons r entries m subject =
-    same_reasons (held_reasons r subject) (reasons_of entries subject)
-    (same_flag (held_reasons r subject) (reasons_of entries subject)
-    (λ reason. Iff.trans (reasons_meant r entries m subject reason) (Iff.symm (reasons_named entries subject reason))))
+    equal_reasons (held_reasons r subject) (reasons_of entries subject)
+    (λ reason. Iff.trans (reasons_meant r entries m subject reason) (Iff.symm (reasons_named entries subject reason)))
 
 -- ---- some reason
 
@@ -149,20 +111,10 @@ pub any_is_revoked : (entries : List Entry) (subject : Subject) → any_reason (
 unfolding is_revoked
 any_is_revoked entries subject = refl
 
--- the findings revoke what was asked about exactly if the entries do
-pub found_tested : (topics found : Revocations) (entries : List Entry) → MeansInScope (Some topics) found entries → (subject : Subject) → Asks topics subject → revokes found subject ≡ is_revoked entries subject
-unfolding revokes is_revoked
-found_tested topics found entries m subject asks = ap any_reason (found_reasons topics found entries m subject asks)
-
 -- revocations revoke exactly what the entries that they mean revoke
 pub meant_tested : (r : Revocations) (entries : List Entry) → Means r entries → (subject : Subject) → revokes r subject ≡ is_revoked entries subject
 unfolding revokes is_revoked
 meant_tested r entries m subject = ap any_reason (meant_reasons r entries m subject)
-
--- the answer about the findings says what the entries revoke
-pub answer_within : (topics found : Revocations) (subject : Subject) (answer : Bool) → Asks topics subject → answer ≡ revokes found subject → (entries : List Entry) → MeansInScope (Some topics) found entries → IsTrue answer ↔ Revoked entries subject
-answer_within topics found subject answer asks is entries m =
-    subst (λ (b : Bool). IsTrue b ↔ Revoked entries subject) (sym (is ∙ found_tested topics found entries m subject asks)) (revoked_tested entries subject)
 
 -- something is revoked exactly if there is a reason
 pub reason_of_revoked : (entries : List Entry) (subject : Subject) → Revoked entries subject ↔ ((reason : Reason) × IsReason entries subject reason)

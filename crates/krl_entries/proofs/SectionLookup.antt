@@ -1,10 +1,11 @@
 -- The one section of an authority.
 use Rattle.krl_entries.proofs.Common.{[], ⊎_elim, ⊎_map, ◌++◌, ◌↔◌, ◌∙◌, ◌∷◌, ◌≡◌, ◌⊎◌, AllAbove}
-use Rattle.krl_entries.proofs.Common.{AllBelow, Contains, Covers, HoldsId, HoldsSerial, inl, inr}
-use Rattle.krl_entries.proofs.Common.{List, Section, SomeSection, Stands, subst, sym, ℕ}
+use Rattle.krl_entries.proofs.Common.{AllBelow, Contains, Covers, empty_section, HoldsId}
+use Rattle.krl_entries.proofs.Common.{HoldsSerial, inl, inr, IsUnder, List, Section, SomeSection}
+use Rattle.krl_entries.proofs.Common.{Stands, subst, sym, ℕ}
 use Rattle.krl_entries.proofs.RisingLists.{less_apart}
 use Rattle.krl_entries.proofs.SomeSections.{some_middle}
-use Rattle.krl_entries.proofs.Elements.{some_weaker}
+use Rattle.krl_entries.proofs.Elements.{contains_none, some_weaker}
 
 abbrev key : Section → List ℕ
 key section = section.authority
@@ -57,3 +58,15 @@ no_id_under sections a id absent h = absent (some_weaker (λ s at. at.0) section
 
 pub no_serial_under : (sections : List Section) (a : List ℕ) (serial : ℕ) → (SomeSection (λ s. s.authority ≡ a) sections → ⊥) → HoldsSerial sections a serial → ⊥
 no_serial_under sections a serial absent h = absent (some_weaker (λ s at. at.0) sections h)
+
+pub is_under : (sections : List Section) (section : Section) (a : List ℕ) → section.authority ≡ a → Stands (λ s. s.authority) sections section → IsUnder sections a section
+is_under sections section a same stands = record {
+  serials = λ s. serial_under sections section a s same stands;
+  ids = λ text. id_under sections section a text same stands;
+}
+
+pub none_under : (sections : List Section) (a : List ℕ) → (SomeSection (λ s. s.authority ≡ a) sections → ⊥) → IsUnder sections a (empty_section a)
+none_under sections a absent = record {
+  serials = λ s. (no_serial_under sections a s absent, λ h. absurd h);
+  ids = λ text. (λ h. absurd (no_id_under sections a text absent h), λ h. absurd (contains_none text h));
+}

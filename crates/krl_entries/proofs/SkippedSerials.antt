@@ -1,8 +1,7 @@
 -- Serial numbers at the front of some bytes that are skipped.
-use Rattle.krl_entries.proofs.Common.{[], ◌%◌, ◌*◌, ◌+◌, ◌-◌, ◌<◌, ◌∙◌, ◌∷◌, ◌≡◌, ◌≤◌, ap, arith}
-use Rattle.krl_entries.proofs.Common.{cases_lt, drop, drop-take, get_or, inl, inr, length, List}
-use Rattle.krl_entries.proofs.Common.{NoneHolds, number_of, serial_at, subst, sym, take, take-take}
-use Rattle.krl_entries.proofs.Common.{ℕ}
+use Rattle.krl_entries.proofs.Common.{[], ◌*◌, ◌+◌, ◌-◌, ◌<◌, ◌∙◌, ◌∷◌, ◌≡◌, ◌≤◌, ap, arith, drop}
+use Rattle.krl_entries.proofs.Common.{drop-take, get_or, length, List, number_of, serial_at, sym}
+use Rattle.krl_entries.proofs.Common.{take, take-take, ℕ}
 use Rattle.krl_entries.proofs.Numbers.{number_of-one}
 pub use Rattle.std.proofs.lemmas.List.{take-take as take_fewer}
 
@@ -18,17 +17,3 @@ serial_within bytes k count fits =
 pub first_byte : (bytes : List ℕ) (bound : ℕ) → 0 < length bytes → get_or bytes 0 0 < bound → number_of (take 1 bytes) < bound
 first_byte [] bound some lt = absurd (omega arith)
 first_byte (b ∷ bs) bound some lt = omega (arith, number_of-one b)
-
--- one more serial number without the property
-pub none_more : (Holds : ℕ → Type 0) (bytes : List ℕ) (at value : ℕ) → at % 8 ≡ 0 → value ≡ number_of (take (at + 8 - at) (drop at bytes)) → (Holds value → ⊥)
-    → NoneHolds Holds bytes at → NoneHolds Holds bytes (at + 8)
-none_more Holds bytes at value whole is other none k fits holds =
-    elim (cases_lt (8 * k) at) [
-      | inl below ↦ none k (omega (arith, below, whole)) holds
-      | inr here ↦ (
-          let same : 8 * k ≡ at = omega (arith, here, fits) in
-          let eight : at + 8 - at ≡ 8 = omega arith in
-          let value_is : serial_at bytes k ≡ value = ap (λ (n : ℕ). number_of (take 8 (drop n bytes))) same ∙ ap (λ (n : ℕ). number_of (take n (drop at bytes))) (sym eight) ∙ sym is in
-          other (subst Holds value_is holds)
-          )
-    ]

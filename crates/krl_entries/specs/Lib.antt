@@ -6,7 +6,6 @@ pub mod Inserting
 pub mod Naming
 pub mod Revoked
 pub mod Scope
-pub mod Questions
 pub mod Rising
 pub mod AuthorityEntries
 pub mod Texts

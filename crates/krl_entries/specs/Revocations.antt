@@ -1,5 +1,5 @@
 -- The contents of revocations, as lists, and the entries that they mean.
-use Rattle.std.specs.Prelude.{◌≡◌, ℕ, ◌+◌, ◌-◌, ◌<◌, ◌≤◌, ◌⊎◌, ◌↔◌, List, [], ◌∷◌, length, sum_by}
+use Rattle.std.specs.Prelude.{◌≡◌, ℕ, ◌+◌, ◌<◌, ◌≤◌, ◌⊎◌, ◌↔◌, List, [], ◌∷◌, length, sum_by}
 use Rattle.std.specs.Prelude.{All}
 use Rattle.std.specs.Prelude.{Contains}
 use Rattle.serial_set.specs.declared.span.Span.{Span}
@@ -53,6 +53,11 @@ HoldsId sections a text =
 abbrev pub IsNamed : Revocations → List ℕ → Type 0
 IsNamed r a = SomeSection (λ section. section.authority ≡ a) r.sections
 
+-- the section has exactly the serials and the key IDs that are held under exactly this authority
+pub record IsUnder (sections : List Section) (authority : List ℕ) (section : Section) : Type 0 where
+  pub serials : (s : ℕ) → HoldsSerial sections authority s ↔ Covers section.spans s
+  pub ids : (text : List ℕ) → HoldsId sections authority text ↔ Contains section.ids text
+
 -- ---- order
 
 -- the spans are the runs of their serials, the IDs are in order, and there is a span or an ID
@@ -93,14 +98,6 @@ pub record Means (r : Revocations) (entries : List Entry) : Type 0 where
 -- how many spans are held
 abbrev pub held : Revocations → ℕ
 held r = sum_by (λ section. length section.spans) r.sections
-
--- how many numbers a span has
-abbrev pub span_size : Span → ℕ
-span_size span = span.hi - span.lo + 1
-
--- how many serial numbers are held, each under its authority
-abbrev pub serials_in : List Section → ℕ
-serials_in sections = sum_by (λ section. sum_by span_size section.spans) sections
 
 -- how many bytes some texts have
 abbrev pub size_of : List (List ℕ) → ℕ

@@ -1,11 +1,10 @@
 -- The scope of revocations: the names that they answer for, which are all names or some topics.
 use Rattle.std.specs.Prelude.{◌≡◌, ℕ, ◌+◌, ◌-◌, ◌*◌, ◌≤◌, ◌↔◌, List, [], ◌++◌, take, drop}
-use Rattle.std.specs.Prelude.{Option, Some, None, Contains, length, ⊤}
+use Rattle.std.specs.Prelude.{Option, Some, None, Contains, ⊤}
 use Rattle.sha1.specs.Sha1.{sha1}
 use Rattle.sha2.specs.Sha256.{sha256}
 use Rattle.ssh_wire.specs.Wire.{number_of}
 use Rattle.krl_entries.specs.Revocations.{Revocations, HoldsId, HoldsName, HoldsSerial, IsOrderly}
-use Rattle.krl_entries.specs.Revocations.{held, serials_in, stored}
 use Rattle.krl_entries.specs.Entry.{Entry}
 use Rattle.krl_entries.specs.Naming.{IdOf, KeyOf, Name, SerialOf, Sha1Of, Sha256Of, SomeNames}
 
@@ -62,21 +61,18 @@ pub record HoldsOnlyTopics (topics r : Revocations) : Type 0 where
   pub sha1s : (hash : List ℕ) → Contains r.sha1s hash → IsTopic topics (Sha1Of hash)
   pub sha256s : (hash : List ℕ) → Contains r.sha256s hash → IsTopic topics (Sha256Of hash)
 
--- The revocations are small compared with the topics: at most one run for each serial number, and
--- at most the bytes of the topics and of two hashes for each key.
-pub record IsSmall (topics r : Revocations) : Type 0 where
-  pub held_is : held r ≤ serials_in topics.sections
-  pub stored_is : stored r ≤ stored topics + 52 * length topics.keys
-
 -- the revocations are within the scope
 abbrev pub IsInScope : Scope → Revocations → Type 0
 IsInScope None r = ⊤
 IsInScope (Some topics) r = HoldsOnlyTopics topics r
 
--- The revocations are small if only some topics are in scope and the topics are in order.
-abbrev pub IsSmallIn : Scope → Revocations → Type 0
-IsSmallIn None r = ⊤
-IsSmallIn (Some topics) r = IsOrderly topics → IsSmall topics r
+-- The contents hold a topic exactly if the front holds it, and hold only topics. The scope of all
+-- names is not narrower.
+abbrev pub Narrows : (front : Revocations) → Scope → (contents : Revocations) → Type 0
+Narrows front None contents = ⊥
+Narrows front (Some topics) contents =
+    HoldsOnlyTopics topics contents
+    × ((name : Name) → IsTopic topics name → HoldsName contents name ↔ HoldsName front name)
 
 -- ---- serial numbers that are no topics
 

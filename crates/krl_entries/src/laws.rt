@@ -4,7 +4,6 @@ mod asked;
 mod naming;
 
 pub use asked::{
-    reasons_are_ways, reasons_of_what_was_found, revoked_for_a_reason, revokes_what_is_meant,
-    revokes_what_is_named, revokes_what_was_found, what_is_found_is_small,
+    reasons_are_ways, revoked_for_a_reason, revokes_what_is_meant, revokes_what_is_named,
 };
 pub use naming::{entries_decide_what_is_held, meaning_decides_naming, naming_decides_meaning};

@@ -5,7 +5,7 @@ use Rattle.krl_runs.proofs.Common.{Option, refl, Result, Revocations, RunFault, 
 use Rattle.krl_runs.proofs.Common.{stored, Subject, subject_size, ℕ}
 use Rattle.std.proofs.lemmas.List.Sums.{sum_by-cons}
 use Rattle.ssh_cert.specs.Sizes.{IsWithinBlob, names_length}
-use Rattle.krl_entries.specs.Scope.{IsSmall}
+use Rattle.krl_queries.specs.Questions.{IsSmall}
 use Rattle.krl_runs.specs.Questions.{AsksAtMost, IsFewFor}
 
 subject_room : (blob : List ℕ) (asked : Subject) → IsWithinBlob blob asked → subject_size asked ≤ 2 * length blob

@@ -16,11 +16,11 @@ pub use Rattle.key_listing.specs.Run.{subject_item, unanswered_of}
 unfoldable pub use Rattle.key_listing.specs.Run.{file_items, files_items}
 pub use Rattle.krl_core.specs.Entries.{entries_of}
 pub use Rattle.krl_core.specs.declared.header.Header.{Header}
-pub use Rattle.krl_entries.specs.Questions.{Asks, AsksMore, FindsIn, HasCert, names_size}
-pub use Rattle.krl_entries.specs.Questions.{subject_size}
+pub use Rattle.krl_queries.specs.Questions.{Asks, AsksMore, FindsIn, HasCert, names_size}
+pub use Rattle.krl_queries.specs.Questions.{serials_in, subject_size}
 pub use Rattle.krl_entries.specs.Reasons.{is_revoked, revokes}
 pub use Rattle.krl_entries.specs.Revocations.{IsOrderly, Means, nothing, Revocations, Section}
-pub use Rattle.krl_entries.specs.Revocations.{serials_in, stored}
+pub use Rattle.krl_entries.specs.Revocations.{stored}
 pub use Rattle.krl_runs.specs.Contents.{all_said, authority_line, comment_line, comment_lines}
 pub use Rattle.krl_runs.specs.Contents.{date_line, dump_text, fact_line, Known, known_lines}
 pub use Rattle.krl_runs.specs.Contents.{known_of, serials_line, version_line}

@@ -10,7 +10,7 @@ use Rattle.ssh_cert.specs.SubjectReading.{subject_of}
 use Rattle.ssh_cert.specs.declared.subject_fault.SubjectFault.{SubjectFault}
 use Rattle.key_files.specs.declared.cause.Cause.{Cause}
 use Rattle.krl_entries.specs.Naming.{KeyOf}
-use Rattle.krl_entries.proofs.MoreQuestions.{under_stays}
+use Rattle.krl_queries.proofs.MoreQuestions.{under_stays}
 use Rattle.key_files.specs.declared.cause.Cause.TheVariants as causes
 
 -- a key whose blob cannot be read is the last that counts

@@ -16,7 +16,8 @@ use Rattle.krl_entries.proofs.OwnEntries.{means_itself}
 use Rattle.krl_entries.proofs.ScopedMeaning.{means_within}
 use Rattle.krl_core.specs.Front.{IsFirstFault}
 use Rattle.krl_core.specs.Reading.{HoldsInScope, IsList, IsListAs, OfHeader}
-use Rattle.krl_entries.proofs.ReasonTests.{found_tested, meant_tested}
+use Rattle.krl_entries.proofs.ReasonTests.{meant_tested}
+use Rattle.krl_queries.proofs.FoundReasons.{found_tested}
 use Rattle.krl_types.specs.declared.krl_fault.KrlFault.{KrlFault}
 use Rattle.key_listing.specs.Carries.{Carries}
 use Rattle.key_listing.specs.Printer.{Printer}

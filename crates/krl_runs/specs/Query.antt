@@ -5,7 +5,7 @@ use Rattle.krl_entries.specs.Revocations.{Revocations}
 use Rattle.krl_core.specs.Entries.{entries_of}
 use Rattle.krl_core.specs.Front.{IsFirstFault, limit}
 use Rattle.krl_core.specs.Krl.{SpelledSection, Spells}
-use Rattle.krl_entries.specs.Questions.{Asks}
+use Rattle.krl_queries.specs.Questions.{Asks}
 use Rattle.krl_entries.specs.Entry.{Entry}
 use Rattle.krl_entries.specs.Reasons.{is_revoked, revokes}
 use Rattle.krl_core.specs.declared.header.Header.{Header}

@@ -1,6 +1,7 @@
 -- How much is asked about the keys of files.
 use Rattle.std.specs.Prelude.{ℕ, ◌+◌, ◌*◌, ◌≤◌, length}
-use Rattle.krl_entries.specs.Revocations.{Revocations, held, serials_in, stored}
+use Rattle.krl_entries.specs.Revocations.{Revocations, held, stored}
+use Rattle.krl_queries.specs.Questions.{serials_in}
 
 -- At most this much more is asked: a serial number or a key counts 50, and a byte counts 2.
 pub record AsksAtMost (room : ℕ) (old new : Revocations) : Type 0 where

@@ -6,28 +6,28 @@ ghost use Rattle.ssh_cert.specs.SubjectReading.{subject_of};
 ghost use Rattle.key_files.specs.Keys.{keys_of};
 ghost use Rattle.key_files.specs.Sizes.{blob_room, file_size, files_size};
 ghost use Rattle.key_files.specs.declared.cause.Cause.TheVariants.{NoMemory};
-ghost use Rattle.krl_entries.specs.Questions.{Asks, AsksMore, FindsIn};
+ghost use Rattle.krl_queries.specs.Questions.{Asks, AsksMore, FindsIn};
 ghost use Rattle.krl_entries.specs.Revocations.{IsOrderly};
 ghost use Rattle.key_listing.specs.Expected.{AllExpected, AreExpected};
 ghost use Rattle.krl_runs.specs.Questions.{AsksAtMost};
 
-use byte_streams::Source;
 use key_files::{Cause, FileKey, Named, keys_of};
-use krl_core::{Questions, Reading};
+use krl_entries::Revocations;
+use krl_queries::Questions;
 use span_sets::Held;
 use std::alloc::{AllocError, Global};
 
-/// Queries a list whose front was read for each key of each file, up to the file's first fault.
+/// Queries a list for each key of each file, up to the file's first fault.
 /// Fails only if an allocation fails.
-pub fn ask_about<'a, R: Source + Drop>(
+pub fn ask_about<'a>(
     alloc: Global,
     questions: &mut Questions<Held>,
-    front: &Reading<Held, R>,
+    front: &Revocations<Held>,
     files: &'a [Named<'a>],
 ) -> Result<(), AllocError>
-    requires found { FindsIn front.now.stored.contents questions.old }
+    requires found { FindsIn front.now questions.old }
     requires orderly { IsOrderly questions.old.topics }
-    ensures found { OnOk result (FindsIn front.now.stored.contents questions.new) }
+    ensures found { OnOk result (FindsIn front.now questions.new) }
     ensures orderly { IsOrderly questions.new.topics }
     ensures asked { OnOk result (AllExpected (Asks questions.new.topics) files.now) }
     ensures within { AsksAtMost (3 * files_size files.now) questions.old.topics
@@ -40,15 +40,15 @@ pub fn ask_about<'a, R: Source + Drop>(
 }
 
 // Queries for each key of a file, up to its first fault.
-fn ask_file<'a, R: Source + Drop>(
+fn ask_file<'a>(
     alloc: Global,
     questions: &mut Questions<Held>,
-    front: &Reading<Held, R>,
+    front: &Revocations<Held>,
     file: &'a Named<'a>,
 ) -> Result<(), AllocError>
-    requires found { FindsIn front.now.stored.contents questions.old }
+    requires found { FindsIn front.now questions.old }
     requires orderly { IsOrderly questions.old.topics }
-    ensures found { OnOk result (FindsIn front.now.stored.contents questions.new) }
+    ensures found { OnOk result (FindsIn front.now questions.new) }
     ensures orderly { IsOrderly questions.new.topics }
     ensures more { OnOk result (AsksMore questions.old.topics questions.new.topics) }
     ensures asked { OnOk result (AreExpected (Asks questions.new.topics) (keys_of file.now)) }
@@ -79,15 +79,15 @@ fn stopped_by(cause: Cause) -> Result<(), AllocError>
 }
 
 // Queries for a key, and returns true if it can be read.
-fn ask_key<R: Source + Drop>(
+fn ask_key(
     alloc: Global,
     questions: &mut Questions<Held>,
-    front: &Reading<Held, R>,
+    front: &Revocations<Held>,
     key: &FileKey,
 ) -> Result<bool, AllocError>
-    requires found { FindsIn front.now.stored.contents questions.old }
+    requires found { FindsIn front.now questions.old }
     requires orderly { IsOrderly questions.old.topics }
-    ensures found { OnOk result (FindsIn front.now.stored.contents questions.new) }
+    ensures found { OnOk result (FindsIn front.now questions.new) }
     ensures orderly { IsOrderly questions.new.topics }
     ensures more { OnOk result (AsksMore questions.old.topics questions.new.topics) }
     ensures asked { OnOk result
@@ -98,7 +98,7 @@ fn ask_key<R: Source + Drop>(
 {
     match key.read() {
         Ok(any) => {
-            front.add_question(questions, &any.subject(alloc)?)?;
+            questions.ask(front, &any.subject(alloc)?)?;
             Ok(true)
         }
         Err(_) => Ok(false),

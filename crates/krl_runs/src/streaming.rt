@@ -4,7 +4,7 @@ ghost use Rattle.std.specs.Prelude.{◌≡◌, ◌*◌, ◌≤◌, ℕ, IfSome, 
 ghost use Rattle.key_files.specs.Keys.{Named as NamedOf};
 ghost use Rattle.key_files.specs.Sizes.{files_size};
 ghost use Rattle.krl_entries.specs.Entry.{Entry as EntryOf};
-ghost use Rattle.krl_entries.specs.Questions.{Asks};
+ghost use Rattle.krl_queries.specs.Questions.{Asks};
 ghost use Rattle.krl_entries.specs.Revocations.{IsOrderly, nothing};
 ghost use Rattle.krl_core.specs.Reading.{HasReadOf, IsReadingOf};
 ghost use Rattle.krl_types.specs.declared.krl_fault.KrlFault.{KrlFault as FaultOf};
@@ -19,7 +19,8 @@ use crate::questions::ask_about;
 use byte_streams::{Sink, Source};
 use key_files::{Cause, FileFault, FileKey, Named, RunFault, cause_of};
 use key_listing::{Answer, Answers, Run, print_files};
-use krl_core::{Findings, Questions, Reading, Walk};
+use krl_core::{Reading, Walk};
+use krl_queries::{Findings, Questions};
 use span_sets::Held;
 use ssh_cert::AnyKey;
 use std::alloc::{AllocError, Global};
@@ -117,14 +118,17 @@ fn ask_rest<'a, R: Source + Drop, W: Sink>(
         run.old.printer run.new.printer }
 {
     let mut questions: Questions<Held> = Questions::new(run.alloc);
-    match ask_about(run.alloc, &mut questions, &front, files) {
+    let stored = front.stored_so_far();
+    match ask_about(run.alloc, &mut questions, stored, files) {
         Ok(()) => {
-            let walk = front.ask(run.alloc, questions);
+            let findings = Findings::of(run.alloc, stored, questions);
+            let walk = front.continue_over(run.alloc, findings);
             stream(run, krl_name, walk, files)
         }
         Err(_) => {
             let none: Questions<Held> = Questions::new(run.alloc);
-            let walk = front.ask(run.alloc, none);
+            let findings = Findings::of(run.alloc, stored, none);
+            let walk = front.continue_over(run.alloc, findings);
             stream_unasked(run, krl_name, walk)
         }
     }

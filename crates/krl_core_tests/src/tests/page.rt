@@ -1,9 +1,10 @@
-//! The callers of the pages of `krl_entries`, `krl_core`, `krl_types`, `krl_authority` and
-//! `krl_writer`.
+//! The callers of the pages of `krl_entries`, `krl_core`, `krl_queries`, `krl_types`,
+//! `krl_authority` and `krl_writer`.
 
 use byte_streams::FromRead;
 use krl_authority::authorities_are_keys;
-use krl_core::{Header, Revocations, read_krl};
+use krl_core::{Header, Reading, Revocations, read_krl};
+use krl_queries::{Findings, Questions};
 use krl_types::KrlFault;
 use krl_writer::{TextFault, krl_text};
 use span_sets::Held;
@@ -47,6 +48,22 @@ fn a_list_is_asked(rt: HostRuntime) {
     assert!(rt; is_revoked(rt.alloc(), &list, &key) == Some(true));
     assert!(rt; is_revoked(rt.alloc(), &list, &other) == Some(false));
     assert!(rt; is_revoked(rt.alloc(), &HEADER[..40], &key) == None);
+    for (blob, revoked) in [(&key, true), (&other, false)] {
+        let asked = subject(rt.alloc(), blob).expect(&rt, "a key is asked about");
+        assert!(rt; is_revoked_in(rt.alloc(), &list, &asked) == Ok(revoked));
+        assert!(rt; is_revoked_in(rt.alloc(), &HEADER[..40], &asked).is_err());
+    }
+}
+
+/// Whether a list revokes the key or the certificate that is asked about.
+fn is_revoked_in(alloc: Global, list: &[u8], asked: &Subject) -> Result<bool, KrlFault> {
+    let front: Reading<Held, FromRead<&[u8]>> = Reading::new(alloc, FromRead::new(list));
+    let mut questions: Questions<Held> = Questions::new(alloc);
+    questions.ask(front.stored_so_far(), asked)?;
+    let findings = Findings::of(alloc, front.stored_so_far(), questions);
+    let (read, _reader) = front.continue_over(alloc, findings).read_on();
+    let (_header, findings) = read?;
+    Ok(findings.answer(asked))
 }
 
 /// Whether a list may be good all the same: its reader failed, or memory ran out.

@@ -8,8 +8,9 @@ use crate::tests::rows::ROWS;
 use crate::tests::said::{A, ALL, About, B, Said, held_of, subject_of};
 use byte_streams::{FromBuffer, Source};
 use key_text::{sha1_of, sha256_of};
-use krl_core::{KrlFault, Questions, Reading, Store, Walk};
+use krl_core::{KrlFault, Reading, Store, Walk};
 use krl_entries::{Reason, Reasons};
+use krl_queries::{Findings, Questions};
 use span_sets::Held;
 use std::alloc::Global;
 use std::io::BufReader;
@@ -86,10 +87,12 @@ fn passes<R: Source + Drop>(
         return Ok((list.query(&subject), list.reasons(&subject)));
     }
     let mut questions: Questions<Held> = Questions::new(alloc);
-    front
-        .add_question(&mut questions, &subject)
+    let stored = front.stored_so_far();
+    questions
+        .ask(stored, &subject)
         .expect(rt, "there is memory");
-    let (read, _) = front.ask(alloc, questions).read_on();
+    let findings = Findings::of(alloc, stored, questions);
+    let (read, _) = front.continue_over(alloc, findings).read_on();
     let (_, findings) = read?;
     Ok((findings.answer(&subject), findings.reasons(&subject)))
 }
@@ -151,10 +154,12 @@ fn pass_on<R: Source + Drop>(rt: &impl Abort, alloc: Global, reader: R, most: u6
     }
     let mut questions: Questions<Held> = Questions::new(alloc);
     let subject = subject_of(rt, alloc, Some((A, 70, b"x")));
-    front
-        .add_question(&mut questions, &subject)
+    let stored = front.stored_so_far();
+    questions
+        .ask(stored, &subject)
         .expect(rt, "there is memory");
-    stride_on(front.ask(alloc, questions))
+    let findings = Findings::of(alloc, stored, questions);
+    stride_on(front.continue_over(alloc, findings))
 }
 
 // A giver of a text's first bytes, a number of them at a call, which fails from a call on or where

@@ -6,7 +6,7 @@ use Rattle.krl_runs.proofs.ExpectedKeys.{files_more}
 use Rattle.krl_runs.proofs.questions.ask_about.Goals as goal
 
 pub loop-file-preserved : goal.loop-file-preserved
-loop-file-preserved g c =
+loop-file-preserved c =
     let asked = c.in_ok-ask_file.ensures in
     let now = c.ask_file.new.questions.topics in
     let files = c.args.files.now in

@@ -5,8 +5,8 @@ use Rattle.krl_runs.specs.Questions.{AsksAtMost}
 use Rattle.krl_runs.proofs.questions.ask_about.Given as goal
 
 abbrev pub invariant-loop-file : goal.invariant-loop-file
-invariant-loop-file g l = record {
-  found : FindsIn l.front.stored.contents l.questions;
+invariant-loop-file l = record {
+  found : FindsIn l.front l.questions;
   orderly : IsOrderly l.questions.topics;
   asked : (k : ℕ) (d : Named) → k < l.file-index → AreExpected (Asks l.questions.topics) (keys_of (slice_index_or l.files k d));
   within : AsksAtMost (3 * files_size (take l.file-index l.files)) l.initial.questions.topics l.questions.topics;

@@ -2,13 +2,13 @@
 use Rattle.krl_runs.proofs.Common.{◌∙◌, ◌∷◌, ◌≡◌, ◌≢◌, ap, AreExpected, Asks, FileKey, keys_of}
 use Rattle.krl_runs.proofs.Common.{Result, RunFault}
 use Rattle.key_files.specs.declared.cause.Cause.TheVariants.{NoMemory}
-use Rattle.krl_entries.proofs.MoreQuestions.{on_ok_with}
+use Rattle.krl_queries.proofs.MoreQuestions.{on_ok_with}
 use Rattle.krl_runs.proofs.Bounds.{room_next}
 use Rattle.krl_runs.proofs.ExpectedKeys.{fault_expected, key_expected}
 use Rattle.krl_runs.proofs.questions.ask_file.Goals as goal
 
 pub loop-next-preserved-else-not-branch : goal.loop-next-preserved-else-not-branch
-loop-next-preserved-else-not-branch g c =
+loop-next-preserved-else-not-branch c =
     let asked = c.in_ok-ask_key-in-Ok.ensures in
     let given = rw c.in-Ok.is at c.in-Some.ensures.steps in
     let first = given.1.0 ∙ ap (λ (next : Result FileKey RunFault). next ∷ c.next.new.self) given.1.1 in
@@ -24,7 +24,7 @@ loop-next-preserved-else-not-branch g c =
     }
 
 pub loop-next-preserved : goal.loop-next-preserved
-loop-next-preserved g c =
+loop-next-preserved c =
     let asked = c.in_ok-ask_key-in-Ok.ensures in
     let given = rw c.in-Ok.is at c.in-Some.ensures.steps in
     let first = given.1.0 ∙ ap (λ (next : Result FileKey RunFault). next ∷ c.next.new.self) given.1.1 in
@@ -40,7 +40,7 @@ loop-next-preserved g c =
     }
 
 pub returns-in-Err-clause-asked : goal.returns-in-Err-clause-asked
-returns-in-Err-clause-asked g c =
+returns-in-Err-clause-asked c =
     let given = rw c.in-Err.is at c.in-Some.ensures.steps in
     let before = rw given.1.0 at c.loop-next.invariant.asked in
     let topics = c.loop-next.questions.topics in
@@ -50,6 +50,6 @@ returns-in-Err-clause-asked g c =
     (λ known _. before topics (λ name h. h) (fault_expected (Asks topics) given.0 c.in-Err.stop c.next.new.self given.1.1 known)) known known
 
 pub returns-clause-asked : goal.returns-clause-asked
-returns-clause-asked g c =
+returns-clause-asked c =
     let before = rw c.in-None.ensures.steps.0 at c.loop-next.invariant.asked in
     before c.loop-next.questions.topics (λ name h. h) tt

@@ -6,8 +6,8 @@ use Rattle.krl_runs.proofs.Bounds.{LeavesRoom}
 use Rattle.krl_runs.proofs.questions.ask_file.Given as goal
 
 abbrev pub invariant-loop-next : goal.invariant-loop-next
-invariant-loop-next g l = record {
-  found : FindsIn l.front.stored.contents l.questions;
+invariant-loop-next l = record {
+  found : FindsIn l.front l.questions;
   orderly : IsOrderly l.questions.topics;
   more : AsksMore l.initial.questions.topics l.questions.topics;
   asked : (later : Revocations) → AsksMore l.questions.topics later → AreExpected (Asks later) l.next-iterator → AreExpected (Asks later) (keys_of l.file);

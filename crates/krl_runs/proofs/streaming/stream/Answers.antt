@@ -2,6 +2,7 @@
 use Rattle.krl_runs.proofs.Common.{ask_by, Err, files_size, is_revoked, Ok}
 use Rattle.krl_runs.proofs.Bounds.{few_found}
 use Rattle.krl_runs.proofs.QueryRuns.{asked_run, asked_refused, streamed_answers, streamed_list}
+use Rattle.krl_queries.proofs.TopicAmounts.{small_within}
 use Rattle.krl_runs.proofs.streaming.stream.Goals as goal
 
 pub returns-in-Ok : goal.returns-in-Ok
@@ -35,4 +36,5 @@ print_streamed-requires-clause-few g c =
     let read = rw c.in-Ok.is at c.read_on-read.ensures in
     let orderly = rw (← read.scope) at c.requires.orderly in
     let within = rw (← read.scope) at c.requires.within in
-    few_found (files_size c.args.files.now) c.in-Ok.findings.topics c.in-Ok.findings.found within (read.within.asked_is orderly)
+    few_found (files_size c.args.files.now) c.in-Ok.findings.topics c.in-Ok.findings.found within
+    (small_within c.in-Ok.findings.topics c.in-Ok.findings.found orderly read.within.within)

@@ -1,5 +1,0 @@
-use Rattle.krl_entries.proofs.ReasonTests.{found_reasons}
-use Rattle.krl_entries.proofs.laws.asked.reasons_of_what_was_found.Goals as goal
-
-pub returns : goal.returns
-returns c topics found entries subject means asks = found_reasons topics found entries means subject asks

@@ -1,0 +1,11 @@
+//! Queries about a key revocation list that is streamed.
+#![tactic(auto)]
+
+mod findings;
+mod key_hashes;
+pub mod laws;
+mod questions;
+mod topics;
+
+pub use findings::Findings;
+pub use questions::Questions;
