@@ -7,8 +7,9 @@ use Rattle.std.specs.Prelude.{IsTrue, ◌↔◌, Result, Ok, Err}
 use Rattle.ssh_wire.specs.declared.fault.WireFault.{WireFault}
 use Rattle.ssh_wire.specs.Wire.{number, string}
 use Rattle.ssh_wire.proofs.Fields.{length-number, length-string}
-use Rattle.krl_core.specs.Krl.{Certificates, Extension, Keys, Sha1s, Sha256s, Signature, SpelledSection, Spells, SpellsContent, SpellsEach, SpellsSection, header_text, magic}
+use Rattle.krl_core.specs.Krl.{Certificates, Signature, SpelledSection, Spells, SpellsContent, SpellsEach, SpellsSection, header_text, magic}
 use Rattle.krl_core.specs.declared.header.Header.{Header}
+use Rattle.krl_core.proofs.OneSpelling.{section_type}
 use Rattle.krl_authority.specs.Authority.{AuthoritiesAreKeys, IsJudged, IsKeyOrAll}
 
 -- ---- what was read
@@ -67,36 +68,24 @@ left_at list header sections spells =
 
 -- ---- a section
 
-abbrev pub type_of : SpelledSection → ℕ
-type_of (Certificates authority subsections) = 1
-type_of (Keys blobs) = 2
-type_of (Sha1s hashes) = 3
-type_of Signature = 4
-type_of (Sha256s hashes) = 5
-type_of Extension = 255
-
 -- its type byte, a string, and the bytes after that
 pub record BeginsSo (section : SpelledSection) (first : List ℕ) : Type 0 where
   pub content : List ℕ
   pub after : List ℕ
-  pub parts : first ≡ type_of section ∷ (string content ++ after)
+  pub parts : first ≡ section_type section ∷ (string content ++ after)
   pub fits : length content < 2 ^ 32
 
-abbrev of_content : {Content : List ℕ → Type 0} (section : SpelledSection) (first : List ℕ) → SpellsContent (type_of section) Content first → BeginsSo section first
+abbrev of_content : {Content : List ℕ → Type 0} (section : SpelledSection) (first : List ℕ) → SpellsContent (section_type section) Content first → BeginsSo section first
 of_content section first is = record {
   content = is.content;
   after = [];
-  parts = is.spelled ∙ ap (λ (bytes : List ℕ). type_of section ∷ bytes) (sym (append-nil (string is.content)));
+  parts = is.spelled ∙ ap (λ (bytes : List ℕ). section_type section ∷ bytes) (sym (append-nil (string is.content)));
   fits = is.fits;
 }
 
 abbrev pub begins_so : (section : SpelledSection) (first : List ℕ) → SpellsSection first section → BeginsSo section first
-begins_so (Certificates authority subsections) first is = of_content (Certificates authority subsections) first is
-begins_so (Keys blobs) first is = of_content (Keys blobs) first is
-begins_so (Sha1s hashes) first is = of_content (Sha1s hashes) first is
 begins_so Signature first is = record { content = is.key; after = string is.signature; parts = is.spelled; fits = is.key_fits }
-begins_so (Sha256s hashes) first is = of_content (Sha256s hashes) first is
-begins_so Extension first is = of_content Extension first is
+begins_so section first is = of_content section first is
 
 -- reading a string that is spelled gives it and the bytes after it
 abbrev pub Takes : (from content left : List ℕ) → Type 0
@@ -112,10 +101,10 @@ tail_of (byte ∷ bytes) = bytes
 
 -- the type byte is that of the section, and its string is next
 pub front_is : (section : SpelledSection) (first rest old after : List ℕ) (byte : ℕ) (begins : BeginsSo section first) → old ≡ first ++ rest → old ≡ byte ∷ after
-    → (byte ≡ type_of section) × (after ≡ string begins.content ++ (begins.after ++ rest))
+    → (byte ≡ section_type section) × (after ≡ string begins.content ++ (begins.after ++ rest))
 front_is section first rest old after byte begins parts front =
     let more = string begins.content ++ begins.after in
-    let same : byte ∷ after ≡ type_of section ∷ (more ++ rest) = sym front ∙ parts ∙ ap (λ bytes. bytes ++ rest) begins.parts in
+    let same : byte ∷ after ≡ section_type section ∷ (more ++ rest) = sym front ∙ parts ∙ ap (λ bytes. bytes ++ rest) begins.parts in
     (ap head_of same, ap tail_of same ∙ append_assoc (string begins.content) begins.after rest)
 
 -- if a content fits, so does a string at its front
@@ -134,11 +123,7 @@ judged_certificates (Certificates authority subsections) first rest old after co
       judged = begins authority (string held.reserved ++ held.body) (taken.0 ∙ held.spelled) (front_fits authority (string held.reserved ++ held.body) is.content held.spelled is.fits);
       left_is = λ _. taken.1;
     }
-judged_certificates (Keys blobs) first rest old after content left fine is parts front takes begins = absurd (omega (arith, (front_is (Keys blobs) first rest old after 1 (begins_so (Keys blobs) first is) parts front).0))
-judged_certificates (Sha1s hashes) first rest old after content left fine is parts front takes begins = absurd (omega (arith, (front_is (Sha1s hashes) first rest old after 1 (begins_so (Sha1s hashes) first is) parts front).0))
-judged_certificates Signature first rest old after content left fine is parts front takes begins = absurd (omega (arith, (front_is Signature first rest old after 1 (begins_so Signature first is) parts front).0))
-judged_certificates (Sha256s hashes) first rest old after content left fine is parts front takes begins = absurd (omega (arith, (front_is (Sha256s hashes) first rest old after 1 (begins_so (Sha256s hashes) first is) parts front).0))
-judged_certificates Extension first rest old after content left fine is parts front takes begins = absurd (omega (arith, (front_is Extension first rest old after 1 (begins_so Extension first is) parts front).0))
+judged_certificates section first rest old after content left fine is parts front takes begins = absurd (omega (arith, (front_is section first rest old after 1 (begins_so section first is) parts front).0))
 
 -- ---- all sections
 

@@ -30,8 +30,8 @@ pub use Rattle.krl_core.specs.Krl.{subsection_type, SubsectionContent, Subsectio
 pub use Rattle.krl_core.specs.Place.{authority_after, base_of, bits_judged, bits_within, can_end}
 pub use Rattle.krl_core.specs.Place.{Expected, expected, header_after, highest_bit, item_entry}
 pub use Rattle.krl_core.specs.Place.{item_size, judge, length_within, names, next_bits, next_item}
-pub use Rattle.krl_core.specs.Place.{next_serial, next_subsection, passes_end, section_of_type}
-pub use Rattle.krl_core.specs.Place.{subsection_of_type, within}
+pub use Rattle.krl_core.specs.Place.{next_serial, next_subsection, passes_end, place_of_type}
+pub use Rattle.krl_core.specs.Place.{section_of_type, subsection_of_type, within}
 pub use Rattle.krl_core.specs.Reading.{Advances, cut, Ends, EndsAfter, failed_read, first, Follows}
 pub use Rattle.krl_core.specs.Reading.{HasFixedFields, HasRead, HoldsAll, HoldsInScope, is_fixed}
 pub use Rattle.krl_core.specs.Reading.{IsBounded, IsList, IsListAs, IsReached, IsWholeAs}

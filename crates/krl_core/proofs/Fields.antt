@@ -15,7 +15,7 @@ use Rattle.krl_core.proofs.Common.{state_after, string, strings, subsection_of_t
 use Rattle.krl_core.proofs.Common.{SubsectionExtension, subst, sym, true, ℕ}
 use Rattle.std.proofs.lemmas.Slice.Eq.{bytes_eq-Decides}
 use Rattle.krl_core.proofs.Bits.{judged_parts}
-use Rattle.krl_core.proofs.SpelledSections.{fits_within, chosen, number_front, length_front}
+use Rattle.krl_core.proofs.SpelledSections.{fits_within, number_front, length_front}
 use Rattle.krl_core.proofs.SpelledSections.{content_front, string_parts, item_front, string_more}
 use Rattle.krl_core.proofs.SpelledSections.{serial_more, items_from, subsections_from, serials_from}
 use Rattle.krl_core.proofs.SpelledSections.{sections_from, items_section, certificates_section}
@@ -27,7 +27,8 @@ use Rattle.krl_core.proofs.RestSpellings.{FromExtension, FromCritical, FromComme
 use Rattle.krl_core.proofs.RestSpellings.{FromHeaderReserved, FromFlags, FromDate, FromSubsections}
 use Rattle.krl_core.proofs.RestSpellings.{FromReserved, FromCertificates, FromPart, Completes}
 use Rattle.krl_core.proofs.RestSpellings.{IsItem, Items}
-use Rattle.krl_core.proofs.Judgements.{held_back, same_place}
+use Rattle.krl_core.proofs.Judgements.{each_type, same_place}
+use Rattle.krl_core.specs.Place.{last_types, section_types, subsection_types}
 use Rattle.krl_types.specs.declared.krl_fault.KrlFault.TheVariants as faults
 use Rattle.krl_core.specs.declared.place.list.ItemKind.TheVariants as kinds
 use Rattle.krl_core.specs.declared.place.Place.TheVariants as places
@@ -45,59 +46,24 @@ along last h a p q bytes more e k = subst (λ (x : Place). Completes last h a x 
 
 section_front : (last h : Header) (signed : Bool) (q : Place) (n : ℕ) (tail : List ℕ) (more : List Entry) → section_of_type signed n ≡ Ok q
     → Completes last h [] q tail more → FromSections signed (last ≡ h) (n ∷ tail) more
-section_front last h signed q n tail more e k =
-    elim (chosen (eqb n 4) (places.Signature signatures.KeyLength) _ q e) [
-      | inl w ↦ byte 4 (eqb-true n 4 w.0) (signature_section (last ≡ h) signed tail more (along last h [] (places.Signature signatures.KeyLength) q tail more w.1 k))
-      | inr w0 ↦ let s = held_back signed faults.AfterSignature _ q w0.1 in
-          elim (chosen (eqb n 1) (places.Certificates certificates.SectionLength) _ q s.1) [
-            | inl w ↦ byte 1 (eqb-true n 1 w.0) (certificates_section (last ≡ h) signed tail more s.0 (along last h [] (places.Certificates certificates.SectionLength) q tail more w.1 k))
-            | inr w1 ↦ elim (chosen (eqb n 2) (places.List (lists.SectionLength kinds.Key)) _ q w1.1) [
-              | inl w ↦
-                  let l = along last h [] (places.List (lists.SectionLength kinds.Key)) q tail more w.1 k in
-                  byte 2 (eqb-true n 2 w.0) (items_section (last ≡ h) signed kinds.Key [] 2 (Keys l.then_is.items) tail more s.0 l (λ fits. record { content = strings l.then_is.items; spelled = refl; fits = fits; content_is = refl }) refl (λ others last. last))
-              | inr w2 ↦ elim (chosen (eqb n 3) (places.List (lists.SectionLength kinds.Sha1)) _ q w2.1) [
-                | inl w ↦
-                    let l = along last h [] (places.List (lists.SectionLength kinds.Sha1)) q tail more w.1 k in
-                    byte 3 (eqb-true n 3 w.0) (items_section (last ≡ h) signed kinds.Sha1 [] 3 (Sha1s l.then_is.items) tail more s.0 l (λ fits. record { content = strings l.then_is.items; spelled = refl; fits = fits; content_is = (refl, l.then_is.good) }) refl (λ others last. last))
-                | inr w3 ↦ elim (chosen (eqb n 5) (places.List (lists.SectionLength kinds.Sha256)) _ q w3.1) [
-                  | inl w ↦
-                      let l = along last h [] (places.List (lists.SectionLength kinds.Sha256)) q tail more w.1 k in
-                      byte 5 (eqb-true n 5 w.0) (items_section (last ≡ h) signed kinds.Sha256 [] 5 (Sha256s l.then_is.items) tail more s.0 l (λ fits. record { content = strings l.then_is.items; spelled = refl; fits = fits; content_is = (refl, l.then_is.good) }) refl (λ others last. last))
-                  | inr w4 ↦ elim (chosen (eqb n 255) (places.Extension extensions.SectionLength) _ q w4.1) [
-                    | inl w ↦ byte 255 (eqb-true n 255 w.0) (extension_section (last ≡ h) signed tail more s.0 (along last h [] (places.Extension extensions.SectionLength) q tail more w.1 k))
-                    | inr w5 ↦ let no_one = w5.1 in absurd (cc)
-                  ]
-                ]
-              ]
-            ]
-          ]
-    ]
-  where
-    byte : (m : ℕ) → n ≡ m → FromSections signed (last ≡ h) (m ∷ tail) more → FromSections signed (last ≡ h) (n ∷ tail) more
-    byte m same f = subst (λ (x : ℕ). FromSections signed (last ≡ h) (x ∷ tail) more) (sym same) f
+section_front last h true q n tail more =
+    each_type (λ n q. Completes last h [] q tail more → FromSections true (last ≡ h) (n ∷ tail) more) faults.AfterSignature last_types n q (signature_section (last ≡ h) true tail more, tt)
+section_front last h false q n tail more =
+    let keys = items_section (last ≡ h) kinds.Key 2 Keys tail more (λ items good fits. record { content = strings items; spelled = refl; fits = fits; content_is = refl })
+    (λ items. refl) (λ items others last. last) in
+    let sha1s = items_section (last ≡ h) kinds.Sha1 3 Sha1s tail more (λ items good fits. record { content = strings items; spelled = refl; fits = fits; content_is = (refl, good) })
+    (λ items. refl) (λ items others last. last) in
+    let sha256s = items_section (last ≡ h) kinds.Sha256 5 Sha256s tail more (λ items good fits. record { content = strings items; spelled = refl; fits = fits; content_is = (refl, good) })
+    (λ items. refl) (λ items others last. last) in
+    each_type (λ n q. Completes last h [] q tail more → FromSections false (last ≡ h) (n ∷ tail) more) faults.UnknownSection section_types n q
+    (certificates_section (last ≡ h) tail more, (keys, (sha1s, (signature_section (last ≡ h) false tail more, (sha256s, (extension_section (last ≡ h) tail more, tt))))))
 
 subsection_front : (last h : Header) (a : List ℕ) (left : ℕ) (q : Place) (n : ℕ) (tail : List ℕ) (more : List Entry) → 1 ≤ left → subsection_of_type (left - 1) n ≡ Ok q
     → Completes last h a q tail more → FromSubsections (last ≡ h) a left (n ∷ tail) more
 subsection_front last h a left q n tail more room e k =
-    elim (chosen (eqb n 0x20) (places.Serials (serials.SerialsLength (left - 1))) _ q e) [
-      | inl w ↦ byte 0x20 (eqb-true n 0x20 w.0) (along last h a (places.Serials (serials.SerialsLength (left - 1))) q tail more w.1 k)
-      | inr w1 ↦ elim (chosen (eqb n 0x21) (places.Serials (serials.RangeLength (left - 1))) _ q w1.1) [
-        | inl w ↦ byte 0x21 (eqb-true n 0x21 w.0) (along last h a (places.Serials (serials.RangeLength (left - 1))) q tail more w.1 k)
-        | inr w2 ↦ elim (chosen (eqb n 0x22) (places.Bitmap (bitmaps.Length (left - 1))) _ q w2.1) [
-          | inl w ↦ byte 0x22 (eqb-true n 0x22 w.0) (along last h a (places.Bitmap (bitmaps.Length (left - 1))) q tail more w.1 k)
-          | inr w3 ↦ elim (chosen (eqb n 0x23) (places.List (lists.IdsLength (left - 1))) _ q w3.1) [
-            | inl w ↦ byte 0x23 (eqb-true n 0x23 w.0) (along last h a (places.List (lists.IdsLength (left - 1))) q tail more w.1 k)
-            | inr w4 ↦ elim (chosen (eqb n 0x39) (places.Extension (extensions.SubsectionLength (left - 1))) _ q w4.1) [
-              | inl w ↦ byte 0x39 (eqb-true n 0x39 w.0) (along last h a (places.Extension (extensions.SubsectionLength (left - 1))) q tail more w.1 k)
-              | inr w5 ↦ let no_one = w5.1 in absurd (cc)
-            ]
-          ]
-        ]
-      ]
-    ]
-  where
-    byte : (m : ℕ) → n ≡ m → FromPart (last ≡ h) a m (left - 1) tail more → FromSubsections (last ≡ h) a left (n ∷ tail) more
-    byte m same f = subst (λ (x : ℕ). FromSubsections (last ≡ h) a left (x ∷ tail) more) (sym same) (subsections_more (last ≡ h) a m left tail more f room)
+    subsections_more (last ≡ h) a n left tail more
+    (each_type (λ n q. Completes last h a q tail more → FromPart (last ≡ h) a n (left - 1) tail more) faults.UnknownCertSection (subsection_types (left - 1)) n q
+    (λ k. k, (λ k. k, (λ k. k, (λ k. k, (λ k. k, tt))))) e k) room
 
 pub field_front : (last h : Header) (a : List ℕ) (p q : Place) (field tail : List ℕ) (more : List Entry) → IsBytes field → Passes p field q
     → Completes last (header_after p h field) (authority_after p a field) q tail more → Completes last h a p (field ++ tail) (names p a field ++ more)

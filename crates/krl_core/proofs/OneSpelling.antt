@@ -7,6 +7,7 @@ use Rattle.krl_core.proofs.Common.{List, magic, number, number_again4, number_ag
 use Rattle.krl_core.proofs.Common.{numbers_text, Range, refl, Serials, Sha1s, Sha256s, Signature}
 use Rattle.krl_core.proofs.Common.{SpelledSection, Spells, SpellsBitmap, SpellsCertificates}
 use Rattle.krl_core.proofs.Common.{SpellsContent, SpellsEach, SpellsSection, SpellsSubsection}
+use Rattle.krl_core.specs.Krl.{SpellsSignature}
 use Rattle.krl_core.proofs.Common.{string, strings, Subsection, subsection_type, SubsectionContent}
 use Rattle.krl_core.proofs.Common.{SubsectionExtension, subst, sym, ℕ}
 use Rattle.krl_core.proofs.Fronts.{append_same}
@@ -78,13 +79,13 @@ head_is : (m n : ℕ) (xs ys : List ℕ) → m ∷ xs ≡ n ∷ ys → m ≡ n
 head_is m n xs ys e = cc
 
 -- a type byte and a string
-typed_front : (m n : ℕ) (content content' text other rest rest' : List ℕ) → text ≡ m ∷ string content → other ≡ n ∷ string content' → length content < 2 ^ 32 → length content' < 2 ^ 32
-    → text ++ rest ≡ other ++ rest' → (m ≡ n) × (content ≡ content') × (rest ≡ rest')
-typed_front m n content content' text other rest rest' e f fits fits' same =
-    let whole : m ∷ (string content ++ rest) ≡ n ∷ (string content' ++ rest') = sym (ap (λ (t : List ℕ). t ++ rest) e) ∙ same ∙ ap (λ (t : List ℕ). t ++ rest') f in
-    let s = append_same (m ∷ []) (n ∷ []) (string content ++ rest) (string content' ++ rest') refl whole in
-    let t = same_string content content' rest rest' fits fits' s.1 in
-    (head_is m n (string content ++ rest) (string content' ++ rest') whole, t.0, t.1)
+content_front : {m n : ℕ} {Content Other : List ℕ → Type 0} {text other : List ℕ} (rest rest' : List ℕ) (h : SpellsContent m Content text) (k : SpellsContent n Other other) → text ++ rest ≡ other ++ rest'
+    → (m ≡ n) × (h.content ≡ k.content) × (rest ≡ rest')
+content_front {m} {n} rest rest' h k same =
+    let whole : m ∷ (string h.content ++ rest) ≡ n ∷ (string k.content ++ rest') = sym (ap (λ (t : List ℕ). t ++ rest) h.spelled) ∙ same ∙ ap (λ (t : List ℕ). t ++ rest') k.spelled in
+    let s = append_same (m ∷ []) (n ∷ []) (string h.content ++ rest) (string k.content ++ rest') refl whole in
+    let t = same_string h.content k.content rest rest' h.fits k.fits s.1 in
+    (head_is m n (string h.content ++ rest) (string k.content ++ rest') whole, t.0, t.1)
 
 -- ---- subsections
 
@@ -112,7 +113,7 @@ same_content x y content fits e h k = absurd (omega (arith, e))
 
 one_subsection : OneAtFront SpellsSubsection
 one_subsection x y text other rest rest' h k e =
-    let t = typed_front (subsection_type x) (subsection_type y) h.content k.content text other rest rest' h.spelled k.spelled h.fits k.fits e in
+    let t = content_front rest rest' h k e in
     (same_content x y h.content h.fits t.0 h.content_is (subst (λ (c : List ℕ). SubsectionContent c y) (sym t.1) k.content_is), t.2)
 
 some_subsection : HasBytes SpellsSubsection
@@ -139,7 +140,7 @@ same_certificates content authority authority' subs subs' fits h k =
     let more = same_each SpellsSubsection one_subsection some_subsection h.body k.body subs subs' t.1 h.subsections_are k.subsections_are in
     ap (λ (a : List ℕ). Certificates a subs) s.0 ∙ ap (λ (xs : List Subsection). Certificates authority' xs) more
 
-abbrev section_type : SpelledSection → ℕ
+abbrev pub section_type : SpelledSection → ℕ
 section_type (Certificates authority subs) = 1
 section_type (Keys blobs) = 2
 section_type (Sha1s hashes) = 3
@@ -158,39 +159,33 @@ same_type x y text other rest rest' h k e =
     let q = section_head y other k in
     head_is (section_type x) (section_type y) (p.0 ++ rest) (q.0 ++ rest') (sym (ap (λ (t : List ℕ). t ++ rest) p.1) ∙ e ∙ ap (λ (t : List ℕ). t ++ rest') q.1)
 
-content_front : (n : ℕ) (Content Other : List ℕ → Type 0) (text other rest rest' : List ℕ) (h : SpellsContent n Content text) (k : SpellsContent n Other other) → text ++ rest ≡ other ++ rest'
-    → (h.content ≡ k.content) × (rest ≡ rest')
-content_front n Content Other text other rest rest' h k e =
-    let t = typed_front n n h.content k.content text other rest rest' h.spelled k.spelled h.fits k.fits e in
-    (t.1, t.2)
-
-signature_front : (text other rest rest' key signature key' signature' : List ℕ) → text ≡ 4 ∷ (string key ++ string signature) → other ≡ 4 ∷ (string key' ++ string signature')
-    → length key < 2 ^ 32 → length signature < 2 ^ 32 → length key' < 2 ^ 32 → length signature' < 2 ^ 32 → text ++ rest ≡ other ++ rest' → rest ≡ rest'
-signature_front text other rest rest' key signature key' signature' e f a b c d same =
-    let whole : 4 ∷ ((string key ++ string signature) ++ rest) ≡ 4 ∷ ((string key' ++ string signature') ++ rest') = sym (ap (λ (t : List ℕ). t ++ rest) e) ∙ same ∙ ap (λ (t : List ℕ). t ++ rest') f in
-    let s = append_same (4 ∷ []) (4 ∷ []) ((string key ++ string signature) ++ rest) ((string key' ++ string signature') ++ rest') refl whole in
-    let t = same_string key key' (string signature ++ rest) (string signature' ++ rest') a c
-    (sym (append_assoc (string key) (string signature) rest) ∙ s.1 ∙ append_assoc (string key') (string signature') rest') in
-    (same_string signature signature' rest rest' b d t.1).1
+signature_front : {text other : List ℕ} (rest rest' : List ℕ) → SpellsSignature text → SpellsSignature other → text ++ rest ≡ other ++ rest' → rest ≡ rest'
+signature_front rest rest' h k same =
+    let first : List ℕ = string h.key ++ string h.signature in
+    let first' : List ℕ = string k.key ++ string k.signature in
+    let whole : 4 ∷ (first ++ rest) ≡ 4 ∷ (first' ++ rest') = sym (ap (λ (t : List ℕ). t ++ rest) h.spelled) ∙ same ∙ ap (λ (t : List ℕ). t ++ rest') k.spelled in
+    let s = append_same (4 ∷ []) (4 ∷ []) (first ++ rest) (first' ++ rest') refl whole in
+    let t = same_string h.key k.key (string h.signature ++ rest) (string k.signature ++ rest') h.key_fits k.key_fits
+    (sym (append_assoc (string h.key) (string h.signature) rest) ∙ s.1 ∙ append_assoc (string k.key) (string k.signature) rest') in
+    (same_string h.signature k.signature rest rest' h.signature_fits k.signature_fits t.1).1
 
 one_section : OneAtFront SpellsSection
 one_section (Certificates authority subs) (Certificates authority' subs') text other rest rest' h k e =
-    let s = content_front 1 (λ content. SpellsCertificates content authority subs) (λ content. SpellsCertificates content authority' subs') text other rest rest' h k e in
-    (same_certificates h.content authority authority' subs subs' h.fits h.content_is (subst (λ (c : List ℕ). SpellsCertificates c authority' subs') (sym s.0) k.content_is), s.1)
+    let s = content_front rest rest' h k e in
+    (same_certificates h.content authority authority' subs subs' h.fits h.content_is (subst (λ (c : List ℕ). SpellsCertificates c authority' subs') (sym s.1) k.content_is), s.2)
 one_section (Keys blobs) (Keys others) text other rest rest' h k e =
-    let s = content_front 2 (λ content. content ≡ strings blobs) (λ content. content ≡ strings others) text other rest rest' h k e in
-    (ap Keys (same_strings blobs others (omega (arith, h.fits, ap length h.content_is)) (sym h.content_is ∙ s.0 ∙ k.content_is)), s.1)
+    let s = content_front rest rest' h k e in
+    (ap Keys (same_strings blobs others (omega (arith, h.fits, ap length h.content_is)) (sym h.content_is ∙ s.1 ∙ k.content_is)), s.2)
 one_section (Sha1s hashes) (Sha1s others) text other rest rest' h k e =
-    let s = content_front 3 _ _ text other rest rest' h k e in
-    (ap Sha1s (same_strings hashes others (omega (arith, h.fits, ap length h.content_is.0)) (sym h.content_is.0 ∙ s.0 ∙ k.content_is.0)), s.1)
-one_section Signature Signature text other rest rest' h k e =
-    (refl, signature_front text other rest rest' h.key h.signature k.key k.signature h.spelled k.spelled h.key_fits h.signature_fits k.key_fits k.signature_fits e)
+    let s = content_front rest rest' h k e in
+    (ap Sha1s (same_strings hashes others (omega (arith, h.fits, ap length h.content_is.0)) (sym h.content_is.0 ∙ s.1 ∙ k.content_is.0)), s.2)
+one_section Signature Signature text other rest rest' h k e = (refl, signature_front rest rest' h k e)
 one_section (Sha256s hashes) (Sha256s others) text other rest rest' h k e =
-    let s = content_front 5 _ _ text other rest rest' h k e in
-    (ap Sha256s (same_strings hashes others (omega (arith, h.fits, ap length h.content_is.0)) (sym h.content_is.0 ∙ s.0 ∙ k.content_is.0)), s.1)
+    let s = content_front rest rest' h k e in
+    (ap Sha256s (same_strings hashes others (omega (arith, h.fits, ap length h.content_is.0)) (sym h.content_is.0 ∙ s.1 ∙ k.content_is.0)), s.2)
 one_section Extension Extension text other rest rest' h k e =
-    let s = content_front 255 _ _ text other rest rest' h k e in
-    (refl, s.1)
+    let s = content_front rest rest' h k e in
+    (refl, s.2)
 one_section x y text other rest rest' h k e = absurd (omega (arith, same_type x y text other rest rest' h k e))
 
 some_section : HasBytes SpellsSection

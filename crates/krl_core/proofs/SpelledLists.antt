@@ -6,7 +6,8 @@ use Rattle.krl_core.proofs.Common.{header_text, inl, inr, IsBytes, IsBytes-back,
 use Rattle.krl_core.proofs.Common.{IsBytes-in_string, IsFirstFault, ItemKind, Keys, KrlFault}
 use Rattle.krl_core.proofs.Common.{le-ltb, length, length-append, length-string, limit, List, ltb}
 use Rattle.krl_core.proofs.Common.{next_item, next_subsection, None, number_of, Ok, Option, Place}
-use Rattle.krl_core.proofs.Common.{ran_out, refl, Reported, Says, Sha1s, Sha256s, Signature, Some}
+use Rattle.krl_core.proofs.Common.{ran_out, refl, Reported, Says, section_of_type, Sha1s, Sha256s}
+use Rattle.krl_core.proofs.Common.{Signature, Some}
 use Rattle.krl_core.proofs.Common.{SpelledSection, Spells, SpellsEach, SpellsSection, start, string}
 use Rattle.krl_core.proofs.Common.{strings, subst, sym, take, take_all, true, ℕ}
 use Rattle.krl_core.proofs.Fronts.{first_fault_is, one_reported}
@@ -67,6 +68,11 @@ certificates_go content rest authority reserved body total parts size fits w =
     (omega (arith, len, len', a, r, size))
     (λ field e. within_is total (λ m. Ok (places.Certificates (certificates.Authority m (total - 4 - m)))) (number_of field) (length authority) e (omega (arith, len, len', a, r, size)) ∙ ap (λ (m : ℕ). Ok (places.Certificates (certificates.Authority (length authority) m))) first_left) tt refl refl) second)
 
+-- a signature may always follow
+signature_type : (signed : Bool) → section_of_type signed 4 ≡ Ok (places.Signature signatures.KeyLength)
+signature_type true = refl
+signature_type false = refl
+
 section_goes : (section : SpelledSection) (signed : Bool) (text rest : List ℕ) → SpellsSection text section → LastFor signed (section ∷ []) → IsBytes text
     → Goes (places.SectionType signed) (text ++ rest) (places.SectionType (signed_after section)) rest
 unfolding number_of
@@ -91,7 +97,7 @@ section_goes Signature signed text rest h last fits =
     goes_from (places.SectionType signed) (places.SectionType true) (text ++ rest) (4 ∷ (string h.key ++ r1)) rest
     (ap (λ (x : List ℕ). x ++ rest) h.spelled ∙ ap (λ (x : List ℕ). 4 ∷ x) (append_assoc (string h.key) (string h.signature) rest))
     (goes_then (places.SectionType signed) (places.Signature signatures.KeyLength) (places.SectionType true) (4 ∷ (string h.key ++ r1)) (string h.key ++ r1) rest
-    (goes_one (places.SectionType signed) (places.Signature signatures.KeyLength) (4 ∷ []) (string h.key ++ r1) tt refl refl)
+    (goes_one (places.SectionType signed) (places.Signature signatures.KeyLength) (4 ∷ []) (string h.key ++ r1) tt refl (signature_type signed))
     (goes_then (places.Signature signatures.KeyLength) (places.Signature signatures.SignatureLength) (places.SectionType true) (string h.key ++ r1) r1 rest
     (string_goes (places.Signature signatures.KeyLength) (places.Signature (signatures.Key (length h.key))) (places.Signature signatures.SignatureLength) h.key r1 tt refl h.key_fits (λ field e. ap (λ (n : ℕ). Ok (places.Signature (signatures.Key n))) e) tt refl refl)
     (string_goes (places.Signature signatures.SignatureLength) (places.Signature (signatures.Signature (length h.signature))) (places.SectionType true) h.signature rest tt refl h.signature_fits (λ field e. ap (λ (n : ℕ). Ok (places.Signature (signatures.Signature n))) e) tt refl refl)))

@@ -25,10 +25,6 @@ fits_within left next size q e =
     let w = held_back (ltb (left - 4) size) faults.Length (next size) q e in
     (ltb-false (left - 4) size w.0, w.1)
 
-pub chosen : (b : Bool) (p : Place) (x : Result Place KrlFault) (q : Place) → cond b (Ok p) x ≡ Ok q → ((b ≡ true) × (p ≡ q)) ⊎ ((b ≡ false) × (x ≡ Ok q))
-chosen true p x q e = inl (refl, same_place p q e)
-chosen false p x q e = inr (refl, e)
-
 -- ---- one field at the front
 
 pub number_front : (Then : ℕ → Rest) (field tail : List ℕ) (more : List Entry) → IsBytes field → length field ≡ 8 → Then (number_of field) tail more → FromNumber Then (field ++ tail) more
@@ -129,46 +125,48 @@ sections_from K a bytes more h = only h.subsections h.body h.spelled h.size_is h
 
 -- ---- sections
 
-sections_more : (signed : Bool) (K : Type 0) (section : SpelledSection) (text tail rest : List ℕ) (more others : List Entry) (k : FromSections false K rest others)
+sections_more : (K : Type 0) (section : SpelledSection) (text tail rest : List ℕ) (more others : List Entry) (k : FromSections false K rest others)
     → tail ≡ text ++ rest → SpellsSection text section → NamesSame more (section_entries section ++ others) → SignaturesLast (section ∷ k.sections)
-    → signed ≡ false → FromSections signed K tail more
-sections_more signed K section text tail rest more others k parts spelled named last off = record {
+    → FromSections false K tail more
+sections_more K section text tail rest more others k parts spelled named last = record {
   sections = section ∷ k.sections;
   spelled = (text, (rest, (parts, spelled, k.spelled)));
-  last = subst (λ (b : Bool). LastFor b (section ∷ k.sections)) (sym off) last;
+  last = last;
   named = same_then more (section_entries section ++ others) (section_entries section ++ entries_of k.sections) named
       (same_append (section_entries section) others (section_entries section) (entries_of k.sections) (same_refl (section_entries section)) k.named);
   known = k.known;
 }
 
 -- a section of items of any kind
-pub items_section : (K : Type 0) (signed : Bool) (kind : ItemKind) (a : List ℕ) (type_byte : ℕ) (section : SpelledSection) (bytes : List ℕ) (more : List Entry) → signed ≡ false → (l : FromLength (λ n. Items K kind a n 0) bytes more)
-    → (length (strings l.then_is.items) < 2 ^ 32 → SpellsSection (type_byte ∷ string (strings l.then_is.items)) section)
-    → section_entries section ≡ map (item_entry kind a) l.then_is.items → ((others : List SpelledSection) → SignaturesLast others → SignaturesLast (section ∷ others))
-    → FromSections signed K (type_byte ∷ bytes) more
-items_section K signed kind a type_byte section bytes more off l spelled names last =
+pub items_section : (K : Type 0) (kind : ItemKind) (type_byte : ℕ) (section : List (List ℕ) → SpelledSection) (bytes : List ℕ) (more : List Entry)
+    → ((items : List (List ℕ)) → AllByRecursion (IsItem kind) items → length (strings items) < 2 ^ 32 → SpellsSection (type_byte ∷ string (strings items)) (section items))
+    → ((items : List (List ℕ)) → section_entries (section items) ≡ map (item_entry kind []) items)
+    → ((items : List (List ℕ)) (others : List SpelledSection) → SignaturesLast others → SignaturesLast (section items ∷ others))
+    → FromLength (λ n. Items K kind [] n 0) bytes more → FromSections false K (type_byte ∷ bytes) more
+items_section K kind type_byte section bytes more spelled names last l =
     let h = l.then_is in
-    let k = sections_from K a h.rest h.others h.then_is in
+    let k = sections_from K [] h.rest h.others h.then_is in
     let content : List ℕ = strings h.items in
     let parts = whole_string l.size content h.rest l.rest bytes l.parts h.parts h.size_is in
-    sections_more signed K section (type_byte ∷ string content) (type_byte ∷ bytes) h.rest more h.others k (ap (λ (x : List ℕ). type_byte ∷ x) parts) (spelled (omega (arith, l.fits, h.size_is)))
-    (same_is more (section_entries section ++ h.others) (h.named ∙ ap (λ (x : List Entry). x ++ h.others) (sym names))) (last k.sections k.last) off
+    sections_more K (section h.items) (type_byte ∷ string content) (type_byte ∷ bytes) h.rest more h.others k (ap (λ (x : List ℕ). type_byte ∷ x) parts)
+    (spelled h.items h.good (omega (arith, l.fits, h.size_is)))
+    (same_is more (section_entries (section h.items) ++ h.others) (h.named ∙ ap (λ (x : List Entry). x ++ h.others) (sym (names h.items)))) (last h.items k.sections k.last)
 
-pub certificates_section : (K : Type 0) (signed : Bool) (bytes : List ℕ) (more : List Entry) → signed ≡ false → FromLength (FromCertificates K) bytes more → FromSections signed K (1 ∷ bytes) more
-certificates_section K signed bytes more off l =
+pub certificates_section : (K : Type 0) (bytes : List ℕ) (more : List Entry) → FromLength (FromCertificates K) bytes more → FromSections false K (1 ∷ bytes) more
+certificates_section K bytes more l =
     let h = l.then_is in
     let content : List ℕ = string h.authority ++ (string h.reserved ++ h.body) in
     let parts = whole_string l.size content h.rest l.rest bytes l.parts h.parts h.size_is in
-    sections_more signed K (Certificates h.authority h.subsections) (1 ∷ string content) (1 ∷ bytes) h.rest more h.others h.then_is (ap (λ (x : List ℕ). 1 ∷ x) parts)
+    sections_more K (Certificates h.authority h.subsections) (1 ∷ string content) (1 ∷ bytes) h.rest more h.others h.then_is (ap (λ (x : List ℕ). 1 ∷ x) parts)
     (record { content = content; spelled = refl; fits = omega (arith, l.fits, h.size_is); content_is = record { reserved = h.reserved; body = h.body; spelled = refl; subsections_are = h.spelled } })
-    h.named h.then_is.last off
+    h.named h.then_is.last
 
-pub extension_section : (K : Type 0) (signed : Bool) (bytes : List ℕ) (more : List Entry) → signed ≡ false → FromLength (λ n. FromExtension n (FromSections false K)) bytes more → FromSections signed K (255 ∷ bytes) more
-extension_section K signed bytes more off l =
+pub extension_section : (K : Type 0) (bytes : List ℕ) (more : List Entry) → FromLength (λ n. FromExtension n (FromSections false K)) bytes more → FromSections false K (255 ∷ bytes) more
+extension_section K bytes more l =
     let h = l.then_is in
     let parts = whole_string l.size h.content h.rest l.rest bytes l.parts h.parts h.size_is in
-    sections_more signed K Extension (255 ∷ string h.content) (255 ∷ bytes) h.rest more more h.then_is (ap (λ (x : List ℕ). 255 ∷ x) parts)
-    (record { content = h.content; spelled = refl; fits = omega (arith, l.fits, h.size_is); content_is = h.spelled }) (same_refl more) h.then_is.last off
+    sections_more K Extension (255 ∷ string h.content) (255 ∷ bytes) h.rest more more h.then_is (ap (λ (x : List ℕ). 255 ∷ x) parts)
+    (record { content = h.content; spelled = refl; fits = omega (arith, l.fits, h.size_is); content_is = h.spelled }) (same_refl more) h.then_is.last
 
 signature_last : (signed : Bool) (sections : List SpelledSection) → AllByRecursion IsSignature sections → LastFor signed (Signature ∷ sections)
 signature_last true sections h = (tt, h)

@@ -91,12 +91,17 @@ subsection_type (Bitmap offset value) = 0x22
 subsection_type (Ids texts) = 0x23
 subsection_type SubsectionExtension = 0x39
 
--- the type byte, and the content as a string
-pub record SpellsSubsection (text : List ℕ) (subsection : Subsection) : Type 0 where
+-- a type byte, and the content as a string
+pub record SpellsContent (type_byte : ℕ) (Content : List ℕ → Type 0) (text : List ℕ) : Type 0 where
   pub content : List ℕ
-  pub spelled : text ≡ subsection_type subsection ∷ string content
+  pub spelled : text ≡ type_byte ∷ string content
   pub fits : length content < 2 ^ 32
-  pub content_is : SubsectionContent content subsection
+  pub content_is : Content content
+
+abbrev pub SpellsSubsection : List ℕ → Subsection → Type 0
+SpellsSubsection text subsection =
+    SpellsContent (subsection_type subsection) (λ content. SubsectionContent content subsection)
+    text
 
 -- the authority, a reserved string, and the subsections
 pub record SpellsCertificates (content authority : List ℕ) (subsections : List Subsection)
@@ -110,13 +115,6 @@ pub record SpellsCertificates (content authority : List ℕ) (subsections : List
 abbrev pub SpellsHashes : ℕ → List ℕ → List (List ℕ) → Type 0
 SpellsHashes size content hashes =
     (content ≡ strings hashes) × AllByRecursion (λ hash. length hash ≡ size) hashes
-
--- a section's type byte, and its content as a string
-pub record SpellsContent (type_byte : ℕ) (Content : List ℕ → Type 0) (text : List ℕ) : Type 0 where
-  pub content : List ℕ
-  pub spelled : text ≡ type_byte ∷ string content
-  pub fits : length content < 2 ^ 32
-  pub content_is : Content content
 
 -- a signature's type byte, a key and a signature
 pub record SpellsSignature (text : List ℕ) : Type 0 where

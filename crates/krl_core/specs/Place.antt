@@ -125,26 +125,42 @@ item_size kinds.Sha1 size = 20
 item_size kinds.Sha256 size = 32
 item_size kinds.Id size = size
 
-abbrev pub section_of_type : Bool → ℕ → Result Place KrlFault
-section_of_type signed type_byte =
-    if type_byte == 4 then Ok (places.Signature signatures.KeyLength)
-    else if signed then Err faults.AfterSignature
-    else if type_byte == 1 then Ok (places.Certificates certificates.SectionLength)
-    else if type_byte == 2 then Ok (places.List (lists.SectionLength kinds.Key))
-    else if type_byte == 3 then Ok (places.List (lists.SectionLength kinds.Sha1))
-    else if type_byte == 5 then Ok (places.List (lists.SectionLength kinds.Sha256))
-    else if type_byte == 255 then Ok (places.Extension extensions.SectionLength)
-    else Err faults.UnknownSection
+-- the place after a type byte, if a table of types has it
+abbrev pub place_of_type : (unknown : KrlFault) → List (ℕ × Place) → ℕ → Result Place KrlFault
+place_of_type unknown [] type_byte = Err unknown
+place_of_type unknown ((known, place) ∷ types) type_byte =
+    if type_byte == known then Ok place else place_of_type unknown types type_byte
 
--- a subsection of a section that has `left` bytes after the type byte
+abbrev pub section_types : List (ℕ × Place)
+section_types =
+    (1, places.Certificates certificates.SectionLength)
+    ∷ (2, places.List (lists.SectionLength kinds.Key))
+    ∷ (3, places.List (lists.SectionLength kinds.Sha1))
+    ∷ (4, places.Signature signatures.KeyLength)
+    ∷ (5, places.List (lists.SectionLength kinds.Sha256))
+    ∷ (255, places.Extension extensions.SectionLength)
+    ∷ []
+
+-- the types after a signature
+abbrev pub last_types : List (ℕ × Place)
+last_types = (4, places.Signature signatures.KeyLength) ∷ []
+
+abbrev pub section_of_type : Bool → ℕ → Result Place KrlFault
+section_of_type false type_byte = place_of_type faults.UnknownSection section_types type_byte
+section_of_type true type_byte = place_of_type faults.AfterSignature last_types type_byte
+
+-- the types in a section of certificates that has `left` bytes after the type byte
+abbrev pub subsection_types : ℕ → List (ℕ × Place)
+subsection_types left =
+    (0x20, places.Serials (serials.SerialsLength left))
+    ∷ (0x21, places.Serials (serials.RangeLength left))
+    ∷ (0x22, places.Bitmap (bitmaps.Length left))
+    ∷ (0x23, places.List (lists.IdsLength left))
+    ∷ (0x39, places.Extension (extensions.SubsectionLength left))
+    ∷ []
+
 abbrev pub subsection_of_type : ℕ → ℕ → Result Place KrlFault
-subsection_of_type left type_byte =
-    if type_byte == 0x20 then Ok (places.Serials (serials.SerialsLength left))
-    else if type_byte == 0x21 then Ok (places.Serials (serials.RangeLength left))
-    else if type_byte == 0x22 then Ok (places.Bitmap (bitmaps.Length left))
-    else if type_byte == 0x23 then Ok (places.List (lists.IdsLength left))
-    else if type_byte == 0x39 then Ok (places.Extension (extensions.SubsectionLength left))
-    else Err faults.UnknownCertSection
+subsection_of_type left = place_of_type faults.UnknownCertSection (subsection_types left)
 
 -- the index of the highest set bit of a byte that is not 0
 abbrev pub highest_bit : ℕ → ℕ

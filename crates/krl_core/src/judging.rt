@@ -8,8 +8,6 @@ ghost use Rattle.krl_core.specs.Place.{next_item as item_after, next_serial as s
 ghost use Rattle.krl_core.specs.Place.{next_subsection as subsection_after};
 ghost use Rattle.krl_core.specs.Place.{section_of_type as section_of};
 ghost use Rattle.krl_core.specs.Place.{subsection_of_type as subsection_of};
-ghost use Rattle.krl_core.specs.declared.place.Place.TheVariants as places;
-ghost use Rattle.krl_core.specs.declared.place.list.ListPlace.TheVariants as lists;
 
 use crate::place::{
     BitmapPlace, CertificatesPlace, ExtensionPlace, ItemKind, ListPlace, Place, SerialsPlace,
@@ -96,27 +94,27 @@ pub(crate) fn next_bits(offset: u64, size: u32, left: u32, after: u32) -> Place
 pub(crate) fn section_of_type(signed: bool, type_byte: u8) -> Result<Place, KrlFault>
     ensures { result ≡ section_of signed type_byte }
 {
-    if type_byte == 4 {
-        return Ok(Place::Signature(SignaturePlace::KeyLength));
-    }
     if signed {
-        return Err(KrlFault::AfterSignature);
+        return match type_byte {
+            4 => Ok(Place::Signature(SignaturePlace::KeyLength)),
+            _ => Err(KrlFault::AfterSignature),
+        };
     }
     match type_byte {
         1 => Ok(Place::Certificates(CertificatesPlace::SectionLength)),
-        2 => Ok(list_of(ItemKind::Key)),
-        3 => Ok(list_of(ItemKind::Sha1)),
-        5 => Ok(list_of(ItemKind::Sha256)),
+        2 => Ok(Place::List(ListPlace::SectionLength {
+            kind: ItemKind::Key,
+        })),
+        3 => Ok(Place::List(ListPlace::SectionLength {
+            kind: ItemKind::Sha1,
+        })),
+        4 => Ok(Place::Signature(SignaturePlace::KeyLength)),
+        5 => Ok(Place::List(ListPlace::SectionLength {
+            kind: ItemKind::Sha256,
+        })),
         255 => Ok(Place::Extension(ExtensionPlace::SectionLength)),
         _ => Err(KrlFault::UnknownSection),
     }
-}
-
-// The place of the length of a section that is one list.
-fn list_of(kind: ItemKind) -> Place
-    ensures { result ≡ places.List (lists.SectionLength kind) }
-{
-    Place::List(ListPlace::SectionLength { kind })
 }
 
 // The first place in the content of a subsection of this type.
