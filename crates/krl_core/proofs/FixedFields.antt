@@ -1,8 +1,8 @@
 -- The first fields of a list, whose sizes depend on no length.
-use Rattle.krl_core.proofs.Common.{[], ◌+◌, ◌<◌, ◌∷◌, ◌≡◌, ◌≤◌, ap, arith, Bool, concat, expected}
-use Rattle.krl_core.proofs.Common.{false, HasFixedFields, is_fixed, judge, KrlFault, Leads, length}
-use Rattle.krl_core.proofs.Common.{length-append, List, Ok, Passes, Place, refl, start, State}
-use Rattle.krl_core.proofs.Common.{state_after, true, ℕ}
+use Rattle.krl_core.proofs.Common.{[], ◌+◌, ◌<◌, ◌∷◌, ◌≡◌, ◌≤◌, ap, arith, concat, expected}
+use Rattle.krl_core.proofs.Common.{false, HasFixedFields, is_fixed, Leads, length, length-append}
+use Rattle.krl_core.proofs.Common.{List, passed_ok, Passes, Place, refl, start, State, state_after}
+use Rattle.krl_core.proofs.Common.{ℕ}
 use Rattle.krl_core.proofs.Judgements.{same_place}
 use Rattle.krl_core.specs.declared.place.Place.TheVariants as places
 use Rattle.krl_core.specs.declared.place.header.HeaderPlace.TheVariants as headers
@@ -24,30 +24,20 @@ fixed_left (places.Header headers.Flags) = 12
 fixed_left (places.Header headers.ReservedLength) = 4
 fixed_left _ = 0
 
-good_place : (good : Bool) (fault : KrlFault) (p q : Place) → judge good fault p ≡ Ok q → p ≡ q
-good_place true fault p q is = same_place p q is
-good_place false fault p q is = absurd (cc)
-
 none_left : (p : Place) → is_fixed p ≡ false → fixed_left p ≡ 0
-none_left (places.Header headers.Magic) past = absurd (cc)
-none_left (places.Header headers.FormatVersion) past = absurd (cc)
-none_left (places.Header headers.Version) past = absurd (cc)
-none_left (places.Header headers.Date) past = absurd (cc)
-none_left (places.Header headers.Flags) past = absurd (cc)
-none_left (places.Header headers.ReservedLength) past = absurd (cc)
+none_left (places.Header (headers.Reserved n)) past = refl
+none_left (places.Header headers.CommentLength) past = refl
+none_left (places.Header (headers.Comment n)) past = refl
+none_left (places.Header _) past = absurd (cc)
 none_left _ past = refl
 
 field_left : (p next : Place) (field : List ℕ) → Passes p field next → fixed_left p ≤ length field + fixed_left next
-field_left (places.Header headers.Magic) next field passes =
-    omega (arith, passes.whole, ap fixed_left (good_place _ _ (places.Header headers.FormatVersion) next passes.judged))
+field_left (places.Header headers.Magic) next field passes = omega (arith, passes.whole, ap fixed_left (passed_ok _ _ _ next passes.judged).1)
 field_left (places.Header headers.FormatVersion) next field passes =
-    omega (arith, passes.whole, ap fixed_left (good_place _ _ (places.Header headers.Version) next passes.judged))
-field_left (places.Header headers.Version) next field passes =
-    omega (arith, passes.whole, ap fixed_left (same_place (places.Header headers.Date) next passes.judged))
-field_left (places.Header headers.Date) next field passes =
-    omega (arith, passes.whole, ap fixed_left (same_place (places.Header headers.Flags) next passes.judged))
-field_left (places.Header headers.Flags) next field passes =
-    omega (arith, passes.whole, ap fixed_left (same_place (places.Header headers.ReservedLength) next passes.judged))
+    omega (arith, passes.whole, ap fixed_left (passed_ok _ _ _ next passes.judged).1)
+field_left (places.Header headers.Version) next field passes = omega (arith, passes.whole, ap fixed_left (same_place _ next passes.judged))
+field_left (places.Header headers.Date) next field passes = omega (arith, passes.whole, ap fixed_left (same_place _ next passes.judged))
+field_left (places.Header headers.Flags) next field passes = omega (arith, passes.whole, ap fixed_left (same_place _ next passes.judged))
 field_left (places.Header headers.ReservedLength) next field passes = omega (arith, passes.whole)
 field_left _ next field passes = omega arith
 

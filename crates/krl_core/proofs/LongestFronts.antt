@@ -5,10 +5,10 @@ use Rattle.krl_core.proofs.Common.{expected, false, false≢true, HasRoom, IfSom
 use Rattle.krl_core.proofs.Common.{IsFirstFault, ItemKind, KrlFault, length, length-drop}
 use Rattle.krl_core.proofs.Common.{length-take, limit, List, ltb, next_item, next_subsection}
 use Rattle.krl_core.proofs.Common.{no_room, None, Ok, ok_or_not, Option, Place, refl, refused}
-use Rattle.krl_core.proofs.Common.{Reported, Some, start, State, state_after, suc, sym, take}
+use Rattle.krl_core.proofs.Common.{Reported, Some, start, suc, sym, take}
 use Rattle.krl_core.proofs.Common.{take-append-drop, too_long, true, zero, ℕ}
 use Rattle.krl_core.proofs.Fronts.{first_fault_is}
-use Rattle.krl_core.proofs.Walks.{EndsReported, walks_one, walks_from, reported_here, reported_then}
+use Rattle.krl_core.proofs.PlaceRows.{Goes, goes_from, goes_none, goes_one, goes_then, reported_at}
 use Rattle.krl_core.proofs.Judgements.{done, same_place}
 use Rattle.krl_types.specs.declared.krl_fault.KrlFault.TheVariants as faults
 use Rattle.krl_core.specs.declared.place.Place.TheVariants as places
@@ -67,53 +67,58 @@ weight-next_item : (kind : ItemKind) (left after : ℕ) → weight (next_item ki
 weight-next_item kind zero after = weight-next_subsection after
 weight-next_item kind (suc left) after = refl
 
-same_weight : (p q : Place) → done p ≡ done q → weight p ≡ weight q
-same_weight p q e = ap weight (same_place p q e)
+same_weight : {p q : Place} → done p ≡ done q → weight p ≡ weight q
+same_weight {p} {q} e = ap weight (same_place p q e)
 
 -- each field brings the end nearer
 pub nearer : (p q : Place) (field : List ℕ) → (expected p).judged field ≡ Ok q → weight q < 2 * (expected p).size + weight p
-nearer (places.Header (headers.Reserved n)) q field e = omega (arith, same_weight (places.Header headers.CommentLength) q e)
-nearer (places.Header (headers.Comment n)) q field e = omega (arith, same_weight (places.SectionType false) q e)
-nearer (places.Signature (signatures.Key n)) q field e = omega (arith, same_weight (places.Signature signatures.SignatureLength) q e)
-nearer (places.Signature (signatures.Signature n)) q field e = omega (arith, same_weight (places.SectionType true) q e)
-nearer (places.Certificates (certificates.Authority n m)) q field e = omega (arith, same_weight (places.Certificates (certificates.ReservedLength m)) q e)
-nearer (places.Certificates (certificates.Reserved n m)) q field e = omega (arith, same_weight (next_subsection m) q e, weight-next_subsection m)
-nearer (places.List (lists.Item kind n m k)) q field e = omega (arith, same_weight (next_item kind m k) q e, weight-next_item kind m k)
-nearer (places.Extension (extensions.Name n m k)) q field e = omega (arith, same_weight (places.Extension (extensions.Critical m k)) q e)
-nearer (places.Extension (extensions.Contents n m)) q field e = omega (arith, same_weight (next_subsection m) q e, weight-next_subsection m)
+nearer (places.Header (headers.Reserved n)) q field e = omega (arith, same_weight e)
+nearer (places.Header (headers.Comment n)) q field e = omega (arith, same_weight e)
+nearer (places.Signature (signatures.Key n)) q field e = omega (arith, same_weight e)
+nearer (places.Signature (signatures.Signature n)) q field e = omega (arith, same_weight e)
+nearer (places.Certificates (certificates.Authority n m)) q field e = omega (arith, same_weight e)
+nearer (places.Certificates (certificates.Reserved n m)) q field e = omega (arith, same_weight e, weight-next_subsection m)
+nearer (places.List (lists.Item kind n m k)) q field e = omega (arith, same_weight e, weight-next_item kind m k)
+nearer (places.Extension (extensions.Name n m k)) q field e = omega (arith, same_weight e)
+nearer (places.Extension (extensions.Contents n m)) q field e = omega (arith, same_weight e, weight-next_subsection m)
 nearer (places.Serials (serials.Serial n m)) q field e = omega (arith, weight_below q)
 nearer (places.Bitmap (bitmaps.Offset n m)) q field e = omega (arith, weight_below q)
 nearer _ q field e = omega (arith, weight_below q)
 
-pub reported_from : (n : ℕ) (p : State) (bytes : List ℕ) (goes_on : Bool) → 2 * length bytes + weight p.place < n → (fault : Option KrlFault) × EndsReported p bytes goes_on fault
-reported_from zero p bytes goes_on lt = absurd (omega arith)
-reported_from (suc n) p bytes goes_on lt =
-    elim (room_or_not (expected p.place).size (expected p.place).room) [
-      | inr full ↦ (Some faults.Length, reported_here p bytes goes_on (Some faults.Length) (no_room full refl))
-      | inl room ↦
-          elim (cases_lt (length bytes) (expected p.place).size) [
-            | inl short ↦ let t = short_reported p.place bytes goes_on room short in (t.0, reported_here p bytes goes_on t.0 t.1)
-            | inr enough ↦
-                let field : List ℕ = take (expected p.place).size bytes in
-                let rest : List ℕ = drop (expected p.place).size bytes in
-                let parts : bytes ≡ field ++ rest = sym (take-append-drop (expected p.place).size bytes) in
-                let size : length field ≡ (expected p.place).size = omega (arith, length-take (expected p.place).size bytes) in
-                let left : length rest + (expected p.place).size ≡ length bytes = omega (arith, length-drop (expected p.place).size bytes) in
-                elim (ok_or_not ((expected p.place).judged field)) [
-                  | inl w ↦
-                      let near = nearer p.place w.0 field w.1 in
-                      let t = reported_from n (state_after p field w.0) rest goes_on (omega (arith, near, left, lt)) in (
-                        t.0,
-                        reported_then p (state_after p field w.0) bytes rest goes_on t.0
-                            (walks_from p (state_after p field w.0) bytes (field ++ rest) rest parts
-                            (walks_one p w.0 field rest (record { room = room; whole = size; judged = w.1 }))) t.1,
-                      )
-                  | inr w ↦ (Some w.0, reported_here p bytes goes_on (Some w.0) (refused field rest w.0 room parts size w.1 refl))
-                ]
-          ]
+-- some fields lead to a place where something is reported
+record Stops (place : Place) (bytes : List ℕ) (goes_on : Bool) : Type 0 where
+  last : Place
+  rest : List ℕ
+  goes : Goes place bytes last rest
+  fault : Option KrlFault
+  reported : Reported last rest goes_on fault
+
+stops_here : {p : Place} {bytes : List ℕ} {goes_on : Bool} (fault : Option KrlFault) → Reported p bytes goes_on fault → Stops p bytes goes_on
+stops_here {p} {bytes} fault reported = record { last = p; rest = bytes; goes = goes_none; fault = fault; reported = reported }
+
+stops_from : (n : ℕ) (p : Place) (bytes : List ℕ) (goes_on : Bool) → 2 * length bytes + weight p < n → Stops p bytes goes_on
+stops_from zero p bytes goes_on lt = absurd (omega arith)
+stops_from (suc n) p bytes goes_on lt =
+    elim (room_or_not (expected p).size (expected p).room) [
+      | inr full ↦ stops_here (Some faults.Length) (no_room full refl)
+      | inl room ↦ elim (cases_lt (length bytes) (expected p).size) [
+        | inl short ↦ let t = short_reported p bytes goes_on room short in stops_here t.0 t.1
+        | inr enough ↦
+            let field : List ℕ = take (expected p).size bytes in
+            let rest : List ℕ = drop (expected p).size bytes in
+            let parts : bytes ≡ field ++ rest = sym (take-append-drop (expected p).size bytes) in
+            let size : length field ≡ (expected p).size = omega (arith, length-take (expected p).size bytes) in
+            let left : length rest + (expected p).size ≡ length bytes = omega (arith, length-drop (expected p).size bytes) in
+            elim (ok_or_not ((expected p).judged field)) [
+              | inl w ↦
+                  let t = stops_from n w.0 rest goes_on (omega (arith, nearer p w.0 field w.1, left, lt)) in
+                  record { last = t.last; rest = t.rest; goes = goes_from parts (goes_then (goes_one field room size w.1) t.goes); fault = t.fault; reported = t.reported }
+              | inr w ↦ stops_here (Some w.0) (refused field rest w.0 room parts size w.1 refl)
+            ]
+      ]
     ]
 
 pub each_is_judged : (text : List ℕ) → (fault : Option KrlFault) × IsFirstFault text fault
 each_is_judged text =
-    let t = reported_from (suc (2 * length (take limit text) + weight start.place)) start (take limit text) (ltb limit (length text)) (omega arith) in
-    (t.0, first_fault_is text t.0 t.1)
+    let t = stops_from (suc (2 * length (take limit text) + weight start.place)) start.place (take limit text) (ltb limit (length text)) (omega arith) in
+    (t.fault, first_fault_is text t.fault (reported_at start refl t.goes t.reported))

@@ -5,7 +5,7 @@ use Rattle.krl_core.proofs.Common.{bit_at, BitmapEntry, Bool, entries_of, Entry,
 use Rattle.krl_core.proofs.Common.{Header, IsPositive, IsSignature, item_entry, item_size, ItemKind}
 use Rattle.krl_core.proofs.Common.{length, List, magic, map, NamesSame, number, number_of, Place}
 use Rattle.krl_core.proofs.Common.{RangeEntry, SerialsEntry, SignaturesLast, SpelledSection}
-use Rattle.krl_core.proofs.Common.{SpellsBitmap, SpellsEach, SpellsExtension, SpellsSection}
+use Rattle.krl_core.proofs.Common.{SpellsEach, SpellsExtension, SpellsSection}
 use Rattle.krl_core.proofs.Common.{SpellsSubsection, string, Subsection, subsection_entries}
 use Rattle.krl_core.proofs.Common.{subsection_type, SubsectionContent, true, ℕ}
 use Rattle.krl_core.specs.declared.place.Place.TheVariants as places
@@ -59,6 +59,14 @@ pub record FromContent (size : ℕ) (Then : List ℕ → Rest) (bytes : List ℕ
   pub size_is : length content ≡ size
   pub then_is : Then content rest more
 
+-- a string inside a part that has this many bytes left
+pub record FromString (left : ℕ) (Then : List ℕ → ℕ → Rest) (bytes : List ℕ) (more : List Entry) : Type 0 where
+  pub content : List ℕ
+  pub rest : List ℕ
+  pub parts : bytes ≡ string content ++ rest
+  pub room : 4 + length content ≤ left
+  pub then_is : Then content (left - 4 - length content) rest more
+
 -- items that fill the rest of a section or a subsection
 pub record FromItems {X : Type 0} (spell : X → List ℕ) (Good : X → Type 0) (entry : X → Entry) (left : ℕ) (Then : Rest) (bytes : List ℕ) (more : List Entry) : Type 0 where
   pub items : List X
@@ -93,31 +101,12 @@ pub record FromSubsections (K : Type 0) (a : List ℕ) (left : ℕ) (bytes : Lis
   pub then_is : FromSections false K rest others
 
 -- a reserved string and the subsections
-pub record FromReserved (K : Type 0) (a : List ℕ) (left : ℕ) (bytes : List ℕ) (more : List Entry) : Type 0 where
-  pub reserved : List ℕ
-  pub body : List ℕ
-  pub subsections : List Subsection
-  pub rest : List ℕ
-  pub others : List Entry
-  pub parts : bytes ≡ (string reserved ++ body) ++ rest
-  pub size_is : length (string reserved ++ body) ≡ left
-  pub spelled : SpellsEach SpellsSubsection body subsections
-  pub named : NamesSame more (flat_map (subsection_entries a) subsections ++ others)
-  pub then_is : FromSections false K rest others
+abbrev pub FromReserved : Type 0 → List ℕ → ℕ → Rest
+FromReserved K a left = FromString left (λ reserved after. FromSubsections K a after)
 
 -- the content of a section of certificates
-pub record FromCertificates (K : Type 0) (left : ℕ) (bytes : List ℕ) (more : List Entry) : Type 0 where
-  pub authority : List ℕ
-  pub reserved : List ℕ
-  pub body : List ℕ
-  pub subsections : List Subsection
-  pub rest : List ℕ
-  pub others : List Entry
-  pub parts : bytes ≡ (string authority ++ (string reserved ++ body)) ++ rest
-  pub size_is : length (string authority ++ (string reserved ++ body)) ≡ left
-  pub spelled : SpellsEach SpellsSubsection body subsections
-  pub named : NamesSame more (flat_map (subsection_entries authority) subsections ++ others)
-  pub then_is : FromSections false K rest others
+abbrev pub FromCertificates : Type 0 → ℕ → Rest
+FromCertificates K left = FromString left (λ authority after. FromReserved K authority after)
 
 -- the content of a subsection as a string, with this many bytes of the section left, and the rest
 -- after it
@@ -145,17 +134,6 @@ IsItem kind item = length item ≡ item_size kind (length item)
 abbrev pub Items : Type 0 → ItemKind → List ℕ → ℕ → ℕ → Rest
 Items K kind a left after =
     FromItems string (IsItem kind) (item_entry kind a) left (FromSubsections K a after)
-
-pub record FromRange (K : Type 0) (a : List ℕ) (after : ℕ) (bytes : List ℕ) (more : List Entry) : Type 0 where
-  pub min : ℕ
-  pub max : ℕ
-  pub rest : List ℕ
-  pub others : List Entry
-  pub parts : bytes ≡ (number 8 min ++ number 8 max) ++ rest
-  pub ordered : min ≤ max
-  pub fits : max < 2 ^ 64
-  pub named : more ≡ RangeEntry a min max ∷ others
-  pub then_is : FromSubsections K a after rest others
 
 pub record FromMax (K : Type 0) (a : List ℕ) (min after : ℕ) (bytes : List ℕ) (more : List Entry) : Type 0 where
   pub max : ℕ
@@ -193,19 +171,10 @@ pub record FromBitmap (K : Type 0) (a : List ℕ) (offset left after : ℕ) (byt
   pub then_is : FromSubsections K a after rest others
 
 -- an offset and a bitmap
-pub record FromOffset (K : Type 0) (a : List ℕ) (left after : ℕ) (bytes : List ℕ) (more : List Entry) : Type 0 where
-  pub content : List ℕ
-  pub offset : ℕ
-  pub value : ℕ
-  pub rest : List ℕ
-  pub others : List Entry
-  pub parts : bytes ≡ content ++ rest
-  pub size_is : length content ≡ left
-  pub spelled : SpellsBitmap content offset value
-  pub named : NamesSame more (BitmapEntry a offset value ∷ others)
-  pub then_is : FromSubsections K a after rest others
+abbrev pub FromOffset : Type 0 → List ℕ → (left after : ℕ) → Rest
+FromOffset K a left after = λ bytes more. (8 ≤ left) × FromNumber (λ offset. FromBitmap K a offset (left - 8) after) bytes more
 
--- an extension from its name on, from its critical byte on, and from the length of its contents on
+-- an extension that fills the rest of the part around it
 pub record FromExtension (left : ℕ) (Then : Rest) (bytes : List ℕ) (more : List Entry) : Type 0 where
   pub content : List ℕ
   pub rest : List ℕ
@@ -214,19 +183,19 @@ pub record FromExtension (left : ℕ) (Then : Rest) (bytes : List ℕ) (more : L
   pub spelled : SpellsExtension content
   pub then_is : Then rest more
 
-pub record FromCritical (left : ℕ) (Then : Rest) (bytes : List ℕ) (more : List Entry) : Type 0 where
-  pub contents : List ℕ
-  pub rest : List ℕ
-  pub parts : bytes ≡ (0 ∷ string contents) ++ rest
-  pub size_is : length (0 ∷ string contents) ≡ left
-  pub then_is : Then rest more
-
+-- its contents, its critical byte and its name, and what follows each
 pub record FromContents (left : ℕ) (Then : Rest) (bytes : List ℕ) (more : List Entry) : Type 0 where
   pub contents : List ℕ
   pub rest : List ℕ
   pub parts : bytes ≡ string contents ++ rest
   pub size_is : length (string contents) ≡ left
   pub then_is : Then rest more
+
+abbrev pub FromCritical : ℕ → Rest → Rest
+FromCritical left Then = λ bytes more. (1 ≤ left) × FromText (0 ∷ []) (FromContents (left - 1) Then) bytes more
+
+abbrev pub FromName : ℕ → Rest → Rest
+FromName left Then = FromString left (λ name after. FromCritical after Then)
 
 -- ---- the header; `last` is the header at the end of the list
 
@@ -281,7 +250,7 @@ Completes last h a (places.Certificates (certificates.SubsectionType left)) = Fr
 Completes last h a (places.Serials (serials.SerialsLength left)) = FromPart (last ≡ h) a 0x20 left
 Completes last h a (places.Serials (serials.Serial left after)) = SerialItems (last ≡ h) a left after
 Completes last h a (places.Serials (serials.RangeLength left)) = FromPart (last ≡ h) a 0x21 left
-Completes last h a (places.Serials (serials.RangeMin after)) = FromRange (last ≡ h) a after
+Completes last h a (places.Serials (serials.RangeMin after)) = FromNumber (λ min. FromMax (last ≡ h) a min after)
 Completes last h a (places.Serials (serials.RangeMax min after)) = FromMax (last ≡ h) a min after
 Completes last h a (places.Bitmap (bitmaps.Length left)) = FromPart (last ≡ h) a 0x22 left
 Completes last h a (places.Bitmap (bitmaps.Offset left after)) = FromOffset (last ≡ h) a left after
@@ -290,7 +259,7 @@ Completes last h a (places.Bitmap (bitmaps.Byte offset size left after)) =
     λ bytes more. 0 < left → FromBits (last ≡ h) a offset size left after bytes more
 Completes last h a (places.Extension extensions.SectionLength) = FromLength (λ n. FromExtension n (FromSections false (last ≡ h)))
 Completes last h a (places.Extension (extensions.SubsectionLength left)) = FromPart (last ≡ h) a 0x39 left
-Completes last h a (places.Extension (extensions.NameLength left after)) = FromExtension left (FromSubsections (last ≡ h) a after)
+Completes last h a (places.Extension (extensions.NameLength left after)) = FromName left (FromSubsections (last ≡ h) a after)
 Completes last h a (places.Extension (extensions.Name size left after)) = FromContent size (λ n. FromCritical left (FromSubsections (last ≡ h) a after))
 Completes last h a (places.Extension (extensions.Critical left after)) = FromCritical left (FromSubsections (last ≡ h) a after)
 Completes last h a (places.Extension (extensions.ContentsLength left after)) = FromContents left (FromSubsections (last ≡ h) a after)

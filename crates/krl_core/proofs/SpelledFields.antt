@@ -6,7 +6,7 @@ use Rattle.krl_core.proofs.Common.{bits_judged, Bool, cases_Bool, cases_lt, cond
 use Rattle.krl_core.proofs.Common.{eqb-true, Err, Expected, expected, false, HasRoom, Header}
 use Rattle.krl_core.proofs.Common.{header_text, highest_bit, Ids, inl, inr, IsBytes, IsBytes-back}
 use Rattle.krl_core.proofs.Common.{IsBytes-front, IsBytes-in_string, IsPositive, item_size}
-use Rattle.krl_core.proofs.Common.{ItemKind, judge, KrlFault, le-leb, le-ltb, leading_zeros, leb}
+use Rattle.krl_core.proofs.Common.{ItemKind, judge, KrlFault, le-leb, le-ltb, leading_zeros}
 use Rattle.krl_core.proofs.Common.{length, length-append, length-number, length-numbers}
 use Rattle.krl_core.proofs.Common.{length-string, length_within, List, lt-leb, lt-ltb, ltb, magic}
 use Rattle.krl_core.proofs.Common.{ne_eqb, next_bits, next_item, next_serial, next_subsection, not}
@@ -33,19 +33,19 @@ use Rattle.serial_set.proofs.Bits.{highest_bit as top_bit}
 -- ---- a field, and the place after it
 
 -- the length of content that is read in parts
-pub content_goes : (p q r : Place) (content rest : List ℕ) → HasRoom (expected p) → (expected p).size ≡ 4 → length content < 2 ^ 32
+pub content_goes : {p q r : Place} {rest : List ℕ} (content : List ℕ) → HasRoom (expected p) → (expected p).size ≡ 4 → length content < 2 ^ 32
     → ((field : List ℕ) → number_of field ≡ length content → (expected p).judged field ≡ Ok q) → Goes q (content ++ rest) r rest → Goes p (string content ++ rest) r rest
 unfolding string
-content_goes p q r content rest room size fits judged w =
-    goes_from p r (string content ++ rest) (number 4 (length content) ++ (content ++ rest)) rest (append_assoc (number 4 (length content)) content rest)
-    (goes_then p q r (number 4 (length content) ++ (content ++ rest)) (content ++ rest) rest
-    (goes_one p q (number 4 (length content)) (content ++ rest) room (length-number 4 (length content) ∙ sym size) (judged (number 4 (length content)) (number_again4 (length content) fits))) w)
+content_goes {rest = rest} content room size fits judged w =
+    let n : List ℕ = number 4 (length content) in
+    goes_from (append_assoc n content rest)
+    (goes_then (goes_one n room (length-number 4 (length content) ∙ sym size) (judged n (number_again4 (length content) fits))) w)
 
 -- a string: its length, and its content
-pub string_goes : (p : Place) (q : Place) (r : Place) (content rest : List ℕ) → HasRoom (expected p) → (expected p).size ≡ 4 → length content < 2 ^ 32
+pub string_goes : {p q r : Place} {rest : List ℕ} (content : List ℕ) → HasRoom (expected p) → (expected p).size ≡ 4 → length content < 2 ^ 32
     → ((field : List ℕ) → number_of field ≡ length content → (expected p).judged field ≡ Ok q)
     → HasRoom (expected q) → length content ≡ (expected q).size → (expected q).judged content ≡ Ok r → Goes p (string content ++ rest) r rest
-string_goes p q r content rest room size fits judged room' size' judged' = content_goes p q r content rest room size fits judged (goes_one q r content rest room' size' judged')
+string_goes content room size fits judged room' size' judged' = content_goes content room size fits judged (goes_one content room' size' judged')
 
 -- a length that fits passes, and the judgement is that of its value
 pub within_is : (left : ℕ) (next : ℕ → Result Place KrlFault) (size n : ℕ) → size ≡ n → n ≤ left - 4 → within left next size ≡ next n
@@ -62,23 +62,15 @@ pub header_goes : (header : Header) (flags : ℕ) (reserved rest : List ℕ) →
     → Goes (places.Header headers.Magic) (header_text header flags reserved ++ rest) (places.SectionType false) rest
 unfolding number number_of
 header_goes header flags reserved rest fits fits' =
-    let r1 : List ℕ = string header.comment ++ rest in
-    let r2 : List ℕ = string reserved ++ r1 in
-    let r3 : List ℕ = number 8 flags ++ r2 in
-    let r4 : List ℕ = number 8 header.date ++ r3 in
-    let r5 : List ℕ = number 8 header.version ++ r4 in
-    let r6 : List ℕ = number 4 1 ++ r5 in
-    let w0 = string_goes (places.Header headers.CommentLength) (places.Header (headers.Comment (length header.comment))) (places.SectionType false) header.comment rest tt refl fits'
-    (λ field e. ap (λ (n : ℕ). Ok (places.Header (headers.Comment n))) e) tt refl refl in
-    let w1 = goes_then (places.Header headers.ReservedLength) (places.Header headers.CommentLength) (places.SectionType false) r2 r1 rest
-    (string_goes (places.Header headers.ReservedLength) (places.Header (headers.Reserved (length reserved))) (places.Header headers.CommentLength) reserved r1 tt refl fits
-    (λ field e. ap (λ (n : ℕ). Ok (places.Header (headers.Reserved n))) e) tt refl refl) w0 in
-    let w2 = goes_then (places.Header headers.Flags) (places.Header headers.ReservedLength) (places.SectionType false) r3 r2 rest (goes_one (places.Header headers.Flags) (places.Header headers.ReservedLength) (number 8 flags) r2 tt (length-number 8 flags) refl) w1 in
-    let w3 = goes_then (places.Header headers.Date) (places.Header headers.Flags) (places.SectionType false) r4 r3 rest (goes_one (places.Header headers.Date) (places.Header headers.Flags) (number 8 header.date) r3 tt (length-number 8 header.date) refl) w2 in
-    let w4 = goes_then (places.Header headers.Version) (places.Header headers.Date) (places.SectionType false) r5 r4 rest (goes_one (places.Header headers.Version) (places.Header headers.Date) (number 8 header.version) r4 tt (length-number 8 header.version) refl) w3 in
-    let w5 = goes_then (places.Header headers.FormatVersion) (places.Header headers.Version) (places.SectionType false) r6 r5 rest (goes_one (places.Header headers.FormatVersion) (places.Header headers.Version) (number 4 1) r5 tt refl refl) w4 in
-    goes_from (places.Header headers.Magic) (places.SectionType false) (header_text header flags reserved ++ rest) (magic ++ r6) rest (header_parts header flags reserved rest)
-    (goes_then (places.Header headers.Magic) (places.Header headers.FormatVersion) (places.SectionType false) (magic ++ r6) r6 rest (goes_one (places.Header headers.Magic) (places.Header headers.FormatVersion) magic r6 tt refl refl) w5)
+    let strings_go = goes_then
+    (string_goes {p = places.Header headers.ReservedLength} {rest = string header.comment ++ rest} reserved tt refl fits (λ field e. ap (λ (n : ℕ). Ok (places.Header (headers.Reserved n))) e) tt refl refl)
+    (string_goes header.comment tt refl fits' (λ field e. ap (λ (n : ℕ). Ok (places.Header (headers.Comment n))) e) tt refl refl) in
+    goes_from (header_parts header flags reserved rest)
+    (goes_then (goes_one magic tt refl refl)
+    (goes_then (goes_one (number 4 1) tt refl refl)
+    (goes_then (goes_one (number 8 header.version) tt (length-number 8 header.version) refl)
+    (goes_then (goes_one (number 8 header.date) tt (length-number 8 header.date) refl)
+    (goes_then (goes_one (number 8 flags) tt (length-number 8 flags) refl) strings_go)))))
 
 -- ---- the items of a list
 
@@ -89,21 +81,20 @@ item_goes kind (suc k) left after item rest e fits good =
     let at : ℕ → ℕ → Place = λ size more. places.List (lists.Item kind size more after) in
     let left_is : suc k - 4 - length item ≡ left = omega arith in
     let room : 4 ≤ suc k = omega arith in
-    string_goes (places.List (lists.ItemLength kind (suc k) after)) (at (length item) left) (next_item kind left after) item rest room refl (omega arith)
+    string_goes item room refl (omega arith)
     (λ field e'. within_is (suc k) (λ size. judge (size == item_size kind size) faults.HashLength (at size (suc k - 4 - size))) (number_of field) (length item) e' (omega arith)
-    ∙ judge_is (eqb (length item) (item_size kind (length item))) faults.HashLength (at (length item) (suc k - 4 - length item)) (eq-eqb (length item) (item_size kind (length item)) good)
+    ∙ judge_is _ faults.HashLength (at (length item) (suc k - 4 - length item)) (eq-eqb (length item) (item_size kind (length item)) good)
     ∙ ap (λ (m : ℕ). Ok (at (length item) m)) left_is) tt good refl
 
 pub items_go : (kind : ItemKind) (items : List (List ℕ)) (total left after : ℕ) (rest : List ℕ) → total ≡ length (strings items) + left → total < 2 ^ 32 → AllByRecursion (IsItem kind) items
     → Goes (next_item kind total after) (strings items ++ rest) (next_item kind left after) rest
 items_go kind [] total left after rest e fits good =
-    subst (λ (m : ℕ). Goes (next_item kind total after) rest (next_item kind m after) rest) (let same : total ≡ left = omega arith in same) (goes_none (next_item kind total after) rest)
+    subst (λ (m : ℕ). Goes (next_item kind total after) rest (next_item kind m after) rest) (let same : total ≡ left = omega arith in same) goes_none
 items_go kind (item ∷ items) total left after rest e fits good =
     let mid : ℕ = length (strings items) + left in
     let whole : length (strings (item ∷ items)) ≡ 4 + length item + length (strings items) = omega (arith, length-append (string item) (strings items), length-string item) in
-    goes_from (next_item kind total after) (next_item kind left after) (strings (item ∷ items) ++ rest) (string item ++ (strings items ++ rest)) rest (append_assoc (string item) (strings items) rest)
-    (goes_then (next_item kind total after) (next_item kind mid after) (next_item kind left after) (string item ++ (strings items ++ rest)) (strings items ++ rest) rest
-    (item_goes kind total mid after item (strings items ++ rest) (omega arith) fits good.0) (items_go kind items mid left after rest refl (omega arith) good.1))
+    goes_from (append_assoc (string item) (strings items) rest)
+    (goes_then (item_goes kind total mid after item (strings items ++ rest) (omega arith) fits good.0) (items_go kind items mid left after rest refl (omega arith) good.1))
 
 -- items that may have any size
 pub any_size : (items : List (List ℕ)) → AllByRecursion (λ item. length item ≡ length item) items
@@ -117,16 +108,15 @@ serial_goes zero left after n rest e = absurd (omega arith)
 serial_goes (suc k) left after n rest e =
     let left_is : suc k - 8 ≡ left = omega arith in
     let room : 8 ≤ suc k = omega arith in
-    goes_one (places.Serials (serials.Serial (suc k) after)) (next_serial left after) (number 8 n) rest room (length-number 8 n) (ap (λ (m : ℕ). Ok (next_serial m after)) left_is)
+    goes_one (number 8 n) room (length-number 8 n) (ap (λ (m : ℕ). Ok (next_serial m after)) left_is)
 
 serials_go : (items : List ℕ) (total left after : ℕ) (rest : List ℕ) → total ≡ length (numbers_text items) + left → Goes (next_serial total after) (numbers_text items ++ rest) (next_serial left after) rest
-serials_go [] total left after rest e = subst (λ (m : ℕ). Goes (next_serial total after) rest (next_serial m after) rest) (let same : total ≡ left = omega arith in same) (goes_none (next_serial total after) rest)
+serials_go [] total left after rest e = subst (λ (m : ℕ). Goes (next_serial total after) rest (next_serial m after) rest) (let same : total ≡ left = omega arith in same) goes_none
 serials_go (n ∷ items) total left after rest e =
     let mid : ℕ = length (numbers_text items) + left in
     let whole : length (numbers_text (n ∷ items)) ≡ 8 + length (numbers_text items) = omega (arith, length-append (number 8 n) (numbers_text items), length-number 8 n) in
-    goes_from (next_serial total after) (next_serial left after) (numbers_text (n ∷ items) ++ rest) (number 8 n ++ (numbers_text items ++ rest)) rest (append_assoc (number 8 n) (numbers_text items) rest)
-    (goes_then (next_serial total after) (next_serial mid after) (next_serial left after) (number 8 n ++ (numbers_text items ++ rest)) (numbers_text items ++ rest) rest
-    (serial_goes total mid after n (numbers_text items ++ rest) (omega arith)) (serials_go items mid left after rest refl))
+    goes_from (append_assoc (number 8 n) (numbers_text items) rest)
+    (goes_then (serial_goes total mid after n (numbers_text items ++ rest) (omega arith)) (serials_go items mid left after rest refl))
 
 -- ---- the bytes of a bitmap
 
@@ -155,7 +145,7 @@ low_bytes (b ∷ bits) fits = low_more b bits (fits 0) (low_bytes bits (λ i. fi
 bits_go : (bits : List ℕ) (offset size after : ℕ) (rest : List ℕ) → IsBytes bits → length bits ≤ size → (length bits ≡ size → IsPositive bits)
     → ((k : ℕ) → bit_at (number_of bits) k ≡ 1 → offset + k < 2 ^ 64)
     → Goes (next_bits offset size (length bits) after) (bits ++ rest) (next_subsection after) rest
-bits_go [] offset size after rest fits le sign within = goes_none (next_subsection after) rest
+bits_go [] offset size after rest fits le sign within = goes_none
 bits_go (b ∷ bits) offset size after rest fits le sign within =
     let n = 8 * length bits in
     let byte : b < 256 = fits 0 in
@@ -169,13 +159,10 @@ bits_go (b ∷ bits) offset size after rest fits le sign within =
     let at : n + k - n ≡ k = omega arith in
     let high = within (n + k) (whole (n + k) (bit_at_cat_high b n (number_of bits) (n + k) low le' ∙ ap (bit_at b) at ∙ set)) in
     omega (arith, high, base)) in
-    let one : number_of (b ∷ []) ≡ b = number_of-one b in
     let judged : bits_judged offset size (suc (length bits)) after (number_of (b ∷ [])) ≡ Ok (next_bits offset size (suc (length bits) - 1) after) =
-    ap (bits_judged offset size (suc (length bits)) after) one ∙ bits_pass offset size (suc (length bits)) after b (λ e. sign e) passes in
+    ap (bits_judged offset size (suc (length bits)) after) (number_of-one b) ∙ bits_pass offset size (suc (length bits)) after b (λ e. sign e) passes in
     let less : suc (length bits) - 1 ≡ length bits = omega arith in
-    goes_then (places.Bitmap (bitmaps.Byte offset size (suc (length bits)) after)) (next_bits offset size (length bits) after) (next_subsection after) (b ∷ (bits ++ rest)) (bits ++ rest) rest
-    (goes_one (places.Bitmap (bitmaps.Byte offset size (suc (length bits)) after)) (next_bits offset size (length bits) after) (b ∷ []) (bits ++ rest) tt refl
-    (judged ∙ ap (λ (m : ℕ). Ok (next_bits offset size m after)) less))
+    goes_then (goes_one (b ∷ []) tt refl (judged ∙ ap (λ (m : ℕ). Ok (next_bits offset size m after)) less))
     (bits_go bits offset size after rest tail_fits (omega arith) (λ e. absurd (omega arith))
     (λ k set. within k (elim (cases_lt k n) [
       | inl lt ↦ whole k (bit_at_cat_low b n (number_of bits) k lt ∙ set)
@@ -189,26 +176,23 @@ pub extension_goes : (left after : ℕ) (content rest : List ℕ) → SpellsExte
     → Goes (places.Extension (extensions.NameLength left after)) (content ++ rest) (next_subsection after) rest
 unfolding number_of
 extension_goes left after content rest h size fits =
-    let name = h.name in
-    let contents = h.contents in
-    let n = length contents in
-    let all : length content ≡ 4 + length name + (1 + (4 + n)) =
-    ap length h.spelled ∙ length-append (string name) (0 ∷ string contents) ∙ (let e : length (string name) + length (0 ∷ string contents) ≡ 4 + length name + (1 + (4 + n)) = omega (arith, length-string name, length-string contents) in e) in
-    let left_is : left - 4 - length name ≡ 5 + n = omega (arith, all, size) in
+    let n = length h.contents in
+    let all : length content ≡ 4 + length h.name + (5 + n) =
+    ap length h.spelled ∙ omega (arith, length-append (string h.name) (0 ∷ string h.contents), length-string h.name, length-string h.contents) in
+    let left_is : left - 4 - length h.name ≡ 5 + n = omega (arith, all, size) in
     let room : 4 ≤ left = omega (arith, all, size) in
-    let r1 : List ℕ = string contents ++ rest in
-    let last = string_goes (places.Extension (extensions.ContentsLength (4 + n) after)) (places.Extension (extensions.Contents n after)) (next_subsection after) contents rest (let r : 4 ≤ 4 + n = omega arith in r) refl (omega (arith, all, size, fits))
-    (λ field e. let four : 4 + n - 4 ≡ n = omega arith in
-    judge_is (eqb (number_of field) (4 + n - 4)) faults.Length (places.Extension (extensions.Contents (4 + n - 4) after)) (eq-eqb (number_of field) (4 + n - 4) (e ∙ sym four)) ∙ ap (λ (m : ℕ). Ok (places.Extension (extensions.Contents m after))) four) tt refl refl in
-    let critical = goes_then (places.Extension (extensions.Critical (5 + n) after)) (places.Extension (extensions.ContentsLength (4 + n) after)) (next_subsection after) (0 ∷ r1) r1 rest
-    (goes_one (places.Extension (extensions.Critical (5 + n) after)) (places.Extension (extensions.ContentsLength (4 + n) after)) (0 ∷ []) r1 (let r : 1 ≤ 5 + n = omega arith in r) refl
-    (ap (λ (m : ℕ). Ok (places.Extension (extensions.ContentsLength m after))) (let e : 5 + n - 1 ≡ 4 + n = omega arith in e))) last in
-    let start_parts : content ++ rest ≡ string name ++ (0 ∷ r1) = ap (λ (x : List ℕ). x ++ rest) h.spelled ∙ append_assoc (string name) (0 ∷ string contents) rest in
-    goes_from (places.Extension (extensions.NameLength left after)) (next_subsection after) (content ++ rest) (string name ++ (0 ∷ r1)) rest start_parts
-    (goes_then (places.Extension (extensions.NameLength left after)) (places.Extension (extensions.Critical (5 + n) after)) (next_subsection after) (string name ++ (0 ∷ r1)) (0 ∷ r1) rest
-    (string_goes (places.Extension (extensions.NameLength left after)) (places.Extension (extensions.Name (length name) (5 + n) after)) (places.Extension (extensions.Critical (5 + n) after)) name (0 ∷ r1) room refl (omega (arith, all, size, fits))
-    (λ field e. within_is left (λ m. Ok (places.Extension (extensions.Name m (left - 4 - m) after))) (number_of field) (length name) e (omega (arith, all, size)) ∙ ap (λ (m : ℕ). Ok (places.Extension (extensions.Name (length name) m after))) left_is) tt refl refl)
-    critical)
+    let four : 4 ≤ 4 + n = omega arith in
+    let one : 1 ≤ 5 + n = omega arith in
+    let less : 4 + n - 4 ≡ n = omega arith in
+    let fewer : 5 + n - 1 ≡ 4 + n = omega arith in
+    goes_from (ap (λ (x : List ℕ). x ++ rest) h.spelled ∙ append_assoc (string h.name) (0 ∷ string h.contents) rest)
+    (goes_then (string_goes h.name room refl (omega (arith, all, size, fits))
+    (λ field e. within_is left (λ m. Ok (places.Extension (extensions.Name m (left - 4 - m) after))) (number_of field) (length h.name) e (omega (arith, all, size))
+    ∙ ap (λ (m : ℕ). Ok (places.Extension (extensions.Name (length h.name) m after))) left_is) tt refl refl)
+    (goes_then (goes_one (0 ∷ []) one refl (ap (λ (m : ℕ). Ok (places.Extension (extensions.ContentsLength m after))) fewer))
+    (string_goes h.contents four refl (omega (arith, all, size, fits))
+    (λ field e. judge_is _ faults.Length (places.Extension (extensions.Contents (4 + n - 4) after)) (eq-eqb (number_of field) (4 + n - 4) (e ∙ sym less))
+    ∙ ap (λ (m : ℕ). Ok (places.Extension (extensions.Contents m after))) less) tt refl refl)))
 
 -- the type byte of a subsection, the length of its content, and the content
 part_goes : (left type_byte : ℕ) (p q : Place) (text content rest : List ℕ) (next : (size after : ℕ) → Result Place KrlFault) → text ≡ type_byte ∷ string content → length text ≤ left → length content < 2 ^ 32
@@ -216,15 +200,13 @@ part_goes : (left type_byte : ℕ) (p q : Place) (text content rest : List ℕ) 
     → next (length content) (left - length text) ≡ Ok q → Goes q (content ++ rest) (next_subsection (left - length text)) rest
     → Goes (places.Certificates (certificates.SubsectionType left)) (text ++ rest) (next_subsection (left - length text)) rest
 part_goes left type_byte p q text content rest next spelled le fits typed is judged walk =
-    let at = places.Certificates (certificates.SubsectionType left) in
-    let end = next_subsection (left - length text) in
-    let size : length text ≡ 5 + length content = ap length spelled ∙ (let e : length (type_byte ∷ string content) ≡ 5 + length content = omega (arith, length-string content) in e) in
+    let size : length text ≡ 5 + length content = ap length spelled ∙ omega (arith, length-string content) in
     let after : left - 1 - 4 - length content ≡ left - length text = omega (arith, size) in
+    let some : 1 ≤ left = omega (arith, size) in
     let room : 4 ≤ left - 1 = omega (arith, size) in
-    goes_from at end (text ++ rest) (type_byte ∷ (string content ++ rest)) rest (ap (λ (x : List ℕ). x ++ rest) spelled)
-    (goes_then at p end (type_byte ∷ (string content ++ rest)) (string content ++ rest) rest
-    (goes_one at p (type_byte ∷ []) (string content ++ rest) (let some : 1 ≤ left = omega (arith, size) in some) refl typed)
-    (content_goes p q end content rest (subst (λ (d : Expected). HasRoom d) (sym is) room) (ap (λ (d : Expected). d.size) is) fits
+    goes_from (ap (λ (x : List ℕ). x ++ rest) spelled)
+    (goes_then (goes_one (type_byte ∷ []) some refl typed)
+    (content_goes content (subst (λ (d : Expected). HasRoom d) (sym is) room) (ap (λ (d : Expected). d.size) is) fits
     (λ field e. ap (λ (d : Expected). d.judged field) is ∙ within_is (left - 1) (λ size. next size (left - 1 - 4 - size)) (number_of field) (length content) e (omega (arith, size))
     ∙ ap (next (length content)) after ∙ judged) walk))
 
@@ -236,72 +218,60 @@ subsection_goes left (Serials numbers) text rest h le fits =
     let b = left - length text in
     let all : n ≡ length (numbers_text numbers) = ap length h.content_is.0 in
     let eight : n % 8 ≡ 0 = omega (arith, all ∙ length-numbers numbers) in
-    part_goes left 0x20 (places.Serials (serials.SerialsLength (left - 1))) (next_serial n b) text h.content rest (λ size after. judge (size % 8 == 0) faults.Length (next_serial size after)) h.spelled le h.fits refl refl
-    (judge_is (eqb (n % 8) 0) faults.Length (next_serial n b) (eq-eqb (n % 8) 0 eight))
-    (goes_from (next_serial n b) (next_subsection b) (h.content ++ rest) (numbers_text numbers ++ rest) rest (ap (λ (x : List ℕ). x ++ rest) h.content_is.0) (serials_go numbers n 0 b rest (omega (arith, all))))
+    part_goes left 0x20 _ (next_serial n b) text h.content rest (λ size after. judge (size % 8 == 0) faults.Length (next_serial size after)) h.spelled le h.fits refl refl
+    (judge_is _ faults.Length (next_serial n b) (eq-eqb (n % 8) 0 eight))
+    (goes_from (ap (λ (x : List ℕ). x ++ rest) h.content_is.0) (serials_go numbers n 0 b rest (omega (arith, all))))
 subsection_goes left (Range min max) text rest h le fits =
-    let content = h.content in
-    let n = length content in
-    let all : n ≡ 16 = ap length h.content_is.0 ∙ length-append (number 8 min) (number 8 max) ∙ (let e : length (number 8 min) + length (number 8 max) ≡ 16 = omega (arith, length-number 8 min, length-number 8 max) in e) in
+    let n = length h.content in
+    let all : n ≡ 16 = ap length h.content_is.0 ∙ omega (arith, length-append (number 8 min) (number 8 max), length-number 8 min, length-number 8 max) in
     let b = left - length text in
     let low : number_of (number 8 min) ≡ min = number_again8 min (omega (arith, h.content_is.1, h.content_is.2)) in
     let high : number_of (number 8 max) ≡ max = number_again8 max h.content_is.2 in
-    let second = goes_one (places.Serials (serials.RangeMax min b)) (next_subsection b) (number 8 max) rest tt (length-number 8 max)
-    (judge_is (leb min (number_of (number 8 max))) faults.RangeReversed (next_subsection b) (le-leb min (number_of (number 8 max)) (omega (arith, high, h.content_is.1)))) in
-    let first = goes_one (places.Serials (serials.RangeMin b)) (places.Serials (serials.RangeMax min b)) (number 8 min) (number 8 max ++ rest) tt (length-number 8 min) (ap (λ (m : ℕ). Ok (places.Serials (serials.RangeMax m b))) low) in
-    let parts : content ++ rest ≡ number 8 min ++ (number 8 max ++ rest) = ap (λ (x : List ℕ). x ++ rest) h.content_is.0 ∙ append_assoc (number 8 min) (number 8 max) rest in
-    let walk = goes_from (places.Serials (serials.RangeMin b)) (next_subsection b) (content ++ rest) (number 8 min ++ (number 8 max ++ rest)) rest parts
-    (goes_then (places.Serials (serials.RangeMin b)) (places.Serials (serials.RangeMax min b)) (next_subsection b) (number 8 min ++ (number 8 max ++ rest)) (number 8 max ++ rest) rest first second) in
-    part_goes left 0x21 (places.Serials (serials.RangeLength (left - 1))) (places.Serials (serials.RangeMin b)) text content rest (λ size after. judge (size == 16) faults.Length (places.Serials (serials.RangeMin after))) h.spelled le h.fits refl refl
-    (judge_is (eqb n 16) faults.Length (places.Serials (serials.RangeMin b)) (eq-eqb n 16 all)) walk
+    part_goes left 0x21 _ (places.Serials (serials.RangeMin b)) text h.content rest (λ size after. judge (size == 16) faults.Length (places.Serials (serials.RangeMin after))) h.spelled le h.fits refl refl
+    (judge_is _ faults.Length (places.Serials (serials.RangeMin b)) (eq-eqb n 16 all))
+    (goes_from (ap (λ (x : List ℕ). x ++ rest) h.content_is.0 ∙ append_assoc (number 8 min) (number 8 max) rest)
+    (goes_then (goes_one (number 8 min) tt (length-number 8 min) (ap (λ (m : ℕ). Ok (places.Serials (serials.RangeMax m b))) low))
+    (goes_one (number 8 max) tt (length-number 8 max) (judge_is _ faults.RangeReversed (next_subsection b) (le-leb min (number_of (number 8 max)) (omega (arith, high, h.content_is.1)))))))
 subsection_goes left (Bitmap offset value) text rest h le fits =
-    let content = h.content in
-    let n = length content in
+    let n = length h.content in
     let m = h.content_is in
     let bits = m.bytes in
     let b = left - length text in
-    let all : n ≡ 8 + (4 + length bits) = ap length m.spelled ∙ length-append (number 8 offset) (string bits) ∙ (let e : length (number 8 offset) + length (string bits) ≡ 8 + (4 + length bits) = omega (arith, length-number 8 offset, length-string bits) in e) in
-    let content_bytes : IsBytes content = IsBytes-in_string content (IsBytes-back (0x22 ∷ []) (string content) (subst IsBytes h.spelled fits)) in
+    let all : n ≡ 8 + (4 + length bits) = ap length m.spelled ∙ omega (arith, length-append (number 8 offset) (string bits), length-number 8 offset, length-string bits) in
+    let content_bytes : IsBytes h.content = IsBytes-in_string h.content (IsBytes-back (0x22 ∷ []) (string h.content) (subst IsBytes h.spelled fits)) in
     let bits_bytes : IsBytes bits = IsBytes-in_string bits (IsBytes-back (number 8 offset) (string bits) (subst IsBytes m.spelled content_bytes)) in
-    let less : n - 8 ≡ 4 + length bits = omega (arith, all) in
     let fewer : n - 8 - 4 ≡ length bits = omega (arith, all) in
+    let eight : 8 ≤ n = omega (arith, all) in
+    let four : 4 ≤ n - 8 = omega (arith, all) in
     let within' : (k : ℕ) → bit_at (number_of bits) k ≡ 1 → offset + k < 2 ^ 64 = λ k set. m.within k (subst (λ (v : ℕ). bit_at v k ≡ 1) (sym m.value_is) set) in
-    let walk_bits = bits_go bits offset (length bits) b rest bits_bytes (omega arith) (λ e. m.positive) within' in
-    let sized = content_goes (places.Bitmap (bitmaps.Size offset (n - 8) b)) (next_bits offset (length bits) (length bits) b) (next_subsection b) bits rest (let r : 4 ≤ n - 8 = omega (arith, all) in r) refl (omega (arith, all, h.fits))
-    (λ field e. judge_is (eqb (number_of field) (n - 8 - 4)) faults.Length (next_bits offset (n - 8 - 4) (n - 8 - 4) b) (eq-eqb (number_of field) (n - 8 - 4) (e ∙ sym fewer))
-    ∙ ap (λ (k : ℕ). Ok (next_bits offset k k b)) fewer) walk_bits in
-    let first = goes_one (places.Bitmap (bitmaps.Offset n b)) (places.Bitmap (bitmaps.Size offset (n - 8) b)) (number 8 offset) (string bits ++ rest) (let r : 8 ≤ n = omega (arith, all) in r) (length-number 8 offset)
-    (ap (λ (k : ℕ). Ok (places.Bitmap (bitmaps.Size k (n - 8) b))) (number_again8 offset m.offset_fits)) in
-    let parts : content ++ rest ≡ number 8 offset ++ (string bits ++ rest) = ap (λ (x : List ℕ). x ++ rest) m.spelled ∙ append_assoc (number 8 offset) (string bits) rest in
-    let walk = goes_from (places.Bitmap (bitmaps.Offset n b)) (next_subsection b) (content ++ rest) (number 8 offset ++ (string bits ++ rest)) rest parts
-    (goes_then (places.Bitmap (bitmaps.Offset n b)) (places.Bitmap (bitmaps.Size offset (n - 8) b)) (next_subsection b) (number 8 offset ++ (string bits ++ rest)) (string bits ++ rest) rest first sized) in
-    part_goes left 0x22 (places.Bitmap (bitmaps.Length (left - 1))) (places.Bitmap (bitmaps.Offset n b)) text content rest (λ size after. Ok (places.Bitmap (bitmaps.Offset size after))) h.spelled le h.fits refl refl refl walk
+    part_goes left 0x22 _ (places.Bitmap (bitmaps.Offset n b)) text h.content rest (λ size after. Ok (places.Bitmap (bitmaps.Offset size after))) h.spelled le h.fits refl refl refl
+    (goes_from (ap (λ (x : List ℕ). x ++ rest) m.spelled ∙ append_assoc (number 8 offset) (string bits) rest)
+    (goes_then (goes_one (number 8 offset) eight (length-number 8 offset) (ap (λ (k : ℕ). Ok (places.Bitmap (bitmaps.Size k (n - 8) b))) (number_again8 offset m.offset_fits)))
+    (content_goes bits four refl (omega (arith, all, h.fits))
+    (λ field e. judge_is _ faults.Length (next_bits offset (n - 8 - 4) (n - 8 - 4) b) (eq-eqb (number_of field) (n - 8 - 4) (e ∙ sym fewer)) ∙ ap (λ (k : ℕ). Ok (next_bits offset k k b)) fewer)
+    (bits_go bits offset (length bits) b rest bits_bytes (omega arith) (λ e. m.positive) within'))))
 subsection_goes left (Ids texts) text rest h le fits =
     let n = length h.content in
     let b = left - length text in
-    let at = next_item kinds.Id n b in
-    part_goes left 0x23 (places.List (lists.IdsLength (left - 1))) at text h.content rest (λ size after. Ok (next_item kinds.Id size after)) h.spelled le h.fits refl refl refl
-    (goes_from at (next_subsection b) (h.content ++ rest) (strings texts ++ rest) rest (ap (λ (x : List ℕ). x ++ rest) h.content_is)
-    (items_go kinds.Id texts n 0 b rest (omega (arith, ap length h.content_is)) h.fits (any_size texts)))
+    part_goes left 0x23 _ (next_item kinds.Id n b) text h.content rest (λ size after. Ok (next_item kinds.Id size after)) h.spelled le h.fits refl refl refl
+    (goes_from (ap (λ (x : List ℕ). x ++ rest) h.content_is) (items_go kinds.Id texts n 0 b rest (omega (arith, ap length h.content_is)) h.fits (any_size texts)))
 subsection_goes left SubsectionExtension text rest h le fits =
     let n = length h.content in
     let b = left - length text in
-    part_goes left 0x39 (places.Extension (extensions.SubsectionLength (left - 1))) (places.Extension (extensions.NameLength n b)) text h.content rest (λ size after. Ok (places.Extension (extensions.NameLength size after))) h.spelled le h.fits refl refl refl
+    part_goes left 0x39 _ (places.Extension (extensions.NameLength n b)) text h.content rest (λ size after. Ok (places.Extension (extensions.NameLength size after))) h.spelled le h.fits refl refl refl
     (extension_goes n b h.content rest h.content_is refl h.fits)
 
 pub subsections_go : (subs : List Subsection) (body rest : List ℕ) (total : ℕ) → SpellsEach SpellsSubsection body subs → total ≡ length body → IsBytes body
     → Goes (next_subsection total) (body ++ rest) (places.SectionType false) rest
 subsections_go [] body rest total h e fits =
     let none : total ≡ 0 = e ∙ ap length h in
-    goes_from (next_subsection total) (places.SectionType false) (body ++ rest) rest rest (ap (λ (x : List ℕ). x ++ rest) h)
-    (subst (λ (m : ℕ). Goes (next_subsection m) rest (places.SectionType false) rest) (sym none) (goes_none (places.SectionType false) rest))
+    goes_from (ap (λ (x : List ℕ). x ++ rest) h) (subst (λ (m : ℕ). Goes (next_subsection m) rest (places.SectionType false) rest) (sym none) goes_none)
 subsections_go (sub ∷ subs) body rest zero (first, (later, (parts, spelled, others))) e fits =
     absurd (omega (arith, e, ap length parts, length-append first later, ap length spelled.spelled))
 subsections_go (sub ∷ subs) body rest (suc k) (first, (later, (parts, spelled, others))) e fits =
     let len = length-append first later in
     let all = subst IsBytes parts fits in
     let left : suc k - length first ≡ length later = omega (arith, e, ap length parts, len) in
-    goes_from (places.Certificates (certificates.SubsectionType (suc k))) (places.SectionType false) (body ++ rest) (first ++ (later ++ rest)) rest (ap (λ (x : List ℕ). x ++ rest) parts ∙ append_assoc first later rest)
-    (goes_then (places.Certificates (certificates.SubsectionType (suc k))) (next_subsection (suc k - length first)) (places.SectionType false) (first ++ (later ++ rest)) (later ++ rest) rest
-    (subsection_goes (suc k) sub first (later ++ rest) spelled (omega (arith, e, ap length parts, len)) (IsBytes-front first later all))
+    goes_from (ap (λ (x : List ℕ). x ++ rest) parts ∙ append_assoc first later rest)
+    (goes_then (subsection_goes (suc k) sub first (later ++ rest) spelled (omega (arith, e, ap length parts, len)) (IsBytes-front first later all))
     (subsections_go subs later rest (suc k - length first) others left (IsBytes-back first later all)))

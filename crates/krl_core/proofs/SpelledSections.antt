@@ -1,8 +1,8 @@
 -- A row of fields that leads to the end of a list spells its sections, and has their entries.
-use Rattle.krl_core.proofs.Common.{[], ◌++◌, ◌+◌, ◌-◌, ◌<◌, ◌^◌, ◌∙◌, ◌∷◌, ◌≡◌, ◌≤◌, ◌⊎◌}
+use Rattle.krl_core.proofs.Common.{[], ◌++◌, ◌+◌, ◌-◌, ◌<◌, ◌^◌, ◌∙◌, ◌∷◌, ◌≡◌, ◌≤◌}
 use Rattle.krl_core.proofs.Common.{AllByRecursion, ap, append_assoc, arith, Bool, Certificates}
-use Rattle.krl_core.proofs.Common.{cond, entries_of, Entry, Extension, false, flat_map, Header, inl}
-use Rattle.krl_core.proofs.Common.{inr, IsBytes, IsSignature, item_entry, ItemKind, KrlFault}
+use Rattle.krl_core.proofs.Common.{entries_of, Entry, Extension, false, flat_map, Header}
+use Rattle.krl_core.proofs.Common.{IsBytes, IsSignature, item_entry, ItemKind, KrlFault}
 use Rattle.krl_core.proofs.Common.{length, length-append, length-number, length-string, List, ltb}
 use Rattle.krl_core.proofs.Common.{ltb-false, map, NamesSame, next_item, next_serial}
 use Rattle.krl_core.proofs.Common.{next_subsection, number, number_back4, number_back8, number_of}
@@ -11,38 +11,37 @@ use Rattle.krl_core.proofs.Common.{same_then, section_entries, SerialsEntry, Sig
 use Rattle.krl_core.proofs.Common.{SignaturesLast, SpelledSection, SpellsEach, SpellsSection}
 use Rattle.krl_core.proofs.Common.{SpellsSubsection, string, strings, Subsection}
 use Rattle.krl_core.proofs.Common.{subsection_entries, subst, suc, sym, true, within, zero, ℕ}
-use Rattle.krl_core.proofs.RestSpellings.{Rest, LastFor, FromSections, FromNumber, FromLength}
-use Rattle.krl_core.proofs.RestSpellings.{FromContent, FromItems, FromItem, FromSubsections}
-use Rattle.krl_core.proofs.RestSpellings.{FromCertificates, FromExtension, Completes, IsItem, Items}
-use Rattle.krl_core.proofs.RestSpellings.{SerialItems}
-use Rattle.krl_core.proofs.Judgements.{held_back, same_place}
+use Rattle.krl_core.proofs.RestSpellings.{Completes, FromCertificates, FromContent, FromExtension}
+use Rattle.krl_core.proofs.RestSpellings.{FromItem, FromItems, FromLength, FromName, FromNumber}
+use Rattle.krl_core.proofs.RestSpellings.{FromSections, FromString, FromSubsections, IsItem, Items}
+use Rattle.krl_core.proofs.RestSpellings.{LastFor, Rest, SerialItems}
+use Rattle.krl_core.proofs.Judgements.{held_back}
 use Rattle.krl_types.specs.declared.krl_fault.KrlFault.TheVariants as faults
 
 -- ---- judgements that passed
 
-pub fits_within : (left : ℕ) (next : ℕ → Result Place KrlFault) (size : ℕ) (q : Place) → within left next size ≡ Ok q → (size ≤ left - 4) × (next size ≡ Ok q)
-fits_within left next size q e =
-    let w = held_back (ltb (left - 4) size) faults.Length (next size) q e in
+pub fits_within : (left size : ℕ) (next : Result Place KrlFault) (q : Place) → within left (λ _. next) size ≡ Ok q → (size ≤ left - 4) × (next ≡ Ok q)
+fits_within left size next q e =
+    let w = held_back (ltb (left - 4) size) faults.Length next q e in
     (ltb-false (left - 4) size w.0, w.1)
 
 -- ---- one field at the front
 
-pub number_front : (Then : ℕ → Rest) (field tail : List ℕ) (more : List Entry) → IsBytes field → length field ≡ 8 → Then (number_of field) tail more → FromNumber Then (field ++ tail) more
-number_front Then field tail more fits size h =
+pub number_front : {Then : ℕ → Rest} {more : List Entry} (field tail : List ℕ) → IsBytes field → length field ≡ 8 → Then (number_of field) tail more → FromNumber Then (field ++ tail) more
+number_front field tail fits size h =
     let n = number_back8 field size fits in
     record { value = number_of field; rest = tail; parts = ap (λ (x : List ℕ). x ++ tail) (sym n.0); fits = n.1; then_is = h }
 
-pub length_front : (Then : ℕ → Rest) (field tail : List ℕ) (more : List Entry) → IsBytes field → length field ≡ 4 → Then (number_of field) tail more → FromLength Then (field ++ tail) more
-length_front Then field tail more fits size h =
+pub length_front : {Then : ℕ → Rest} {more : List Entry} (field tail : List ℕ) → IsBytes field → length field ≡ 4 → Then (number_of field) tail more → FromLength Then (field ++ tail) more
+length_front field tail fits size h =
     let n = number_back4 field size fits in
     record { size = number_of field; rest = tail; parts = ap (λ (x : List ℕ). x ++ tail) (sym n.0); fits = n.1; then_is = h }
 
-pub content_front : (size : ℕ) (Then : List ℕ → Rest) (field tail : List ℕ) (more : List Entry) → length field ≡ size → Then field tail more → FromContent size Then (field ++ tail) more
-content_front size Then field tail more len h = record { content = field; rest = tail; parts = refl; size_is = len; then_is = h }
+pub content_front : {size : ℕ} {Then : List ℕ → Rest} {more : List Entry} (field tail : List ℕ) → length field ≡ size → Then field tail more → FromContent size Then (field ++ tail) more
+content_front field tail len h = record { content = field; rest = tail; parts = refl; size_is = len; then_is = h }
 
-pub item_front : (size : ℕ) (entry : List ℕ → Entry) (Then : Rest) (field tail : List ℕ) (more : List Entry) → length field ≡ size → Then tail more → FromItem size entry Then (field ++ tail) (entry field ∷ more)
-item_front size entry Then field tail more len h =
-    record { content = field; rest = tail; others = more; parts = refl; size_is = len; named = refl; then_is = h }
+pub item_front : {size : ℕ} {entry : List ℕ → Entry} {Then : Rest} {more : List Entry} (field tail : List ℕ) → length field ≡ size → Then tail more → FromItem size entry Then (field ++ tail) (entry field ∷ more)
+item_front {more = more} field tail len h = record { content = field; rest = tail; others = more; parts = refl; size_is = len; named = refl; then_is = h }
 
 -- a length and the bytes that it counts are a string
 pub whole_string : (size : ℕ) (content rest after bytes : List ℕ) → bytes ≡ number 4 size ++ after → after ≡ content ++ rest → length content ≡ size → bytes ≡ string content ++ rest
@@ -54,15 +53,24 @@ pub string_parts : (field tail content rest : List ℕ) → IsBytes field → le
 string_parts field tail content rest fits size len parts =
     whole_string (number_of field) content rest tail (field ++ tail) (ap (λ (x : List ℕ). x ++ tail) (sym (number_back4 field size fits).0)) parts len
 
-items_none : {X : Type 0} (spell : X → List ℕ) (Good : X → Type 0) (entry : X → Entry) (Then : Rest) (bytes : List ℕ) (more : List Entry) → Then bytes more → FromItems spell Good entry 0 Then bytes more
-items_none spell Good entry Then bytes more h =
-    record { items = []; rest = bytes; others = more; parts = refl; size_is = refl; good = tt; named = refl; then_is = h }
+pub string_front : {left : ℕ} {Then : List ℕ → ℕ → Rest} {more : List Entry} (field tail : List ℕ) → IsBytes field → length field ≡ 4 → 4 ≤ left → number_of field ≤ left - 4
+    → FromContent (number_of field) (λ content. Then content (left - 4 - number_of field)) tail more → FromString left Then (field ++ tail) more
+string_front {left} {Then} {more} field tail fits size room enough h = record {
+  content = h.content;
+  rest = h.rest;
+  parts = string_parts field tail h.content h.rest fits size h.size_is h.parts;
+  room = omega (arith, h.size_is, room, enough);
+  then_is = subst (λ (n : ℕ). Then h.content (left - 4 - n) h.rest more) (sym h.size_is) h.then_is;
+}
+
+items_none : {X : Type 0} {spell : X → List ℕ} {Good : X → Type 0} {entry : X → Entry} {Then : Rest} {bytes : List ℕ} {more : List Entry} → Then bytes more → FromItems spell Good entry 0 Then bytes more
+items_none {bytes = bytes} {more} h = record { items = []; rest = bytes; others = more; parts = refl; size_is = refl; good = tt; named = refl; then_is = h }
 
 -- a string in front of the other strings
-pub string_more : (Good : List ℕ → Type 0) (entry : List ℕ → Entry) (left : ℕ) (Then : Rest) (field tail : List ℕ) (more : List Entry) (after : ℕ) → IsBytes field → length field ≡ 4
+pub string_more : {Good : List ℕ → Type 0} {entry : List ℕ → Entry} {left : ℕ} {Then : Rest} {more : List Entry} (field tail : List ℕ) (after : ℕ) → IsBytes field → length field ≡ 4
     → left ≡ 4 + number_of field + after → (h : FromItem (number_of field) entry (FromItems string Good entry after Then) tail more) → Good h.content
     → FromItems string Good entry left Then (field ++ tail) more
-string_more Good entry left Then field tail more after fits size total h good =
+string_more {entry = entry} field tail after fits size total h good =
     let k = h.then_is in
     record {
       items = h.content ∷ k.items;
@@ -75,9 +83,9 @@ string_more Good entry left Then field tail more after fits size total h good =
       then_is = k.then_is;
     }
 
-pub serial_more : (K : Type 0) (a : List ℕ) (left after : ℕ) (field tail : List ℕ) (more : List Entry) → IsBytes field → length field ≡ 8 → 8 ≤ left
+pub serial_more : {K : Type 0} {a : List ℕ} {left after : ℕ} {more : List Entry} (field tail : List ℕ) → IsBytes field → length field ≡ 8 → 8 ≤ left
     → SerialItems K a (left - 8) after tail more → SerialItems K a left after (field ++ tail) (SerialsEntry a (number_of field ∷ []) ∷ more)
-serial_more K a left after field tail more fits size room k =
+serial_more {a = a} field tail fits size room k =
     let n = number_back8 field size fits in record {
       items = number_of field ∷ k.items;
       rest = k.rest;
@@ -89,24 +97,22 @@ serial_more K a left after field tail more fits size room k =
       then_is = k.then_is;
     }
 
-pub subsections_from : (last h : Header) (a : List ℕ) (left : ℕ) (bytes : List ℕ) (more : List Entry) → Completes last h a (next_subsection left) bytes more → FromSubsections (last ≡ h) a left bytes more
-subsections_from last h a zero bytes more k =
+pub subsections_from : (left : ℕ) {last h : Header} {a bytes : List ℕ} {more : List Entry} → Completes last h a (next_subsection left) bytes more → FromSubsections (last ≡ h) a left bytes more
+subsections_from zero {bytes = bytes} {more} k =
     record { subsections = []; body = []; rest = bytes; others = more; parts = refl; size_is = refl; spelled = refl; named = same_refl more; then_is = k }
-subsections_from last h a (suc left) bytes more k = k
+subsections_from (suc left) k = k
 
-pub serials_from : (last h : Header) (a : List ℕ) (left after : ℕ) (bytes : List ℕ) (more : List Entry) → Completes last h a (next_serial left after) bytes more → SerialItems (last ≡ h) a left after bytes more
-serials_from last h a zero after bytes more k =
-    items_none (number 8) (λ n. n < 2 ^ 64) (λ n. SerialsEntry a (n ∷ [])) (FromSubsections (last ≡ h) a after) bytes more (subsections_from last h a after bytes more k)
-serials_from last h a (suc left) after bytes more k = k
+pub serials_from : (left : ℕ) {after : ℕ} {last h : Header} {a bytes : List ℕ} {more : List Entry} → Completes last h a (next_serial left after) bytes more → SerialItems (last ≡ h) a left after bytes more
+serials_from zero {after} k = items_none (subsections_from after k)
+serials_from (suc left) k = k
 
-pub items_from : (last h : Header) (kind : ItemKind) (a : List ℕ) (left after : ℕ) (bytes : List ℕ) (more : List Entry) → Completes last h a (next_item kind left after) bytes more
+pub items_from : (kind : ItemKind) (left : ℕ) {after : ℕ} {last h : Header} {a bytes : List ℕ} {more : List Entry} → Completes last h a (next_item kind left after) bytes more
     → Items (last ≡ h) kind a left after bytes more
-items_from last h kind a zero after bytes more k =
-    items_none string (IsItem kind) (item_entry kind a) (FromSubsections (last ≡ h) a after) bytes more (subsections_from last h a after bytes more k)
-items_from last h kind a (suc left) after bytes more k = k
+items_from kind zero {after} k = items_none (subsections_from after k)
+items_from kind (suc left) k = k
 
-pub sections_from : (K : Type 0) (a : List ℕ) (bytes : List ℕ) (more : List Entry) → FromSubsections K a 0 bytes more → FromSections false K bytes more
-sections_from K a bytes more h = only h.subsections h.body h.spelled h.size_is h.parts h.named
+pub sections_from : {K : Type 0} {a bytes : List ℕ} {more : List Entry} → FromSubsections K a 0 bytes more → FromSections false K bytes more
+sections_from {K} {a} {bytes} {more} h = only h.subsections h.body h.spelled h.size_is h.parts h.named
   where
     only : (subs : List Subsection) (body : List ℕ) → SpellsEach SpellsSubsection body subs → length body ≡ 0 → bytes ≡ body ++ h.rest
         → NamesSame more (flat_map (subsection_entries a) subs ++ h.others) → FromSections false K bytes more
@@ -122,6 +128,21 @@ sections_from K a bytes more h = only h.subsections h.body h.spelled h.size_is h
         }
     only (sub ∷ subs) body (first, (more', (e, spelled, others))) size parts named =
         absurd (omega (arith, ap length spelled.spelled, ap length e, length-append first more', size))
+
+-- an extension from its name on
+pub extension_from : {left : ℕ} {Then : Rest} {bytes : List ℕ} {more : List Entry} → FromName left Then bytes more → FromExtension left Then bytes more
+extension_from h =
+    let critical = h.then_is in
+    let zero_byte = critical.1 in
+    let k = zero_byte.then_is in
+    record {
+      content = string h.content ++ 0 ∷ string k.contents;
+      rest = k.rest;
+      parts = h.parts ∙ ap (λ (x : List ℕ). string h.content ++ x) (zero_byte.parts ∙ ap (λ (x : List ℕ). 0 ∷ x) k.parts) ∙ sym (append_assoc (string h.content) (0 ∷ string k.contents) k.rest);
+      size_is = omega (arith, length-append (string h.content) (0 ∷ string k.contents), length-string h.content, h.room, critical.0, k.size_is);
+      spelled = record { name = h.content; contents = k.contents; spelled = refl };
+      then_is = k.then_is;
+    }
 
 -- ---- sections
 
@@ -145,7 +166,7 @@ pub items_section : (K : Type 0) (kind : ItemKind) (type_byte : ℕ) (section : 
     → FromLength (λ n. Items K kind [] n 0) bytes more → FromSections false K (type_byte ∷ bytes) more
 items_section K kind type_byte section bytes more spelled names last l =
     let h = l.then_is in
-    let k = sections_from K [] h.rest h.others h.then_is in
+    let k = sections_from h.then_is in
     let content : List ℕ = strings h.items in
     let parts = whole_string l.size content h.rest l.rest bytes l.parts h.parts h.size_is in
     sections_more K (section h.items) (type_byte ∷ string content) (type_byte ∷ bytes) h.rest more h.others k (ap (λ (x : List ℕ). type_byte ∷ x) parts)
@@ -155,11 +176,17 @@ items_section K kind type_byte section bytes more spelled names last l =
 pub certificates_section : (K : Type 0) (bytes : List ℕ) (more : List Entry) → FromLength (FromCertificates K) bytes more → FromSections false K (1 ∷ bytes) more
 certificates_section K bytes more l =
     let h = l.then_is in
-    let content : List ℕ = string h.authority ++ (string h.reserved ++ h.body) in
-    let parts = whole_string l.size content h.rest l.rest bytes l.parts h.parts h.size_is in
-    sections_more K (Certificates h.authority h.subsections) (1 ∷ string content) (1 ∷ bytes) h.rest more h.others h.then_is (ap (λ (x : List ℕ). 1 ∷ x) parts)
-    (record { content = content; spelled = refl; fits = omega (arith, l.fits, h.size_is); content_is = record { reserved = h.reserved; body = h.body; spelled = refl; subsections_are = h.spelled } })
-    h.named h.then_is.last
+    let r = h.then_is in
+    let s = r.then_is in
+    let content : List ℕ = string h.content ++ (string r.content ++ s.body) in
+    let size : length content ≡ l.size =
+    omega (arith, length-append (string h.content) (string r.content ++ s.body), length-append (string r.content) s.body, length-string h.content, length-string r.content, h.room, r.room, s.size_is) in
+    let parts : l.rest ≡ content ++ s.rest =
+    h.parts ∙ ap (λ (x : List ℕ). string h.content ++ x) (r.parts ∙ ap (λ (x : List ℕ). string r.content ++ x) s.parts ∙ sym (append_assoc (string r.content) s.body s.rest))
+    ∙ sym (append_assoc (string h.content) (string r.content ++ s.body) s.rest) in
+    sections_more K (Certificates h.content s.subsections) (1 ∷ string content) (1 ∷ bytes) s.rest more s.others s.then_is (ap (λ (x : List ℕ). 1 ∷ x) (whole_string l.size content s.rest l.rest bytes l.parts parts size))
+    (record { content = content; spelled = refl; fits = omega (arith, l.fits, size); content_is = record { reserved = r.content; body = s.body; spelled = refl; subsections_are = s.spelled } })
+    s.named s.then_is.last
 
 pub extension_section : (K : Type 0) (bytes : List ℕ) (more : List Entry) → FromLength (λ n. FromExtension n (FromSections false K)) bytes more → FromSections false K (255 ∷ bytes) more
 extension_section K bytes more l =

@@ -45,10 +45,10 @@ subsections_more K a type_byte left bytes more h room =
     }
 
 -- the content of a subsection after its length
-pub part_front : (K : Type 0) (a : List ℕ) (type_byte left : ℕ) (sub : Subsection) (field tail content rest : List ℕ) (more others : List Entry) → IsBytes field → length field ≡ 4 → 4 ≤ left → number_of field ≤ left - 4
-    → subsection_type sub ≡ type_byte → tail ≡ content ++ rest → length content ≡ number_of field → SubsectionContent content sub → NamesSame more (subsection_entries a sub ++ others)
+pub part_front : {K : Type 0} {a : List ℕ} {type_byte left : ℕ} {rest : List ℕ} {more others : List Entry} (sub : Subsection) (field tail content : List ℕ) → IsBytes field → length field ≡ 4 → 4 ≤ left
+    → number_of field ≤ left - 4 → subsection_type sub ≡ type_byte → tail ≡ content ++ rest → length content ≡ number_of field → SubsectionContent content sub → NamesSame more (subsection_entries a sub ++ others)
     → FromSubsections K a (left - 4 - number_of field) rest others → FromPart K a type_byte left (field ++ tail) more
-part_front K a type_byte left sub field tail content rest more others fits size room enough type_is parts len content_is named k =
+part_front {K} {a} {left = left} {rest = rest} {others = others} sub field tail content fits size room enough type_is parts len content_is named k =
     let n = number_back4 field size fits in
     record {
       subsection = sub;
@@ -81,9 +81,10 @@ serials_same a numbers = same_serials (map (λ n. SerialsEntry a (n ∷ [])) num
 
 -- ---- bitmaps
 
-pub bits_from : (last h : Header) (a : List ℕ) (offset size left after : ℕ) (bytes : List ℕ) (more : List Entry) → Completes last h a (next_bits offset size left after) bytes more → FromBits (last ≡ h) a offset size left after bytes more
+pub bits_from : (left : ℕ) {offset size after : ℕ} {last h : Header} {a bytes : List ℕ} {more : List Entry} → Completes last h a (next_bits offset size left after) bytes more
+    → FromBits (last ≡ h) a offset size left after bytes more
 unfolding number_of
-bits_from last h a offset size zero after bytes more k = record {
+bits_from zero {offset} {after = after} {a = a} {bytes} {more} k = record {
   bits = [];
   rest = bytes;
   others = more;
@@ -93,9 +94,9 @@ bits_from last h a offset size zero after bytes more k = record {
   positive = λ e. tt;
   within = λ bit set. absurd (omega (arith, bit_at-zero bit, set));
   named = same_append [] more (BitmapEntry a offset (number_of []) ∷ []) more (same_no_bits a offset) (same_refl more);
-  then_is = subsections_from last h a after bytes more k;
+  then_is = subsections_from after k;
 }
-bits_from last h a offset size (suc left) after bytes more k = k (omega arith)
+bits_from (suc left) k = k (omega arith)
 
 pub bits_more : (K : Type 0) (a : List ℕ) (offset size left after byte : ℕ) (tail : List ℕ) (more : List Entry) → byte < 256 → 0 < left → (left ≡ size → byte < 128)
     → passes_end (base_of offset left) byte ≡ false → FromBits K a offset size (left - 1) after tail more
