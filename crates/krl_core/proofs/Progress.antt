@@ -2,6 +2,8 @@
 use Rattle.krl_core.proofs.Common.{[], ◌*◌, ◌+◌, ◌-◌, ◌<◌, ◌∷◌, ◌≡◌, Advances, arith, Bool, Err}
 use Rattle.krl_core.proofs.Common.{false, Follows, IfOk, inl, inr, is_fixed, IsTrue, KrlFault}
 use Rattle.krl_core.proofs.Common.{limit, Ok, Place, ReadsMore, ReadsOneMore, refl, Result, Walk}
+use Rattle.krl_core.proofs.Common.{None, Option, Some}
+use Rattle.std.specs.Prelude.{is_some}
 use Rattle.krl_core.specs.declared.place.header.HeaderPlace.{HeaderPlace}
 use Rattle.krl_core.proofs.LongestFronts.{weight, weight_below}
 use Rattle.krl_core.proofs.WholeLists.{step_nearer}
@@ -25,6 +27,10 @@ advance_scope old new (inr leaps) = leaps.scope_is
 pub advances_of : (result : Result Bool KrlFault) (old : Walk) (new : Walk) → IfOk result (λ more. IsTrue more → Follows old new) → IfOk result (λ more. IsTrue more → Advances old new)
 advances_of (Ok more) old new h = λ on. inl (h on)
 advances_of (Err fault) old new h = h
+
+pub none_there : (fault : Option KrlFault) → is_some fault ≡ false → fault ≡ None
+none_there None e = refl
+none_there (Some fault) e = absurd (cc)
 
 -- an allocation can fail after the header
 pub late_past_header : (p : Place) → ((at : HeaderPlace) → p ≡ places.Header at → ⊥) → is_fixed p ≡ false

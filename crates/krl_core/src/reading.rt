@@ -236,27 +236,22 @@ impl<T: Store, R: Source + Drop> Walk<T, R> {
         ensures working { OnOk result (self.new.fault ≡ None) }
         ensures bounds { IsBounded self.new.pull self.new.stored }
     {
-        if let Some(fault) = self.fault {
-            return Err(fault);
+        if self.fault.is_some() || self.ended {
+            return self.step();
         }
-        if self.ended {
-            return Ok(false);
+        if let Place::Header(_) = self.place {
+            return self.step();
         }
-        match read_fields(
-            &mut self.pull,
-            &mut self.place,
-            &mut self.stored,
-            &mut self.large,
-        ) {
-            Ok(more) => {
-                self.ended = !more;
-                Ok(more)
-            }
-            Err(why) => {
-                self.fault = Some(why);
-                Err(why)
-            }
+        let (count, done) = read_buffered(&mut self.place, &mut self.stored, self.pull.buffer());
+        if count == 0 {
+            return self.step();
         }
+        self.pull.consume(count);
+        if done.is_err() {
+            self.fault = Some(KrlFault::NoMemory);
+            return Err(KrlFault::NoMemory);
+        }
+        Ok(true)
     }
 
     /// The header, the store and the reader, after a step that returned false. The header has no
@@ -362,41 +357,6 @@ fn judge_and_store<T: Store>(
     let next = place.after(field)?;
     stored.store_field(place, field, next)?;
     Ok(next)
-}
-
-// Reads the fields in the reader's buffer. If there are none, reads a field or finds the end of
-// the list.
-fn read_fields<T: Store, R: Source + Drop>(
-    pull: &mut Pull<R>,
-    place: &mut Place,
-    stored: &mut FieldStore<T>,
-    large: &mut Vec<u8>,
-) -> Result<bool, KrlFault>
-    requires { IsReached (working pull.old place.old stored.old) }
-    ensures more { IfOk result (λ more. IsTrue more → ReadsMore
-        (working pull.old place.old stored.old) (working pull.new place.new stored.new)) }
-    ensures advances { IfOk result (λ more. IsTrue more → Advances
-        (working pull.old place.old stored.old) (working pull.new place.new stored.new)) }
-    ensures ends { IfOk result (λ more. more ≡ false → Ends
-        (working pull.old place.old stored.old) (working pull.new place.new stored.new)) }
-    ensures fault { IfErr result (λ fault. Refused fault
-        (working pull.old place.old stored.old) pull.new) }
-    ensures sound { OnOk result (IsReached (working pull.new place.new stored.new)) }
-    ensures failure { ReportsFailure result pull.new.failed }
-    ensures bounds { IsBounded pull.new stored.new }
-{
-    if let Place::Header(_) = *place {
-        return read_field(pull, place, stored, large);
-    }
-    let (count, done) = read_buffered(place, stored, pull.buffer());
-    if count == 0 {
-        return read_field(pull, place, stored, large);
-    }
-    pull.consume(count);
-    match done {
-        Ok(()) => Ok(true),
-        Err(_) => Err(KrlFault::NoMemory),
-    }
 }
 
 // Reads a field, or finds the end of the list.

@@ -1,26 +1,96 @@
-use Rattle.std.proofs.Common.{◌≡◌, None, false, ap, ◌∙◌}
-use Rattle.krl_core.proofs.ListEnds.{ends_now}
+use Rattle.krl_core.proofs.Common.{◌∙◌, ◌≡◌, ap, arith, at_hand, false, false≢true, inr, length}
+use Rattle.krl_core.proofs.Common.{length-take-le, List, None, refl, sym, take, Walk, working, ℕ}
+use Rattle.krl_core.proofs.Progress.{advances_of, late_past_header, more_of, none_there}
+use Rattle.krl_core.proofs.BufferedFields.{bounded_count, leaps_buffered, reads_buffered, some_ok}
+use Rattle.krl_core.proofs.Steps.{come, says_ran_out}
 use Rattle.krl_core.proofs.reading.Walk.read_fields.Goals as goal
 
-pub returns-in-Some-clause-fault : goal.returns-in-Some-clause-fault
-returns-in-Some-clause-fault g c = λ faultless text fields h.
-    let none : c.self.inside.fault ≡ None = ap (λ p. p.fault) c.self.view_is ∙ faultless in
-    absurd (cc (none, c.in-Some.is))
+pub returns-in-Header-clause-more : goal.returns-in-Header-clause-more
+returns-in-Header-clause-more g c = more_of c.step-in-Header.result c.args.self.now c.step-in-Header.new.self c.step-in-Header.ensures.more
 
-pub returns-in-Ok-clause-more : goal.returns-in-Ok-clause-more
-returns-in-Ok-clause-more g c = λ on.
-    let none : c.self.inside.fault ≡ None = c.in_default.is in
-    let before : c.self.inside.ended ≡ false = c.if-self.false in
-    rw (← c.self.view_is, none, before, on) (c.in-Ok.ensures.more on)
+pub returns-then-count-eq0 : goal.returns-then-count-eq0
+returns-then-count-eq0 g c =
+    let same = c.read_buffered-count.ensures.none c.if-count-eq0.true in
+    let e = rw (same.0, same.1) at c.step-then-count-eq0.ensures in
+    rw (← c.self-2.view_is) (record {
+      more = more_of c.step-then-count-eq0.result _ c.step-then-count-eq0.new.self e.more;
+      advances = advances_of c.step-then-count-eq0.result _ c.step-then-count-eq0.new.self e.follows;
+      ends = e.ends;
+      ended = e.ended;
+      rests = e.rests;
+      fault = e.fault;
+      failure = e.failure;
+      stays = e.stays;
+      again = e.again;
+      working = e.working;
+      bounds = e.bounds;
+    })
 
-pub returns-in-Ok-clause-ends : goal.returns-in-Ok-clause-ends
-returns-in-Ok-clause-ends g c = λ off.
-    let none : c.self.inside.fault ≡ None = c.in_default.is in
-    let before : c.self.inside.ended ≡ false = c.if-self.false in
-    rw (← c.self.view_is, none, before, off) (ends_now _ c.read_fields.new.pull c.read_fields.new.place c.read_fields.new.stored (c.in-Ok.ensures.ends off))
+pub invariant_of-self-then-is_err : goal.invariant_of-self-then-is_err
+invariant_of-self-then-is_err g c =
+    let on : c.self-2.inside.ended ≡ false = ap (λ (w : Walk). w.ended) c.self-2.view_is ∙ sym (ap (λ (w : Walk). w.ended) c.self.view_is) ∙ c.if-self.false in
+    record {
+      in_step = λ none. absurd (cc);
+      pull_faultless = λ none. absurd (cc);
+      works = λ none. absurd (cc);
+      ends = λ off. absurd (false≢true (sym on ∙ off));
+      bounded = bounded_count (working c.self-2.inside.pull c.self-2.inside.place c.self-2.inside.stored) _ _ _ _ _ c.self-2.invariant.bounded (rw c.buffer.ensures at c.read_buffered-count.ensures) c.consume.ensures;
+    }
 
-pub returns-in-Err-clause-fault : goal.returns-in-Err-clause-fault
-returns-in-Err-clause-fault g c =
-    let none : c.self.inside.fault ≡ None = c.in_default.is in
-    let before : c.self.inside.ended ≡ false = c.if-self.false in
-    rw (← c.self.view_is, none, before) (λ _. c.in-Err.ensures.fault)
+pub returns-then-is_err : goal.returns-then-is_err
+returns-then-is_err g c =
+    let on : c.self-2.inside.ended ≡ false = ap (λ (w : Walk). w.ended) c.self-2.view_is ∙ sym (ap (λ (w : Walk). w.ended) c.self.view_is) ∙ c.if-self.false in
+    let faultless : c.self-2.inside.fault ≡ None =
+    ap (λ (w : Walk). w.fault) c.self-2.view_is ∙ sym (ap (λ (w : Walk). w.fault) c.self.view_is) ∙ none_there c.self.inside.fault (sym c.is_some.ensures ∙ c.if-is_some.false) in
+    let old = working c.self-2.inside.pull c.self-2.inside.place c.self-2.inside.stored in
+    let t = c.consume.ensures in
+    rw (← c.self-2.view_is, faultless, on) (record {
+      more = tt;
+      advances = tt;
+      ends = tt;
+      ended = tt;
+      rests = λ off. absurd (false≢true off);
+      fault = λ _ text fields h. says_ran_out old c.consume.new.self text fields _ (come h) (late_past_header c.self-2.inside.place c.in_default.not-Header) refl t.working;
+      failure = λ _. (λ e. absurd (cc), λ e. absurd (false≢true (sym t.working ∙ e)));
+      stays = refl;
+      again = tt;
+      working = tt;
+      bounds = bounded_count old _ _ _ _ _ c.self-2.invariant.bounded (rw c.buffer.ensures at c.read_buffered-count.ensures) t;
+    })
+
+pub invariant_of-self-2 : goal.invariant_of-self-2
+invariant_of-self-2 g c =
+    let on : c.self-2.inside.ended ≡ false = ap (λ (w : Walk). w.ended) c.self-2.view_is ∙ sym (ap (λ (w : Walk). w.ended) c.self.view_is) ∙ c.if-self.false in
+    let done = some_ok _ _ _ _ _ _ _ (sym c.is_err.ensures.value ∙ c.if-is_err.false) (rw c.buffer.ensures at c.read_buffered-count.ensures) in
+    let t = c.consume.ensures in
+    record {
+      in_step = λ _. done.ok.in_step;
+      pull_faultless = λ _. t.is_faultless;
+      works = λ _. t.working;
+      ends = λ off. absurd (false≢true (sym on ∙ off));
+      bounded = bounded_count (working c.self-2.inside.pull c.self-2.inside.place c.self-2.inside.stored) _ _ _ _ _ c.self-2.invariant.bounded done t;
+    }
+
+pub returns : goal.returns
+returns g c =
+    let on : c.self-2.inside.ended ≡ false = ap (λ (w : Walk). w.ended) c.self-2.view_is ∙ sym (ap (λ (w : Walk). w.ended) c.self.view_is) ∙ c.if-self.false in
+    let faultless : c.self-2.inside.fault ≡ None =
+    ap (λ (w : Walk). w.fault) c.self-2.view_is ∙ sym (ap (λ (w : Walk). w.fault) c.self.view_is) ∙ none_there c.self.inside.fault (sym c.is_some.ensures ∙ c.if-is_some.false) in
+    let old = working c.self-2.inside.pull c.self-2.inside.place c.self-2.inside.stored in
+    let done = some_ok _ _ _ _ _ _ _ (sym c.is_err.ensures.value ∙ c.if-is_err.false) (rw c.buffer.ensures at c.read_buffered-count.ensures) in
+    let t = c.consume.ensures in
+    let bytes : List ℕ = take c.read_buffered-count.result.0 (at_hand c.self-2.inside.pull) in
+    let long : length bytes ≡ c.read_buffered-count.result.0 = length-take-le c.read_buffered-count.result.0 (at_hand c.self-2.inside.pull) done.within in
+    rw (← c.self-2.view_is, faultless, on) (record {
+      more = λ _. reads_buffered old _ _ _ bytes t done.ok;
+      advances = λ _. inr (leaps_buffered old _ _ _ bytes c.self-2.invariant.bounded t done.ok (omega (arith, long, c.if-count-eq0.false)));
+      ends = λ off. absurd (false≢true (sym off));
+      ended = λ off. absurd (false≢true (sym off));
+      rests = λ off. absurd (false≢true off);
+      fault = λ _. tt;
+      failure = λ _. t.working;
+      stays = tt;
+      again = tt;
+      working = refl;
+      bounds = bounded_count old _ _ _ _ _ c.self-2.invariant.bounded done t;
+    })
