@@ -14,6 +14,7 @@ use Rattle.krl_core.proofs.Common.{Revocations, run_entries, same_append, same_i
 use Rattle.krl_core.proofs.Common.{same_serials, same_swap, same_then, Scope, SerialOf, ShowsFault}
 use Rattle.krl_core.proofs.Common.{some_append, Span, StoresBits, StoresEntries, StoresField}
 use Rattle.krl_core.proofs.Common.{StoresNoMore, subst, suc, sym, true, w8, zero, ℕ}
+use Rattle.krl_core.proofs.Common.{cases_Bool, eqb-true, inl, inr, KrlFault, lt-ltb, Result}
 use Rattle.serial_set.specs.declared.bit_fault.BitFault.{BitFault}
 use Rattle.serial_set.specs.declared.bit_fault.BitFault.TheVariants.{Negative, Wraps}
 use Rattle.serial_set.specs.Span.{Covers}
@@ -162,6 +163,17 @@ judged_parts true false past next place e = absurd (cc)
 judged_parts false t true next place e = absurd (cc)
 judged_parts false t false next place e = (λ f. absurd (cc), refl, cc)
 
+pub bits_pass : (offset size left after byte : ℕ) → (left ≡ size → byte < 128) → passes_end (base_of offset left) byte ≡ false
+    → bits_judged offset size left after byte ≡ Ok (next_bits offset size (left - 1) after)
+bits_pass offset size left after byte sign passes =
+    let W : Result Place KrlFault = judge (not (passes_end (base_of offset left) byte)) faults.BitmapWraps (next_bits offset size (left - 1) after) in
+    let w : W ≡ Ok (next_bits offset size (left - 1) after) = ap (λ (b : Bool). judge (not b) faults.BitmapWraps (next_bits offset size (left - 1) after)) passes in
+    let tested = λ (b : Bool). cond b (cond (ltb byte 128) W (Err faults.BitmapNegative)) W in
+    elim (cases_Bool (eqb left size)) [
+      | inl e ↦ ap tested e ∙ ap (λ (b : Bool). cond b W (Err faults.BitmapNegative)) (lt-ltb byte 128 (sign (eqb-true left size e))) ∙ w
+      | inr e ↦ ap tested e ∙ w
+    ]
+
 pub good_bits : (p : BitRuns) (offset size left after byte : ℕ) (next : Place) → byte < 256
     → p ≡ record { offset = offset; len = size; bytes_left = left; pending = p.pending; fault = None }
     → bits_judged offset size left after byte ≡ Ok next → (fault : BitFault) → HasFault p byte fault → ⊥
@@ -182,18 +194,10 @@ good_bits p offset size left after byte next h is judged fault bad =
     shown Negative b low in_range = let lt = low b.0 in omega (arith, lt, b.1)
     shown Wraps b low in_range = let lt = in_range b.1.0 b.1.1.1 in omega (arith, lt, b.1.1.0)
 
--- the bitmap has no byte left
-abbrev IsOut : Place → Type 0
-IsOut (places.Bitmap (bitmaps.Byte n m k l)) = ⊥
-IsOut _ = Unit {0}
-
-out_step : (p : Place) (bitmap : BitRuns) → IsOut p → bitmap.pending ≡ None → InStep p bitmap
-out_step (places.Bitmap (bitmaps.Byte n m k l)) bitmap out none = absurd out
-out_step _ bitmap out none = none
-
-out_subsection : (left : ℕ) → IsOut (next_subsection left)
-out_subsection zero = tt
-out_subsection (suc left) = tt
+-- if the bitmap has no byte left
+pub shut_in_step : (left : ℕ) (bitmap : BitRuns) → bitmap.pending ≡ None → InStep (next_subsection left) bitmap
+shut_in_step zero bitmap none = none
+shut_in_step (suc left) bitmap none = none
 
 -- if the bitmap has a byte left, the byte before it was fed
 bits_in_step : (before fed : BitRuns) (offset size left after : ℕ)
@@ -202,7 +206,7 @@ bits_in_step : (before fed : BitRuns) (offset size left after : ℕ)
     → (eqb left 1 ≡ false → fed ≡ record before { bytes_left = before.bytes_left - 1; pending = fed.pending })
     → 0 < left → InStep (next_bits offset size (left - 1) after) fed
 bits_in_step before fed offset size zero after is closed opened pos = absurd (omega arith)
-bits_in_step before fed offset size (suc zero) after is closed opened pos = out_step (next_subsection after) fed (out_subsection after) (closed refl)
+bits_in_step before fed offset size (suc zero) after is closed opened pos = shut_in_step after fed (closed refl)
 bits_in_step before fed offset size (suc (suc left)) after is closed opened pos =
     let more : fed ≡ record before { bytes_left = before.bytes_left - 1; pending = fed.pending } = opened (ne_eqb (suc (suc left)) 1 (λ e. absurd (omega arith))) in
     let bytes_left : before.bytes_left - 1 ≡ suc left = omega (arith, ap (λ x. x.bytes_left) is) in

@@ -11,9 +11,10 @@ use Rattle.krl_core.proofs.Common.{Passes, Place, Pull, ReadsBuffered, ReadsMore
 use Rattle.krl_core.proofs.Common.{ReadsWhole, refl, Result, start, state_after}
 use Rattle.krl_core.proofs.Common.{StoresAtMost, StoresEntries, StoresField, subst, suc, sym, take}
 use Rattle.krl_core.proofs.Common.{take-add, take_rest, Takes, true, Walk, working, zero, ℕ}
+use Rattle.krl_core.proofs.Common.{LooksFor, ReadsOneMore}
 use Rattle.krl_core.proofs.LongestFronts.{nearer, weight}
 use Rattle.krl_core.proofs.StoredEntries.{grows_then, header_stored}
-use Rattle.krl_core.proofs.Steps.{consumes_some}
+use Rattle.krl_core.proofs.Steps.{bounded_more, consumes_some, looked}
 use Rattle.krl_core.proofs.Walks.{Leads-push}
 
 -- ---- rows of fields
@@ -172,22 +173,19 @@ reads_buffered old new place stored bytes takes crosses text fields h =
       },
     )
 
-pub bounded_buffered : (old : Walk) (new : Pull) (stored : FieldStore) (bytes : List ℕ) → IsBounded old.pull old.stored → Takes old.pull bytes new
-    → GrowsAtMost (length bytes) old.stored stored → IsBounded new stored
-bounded_buffered old new stored bytes b takes grows = record {
-  limit_is = takes.limit ∙ b.limit_is;
-  within = omega (arith, takes.within, takes.taken, b.limit_is);
-  all_is = λ every.
-      let was = b.all_is (sym grows.same_scope ∙ every) in
-      (omega (arith, grows.held_is, was.0, takes.taken), subst (λ (n : ℕ). StoresAtMost stored n) (sym takes.taken) (grows.stored_is old.pull.taken was.1));
-  scope_is = grows.scope_is b.scope_is;
-}
+-- one field
+pub one_more : (old : Walk) (mid new : Pull) (place : Place) (stored : FieldStore) (field : List ℕ) → LooksFor old.place old.pull false mid → Takes mid field new → Passes old.place field place
+    → IsBytes field → StoresField old.place field place old.stored stored → ReadsOneMore old (working new place stored)
+unfolding buffered_field reads_buffered
+one_more old mid new place stored field looks takes passes bytes stores_field text fields h =
+    let crosses = buffered_field old.place place old.stored stored field passes stores_field bytes in
+    (field, (reads_buffered (working mid old.place old.stored) new place stored field takes crosses text fields (looked old mid looks text fields h)).1)
 
 -- if a number of bytes in the reader's buffer were read
 pub bounded_count : (old : Walk) (new : Pull) (place : Place) (stored : FieldStore) (count : ℕ) (result : Result (Unit {0}) AllocError) → IsBounded old.pull old.stored
     → ReadsSome (at_hand old.pull) count result old.place old.stored place stored → Takes old.pull (take count (at_hand old.pull)) new → IsBounded new stored
 bounded_count old new place stored count result b some takes =
-    bounded_buffered old new stored (take count (at_hand old.pull)) b takes
+    bounded_more old old.pull new stored (take count (at_hand old.pull)) b refl refl takes
     (subst (λ (n : ℕ). GrowsAtMost n old.stored stored) (sym (length-take-le count (at_hand old.pull) some.within)) some.grows)
 
 pub leaps_buffered : (old : Walk) (new : Pull) (place : Place) (stored : FieldStore) (bytes : List ℕ) → IsBounded old.pull old.stored → Takes old.pull bytes new

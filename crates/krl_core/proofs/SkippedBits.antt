@@ -1,15 +1,15 @@
 -- Bytes of a bitmap that are skipped together.
 use Rattle.krl_core.proofs.Common.{[], ◌*◌, ◌++◌, ◌+◌, ◌-◌, ◌<◌, ◌^◌, ◌∙◌, ◌∷◌, ◌≡◌, ◌≤◌, Adds, ap}
-use Rattle.krl_core.proofs.Common.{append-nil, append_assoc, AreBitsOutOfScope, arith}
+use Rattle.krl_core.proofs.Common.{append-nil, AreBitsOutOfScope, arith}
 use Rattle.krl_core.proofs.Common.{authority_after, base_of, BitmapEntry, BitNames, BitRuns}
-use Rattle.krl_core.proofs.Common.{bits_judged, bits_within, Bool, concat, cond, Entry, eqb}
-use Rattle.krl_core.proofs.Common.{eqb-true, Err, false, false≢true, FieldStore, GrowsAtMost}
-use Rattle.krl_core.proofs.Common.{header_after, held_with_open, highest_bit, inl, inr, InScope}
-use Rattle.krl_core.proofs.Common.{InStep, IsBytes, IsBytes-tail, judge, KrlFault, Leads, leb}
-use Rattle.krl_core.proofs.Common.{length, List, lt-leb, lt-ltb, ltb, map, MeansInScope, Name}
-use Rattle.krl_core.proofs.Common.{names, NamesSame, next_bits, next_subsection, None, not}
-use Rattle.krl_core.proofs.Common.{number_of, number_of-one, Ok, Option, option_to_list, Passes}
-use Rattle.krl_core.proofs.Common.{passes_end, Place, RangeEntry, ReadsBuffered, refl, Result}
+use Rattle.krl_core.proofs.Common.{bits_judged, concat, cond, Entry, eqb}
+use Rattle.krl_core.proofs.Common.{false, FieldStore, GrowsAtMost}
+use Rattle.krl_core.proofs.Common.{held_with_open, highest_bit, inl, inr, InScope}
+use Rattle.krl_core.proofs.Common.{InStep, IsBytes, IsBytes-tail, leb}
+use Rattle.krl_core.proofs.Common.{length, List, lt-leb, map, MeansInScope, Name}
+use Rattle.krl_core.proofs.Common.{NamesSame, next_bits, None}
+use Rattle.krl_core.proofs.Common.{number_of, number_of-one, Ok, Option, option_to_list}
+use Rattle.krl_core.proofs.Common.{passes_end, Place, RangeEntry, ReadsBuffered, refl}
 use Rattle.krl_core.proofs.Common.{Revocations, run_entries, same_append, same_refl, Scope}
 use Rattle.krl_core.proofs.Common.{SerialOf, Skips, Some, SomeNames, Span, start, State}
 use Rattle.krl_core.proofs.Common.{state_after, StoresEntries, StoresNoMore, subst, suc, sym, take}
@@ -17,18 +17,18 @@ use Rattle.krl_core.proofs.Common.{true, zero, ℕ}
 use Rattle.std.proofs.lemmas.Bool.Decides.{nat_tests}
 use Rattle.serial_set.proofs.Bits.{bit_below}
 use Rattle.krl_entries.proofs.AddedMeaning.{nothing_more_within}
+use Rattle.krl_core.proofs.Bits.{bits_pass, shut_in_step}
 use Rattle.krl_core.proofs.StoredEntries.{closes_run, header_stays, stored_wider}
-use Rattle.krl_core.proofs.Walks.{Leads-append}
-use Rattle.krl_types.specs.declared.krl_fault.KrlFault.TheVariants as faults
+use Rattle.krl_core.proofs.Walks.{Leads-append, leads_after, leads_none, LeadsTo}
 use Rattle.krl_core.specs.declared.place.Place.TheVariants as places
 use Rattle.krl_core.specs.declared.place.bitmap.BitmapPlace.TheVariants as bitmaps
 
 -- each byte as a field
-abbrev pub singles : List ℕ → List (List ℕ)
+abbrev singles : List ℕ → List (List ℕ)
 singles bytes = map (λ (b : ℕ). b ∷ []) bytes
 
 -- the entries of the bytes, if the bitmap has `left` bytes left with the first of them
-abbrev pub bit_entries : List ℕ → (offset left : ℕ) → List ℕ → List Entry
+abbrev bit_entries : List ℕ → (offset left : ℕ) → List ℕ → List Entry
 bit_entries a offset left [] = []
 bit_entries a offset left (b ∷ bs) = BitmapEntry a (base_of offset left) (number_of (b ∷ [])) ∷ bit_entries a offset (left - 1) bs
 
@@ -42,65 +42,27 @@ ends_before base byte fits =
     let above : leb 18446744073709551616 (base + highest_bit byte) ≡ false = lt-leb 18446744073709551616 (base + highest_bit byte) (omega arith) in
     elim (eqb byte 0) as (λ v. cond v false (leb 18446744073709551616 (base + highest_bit byte)) ≡ false) [ true ↦ refl | false ↦ above ]
 
-judge_by : (last free : Bool) (found next : Result Place KrlFault) → found ≡ next → (last ≡ true → free ≡ true) → cond last (cond free found (Err faults.BitmapNegative)) found ≡ next
-judge_by true true found next is sign_free = is
-judge_by true false found next is sign_free = absurd (false≢true (sign_free refl))
-judge_by false free found next is sign_free = is
-
 judged_on : (offset size left after byte : ℕ) → 0 < left → (left ≡ size → byte < 128) → offset + 8 * left ≤ 2 ^ 64 → bits_judged offset size left after byte ≡ Ok (next_bits offset size (left - 1) after)
-judged_on offset size left after byte pos sign_free fits =
-    let past = ends_before (base_of offset left) byte (omega arith) in
-    judge_by (eqb left size) (ltb byte 128) (bits_within offset size left after byte) (Ok (next_bits offset size (left - 1) after))
-    (ap (λ (b : Bool). judge (not b) faults.BitmapWraps (next_bits offset size (left - 1) after)) past)
-    (λ same. lt-ltb byte 128 (sign_free (eqb-true left size same)))
+judged_on offset size left after byte pos sign_free fits = bits_pass offset size left after byte sign_free (ends_before (base_of offset left) byte (omega arith))
 
--- The bytes lead to the next place, and have these entries.
-pub record LeadsBits (state : State) (offset size left after : ℕ) (bytes : List ℕ) : Type 0 where
-  pub last : State
-  pub leads : Leads state (singles bytes) last
-  pub place_is : last.place ≡ next_bits offset size (left - length bytes) after
-  pub header_is : last.header ≡ state.header
-  pub authority_is : last.authority ≡ state.authority
-  pub entries_are : last.entries ≡ state.entries ++ bit_entries state.authority offset left bytes
-
-pub leads_bits : (state : State) (offset size left after : ℕ) (bytes : List ℕ) → state.place ≡ next_bits offset size left after → length bytes ≤ left → left ≤ size → (left ≡ size → number_of (take 1 bytes) < 128) → offset + 8 * left ≤ 2 ^ 64
-    → LeadsBits state offset size left after bytes
-leads_bits state offset size left after [] at le within sign_free fits = record {
-  last = state;
-  leads = refl;
-  place_is = let all : left ≡ left - length {A = ℕ} [] = omega arith in at ∙ ap (λ (n : ℕ). next_bits offset size n after) all;
-  header_is = refl;
-  authority_is = refl;
-  entries_are = sym (append-nil state.entries);
-}
-leads_bits state offset size zero after (b ∷ bs) at le within sign_free fits = absurd (omega arith)
-leads_bits state offset size (suc left) after (b ∷ bs) at le within sign_free fits =
-    let byte_at : Place = places.Bitmap (bitmaps.Byte offset size (suc left) after) in
-    let next : Place = next_bits offset size left after in
-    let fewer : suc left - 1 ≡ left = omega arith in
-    let judged = judged_on offset size (suc left) after (number_of (b ∷ [])) (omega arith) sign_free fits ∙ ap (λ (n : ℕ). Ok (next_bits offset size n after)) fewer in
-    let passes : Passes byte_at (b ∷ []) next = record { room = tt; whole = refl; judged = judged } in
-    let here : Passes state.place (b ∷ []) next = subst (λ (p : Place). Passes p (b ∷ []) next) (sym at) passes in
+leads_bits : (state : State) (a : List ℕ) (offset size left after : ℕ) (bytes : List ℕ) → state.place ≡ next_bits offset size left after → state.authority ≡ a → length bytes ≤ left → left ≤ size
+    → (left ≡ size → number_of (take 1 bytes) < 128) → offset + 8 * left ≤ 2 ^ 64
+    → LeadsTo state (singles bytes) (next_bits offset size (left - length bytes) after) (bit_entries a offset left bytes)
+leads_bits state a offset size left after [] at authority le within sign_free fits =
+    let all : left ≡ left - length {A = ℕ} [] = omega arith in leads_none state _ (at ∙ ap (λ (n : ℕ). next_bits offset size n after) all)
+leads_bits state a offset size zero after (b ∷ bs) at authority le within sign_free fits = absurd (omega arith)
+leads_bits state a offset size (suc left) after (b ∷ bs) at authority le within sign_free fits =
     let field : List ℕ = b ∷ [] in
-    let more = leads_bits (state_after state field next) offset size left after bs refl (omega arith) (omega arith) (λ last. absurd (omega arith)) (omega arith) in
-    let a = state.authority in
-    let E : Entry = BitmapEntry a (base_of offset (suc left)) (number_of field) in
-    let authority : authority_after state.place a field ≡ a = ap (λ (p : Place). authority_after p a field) at in
-    let named : names state.place a field ≡ E ∷ [] = ap (λ (p : Place). names p a field) at in
+    let next : Place = next_bits offset size left after in
+    let then : State = state_after state field next in
+    let fewer : suc left - 1 ≡ left = omega arith in
     let one : left - length bs ≡ suc left - length (b ∷ bs) = omega arith in
-    let less : left ≡ suc left - 1 = omega arith in
-    record {
-      last = more.last;
-      leads = (next, (here, more.leads));
-      place_is = more.place_is ∙ ap (λ (n : ℕ). next_bits offset size n after) one;
-      header_is = more.header_is ∙ ap (λ (p : Place). header_after p state.header field) at;
-      authority_is = more.authority_is ∙ authority;
-      entries_are = more.entries_are
-          ∙ ap (λ (es : List Entry). (state.entries ++ es) ++ bit_entries (authority_after state.place a field) offset left bs) named
-          ∙ ap (λ (c : List ℕ). (state.entries ++ E ∷ []) ++ bit_entries c offset left bs) authority
-          ∙ append_assoc state.entries (E ∷ []) (bit_entries a offset left bs)
-          ∙ ap (λ (n : ℕ). state.entries ++ E ∷ bit_entries a offset n bs) less;
-    }
+    let judged = judged_on offset size (suc left) after (number_of field) (omega arith) sign_free fits ∙ ap (λ (n : ℕ). Ok (next_bits offset size n after)) fewer in
+    let more = leads_bits then a offset size left after bs refl (ap (λ (p : Place). authority_after p state.authority field) at ∙ authority) (omega arith) (omega arith) (λ last. absurd (omega arith)) (omega arith) in
+    leads_after state (places.Bitmap (bitmaps.Byte offset size (suc left) after)) next field (BitmapEntry a (base_of offset (suc left)) (number_of field)) at
+    (record { room = tt; whole = refl; judged = judged }) refl refl (ap (λ (c : List ℕ). BitmapEntry c (base_of offset (suc left)) (number_of field) ∷ []) authority)
+    (subst (λ (n : ℕ). LeadsTo then (singles bs) (next_bits offset size n after) (bit_entries a offset (suc left - 1) bs)) one
+    (subst (λ (n : ℕ). LeadsTo then (singles bs) (next_bits offset size (left - length bs) after) (bit_entries a offset n bs)) (sym fewer) more))
 
 -- ---- names that no topic contains
 
@@ -166,12 +128,8 @@ bits_in_step old stored offset size left after count step skips =
     is ∙ ap (λ (b : BitRuns). record b { bytes_left = b.bytes_left - count; pending = None }) was in
     in_step (left - count) refl all skips.closes.closed
   where
-    none_in : (n : ℕ) → stored.bitmap.pending ≡ None → InStep (next_subsection n) stored.bitmap
-    none_in zero none = none
-    none_in (suc n) none = none
-
     in_step : (n : ℕ) → n ≡ left - count → stored.bitmap ≡ record { offset = offset; len = size; bytes_left = left - count; pending = None; fault = None } → stored.bitmap.pending ≡ None → InStep (next_bits offset size n after) stored.bitmap
-    in_step zero at all none = none_in after none
+    in_step zero at all none = shut_in_step after stored.bitmap none
     in_step (suc n) at all none = (omega arith, all ∙ ap (λ (m : ℕ). record { offset = offset; len = size; bytes_left = m; pending = None; fault = None }) (sym at) ∙ ap (λ (o : Option Span). record { offset = offset; len = size; bytes_left = suc n; pending = o; fault = None }) (sym none))
 
 -- the bytes are read because none of their numbers is in scope
@@ -182,7 +140,7 @@ buffered_bits old new offset size left after bytes step are le within sign_free 
   stores = λ fields h.
       let c = skips.closes in
       let here : h.state.place ≡ next_bits offset size left after = sym h.place_is ∙ at_byte offset size left after step.0 in
-      let more = leads_bits h.state offset size left after bytes here le within sign_free fits in
+      let more = leads_bits h.state old.authority offset size left after bytes here (sym h.authority_is) le within sign_free fits in
       let shut : StoresEntries new h.state.entries = subst (StoresEntries new) (append-nil h.state.entries) (c.stores h.state.entries h.stores) in
       let named = bits_skipped old.scope old.authority offset left bytes are le bits_out_of_scope in
       let none = λ (name : Name) (is : InScope new.scope name). named name (subst (λ (s : Scope). InScope s name) c.scope_is is) in
@@ -195,7 +153,7 @@ buffered_bits old new offset size left after bytes step are le within sign_free 
             place_is = sym more.place_is;
             authority_is = c.authority_is ∙ h.authority_is ∙ sym more.authority_is;
             header_is = header_stays old new h.state.header more.last.header c.header_is c.scope_is more.header_is h.header_is;
-            stores = subst (StoresEntries new) (ap (λ (a : List ℕ). h.state.entries ++ bit_entries a offset left bytes) h.authority_is ∙ sym more.entries_are) stores;
+            stores = subst (StoresEntries new) (sym more.entries_are) stores;
           },
           concat_singles bytes,
         ),

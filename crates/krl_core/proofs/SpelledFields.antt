@@ -2,20 +2,21 @@
 use Rattle.krl_core.proofs.Common.{[], ◌%◌, ◌*◌, ◌++◌, ◌+◌, ◌-◌, ◌<◌, ◌==◌, ◌^◌, ◌∙◌, ◌∷◌, ◌≡◌, ◌≤◌}
 use Rattle.krl_core.proofs.Common.{AllByRecursion, ap, append_assoc, arith, base_of, bit_at}
 use Rattle.krl_core.proofs.Common.{bit_at_above, bit_at_cat_high, bit_at_cat_low, Bitmap}
-use Rattle.krl_core.proofs.Common.{bits_judged, Bool, cases_Bool, cases_lt, cond, eq-eqb, eqb}
-use Rattle.krl_core.proofs.Common.{eqb-true, Err, Expected, expected, false, HasRoom, Header}
+use Rattle.krl_core.proofs.Common.{bits_judged, Bool, cases_lt, cond, eq-eqb}
+use Rattle.krl_core.proofs.Common.{Err, Expected, expected, false, HasRoom, Header}
 use Rattle.krl_core.proofs.Common.{header_text, highest_bit, Ids, inl, inr, IsBytes, IsBytes-back}
 use Rattle.krl_core.proofs.Common.{IsBytes-front, IsBytes-in_string, IsPositive, item_size}
 use Rattle.krl_core.proofs.Common.{ItemKind, judge, KrlFault, le-leb, le-ltb, leading_zeros}
 use Rattle.krl_core.proofs.Common.{length, length-append, length-number, length-numbers}
-use Rattle.krl_core.proofs.Common.{length-string, length_within, List, lt-leb, lt-ltb, ltb, magic}
-use Rattle.krl_core.proofs.Common.{ne_eqb, next_bits, next_item, next_serial, next_subsection, not}
+use Rattle.krl_core.proofs.Common.{length-string, length_within, List, lt-leb, ltb, magic}
+use Rattle.krl_core.proofs.Common.{ne_eqb, next_bits, next_item, next_serial, next_subsection}
 use Rattle.krl_core.proofs.Common.{number, number_again4, number_again8, number_of, number_of-one}
 use Rattle.krl_core.proofs.Common.{numbers_text, Ok, passes_end, Place, Range, refl, Result}
 use Rattle.krl_core.proofs.Common.{Serials, SpellsEach, SpellsExtension, SpellsSubsection, string}
 use Rattle.krl_core.proofs.Common.{strings, Subsection, SubsectionExtension, subst, suc, sym, true}
 use Rattle.krl_core.proofs.Common.{w8, within, zero, ℕ}
 use Rattle.krl_core.proofs.Bitmaps.{number_of-byte, low_more, low_none}
+use Rattle.krl_core.proofs.Bits.{bits_pass}
 use Rattle.krl_core.proofs.PlaceRows.{Goes, goes_none, goes_one, goes_then, goes_from}
 use Rattle.krl_core.proofs.Lists.{header_parts}
 use Rattle.krl_core.proofs.RestSpellings.{IsItem}
@@ -126,17 +127,6 @@ not_passes base zero lt within = refl
 not_passes base (suc b) lt within =
     let top = within (highest_bit (suc b)) (top_bit (suc b) (leading_zeros w8 (suc b)) (omega arith) lt refl).0 in
     rw (ne_eqb (suc b) 0 (λ e. absurd (omega arith)), lt-leb 18446744073709551616 (base + highest_bit (suc b)) (omega (arith, top))) refl
-
-bits_pass : (offset size left after byte : ℕ) → (left ≡ size → byte < 128) → passes_end (base_of offset left) byte ≡ false
-    → bits_judged offset size left after byte ≡ Ok (next_bits offset size (left - 1) after)
-bits_pass offset size left after byte sign passes =
-    let W : Result Place KrlFault = judge (not (passes_end (base_of offset left) byte)) faults.BitmapWraps (next_bits offset size (left - 1) after) in
-    let w : W ≡ Ok (next_bits offset size (left - 1) after) = ap (λ (b : Bool). judge (not b) faults.BitmapWraps (next_bits offset size (left - 1) after)) passes in
-    let tested = λ (b : Bool). cond b (cond (ltb byte 128) W (Err faults.BitmapNegative)) W in
-    elim (cases_Bool (eqb left size)) [
-      | inl e ↦ ap tested e ∙ ap (λ (b : Bool). cond b W (Err faults.BitmapNegative)) (lt-ltb byte 128 (sign (eqb-true left size e))) ∙ w
-      | inr e ↦ ap tested e ∙ w
-    ]
 
 low_bytes : (bits : List ℕ) → IsBytes bits → number_of bits < 2 ^ (8 * length bits)
 low_bytes [] fits = low_none

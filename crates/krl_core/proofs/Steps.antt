@@ -1,14 +1,14 @@
 -- The effect of a step on the fields that were read, and what its faults say about the text.
 use Rattle.krl_core.proofs.Common.{[], ◌++◌, ◌+◌, ◌-◌, ◌<◌, ◌∙◌, ◌∷◌, ◌≡◌, ◌≤◌, ◌⊎◌, after_ahead}
-use Rattle.krl_core.proofs.Common.{ap, append-nil, append_assoc, arith, authority_after, Bool}
-use Rattle.krl_core.proofs.Common.{can_end, concat, concat-append, cut, ends_early, Err, expected}
+use Rattle.krl_core.proofs.Common.{ap, append-nil, append_assoc, arith, Bool}
+use Rattle.krl_core.proofs.Common.{can_end, concat, cut, ends_early, Err, expected}
 use Rattle.krl_core.proofs.Common.{failed_read, false, FieldStore, first, GrowsAtMost, HasRead}
-use Rattle.krl_core.proofs.Common.{HasRoom, inl, inr, is_fixed, IsBounded, IsBytes, IsBytes-append}
+use Rattle.krl_core.proofs.Common.{HasRoom, inl, inr, is_fixed, IsBounded}
 use Rattle.krl_core.proofs.Common.{IsFirstFault, IsSome, KrlFault, le-ltb, Leads, left_of, length}
-use Rattle.krl_core.proofs.Common.{length-append, limit, List, LooksFor, lt-ltb, ltb, Missed, names}
-use Rattle.krl_core.proofs.Common.{no_room, None, Option, Passes, Place, Pull, ran_out, refl}
+use Rattle.krl_core.proofs.Common.{length-append, limit, List, LooksFor, lt-ltb, ltb, Missed}
+use Rattle.krl_core.proofs.Common.{no_room, None, Option, Place, Pull, ran_out, refl}
 use Rattle.krl_core.proofs.Common.{Refused, refused, Refuses, Reported, Says, Some, start}
-use Rattle.krl_core.proofs.Common.{State, state_after, StoresAtMost, StoresEntries, StoresField}
+use Rattle.krl_core.proofs.Common.{State, StoresAtMost}
 use Rattle.krl_core.proofs.Common.{subst, sym, take, take_all, Takes, too_long, true, Walk, working}
 use Rattle.krl_core.proofs.Common.{ℕ}
 use Rattle.std.specs.Io.KnownBytes.{Consumes, IsAtEnd, Keeps}
@@ -17,9 +17,7 @@ use Rattle.std.proofs.Math.Seq.{take-append_seam}
 use Rattle.ssh_wire.specs.declared.pull_fault.PullFault.{PullFault}
 use Rattle.ssh_wire.proofs.TruncatedFields.{take-after}
 use Rattle.krl_types.specs.KrlFault.{reported_as}
-use Rattle.krl_core.proofs.StoredEntries.{header_stored}
 use Rattle.krl_core.proofs.Fronts.{first_fault_is, end_size, end_room}
-use Rattle.krl_core.proofs.Walks.{Leads-push}
 use Rattle.krl_core.proofs.LongestFronts.{end_or_early}
 use Rattle.ssh_wire.specs.declared.pull_fault.PullFault.TheVariants as pulls
 use Rattle.krl_types.specs.declared.krl_fault.KrlFault.TheVariants as faults
@@ -208,44 +206,31 @@ refused_says old mid new field fault bounded looks takes room size (inr judged) 
 
 -- ---- one more field
 
-pub one_more : (old : Walk) (mid new : Pull) (place : Place) (stored : FieldStore) (field : List ℕ) → old.fault ≡ None
-    → LooksFor old.place old.pull false mid → Takes mid field new → Passes old.place field place → IsBytes field
-    → StoresField old.place field place old.stored stored → (text : List ℕ) (fields : List (List ℕ)) → HasRead text fields old
-    → (f : List ℕ) × HasRead text (fields ++ f ∷ []) (working new place stored)
-one_more old mid new place stored field faultless looks takes passes bytes stores_field text fields h =
-    let left = stores_some (left_of old.pull) (left_of mid) h.rest h.left_is looks.bytes in
-    let after = consumes_some (left_of mid) (left_of new) h.rest field left takes.bytes in
-    let pass : Passes h.state.place field place = subst (λ (p : Place). Passes p field place) h.place_is passes in
-    let joined : concat (fields ++ field ∷ []) ≡ concat fields ++ field = concat-append fields (field ∷ []) ∙ ap (λ (l : List ℕ). concat fields ++ l) (append-nil field) in
-    let place_is = h.place_is in
-    let authority_is = h.authority_is in
-    let named : names old.place old.stored.authority field ≡ names h.state.place h.state.authority field = cc in
-    let authority : authority_after old.place old.stored.authority field ≡ authority_after h.state.place h.state.authority field = cc in (
-      field,
-      record {
-        state = state_after h.state field place;
-        leads = Leads-push start h.state fields field place h.leads pass;
-        place_is = refl;
-        authority_is = stores_field.authority_is ∙ authority;
-        header_is = header_stored old.place h.state.place place field old.stored stored h.state.header stores_field h.place_is h.header_is;
-        stores = subst (λ n. StoresEntries stored (h.state.entries ++ n)) named (stores_field.stores h.state.entries h.stores);
-        are_bytes = subst IsBytes (sym joined) (IsBytes-append (concat fields) field h.are_bytes bytes);
-        rest = after.0;
-        left_is = after.1;
-        parts = h.parts ∙ ap (λ (l : List ℕ). concat fields ++ l) after.2 ∙ sym (append_assoc (concat fields) field after.0) ∙ ap (λ (l : List ℕ). l ++ after.0) (sym joined);
-        taken_is = omega (arith, takes.taken, looks.taken, h.taken_is, ap length joined, length-append (concat fields) field);
-        works = takes.working;
-        faultless = refl;
-      },
-    )
+-- the end of the list was looked for
+pub looked : (old : Walk) (mid : Pull) → LooksFor old.place old.pull false mid → (text : List ℕ) (fields : List (List ℕ)) → HasRead text fields old → HasRead text fields (working mid old.place old.stored)
+looked old mid looks text fields h = record {
+  state = h.state;
+  leads = h.leads;
+  place_is = h.place_is;
+  authority_is = h.authority_is;
+  header_is = h.header_is;
+  stores = h.stores;
+  are_bytes = h.are_bytes;
+  rest = h.rest;
+  left_is = stores_some (left_of old.pull) (left_of mid) h.rest h.left_is looks.bytes;
+  parts = h.parts;
+  taken_is = looks.taken ∙ h.taken_is;
+  works = looks.works;
+  faultless = refl;
+}
 
 pub bounded_more : (old : Walk) (mid new : Pull) (stored : FieldStore) (field : List ℕ) → IsBounded old.pull old.stored
-    → LooksFor old.place old.pull false mid → Takes mid field new → GrowsAtMost (length field) old.stored stored → IsBounded new stored
-bounded_more old mid new stored field b looks takes grows =
-    let taken : new.taken ≡ old.pull.taken + length field = omega (arith, takes.taken, looks.taken) in
+    → mid.taken ≡ old.pull.taken → mid.limit ≡ old.pull.limit → Takes mid field new → GrowsAtMost (length field) old.stored stored → IsBounded new stored
+bounded_more old mid new stored field b same_taken same_limit takes grows =
+    let taken : new.taken ≡ old.pull.taken + length field = omega (arith, takes.taken, same_taken) in
     record {
-      limit_is = takes.limit ∙ looks.limit_is ∙ b.limit_is;
-      within = omega (arith, takes.within, takes.taken, looks.limit_is, b.limit_is);
+      limit_is = takes.limit ∙ same_limit ∙ b.limit_is;
+      within = omega (arith, takes.within, takes.taken, same_limit, b.limit_is);
       all_is = λ every.
           let was = b.all_is (sym grows.same_scope ∙ every) in
           (omega (arith, grows.held_is, was.0, taken), subst (λ (n : ℕ). StoresAtMost stored n) (sym taken) (grows.stored_is old.pull.taken was.1));

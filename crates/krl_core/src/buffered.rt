@@ -35,7 +35,7 @@ pub(crate) fn read_buffered<T: Store>(
     (at, Ok(()))
 }
 
-// Reads fields that name nothing in scope together, and otherwise one field after the other.
+// Skips fields that name nothing in scope together, and otherwise reads one field after the other.
 fn read_front<T: Store>(
     place: &mut Place,
     stored: &mut FieldStore<T>,
@@ -52,7 +52,7 @@ fn read_front<T: Store>(
     read_each(place, stored, bytes)
 }
 
-// Reads fields of one kind that name nothing in scope together: serial numbers, or bytes of a
+// Skips fields of one kind together if they name nothing in scope: serial numbers, or bytes of a
 // bitmap.
 fn skip_out_of_scope<T: Store>(
     place: &mut Place,

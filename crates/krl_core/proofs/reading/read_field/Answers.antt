@@ -1,6 +1,7 @@
-use Rattle.krl_core.proofs.Common.{err_from_is_err_and, false≢true, refl, working}
+use Rattle.krl_core.proofs.Common.{err_from_is_err_and, false≢true, working}
 use Rattle.krl_core.proofs.FixedFields.{late_where_large}
-use Rattle.krl_core.proofs.Steps.{end_refused, missed_says, refused_says, one_more, bounded_more}
+use Rattle.krl_core.proofs.BufferedFields.{one_more}
+use Rattle.krl_core.proofs.Steps.{end_refused, missed_says, refused_says, bounded_more}
 use Rattle.krl_core.proofs.reading.read_field.Goals as goal
 
 pub returns-in_err-ends-clause-fault : goal.returns-in_err-ends-clause-fault
@@ -23,26 +24,29 @@ returns-in_err-place-clause-fault g c =
 
 pub returns-in_err-place-clause-bounds : goal.returns-in_err-place-clause-bounds
 returns-in_err-place-clause-bounds g c =
+    let looks = rw c.if-branch.false at c.in_ok-ends.ensures.ok in
     bounded_more (working c.args.pull.now c.args.place.now c.args.stored.now) c.ends.new.pull c.take.new.pull c.judge_and_store.new.stored c.in_ok-field.field.now c.requires.bounded
-    (rw c.if-branch.false at c.in_ok-ends.ensures.ok) c.in_ok-field.ensures.ok c.judge_and_store.ensures.grows
+    looks.taken looks.limit_is c.in_ok-field.ensures.ok c.judge_and_store.ensures.grows
 
 pub returns-clause-more : goal.returns-clause-more
 returns-clause-more g c =
-    (λ _. one_more (working c.args.pull.now c.args.place.now c.args.stored.now) c.ends.new.pull c.take.new.pull c.in_ok-place.field-0 c.judge_and_store.new.stored c.in_ok-field.field.now refl
+    (λ _. one_more (working c.args.pull.now c.args.place.now c.args.stored.now) c.ends.new.pull c.take.new.pull c.in_ok-place.field-0 c.judge_and_store.new.stored c.in_ok-field.field.now
     (rw c.if-branch.false at c.in_ok-ends.ensures.ok) c.in_ok-field.ensures.ok c.in_ok-place.ensures.passes c.in_ok-place.ensures.bytes c.in_ok-place.ensures.stores_field)
 
 pub returns-clause-bounds : goal.returns-clause-bounds
 returns-clause-bounds g c =
+    let looks = rw c.if-branch.false at c.in_ok-ends.ensures.ok in
     bounded_more (working c.args.pull.now c.args.place.now c.args.stored.now) c.ends.new.pull c.take.new.pull c.judge_and_store.new.stored c.in_ok-field.field.now c.requires.bounded
-    (rw c.if-branch.false at c.in_ok-ends.ensures.ok) c.in_ok-field.ensures.ok c.judge_and_store.ensures.grows
+    looks.taken looks.limit_is c.in_ok-field.ensures.ok c.judge_and_store.ensures.grows
 
 pub returns-clause-sound : goal.returns-clause-sound
 returns-clause-sound g c =
+    let looks = rw c.if-branch.false at c.in_ok-ends.ensures.ok in
     record {
       in_step = λ _. c.in_ok-place.ensures.stores_field.in_step;
       pull_faultless = λ _. c.in_ok-field.ensures.ok.is_faultless;
       works = λ _. c.in_ok-field.ensures.ok.working;
       ends = λ off. absurd (false≢true off);
       bounded = bounded_more (working c.args.pull.now c.args.place.now c.args.stored.now) c.ends.new.pull c.take.new.pull c.judge_and_store.new.stored c.in_ok-field.field.now c.requires.bounded
-          (rw c.if-branch.false at c.in_ok-ends.ensures.ok) c.in_ok-field.ensures.ok c.judge_and_store.ensures.grows;
+          looks.taken looks.limit_is c.in_ok-field.ensures.ok c.judge_and_store.ensures.grows;
     }
