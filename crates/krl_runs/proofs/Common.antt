@@ -24,7 +24,7 @@ pub use Rattle.krl_entries.specs.Revocations.{stored}
 pub use Rattle.krl_runs.specs.Contents.{all_said, authority_line, comment_line, comment_lines}
 pub use Rattle.krl_runs.specs.Contents.{date_line, dump_text, fact_line, Known, known_lines}
 pub use Rattle.krl_runs.specs.Contents.{known_of, serials_line, version_line}
-unfoldable pub use Rattle.krl_runs.specs.Contents.{contents_items, contents_lines, header_lines}
+unfoldable pub use Rattle.krl_runs.specs.Contents.{contents_lines, header_lines}
 unfoldable pub use Rattle.krl_runs.specs.Contents.{section_lines}
 pub use Rattle.krl_runs.specs.Query.{answer_of, AnswersAbout, ask, ask_by, asked, dumped}
 pub use Rattle.krl_runs.specs.Query.{HasEntries, IsHeld}

@@ -1,13 +1,13 @@
 -- The lines of a list's contents that are printed so far.
 use Rattle.krl_runs.proofs.Common.{[], ◌++◌, ◌+◌, ◌<◌, ◌==◌, ◌∙◌, ◌∷◌, ◌≡◌, add-one, all_said, ap}
-use Rattle.krl_runs.proofs.Common.{append_assoc, arith, authority_line, Bool, carries_more}
+use Rattle.krl_runs.proofs.Common.{append_assoc, arith, authority_line, carries_more}
 use Rattle.krl_runs.proofs.Common.{carries_none, carries_then, comment_line, comment_lines}
-use Rattle.krl_runs.proofs.Common.{contents_items, contents_lines, date_line, drop, drop-cons, Err}
-use Rattle.krl_runs.proofs.Common.{fact_line, false, flat_map, get_or, Hash, Header, header_lines}
-use Rattle.krl_runs.proofs.Common.{Id, IsPiece, Item, Key, Known, left, length, List, map, next_of}
-use Rattle.krl_runs.proofs.Common.{Ok, Option, refl, Result, Revocations, RunFault, said_of}
-use Rattle.krl_runs.proofs.Common.{Section, section_lines, serials_line, Sha1, since, Some, subst}
-use Rattle.krl_runs.proofs.Common.{sym, take-append-drop, true, version_line, ℕ}
+use Rattle.krl_runs.proofs.Common.{contents_lines, date_line, drop, drop-cons, Err, fact_line}
+use Rattle.krl_runs.proofs.Common.{false, flat_map, get_or, Hash, Header, header_lines, Id}
+use Rattle.krl_runs.proofs.Common.{IsPiece, Item, Key, Known, known_lines, left, length, List}
+use Rattle.krl_runs.proofs.Common.{map, next_of, Ok, Option, refl, Result, Revocations, RunFault}
+use Rattle.krl_runs.proofs.Common.{said_of, Section, section_lines, serials_line, Sha1, since}
+use Rattle.krl_runs.proofs.Common.{Some, subst, sym, take-append-drop, true, version_line, ℕ}
 use Rattle.std.proofs.lemmas.List.{map-append}
 use Rattle.std.proofs.lemmas.Bool.Decides.{nat_tests}
 use Rattle.serial_set.specs.declared.span.Span.{Span}
@@ -110,26 +110,17 @@ pub section_started : (name : List ℕ) (section : Section) (now : Printer)
 unfolding section_lines
 section_started name section now = none_said name (section_lines section) now
 
--- ---- the contents, if they are requested
+-- ---- the contents
 
-pub not_asked : (name : List ℕ) (dump : Bool) (known : Known) (now : Printer) → dump ≡ false → Carries (contents_items name dump known) said now now
-unfolding contents_items
-not_asked name false known now asked = carries_none tt now
-not_asked name true known now asked = absurd cc
-
-pub contents_said : {B : Type 0} (name : List ℕ) (dump : Bool) (known : Known) (result : Result B RunFault) (old mid new : Printer) → dump ≡ true
+pub contents_said : {B : Type 0} (name : List ℕ) (known : Known) (result : Result B RunFault) (old mid new : Printer)
     → Carries (all_said name (header_lines known.header)) said old mid → Carries (all_said name (contents_lines known.contents)) result mid new
-    → Carries (contents_items name dump known) result old new
-unfolding contents_items
-contents_said name false known result old mid new asked first second = absurd cc
-contents_said {B} name true known result old mid new asked first second =
+    → Carries (all_said name (known_lines known)) result old new
+contents_said {B} name known result old mid new first second =
     subst (λ (items : List Item). Carries {A = B} items result old new) (sym (both_said name (header_lines known.header) (contents_lines known.contents)))
     (carries_then (all_said name (header_lines known.header)) (all_said name (contents_lines known.contents)) tt result old mid new first second)
 
-pub contents_stop : {A B : Type 0} (name : List ℕ) (dump : Bool) (known : Known) (stop : RunFault) (old new : Printer) → dump ≡ true
-    → Carries {A = A} (all_said name (header_lines known.header)) (Err stop) old new → Carries {A = B} (contents_items name dump known) (Err stop) old new
-unfolding contents_items
-contents_stop name false known stop old new asked first = absurd cc
-contents_stop {A} {B} name true known stop old new asked first =
+pub contents_stop : {A B : Type 0} (name : List ℕ) (known : Known) (stop : RunFault) (old new : Printer)
+    → Carries {A = A} (all_said name (header_lines known.header)) (Err stop) old new → Carries {A = B} (all_said name (known_lines known)) (Err stop) old new
+contents_stop {A} {B} name known stop old new first =
     subst (λ (items : List Item). Carries {A = B} items (Err stop) old new) (sym (both_said name (header_lines known.header) (contents_lines known.contents)))
     (carries_more {A = A} {B = B} (all_said name (header_lines known.header)) (all_said name (contents_lines known.contents)) stop old new first)

@@ -2,12 +2,11 @@
 use Rattle.krl_runs.proofs.Common.{[], ◌++◌, ◌∙◌, ◌∷◌, ◌≡◌, all_said, answer_of, AnswersAbout, ap}
 use Rattle.krl_runs.proofs.Common.{append_assoc, ask, ask_by, asked_run_of, Asks, before, Bool}
 use Rattle.krl_runs.proofs.Common.{carries_more, carries_passed, carries_then, carries_withheld}
-use Rattle.krl_runs.proofs.Common.{contents_items, dump_text, entries_of, Err, false, files_items}
-use Rattle.krl_runs.proofs.Common.{HasEntries, Header, IsHeld, IsOrderly, Item, Known, known_lines}
-use Rattle.krl_runs.proofs.Common.{known_of, krl_cause, List, Named, None, Ok, Option, outcome_of}
-use Rattle.krl_runs.proofs.Common.{Passed, query_run_of, refl, Result, Revocations, revokes}
-use Rattle.krl_runs.proofs.Common.{run_fault_of, RunFault, RunOutcome, Some, Stopped, Subject}
-use Rattle.krl_runs.proofs.Common.{subst, sym, true, ℕ}
+use Rattle.krl_runs.proofs.Common.{dump_text, entries_of, Err, false, files_items, HasEntries}
+use Rattle.krl_runs.proofs.Common.{Header, IsHeld, IsOrderly, Item, Known, known_lines, known_of}
+use Rattle.krl_runs.proofs.Common.{krl_cause, List, Named, None, Ok, Option, outcome_of, Passed}
+use Rattle.krl_runs.proofs.Common.{query_run_of, refl, Result, Revocations, revokes, run_fault_of}
+use Rattle.krl_runs.proofs.Common.{RunFault, RunOutcome, Some, Stopped, Subject, subst, sym, ℕ}
 use Rattle.std.specs.List.{concat}
 use Rattle.krl_entries.proofs.RevokedTests.{revokes_meant}
 use Rattle.krl_entries.specs.Canonical.{entries_in}
@@ -35,29 +34,29 @@ held text header contents list none = record {
   answers = λ asked. revokes_meant contents (entries_of list.sections) list.holds.means asked;
 }
 
--- The contents are printed if requested, and the files are answered by the stored entries.
-pub read_run : {A : Type 0} (name : List ℕ) (dump : Bool) (files : List Named) (known : Known) (result : Result A RunFault) (old mid new : Printer)
-    → Carries (contents_items name dump known) (Ok (tt {0})) old mid → Carries (files_items (ask known.contents) files) result mid new
-    → Carries (query_run_of name (Ok known) dump files) result old new
+-- The contents are printed, and the files are answered by the stored entries.
+pub read_run : {A : Type 0} (name : List ℕ) (files : List Named) (known : Known) (result : Result A RunFault) (old mid new : Printer)
+    → Carries (all_said name (known_lines known)) (Ok (tt {0})) old mid → Carries (files_items (ask known.contents) files) result mid new
+    → Carries (query_run_of name (Ok known) files) result old new
 unfolding query_run_of
-read_run name dump files known result old mid new first second =
-    carries_then (Passed name ∷ []) (contents_items name dump known ++ files_items (ask known.contents) files) tt result old old new (carries_passed (tt {0}) name old)
-    (carries_then (contents_items name dump known) (files_items (ask known.contents) files) tt result old mid new first second)
+read_run name files known result old mid new first second =
+    carries_then (Passed name ∷ []) (all_said name (known_lines known) ++ files_items (ask known.contents) files) tt result old old new (carries_passed (tt {0}) name old)
+    (carries_then (all_said name (known_lines known)) (files_items (ask known.contents) files) tt result old mid new first second)
 
 -- The run ended within the contents.
-pub dump_stops : {A B : Type 0} (name : List ℕ) (dump : Bool) (files : List Named) (known : Known) (stop : RunFault) (old new : Printer)
-    → Carries {A = A} (contents_items name dump known) (Err stop) old new → Carries {A = B} (query_run_of name (Ok known) dump files) (Err stop) old new
+pub dump_stops : {A B : Type 0} (name : List ℕ) (files : List Named) (known : Known) (stop : RunFault) (old new : Printer)
+    → Carries {A = A} (all_said name (known_lines known)) (Err stop) old new → Carries {A = B} (query_run_of name (Ok known) files) (Err stop) old new
 unfolding query_run_of
-dump_stops {A} {B} name dump files known stop old new first =
-    carries_then (Passed name ∷ []) (contents_items name dump known ++ files_items (ask known.contents) files) tt (Err stop) old old new (carries_passed (tt {0}) name old)
-    (carries_more {A = A} {B = B} (contents_items name dump known) (files_items (ask known.contents) files) stop old new first)
+dump_stops {A} {B} name files known stop old new first =
+    carries_then (Passed name ∷ []) (all_said name (known_lines known) ++ files_items (ask known.contents) files) tt (Err stop) old old new (carries_passed (tt {0}) name old)
+    (carries_more {A = A} {B = B} (all_said name (known_lines known)) (files_items (ask known.contents) files) stop old new first)
 
 -- The run ended before its first line: the list had a fault, or an allocation failed.
-pub refused_run : (name : List ℕ) (dump : Bool) (files : List Named) (fault : KrlFault) (now : Printer)
-    → Carries {A = Unit {0}} (query_run_of name (Err fault) dump files) (Err (run_fault_of name (krl_cause fault))) now now
+pub refused_run : (name : List ℕ) (files : List Named) (fault : KrlFault) (now : Printer)
+    → Carries {A = Unit {0}} (query_run_of name (Err fault) files) (Err (run_fault_of name (krl_cause fault))) now now
 unfolding query_run_of
-refused_run name dump files faults.NoMemory now = carries_withheld (Stopped (run_fault_of name (krl_cause faults.NoMemory))) (run_fault_of name (krl_cause faults.NoMemory)) now refl
-refused_run name dump files fault now = carries_withheld (Stopped (run_fault_of name (krl_cause fault))) (run_fault_of name (krl_cause fault)) now refl
+refused_run name files faults.NoMemory now = carries_withheld (Stopped (run_fault_of name (krl_cause faults.NoMemory))) (run_fault_of name (krl_cause faults.NoMemory)) now refl
+refused_run name files fault now = carries_withheld (Stopped (run_fault_of name (krl_cause fault))) (run_fault_of name (krl_cause fault)) now refl
 
 -- The lines of a list's contents make one text, before the text that follows.
 lines_first : (name : List ℕ) (lines : List (List ℕ)) (items : List Item)
@@ -70,14 +69,14 @@ lines_first name (line ∷ lines) items =
     ∙ ap (λ (t : List ℕ). let o : RunOutcome = record { text = t; revoked = rest.revoked; stop = rest.stop } in o) text
 
 pub dump_first : (name : List ℕ) (known : Known) (files : List Named)
-    → outcome_of (query_run_of name (Ok known) true files) ≡ before (record { text = dump_text known; revoked = false }) (outcome_of (files_items (ask known.contents) files))
-unfolding query_run_of contents_items
+    → outcome_of (query_run_of name (Ok known) files) ≡ before (record { text = dump_text known; revoked = false }) (outcome_of (files_items (ask known.contents) files))
+unfolding query_run_of
 dump_first name known files = lines_first name (known_lines known) (files_items (ask known.contents) files)
 
-pub nothing_first : (name : List ℕ) (known : Known) (files : List Named)
-    → outcome_of (query_run_of name (Ok known) false files) ≡ outcome_of (files_items (ask known.contents) files)
-unfolding query_run_of contents_items
-nothing_first name known files = refl
+pub nothing_first : (name : List ℕ) (entries : List Entry) (files : List Named)
+    → outcome_of (asked_run_of name (Ok entries) files) ≡ outcome_of (files_items (ask_by (is_named entries)) files)
+unfolding asked_run_of
+nothing_first name entries files = refl
 
 -- ---- a list that was streamed
 
@@ -110,12 +109,6 @@ pub held_list : (left : Option (List ℕ)) (held : Revocations) (header : Header
 held_list left held header orderly list none =
     list_entries left held (λ text e. (header, list text e)) none (meant_tested held (entries_in held) (means_itself held orderly)) (λ text entries holds. meant_tested held entries holds.means)
 
--- and its run is that of the entries
-pub held_run : (name : List ℕ) (files : List Named) (known : Known) (entries : List Entry) → ((asked : Subject) → revokes known.contents asked ≡ is_named entries asked)
-    → query_run_of name (Ok known) false files ≡ asked_run_of name (Ok entries) files
-unfolding query_run_of contents_items asked_run_of
-held_run name files known entries same = ap (λ (items : List Item). Passed name ∷ items) (files_same (revokes known.contents) (is_named entries) same files)
-
 -- ---- a list of which only the answers to the queries are stored
 
 -- the stored entries answer for the keys of the queries
@@ -127,11 +120,11 @@ streamed_list left topics found kept orderly list none =
     (found_tested topics found (entries_in found) (means_within (Some topics) found (entries_in found) (means_itself found orderly)))
     (λ text entries holds. found_tested topics found entries holds.means)
 
--- the stored entries of the list answer for the keys of the queries
-pub streamed_answers : (topics found : Revocations) (entries : List Entry) → ((asked : Subject) → Asks topics asked → revokes found asked ≡ is_named entries asked)
-    → AnswersAbout topics found (ask_by (is_named entries))
-streamed_answers topics found entries same = record {
-  say = λ name number line asked key asks. ap (λ (b : Bool). Some (answer_of name line b)) (sym (same asked asks));
+-- The entries answer for all subjects for which a test agrees.
+pub entries_answer : (Expected : Subject → Type 0) (held : Revocations) (test : Subject → Bool) → ((asked : Subject) → Expected asked → revokes held asked ≡ test asked)
+    → AnswersAbout Expected held (ask_by test)
+entries_answer Expected held test same = record {
+  say = λ name number line asked key expected. ap (λ (b : Bool). Some (answer_of name line b)) (sym (same asked expected));
   unanswered = refl;
 }
 

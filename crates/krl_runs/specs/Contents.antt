@@ -1,5 +1,5 @@
 -- The printed contents of a list (ssh-keygen(1), options -Q and -l): a line for each fact.
-use Rattle.std.specs.Prelude.{ℕ, ◌==◌, if◌then◌else◌, Bool, true, false, List, [], ◌∷◌, ◌++◌, codes}
+use Rattle.std.specs.Prelude.{ℕ, ◌==◌, if◌then◌else◌, List, [], ◌∷◌, ◌++◌, codes}
 use Rattle.std.specs.Prelude.{decimal, length, map}
 use Rattle.std.specs.List.{concat, flat_map}
 use Rattle.base64.specs.Engines.{standard}
@@ -104,8 +104,3 @@ dump_text known = concat (known_lines known)
 
 abbrev pub all_said : List ℕ → List (List ℕ) → List Item
 all_said name lines = map (said_of name) lines
-
--- the items of a list's contents, if they are requested
-unfoldable pub contents_items : List ℕ → Bool → Known → List Item
-contents_items name false known = []
-contents_items name true known = all_said name (known_lines known)

@@ -1,5 +1,5 @@
 -- Asking a list about keys (ssh-keygen(1), KEY REVOCATION LISTS).
-use Rattle.std.specs.Prelude.{◌≡◌, ◌↔◌, ◌≤◌, length, ℕ, Bool, true, false, List, [], ◌∷◌, ◌++◌}
+use Rattle.std.specs.Prelude.{◌≡◌, ◌↔◌, ◌≤◌, length, ℕ, ⊤, Bool, true, false, List, [], ◌∷◌, ◌++◌}
 use Rattle.std.specs.Prelude.{Option, None, Some, Result, Ok, Err, IsTrue, codes}
 use Rattle.krl_entries.specs.Revocations.{Revocations}
 use Rattle.krl_core.specs.Entries.{entries_of}
@@ -18,7 +18,9 @@ use Rattle.key_text.specs.LineReading.{Content}
 use Rattle.key_listing.specs.declared.answer.Answer.{Answer}
 use Rattle.key_files.specs.declared.file_fault.FileFault.TheVariants as files
 use Rattle.ssh_cert.specs.Escape.{escaped}
-use Rattle.krl_runs.specs.Contents.{Known, contents_items}
+use Rattle.krl_runs.specs.Contents.{Known, all_said, known_lines}
+use Rattle.krl_runs.specs.declared.query.Query.{Query}
+use Rattle.krl_runs.specs.declared.query.Query.TheVariants.{Stored, Streamed}
 use Rattle.key_files.specs.Keys.{Named}
 use Rattle.key_listing.specs.Run.{Answering, Item, Passed, Stopped, files_items}
 use Rattle.key_files.specs.RunFault.{krl_cause, run_fault_of}
@@ -52,12 +54,24 @@ ask_by test = record {
 abbrev pub ask : Revocations → Answering
 ask contents = ask_by (revokes contents)
 
--- The keys of the queries are answered for by the entries that were found.
-pub record AnswersAbout (topics found : Revocations) (answering : Answering) : Type 0 where
+-- These subjects are answered for by these entries.
+pub record AnswersAbout (Expected : Subject → Type 0) (entries : Revocations)
+    (answering : Answering) : Type 0 where
   pub say : (name : List ℕ) (number : Option ℕ) (line : Content) (asked : Subject) (key : PublicKey)
-      → Asks topics asked
-      → answering.say name number line asked key ≡ Some (answer_of name line (revokes found asked))
+      → Expected asked → answering.say name number line asked key
+      ≡ Some (answer_of name line (revokes entries asked))
   pub unanswered : answering.unanswered ≡ files.NoKeys
+
+-- the subjects that a query answers for: all of a list that is stored, and the topics of one that
+-- was streamed
+abbrev pub IsFor : Query → Subject → Type 0
+IsFor (Stored list) asked = ⊤
+IsFor (Streamed findings) asked = Asks findings.now.topics asked
+
+-- the entries by which it answers
+abbrev pub entries_for : Query → Revocations
+entries_for (Stored list) = list.now
+entries_for (Streamed findings) = findings.now.found
 
 -- The text is a list without a fault, and these are the entries that its sections have.
 pub record HasEntries (text : List ℕ) (entries : List Entry) : Type 0 where
@@ -84,12 +98,12 @@ IsRead = IsReadAs IsHeld
 abbrev pub IsListRead : Option (List ℕ) → Result Known KrlFault → Bool → Option (List ℕ) → Type 0
 IsListRead = IsReadingOf IsHeld
 
--- The list's first fault ends the run immediately. Otherwise its contents are printed if requested,
--- and then each key of each file gives one line, up to the first fault.
-unfoldable pub query_run_of : List ℕ → Result Known KrlFault → Bool → List Named → List Item
-query_run_of name (Err fault) dump files = Stopped (run_fault_of name (krl_cause fault)) ∷ []
-query_run_of name (Ok known) dump files =
-    Passed name ∷ (contents_items name dump known ++ files_items (ask known.contents) files)
+-- The list's first fault ends the run immediately. Otherwise its contents are printed, and then each
+-- key of each file gives one line, up to the first fault.
+unfoldable pub query_run_of : List ℕ → Result Known KrlFault → List Named → List Item
+query_run_of name (Err fault) files = Stopped (run_fault_of name (krl_cause fault)) ∷ []
+query_run_of name (Ok known) files =
+    Passed name ∷ (all_said name (known_lines known) ++ files_items (ask known.contents) files)
 
 -- The list's first fault ends the run immediately. Otherwise each key of each file gives one line,
 -- up to the first fault.
@@ -103,7 +117,7 @@ asked_run_of name (Ok entries) files =
 pub data IsRun (name : List ℕ) (files : List Named) (before : Option (List ℕ)) (dump failed : Bool)
     (left : Option (List ℕ)) (items : List Item) : Type 0 where
   dumped : (reading : Result Known KrlFault) → dump ≡ true
-      → IsListRead before reading failed left → items ≡ query_run_of name reading true files
+      → IsListRead before reading failed left → items ≡ query_run_of name reading files
       → IsRun name files before dump failed left items
   asked : (reading : Result (List Entry) KrlFault) → dump ≡ false
       → IsReadingOf HasEntries before reading failed left → items ≡ asked_run_of name reading files

@@ -2,8 +2,9 @@
 
 ghost use Rattle.std.specs.Prelude.{map};
 ghost use Rattle.key_listing.specs.Carries.{Carries};
-ghost use Rattle.krl_runs.specs.Contents.{all_said, comment_lines, contents_items, contents_lines};
-ghost use Rattle.krl_runs.specs.Contents.{fact_line, header_lines, section_lines, serials_line};
+ghost use Rattle.krl_runs.specs.Contents.{all_said, comment_lines, contents_lines, fact_line};
+ghost use Rattle.krl_runs.specs.Contents.{header_lines, known_lines, known_of, section_lines};
+ghost use Rattle.krl_runs.specs.Contents.{serials_line};
 
 pub(crate) mod fact;
 pub(crate) mod lines;
@@ -18,22 +19,17 @@ use key_listing::Run;
 use krl_core::{Header, Listed, Revocations, Texts};
 use serial_set::{Span, Spans};
 
-/// Prints the contents of a list, if they are requested: a line for each fact of its header, and
-/// then each authority with its serials and key IDs, the keys and the hashes.
+/// Prints the contents of a list: a line for each fact of its header, and then each authority with
+/// its serials and key IDs, the keys and the hashes.
 pub fn print_contents<'a, S: Spans, W: Sink>(
     run: &mut Run<W>,
     name: &'a str,
-    dump: bool,
     header: &Header,
     list: &Revocations<S>,
 ) -> Result<(), RunFault<'a>>
-    ensures { Carries (contents_items name.now dump
-        (record { header = header.now; contents = list.now })) result
+    ensures { Carries (all_said name.now (known_lines (known_of header.now list.now))) result
         run.old.printer run.new.printer }
 {
-    if !dump {
-        return Ok(());
-    }
     print_header(run, name, header)?;
     print_held(run, name, list)
 }

@@ -1,13 +1,14 @@
 //! Laws of the lines that runs print. Each function does nothing: its contract is the law.
 
-ghost use Rattle.std.specs.Prelude.{◌≡◌, ◌⊎◌, ℕ, true, false, List, Result, Ok, Err, Option};
+ghost use Rattle.std.specs.Prelude.{◌≡◌, ◌⊎◌, ℕ, false, List, Result, Ok, Err, Option};
 ghost use Rattle.krl_entries.specs.Entry.{Entry};
 ghost use Rattle.krl_entries.specs.Reasons.{is_revoked};
 ghost use Rattle.krl_types.specs.declared.krl_fault.KrlFault.{KrlFault};
 ghost use Rattle.krl_types.specs.declared.krl_fault.KrlFault.TheVariants.{NoMemory};
 ghost use Rattle.krl_core.specs.Reading.{IsReadAs};
 ghost use Rattle.krl_runs.specs.Contents.{Known, dump_text};
-ghost use Rattle.krl_runs.specs.Query.{HasEntries, IsHeld, IsRead, ask, ask_by, query_run_of};
+ghost use Rattle.krl_runs.specs.Query.{HasEntries, IsHeld, IsRead, ask, ask_by, asked_run_of};
+ghost use Rattle.krl_runs.specs.Query.{query_run_of};
 ghost use Rattle.key_files.specs.Keys.{Named};
 ghost use Rattle.key_listing.specs.Run.{before, files_items, outcome_of};
 
@@ -18,12 +19,12 @@ use krl_entries::laws::entries_decide_what_is_held;
 /// nothing is printed about the list.
 pub fn contents_stand_first()
     ensures asked { (name : List ℕ) (known : Known) (files : List Named)
-        → outcome_of (query_run_of name (Ok known) true files)
+        → outcome_of (query_run_of name (Ok known) files)
         ≡ before (record { text = dump_text known; revoked = false })
         (outcome_of (files_items (ask known.contents) files)) }
-    ensures unasked { (name : List ℕ) (known : Known) (files : List Named)
-        → outcome_of (query_run_of name (Ok known) false files)
-        ≡ outcome_of (files_items (ask known.contents) files) }
+    ensures unasked { (name : List ℕ) (entries : List Entry) (files : List Named)
+        → outcome_of (asked_run_of name (Ok entries) files)
+        ≡ outcome_of (files_items (ask_by (is_revoked entries)) files) }
 {}
 
 /// A stored list and a streamed list give the same lines for each file.

@@ -1,12 +1,13 @@
 //! Queries of a list for the keys of files (ssh-keygen(1), KEY REVOCATION LISTS).
 
-ghost use Rattle.std.specs.Prelude.{◌≡◌, ◌++◌, IfOk, List, Ok, Result, OnOk, false, ⊤};
+ghost use Rattle.std.specs.Prelude.{◌≡◌, ◌++◌, IfOk, List, Ok, Result, OnOk, false};
+ghost use Rattle.krl_entries.specs.Reasons.{revokes};
 ghost use Rattle.krl_types.specs.declared.krl_fault.KrlFault.{KrlFault as FaultOf};
 ghost use Rattle.key_listing.specs.Carries.{Carries};
 ghost use Rattle.krl_runs.specs.Contents.{Known as KnownOf, known_of};
 ghost use Rattle.key_listing.specs.Done.{Ends};
-ghost use Rattle.krl_runs.specs.Query.{IsListRead, IsRun, ask};
-ghost use Rattle.krl_runs.specs.Query.{comment_part, query_line, query_run_of, verdict};
+ghost use Rattle.krl_runs.specs.Query.{AnswersAbout, IsFor, IsListRead, IsRun, comment_part};
+ghost use Rattle.krl_runs.specs.Query.{entries_for, query_line, query_run_of, verdict};
 ghost use Rattle.key_listing.specs.Run.{Item as ItemOf};
 
 use crate::contents::print_contents;
@@ -15,28 +16,40 @@ use byte_streams::{Sink, Source};
 use key_files::{FileFault, FileKey, Named, RunFault, cause_of};
 use key_listing::{Answer, Answers, Done, Printer, Run, print_files};
 use krl_core::{Header, Revocations, read_krl};
+use krl_queries::Findings;
+use krl_types::Subject;
 use span_sets::Held;
 use ssh_cert::{AnyKey, push_escaped};
 use ssh_wire::Bytes;
 use std::alloc::{AllocError, Global};
 
-/// A list that was read.
+/// Answers for each key whether a list revokes it.
 #[derive(Drop)]
-pub(crate) struct Known {
-    pub(crate) header: Header,
-    pub(crate) list: Revocations<Held>,
+pub(crate) enum Query<'q> {
+    /// By all that the list revokes.
+    Stored(&'q Revocations<Held>),
+    /// By what was found while the list was streamed, for the keys that were asked about.
+    Streamed(&'q Findings<Held>),
 }
 
-// Answers for each key whether a list revokes it.
-#[derive(Drop)]
-struct Query<'q> {
-    list: &'q Revocations<Held>,
+impl<'q> Query<'q> {
+    // Whether a key or a certificate is revoked.
+    fn revokes(&self, subject: &Subject) -> bool
+        requires { IsFor self.now subject.now }
+        ensures { result ≡ revokes (entries_for self.now) subject.now }
+    {
+        match self {
+            Query::Stored(list) => list.query(subject),
+            Query::Streamed(findings) => findings.answer(subject),
+        }
+    }
 }
 
 impl<'q> Answers for Query<'q> {
-    ghost answers_as = { λ query answering. answering ≡ ask query.list.now };
+    ghost answers_as = { λ query answering.
+        AnswersAbout (IsFor query) (entries_for query) answering };
 
-    ghost expects = { λ _ _. ⊤ };
+    ghost expects = { IsFor };
 
     fn answer(
         &self,
@@ -44,7 +57,7 @@ impl<'q> Answers for Query<'q> {
         key: &FileKey,
         any: &AnyKey,
     ) -> Result<Option<Answer>, AllocError> {
-        let revoked = self.list.query(&any.subject(alloc)?);
+        let revoked = self.revokes(&any.subject(alloc)?);
         let text = query_line(alloc, key.name, key.comment(), revoked)?;
         Ok(Some(Answer { text, revoked }))
     }
@@ -54,13 +67,8 @@ impl<'q> Answers for Query<'q> {
     }
 }
 
-/// The line of a key, with its line feed.
-pub(crate) fn query_line(
-    alloc: Global,
-    name: &str,
-    comment: &[u8],
-    revoked: bool,
-) -> Result<Bytes, AllocError>
+// The line of a key, with its line feed.
+fn query_line(alloc: Global, name: &str, comment: &[u8], revoked: bool) -> Result<Bytes, AllocError>
     ensures { IfOk result (λ text. text ≡ query_line name.now comment.now revoked) }
 {
     let mut text = Vec::new(alloc);
@@ -145,47 +153,42 @@ fn ask<'a, R: Source + Drop, W: Sink>(
         × Carries items result.0 run.old.printer run.new.printer }
 {
     if dump {
-        return ask_list(run, krl_name, krl, dump, files);
+        return ask_stored(run, krl_name, krl, files);
     }
     ask_streamed(run, krl_name, krl, files)
 }
 
-// Reads a list and queries it for each key of each file.
-fn ask_list<'a, R: Source + Drop, W: Sink>(
+// Reads a list, prints its contents, and queries it for each key of each file.
+fn ask_stored<'a, R: Source + Drop, W: Sink>(
     run: &mut Run<W>,
     krl_name: &'a str,
     krl: R,
-    dump: bool,
     files: &'a [Named<'a>],
 ) -> (Result<(), RunFault<'a>>, R)
     requires { R.has_failed krl ≡ false }
     ensures { (reading : Result KnownOf FaultOf)
         × IsListRead (R.left krl) reading (R.has_failed result.1) (R.left result.1)
-        × Carries (query_run_of krl_name.now reading dump files.now) result.0
+        × Carries (query_run_of krl_name.now reading files.now) result.0
         run.old.printer run.new.printer }
 {
     let (read, reader) = read_krl::<Held, R>(run.alloc, krl);
     match read {
-        Ok((header, list)) => {
-            let asked = ask_held(run, krl_name, &Known { header, list }, dump, files);
-            (asked, reader)
-        }
+        Ok((header, list)) => (print_list(run, krl_name, &header, &list, files), reader),
         Err(fault) => (Err(RunFault::whole(krl_name, cause_of(fault))), reader),
     }
 }
 
-/// Prints the contents of a list if `dump` is true, and queries it for each key of each file.
-pub(crate) fn ask_held<'a, W: Sink>(
+// Prints the contents of a list, and queries it for each key of each file.
+fn print_list<'a, W: Sink>(
     run: &mut Run<W>,
     krl_name: &'a str,
-    known: &Known,
-    dump: bool,
+    header: &Header,
+    list: &Revocations<Held>,
     files: &'a [Named<'a>],
 ) -> Result<(), RunFault<'a>>
-    ensures { Carries (query_run_of krl_name.now (Ok (known_of known.now.header known.now.list))
-        dump files.now) result run.old.printer run.new.printer }
+    ensures { Carries (query_run_of krl_name.now (Ok (known_of header.now list.now)) files.now)
+        result run.old.printer run.new.printer }
 {
-    let Known { header, list } = known;
-    print_contents(run, krl_name, dump, header, list)?;
-    print_files(run, &Query { list }, files)
+    print_contents(run, krl_name, header, list)?;
+    print_files(run, &Query::Stored(list), files)
 }

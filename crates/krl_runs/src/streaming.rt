@@ -14,44 +14,14 @@ ghost use Rattle.key_listing.specs.Run.{Answering as AnsweringOf, files_items};
 ghost use Rattle.krl_runs.specs.Query.{AnswersAbout, HasEntries, asked_run_of};
 ghost use Rattle.krl_runs.specs.Questions.{AsksAtMost, IsFewFor};
 
-use crate::query::{Known, ask_held, query_line};
+use crate::query::Query;
 use crate::questions::ask_about;
 use byte_streams::{Sink, Source};
-use key_files::{Cause, FileFault, FileKey, Named, RunFault, cause_of};
-use key_listing::{Answer, Answers, Run, print_files};
+use key_files::{Cause, Named, RunFault, cause_of};
+use key_listing::{Run, print_files};
 use krl_core::{Reading, Walk};
 use krl_queries::{Findings, Questions};
 use span_sets::Held;
-use ssh_cert::AnyKey;
-use std::alloc::{AllocError, Global};
-
-// The answers of a list that was streamed, for each key.
-#[derive(Drop)]
-struct Streamed<'q> {
-    findings: &'q Findings<Held>,
-}
-
-impl<'q> Answers for Streamed<'q> {
-    ghost answers_as = { λ streamed answering.
-        AnswersAbout streamed.findings.now.topics streamed.findings.now.found answering };
-
-    ghost expects = { λ streamed asked. Asks streamed.findings.now.topics asked };
-
-    fn answer(
-        &self,
-        alloc: Global,
-        key: &FileKey,
-        any: &AnyKey,
-    ) -> Result<Option<Answer>, AllocError> {
-        let revoked = self.findings.answer(&any.subject(alloc)?);
-        let text = query_line(alloc, key.name, key.comment(), revoked)?;
-        Ok(Some(Answer { text, revoked }))
-    }
-
-    fn unanswered(&self) -> FileFault {
-        FileFault::NoKeys
-    }
-}
 
 // At most this number of bytes of a list is stored.
 const FRONT: u64 = 262_144;
@@ -75,9 +45,8 @@ pub(crate) fn ask_streamed<'a, R: Source + Drop, W: Sink>(
     match front.read_to(front_size(files)) {
         Ok(true) => ask_rest(run, krl_name, front, files),
         Ok(false) => {
-            let (header, list, reader) = front.done();
-            let known = Known { header, list };
-            (ask_held(run, krl_name, &known, false, files), reader)
+            let (_header, list, reader) = front.done();
+            (print_files(run, &Query::Stored(&list), files), reader)
         }
         Err(fault) => (
             Err(RunFault::whole(krl_name, cause_of(fault))),
@@ -173,10 +142,10 @@ fn print_streamed<'a, W: Sink>(
     requires asked { AllExpected (Asks findings.now.topics) files.now }
     requires few { IsFewFor (files_size files.now) findings.now.found }
     ensures { (answering : AnsweringOf)
-        → AnswersAbout findings.now.topics findings.now.found answering
+        → AnswersAbout (Asks findings.now.topics) findings.now.found answering
         → Carries (files_items answering files.now) result run.old.printer run.new.printer }
 {
-    print_files(run, &Streamed { findings }, files)
+    print_files(run, &Query::Streamed(findings), files)
 }
 
 // Streams the rest of a list without queries, because an allocation failed.

@@ -4,8 +4,8 @@ use Rattle.krl_runs.proofs.query.ask.Goals as goal
 
 pub returns-then-dump : goal.returns-then-dump
 returns-then-dump g c =
-    let run = rw c.if-dump.true at c.ask_list.ensures in
-    (query_run_of c.args.krl_name.now run.0 _ c.args.files.now, dumped run.0 c.if-dump.true run.1 refl, run.2)
+    let run = c.ask_stored.ensures in
+    (query_run_of c.args.krl_name.now run.0 c.args.files.now, dumped run.0 c.if-dump.true run.1 refl, run.2)
 
 pub returns : goal.returns
 returns g c =

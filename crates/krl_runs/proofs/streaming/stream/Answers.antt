@@ -1,7 +1,7 @@
 -- The list was streamed to its end, or was refused.
-use Rattle.krl_runs.proofs.Common.{ask_by, Err, files_size, is_revoked, Ok}
+use Rattle.krl_runs.proofs.Common.{ask_by, Asks, Err, files_size, is_revoked, Ok}
 use Rattle.krl_runs.proofs.Bounds.{few_found}
-use Rattle.krl_runs.proofs.QueryRuns.{asked_run, asked_refused, streamed_answers, streamed_list}
+use Rattle.krl_runs.proofs.QueryRuns.{asked_run, asked_refused, entries_answer, streamed_list}
 use Rattle.krl_queries.proofs.TopicAmounts.{small_within}
 use Rattle.krl_runs.proofs.streaming.stream.Goals as goal
 
@@ -15,7 +15,7 @@ returns-in-Ok g c = λ before begun.
       Ok answers.0,
       record { failure = read.failure; read = answers.1 },
       asked_run c.args.krl_name.now c.args.files.now answers.0 c.print_streamed.result _ _
-          (c.print_streamed.ensures (ask_by (is_revoked answers.0)) (streamed_answers topics found answers.0 answers.2)),
+          (c.print_streamed.ensures (ask_by (is_revoked answers.0)) (entries_answer (Asks topics) found (is_revoked answers.0) answers.2)),
     )
 
 pub returns-in-Err : goal.returns-in-Err

@@ -1,7 +1,7 @@
--- The answer for a key of the queries is that of the stored entries.
+-- The answer for a key is that of the entries.
 use Rattle.std.proofs.Common.{rules}
 use Rattle.ssh_cert.specs.AnyKey.{asked_of, plain_of}
-use Rattle.krl_runs.proofs.streaming.StreamedAnswers.answer.Goals as goal
+use Rattle.krl_runs.proofs.query.QueryAnswers.answer.Goals as goal
 
 pub returns : goal.returns
 returns c = λ answering is.
