@@ -4,7 +4,7 @@ use crate::audit::auditor_of;
 use crate::ending::{end, fail_by, fail_in_words};
 use crate::list::{List, read_list};
 use crate::loading::{open, read};
-use byte_streams::ToWrite;
+use byte_streams::{FromRead, ToWrite};
 use key_files::{Cause, RunFault};
 use key_listing::{Printer, Run, push_number};
 use krl_arguments::Check;
@@ -157,7 +157,7 @@ impl<'a, 'q, 'w> Round<'a, 'q, 'w> {
     fn check_file<'s>(&mut self, role: Role, name: &'s str) -> Result<(), RunFault<'s>> {
         let mut text = Vec::new(self.rt.alloc());
         let content = match open(self.rt, name) {
-            Ok(file) => read(file, &mut text),
+            Ok(file) => read(&mut FromRead::new(file), &mut text),
             Err(refusal) => Ok(Err(refusal)),
         };
         match content {

@@ -1,7 +1,11 @@
 //! Files that are opened and read.
 
-ghost use Rattle.std.specs.Prelude.{◌≡◌, IfOk, IfSome, OnOk};
+ghost use Rattle.std.specs.Prelude.{◌≡◌, ◌<◌, IfOk, IfSome, OnErr, OnOk, false, length};
+ghost use Rattle.std.specs.Prelude.{vec_capacity, vec_len};
+ghost use Rattle.std.specs.Io.KnownBytes.{Consumes};
+ghost use Rattle.krl.specs.Loading.{IsRead};
 
+use byte_streams::Source;
 use key_text::is_container;
 use krl_audit::Refusal;
 use std::alloc::AllocError;
@@ -10,6 +14,8 @@ use std::io::{self, ErrorKind, Read, Seek, SeekFrom};
 
 // The most bytes that a file may have.
 const LIMIT: u64 = 16_777_216;
+// How many bytes of a file are read at a time.
+const BATCH: usize = 8_192;
 // How many bytes of a file tell whether it begins as a private key file.
 const FRONT: usize = 64;
 
@@ -31,22 +37,34 @@ pub fn open(rt: &HostRuntime, path: &str) -> Result<File, Refusal> {
     }
 }
 
-/// Replaces the content of a buffer by all bytes of a reader, or says why it is not read. Fails
-/// only if an allocation fails.
-pub fn read<R: Read + Drop>(
-    reader: R,
+/// Replaces the content of a buffer by the bytes of a reader, or says why they are not all read: it
+/// failed, or it has too many. Fails only if an allocation for more bytes than the buffer has room
+/// for fails. Never inlined, since a caller enters directories in directories.
+#[inline(never)]
+pub fn read<R: Source>(
+    reader: &mut R,
     text: &mut Vec<u8>,
 ) -> Result<Result<(), Refusal>, AllocError>
-    ensures all { IfOk result (λ read. OnOk read (IfSome (R.remaining reader) (λ bytes.
-        text.new.items ≡ bytes))) }
+    requires { R.has_failed reader.old ≡ false }
+    ensures bytes { OnOk result
+        (Consumes (R.left reader.old) (R.left reader.new) text.new.items) }
+    ensures read { IfOk result
+        (IsRead (R.left reader.new) (R.has_failed reader.new) (vec_len text.new)) }
+    ensures full { OnErr result (IfSome (R.left reader.old) (λ bytes.
+        vec_capacity text.old < length bytes)) }
 {
     text.clear();
-    match reader.take(LIMIT + 1).read_to_end(text) {
-        Ok(_) if text.len() as u64 > LIMIT => Ok(Err(Refusal::TooLong)),
-        Ok(_) => Ok(Ok(())),
-        Err(error) if error.kind() == ErrorKind::OutOfMemory => Err(AllocError),
-        Err(_) => Ok(Err(Refusal::Read)),
+    let mut batch = [0; BATCH];
+    while text.len() as u64 <= LIMIT {
+        let Ok(count) = reader.read(&mut batch) else {
+            return Ok(Err(Refusal::Read));
+        };
+        if count == 0 {
+            return Ok(Ok(()));
+        }
+        text.extend_from_slice(&batch[..count])?;
     }
+    Ok(Err(Refusal::TooLong))
 }
 
 /// Whether a file begins as a private key file does. It is read from its start afterwards.

@@ -4,6 +4,7 @@ use crate::loading::{begins_private, open, read, refusal_of};
 use crate::screen::Screen;
 use crate::stop::Stop;
 use audit_tree::{Reading, Summary, is_audited, path_in, reading_of, sort_names};
+use byte_streams::{FromRead, Source};
 use krl_audit::{Auditor, Refusal, Stated, visible_name};
 use std::alloc::AllocError;
 use std::fs::{self, Files};
@@ -109,7 +110,9 @@ impl<'a, 'q, 'w> Rounds<'a, 'q, 'w> {
     }
 
     // The names of a directory that may be read, in their order. A link to a directory is followed
-    // where it has a slash at its end, which one gets that is named.
+    // where it has a slash at its end, which one gets that is named. Never inlined, so that the
+    // stack holds one buffer, and not one for each directory that is entered.
+    #[inline(never)]
     fn names_in(
         &mut self,
         path: &str,
@@ -122,21 +125,43 @@ impl<'a, 'q, 'w> Rounds<'a, 'q, 'w> {
             Ok(directory) => directory,
             Err(error) => return Ok(Err(refusal_of(&error))),
         };
-        let Ok(entries) = BufReader::with_capacity(alloc, BUFFER, directory) else {
-            return Err(AllocError);
-        };
         let mut names = Vec::new(alloc);
-        for name in entries.split(alloc, 0) {
-            let Ok(name) = name else {
-                return Ok(Err(Refusal::Read));
-            };
-            if self.is_wanted(path, name.as_slice())? {
-                names.push(name)?;
+        let mut name = Vec::new(alloc);
+        let mut reader = FromRead::new(directory);
+        let mut batch = [0; BUFFER];
+        // A bound that no directory reaches, so that this ends whatever the system returns.
+        for _ in 0..u64::MAX {
+            match reader.read(&mut batch) {
+                Ok(0) => break,
+                Ok(count) => self.take_names(path, &batch[..count], &mut name, &mut names)?,
+                Err(_) => return Ok(Err(Refusal::Read)),
             }
-            self.show();
         }
         sort_names(&mut names);
         Ok(Ok(names))
+    }
+
+    // Appends the names that may be read from some bytes of a directory. A zero byte ends each name,
+    // and the last one may continue in the bytes that follow.
+    fn take_names(
+        &mut self,
+        path: &str,
+        bytes: &[u8],
+        name: &mut Vec<u8>,
+        names: &mut Vec<Vec<u8>>,
+    ) -> Result<(), AllocError> {
+        for byte in bytes {
+            if *byte != 0 {
+                name.push(*byte)?;
+                continue;
+            }
+            let ended = mem::replace(name, Vec::new(self.rt.alloc()));
+            if self.is_wanted(path, ended.as_slice())? {
+                names.push(ended)?;
+            }
+            self.show();
+        }
+        Ok(())
     }
 
     // Whether a name of a directory may be read: by its name, or since it is a directory or cannot
@@ -214,7 +239,7 @@ impl<'a, 'q, 'w> Rounds<'a, 'q, 'w> {
             Err(_) => return self.audit(path, Err(Refusal::Read)),
         }
         let mut text = self.take_buffer();
-        match read(file, &mut text)? {
+        match read(&mut FromRead::new(file), &mut text)? {
             Ok(()) if !is_audited(name.as_bytes(), text.as_slice()) => {}
             Ok(()) => self.audit(path, Ok(text.as_slice()))?,
             Err(refusal) => self.audit(path, Err(refusal))?,
@@ -234,7 +259,7 @@ impl<'a, 'q, 'w> Rounds<'a, 'q, 'w> {
     // Audits what a reader gives.
     fn audit_read<'s, R: Read + Drop>(&mut self, name: &str, reader: R) -> Result<(), Stop<'s>> {
         let mut text = self.take_buffer();
-        match read(reader, &mut text)? {
+        match read(&mut FromRead::new(reader), &mut text)? {
             Ok(()) => self.audit(name, Ok(text.as_slice()))?,
             Err(refusal) => self.audit(name, Err(refusal))?,
         }
