@@ -3,8 +3,8 @@ use Rattle.std.specs.Prelude.{ℕ, ◌||◌, Bool, true, false, List, codes, nat
 use Rattle.std.specs.List.{ends_with, starts_with}
 use Rattle.std.specs.Str.{bytes_eq}
 use Rattle.key_text.specs.Armour.{begins_container}
-use Rattle.audit_tree.specs.declared.names.Reading.{Reading}
-use Rattle.audit_tree.specs.declared.names.Reading.TheVariants as readings
+use Rattle.audit_tree.specs.declared.names.Selection.{Selection}
+use Rattle.audit_tree.specs.declared.names.Selection.TheVariants as selections
 
 -- the name of a file of public keys
 abbrev pub is_key_name : List ℕ → Bool
@@ -21,16 +21,16 @@ abbrev pub is_private_name : List ℕ → Bool
 is_private_name name =
     starts_with nat_eq name (codes "id_") || starts_with nat_eq name (codes "ssh_host_")
 
-abbrev pub reading_of : List ℕ → Reading
-reading_of name =
-    if is_key_name name then readings.Always
-    else if is_private_name name then readings.IfPrivate else readings.Never
+abbrev pub selection_of : List ℕ → Selection
+selection_of name =
+    if is_key_name name then selections.Always
+    else if is_private_name name then selections.IfPrivate else selections.Never
 
-abbrev pub is_audited_as : Reading → List ℕ → Bool
-is_audited_as readings.Always text = true
-is_audited_as readings.IfPrivate text = begins_container text
-is_audited_as readings.Never text = false
+abbrev pub is_audited_as : Selection → List ℕ → Bool
+is_audited_as selections.Always text = true
+is_audited_as selections.IfPrivate text = begins_container text
+is_audited_as selections.Never text = false
 
 -- Whether a file of a directory is audited depends on its name, or on its name and its first line.
 abbrev pub is_audited : (name text : List ℕ) → Bool
-is_audited name text = is_audited_as (reading_of name) text
+is_audited name text = is_audited_as (selection_of name) text

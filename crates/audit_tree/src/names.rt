@@ -1,13 +1,13 @@
 //! Which files of a directory are read (krl(1), FILES THAT ARE READ).
 
 ghost use Rattle.std.specs.Prelude.{◌≡◌};
-ghost use Rattle.audit_tree.specs.Names.{is_audited, is_key_name, is_private_name, reading_of};
+ghost use Rattle.audit_tree.specs.Names.{is_audited, is_key_name, is_private_name, selection_of};
 
 use key_text::is_container;
 
 /// Whether a file of a directory is read, by its name.
 #[derive(Clone, Copy, PartialEq, Eq)]
-pub enum Reading {
+pub enum Selection {
     /// It is read.
     Always,
     /// It is read if its first line is that of a private key file.
@@ -17,15 +17,15 @@ pub enum Reading {
 }
 
 /// Returns whether a file of this name is read.
-pub fn reading_of(name: &[u8]) -> Reading
-    ensures { result ≡ reading_of name.now }
+pub fn selection_of(name: &[u8]) -> Selection
+    ensures { result ≡ selection_of name.now }
 {
     if is_key_name(name) {
-        Reading::Always
+        Selection::Always
     } else if is_private_name(name) {
-        Reading::IfPrivate
+        Selection::IfPrivate
     } else {
-        Reading::Never
+        Selection::Never
     }
 }
 
@@ -33,10 +33,10 @@ pub fn reading_of(name: &[u8]) -> Reading
 pub fn is_audited(name: &[u8], text: &[u8]) -> bool
     ensures { result ≡ is_audited name.now text.now }
 {
-    match reading_of(name) {
-        Reading::Always => true,
-        Reading::IfPrivate => is_container(text),
-        Reading::Never => false,
+    match selection_of(name) {
+        Selection::Always => true,
+        Selection::IfPrivate => is_container(text),
+        Selection::Never => false,
     }
 }
 

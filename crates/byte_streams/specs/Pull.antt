@@ -48,8 +48,8 @@ front_of None buffered room = take room buffered
 front_of (Some byte) buffered room = []
 
 -- the bytes that can be taken now, within the limit
-abbrev pub at_hand : Pull → List ℕ
-at_hand pull = front_of pull.ahead pull.buffered (pull.limit - pull.taken)
+abbrev pub available : Pull → List ℕ
+available pull = front_of pull.ahead pull.buffered (pull.limit - pull.taken)
 
 -- The field was taken: it is the next bytes, within the limit.
 pub record Takes (old : Pull) (field : List ℕ) (new : Pull) : Type 0 where

@@ -11,7 +11,7 @@ use crate::device::Source;
 use ssh_wire::PullFault;
 
 // How many bytes are read at a time, so that a false length takes no memory.
-const CHUNK: usize = 256;
+const BATCH: usize = 256;
 
 // Fills a slice with the byte that was looked at and with what the reader gives. Returns
 // `EndsEarly` if the reader ends first, and `Read` if it fails.
@@ -111,11 +111,11 @@ pub(crate) fn refusal<R: Source>(
         (pull_of (R.left reader.new) (R.has_failed reader.new) ahead.new taken limit) }
     ensures memory { result ≢ NoMemory }
 {
-    let mut chunk = [0; CHUNK];
+    let mut batch = [0; BATCH];
     let mut at = taken;
     while at < limit {
-        let part = (limit - at).min(CHUNK as u64) as usize;
-        match fill(reader, ahead, &mut chunk[..part]) {
+        let part = (limit - at).min(BATCH as u64) as usize;
+        match fill(reader, ahead, &mut batch[..part]) {
             Ok(()) => at += part as u64,
             Err(fault) => return fault,
         }
@@ -146,14 +146,14 @@ pub(crate) fn fill_vec<R: Source>(
         (pull_of (R.left reader.new) (R.has_failed reader.new) ahead.new taken limit)) }
     ensures full { result ≡ Err NoMemory → vec_capacity out.old < size }
 {
-    let mut chunk = [0; CHUNK];
+    let mut batch = [0; BATCH];
     while out.len() < size {
-        let part = (size - out.len()).min(CHUNK);
+        let part = (size - out.len()).min(BATCH);
         if out.reserve(part).is_err() {
             return Err(PullFault::NoMemory);
         }
-        fill(reader, ahead, &mut chunk[..part])?;
-        if out.extend_from_slice(&chunk[..part]).is_err() {
+        fill(reader, ahead, &mut batch[..part])?;
+        if out.extend_from_slice(&batch[..part]).is_err() {
             return Err(PullFault::NoMemory);
         }
     }

@@ -2,7 +2,7 @@
 
 ghost use Rattle.std.specs.Prelude.{◌≡◌, ◌≢◌, ◌<◌, ◌∷◌, [], None, Err, length, IfOk, IfErr};
 ghost use Rattle.std.specs.Prelude.{OnOk, OnErr, ◌+◌, ◌≤◌, false, take, vec_capacity, vec_len};
-ghost use Rattle.byte_streams.specs.Pull.{at_hand, Looks, Refuses, RefusesAgain, RefusesRest};
+ghost use Rattle.byte_streams.specs.Pull.{available, Looks, Refuses, RefusesAgain, RefusesRest};
 ghost use Rattle.byte_streams.specs.Pull.{Takes, TakesRest, untaken};
 ghost use Rattle.ssh_wire.specs.declared.pull_fault.PullFault.TheVariants.{NoMemory, Read};
 
@@ -115,7 +115,7 @@ impl<R: Source + Drop> Pull<R> {
     /// They come next.
     #[inline(always)]
     pub fn buffer(&self) -> &[u8]
-        ensures { result.now ≡ at_hand self.now }
+        ensures { result.now ≡ available self.now }
     {
         if self.ahead.is_some() {
             return &[];
@@ -132,9 +132,9 @@ impl<R: Source + Drop> Pull<R> {
     /// Takes bytes from the front of those that `buffer` returns. No fault may have been met.
     #[inline(always)]
     pub fn consume(&mut self, count: usize)
-        requires there { count ≤ length (at_hand self.old) }
+        requires there { count ≤ length (available self.old) }
         requires faultless { self.old.fault ≡ None }
-        ensures { Takes self.old (take count (at_hand self.old)) self.new }
+        ensures { Takes self.old (take count (available self.old)) self.new }
     {
         self.reader.consume(count);
         self.taken += count as u64;

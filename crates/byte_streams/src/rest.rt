@@ -12,7 +12,7 @@ use crate::filling::look;
 use ssh_wire::PullFault;
 
 // How many bytes are read at a time.
-const CHUNK: usize = 65_536;
+const BATCH: usize = 65_536;
 
 // Reads into the front of a slice that has room: the byte that was looked at, or otherwise what one
 // read gives.
@@ -57,16 +57,16 @@ pub(crate) fn fill_rest<R: Source>(
         (pull_of (R.left reader.old) false ahead.old taken limit) fault
         (pull_of (R.left reader.new) (R.has_failed reader.new) ahead.new taken limit)) }
 {
-    let mut chunk = [0; CHUNK];
+    let mut batch = [0; BATCH];
     while (out.len() as u64) < room {
-        let part = (room - out.len() as u64).min(CHUNK as u64) as usize;
-        let Ok(count) = read_on(reader, ahead, &mut chunk[..part]) else {
+        let part = (room - out.len() as u64).min(BATCH as u64) as usize;
+        let Ok(count) = read_on(reader, ahead, &mut batch[..part]) else {
             return Err(PullFault::Read);
         };
         if count == 0 {
             return Ok(());
         }
-        if out.extend_from_slice(&chunk[..count]).is_err() {
+        if out.extend_from_slice(&batch[..count]).is_err() {
             return Err(PullFault::NoMemory);
         }
     }

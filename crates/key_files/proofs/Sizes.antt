@@ -7,7 +7,7 @@ use Rattle.std.proofs.lemmas.List.Sums.{sum_by-cons}
 use Rattle.ssh_wire.specs.Wire.{IsBytes}
 use Rattle.key_text.specs.ContainerReading.{Opened, private_at}
 use Rattle.key_text.specs.KeyFile.{has_key}
-use Rattle.key_text.specs.LineReading.{Content, line_at}
+use Rattle.key_text.specs.LineReading.{KeyLine, line_at}
 use Rattle.key_text.specs.Lines.{is_newline}
 use Rattle.key_text.specs.declared.line_fault.LineFault.{LineFault}
 use Rattle.key_text.specs.declared.private_fault.PrivateFault.{PrivateFault}
@@ -18,7 +18,7 @@ use Rattle.key_text.proofs.Sizes.{container_room, line_room, split_room}
 use Rattle.key_files.specs.Keys.{key_in, key_of_container, key_of_line, keys_from}
 use Rattle.key_files.specs.Sizes.{key_room, keys_room}
 
-line_key_room : (name : List ℕ) (number : ℕ) (line : List ℕ) (read : Result Content LineFault) → IsBytes line → line_at line ≡ read
+line_key_room : (name : List ℕ) (number : ℕ) (line : List ℕ) (read : Result KeyLine LineFault) → IsBytes line → line_at line ≡ read
     → key_room (key_of_line name number read) ≤ 3 * length line
 line_key_room name number line (Err fault) fits e = omega arith
 line_key_room name number line (Ok content) fits e =

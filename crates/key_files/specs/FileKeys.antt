@@ -3,7 +3,7 @@ use Rattle.std.specs.Prelude.{◌≡◌, ℕ, ◌+◌, ◌^◌, ◌<◌, List, [
 use Rattle.std.specs.Prelude.{Result, Err}
 use Rattle.std.specs.Borrow.{Bor}
 use Rattle.key_text.specs.ContainerReading.{private_at}
-use Rattle.key_text.specs.LineReading.{Content, content_of, line_at}
+use Rattle.key_text.specs.LineReading.{KeyLine, content_of, line_at}
 use Rattle.key_text.specs.Lines.{lines_left}
 use Rattle.key_files.specs.declared.file_keys.KeyText.{KeyText}
 use Rattle.key_files.specs.declared.file_keys.KeyText.TheVariants.{Line, Container}
@@ -15,7 +15,7 @@ use Rattle.key_files.specs.Keys.{FileKey, key_of_container, held_by, keys_from, 
 use Rattle.key_files.specs.RunFault.{RunFault, run_fault_of}
 
 -- the content of the line or the container of a key
-abbrev pub content_in : KeyText → Content
+abbrev pub content_in : KeyText → KeyLine
 content_in (Line line) = content_of line
 content_in (Container private) = held_by (record { blob = private.blob; comment = private.comment })
 

@@ -6,7 +6,7 @@ use Rattle.std.specs.Option.{option_to_list}
 use Rattle.key_text.specs.KeyFile.{has_key}
 use Rattle.key_text.specs.Armour.{begins_container}
 use Rattle.key_text.specs.ContainerReading.{Opened, private_at}
-use Rattle.key_text.specs.LineReading.{Content, content, line_at}
+use Rattle.key_text.specs.LineReading.{KeyLine, content, line_at}
 use Rattle.key_text.specs.declared.line_fault.LineFault.{LineFault}
 use Rattle.key_text.specs.declared.private_fault.PrivateFault.{PrivateFault}
 use Rattle.ssh_cert.specs.declared.subject_fault.SubjectFault.{SubjectFault}
@@ -31,17 +31,17 @@ run_fault_at name number cause = record { name = name; line = Some number; cause
 pub record FileKey : Type 0 where
   pub name : List ℕ
   pub number : Option ℕ
-  pub line : Content
+  pub line : KeyLine
 
-abbrev pub file_key_of : List ℕ → Option ℕ → Content → FileKey
+abbrev pub file_key_of : List ℕ → Option ℕ → KeyLine → FileKey
 file_key_of name number line = record { name = name; number = number; line = line }
 
 -- the content of a container, like that of a line without a type word
-abbrev pub held_by : Opened → Content
+abbrev pub held_by : Opened → KeyLine
 held_by opened = content [] opened.blob opened.comment
 
 -- the key of a line that has one, or why the file stops there
-abbrev pub key_of_line : List ℕ → ℕ → Result Content LineFault → Result FileKey RunFault
+abbrev pub key_of_line : List ℕ → ℕ → Result KeyLine LineFault → Result FileKey RunFault
 key_of_line name number (Err fault) = Err (run_fault_at name number (causes.Line fault))
 key_of_line name number (Ok line) = Ok (file_key_of name (Some number) line)
 

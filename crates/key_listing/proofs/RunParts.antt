@@ -5,7 +5,7 @@ use Rattle.std.proofs.KnownBytes.{Appends-nil}
 use Rattle.std.proofs.lemmas.List.{append-nil}
 use Rattle.key_listing.specs.declared.answer.Answer.{Answer}
 use Rattle.key_listing.specs.Carries.{Carries, IsEnded, Reaches}
-use Rattle.key_listing.specs.Printer.{Printer, HasSaid, Sends, and_answer, chunk, nothing_printed}
+use Rattle.key_listing.specs.Printer.{Printer, HasSaid, Sends, and_answer, batch, nothing_printed}
 use Rattle.key_listing.specs.Run.{Item, Answered, Passed, Stopped, IsWithheld}
 use Rattle.key_files.specs.RunFault.{RunFault, EndedBy, ByOutput, ByMemory, ByInput, ended_by}
 use Rattle.key_listing.proofs.PrintedItems.{added, passed, sent_all, sent_part}
@@ -74,14 +74,14 @@ pub carries_lost : {A : Type 0} (items : List Item) (result : Result A RunFault)
 carries_lost items result now failed = record { says = λ before said has. let working = has.added.working in absurd cc; writer = refl }
 
 -- an answer that waits
-pub carries_added : {A : Type 0} (value : A) (name : List ℕ) (answer : Answer) (old : Printer) → length (and_answer old answer).waiting < chunk
+pub carries_added : {A : Type 0} (value : A) (name : List ℕ) (answer : Answer) (old : Printer) → length (and_answer old answer).waiting < batch
     → Carries (Answered name answer ∷ []) (Ok value) old (and_answer old answer)
 carries_added value name answer old short = record {
   says = λ before said has. record { added = added before said name answer old has.added; short = short };
   writer = refl;
 }
 
--- an answer that fills a chunk
+-- an answer that fills a batch
 pub carries_sent : {A : Type 0} (result : Result A RunFault) (name : List ℕ) (answer : Answer) (old new : Printer) → Sends result (and_answer old answer) new → new.writer ≡ old.writer
     → Carries (Answered name answer ∷ []) result old new
 carries_sent (Ok value) name answer old new sends writer = record {

@@ -10,7 +10,7 @@ use Rattle.ssh_key.specs.Key.{PublicKey}
 use Rattle.ssh_key.specs.Kind.{short_name_of}
 use Rattle.key_text.specs.declared.hash.Hash.{Hash}
 use Rattle.key_text.specs.Fingerprints.{fingerprint_text}
-use Rattle.key_text.specs.LineReading.{Content}
+use Rattle.key_text.specs.LineReading.{KeyLine}
 use Rattle.ssh_cert.specs.Escape.{escaped}
 use Rattle.key_files.specs.declared.file_fault.FileFault.TheVariants as files
 use Rattle.key_listing.specs.declared.answer.Answer.{Answer}
@@ -39,7 +39,7 @@ certificate_mark None = []
 certificate_mark (Some names) = codes "-CERT"
 
 -- the answer for a key, or for a certificate by its plain key
-abbrev pub description : Hash → Content → Subject → PublicKey → Answer
+abbrev pub description : Hash → KeyLine → Subject → PublicKey → Answer
 description hash line asked key =
     let print = fingerprint_text hash asked.plain in
     let kind = short_name_of key.kind ++ certificate_mark asked.cert in

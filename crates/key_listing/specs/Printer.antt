@@ -34,8 +34,8 @@ and_answer old answer =
     record old { waiting = old.waiting ++ answer.text; revoked = old.revoked || answer.revoked }
 
 -- the number of bytes of complete lines that are written together, except the last ones
-abbrev pub chunk : ℕ
-chunk = 65536
+abbrev pub batch : ℕ
+batch = 65536
 
 -- a count of bytes as it is reported: at most 2^64-1
 abbrev pub reported_count : ℕ → ℕ
@@ -78,10 +78,10 @@ pub record HasAdded (before : Option (List ℕ)) (items : List Item) (now : Prin
   pub revoked : now.revoked ≡ (outcome_of items).revoked
   pub working : now.failed ≡ false
 
--- It has printed them: less than a chunk waits.
+-- It has printed them: less than a batch waits.
 pub record HasSaid (before : Option (List ℕ)) (items : List Item) (now : Printer) : Type 0 where
   pub added : HasAdded before items now
-  pub short : length now.waiting < chunk
+  pub short : length now.waiting < batch
 
 -- A writer had taken some bytes before, and then a proper prefix of a text.
 pub record IsCut (text : List ℕ) (before after : Option (List ℕ)) (count : ℕ) : Type 0 where

@@ -6,7 +6,7 @@ use Rattle.ssh_key.specs.Key.{PublicKey}
 use Rattle.ssh_key.specs.KeyReading.{key_at}
 use Rattle.ssh_key.specs.declared.fault.KeyFault.{KeyFault}
 use Rattle.key_text.specs.ContainerReading.{Opened}
-use Rattle.key_text.specs.LineReading.{Content}
+use Rattle.key_text.specs.LineReading.{KeyLine}
 use Rattle.key_text.specs.declared.private_fault.PrivateFault.{PrivateFault}
 use Rattle.krl_types.specs.Subject.{Subject}
 use Rattle.ssh_cert.specs.SubjectReading.{subject_of}
@@ -38,7 +38,7 @@ name_of (Stopped stop) = stop.name
 pub record Answering : Type 0 where
   -- The answer for a key, or none, given the name of the file, the number of the line (a container
   -- has none), the content of the line, the subject of its blob, and the plain key.
-  pub say : List ℕ → Option ℕ → Content → Subject → PublicKey → Option Answer
+  pub say : List ℕ → Option ℕ → KeyLine → Subject → PublicKey → Option Answer
   -- the fault of a file that has no answer
   pub unanswered : FileFault
 

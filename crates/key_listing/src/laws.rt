@@ -11,7 +11,7 @@ ghost use Rattle.key_text.specs.declared.hash.Hash.{Hash};
 ghost use Rattle.key_text.specs.KeyFile.{has_key};
 ghost use Rattle.key_text.specs.KeyLine.{IsKeyLine};
 ghost use Rattle.key_text.specs.LineFaults.{IsFirstLineFault};
-ghost use Rattle.key_text.specs.LineReading.{Content, content};
+ghost use Rattle.key_text.specs.LineReading.{KeyLine, content};
 ghost use Rattle.key_text.specs.declared.line_fault.LineFault.{LineFault};
 ghost use Rattle.key_text.specs.declared.private_fault.PrivateFault.{PrivateFault};
 ghost use Rattle.ssh_cert.specs.SubjectReading.{IsSubject, IsSubjectFault};
@@ -40,14 +40,14 @@ pub fn items_by_what_is_spelled()
     ensures none { (answer : Answering) (name : List ℕ) (number : ℕ) (text : List ℕ)
         → has_key text ≡ false → item_of answer name number text ≡ None }
     ensures answered { (answer : Answering) (name : List ℕ) (number : ℕ) (text : List ℕ)
-        (line : Content) (asked : Subject) (key : PublicKey)
+        (line : KeyLine) (asked : Subject) (key : PublicKey)
         → has_key text ≡ true → SpellsKey text line asked key
         → item_of answer name number text
         ≡ Some (said name (answer.say name (Some number) line asked key)) }
     ensures only { (answer : Answering) (name : List ℕ) (number : ℕ) (text : List ℕ)
         (other : List ℕ) (reply : Answer) → IsBytes text
         → item_of answer name number text ≡ Some (Answered other reply)
-        → (line : Content) × (asked : Subject) × (key : PublicKey) × SpellsKey text line asked key
+        → (line : KeyLine) × (asked : Subject) × (key : PublicKey) × SpellsKey text line asked key
         × (Some reply ≡ answer.say name (Some number) line asked key) }
     ensures line_fault { (answer : Answering) (name : List ℕ) (number : ℕ) (text : List ℕ)
         (fault : LineFault) → IsBytes text → has_key text ≡ true → IsFirstLineFault text fault
@@ -95,7 +95,7 @@ pub fn certificates_by_what_is_spelled()
     ensures only { (hash : Hash) (moment : ℕ) (name : List ℕ) (number : ℕ) (text : List ℕ)
         (other : List ℕ) (reply : Answer) → IsBytes text
         → item_of (certify hash moment) name number text ≡ Some (Answered other reply)
-        → (line : Content) × (certificate : Cert)
+        → (line : KeyLine) × (certificate : Cert)
         × IsKeyLine text line.word line.blob line.comment × IsCertificate line.blob certificate
         × (reply ≡ listed_certificate hash moment name number certificate) }
 {

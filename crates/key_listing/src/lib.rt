@@ -5,18 +5,18 @@
 mod answer;
 mod answers;
 mod done;
+mod iteration;
 pub mod laws;
 mod listing;
 mod number;
 mod printer;
 mod run;
-mod walk;
 
 pub use answer::Answer;
 pub use answers::Answers;
 pub use done::{Done, FAILED};
+pub use iteration::print_files;
 pub use listing::{ListMode, list_run};
 pub use number::push_number;
 pub use printer::Printer;
 pub use run::Run;
-pub use walk::print_files;

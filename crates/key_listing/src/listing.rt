@@ -11,10 +11,10 @@ ghost use Rattle.key_listing.specs.Listing.{list_run_of, listing, location_part}
 use crate::answer::Answer;
 use crate::answers::Answers;
 use crate::done::Done;
+use crate::iteration::print_file;
 use crate::number::push_number;
 use crate::printer::Printer;
 use crate::run::Run;
-use crate::walk::print_file;
 use byte_streams::Sink;
 use cert_listing::list_cert;
 use key_files::{FileFault, FileKey, Named};

@@ -1,10 +1,10 @@
-//! The printer: it collects lines into chunks, and counts what the writer took.
+//! The printer: it collects lines into batches, and counts what the writer took.
 
 ghost use Rattle.std.specs.Prelude.{◌≡◌, ◌<◌, ◌↔◌, ℕ, IsTrue, List, [], ◌∷◌, MatchResult, Option};
 ghost use Rattle.std.specs.Prelude.{false, true, length, OnErr, OnOk};
 ghost use Rattle.key_listing.specs.Carries.{Carries, Reaches};
 ghost use Rattle.key_listing.specs.Done.{Ends};
-ghost use Rattle.key_listing.specs.Printer.{FailsAgain, Sends, and_answer, chunk, nothing_printed};
+ghost use Rattle.key_listing.specs.Printer.{FailsAgain, Sends, and_answer, batch, nothing_printed};
 ghost use Rattle.key_listing.specs.Run.{Answered, Item, status_of};
 ghost use Rattle.key_files.specs.RunFault.{is_lost, output_run_fault};
 
@@ -15,9 +15,9 @@ use std::alloc::AllocError;
 use std::marker::Model;
 
 // How many bytes of lines are written together, except the last ones.
-const CHUNK: usize = 65_536;
+const BATCH: usize = 65_536;
 
-/// A printer with its writer. Complete lines wait in a buffer until they fill a chunk. Once the
+/// A printer with its writer. Complete lines wait in a buffer until they fill a batch. Once the
 /// writer has failed, each call reports that fault again.
 #[derive(Drop)]
 pub struct Printer<'w, W: Sink> {
@@ -100,11 +100,11 @@ impl<'w, W: Sink> Printer<'w, W> {
         RunFault::whole("output", Cause::Output { count: self.sent })
     }
 
-    // Whether less than a chunk waits.
+    // Whether less than a batch waits.
     fn is_short(&self) -> bool
-        ensures { IsTrue result ↔ (length self.now.waiting < chunk) }
+        ensures { IsTrue result ↔ (length self.now.waiting < batch) }
     {
-        self.buffer.len() < CHUNK
+        self.buffer.len() < BATCH
     }
 
     // Adds lines to those that wait. An error changes nothing.

@@ -6,7 +6,7 @@ use Rattle.ssh_wire.specs.declared.fault.WireFault.{WireFault}
 use Rattle.key_text.specs.declared.line_fault.LineFault.{LineFault}
 use Rattle.key_text.specs.declared.line_fault.LineFault.TheVariants.{WordDiffers}
 use Rattle.key_text.specs.KeyLine.{HasWords, IsKeyLine, base64}
-use Rattle.key_text.specs.LineReading.{Content, checked, content, decoded, has_word, is_string, line_at}
+use Rattle.key_text.specs.LineReading.{KeyLine, checked, content, decoded, has_word, is_string, line_at}
 use Rattle.key_text.proofs.LineBase64.{decoded_again, decoded_takes}
 use Rattle.key_text.proofs.TextWords.{IsBytes-words, none_or_words, words_read}
 use Rattle.ssh_wire.specs.Wire.{BeginsWith, IsBytes}
@@ -38,14 +38,14 @@ word_takes word blob fits e =
 
 -- ---- reading returns only key lines
 
-checked_takes : (word : List ℕ) (read : Result (List ℕ) LineFault) (comment : List ℕ) (parts : Content) → checked word read comment ≡ Ok parts → (read ≡ Ok parts.blob) × (has_word word parts.blob ≡ true) × (content word parts.blob comment ≡ parts)
+checked_takes : (word : List ℕ) (read : Result (List ℕ) LineFault) (comment : List ℕ) (parts : KeyLine) → checked word read comment ≡ Ok parts → (read ≡ Ok parts.blob) × (has_word word parts.blob ≡ true) × (content word parts.blob comment ≡ parts)
 checked_takes word (Err fault) comment parts e = absurd cc
 checked_takes word (Ok blob) comment parts e =
     let g = passed_ok (has_word word blob) WordDiffers (content word blob comment) parts e in
-    let blobs : blob ≡ parts.blob = ap (λ (p : Content). p.blob) g.1 in
+    let blobs : blob ≡ parts.blob = ap (λ (p : KeyLine). p.blob) g.1 in
     (ap (λ (xs : List ℕ). Ok xs) blobs, sym (ap (has_word word) blobs) ∙ g.0, ap (λ (xs : List ℕ). content word xs comment) (sym blobs) ∙ g.1)
 
-pub line_found : (text : List ℕ) (parts : Content) → IsBytes text → line_at text ≡ Ok parts → IsKeyLine text parts.word parts.blob parts.comment
+pub line_found : (text : List ℕ) (parts : KeyLine) → IsBytes text → line_at text ≡ Ok parts → IsKeyLine text parts.word parts.blob parts.comment
 line_found text parts fits e = elim (none_or_words text) [
   | inl none ↦ absurd (ok_or_err parts _ (line_at text) e none)
   | inr has ↦
@@ -57,7 +57,7 @@ line_found text parts fits e = elim (none_or_words text) [
         bytes = blob.1;
         begins = word_takes has.word parts.blob blob.1 taken.1;
       } in
-      subst (λ (p : Content). IsKeyLine text p.word p.blob p.comment) taken.2 is
+      subst (λ (p : KeyLine). IsKeyLine text p.word p.blob p.comment) taken.2 is
 ]
 
 -- ---- reading reads each key line

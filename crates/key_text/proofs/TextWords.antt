@@ -11,7 +11,7 @@ use Rattle.key_text.specs.declared.line_fault.LineFault.TheVariants.{NoKey}
 use Rattle.key_text.specs.Blanks.{after_blanks, first_word, is_blank, trimmed}
 use Rattle.key_text.specs.KeyLine.{AreWords, AreWordsAfterOptions, HasWords}
 use Rattle.key_text.specs.LineFaults.{HasSomeWords}
-use Rattle.key_text.specs.LineReading.{Content, after_options, after_word, blob_at, checked, content_at, decoded, key_part, line_at, typed, part_after}
+use Rattle.key_text.specs.LineReading.{KeyLine, after_options, after_word, blob_at, checked, content_at, decoded, key_part, line_at, typed, part_after}
 use Rattle.key_text.specs.TypeName.{is_type_name}
 use Rattle.key_text.proofs.LineNames.{Contains-from_test, name_is_word, test-from_Contains}
 use Rattle.key_text.proofs.LineOptions.{options_again, options_take}
@@ -109,7 +109,7 @@ part_words line part found some = elim (cases_Bool (is_type_name (first_word lin
       })
 ]
 
-content_at-again : (read : Option (List ℕ)) (part word : List ℕ) (answer : Result Content LineFault) → read ≡ Some part → first_word part ≡ word → blob_at word (rest_of part) ≡ answer → content_at read ≡ answer
+content_at-again : (read : Option (List ℕ)) (part word : List ℕ) (answer : Result KeyLine LineFault) → read ≡ Some part → first_word part ≡ word → blob_at word (rest_of part) ≡ answer → content_at read ≡ answer
 content_at-again read part word answer found first e = ap content_at found ∙ ap (λ (w : List ℕ). blob_at w (rest_of part)) first ∙ e
 
 plain_again : (line word encoded comment : List ℕ) → AreWords line word encoded comment → content_at (key_part line) ≡ checked word (decoded encoded) comment

@@ -17,15 +17,15 @@ use Rattle.key_text.specs.Blanks.{is_blank, after_blanks, first_word, trimmed}
 use Rattle.key_text.specs.KeyLine.{backslash, quote}
 
 -- the contents of a line
-pub record Content : Type 0 where
+pub record KeyLine : Type 0 where
   pub word : List ℕ
   pub blob : List ℕ
   pub comment : List ℕ
 
-abbrev pub content : List ℕ → List ℕ → List ℕ → Content
+abbrev pub content : List ℕ → List ℕ → List ℕ → KeyLine
 content word blob comment = record { word = word; blob = blob; comment = comment }
 
-abbrev pub content_of : Line → Content
+abbrev pub content_of : Line → KeyLine
 content_of line = content line.word.now line.blob line.comment.now
 
 -- A fault is the one that reading gives, or `NoMemory`. If there is no key, nothing was allocated.
@@ -39,11 +39,11 @@ ReportsFault WordDiffers read = read ≡ Err WordDiffers
 unfoldable pub after_word : List ℕ → List ℕ
 after_word text = drop (prefix_len (λ byte. not (is_blank byte)) text) text
 
--- whether the place after a byte is between quotes: a quote after a backslash changes nothing
+-- whether the position after a byte is between quotes: a quote after a backslash changes nothing
 abbrev pub quoted_after : Bool → Bool → ℕ → Bool
 quoted_after quoted escaped byte = if (byte == quote) && not escaped then not quoted else quoted
 
--- The rest after an options field. The place is between quotes or not, and after a backslash or
+-- The rest after an options field. The position is between quotes or not, and after a backslash or
 -- not.
 unfoldable pub after_options : Bool → Bool → List ℕ → Option (List ℕ)
 after_options quoted escaped [] = if quoted then None else Some []
@@ -79,20 +79,20 @@ is_string word (Ok (first, rest)) = bytes_eq word first
 unfoldable pub has_word : List ℕ → List ℕ → Bool
 has_word word blob = is_string word (string_at blob)
 
-abbrev pub checked : List ℕ → Result (List ℕ) LineFault → List ℕ → Result Content LineFault
+abbrev pub checked : List ℕ → Result (List ℕ) LineFault → List ℕ → Result KeyLine LineFault
 checked word (Err fault) comment = Err fault
 checked word (Ok blob) comment =
     if has_word word blob then Ok (content word blob comment) else Err WordDiffers
 
 -- the base64 word and the comment, after the type word
-unfoldable pub blob_at : List ℕ → List ℕ → Result Content LineFault
+unfoldable pub blob_at : List ℕ → List ℕ → Result KeyLine LineFault
 blob_at word [] = Err NoKey
 blob_at word (byte ∷ bytes) =
     checked word (decoded (first_word (byte ∷ bytes))) (after_blanks (after_word (byte ∷ bytes)))
 
-abbrev pub content_at : Option (List ℕ) → Result Content LineFault
+abbrev pub content_at : Option (List ℕ) → Result KeyLine LineFault
 content_at None = Err NoKey
 content_at (Some part) = blob_at (first_word part) (after_blanks (after_word part))
 
-unfoldable pub line_at : List ℕ → Result Content LineFault
+unfoldable pub line_at : List ℕ → Result KeyLine LineFault
 line_at text = content_at (key_part (trimmed text))

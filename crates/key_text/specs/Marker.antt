@@ -7,7 +7,7 @@ use Rattle.key_text.specs.declared.marker.Marker.{Marker}
 use Rattle.key_text.specs.declared.marker.Marker.TheVariants as markers
 use Rattle.key_text.specs.Blanks.{AreBlanks, BeginsWithNoBlank, first_word, trimmed}
 use Rattle.key_text.specs.KeyLine.{IsKeyLine}
-use Rattle.key_text.specs.LineReading.{Content, after_word, line_at}
+use Rattle.key_text.specs.LineReading.{KeyLine, after_word, line_at}
 
 abbrev pub marker_in : (word : List ℕ) → Option Marker
 marker_in word =
@@ -23,7 +23,7 @@ unfoldable pub unmarked : List ℕ → List ℕ
 unmarked text = if is_some (marker_of text) then after_word (trimmed text) else text
 
 -- the result of reading a line that may have a marker
-abbrev pub marked_line_at : List ℕ → Result Content LineFault
+abbrev pub marked_line_at : List ℕ → Result KeyLine LineFault
 marked_line_at text = line_at (unmarked text)
 
 abbrev pub marker_word : Marker → List ℕ

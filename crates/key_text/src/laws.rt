@@ -11,7 +11,7 @@ ghost use Rattle.key_text.specs.FingerprintReading.{fingerprint_at};
 ghost use Rattle.key_text.specs.Fingerprints.{fingerprint_text};
 ghost use Rattle.key_text.specs.KeyLine.{IsKeyLine, base64};
 ghost use Rattle.key_text.specs.LineFaults.{IsFirstLineFault};
-ghost use Rattle.key_text.specs.LineReading.{Content, content, line_at};
+ghost use Rattle.key_text.specs.LineReading.{KeyLine, content, line_at};
 ghost use Rattle.key_text.specs.Marker.{IsMarkedLine, marked_line_at, marker_of};
 ghost use Rattle.key_text.specs.declared.marker.Marker.{Marker as MarkerOf};
 ghost use Rattle.key_text.specs.declared.fingerprint_fault.FingerprintFault.{FingerprintFault};
@@ -24,7 +24,7 @@ ghost use Rattle.ssh_wire.specs.Wire.{IsBytes};
 pub fn line_read_where_spelled()
     ensures read { (text word blob comment : List ℕ) → IsKeyLine text word blob comment
         → line_at text ≡ Ok (content word blob comment) }
-    ensures spelled { (text : List ℕ) (line : Content) → IsBytes text → line_at text ≡ Ok line
+    ensures spelled { (text : List ℕ) (line : KeyLine) → IsBytes text → line_at text ≡ Ok line
         → IsKeyLine text line.word line.blob line.comment }
 {}
 

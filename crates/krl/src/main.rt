@@ -15,17 +15,17 @@ use crate::check::check;
 use crate::ending::{fail, print_refusal, refuse};
 use key_files::{Cause, FileFault};
 use krl_arguments::{CommandFault, Task, task_of};
-use krl_system::{NOTHING, hold_places};
+use krl_system::{NOTHING, open_placeholders};
 use std::env;
 use std::io::{self, ErrorKind};
 use std::process::ExitCode;
 
-// Runs the program, with the places of closed standard streams held.
+// Runs the program, with placeholders for closed standard streams.
 fn main(rt: HostRuntime) -> ExitCode {
-    let status = match hold_places(&rt) {
-        Ok(places) => {
+    let status = match open_placeholders(&rt) {
+        Ok(placeholders) => {
             let status = run(&rt);
-            drop(places);
+            drop(placeholders);
             status
         }
         Err(_) => fail(&rt, NOTHING, Cause::File(FileFault::Open)),

@@ -3,7 +3,7 @@
 use crate::loading::{begins_private, open, read, refusal_of};
 use crate::screen::Screen;
 use crate::stop::Stop;
-use audit_tree::{Reading, Summary, is_audited, path_in, reading_of, sort_names};
+use audit_tree::{Selection, Summary, is_audited, path_in, selection_of, sort_names};
 use byte_streams::{FromRead, Source};
 use krl_audit::{Auditor, Refusal, Stated, visible_name};
 use std::alloc::AllocError;
@@ -170,7 +170,7 @@ impl<'a, 'q, 'w> Rounds<'a, 'q, 'w> {
         if name == b".".as_slice() || name == b"..".as_slice() {
             return Ok(false);
         }
-        if reading_of(name) != Reading::Never {
+        if selection_of(name) != Selection::Never {
             return Ok(true);
         }
         let Ok(name) = str::from_utf8(name) else {
@@ -194,7 +194,7 @@ impl<'a, 'q, 'w> Rounds<'a, 'q, 'w> {
         };
         let path = path_in(alloc, path, name)?;
         // Another file is not among the names that may be read.
-        if reading_of(name.as_bytes()) == Reading::Never {
+        if selection_of(name.as_bytes()) == Selection::Never {
             return Ok(Some(path));
         }
         match fs::symlink_metadata(self.rt, path.as_str()) {
@@ -212,7 +212,7 @@ impl<'a, 'q, 'w> Rounds<'a, 'q, 'w> {
         match fs::metadata(self.rt, path) {
             Ok(found) if found.is_dir() => Ok(()),
             Ok(found) if found.is_file() => self.audit_by_name(path, name),
-            Ok(_) if reading_of(name.as_bytes()) != Reading::Always => Ok(()),
+            Ok(_) if selection_of(name.as_bytes()) != Selection::Always => Ok(()),
             Ok(_) => self.audit(path, Err(Refusal::Irregular)),
             Err(error) => self.audit(path, Err(refusal_of(&error))),
         }
@@ -220,10 +220,10 @@ impl<'a, 'q, 'w> Rounds<'a, 'q, 'w> {
 
     // Audits a file that was found in a directory, if its name says so.
     fn audit_by_name<'s>(&mut self, path: &str, name: &str) -> Result<(), Stop<'s>> {
-        match reading_of(name.as_bytes()) {
-            Reading::Always => self.audit_file(path),
-            Reading::IfPrivate => self.audit_if_private(path, name),
-            Reading::Never => Ok(()),
+        match selection_of(name.as_bytes()) {
+            Selection::Always => self.audit_file(path),
+            Selection::IfPrivate => self.audit_if_private(path, name),
+            Selection::Never => Ok(()),
         }
     }
 

@@ -10,7 +10,7 @@ use Rattle.key_listing.specs.Printer.{Printer}
 use Rattle.krl_types.specs.Subject.{Subject}
 use Rattle.krl_entries.specs.declared.reasons.Reasons.{Reasons}
 use Rattle.krl_audit.specs.Audit.{Told, ToldFile, file_items, file_kinds, first_number, keyless, or_whole}
-use Rattle.krl_audit.specs.Outcome.{Blank, Key, Outcome, Unread, opened_at, outcome_of, outcomes, private_outcome, without_mark}
+use Rattle.krl_audit.specs.Outcome.{Empty, Key, Outcome, Unread, opened_at, outcome_of, outcomes, private_outcome, without_mark}
 use Rattle.krl_audit.specs.declared.counts.Counts.{Counts}
 use Rattle.krl_audit.specs.declared.judge.Shown.{Shown}
 use Rattle.krl_audit.specs.declared.why.Refusal.{Refusal}
@@ -29,7 +29,7 @@ plain_lines text begins = rw begins refl
 
 one_is_not_many : (line : Outcome) → keyless (line ∷ []) ≡ None
 unfolding keyless
-one_is_not_many Blank = refl
+one_is_not_many Empty = refl
 one_is_not_many (Key found) = refl
 one_is_not_many (Unread why) = refl
 

@@ -68,7 +68,7 @@ verdict_painted : (location tail : List ℕ) (revoked : Bool) → HasNoEscape lo
 verdict_painted location tail true before after = one_word location tail (codes "31") (codes "revoked") before refl after
 verdict_painted location tail false before after = one_word location tail (codes "32") (codes "ok") before refl after
 
--- ---- the place, and the comment
+-- ---- the location, and the comment
 
 number_free : (number : ℕ) (some : Bool) → number < 2 ^ 64 → HasNoEscape (if some then codes ":" ++ decimal number else [])
 number_free number true small = free_append (codes ":") (decimal number) refl (decimal_free number small)

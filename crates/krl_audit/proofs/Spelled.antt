@@ -6,7 +6,7 @@ use Rattle.ssh_wire.specs.Wire.{IsBytes}
 use Rattle.ssh_wire.proofs.Digits.{IsBytes-drop, IsBytes-take}
 use Rattle.key_text.specs.Blanks.{after_blanks, before_ending, is_blank, is_ending, trimmed}
 use Rattle.key_text.specs.KeyFile.{has_key}
-use Rattle.key_text.specs.LineReading.{Content, after_word, line_at}
+use Rattle.key_text.specs.LineReading.{KeyLine, after_word, line_at}
 use Rattle.key_text.specs.Marker.{marked_line_at, marker_of, unmarked}
 use Rattle.key_text.specs.declared.line_fault.LineFault.{LineFault}
 use Rattle.key_text.specs.declared.marker.Marker.{Marker}
@@ -17,19 +17,19 @@ use Rattle.krl_entries.proofs.ReasonTests.{any_is_revoked}
 use Rattle.krl_entries.proofs.RevokedTests.{revoked_tested}
 use Rattle.krl_audit.specs.Audit.{kind_of}
 use Rattle.krl_audit.specs.Front.{front_of}
-use Rattle.krl_audit.specs.Outcome.{Blank, Found, Key, Unread, line_outcome, outcome_of}
+use Rattle.krl_audit.specs.Outcome.{Empty, Found, Key, Unread, line_outcome, outcome_of}
 use Rattle.krl_audit.specs.declared.why.Why.TheVariants.{Line}
 use Rattle.krl_audit.specs.declared.counts.LineKind.TheVariants as kinds
 
-pub nothing_there : (text : List ℕ) → has_key text ≡ false → outcome_of text ≡ Blank
+pub nothing_there : (text : List ℕ) → has_key text ≡ false → outcome_of text ≡ Empty
 unfolding outcome_of
 nothing_there text has = rw has refl
 
-pub plain_read : (text : List ℕ) (read : Result Content LineFault) → has_key text ≡ true → marker_of text ≡ None → line_at text ≡ read → outcome_of text ≡ line_outcome None (front_of text) read
+pub plain_read : (text : List ℕ) (read : Result KeyLine LineFault) → has_key text ≡ true → marker_of text ≡ None → line_at text ≡ read → outcome_of text ≡ line_outcome None (front_of text) read
 unfolding outcome_of unmarked
 plain_read text read has none is = rw (has, none) (ap (line_outcome None (front_of text)) is)
 
-pub marked_read : (text : List ℕ) (marker : Marker) (read : Result Content LineFault) → has_key text ≡ true → marker_of text ≡ Some marker → marked_line_at text ≡ read → outcome_of text ≡ line_outcome (Some marker) (front_of (unmarked text)) read
+pub marked_read : (text : List ℕ) (marker : Marker) (read : Result KeyLine LineFault) → has_key text ≡ true → marker_of text ≡ Some marker → marked_line_at text ≡ read → outcome_of text ≡ line_outcome (Some marker) (front_of (unmarked text)) read
 unfolding outcome_of
 marked_read text marker read has some is = rw (has, some) (ap (line_outcome (Some marker) (front_of (unmarked text))) is)
 

@@ -15,7 +15,7 @@ use Rattle.key_listing.specs.Run.{Item, Passed, said_of}
 use Rattle.krl_audit.specs.Counts.{all_counted, audit_status}
 use Rattle.json_lines.specs.Field.{json_line}
 use Rattle.krl_audit.specs.Objects.{key_object, unread_object}
-use Rattle.krl_audit.specs.Outcome.{Blank, Found, Key, Outcome, Unread, outcomes}
+use Rattle.krl_audit.specs.Outcome.{Empty, Found, Key, Outcome, Unread, outcomes}
 use Rattle.krl_audit.specs.Text.{key_line, unread_line}
 use Rattle.krl_audit.specs.declared.counts.Counts.{Counts}
 use Rattle.krl_audit.specs.declared.counts.LineKind.{LineKind}
@@ -42,13 +42,13 @@ key_kind None revoked = revoked_or_fine revoked
 
 -- the kind of a line
 abbrev pub kind_of : (Subject → Reasons) → Outcome → LineKind
-kind_of reasons Blank = kinds.Blank
+kind_of reasons Empty = kinds.Empty
 kind_of reasons (Key found) = key_kind found.marker (any_reason (reasons found.asked))
 kind_of reasons (Unread why) = kinds.Unread
 
 -- whether a line of this kind is printed
 abbrev pub says : Shown → LineKind → Bool
-says shown kinds.Blank = false
+says shown kinds.Empty = false
 says shown kinds.Distrusted = false
 says shown kinds.Fine = shown.fine
 says shown kinds.Revoked = shown.findings
@@ -70,7 +70,7 @@ unread_said forms.Json name number why = json_line (unread_object name number wh
 
 -- the line that is printed for an outcome
 abbrev pub outcome_line : Form → (Subject → Reasons) → List ℕ → ℕ → Outcome → List ℕ
-outcome_line form reasons name number Blank = []
+outcome_line form reasons name number Empty = []
 outcome_line form reasons name number (Key found) =
     key_said form name number found (reasons found.asked)
 outcome_line form reasons name number (Unread why) = unread_said form name number why
@@ -101,7 +101,7 @@ more_unread more (Some count) = Some (more + count)
 -- the number of lines that are not read, or none if one has a key
 abbrev pub unread_alone : List Outcome → Option ℕ
 unread_alone [] = Some 0
-unread_alone (Blank ∷ lines) = unread_alone lines
+unread_alone (Empty ∷ lines) = unread_alone lines
 unread_alone (Key found ∷ lines) = None
 unread_alone (Unread why ∷ lines) = more_unread 1 (unread_alone lines)
 

@@ -6,7 +6,7 @@ use Rattle.krl_audit.specs.declared.counts.LineKind.{LineKind}
 use Rattle.krl_audit.specs.declared.counts.LineKind.TheVariants as kinds
 
 abbrev pub is_key : LineKind → Bool
-is_key kinds.Blank = false
+is_key kinds.Empty = false
 is_key kinds.Distrusted = true
 is_key kinds.Fine = true
 is_key kinds.Revoked = true

@@ -8,7 +8,7 @@ use Rattle.krl_types.specs.Subject.{Subject}
 use Rattle.key_text.specs.Armour.{begins_container}
 use Rattle.key_text.specs.ContainerReading.{Opened, opened_of, private_at}
 use Rattle.key_text.specs.KeyFile.{has_key}
-use Rattle.key_text.specs.LineReading.{Content}
+use Rattle.key_text.specs.LineReading.{KeyLine}
 use Rattle.key_text.specs.Lines.{is_newline}
 use Rattle.key_text.specs.Marker.{marked_line_at, marker_of, unmarked}
 use Rattle.key_text.specs.PublicHalf.{public_half_at}
@@ -34,7 +34,7 @@ pub record Found : Type 0 where
 
 pub data Outcome : Type 0 where
   -- it is blank or a comment
-  Blank : Outcome
+  Empty : Outcome
   Key : Found → Outcome
   Unread : Why → Outcome
 
@@ -51,7 +51,7 @@ asked_outcome marker front blob comment (Ok asked) =
     })
 asked_outcome marker front blob comment (Err fault) = Unread (whys.Subject fault)
 
-abbrev pub line_outcome : Option Marker → List ℕ → Result Content LineFault → Outcome
+abbrev pub line_outcome : Option Marker → List ℕ → Result KeyLine LineFault → Outcome
 line_outcome marker front (Ok line) =
     asked_outcome marker front line.blob line.comment (subject_of line.blob)
 line_outcome marker front (Err fault) = Unread (whys.Line fault)
@@ -60,7 +60,7 @@ line_outcome marker front (Err fault) = Unread (whys.Line fault)
 unfoldable pub outcome_of : List ℕ → Outcome
 outcome_of text =
     if has_key text
-    then line_outcome (marker_of text) (front_of (unmarked text)) (marked_line_at text) else Blank
+    then line_outcome (marker_of text) (front_of (unmarked text)) (marked_line_at text) else Empty
 
 -- ---- private key files
 
@@ -115,7 +115,7 @@ found_as found asked =
 
 -- The outcome is this one.
 abbrev pub GivesOutcome : Given → Outcome → Type 0
-GivesOutcome given.Blank outcome = outcome ≡ Blank
+GivesOutcome given.Empty outcome = outcome ≡ Empty
 GivesOutcome (given.Key found) outcome =
     (asked : Subject) × ((subject_of found.blob ≡ Ok asked)
     × (outcome ≡ Key (found_as found asked)))

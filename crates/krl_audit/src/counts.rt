@@ -6,8 +6,8 @@ ghost use Rattle.krl_audit.specs.Counts.{audit_status, counted, is_key, one_more
 /// The kind of a line.
 #[derive(Clone, Copy, PartialEq, Eq)]
 pub enum LineKind {
-    /// Blank, or a comment.
-    Blank,
+    /// Empty, or a comment.
+    Empty,
     /// A key that its line marks as revoked.
     Distrusted,
     /// A key that the list does not revoke.

@@ -71,8 +71,8 @@ impl<'q> Judge<'q> {
             location.entry.number given made.kind made.said line.new.items) }
     {
         match outcome {
-            Outcome::Blank => Ok(Made {
-                kind: LineKind::Blank,
+            Outcome::Empty => Ok(Made {
+                kind: LineKind::Empty,
                 said: false,
             }),
             Outcome::Key(found) => self.judge_key(alloc, location, found, line),
@@ -151,7 +151,7 @@ fn says(shown: Shown, kind: LineKind) -> bool
     ensures { result ≡ says shown kind }
 {
     match kind {
-        LineKind::Blank | LineKind::Distrusted => false,
+        LineKind::Empty | LineKind::Distrusted => false,
         LineKind::Fine => shown.fine,
         LineKind::Revoked | LineKind::Unread => shown.findings,
     }

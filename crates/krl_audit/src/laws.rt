@@ -19,7 +19,7 @@ ghost use Rattle.krl_audit.specs.Audit.{kind_of};
 ghost use Rattle.krl_audit.specs.Colour.{IsCount, IsPainted};
 ghost use Rattle.krl_audit.specs.Front.{front_of};
 ghost use Rattle.krl_audit.specs.Objects.{done_object, key_object, unread_object};
-ghost use Rattle.krl_audit.specs.Outcome.{Blank, Found, Key, Unread, asked_outcome, outcome_of};
+ghost use Rattle.krl_audit.specs.Outcome.{Empty, Found, Key, Unread, asked_outcome, outcome_of};
 ghost use Rattle.krl_audit.specs.Text.{key_line, unread_line};
 ghost use Rattle.krl_audit.specs.declared.counts.Counts.{Counts as CountsOf};
 ghost use Rattle.krl_audit.specs.declared.counts.LineKind.TheVariants as kinds;
@@ -35,7 +35,7 @@ use ssh_wire::laws::string_is_read_back;
 /// A line that is neither blank nor a comment has a key if it spells one, with or without its
 /// marker; otherwise its first fault, after a marker too.
 pub fn lines_by_what_is_spelled()
-    ensures none { (text : List ℕ) → has_key text ≡ false → outcome_of text ≡ Blank }
+    ensures none { (text : List ℕ) → has_key text ≡ false → outcome_of text ≡ Empty }
     ensures plain { (text word blob comment : List ℕ) (asked : Subject) → has_key text ≡ true
         → marker_of text ≡ None → IsKeyLine text word blob comment → IsSubject blob asked
         → outcome_of text ≡ asked_outcome None (front_of text) blob comment (Ok asked) }

@@ -32,8 +32,8 @@ pub struct Found<'a> {
 /// The outcome of a line.
 #[derive(Drop)]
 pub enum Outcome<'a> {
-    /// It is blank or a comment.
-    Blank,
+    /// It is empty or a comment.
+    Empty,
     /// A key for which a list can be queried.
     Key(Found<'a>),
     /// It is not read.
@@ -48,7 +48,7 @@ pub fn read_outcome<'a>(alloc: Global, text: &'a [u8]) -> Result<Outcome<'a>, Al
     ensures { IfOk result (λ outcome. GivesOutcome outcome (outcome_of text.now)) }
 {
     if !has_key(text) {
-        return Ok(Outcome::Blank);
+        return Ok(Outcome::Empty);
     }
     let (marker, rest) = split_marker(text);
     match read_line(alloc, rest) {

@@ -24,7 +24,7 @@ pub(crate) fn keyless(
 {
     match first {
         Outcome::Key(_) => Ok(None),
-        Outcome::Blank | Outcome::Unread(_) => Ok(many(unread_alone(alloc, text)?)),
+        Outcome::Empty | Outcome::Unread(_) => Ok(many(unread_alone(alloc, text)?)),
     }
 }
 
@@ -67,7 +67,7 @@ fn count_line(alloc: Global, line: &[u8], count: u64) -> Result<Option<u64>, All
     ensures within { IfOk result (λ more. IfSome more (λ more. more ≤ count + 1)) }
 {
     match read_outcome(alloc, line)? {
-        Outcome::Blank => Ok(Some(count)),
+        Outcome::Empty => Ok(Some(count)),
         Outcome::Key(_) => Ok(None),
         Outcome::Unread(_) => Ok(Some(count + 1)),
     }

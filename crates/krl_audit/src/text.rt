@@ -16,7 +16,7 @@ use krl_types::Subject;
 use ssh_wire::Cursor;
 use std::alloc::{AllocError, Global};
 
-/// The place of a line: the name of its file, and its number from 1 on; 0 represents the whole
+/// The location of a line: the name of its file, and its number from 1 on; 0 represents the whole
 /// file.
 #[derive(Clone, Copy)]
 pub(crate) struct Location<'a> {

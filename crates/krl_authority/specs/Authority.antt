@@ -17,7 +17,7 @@ HasKeyOrAll _ = ⊤
 abbrev pub AuthoritiesAreKeys : List SpelledSection → Type 0
 AuthoritiesAreKeys sections = AllByRecursion HasKeyOrAll sections
 
--- ---- the steps of the walk over the sections
+-- ---- the steps of the pass over the sections
 
 -- A section was judged. If it is valid, the bytes after it are left.
 pub record IsJudged (section : SpelledSection) (fine : Bool) (left rest : List ℕ) : Type 0 where

@@ -1,4 +1,4 @@
-//! The walk over the sections of a list that checks their authorities.
+//! The pass over the sections of a list that checks their authorities.
 
 ghost use Rattle.std.specs.Prelude.{◌≡◌, ◌↔◌, ◌<◌, ◌≤◌, ◌^◌, ◌++◌, List, ℕ, IsTrue, MatchOption};
 ghost use Rattle.std.specs.Prelude.{length};

@@ -8,7 +8,7 @@ use Rattle.krl_c.proofs.Common.{subject_number, SubjectFault, subst, sym, ℕ, �
 use Rattle.krl_types.specs.Subject.{Subject}
 use Rattle.key_text.specs.KeyLine.{IsKeyLine}
 use Rattle.key_text.specs.LineFaults.{IsFirstLineFault}
-use Rattle.key_text.specs.LineReading.{Content, content}
+use Rattle.key_text.specs.LineReading.{KeyLine, content}
 
 -- the two are equal, or one of them is `no_memory`
 abbrev pub Once : ℤ → ℤ → Type 0
@@ -43,7 +43,7 @@ blob_once blob read of_subject of_fault entries one other (ran_out e) tells = in
 blob_once blob read of_subject of_fault entries one other says (ran_out f) = inr (inr f)
 
 -- for a line, by a reading of it
-pub line_once : (text : List ℕ) (read : Result Content LineFault) → ((word blob comment : List ℕ) → IsKeyLine text word blob comment → read ≡ Ok (content word blob comment))
+pub line_once : (text : List ℕ) (read : Result KeyLine LineFault) → ((word blob comment : List ℕ) → IsKeyLine text word blob comment → read ≡ Ok (content word blob comment))
     → ((fault : LineFault) → IsFirstLineFault text fault → read ≡ Err fault)
     → (entries : List Entry)
     → ((word blob comment : List ℕ) → IsKeyLine text word blob comment → (one other : ℤ) → AnswersBlob entries blob one → AnswersBlob entries blob other → Once one other)
@@ -52,7 +52,7 @@ line_once text read of_line of_fault entries once one other (of_key w b c is say
     let left = of_line w b c is in
     let right = of_line w' b' c' also in
     let both : content w' b' c' ≡ content w b c = cc in
-    let same : b' ≡ b = ap (λ (line : Content). line.blob) both in
+    let same : b' ≡ b = ap (λ (line : KeyLine). line.blob) both in
     once w b c is one other says (subst (λ (blob : List ℕ). AnswersBlob entries blob other) same tells)
 line_once text read of_line of_fault entries once one other (of_key w b c is says) (no_line fault first e) = let left = of_line w b c is in let right = of_fault fault first in absurd (cc)
 line_once text read of_line of_fault entries once one other (no_line fault first e) (of_key w b c is says) = let left = of_line w b c is in let right = of_fault fault first in absurd (cc)

@@ -8,7 +8,7 @@ use Rattle.krl_types.specs.Subject.{Subject}
 use Rattle.krl_entries.specs.Reasons.{IsReason, has_reason}
 use Rattle.krl_entries.specs.declared.reasons.Reason.{Reason}
 use Rattle.krl_entries.specs.declared.reasons.Reasons.{Reasons}
-use Rattle.krl_c.specs.Why.{ExplainsBlob, HasReasons, bit_of, bits_in, flags_of, no_blob, place_of}
+use Rattle.krl_c.specs.Why.{ExplainsBlob, HasReasons, bit_of, bits_in, flags_of, no_blob, position_of}
 use Rattle.krl_c.specs.Why.{ran_out, with_bit}
 use Rattle.ssh_cert.specs.declared.subject_fault.SubjectFault.TheVariants as subjects
 use Rattle.krl_entries.specs.declared.reasons.Reason.TheVariants as reasons
@@ -26,8 +26,8 @@ rest_of bits false = omega arith
 lowest_bit : (bits : ℕ) (lowest : Bool) → bit_at (with_bit bits lowest) 0 ≡ bit_of lowest
 lowest_bit bits lowest = bit_at_lowest (with_bit bits lowest) ∙ rest_of bits lowest
 
-higher_bit : (bits place : ℕ) (lowest : Bool) → bit_at (with_bit bits lowest) (suc place) ≡ bit_at bits place
-higher_bit bits place lowest = bit_at-suc (with_bit bits lowest) place ∙ ap (λ (n : ℕ). bit_at n place) (halved bits lowest)
+higher_bit : (bits position : ℕ) (lowest : Bool) → bit_at (with_bit bits lowest) (suc position) ≡ bit_at bits position
+higher_bit bits position lowest = bit_at-suc (with_bit bits lowest) position ∙ ap (λ (n : ℕ). bit_at n position) (halved bits lowest)
 
 is_set : (bit : ℕ) (set : Bool) → bit ≡ bit_of set → bit ≡ 1 ↔ IsTrue set
 is_set bit true is = (λ one. refl, λ set. is)
@@ -36,17 +36,17 @@ is_set bit false is = (λ one. absurd (omega (arith, is, one)), λ set. absurd c
 -- ---- all bits
 
 flag_at : List Bool → ℕ → Bool
-flag_at [] place = false
+flag_at [] position = false
 flag_at (flag ∷ flags) zero = flag
-flag_at (flag ∷ flags) (suc place) = flag_at flags place
+flag_at (flag ∷ flags) (suc position) = flag_at flags position
 
-bit_is : (flags : List Bool) (place : ℕ) → bit_at (bits_in flags) place ≡ bit_of (flag_at flags place)
+bit_is : (flags : List Bool) (position : ℕ) → bit_at (bits_in flags) position ≡ bit_of (flag_at flags position)
 unfolding flag_at
-bit_is [] place = bit_at-zero place
+bit_is [] position = bit_at-zero position
 bit_is (flag ∷ flags) zero = lowest_bit (bits_in flags) flag
-bit_is (flag ∷ flags) (suc place) = higher_bit (bits_in flags) place flag ∙ bit_is flags place
+bit_is (flag ∷ flags) (suc position) = higher_bit (bits_in flags) position flag ∙ bit_is flags position
 
-flag_is : (all : Reasons) (reason : Reason) → flag_at (flags_of all) (place_of reason) ≡ has_reason all reason
+flag_is : (all : Reasons) (reason : Reason) → flag_at (flags_of all) (position_of reason) ≡ has_reason all reason
 unfolding flag_at
 flag_is all reasons.Key = refl
 flag_is all reasons.KeySha1 = refl
@@ -84,7 +84,7 @@ pub has_reasons : (entries : List Entry) (asked : Subject) (all : Reasons) → (
     → HasReasons entries asked (bits_in (flags_of all))
 has_reasons entries asked all are = record {
   reasons_are = λ reason.
-      let set = is_set (bit_at (bits_in (flags_of all)) (place_of reason)) (has_reason all reason) (bit_is (flags_of all) (place_of reason) ∙ ap bit_of (flag_is all reason)) in
+      let set = is_set (bit_at (bits_in (flags_of all)) (position_of reason)) (has_reason all reason) (bit_is (flags_of all) (position_of reason) ∙ ap bit_of (flag_is all reason)) in
       (λ one. (are reason).0 (set.0 one), λ is. set.1 ((are reason).1 is));
   within = below all;
 }

@@ -13,24 +13,24 @@ use Rattle.krl_entries.specs.declared.reasons.Reasons.{Reasons}
 use Rattle.krl_c.specs.Answer.{AnswersBy}
 use Rattle.krl_c.specs.Number.{no_memory, subject_number}
 
--- the place of the bit of a reason
-abbrev pub place_of : Reason → ℕ
-place_of reasons.Key = 0
-place_of reasons.KeySha1 = 1
-place_of reasons.KeySha256 = 2
-place_of reasons.Authority = 3
-place_of reasons.AuthoritySha1 = 4
-place_of reasons.AuthoritySha256 = 5
-place_of reasons.Serial = 6
-place_of reasons.SerialOfAll = 7
-place_of reasons.KeyId = 8
-place_of reasons.KeyIdOfAll = 9
+-- the position of the bit of a reason
+abbrev pub position_of : Reason → ℕ
+position_of reasons.Key = 0
+position_of reasons.KeySha1 = 1
+position_of reasons.KeySha256 = 2
+position_of reasons.Authority = 3
+position_of reasons.AuthoritySha1 = 4
+position_of reasons.AuthoritySha256 = 5
+position_of reasons.Serial = 6
+position_of reasons.SerialOfAll = 7
+position_of reasons.KeyId = 8
+position_of reasons.KeyIdOfAll = 9
 
 -- Each bit says whether the entries revoke the key of the query for its reason. There are no other
 -- bits.
 pub record HasReasons (entries : List Entry) (asked : Subject) (bits : ℕ) : Type 0 where
   pub reasons_are : (reason : Reason)
-      → (bit_at bits (place_of reason) ≡ 1 ↔ IsReason entries asked reason)
+      → (bit_at bits (position_of reason) ≡ 1 ↔ IsReason entries asked reason)
   pub within : bits < 2 ^ 10
 
 -- The reasons of entries for a blob.
@@ -51,7 +51,7 @@ abbrev pub bit_of : Bool → ℕ
 bit_of true = 1
 bit_of false = 0
 
--- bits, each one place higher, and a lowest one below them
+-- bits, each one position higher, and a lowest one below them
 abbrev pub with_bit : ℕ → Bool → ℕ
 with_bit bits lowest = 2 * bits + bit_of lowest
 

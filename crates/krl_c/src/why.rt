@@ -66,7 +66,7 @@ fn bits_of(reasons: Reasons) -> u16
     with_bit(bits, reasons.key.blob)
 }
 
-// The bits of a number, each one place higher, and a lowest one below them.
+// The bits of a number, each one position higher, and a lowest one below them.
 fn with_bit(bits: u16, lowest: bool) -> u16
     requires { bits < 2 ^ 15 }
     ensures value { result ≡ with_bit bits lowest }

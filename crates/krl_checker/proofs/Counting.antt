@@ -66,8 +66,8 @@ are_counted old (line ∷ lines) keys revoked unread =
 some_key : (lines : List LineKind) → HasKey lines → count is_key lines ≡ 0 → ⊥
 unfolding count add
 some_key [] has none = has
-some_key (kinds.Blank ∷ lines) (inl is) none = absurd cc
-some_key (kinds.Blank ∷ lines) (inr has) none = some_key lines has none
+some_key (kinds.Empty ∷ lines) (inl is) none = absurd cc
+some_key (kinds.Empty ∷ lines) (inr has) none = some_key lines has none
 some_key (kinds.Unread ∷ lines) (inl is) none = absurd cc
 some_key (kinds.Unread ∷ lines) (inr has) none = some_key lines has none
 some_key (kinds.Distrusted ∷ lines) has none = omega (arith, none)
@@ -77,7 +77,7 @@ some_key (kinds.Revoked ∷ lines) has none = omega (arith, none)
 key_there : (lines : List LineKind) → (count is_key lines ≡ 0 → ⊥) → HasKey lines
 unfolding count add
 key_there [] some = some refl
-key_there (kinds.Blank ∷ lines) some = inr (key_there lines some)
+key_there (kinds.Empty ∷ lines) some = inr (key_there lines some)
 key_there (kinds.Unread ∷ lines) some = inr (key_there lines some)
 key_there (kinds.Distrusted ∷ lines) some = inl refl
 key_there (kinds.Fine ∷ lines) some = inl refl
@@ -86,7 +86,7 @@ key_there (kinds.Revoked ∷ lines) some = inl refl
 kept : (lines : List LineKind) → AllByRecursion (MayBe roles.Keep) lines → (count is_revoked_kind lines ≡ 0) × (count is_unread_kind lines ≡ 0)
 unfolding count add
 kept [] all = (refl, refl)
-kept (kinds.Blank ∷ lines) all = kept lines all.1
+kept (kinds.Empty ∷ lines) all = kept lines all.1
 kept (kinds.Distrusted ∷ lines) all = kept lines all.1
 kept (kinds.Fine ∷ lines) all = kept lines all.1
 kept (kinds.Revoked ∷ lines) all = absurd all.0
@@ -95,7 +95,7 @@ kept (kinds.Unread ∷ lines) all = absurd all.0
 may_be_kept : (lines : List LineKind) → count is_revoked_kind lines ≡ 0 → count is_unread_kind lines ≡ 0 → AllByRecursion (MayBe roles.Keep) lines
 unfolding count add
 may_be_kept [] revoked unread = tt
-may_be_kept (kinds.Blank ∷ lines) revoked unread = (tt, may_be_kept lines revoked unread)
+may_be_kept (kinds.Empty ∷ lines) revoked unread = (tt, may_be_kept lines revoked unread)
 may_be_kept (kinds.Distrusted ∷ lines) revoked unread = (tt, may_be_kept lines revoked unread)
 may_be_kept (kinds.Fine ∷ lines) revoked unread = (tt, may_be_kept lines revoked unread)
 may_be_kept (kinds.Revoked ∷ lines) revoked unread = absurd (omega (arith, revoked))
@@ -104,7 +104,7 @@ may_be_kept (kinds.Unread ∷ lines) revoked unread = absurd (omega (arith, unre
 fewer : (lines : List LineKind) → count is_revoked_kind lines ≤ count is_key lines
 unfolding count add
 fewer [] = omega arith
-fewer (kinds.Blank ∷ lines) = fewer lines
+fewer (kinds.Empty ∷ lines) = fewer lines
 fewer (kinds.Distrusted ∷ lines) = omega (arith, fewer lines)
 fewer (kinds.Fine ∷ lines) = omega (arith, fewer lines)
 fewer (kinds.Revoked ∷ lines) = omega (arith, fewer lines)
@@ -113,7 +113,7 @@ fewer (kinds.Unread ∷ lines) = fewer lines
 canaries : (lines : List LineKind) → AllByRecursion (MayBe roles.Canary) lines → (count is_revoked_kind lines ≡ count is_key lines) × (count is_unread_kind lines ≡ 0)
 unfolding count add
 canaries [] all = (refl, refl)
-canaries (kinds.Blank ∷ lines) all = canaries lines all.1
+canaries (kinds.Empty ∷ lines) all = canaries lines all.1
 canaries (kinds.Distrusted ∷ lines) all = absurd all.0
 canaries (kinds.Fine ∷ lines) all = absurd all.0
 canaries (kinds.Revoked ∷ lines) all = let rest = canaries lines all.1 in (ap (λ (n : ℕ). 1 + n) rest.0, rest.1)
@@ -122,7 +122,7 @@ canaries (kinds.Unread ∷ lines) all = absurd all.0
 may_be_canaries : (lines : List LineKind) → count is_revoked_kind lines ≡ count is_key lines → count is_unread_kind lines ≡ 0 → AllByRecursion (MayBe roles.Canary) lines
 unfolding count add
 may_be_canaries [] revoked unread = tt
-may_be_canaries (kinds.Blank ∷ lines) revoked unread = (tt, may_be_canaries lines revoked unread)
+may_be_canaries (kinds.Empty ∷ lines) revoked unread = (tt, may_be_canaries lines revoked unread)
 may_be_canaries (kinds.Distrusted ∷ lines) revoked unread = absurd (omega (arith, revoked, fewer lines))
 may_be_canaries (kinds.Fine ∷ lines) revoked unread = absurd (omega (arith, revoked, fewer lines))
 may_be_canaries (kinds.Revoked ∷ lines) revoked unread = (tt, may_be_canaries lines (omega (arith, revoked)) unread)

@@ -35,7 +35,7 @@ role_word roles.Canary = codes "canary: "
 -- A line of this kind may be in the file. A key that its line marks as revoked is not trusted
 -- there, so it counts neither as a key to be kept nor as a canary.
 abbrev pub MayBe : Role → LineKind → Type 0
-MayBe role kinds.Blank = Unit {0}
+MayBe role kinds.Empty = Unit {0}
 MayBe role kinds.Unread = ⊥
 MayBe roles.Keep kinds.Revoked = ⊥
 MayBe roles.Keep kinds.Fine = Unit {0}

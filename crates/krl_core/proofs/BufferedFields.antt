@@ -1,6 +1,6 @@
 -- Fields that are read, one row after another.
 use Rattle.krl_core.proofs.Common.{[], ◌*◌, ◌++◌, ◌+◌, ◌-◌, ◌<◌, ◌∙◌, ◌∷◌, ◌≡◌, ◌≤◌, AllocError, ap}
-use Rattle.krl_core.proofs.Common.{append-nil, append_assoc, arith, at_hand, authority_after, Bool}
+use Rattle.krl_core.proofs.Common.{append-nil, append_assoc, arith, available, authority_after, Bool}
 use Rattle.krl_core.proofs.Common.{concat}
 use Rattle.krl_core.proofs.Common.{concat-append, drop, Err, false, false≢true, FieldStore}
 use Rattle.krl_core.proofs.Common.{GrowsAtMost, HasRead, HasStored, InStep, is_err, IsBounded}
@@ -183,10 +183,10 @@ one_more old mid new place stored field looks takes passes bytes stores_field te
 
 -- if a number of bytes in the reader's buffer were read
 pub bounded_count : (old : Walk) (new : Pull) (place : Place) (stored : FieldStore) (count : ℕ) (result : Result (Unit {0}) AllocError) → IsBounded old.pull old.stored
-    → ReadsSome (at_hand old.pull) count result old.place old.stored place stored → Takes old.pull (take count (at_hand old.pull)) new → IsBounded new stored
+    → ReadsSome (available old.pull) count result old.place old.stored place stored → Takes old.pull (take count (available old.pull)) new → IsBounded new stored
 bounded_count old new place stored count result b some takes =
-    bounded_more old old.pull new stored (take count (at_hand old.pull)) b refl refl takes
-    (subst (λ (n : ℕ). GrowsAtMost n old.stored stored) (sym (length-take-le count (at_hand old.pull) some.within)) some.grows)
+    bounded_more old old.pull new stored (take count (available old.pull)) b refl refl takes
+    (subst (λ (n : ℕ). GrowsAtMost n old.stored stored) (sym (length-take-le count (available old.pull) some.within)) some.grows)
 
 pub leaps_buffered : (old : Walk) (new : Pull) (place : Place) (stored : FieldStore) (bytes : List ℕ) → IsBounded old.pull old.stored → Takes old.pull bytes new
     → ReadsBuffered bytes old.place old.stored place stored → 0 < length bytes → Leaps old (working new place stored)

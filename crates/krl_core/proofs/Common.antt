@@ -10,7 +10,7 @@ pub use Rattle.std.proofs.Common.{ne_eqb, None, not, Ok, OnOk, Option, option_to
 pub use Rattle.std.proofs.Common.{refl, Result, reverse, rules, Some, subst, subst₂, suc, sum_by}
 pub use Rattle.std.proofs.Common.{sym, take, take-add, take-append-drop, take_all, true, w8, zero}
 pub use Rattle.std.proofs.Common.{ℕ}
-pub use Rattle.byte_streams.specs.Pull.{after_ahead, at_hand, left_of, Pull, Refuses, Takes}
+pub use Rattle.byte_streams.specs.Pull.{after_ahead, available, left_of, Pull, Refuses, Takes}
 pub use Rattle.krl_core.specs.Buffered.{AreBitsOutOfScope, HasStored, MaySkip, ReadsBuffered}
 pub use Rattle.krl_core.specs.Buffered.{ReadsSome, ReadsWhole}
 pub use Rattle.krl_core.specs.Entries.{entries_of, section_entries, subsection_entries}

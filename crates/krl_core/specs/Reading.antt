@@ -239,10 +239,10 @@ IsReadAs Knows text (Err fault) failed left = Says fault text failed left
 
 -- The result of a reading, if the bytes that the reader had left before are known. The result is
 -- `Read` exactly if the reader failed.
-pub record IsReadingOf {K : Type 0} (Knows : List ℕ → K → Type 0) (before : Option (List ℕ))
-    (reading : Result K KrlFault) (failed : Bool) (left : Option (List ℕ)) : Type 0 where
-  pub failure : ReportsFailure reading failed
-  pub read : (text : List ℕ) → before ≡ Some text → IsReadAs Knows text reading failed left
+pub record IsResultOf {K : Type 0} (Knows : List ℕ → K → Type 0) (before : Option (List ℕ))
+    (outcome : Result K KrlFault) (failed : Bool) (left : Option (List ℕ)) : Type 0 where
+  pub failure : ReportsFailure outcome failed
+  pub read : (text : List ℕ) → before ≡ Some text → IsReadAs Knows text outcome failed left
 
 -- If a row of fields was read before, that row with some more fields is read now.
 abbrev pub ReadsMore : Walk → Walk → Type 0

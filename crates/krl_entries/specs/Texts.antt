@@ -1,4 +1,4 @@
--- Held byte strings, and those that a walk over them has not returned yet.
+-- Held byte strings, and those that an iterator over them has not returned yet.
 use Rattle.std.specs.Prelude.{ℕ, List, map}
 use Rattle.std.specs.Global.{Vec}
 use Rattle.krl_entries.specs.declared.texts.Origin.{Origin}
@@ -12,6 +12,6 @@ texts_of texts = map bytes_of texts
 
 abbrev pub texts_left : Origin → List (List ℕ)
 texts_left (Few texts) = texts_of texts.now
-texts_left (Many walk) = texts_of walk
-texts_left (Sha1s walk) = walk
-texts_left (Sha256s walk) = walk
+texts_left (Many iter) = texts_of iter
+texts_left (Sha1s iter) = iter
+texts_left (Sha256s iter) = iter

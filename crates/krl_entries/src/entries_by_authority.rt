@@ -69,9 +69,9 @@ impl<S: Spans> EntriesByAuthority<S> {
         requires { index < length self.now }
         ensures { slice_get self.now index ≡ Some result }
     {
-        let mut walk = self.walk();
+        let mut iter = self.iter();
         let mut left = index;
-        while let Some(listed) = walk.next() {
+        while let Some(listed) = iter.next() {
             if left == 0 {
                 return listed;
             }
@@ -81,7 +81,7 @@ impl<S: Spans> EntriesByAuthority<S> {
     }
 
     // The authorities, in the order of their bytes.
-    pub(crate) fn walk(&self) -> Authorities<'_, S>
+    pub(crate) fn iter(&self) -> Authorities<'_, S>
         ensures { result ≡ self.now }
     {
         Authorities::over(&self.map)

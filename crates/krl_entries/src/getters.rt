@@ -20,7 +20,7 @@ impl<S: Spans> Revocations<S> {
 
     /// The section of the authority at an index below `authorities()`. The section for all
     /// authorities comes first, then the others in the order of their bytes. For a loop over all of
-    /// them use `walk_authorities`.
+    /// them use `iter_authorities`.
     pub fn authority_at(&self, index: usize) -> Listed<'_, S>
         requires { index < length self.now.sections }
         ensures { slice_get self.now.sections index ≡ Some result }
@@ -28,11 +28,11 @@ impl<S: Spans> Revocations<S> {
         self.sections.at(index)
     }
 
-    /// A walk over the authorities, in the order of `authority_at`.
-    pub fn walk_authorities(&self) -> Authorities<'_, S>
+    /// An iterator over the authorities, in the order of `authority_at`.
+    pub fn iter_authorities(&self) -> Authorities<'_, S>
         ensures { result ≡ self.now.sections }
     {
-        self.sections.walk()
+        self.sections.iter()
     }
 
     /// How many spans of serials all authorities have together. The call visits each authority.
@@ -50,7 +50,7 @@ impl<S: Spans> Revocations<S> {
     }
 
     /// The blob of the key at an index below `keys()`, in the order of their bytes. The call visits
-    /// the keys before it. For a loop over all of them use `walk_keys`.
+    /// the keys before it. For a loop over all of them use `iter_keys`.
     pub fn key_at(&self, index: usize) -> &[u8]
         requires { index < length self.now.keys }
         ensures { slice_get self.now.keys index ≡ Some result.now }
@@ -58,8 +58,8 @@ impl<S: Spans> Revocations<S> {
         Texts::many(&self.keys).at(index)
     }
 
-    /// A walk over the blobs of the keys, in the order of their bytes.
-    pub fn walk_keys(&self) -> Texts<'_>
+    /// An iterator over the blobs of the keys, in the order of their bytes.
+    pub fn iter_keys(&self) -> Texts<'_>
         ensures { result ≡ self.now.keys }
     {
         Texts::many(&self.keys)
@@ -73,7 +73,7 @@ impl<S: Spans> Revocations<S> {
     }
 
     /// The SHA-1 hash, 20 bytes long, at an index below `sha1s()`, in the order of their bytes. The
-    /// call visits the hashes before it. For a loop over all of them use `walk_sha1s`.
+    /// call visits the hashes before it. For a loop over all of them use `iter_sha1s`.
     pub fn sha1_at(&self, index: usize) -> &[u8]
         requires { index < length self.now.sha1s }
         ensures { slice_get self.now.sha1s index ≡ Some result.now }
@@ -81,8 +81,8 @@ impl<S: Spans> Revocations<S> {
         Texts::sha1s(&self.sha1s).at(index)
     }
 
-    /// A walk over the SHA-1 hashes, in the order of their bytes.
-    pub fn walk_sha1s(&self) -> Texts<'_>
+    /// An iterator over the SHA-1 hashes, in the order of their bytes.
+    pub fn iter_sha1s(&self) -> Texts<'_>
         ensures { result ≡ self.now.sha1s }
     {
         Texts::sha1s(&self.sha1s)
@@ -96,7 +96,7 @@ impl<S: Spans> Revocations<S> {
     }
 
     /// The SHA-256 hash, 32 bytes long, at an index below `sha256s()`, in the order of their bytes.
-    /// The call visits the hashes before it. For a loop over all of them use `walk_sha256s`.
+    /// The call visits the hashes before it. For a loop over all of them use `iter_sha256s`.
     pub fn sha256_at(&self, index: usize) -> &[u8]
         requires { index < length self.now.sha256s }
         ensures { slice_get self.now.sha256s index ≡ Some result.now }
@@ -104,8 +104,8 @@ impl<S: Spans> Revocations<S> {
         Texts::sha256s(&self.sha256s).at(index)
     }
 
-    /// A walk over the SHA-256 hashes, in the order of their bytes.
-    pub fn walk_sha256s(&self) -> Texts<'_>
+    /// An iterator over the SHA-256 hashes, in the order of their bytes.
+    pub fn iter_sha256s(&self) -> Texts<'_>
         ensures { result ≡ self.now.sha256s }
     {
         Texts::sha256s(&self.sha256s)
@@ -116,11 +116,11 @@ impl<S: Spans> Revocations<S> {
 fn held_in<S: Spans>(sections: &EntriesByAuthority<S>) -> u128
     ensures { result ≡ sum_by (λ section. length section.spans) sections.now }
 {
-    let mut walk = sections.walk();
+    let mut iter = sections.iter();
     let mut left = sections.len();
     let mut total: u128 = 0;
     while left > 0 {
-        let Some(listed) = walk.next() else {
+        let Some(listed) = iter.next() else {
             unreachable!();
         };
         total += listed.spans().len() as u128;

@@ -83,7 +83,7 @@ impl Ids {
     }
 
     // The key IDs, in the order of their bytes.
-    pub(crate) fn walk(&self) -> Texts<'_>
+    pub(crate) fn iter(&self) -> Texts<'_>
         ensures { result ≡ self.now }
     {
         match &self.representation {

@@ -56,7 +56,7 @@ impl<'a, S: Spans> Listed<'a, S> {
     }
 
     /// The key ID at an index below `ids()`, in the order of their bytes. For a loop over all of
-    /// them use `walk_ids`.
+    /// them use `iter_ids`.
     pub fn id_at(&self, index: usize) -> &'a [u8]
         requires { index < length self.now.ids }
         ensures { slice_get self.now.ids index ≡ Some result.now }
@@ -64,11 +64,11 @@ impl<'a, S: Spans> Listed<'a, S> {
         self.section.ids.at(index)
     }
 
-    /// A walk over the key IDs, in the order of their bytes.
-    pub fn walk_ids(&self) -> Texts<'a>
+    /// An iterator over the key IDs, in the order of their bytes.
+    pub fn iter_ids(&self) -> Texts<'a>
         ensures { result ≡ self.now.ids }
     {
-        self.section.ids.walk()
+        self.section.ids.iter()
     }
 }
 
@@ -92,7 +92,7 @@ impl<'a, S: Spans> Model for Authorities<'a, S> {
 impl<'a, S: Spans> Authorities<'a, S> {
     ghost use Rattle.krl_entries.specs.AuthorityEntries.{sections_of, named_sections};
 
-    // A walk over the authorities whose sections are in a map.
+    // An iterator over the authorities whose sections are in a map.
     pub(crate) fn over(map: &'a BTreeMap<Vec<u8>, AuthorityEntries<S>>) -> Authorities<'a, S>
         ensures { result ≡ sections_of S.spans (named_sections map.now.entries) }
     {

@@ -1,4 +1,4 @@
-//! Sets of byte strings, and a walk over them, in order.
+//! Sets of byte strings, and an iterator over them, in order.
 ghost use Rattle.std.specs.Prelude.{◌≡◌, ◌<◌, ◌↔◌, Contains, IsTrue, OnErr, OnOk, Some, length};
 ghost use Rattle.std.specs.Prelude.{slice_get};
 ghost use Rattle.krl_entries.specs.Changes.{Puts};
@@ -54,7 +54,7 @@ impl<'a> Model for Texts<'a> {
 }
 
 impl<'a> Texts<'a> {
-    // A walk over the byte strings of a vector.
+    // An iterator over the byte strings of a vector.
     pub(crate) fn few(texts: &'a [Vec<u8>]) -> Texts<'a>
         ensures { result ≡ texts_of texts.now }
     {
@@ -63,7 +63,7 @@ impl<'a> Texts<'a> {
         }
     }
 
-    // A walk over the byte strings of a set.
+    // An iterator over the byte strings of a set.
     pub(crate) fn many(texts: &'a BTreeSet<Vec<u8>>) -> Texts<'a>
         ensures { result ≡ texts_of texts.now.keys }
     {
@@ -72,7 +72,7 @@ impl<'a> Texts<'a> {
         }
     }
 
-    // A walk over SHA-1 hashes.
+    // An iterator over SHA-1 hashes.
     pub(crate) fn sha1s(hashes: &'a BTreeSet<[u8; 20]>) -> Texts<'a>
         ensures { result ≡ hashes.now.keys }
     {
@@ -81,7 +81,7 @@ impl<'a> Texts<'a> {
         }
     }
 
-    // A walk over SHA-256 hashes.
+    // An iterator over SHA-256 hashes.
     pub(crate) fn sha256s(hashes: &'a BTreeSet<[u8; 32]>) -> Texts<'a>
         ensures { result ≡ hashes.now.keys }
     {
@@ -122,16 +122,16 @@ impl<'a> Iterator for Texts<'a> {
                 *texts = rest;
                 Some(first.as_slice())
             }
-            Origin::Many(walk) => {
-                let text = walk.next()?;
+            Origin::Many(iter) => {
+                let text = iter.next()?;
                 Some(text.as_slice())
             }
-            Origin::Sha1s(walk) => {
-                let hash = walk.next()?;
+            Origin::Sha1s(iter) => {
+                let hash = iter.next()?;
                 Some(hash.as_slice())
             }
-            Origin::Sha256s(walk) => {
-                let hash = walk.next()?;
+            Origin::Sha256s(iter) => {
+                let hash = iter.next()?;
                 Some(hash.as_slice())
             }
         }

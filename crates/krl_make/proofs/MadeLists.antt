@@ -9,7 +9,7 @@ use Rattle.ssh_wire.specs.Reading.{◌>>=◌, in_fault}
 use Rattle.key_text.specs.Armour.{begins_container}
 use Rattle.key_text.specs.ContainerReading.{Opened, private_at}
 use Rattle.key_text.specs.KeyFile.{has_key}
-use Rattle.key_text.specs.LineReading.{Content, line_at}
+use Rattle.key_text.specs.LineReading.{KeyLine, line_at}
 use Rattle.key_text.specs.Lines.{is_newline}
 use Rattle.key_text.specs.declared.line_fault.LineFault.{LineFault}
 use Rattle.key_text.specs.declared.private_fault.PrivateFault.{PrivateFault}
@@ -65,7 +65,7 @@ file_first file keys is = content_first file.name file.content ∙ ap (first_blo
 pub no_key_first : (file : Named) → keys_of file ≡ [] → file_key file ≡ Err (file_run_fault file.name files.NoKeys)
 no_key_first file none = file_first file [] none
 
-line_named : (name : List ℕ) (number : ℕ) (line : Result Content LineFault) → file_name (key_of_line name number line) ≡ name
+line_named : (name : List ℕ) (number : ℕ) (line : Result KeyLine LineFault) → file_name (key_of_line name number line) ≡ name
 line_named name number (Ok line) = refl
 line_named name number (Err fault) = refl
 

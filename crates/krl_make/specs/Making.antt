@@ -10,7 +10,7 @@ use Rattle.krl_entries.specs.Entry.{Entry}
 use Rattle.krl_core.specs.Front.{IsFirstFault, limit}
 use Rattle.krl_core.specs.Krl.{SpelledSection, Spells}
 use Rattle.krl_writer.specs.KrlText.{IsKrlText}
-use Rattle.krl_core.specs.Reading.{IsList, IsReadingOf}
+use Rattle.krl_core.specs.Reading.{IsList, IsResultOf}
 use Rattle.krl_entries.specs.Revoked.{Revoked}
 use Rattle.krl_core.specs.declared.header.Header.{Header}
 use Rattle.krl_types.specs.declared.krl_fault.KrlFault.{KrlFault}
@@ -161,8 +161,8 @@ after_old name authority given moment files base = do
 -- The same, given the result of reading the old list, whose fault is the first.
 unfoldable pub make_run_of : List ℕ → Result Base KrlFault → AuthorityOption Named → Option ℕ
     → List Named → ℕ → Result Made RunFault
-make_run_of name reading authority version files moment = do
-  base ← in_fault (list_run_fault name) reading
+make_run_of name outcome authority version files moment = do
+  base ← in_fault (list_run_fault name) outcome
   after_old name authority version moment files base
 
 -- ---- the result of the run
@@ -186,20 +186,20 @@ pub record IsCurrentFile (authority : Option (List ℕ)) (files : List Named) (a
 
 -- The name that is current in a run that makes a list: the list while the old one is read, then the
 -- authority's file, then the files in order, and the list again while it is written.
-pub data IsCurrentName (name : List ℕ) (reading : Result Base KrlFault)
+pub data IsCurrentName (name : List ℕ) (outcome : Result Base KrlFault)
     (authority : AuthorityOption Named) (given : Option ℕ) (files : List Named)
     (read : Result Made RunFault) (at : List ℕ)
     : Type 0 where
-  old_list : reading ≡ Err faults.NoMemory → name ≡ at
-      → IsCurrentName name reading authority given files read at
-  authority_file : (base : Base) (version : ℕ) → reading ≡ Ok base
+  old_list : outcome ≡ Err faults.NoMemory → name ≡ at
+      → IsCurrentName name outcome authority given files read at
+  authority_file : (base : Base) (version : ℕ) → outcome ≡ Ok base
       → version_of given base.version ≡ Some version → IsCurrentAuthority authority at
-      → IsCurrentName name reading authority given files read at
-  lines : (base : Base) (version : ℕ) (signer : Option (List ℕ)) → reading ≡ Ok base
+      → IsCurrentName name outcome authority given files read at
+  lines : (base : Base) (version : ℕ) (signer : Option (List ℕ)) → outcome ≡ Ok base
       → version_of given base.version ≡ Some version → named_blob authority ≡ Ok signer
-      → IsCurrentFile signer files at → IsCurrentName name reading authority given files read at
+      → IsCurrentFile signer files at → IsCurrentName name outcome authority given files read at
   new_list : (made : Made) → read ≡ Ok made → name ≡ at
-      → IsCurrentName name reading authority given files read at
+      → IsCurrentName name outcome authority given files read at
 
 -- The fault that stopped a run is the one that reading gives, or an allocation failed, and the
 -- fault has the current name.
@@ -262,11 +262,11 @@ pub record StopsAtText (name : List ℕ) (read : Result Made RunFault) (stop : R
 abbrev pub Makes : {X : Type 0} → (X → List ℕ) → List ℕ → Result Base KrlFault
     → AuthorityOption Named → Option ℕ → List Named → Result Made RunFault → Result X RunFault
     → Type 0
-Makes view name reading authority given files read (Ok text) =
+Makes view name outcome authority given files read (Ok text) =
     (made : Made) × ((read ≡ Ok made) × IsMade made (view text))
-Makes view name reading authority given files read (Err stop) =
+Makes view name outcome authority given files read (Err stop) =
     IsRunFault (ended_by stop.cause)
-    (IsCurrentName name reading authority given files read) read stop
+    (IsCurrentName name outcome authority given files read) read stop
     ⊎ StopsAtText name read stop
 
 -- The text is that of the header and the revocations, and names exactly what these mean. Otherwise
@@ -320,8 +320,8 @@ pub record IsOldList (text : List ℕ) (base : Base) : Type 0 where
 -- The result of reading the old list, if there is one, given its reader before and after it.
 abbrev pub IsBaseRead : {R : Type 0} → (R → Option (List ℕ)) → (R → Bool) → Option R
     → Result Base KrlFault → Option R → Type 0
-IsBaseRead left has_failed None reading back =
-    (reading ≡ Ok new_base) × Means nothing [] × (back ≡ None)
-IsBaseRead left has_failed (Some reader) reading None = ⊥
-IsBaseRead left has_failed (Some reader) reading (Some back) =
-    IsReadingOf IsOldList (left reader) reading (has_failed back) (left back)
+IsBaseRead left has_failed None outcome back =
+    (outcome ≡ Ok new_base) × Means nothing [] × (back ≡ None)
+IsBaseRead left has_failed (Some reader) outcome None = ⊥
+IsBaseRead left has_failed (Some reader) outcome (Some back) =
+    IsResultOf IsOldList (left reader) outcome (has_failed back) (left back)

@@ -34,10 +34,10 @@ pub fn read_base<'a, R: Source + Drop>(
     list: Option<R>,
 ) -> (Result<Base, RunFault<'a>>, Option<R>)
     requires { ForSome list (λ reader. R.has_failed reader ≡ false) }
-    ensures { (reading : Result BaseOf FaultOf)
-        × IsBaseRead R.left R.has_failed list reading result.1
-        × MatchResult result.0 (λ base. reading ≡ Ok base)
-        (λ stop. (fault : FaultOf) × ((reading ≡ Err fault)
+    ensures { (outcome : Result BaseOf FaultOf)
+        × IsBaseRead R.left R.has_failed list outcome result.1
+        × MatchResult result.0 (λ base. outcome ≡ Ok base)
+        (λ stop. (fault : FaultOf) × ((outcome ≡ Err fault)
         × (stop ≡ run_fault_of name.now (krl_cause fault)))) }
 {
     let Some(reader) = list else {

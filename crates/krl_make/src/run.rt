@@ -45,10 +45,10 @@ pub fn make_run<'a, R: Source + Drop>(
     moment: u64,
 ) -> (Result<Vec<u8>, RunFault<'a>>, Option<R>)
     requires { ForSome old.list (λ reader. R.has_failed reader ≡ false) }
-    ensures { (reading : Result BaseOf FaultOf)
-        × IsBaseRead R.left R.has_failed old.entry.list reading result.1
-        × Makes (λ made. made.items) old.entry.name.now reading authority.now version files.now
-        (make_run_of old.entry.name.now reading authority.now version files.now moment) result.0 }
+    ensures { (outcome : Result BaseOf FaultOf)
+        × IsBaseRead R.left R.has_failed old.entry.list outcome result.1
+        × Makes (λ made. made.items) old.entry.name.now outcome authority.now version files.now
+        (make_run_of old.entry.name.now outcome authority.now version files.now moment) result.0 }
 {
     let Old { name, list } = old;
     let new_list = NewList {

@@ -9,7 +9,7 @@ pub use Rattle.std.proofs.Common.{mul_assoc, mul_comm, Option, refl, rules, set,
 pub use Rattle.std.proofs.Common.{subst, suc, sym, take, take-append-drop, take_all, take_at, true}
 pub use Rattle.std.proofs.Common.{zero, ℕ}
 pub use Rattle.krl_plan.specs.Bitmaps.{bitmap_candidate, HasBitmaps, IsBitmap, IsBitmapOf, last_of}
-pub use Rattle.krl_plan.specs.Copies.{BeginChunks, Copies}
+pub use Rattle.krl_plan.specs.Copies.{BeginBatches, Copies}
 pub use Rattle.krl_plan.specs.MonotonicQueue.{AnswersFor, AreOrdered, Forgets, IsFilled, IsFirstOf}
 pub use Rattle.krl_plan.specs.MonotonicQueue.{IsLeastOf, Pushes}
 pub use Rattle.krl_plan.specs.Plan.{Allows, Before, bytes_of, cost, end_of, IsCheapest, IsGroup}
@@ -26,9 +26,9 @@ pub use Rattle.krl_plan.specs.declared.group.Sort.TheVariants.{Bitmap, Range, Se
 pub use Rattle.krl_plan.specs.declared.monotonic_queue.Candidate.{Candidate}
 pub use Rattle.krl_plan.specs.declared.monotonic_queue.MonotonicQueue.{MonotonicQueue}
 pub use Rattle.serial_set.proofs.RisingLists.{covers_append, has_names, runs_at, RunsFrom-weaker}
-pub use Rattle.serial_set.proofs.RunWalks.{since_same, walk_ends, walk_on}
+pub use Rattle.serial_set.proofs.RunIteration.{since_same, iteration_ends, iteration_continues}
 pub use Rattle.serial_set.specs.Span.{AreSerials, Covers, has, IsRuns, RunsFrom}
-pub use Rattle.serial_set.specs.Walk.{IsPiece, left, next_of, since, steps}
+pub use Rattle.serial_set.specs.Iteration.{IsPiece, left, next_of, since, steps}
 pub use Rattle.serial_set.specs.declared.span.Span.{Span}
 pub use Rattle.ssh_wire.proofs.Fields.{length-number, length-numbers, length-string}
 pub use Rattle.ssh_wire.specs.Wire.{number}

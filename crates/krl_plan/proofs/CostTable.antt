@@ -1,4 +1,4 @@
--- The table of costs and choices: one more run in front, and the walk that gives the plan.
+-- The table of costs and choices: one more run in front, and the steps that give the plan.
 use Rattle.krl_plan.proofs.Common.{[], ◌*◌, ◌++◌, ◌+◌, ◌-◌, ◌<◌, ◌∙◌, ◌∷◌, ◌≡◌, ◌≤◌, ap, append-nil}
 use Rattle.krl_plan.proofs.Common.{append_assoc, AreChoices, arith, Cell, drop, drop-drop, drop_all}
 use Rattle.krl_plan.proofs.Common.{get_or, get_or_append_left, get_or_push, Group, IsBest, IsChoice}
@@ -84,28 +84,28 @@ bounded_more choices run runs least rests cell le best =
     let bounded : cell.cost ≤ 21 + least = best_bounded (least ∷ rests) (run ∷ runs) cell (omega arith) best in
     omega arith
 
--- ---- the walk
+-- ---- the steps
 
 -- the groups so far, followed by the least plan of the runs left, are the least plan
-abbrev pub Walked : List Group → List Group → ℕ → Type 0
-Walked choices plan left =
+abbrev pub Planned : List Group → List Group → ℕ → Type 0
+Planned choices plan left =
     (runs : List Span) → AreChoices runs choices → (done : ℕ) (rest : List Group) → done + left ≡ length choices → IsLeastPlan (drop done runs) rest → IsLeastPlan runs (plan ++ rest)
 
-pub Walked-start : (choices plan : List Group) (left : ℕ) → plan ≡ [] → left ≡ length choices → Walked choices plan left
-Walked-start choices plan left e all runs c done rest at chosen =
+pub Planned-start : (choices plan : List Group) (left : ℕ) → plan ≡ [] → left ≡ length choices → Planned choices plan left
+Planned-start choices plan left e all runs c done rest at chosen =
     let none : done ≡ 0 = omega arith in
     rw e (subst (λ (n : ℕ). IsLeastPlan (drop n runs) rest) none chosen)
 
-pub Walked-more : (choices plan : List Group) (left : ℕ) (group : Group) → group ≡ get_or choices (left - 1) group → 0 < left → left ≤ length choices → group.count ≤ left → Walked choices plan left
-    → Walked choices (plan ++ group ∷ []) (left - group.count)
-Walked-more choices plan left group is some within fits w runs c done rest at chosen =
+pub Planned-more : (choices plan : List Group) (left : ℕ) (group : Group) → group ≡ get_or choices (left - 1) group → 0 < left → left ≤ length choices → group.count ≤ left → Planned choices plan left
+    → Planned choices (plan ++ group ∷ []) (left - group.count)
+Planned-more choices plan left group is some within fits w runs c done rest at chosen =
     let before : ℕ = length choices - left in
     let same : drop done runs ≡ drop group.count (drop before runs) = ap (λ (n : ℕ). drop n runs) (omega arith) ∙ sym (drop-drop group.count before runs) in
     let tail = (chosen_at choices runs left group c is some within).1 rest (subst (λ (xs : List Span). IsLeastPlan xs rest) same chosen) in
     subst (IsLeastPlan runs) (sym (append_assoc plan (group ∷ []) rest)) (w runs c before (group ∷ rest) (omega arith) tail)
 
-pub Walked-all : (choices plan : List Group) (runs : List Span) → Walked choices plan 0 → AreChoices runs choices → IsLeastPlan runs plan
-Walked-all choices plan runs w c =
+pub Planned-all : (choices plan : List Group) (runs : List Span) → Planned choices plan 0 → AreChoices runs choices → IsLeastPlan runs plan
+Planned-all choices plan runs w c =
     let one = c.one_each in
     let none : drop (length choices) runs ≡ [] = drop_all (length choices) runs (omega arith) in
     subst (IsLeastPlan runs) (append-nil plan) (w runs c (length choices) [] (omega arith) (subst (λ (xs : List Span). IsLeastPlan xs []) (sym none) none_least))

@@ -1,4 +1,4 @@
--- The least of the candidates in a window that slides along a line.
+-- The least of the candidates in a stretch that slides along a line.
 use Rattle.std.specs.Prelude.{◌≡◌, ℕ, ◌^◌, ◌<◌, ◌≤◌, ◌⊎◌, List, length, slice_index_or as get_or}
 use Rattle.std.specs.List.{Contains}
 use Rattle.std.specs.List.Sorted.{IsNonDecreasingBy}

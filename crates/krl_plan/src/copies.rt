@@ -1,14 +1,14 @@
 //! Runs that are copied from a set.
 
 ghost use Rattle.std.specs.Prelude.{◌≡◌, ◌≤◌, length, take, drop, IfOk, OnOk};
-ghost use Rattle.serial_set.specs.Walk.{since};
+ghost use Rattle.serial_set.specs.Iteration.{since};
 ghost use Rattle.krl_plan.specs.Copies.{Copies};
 
 use serial_set::{Span, Spans};
 use std::alloc::AllocError;
 
-// Copies runs from where a walk continues, until there are `count` or the walk ends. Returns where
-// the walk continues then.
+// Copies runs from where an iteration continues, until there are `count` or the iteration ends.
+// Returns where the iteration continues then.
 pub(crate) fn copy_runs<S: Spans>(
     set: &S,
     from: Option<u64>,
@@ -28,17 +28,17 @@ pub(crate) fn copy_runs<S: Spans>(
 }
 
 // Copies the runs from a number on: `count`, or all if there are fewer.
-pub(crate) fn copy_chunk<S: Spans>(
+pub(crate) fn copy_batch<S: Spans>(
     set: &S,
     number: u64,
     count: usize,
-    chunk: &mut Vec<Span>,
+    batch: &mut Vec<Span>,
 ) -> Result<(), AllocError>
-    ensures { OnOk result (chunk.new.items ≡ take count (since number (S.spans set.now))) }
+    ensures { OnOk result (batch.new.items ≡ take count (since number (S.spans set.now))) }
 {
-    chunk.clear();
-    copy_runs(set, Some(number), count, chunk)?;
-    chunk.truncate(count);
+    batch.clear();
+    copy_runs(set, Some(number), count, batch)?;
+    batch.truncate(count);
     Ok(())
 }
 

@@ -1,4 +1,4 @@
-//! The least of the candidates in a window that slides along a line toward zero.
+//! The least of the candidates in a stretch that slides along a line toward zero.
 
 ghost use Rattle.std.specs.Prelude.{◌≡◌, ◌<◌, ◌≤◌, ◌-◌, ◌⊎◌, ◌↔◌, [], length, take, drop};
 ghost use Rattle.std.specs.Prelude.{IfSome, IsSome, OnOk};

@@ -3,8 +3,8 @@ use Rattle.krl_queries.proofs.Common.{[], ◌+◌, ◌<◌, ◌↔◌, ◌∷◌
 use Rattle.krl_queries.proofs.Common.{get_or, inl, inr, IsFirst, IsRuns, length, List, max}
 use Rattle.krl_queries.proofs.Common.{names_from, None, Option, refl, RunsFrom, Some, Span, subst}
 use Rattle.krl_queries.proofs.Common.{suc, sym, take, zero, ℕ}
-use Rattle.serial_set.specs.Walk.{IsPiece, since}
-use Rattle.serial_set.proofs.RunWalks.{since_from, since_runs, since_to}
+use Rattle.serial_set.specs.Iteration.{IsPiece, since}
+use Rattle.serial_set.proofs.RunIteration.{since_from, since_runs, since_to}
 
 -- properties of the same numbers have the same first number
 pub first_as : (Member Other : ℕ → Type 0) (lo hi : ℕ) (first : Option ℕ) → ((s : ℕ) → Other s ↔ Member s) → IsFirst Member lo hi first → IsFirst Other lo hi first

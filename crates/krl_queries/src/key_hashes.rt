@@ -55,7 +55,7 @@ pub(crate) fn asks_hash<H: KeyHash<N>, S: Spans, const N: usize>(
         return Ok(hashes.contains(hash));
     }
     hashes.clear();
-    hash_keys::<H, N>(topics.walk_keys(), hashes)?;
+    hash_keys::<H, N>(topics.iter_keys(), hashes)?;
     *made = true;
     Ok(hashes.contains(hash))
 }

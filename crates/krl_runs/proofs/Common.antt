@@ -31,5 +31,5 @@ pub use Rattle.krl_runs.specs.Query.{HasEntries, IsHeld}
 unfoldable pub use Rattle.krl_runs.specs.Query.{asked_run_of, query_run_of}
 pub use Rattle.krl_runs.specs.declared.contents.fact.Fact.TheVariants.{Hash, Id, Key, Sha1}
 pub use Rattle.krl_types.specs.Subject.{CertNames, Subject}
-pub use Rattle.serial_set.specs.Walk.{IsPiece, left, next_of, since, steps}
+pub use Rattle.serial_set.specs.Iteration.{IsPiece, left, next_of, since, steps}
 pub use Rattle.std.proofs.lemmas.Result.{err_from_is_err_and}

@@ -12,7 +12,7 @@ use Rattle.std.proofs.lemmas.List.{map-append}
 use Rattle.std.proofs.lemmas.Bool.Decides.{nat_tests}
 use Rattle.serial_set.specs.declared.span.Span.{Span}
 use Rattle.serial_set.specs.Span.{IsRuns, AreSerials}
-use Rattle.serial_set.proofs.RunWalks.{walk_on}
+use Rattle.serial_set.proofs.RunIteration.{iteration_continues}
 use Rattle.key_listing.specs.Carries.{Carries}
 use Rattle.key_listing.specs.Printer.{Printer}
 
@@ -90,12 +90,12 @@ spans_next spans i d lt =
     let parts : drop i spans ≡ get_or spans i d ∷ drop (i + 1) spans = rw add-one (drop-cons spans i d lt) in
     ap (λ (xs : List Span). map serials_line xs) parts
 
--- or those of a piece and the others, where a walk continues
+-- or those of a piece and the others, where an iteration continues
 pub piece_next : (spans piece : List Span) (n : ℕ) (before next : Option ℕ) → IsRuns spans → AreSerials spans → before ≡ Some n → IsPiece spans n piece → next ≡ next_of piece
     → map serials_line (left before spans) ≡ map serials_line piece ++ map serials_line (left next spans)
 piece_next spans piece n before next r fits b p e =
     let k = length piece in
-    let rest : left next spans ≡ drop k (since n spans) = ap (λ (o : Option ℕ). left o spans) e ∙ walk_on spans piece n r fits p in
+    let rest : left next spans ≡ drop k (since n spans) = ap (λ (o : Option ℕ). left o spans) e ∙ iteration_continues spans piece n r fits p in
     let parts : left before spans ≡ piece ++ left next spans =
     ap (λ (o : Option ℕ). left o spans) b ∙ sym (take-append-drop k (since n spans)) ∙ ap (λ (xs : List Span). xs ++ drop k (since n spans)) (sym p.front) ∙ ap (λ (xs : List Span). piece ++ xs) (sym rest) in
     ap (λ (xs : List Span). map serials_line xs) parts ∙ map-append serials_line piece (left next spans)

@@ -10,11 +10,11 @@ use Rattle.krl_entries.specs.Entry.{Entry}
 use Rattle.krl_entries.specs.Reasons.{is_revoked, revokes}
 use Rattle.krl_core.specs.declared.header.Header.{Header}
 use Rattle.ssh_key.specs.Key.{PublicKey}
-use Rattle.krl_core.specs.Reading.{IsList, IsReadAs, IsReadingOf}
+use Rattle.krl_core.specs.Reading.{IsList, IsReadAs, IsResultOf}
 use Rattle.krl_entries.specs.Revoked.{Revoked}
 use Rattle.krl_types.specs.declared.krl_fault.KrlFault.{KrlFault}
 use Rattle.krl_types.specs.Subject.{Subject}
-use Rattle.key_text.specs.LineReading.{Content}
+use Rattle.key_text.specs.LineReading.{KeyLine}
 use Rattle.key_listing.specs.declared.answer.Answer.{Answer}
 use Rattle.key_files.specs.declared.file_fault.FileFault.TheVariants as files
 use Rattle.ssh_cert.specs.Escape.{escaped}
@@ -39,7 +39,7 @@ query_line name comment is_revoked =
     escaped name ++ (comment_part comment ++ (verdict is_revoked ++ 10 ∷ []))
 
 -- the answer for a key, by whether it is revoked
-abbrev pub answer_of : List ℕ → Content → Bool → Answer
+abbrev pub answer_of : List ℕ → KeyLine → Bool → Answer
 answer_of name line is_revoked =
     record { text = query_line name line.comment is_revoked; revoked = is_revoked }
 
@@ -57,7 +57,7 @@ ask contents = ask_by (revokes contents)
 -- These subjects are answered for by these entries.
 pub record AnswersAbout (Expected : Subject → Type 0) (entries : Revocations)
     (answering : Answering) : Type 0 where
-  pub say : (name : List ℕ) (number : Option ℕ) (line : Content) (asked : Subject) (key : PublicKey)
+  pub say : (name : List ℕ) (number : Option ℕ) (line : KeyLine) (asked : Subject) (key : PublicKey)
       → Expected asked → answering.say name number line asked key
       ≡ Some (answer_of name line (revokes entries asked))
   pub unanswered : answering.unanswered ≡ files.NoKeys
@@ -96,7 +96,7 @@ IsRead = IsReadAs IsHeld
 
 -- This is the result of reading a list, by its reader before and after it.
 abbrev pub IsListRead : Option (List ℕ) → Result Known KrlFault → Bool → Option (List ℕ) → Type 0
-IsListRead = IsReadingOf IsHeld
+IsListRead = IsResultOf IsHeld
 
 -- The list's first fault ends the run immediately. Otherwise its contents are printed, and then each
 -- key of each file gives one line, up to the first fault.
@@ -116,9 +116,9 @@ asked_run_of name (Ok entries) files =
 -- otherwise by the answers alone.
 pub data IsRun (name : List ℕ) (files : List Named) (before : Option (List ℕ)) (dump failed : Bool)
     (left : Option (List ℕ)) (items : List Item) : Type 0 where
-  dumped : (reading : Result Known KrlFault) → dump ≡ true
-      → IsListRead before reading failed left → items ≡ query_run_of name reading files
+  dumped : (outcome : Result Known KrlFault) → dump ≡ true
+      → IsListRead before outcome failed left → items ≡ query_run_of name outcome files
       → IsRun name files before dump failed left items
-  asked : (reading : Result (List Entry) KrlFault) → dump ≡ false
-      → IsReadingOf HasEntries before reading failed left → items ≡ asked_run_of name reading files
+  asked : (outcome : Result (List Entry) KrlFault) → dump ≡ false
+      → IsResultOf HasEntries before outcome failed left → items ≡ asked_run_of name outcome files
       → IsRun name files before dump failed left items

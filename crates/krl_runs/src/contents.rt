@@ -75,12 +75,12 @@ fn print_held<'a, S: Spans, W: Sink>(
     ensures { Carries (all_said name.now (contents_lines list.now)) result
         run.old.printer run.new.printer }
 {
-    for listed in list.walk_authorities() {
+    for listed in list.iter_authorities() {
         print_section(run, name, &listed)?;
     }
-    print_texts(run, name, Fact::Key, list.walk_keys())?;
-    print_texts(run, name, Fact::Sha1, list.walk_sha1s())?;
-    print_texts(run, name, Fact::Hash, list.walk_sha256s())
+    print_texts(run, name, Fact::Key, list.iter_keys())?;
+    print_texts(run, name, Fact::Sha1, list.iter_sha1s())?;
+    print_texts(run, name, Fact::Hash, list.iter_sha256s())
 }
 
 // Prints an authority, its serials and its key IDs.
@@ -95,7 +95,7 @@ fn print_section<'a, S: Spans, W: Sink>(
     let made = write_authority(run.alloc, listed.authority(), &mut run.line);
     run.say_line(name, made)?;
     print_spans(run, name, listed.spans())?;
-    print_texts(run, name, Fact::Id, listed.walk_ids())
+    print_texts(run, name, Fact::Id, listed.iter_ids())
 }
 
 // Prints spans of serials, some at a time.

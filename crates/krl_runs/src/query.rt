@@ -166,9 +166,9 @@ fn ask_stored<'a, R: Source + Drop, W: Sink>(
     files: &'a [Named<'a>],
 ) -> (Result<(), RunFault<'a>>, R)
     requires { R.has_failed krl ≡ false }
-    ensures { (reading : Result KnownOf FaultOf)
-        × IsListRead (R.left krl) reading (R.has_failed result.1) (R.left result.1)
-        × Carries (query_run_of krl_name.now reading files.now) result.0
+    ensures { (outcome : Result KnownOf FaultOf)
+        × IsListRead (R.left krl) outcome (R.has_failed result.1) (R.left result.1)
+        × Carries (query_run_of krl_name.now outcome files.now) result.0
         run.old.printer run.new.printer }
 {
     let (read, reader) = read_krl::<Held, R>(run.alloc, krl);

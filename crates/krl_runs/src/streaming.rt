@@ -6,7 +6,7 @@ ghost use Rattle.key_files.specs.Sizes.{files_size};
 ghost use Rattle.krl_entries.specs.Entry.{Entry as EntryOf};
 ghost use Rattle.krl_queries.specs.Questions.{Asks};
 ghost use Rattle.krl_entries.specs.Revocations.{IsOrderly, nothing};
-ghost use Rattle.krl_core.specs.Reading.{HasReadOf, IsReadingOf};
+ghost use Rattle.krl_core.specs.Reading.{HasReadOf, IsResultOf};
 ghost use Rattle.krl_types.specs.declared.krl_fault.KrlFault.{KrlFault as FaultOf};
 ghost use Rattle.key_listing.specs.Carries.{Carries};
 ghost use Rattle.key_listing.specs.Expected.{AllExpected};
@@ -36,9 +36,9 @@ pub(crate) fn ask_streamed<'a, R: Source + Drop, W: Sink>(
     files: &'a [Named<'a>],
 ) -> (Result<(), RunFault<'a>>, R)
     requires { R.has_failed krl ≡ false }
-    ensures { (reading : Result (List EntryOf) FaultOf)
-        × IsReadingOf HasEntries (R.left krl) reading (R.has_failed result.1) (R.left result.1)
-        × Carries (asked_run_of krl_name.now reading files.now) result.0
+    ensures { (outcome : Result (List EntryOf) FaultOf)
+        × IsResultOf HasEntries (R.left krl) outcome (R.has_failed result.1) (R.left result.1)
+        × Carries (asked_run_of krl_name.now outcome files.now) result.0
         run.old.printer run.new.printer }
 {
     let mut front: Reading<Held, R> = Reading::new(run.alloc, krl);
@@ -81,9 +81,9 @@ fn ask_rest<'a, R: Source + Drop, W: Sink>(
     requires working { front.fault ≡ None }
     requires short { front.pull.taken ≤ 262144 }
     ensures { (before : Option (List ℕ)) → HasReadOf before front
-        → (reading : Result (List EntryOf) FaultOf)
-        × IsReadingOf HasEntries before reading (R.has_failed result.1) (R.left result.1)
-        × Carries (asked_run_of krl_name.now reading files.now) result.0
+        → (outcome : Result (List EntryOf) FaultOf)
+        × IsResultOf HasEntries before outcome (R.has_failed result.1) (R.left result.1)
+        × Carries (asked_run_of krl_name.now outcome files.now) result.0
         run.old.printer run.new.printer }
 {
     let mut questions: Questions<Held> = Questions::new(run.alloc);
@@ -117,9 +117,9 @@ fn stream<'a, R: Source + Drop, W: Sink>(
     requires within { IfSome walk.stored.scope
         (AsksAtMost (3 * files_size files.now) nothing) }
     ensures { (before : Option (List ℕ)) → HasReadOf before walk
-        → (reading : Result (List EntryOf) FaultOf)
-        × IsReadingOf HasEntries before reading (R.has_failed result.1) (R.left result.1)
-        × Carries (asked_run_of krl_name.now reading files.now) result.0
+        → (outcome : Result (List EntryOf) FaultOf)
+        × IsResultOf HasEntries before outcome (R.has_failed result.1) (R.left result.1)
+        × Carries (asked_run_of krl_name.now outcome files.now) result.0
         run.old.printer run.new.printer }
 {
     let (read, reader) = walk.read_on();
@@ -156,9 +156,9 @@ fn stream_unasked<'a, R: Source + Drop, W: Sink>(
 ) -> (Result<(), RunFault<'a>>, R)
     requires { walk.fault ≡ None }
     ensures { (files : List NamedOf) (before : Option (List ℕ)) → HasReadOf before walk
-        → (reading : Result (List EntryOf) FaultOf)
-        × IsReadingOf HasEntries before reading (R.has_failed result.1) (R.left result.1)
-        × Carries (asked_run_of krl_name.now reading files) result.0
+        → (outcome : Result (List EntryOf) FaultOf)
+        × IsResultOf HasEntries before outcome (R.has_failed result.1) (R.left result.1)
+        × Carries (asked_run_of krl_name.now outcome files) result.0
         run.old.printer run.new.printer }
 {
     let (read, reader) = walk.read_on();

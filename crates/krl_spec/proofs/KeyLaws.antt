@@ -5,7 +5,7 @@ use Rattle.ssh_wire.specs.Wire.{IsBytes}
 use Rattle.ssh_wire.proofs.Steps.{bind_err, bind_ok, in_fault_err, in_fault_ok}
 use Rattle.key_text.specs.KeyLine.{IsKeyLine}
 use Rattle.key_text.specs.LineFaults.{IsFirstLineFault}
-use Rattle.key_text.specs.LineReading.{Content, content, line_at}
+use Rattle.key_text.specs.LineReading.{KeyLine, content, line_at}
 use Rattle.key_text.specs.declared.line_fault.LineFault.{LineFault}
 use Rattle.krl_types.specs.Subject.{Subject}
 use Rattle.ssh_cert.specs.SubjectReading.{IsSubject, IsSubjectFault, subject_of}
@@ -19,7 +19,7 @@ use Rattle.key_files.specs.declared.spec_cause.SpecCause.{SpecCause}
 pub record KeyLaws : Type 0 where
   pub line_read : (text word blob comment : List ℕ) → IsKeyLine text word blob comment
       → line_at text ≡ Ok (content word blob comment)
-  pub line_found : (text : List ℕ) (line : Content) → IsBytes text → line_at text ≡ Ok line
+  pub line_found : (text : List ℕ) (line : KeyLine) → IsBytes text → line_at text ≡ Ok line
       → IsKeyLine text line.word line.blob line.comment
   pub line_refused : (text : List ℕ) (fault : LineFault) → IsBytes text
       → (line_at text ≡ Err fault) ↔ IsFirstLineFault text fault
@@ -29,7 +29,7 @@ pub record KeyLaws : Type 0 where
       → (subject_of blob ≡ Err fault) ↔ IsSubjectFault blob fault
 
 -- the subject of the blob of a line
-abbrev asked_in : Content → Result Subject SpecCause
+abbrev asked_in : KeyLine → Result Subject SpecCause
 asked_in line = in_fault subject_cause (subject_of line.blob)
 
 pub subject_found : KeyLaws → (text : List ℕ) (asked : Subject) → IsBytes text → subject_in text ≡ Ok asked → IsSubjectLine text asked

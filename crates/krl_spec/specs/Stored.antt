@@ -17,14 +17,14 @@ GrowsBy authority text = GrowsUnder (bytes_under authority) (length text)
 -- `size` bytes suffice for an entry of this length, also if it is under another authority, whose
 -- bytes are counted too.
 abbrev pub HasRoom : List ℕ → ℕ → List ℕ → ℕ → Type 0
-HasRoom at_hand size authority bytes =
-    ((authority ≡ at_hand) × (bytes ≤ size)) ⊎ (length authority + bytes ≤ size)
+HasRoom current size authority bytes =
+    ((authority ≡ current) × (bytes ≤ size)) ⊎ (length authority + bytes ≤ size)
 
 -- An entry stores at most `size` more bytes, if the bytes of one authority are not counted.
 abbrev pub Fits : List ℕ → ℕ → Entry → Type 0
-Fits at_hand size (RangeEntry authority lo hi) = HasRoom at_hand size authority 0
-Fits at_hand size (IdEntry authority text) = HasRoom at_hand size authority (length text)
-Fits at_hand size (KeyEntry blob) = length blob ≤ size
-Fits at_hand size (Sha1Entry hash) = 20 ≤ size
-Fits at_hand size (Sha256Entry hash) = 32 ≤ size
-Fits at_hand size entry = ⊥
+Fits current size (RangeEntry authority lo hi) = HasRoom current size authority 0
+Fits current size (IdEntry authority text) = HasRoom current size authority (length text)
+Fits current size (KeyEntry blob) = length blob ≤ size
+Fits current size (Sha1Entry hash) = 20 ≤ size
+Fits current size (Sha256Entry hash) = 32 ≤ size
+Fits current size entry = ⊥

@@ -27,8 +27,8 @@ fn add<S: Spans>(revocations: &mut Revocations<S>, entry: LineEntry) -> Result<(
         (entry_of entry.entry ∷ [])) }
     ensures held { held revocations.new ≤ held revocations.old + 1 }
     ensures refused { OnErr result (revocations.new ≡ revocations.old) }
-    ensures grows { (at_hand : List ℕ) (size : ℕ) → Fits at_hand size (entry_of entry.entry)
-        → GrowsUnder at_hand size revocations.old revocations.new }
+    ensures grows { (current : List ℕ) (size : ℕ) → Fits current size (entry_of entry.entry)
+        → GrowsUnder current size revocations.old revocations.new }
 {
     match entry {
         LineEntry::Serials(authority, serials) => {
@@ -49,8 +49,8 @@ fn add_bare<S: Spans>(
     text: &[u8],
 ) -> Result<(), SpecCause>
     ensures adds { AddsEntry (bare_entry text.now) result revocations.old revocations.new }
-    ensures grows { (at_hand : List ℕ)
-        → GrowsUnder at_hand (length text.now) revocations.old revocations.new }
+    ensures grows { (current : List ℕ)
+        → GrowsUnder current (length text.now) revocations.old revocations.new }
 {
     let line = key_line(alloc, text)?;
     let asked = ask(alloc, line.blob.as_slice())?;

@@ -19,7 +19,7 @@ pub fn bare_line(line: &[u8]) -> &[u8]
 
 /// The position of the first such byte, or the length if there is none.
 pub fn position_of(text: &[u8], sought: u8) -> usize
-    ensures place { result ≡ position_or_len (λ byte. byte == sought) text.now }
+    ensures position { result ≡ position_or_len (λ byte. byte == sought) text.now }
     ensures within { result ≤ length text.now }
 {
     for (at, byte) in text.iter().enumerate() {

@@ -71,7 +71,7 @@ fn read_serial_order<'a>(under: Under<'a>, given: &[u8]) -> Result<LineEntry<'a>
     ensures fits { IfOk result (λ entry.
         Fits (bytes_under (authority_under under.entry)) (length given.now) (entry_of entry)) }
 {
-    let authority = authority_at_hand(under)?;
+    let authority = current_authority(under)?;
     let serials = read_serials(given)?;
     Ok(LineEntry::Serials(authority, serials))
 }
@@ -84,7 +84,7 @@ fn read_id_order<'a>(under: Under<'a>, given: &'a [u8]) -> Result<LineEntry<'a>,
     ensures fits { IfOk result (λ entry.
         Fits (bytes_under (authority_under under.entry)) (length given.now) (entry_of entry)) }
 {
-    let authority = authority_at_hand(under)?;
+    let authority = current_authority(under)?;
     if given.is_empty() {
         return Err(SpecCause::EmptyId);
     }
@@ -92,7 +92,7 @@ fn read_id_order<'a>(under: Under<'a>, given: &'a [u8]) -> Result<LineEntry<'a>,
 }
 
 // The bytes of the authority of serials and key IDs that name none themselves.
-fn authority_at_hand<'a>(under: Under<'a>) -> Result<&'a [u8], SpecCause>
+fn current_authority<'a>(under: Under<'a>) -> Result<&'a [u8], SpecCause>
     ensures { MatchResult result
         (λ authority. authority_under under.entry ≡ Some authority.now)
         (λ cause. (cause ≡ NoAuthority) × (authority_under under.entry ≡ None)) }

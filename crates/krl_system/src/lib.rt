@@ -19,5 +19,5 @@ pub use files::{buffered, open, open_authority, open_inputs, open_list, open_or_
 pub use locked_list::{Locked, MadeOf, OldList, Target, lock_target, release};
 pub use replacing::{Written, write_list};
 pub use reporting::report;
-pub use streams::{NOTHING, Places, hold_places};
+pub use streams::{NOTHING, Placeholders, open_placeholders};
 pub use waiting::Waiting;

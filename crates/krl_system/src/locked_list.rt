@@ -44,7 +44,7 @@ pub struct OldList {
 /// Where a list is written. No other update reads or writes it while this is held.
 #[derive(Drop)]
 pub struct Locked {
-    /// The place.
+    /// The target.
     pub target: Target,
     // None if a list is written in place, since it is locked itself, and for a stream.
     pub(crate) lock: Option<Lock>,

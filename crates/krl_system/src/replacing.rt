@@ -26,7 +26,7 @@ pub enum Written {
 
 // The name and the path of a list.
 #[derive(Clone, Copy)]
-struct Place<'a> {
+struct Destination<'a> {
     // The name, as the user gave it.
     name: &'a str,
     // The path, with links followed.
@@ -47,13 +47,13 @@ pub fn write_list<'a>(
         Target::List(old) => {
             let path = old.path.as_str();
             let old = Some(old);
-            replace(rt, Place { name, path, old }, text)
+            replace(rt, Destination { name, path, old }, text)
         }
         Target::Free(path) => {
             let path = path.as_str();
             replace(
                 rt,
-                Place {
+                Destination {
                     name,
                     path,
                     old: None,
@@ -80,16 +80,16 @@ fn overwrite(rt: &HostRuntime, name: &str, old: &OldList, text: &[u8]) -> Result
 }
 
 // Writes the list to a new file, which replaces the old one.
-fn replace(rt: &HostRuntime, place: Place<'_>, text: &[u8]) -> Result<Written, Cause> {
-    let new = match create_beside(rt, place) {
+fn replace(rt: &HostRuntime, destination: Destination<'_>, text: &[u8]) -> Result<Written, Cause> {
+    let new = match create_beside(rt, destination) {
         Ok(new) => new,
         Err(error) => return Err(unopened(&error)),
     };
-    let put = match finish(&new.file, place.old, text) {
-        Ok(found) => match give_name(rt, new.path.as_str(), place) {
+    let put = match finish(&new.file, destination.old, text) {
+        Ok(found) => match give_name(rt, new.path.as_str(), destination) {
             Ok(Written::Whole) => {
-                sync_folder(rt, place.path);
-                return looked_at(rt, place.name, &found, place.old);
+                sync_folder(rt, destination.path);
+                return looked_at(rt, destination.name, &found, destination.old);
             }
             other => other,
         },
@@ -107,12 +107,12 @@ struct NewFile {
 }
 
 // A new file in the folder of the list.
-fn create_beside(rt: &HostRuntime, place: Place<'_>) -> io::Result<NewFile> {
+fn create_beside(rt: &HostRuntime, destination: Destination<'_>) -> io::Result<NewFile> {
     let mut options = OpenOptions::new();
     options.write(true).create_new(true);
-    options.mode(first_mode(place.old.map(|old| &old.found)));
+    options.mode(first_mode(destination.old.map(|old| &old.found)));
     for _ in 0..TRIES {
-        let path = new_name(rt, place.path)?;
+        let path = new_name(rt, destination.path)?;
         match options.open(rt, path.as_str()) {
             Ok(file) => return Ok(NewFile { file, path }),
             Err(error) if error.kind() == ErrorKind::AlreadyExists => {}
@@ -140,19 +140,19 @@ fn finish(file: &File, old: Option<&OldList>, text: &[u8]) -> Result<Metadata, C
 // only if the name is still free, so that no file is replaced that was created meanwhile. If no
 // link can be made, as on some file systems, and if there is an old list, the name is checked
 // directly before the new file is renamed.
-fn give_name(rt: &HostRuntime, new: &str, place: Place<'_>) -> Result<Written, Cause> {
-    if place.old.is_none() && fs::hard_link(rt, new, place.path).is_ok() {
+fn give_name(rt: &HostRuntime, new: &str, destination: Destination<'_>) -> Result<Written, Cause> {
+    if destination.old.is_none() && fs::hard_link(rt, new, destination.path).is_ok() {
         let _ = fs::remove_file(rt, new);
         return Ok(Written::Whole);
     }
-    let is_ready = match place.old {
+    let is_ready = match destination.old {
         Some(old) => is_as_opened(rt, old),
-        None => is_at(rt, place.path, None),
+        None => is_at(rt, destination.path, None),
     };
     if !is_ready {
         return Ok(Written::Elsewhere);
     }
-    match fs::rename(rt, new, place.path) {
+    match fs::rename(rt, new, destination.path) {
         Ok(()) => Ok(Written::Whole),
         Err(_) => Err(UNWRITTEN),
     }

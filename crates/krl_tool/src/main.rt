@@ -11,7 +11,7 @@ use key_files::{Cause, FileFault};
 use key_listing::{ListMode, list_run};
 use krl_job::{Job, Mode};
 use krl_runs::query_run;
-use krl_system::{NOTHING, hold_places, moment, open, open_list, open_or_input};
+use krl_system::{NOTHING, moment, open, open_list, open_or_input, open_placeholders};
 use krl_words::{CommandFault, command_of};
 use std::env;
 use std::io::{self, ErrorKind};
@@ -19,10 +19,10 @@ use std::process::ExitCode;
 
 // Runs the program, with the file descriptors of closed standard streams occupied.
 fn main(rt: HostRuntime) -> ExitCode {
-    let status = match hold_places(&rt) {
-        Ok(places) => {
+    let status = match open_placeholders(&rt) {
+        Ok(placeholders) => {
             let status = run(&rt);
-            drop(places);
+            drop(placeholders);
             status
         }
         Err(_) => end(&rt, &failed(NOTHING, Cause::File(FileFault::Open))),

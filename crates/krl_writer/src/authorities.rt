@@ -22,7 +22,7 @@ pub(crate) fn add_authorities<S: Spans>(
     ensures { AddsAuthorities result out.old.items out.new.items authorities.entry }
 {
     for one in authorities {
-        add_authority(alloc, out, one.authority(), one.spans(), one.walk_ids())?;
+        add_authority(alloc, out, one.authority(), one.spans(), one.iter_ids())?;
     }
     Ok(())
 }

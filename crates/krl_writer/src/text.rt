@@ -35,7 +35,7 @@ pub fn krl_text<S: Spans>(
     }
     let mut out = Vec::new(alloc);
     add_header(&mut out, header)?;
-    add_authorities(alloc, &mut out, revocations.walk_authorities())?;
+    add_authorities(alloc, &mut out, revocations.iter_authorities())?;
     add_texts(&mut out, revocations)?;
     Ok(out)
 }
@@ -67,9 +67,9 @@ fn add_texts<S: Spans>(out: &mut Vec<u8>, revocations: &Revocations<S>) -> Resul
     requires { length out.old.items ≤ limit }
     ensures { AddsAtMost result out.old.items out.new.items (texts_text revocations.now) }
 {
-    add_listed(out, 2, revocations.walk_keys())?;
-    add_listed(out, 3, revocations.walk_sha1s())?;
-    add_listed(out, 5, revocations.walk_sha256s())?;
+    add_listed(out, 2, revocations.iter_keys())?;
+    add_listed(out, 3, revocations.iter_sha1s())?;
+    add_listed(out, 5, revocations.iter_sha256s())?;
     Ok(())
 }
 

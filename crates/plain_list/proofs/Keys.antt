@@ -11,7 +11,7 @@ use Rattle.std.specs.List.{prefix_len}
 use Rattle.key_text.specs.Blanks.{after_blanks, is_blank}
 use Rattle.key_text.specs.KeyLine.{IsKeyLine}
 use Rattle.key_text.specs.LineFaults.{IsFirstLineFault}
-use Rattle.key_text.specs.LineReading.{Content, content, line_at}
+use Rattle.key_text.specs.LineReading.{KeyLine, content, line_at}
 use Rattle.key_text.specs.declared.line_fault.LineFault.{LineFault}
 use Rattle.krl_types.specs.Subject.{Subject}
 use Rattle.ssh_cert.specs.SubjectReading.{IsSubject, IsSubjectFault, subject_of}
@@ -30,7 +30,7 @@ use Rattle.plain_list.specs.declared.size.Size.TheVariants.{Fits, Long, Short}
 pub record Laws : Type 0 where
   pub line_read : (text word blob comment : List ℕ) → IsKeyLine text word blob comment
       → line_at text ≡ Ok (content word blob comment)
-  pub line_found : (text : List ℕ) (line : Content) → IsBytes text → line_at text ≡ Ok line
+  pub line_found : (text : List ℕ) (line : KeyLine) → IsBytes text → line_at text ≡ Ok line
       → IsKeyLine text line.word line.blob line.comment
   pub line_refused : (text : List ℕ) (fault : LineFault) → IsBytes text
       → (line_at text ≡ Err fault) ↔ IsFirstLineFault text fault
@@ -82,7 +82,7 @@ starts line = elim (cases_Bool (is_remark (content_of line))) [
 abbrev keyed : Subject → Result (Option (List ℕ)) LineCause
 keyed asked = in_fault key_cause (key_at asked.plain) >>= sized_key
 
-abbrev blobbed : Content → Result (Option (List ℕ)) LineCause
+abbrev blobbed : KeyLine → Result (Option (List ℕ)) LineCause
 blobbed read = blob_key read.blob
 
 sized_found : (line : List ℕ) (key : PublicKey) (given : Option (List ℕ)) (size : Size) → HasKey line key → size_of key.kind key.bits ≡ size
@@ -98,7 +98,7 @@ sized_refused line key cause Fits has is e = absurd (cc)
 sized_refused line key cause Long has is e = long key has is (cc)
 
 -- a key line with a subject has a key
-has_key : Laws → (line : List ℕ) (read : Content) (asked : Subject) → BeginsWithKey line → IsKeyLine (content_of line) read.word read.blob read.comment
+has_key : Laws → (line : List ℕ) (read : KeyLine) (asked : Subject) → BeginsWithKey line → IsKeyLine (content_of line) read.word read.blob read.comment
     → IsSubject read.blob asked → (key : PublicKey) × HasKey line key
 has_key laws line read asked begins is_line asks =
     let key = plain_is_key read.blob asked asks in

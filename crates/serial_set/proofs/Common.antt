@@ -10,8 +10,8 @@ pub use Rattle.serial_set.specs.BitRuns.{IsInStep, IsInterval, lowest, PassesEnd
 pub use Rattle.serial_set.specs.Finished.{finished_of}
 pub use Rattle.serial_set.specs.Span.{AddsSpan, AreSerials, Covers, has, IsRuns, IsRunsOf, RunsFrom}
 pub use Rattle.serial_set.specs.Span.{SpanCovers}
-pub use Rattle.serial_set.specs.Walk.{clipped, IsPiece, left, next_by, next_of, past, piece_of}
-pub use Rattle.serial_set.specs.Walk.{since, since_by, steps}
+pub use Rattle.serial_set.specs.Iteration.{clipped, IsPiece, left, next_by, next_of, past, piece_of}
+pub use Rattle.serial_set.specs.Iteration.{since, since_by, steps}
 pub use Rattle.serial_set.specs.declared.span.Span.{Span}
 pub use Rattle.std.proofs.lemmas.Bool.{cases_eq, cases_lt}
 pub use Rattle.std.proofs.lemmas.Bool.Decides.{Decides-and, Decides-or, eqb_tells, leb_tells}

@@ -5,4 +5,4 @@ pub mod Joined
 pub mod Laws
 pub mod Near
 pub mod Span
-pub mod Walk
+pub mod Iteration

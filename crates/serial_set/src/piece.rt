@@ -2,8 +2,8 @@
 ghost use Rattle.std.specs.Prelude.{◌≡◌, ◌≤◌, ◌<◌, ◌+◌, ◌++◌, ◌↔◌, ℕ, [], ◌∷◌, length, take, All};
 ghost use Rattle.std.specs.Prelude.{MatchOption, IsTrue, false};
 
+use crate::iteration::next_after;
 use crate::span::Span;
-use crate::walk::next_after;
 
 /// Some consecutive runs of a set: the first `count` of `spans`.
 #[derive(Clone, Copy)]
@@ -15,7 +15,7 @@ pub struct Piece {
 
 impl Piece {
     ghost use Rattle.serial_set.specs.Span.{AddsSpan, Covers, IsRuns};
-    ghost use Rattle.serial_set.specs.Walk.{clipped, next_of, piece_of, since};
+    ghost use Rattle.serial_set.specs.Iteration.{clipped, next_of, piece_of, since};
 
     /// No runs.
     pub fn none() -> Piece
@@ -124,7 +124,7 @@ impl Piece {
         &self.spans[..usize::from(self.count)]
     }
 
-    /// Where a walk continues after these runs, as `next_after` says.
+    /// Where an iteration continues after these runs, as `next_after` says.
     pub fn next(&self) -> Option<u64>
         ensures { result ≡ next_of (piece_of self.now) }
     {

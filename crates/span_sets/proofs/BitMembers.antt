@@ -6,7 +6,7 @@ use Rattle.span_sets.proofs.Common.{bit_not, bits_of, cases_eq, cases_lt, Chunk,
 use Rattle.span_sets.proofs.Common.{GoesOn, hi_of, inl, inr, is_span, IsFirst, IsFirstBit, lo_of}
 use Rattle.span_sets.proofs.Common.{members_in, None, Some, subst, sym, trailing_zeros, w64}
 use Rattle.span_sets.proofs.Common.{window_of, ℕ}
-use Rattle.span_sets.proofs.ChunkMembers.{in_word, word_ends}
+use Rattle.span_sets.proofs.ChunkMembers.{in_block, block_ends}
 
 pub none_set : (bits bit m : ℕ) → m ≡ 2 ^ 64 - 2 ^ bit → bit_and bits m ≡ 0 → IsFirstBit bits bit None
 none_set bits bit m e none i h k =
@@ -46,38 +46,38 @@ set_before bits i fits within clear =
     let low = bit_at-lt bits i in
     omega arith
 
--- ---- the members of a word
+-- ---- the members of a block
 
-pub word_none : (e : Chunk) (number bit : ℕ) → is_span e ≡ false → bit ≡ number - lo_of e → IsFirstBit (bits_of e) bit None → IsFirst (members_in e) number None
-word_none e number bit word is k s h n =
-    let at = (in_word e s word).0 n in
-    let ends = word_ends e word in
+pub block_none : (e : Chunk) (number bit : ℕ) → is_span e ≡ false → bit ≡ number - lo_of e → IsFirstBit (bits_of e) bit None → IsFirst (members_in e) number None
+block_none e number bit block is k s h n =
+    let at = (in_block e s block).0 n in
+    let ends = block_ends e block in
     omega (arith, at.0, at.1, at.2, k (s - 64 * window_of e) (omega arith) (omega (arith, at.0, at.1)))
 
-pub word_first : (e : Chunk) (number bit at : ℕ) → is_span e ≡ false → bit ≡ number - lo_of e → IsFirstBit (bits_of e) bit (Some at) → IsFirst (members_in e) number (Some (lo_of e + at))
-word_first e number bit at word is k =
+pub block_first : (e : Chunk) (number bit at : ℕ) → is_span e ≡ false → bit ≡ number - lo_of e → IsFirstBit (bits_of e) bit (Some at) → IsFirst (members_in e) number (Some (lo_of e + at))
+block_first e number bit at block is k =
     let base = 64 * window_of e in
-    let ends = word_ends e word in
+    let ends = block_ends e block in
     let back : lo_of e + at - base ≡ at = omega arith in (
       omega (arith, k.0),
-      (in_word e (lo_of e + at) word).1 (omega arith, omega (arith, k.1), ap (λ i. bit_at (bits_of e) i) back ∙ k.2),
-      λ s h l n. let m = (in_word e s word).0 n in omega (arith, m.0, m.1, m.2, k.3 (s - base) (omega arith) (omega arith)),
+      (in_block e (lo_of e + at) block).1 (omega arith, omega (arith, k.1), ap (λ i. bit_at (bits_of e) i) back ∙ k.2),
+      λ s h l n. let m = (in_block e s block).0 n in omega (arith, m.0, m.1, m.2, k.3 (s - base) (omega arith) (omega arith)),
     )
 
-pub word_on : (e : Chunk) (member last : ℕ) → is_span e ≡ false → Covers (members_in e) member → member - lo_of e ≤ last → last < 64
+pub block_on : (e : Chunk) (member last : ℕ) → is_span e ≡ false → Covers (members_in e) member → member - lo_of e ≤ last → last < 64
     → ((i : ℕ) → member - lo_of e ≤ i → i ≤ last → bit_at (bits_of e) i ≡ 1) → GoesOn (members_in e) member (lo_of e + last)
-word_on e member last word n order within all =
-    let at = (in_word e member word).0 n in
-    let ends = word_ends e word in
+block_on e member last block n order within all =
+    let at = (in_block e member block).0 n in
+    let ends = block_ends e block in
     record {
       order = omega (arith, at.0);
-      all = λ s h k. (in_word e s word).1 (omega (arith, at.0), omega (arith, at.0), ap (λ (i : ℕ). bit_at (bits_of e) (s - i)) (sym ends.0) ∙ all (s - lo_of e) (omega arith) (omega (arith, at.0)));
+      all = λ s h k. (in_block e s block).1 (omega (arith, at.0), omega (arith, at.0), ap (λ (i : ℕ). bit_at (bits_of e) (s - i)) (sym ends.0) ∙ all (s - lo_of e) (omega arith) (omega (arith, at.0)));
     }
 
--- the consecutive members of a word end where the next bit is not set
-pub word_stops : (e : Chunk) (last : ℕ) → is_span e ≡ false → (last < 63 → bit_at (bits_of e) (last + 1) ≡ 0) → lo_of e + last < hi_of e → Covers (members_in e) (lo_of e + last + 1) → ⊥
-word_stops e last word clear h n =
-    let at = (in_word e (lo_of e + last + 1) word).0 n in
-    let ends = word_ends e word in
+-- the consecutive members of a block end where the next bit is not set
+pub block_stops : (e : Chunk) (last : ℕ) → is_span e ≡ false → (last < 63 → bit_at (bits_of e) (last + 1) ≡ 0) → lo_of e + last < hi_of e → Covers (members_in e) (lo_of e + last + 1) → ⊥
+block_stops e last block clear h n =
+    let at = (in_block e (lo_of e + last + 1) block).0 n in
+    let ends = block_ends e block in
     let none = subst (λ i. bit_at (bits_of e) i ≡ 0) {x = last + 1} {y = lo_of e + last + 1 - 64 * window_of e} (omega arith) (clear (omega arith)) in
     omega (arith, at.2, none)

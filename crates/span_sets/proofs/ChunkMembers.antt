@@ -31,11 +31,11 @@ singles_from (suc count) base bits s n =
           ]
     ]
 
--- the members of a word are its set bits
-pub in_word : (e : Chunk) (s : ℕ) → is_span e ≡ false → Covers (members_in e) s ↔ BitCovers 64 (64 * window_of e) (bits_of e) s
-in_word e s word =
+-- the members of a block are its set bits
+pub in_block : (e : Chunk) (s : ℕ) → is_span e ≡ false → Covers (members_in e) s ↔ BitCovers 64 (64 * window_of e) (bits_of e) s
+in_block e s block =
     let P : Bool → Type 0 = λ v. Covers (members_by v e) s ↔ BitCovers 64 (64 * window_of e) (bits_of e) s in
-    subst P (sym word) (singles_to 64 (64 * window_of e) (bits_of e) s, singles_from 64 (64 * window_of e) (bits_of e) s)
+    subst P (sym block) (singles_to 64 (64 * window_of e) (bits_of e) s, singles_from 64 (64 * window_of e) (bits_of e) s)
 
 -- the members of a span
 pub in_span : (e : Chunk) (s : ℕ) → is_span e ≡ true → Covers (members_in e) s ↔ ((e.a ≤ s) × (s ≤ e.b))
@@ -94,8 +94,8 @@ in_or base a b s =
       ],
     )
 
--- where a word begins and ends
-pub word_ends : (e : Chunk) → is_span e ≡ false → (lo_of e ≡ 64 * window_of e) × (hi_of e ≡ 64 * window_of e + 63)
-word_ends e word =
+-- where a block begins and ends
+pub block_ends : (e : Chunk) → is_span e ≡ false → (lo_of e ≡ 64 * window_of e) × (hi_of e ≡ 64 * window_of e + 63)
+block_ends e block =
     let P : Bool → Type 0 = λ v. (lo_by v e ≡ 64 * window_of e) × (hi_by v e ≡ 64 * window_of e + 63) in
-    subst P (sym word) (refl, refl)
+    subst P (sym block) (refl, refl)

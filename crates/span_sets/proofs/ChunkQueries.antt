@@ -5,7 +5,7 @@ use Rattle.span_sets.proofs.Common.{BitCovers, Bool, Chunk, ChunksFrom, Covers, 
 use Rattle.span_sets.proofs.Common.{inl, inr, IsChunkFrom, IsRunsOf, IsTrue, List, lo_of}
 use Rattle.span_sets.proofs.Common.{members_in, members_of, names_append, names_left, Ok, OnErr}
 use Rattle.span_sets.proofs.Common.{OnOk, refl, Replaces, Result, runs_of, runs_of_chunks, Some}
-use Rattle.span_sets.proofs.Common.{subst, sym, true, WordWidened, ℕ}
+use Rattle.span_sets.proofs.Common.{subst, sym, true, BlockWidened, ℕ}
 use Rattle.span_sets.proofs.OrderedChunks.{has_append, has_left, has_right, has_from, none_below}
 use Rattle.span_sets.proofs.OrderedChunks.{chunks_back}
 use Rattle.span_sets.proofs.Replacements.{replaced_order}
@@ -81,35 +81,35 @@ pub true_or_false : (b : Bool) (P Q : Type 0) → (IsTrue b → P) → (b ≡ fa
 true_or_false true P Q p q = inl (p refl)
 true_or_false false P Q p q = inr (q refl)
 
--- ---- a word that gets more bits
+-- ---- a block that gets more bits
 
 swapped_order : (a : ℕ) (front back : List Chunk) (was is : Chunk) → lo_of is ≡ lo_of was → hi_of is ≡ hi_of was → ChunksFrom a (front ++ was ∷ back) → ChunksFrom a (front ++ is ∷ back)
 swapped_order a [] back was is lo hi r = (omega (arith, lo, r.0), subst (λ n. ChunksFrom (n + 1) back) (sym hi) r.1)
 swapped_order a (x ∷ front) back was is lo hi r = (r.0, swapped_order (hi_of x + 1) front back was is lo hi r.1)
 
-pub widened_order : (old new : List Chunk) (window bits : ℕ) → WordWidened old window bits new → ChunksFrom 0 old → ChunksFrom 0 new
+pub widened_order : (old new : List Chunk) (window bits : ℕ) → BlockWidened old window bits new → ChunksFrom 0 old → ChunksFrom 0 new
 widened_order old new window bits k order =
     subst (ChunksFrom 0) (sym k.are)
-    (swapped_order 0 k.front k.back k.was k.is (k.word.lo.1 ∙ sym k.word.lo.0) (k.word.hi.1 ∙ sym k.word.hi.0) (subst (ChunksFrom 0) k.were order))
+    (swapped_order 0 k.front k.back k.was k.is (k.block.lo.1 ∙ sym k.block.lo.0) (k.block.hi.1 ∙ sym k.block.hi.0) (subst (ChunksFrom 0) k.were order))
 
-widened_to : (old new : List Chunk) (window bits s : ℕ) → WordWidened old window bits new → Covers (members_of new) s → Covers (members_of old) s ⊎ BitCovers 64 (64 * window) bits s
+widened_to : (old new : List Chunk) (window bits s : ℕ) → BlockWidened old window bits new → Covers (members_of new) s → Covers (members_of old) s ⊎ BitCovers 64 (64 * window) bits s
 widened_to old new window bits s k n =
-    ⊎_elim inl (λ here. ⊎_map (members_part old k.front k.was k.back s k.were) (λ added. added) ((k.word.more s).0 ((one_has k.is s).0 here)))
+    ⊎_elim inl (λ here. ⊎_map (members_part old k.front k.was k.back s k.were) (λ added. added) ((k.block.more s).0 ((one_has k.is s).0 here)))
     (parts_only old new k.front (k.was ∷ []) (k.is ∷ []) k.back s k.were k.are n)
 
-widened_from : (old new : List Chunk) (window bits s : ℕ) → WordWidened old window bits new → Covers (members_of old) s ⊎ BitCovers 64 (64 * window) bits s → Covers (members_of new) s
+widened_from : (old new : List Chunk) (window bits s : ℕ) → BlockWidened old window bits new → Covers (members_of old) s ⊎ BitCovers 64 (64 * window) bits s → Covers (members_of new) s
 widened_from old new window bits s k n =
-    let word : Covers (members_in k.was) s ⊎ BitCovers 64 (64 * window) bits s → Covers (members_of new) s = λ m. members_part new k.front k.is k.back s k.are ((k.word.more s).1 m) in
+    let block : Covers (members_in k.was) s ⊎ BitCovers 64 (64 * window) bits s → Covers (members_of new) s = λ m. members_part new k.front k.is k.back s k.are ((k.block.more s).1 m) in
     elim n [
-      | inl was ↦ ⊎_elim (λ m. m) (λ here. word (inl ((one_has k.was s).0 here))) (parts_only new old k.front (k.is ∷ []) (k.was ∷ []) k.back s k.are k.were was)
-      | inr added ↦ word (inr added)
+      | inl was ↦ ⊎_elim (λ m. m) (λ here. block (inl ((one_has k.was s).0 here))) (parts_only new old k.front (k.is ∷ []) (k.was ∷ []) k.back s k.are k.were was)
+      | inr added ↦ block (inr added)
     ]
 
-pub widened_serials : (old new : List Chunk) (window bits : ℕ) → WordWidened old window bits new → window < 2 ^ 58 → ((s : ℕ) → BitCovers 64 (64 * window) bits s → 0 < s) → AreSerials (members_of old) → AreSerials (members_of new)
+pub widened_serials : (old new : List Chunk) (window bits : ℕ) → BlockWidened old window bits new → window < 2 ^ 58 → ((s : ℕ) → BitCovers 64 (64 * window) bits s → 0 < s) → AreSerials (members_of old) → AreSerials (members_of new)
 widened_serials old new window bits k h positive was s n =
     elim (widened_to old new window bits s k n) [ inl m ↦ was s m | inr added ↦ (positive s added, omega (arith, added.1)) ]
 
-pub widened_runs : (old new : List Chunk) (window bits : ℕ) → WordWidened old window bits new → ChunksFrom 0 old → IsRunsOf (runs_of new) (λ s. Covers (runs_of old) s ⊎ BitCovers 64 (64 * window) bits s)
+pub widened_runs : (old new : List Chunk) (window bits : ℕ) → BlockWidened old window bits new → ChunksFrom 0 old → IsRunsOf (runs_of new) (λ s. Covers (runs_of old) s ⊎ BitCovers 64 (64 * window) bits s)
 widened_runs old new window bits k order =
     let was = runs_of_chunks old order in
     let is = runs_of_chunks new (widened_order old new window bits k order) in (

@@ -14,11 +14,11 @@ pub use Rattle.serial_set.proofs.LeastLists.{runs_first, runs_least}
 pub use Rattle.serial_set.proofs.RisingLists.{names_append, names_at, names_from, names_left}
 pub use Rattle.serial_set.proofs.RisingLists.{names_right, runs_apart, runs_front, runs_join}
 pub use Rattle.serial_set.proofs.RisingLists.{runs_middle, runs_reach, RunsFrom-weaker, starts_rise}
-pub use Rattle.serial_set.proofs.RunWalks.{piece_first, runs_few, since_after, since_from}
-pub use Rattle.serial_set.proofs.RunWalks.{since_runs, since_same, since_to, walk_ends, walk_on}
+pub use Rattle.serial_set.proofs.RunIteration.{piece_first, runs_few, since_after, since_from}
+pub use Rattle.serial_set.proofs.RunIteration.{since_runs, since_same, since_to, iteration_ends, iteration_continues}
 pub use Rattle.serial_set.specs.Span.{AddsSpan, AreSerials, Covers, IsRuns, IsRunsOf, RunsFrom}
 pub use Rattle.serial_set.specs.Span.{SpanCovers}
-pub use Rattle.serial_set.specs.Walk.{IsPiece, left, piece_of, since, steps}
+pub use Rattle.serial_set.specs.Iteration.{IsPiece, left, piece_of, since, steps}
 pub use Rattle.serial_set.specs.declared.span.Span.{Span}
 pub use Rattle.span_sets.specs.Chunk.{bits_of, ChunksFrom, hi_by, hi_of, is_span, lo_by, lo_of}
 pub use Rattle.span_sets.specs.Chunk.{members_by, members_in, members_of, runs_of, window_of}
@@ -29,13 +29,13 @@ pub use Rattle.span_sets.specs.Lawful.{singles_to, stretch, this_bit}
 pub use Rattle.span_sets.specs.Members.{GoesOn, IsFirst, IsFirstBit, Reads, Taken}
 pub use Rattle.span_sets.specs.Pages.{chunks_in, chunks_of, IsSplit}
 pub use Rattle.span_sets.specs.Positions.{CutTo, end_of, IsChunkFrom, IsListFrom, Widened}
-pub use Rattle.span_sets.specs.Positions.{WordWidened}
+pub use Rattle.span_sets.specs.Positions.{BlockWidened}
 pub use Rattle.span_sets.specs.Replacement.{Has, hi_or, IsReplacement, lo_or}
-pub use Rattle.span_sets.specs.Sides.{IsBack, IsFront}
+pub use Rattle.span_sets.specs.Sides.{IsUpperSide, IsLowerSide}
 pub use Rattle.span_sets.specs.SpanPages.{chunks_held}
 pub use Rattle.span_sets.specs.Tight.{Apart, AreTight, IsFull, IsTight, KeepsTight}
-pub use Rattle.span_sets.specs.Words.{BitCovers, single_by}
-unfoldable pub use Rattle.span_sets.specs.Words.{singles}
+pub use Rattle.span_sets.specs.Blocks.{BitCovers, single_by}
+unfoldable pub use Rattle.span_sets.specs.Blocks.{singles}
 pub use Rattle.span_sets.specs.declared.chunk.Chunk.{Chunk}
 pub use Rattle.std.proofs.Math.Logic.{⊎_map, ⊎_swap}
 pub use Rattle.std.proofs.lemmas.Bool.{cases_eq, cases_lt, false≢true, lt-leb}

@@ -12,7 +12,7 @@ pub mod SetChunks
 pub mod SpanSides
 pub mod OneChunkSets
 pub mod TightChunks
-pub mod MemberWalks
+pub mod MemberIteration
 pub mod ChunkQueries
 pub mod OrderedChunks
 pub mod Parts

@@ -1,7 +1,7 @@
 -- A set with only one chunk: queries, and the result of one change.
 use Rattle.span_sets.proofs.Common.{[], ◌<◌, ◌∷◌, ◌≡◌, ◌≤◌, All, All-cons, All-nil, ap, append-nil}
 use Rattle.span_sets.proofs.Common.{arith, Chunk, get_or, hi_of, IsListFrom, length, List, lo_of}
-use Rattle.span_sets.proofs.Common.{refl, Replaces, sym, Widened, WordWidened, ℕ}
+use Rattle.span_sets.proofs.Common.{refl, Replaces, sym, Widened, BlockWidened, ℕ}
 
 pub list_one : (e : Chunk) (n : ℕ) → n ≤ hi_of e → IsListFrom (e ∷ []) n (e ∷ [])
 list_one e n h = record {
@@ -23,15 +23,15 @@ list_below e n h = record {
   some = λ none. refl;
 }
 
-pub one_widened : (was is : Chunk) (window bits : ℕ) → Widened was window bits is → WordWidened (was ∷ []) window bits (is ∷ [])
-one_widened was is window bits word = record {
+pub one_widened : (was is : Chunk) (window bits : ℕ) → Widened was window bits is → BlockWidened (was ∷ []) window bits (is ∷ [])
+one_widened was is window bits block = record {
   front = [];
   back = [];
   was = was;
   is = is;
   were = refl;
   are = refl;
-  word = word;
+  block = block;
 }
 
 -- all chunks replaced by one

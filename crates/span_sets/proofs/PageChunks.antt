@@ -3,7 +3,7 @@ use Rattle.span_sets.proofs.Common.{◌++◌, ◌+◌, ◌<◌, ◌∙◌, ◌�
 use Rattle.span_sets.proofs.Common.{All-take, ap, arith, Chunk, CutTo, drop, drop-drop, drop_more}
 use Rattle.span_sets.proofs.Common.{get_or, hi_of, inl, inr, length, List, lo_of, Replaces, set}
 use Rattle.span_sets.proofs.Common.{set_split, stretch, subst, suc, sym, take, take-append-drop}
-use Rattle.span_sets.proofs.Common.{Widened, WordWidened, ℕ}
+use Rattle.span_sets.proofs.Common.{Widened, BlockWidened, ℕ}
 
 -- among chunks that a number does not split, those that end past it begin past it
 past_whole : (number n : ℕ) (es : List Chunk) → All (λ e. (hi_of e ≤ number) ⊎ (number < lo_of e)) es → All (λ e. number < hi_of e) (drop n es) → All (λ e. number < lo_of e) (drop n es)
@@ -40,10 +40,10 @@ cut_page es new number count whole upto past is = record {
   above = subst (All (λ e. number < lo_of e)) (sym is) (past_whole number count es whole past);
 }
 
--- one word replaced by a wider one
+-- one block replaced by a wider one
 pub widened_at : (xs : List Chunk) (position window bits : ℕ) (was is : Chunk) → position < length xs → was ≡ get_or xs position was → Widened was window bits is
-    → WordWidened xs window bits (set xs position is)
-widened_at xs position window bits was is within read word =
+    → BlockWidened xs window bits (set xs position is)
+widened_at xs position window bits was is within read block =
     let front = take position xs in
     let back = drop (position + 1) xs in
     let one : suc position ≡ position + 1 = omega arith in
@@ -54,5 +54,5 @@ widened_at xs position window bits was is within read word =
       is = is;
       were = sym (take-append-drop position xs) ∙ ap (λ l. front ++ l) (drop_more xs position was within ∙ ap (λ x. x ∷ back) (sym read));
       are = set_split xs position is within ∙ ap (λ n. front ++ is ∷ drop n xs) one;
-      word = word;
+      block = block;
     }

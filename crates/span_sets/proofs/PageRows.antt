@@ -7,7 +7,7 @@ use Rattle.span_sets.proofs.Common.{drop_at, end_of, get_or, get_or-drop, hi_of,
 use Rattle.span_sets.proofs.Common.{IsListFrom, IsNonDecreasingBy, IsSplit, length, length-append}
 use Rattle.span_sets.proofs.Common.{length-drop, length-take-le, List, lo_of, min, refl, Replaces}
 use Rattle.span_sets.proofs.Common.{set, stretch, subst, suc, sym, take, take-append-drop}
-use Rattle.span_sets.proofs.Common.{take-take, take_all, take_at, take_more_set, WordWidened, zero}
+use Rattle.span_sets.proofs.Common.{take-take, take_all, take_at, take_more_set, BlockWidened, zero}
 use Rattle.span_sets.proofs.Common.{ℕ}
 use Rattle.std.proofs.lemmas.List.Concat.{flat_map-append}
 use Rattle.span_sets.specs.declared.page.Page.{Page}
@@ -247,8 +247,8 @@ put_whole xs zs at new d few lo hi h order before after r same k =
     let all = put_pages front page rest few (chunks_in new) left lo hi (subst (ChunksFrom 0) was order) before after r k in
     subst (λ l. Replaces (chunks_of xs) lo hi few l) (sym is) (subst (λ l. Replaces l lo hi few (front ++ (chunks_in new ++ left))) (sym was) all)
 
--- a word of one page that gets more bits
-pub widened_pages : (xs : List Page) (at window bits : ℕ) (x y : Page) → at < length xs → x ≡ get_or xs at x → WordWidened (chunks_in x) window bits (chunks_in y) → WordWidened (chunks_of xs) window bits (chunks_of (set xs at y))
+-- a block of one page that gets more bits
+pub widened_pages : (xs : List Page) (at window bits : ℕ) (x y : Page) → at < length xs → x ≡ get_or xs at x → BlockWidened (chunks_in x) window bits (chunks_in y) → BlockWidened (chunks_of xs) window bits (chunks_of (set xs at y))
 widened_pages xs at window bits x y h read k =
     let front = chunks_of (take at xs) in
     let back = chunks_of (drop (at + 1) xs) in
@@ -259,7 +259,7 @@ widened_pages xs at window bits x y h read k =
       is = k.is;
       were = part_at chunks_in xs at x k.front (k.was ∷ k.back) h (ap chunks_in (sym read) ∙ k.were);
       are = part_set chunks_in xs at y k.front (k.is ∷ k.back) h k.are;
-      word = k.word;
+      block = k.block;
     }
 
 -- ---- a page that is split

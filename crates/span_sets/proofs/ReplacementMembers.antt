@@ -9,48 +9,48 @@ use Rattle.span_sets.proofs.Common.{length-append, List, lo_by, lo_of, lo_or, me
 use Rattle.span_sets.proofs.Common.{members_of, None, Option, option_to_list, singles, singles_to}
 use Rattle.span_sets.proofs.Common.{Some, stretch, subst, sym, trailing_ones, trailing_zeros, true}
 use Rattle.span_sets.proofs.Common.{w64, window_of, ℕ}
-use Rattle.span_sets.proofs.ChunkMembers.{in_mask, in_or, in_span, in_word, word_ends, singles_from}
+use Rattle.span_sets.proofs.ChunkMembers.{in_mask, in_or, in_span, in_block, block_ends, singles_from}
 use Rattle.span_sets.proofs.ChunkQueries.{one_has}
 use Rattle.span_sets.proofs.OrderedChunks.{chunks_join, has_append, has_left, has_right}
 
--- ---- words
+-- ---- blocks
 
 pub in_singles : (w : Chunk) (base bits s : ℕ) → members_in w ≡ singles 64 base bits → Covers (members_in w) s ↔ BitCovers 64 base bits s
 in_singles w base bits s e =
     subst (λ l. Covers l s ↔ BitCovers 64 base bits s) (sym e) (singles_to 64 base bits s, singles_from 64 base bits s)
 
--- a word with more bits
+-- a block with more bits
 pub with_bits : (e w : Chunk) (bits more s : ℕ) → is_span e ≡ false → members_in w ≡ singles 64 (64 * window_of e) (bit_or bits more) → bits ≡ bits_of e
     → Covers (members_in w) s ↔ (Covers (members_in e) s ⊎ BitCovers 64 (64 * window_of e) more s)
-with_bits e w bits more s word is b =
+with_bits e w bits more s block is b =
     let base = 64 * window_of e in
     let new = in_singles w base (bit_or bits more) s is in
     let both = in_or base bits more s in
-    let old = subst (λ (n : ℕ). Covers (members_in e) s ↔ BitCovers 64 base n s) (sym b) (in_word e s word) in (
+    let old = subst (λ (n : ℕ). Covers (members_in e) s ↔ BitCovers 64 base n s) (sym b) (in_block e s block) in (
       λ n. ⊎_map old.1 (λ y. y) (both.0 (new.0 n)),
       λ m. new.1 (both.1 (⊎_map old.0 (λ y. y) m)),
     )
 
-pub front_word : (e w : Chunk) (lo bits more s : ℕ) → is_span e ≡ false → lo_of e ≤ lo → lo ≤ hi_of e → members_in w ≡ singles 64 (64 * window_of e) (bit_or bits more) → bits ≡ bits_of e
+pub lower_block : (e w : Chunk) (lo bits more s : ℕ) → is_span e ≡ false → lo_of e ≤ lo → lo ≤ hi_of e → members_in w ≡ singles 64 (64 * window_of e) (bit_or bits more) → bits ≡ bits_of e
     → more ≡ 2 ^ (63 + 1) - 2 ^ (lo % 64) → s < hi_of e + 1 → Covers (members_in w) s ↔ (Covers (members_in e) s ⊎ (lo ≤ s))
-front_word e w lo bits more s word from upto is b m h =
+lower_block e w lo bits more s block from upto is b m h =
     let base = 64 * window_of e in
-    let at : lo_of e ≡ base = ap (λ v. lo_by v e) word in
-    let end : hi_of e ≡ base + 63 = ap (λ v. hi_by v e) word in
-    let with = with_bits e w bits more s word is b in
+    let at : lo_of e ≡ base = ap (λ v. lo_by v e) block in
+    let end : hi_of e ≡ base + 63 = ap (λ v. hi_by v e) block in
+    let with = with_bits e w bits more s block is b in
     let mask : base ≤ s → BitCovers 64 base more s ↔ ((base + lo % 64 ≤ s) × (s ≤ base + 63)) =
     λ k. subst (λ (n : ℕ). BitCovers 64 base n s ↔ ((base + lo % 64 ≤ s) × (s ≤ base + 63))) (sym m) (in_mask base (lo % 64) 63 s (omega arith) (omega arith) k) in (
       λ n. elim (with.0 n) [ inl x ↦ inl x | inr y ↦ inr (let in_mask_now = (mask y.0).0 y in omega arith) ],
       λ n. with.1 (elim n [ inl x ↦ inl x | inr k ↦ inr ((mask (omega arith)).1 (omega arith, omega arith)) ]),
     )
 
-pub back_word : (e w : Chunk) (hi bits more s : ℕ) → is_span e ≡ false → lo_of e ≤ hi → hi ≤ hi_of e → members_in w ≡ singles 64 (64 * window_of e) (bit_or bits more) → bits ≡ bits_of e
+pub upper_block : (e w : Chunk) (hi bits more s : ℕ) → is_span e ≡ false → lo_of e ≤ hi → hi ≤ hi_of e → members_in w ≡ singles 64 (64 * window_of e) (bit_or bits more) → bits ≡ bits_of e
     → more ≡ 2 ^ (hi % 64 + 1) - 2 ^ 0 → lo_of e ≤ s → Covers (members_in w) s ↔ (Covers (members_in e) s ⊎ (s ≤ hi))
-back_word e w hi bits more s word from upto is b m h =
+upper_block e w hi bits more s block from upto is b m h =
     let base = 64 * window_of e in
-    let at : lo_of e ≡ base = ap (λ v. lo_by v e) word in
-    let end : hi_of e ≡ base + 63 = ap (λ v. hi_by v e) word in
-    let with = with_bits e w bits more s word is b in
+    let at : lo_of e ≡ base = ap (λ v. lo_by v e) block in
+    let end : hi_of e ≡ base + 63 = ap (λ v. hi_by v e) block in
+    let with = with_bits e w bits more s block is b in
     let mask = subst (λ (n : ℕ). BitCovers 64 base n s ↔ ((base + 0 ≤ s) × (s ≤ base + hi % 64))) (sym m) (in_mask base 0 (hi % 64) s (omega arith) (omega arith) (omega arith)) in (
       λ n. elim (with.0 n) [ inl x ↦ inl x | inr y ↦ inr (let in_mask_now = mask.0 y in omega arith) ],
       λ n. with.1 (elim n [ inl x ↦ inl x | inr k ↦ inr (mask.1 (omega arith, omega arith)) ]),
@@ -117,33 +117,33 @@ pub some_weaker : (o : Option Chunk) (P Q : Chunk → Type 0) → ((e : Chunk) �
 some_weaker None P Q f h = tt
 some_weaker (Some e) P Q f h = f e h
 
--- ---- chunks that are neither empty nor, as words, full
+-- ---- chunks that are neither empty nor, as blocks, full
 
--- a word with some of its bits set, and not all
-pub word_gap : (w : Chunk) (base bits : ℕ) → members_in w ≡ singles 64 base bits → lo_of w ≡ base → hi_of w ≡ base + 63 → bits + 1 < 2 ^ 64 → IsFull w → ⊥
-word_gap w base bits is lo hi less full =
+-- a block with some of its bits set, and not all
+pub block_gap : (w : Chunk) (base bits : ℕ) → members_in w ≡ singles 64 base bits → lo_of w ≡ base → hi_of w ≡ base + 63 → bits + 1 < 2 ^ 64 → IsFull w → ⊥
+block_gap w base bits is lo hi less full =
     let i = trailing_ones w64 bits in
     let gap = bit_at-trailing_ones w64 bits less in
     let at = (in_singles w base bits (base + i) is).0 (full (base + i) (omega arith) (omega (arith, gap.0))) in
     let position : base + i - base ≡ i = omega arith in
     omega (arith, gap.1, at.2, ap (λ k. bit_at bits k) position)
 
-pub word_some : (base bits : ℕ) → 0 < bits → bits < 2 ^ 64 → (s : ℕ) × BitCovers 64 base bits s
-word_some base bits some fits =
+pub block_some : (base bits : ℕ) → 0 < bits → bits < 2 ^ 64 → (s : ℕ) × BitCovers 64 base bits s
+block_some base bits some fits =
     let i = trailing_zeros w64 bits in
     let set = bit_at-trailing_zeros w64 bits some fits in
     let position : base + i - base ≡ i = omega arith in
     (base + i, (omega arith, omega (arith, set.0), ap (λ k. bit_at bits k) position ∙ set.1))
 
-pub word_tight : (w : Chunk) (base bits : ℕ) → members_in w ≡ singles 64 base bits → lo_of w ≡ base → hi_of w ≡ base + 63 → 0 < bits → bits + 1 < 2 ^ 64 → IsTight w
-word_tight w base bits is lo hi some less =
-    let bit = word_some base bits some (omega arith) in
-    (λ empty. empty bit.0 ((in_singles w base bits bit.0 is).1 bit.1), λ word full. word_gap w base bits is lo hi less full)
+pub block_tight : (w : Chunk) (base bits : ℕ) → members_in w ≡ singles 64 base bits → lo_of w ≡ base → hi_of w ≡ base + 63 → 0 < bits → bits + 1 < 2 ^ 64 → IsTight w
+block_tight w base bits is lo hi some less =
+    let bit = block_some base bits some (omega arith) in
+    (λ empty. empty bit.0 ((in_singles w base bits bit.0 is).1 bit.1), λ block full. block_gap w base bits is lo hi less full)
 
 pub span_tight : (e : Chunk) → e.a ≤ e.b → IsTight e
 span_tight e h =
     let span : is_span e ≡ true = le-leb e.a e.b h in
-    (λ empty. empty e.a ((in_span e e.a span).1 (omega arith, h)), λ word full. absurd cc)
+    (λ empty. empty e.a ((in_span e e.a span).1 (omega arith, h)), λ block full. absurd cc)
 
 -- if all bits are set, all numbers are covered
 pub all_set : (base bits s : ℕ) → bits ≡ 2 ^ 64 - 1 → base ≤ s → s < base + 64 → BitCovers 64 base bits s
@@ -160,16 +160,16 @@ three_all P few a b c e ha hb hc =
     subst (All P) (sym e)
     (All-append P (option_to_list a) (option_to_list b ++ option_to_list c) (opt_all P a ha) (All-append P (option_to_list b) (option_to_list c) (opt_all P b hb) (opt_all P c hc)))
 
--- the words at the ends of a span are beside the rest of the span
-pub front_lies : (w : Option Chunk) (at : ℕ) → IfSome w (λ e. (hi_of e + 1 ≡ at) × (is_span e ≡ false) × IsTight e)
+-- the blocks at the ends of a span are beside the rest of the span
+pub lower_lies : (w : Option Chunk) (at : ℕ) → IfSome w (λ e. (hi_of e + 1 ≡ at) × (is_span e ≡ false) × IsTight e)
     → IfSome w (λ e. (lo_or w at ≤ lo_of e) × (hi_of e < at)) × (lo_or w at ≤ at)
-front_lies None at h = (tt, omega arith)
-front_lies (Some e) at h = let whole = stretch e in let end = h.0 in ((omega arith, omega arith), omega arith)
+lower_lies None at h = (tt, omega arith)
+lower_lies (Some e) at h = let whole = stretch e in let end = h.0 in ((omega arith, omega arith), omega arith)
 
-pub back_lies : (w : Option Chunk) (at : ℕ) → IfSome w (λ e. (at + 1 ≡ lo_of e) × (is_span e ≡ false) × IsTight e)
+pub upper_lies : (w : Option Chunk) (at : ℕ) → IfSome w (λ e. (at + 1 ≡ lo_of e) × (is_span e ≡ false) × IsTight e)
     → IfSome w (λ e. (at + 1 ≤ lo_of e) × (hi_of e < hi_or w at + 1)) × (at ≤ hi_or w at)
-back_lies None at h = (tt, omega arith)
-back_lies (Some e) at h = let whole = stretch e in let end = h.0 in ((omega arith, omega arith), omega arith)
+upper_lies None at h = (tt, omega arith)
+upper_lies (Some e) at h = let whole = stretch e in let end = h.0 in ((omega arith, omega arith), omega arith)
 
 some_of : (a b c : Option Chunk) (at to : ℕ) → lo_or a at ≤ hi_or c to → (at ≤ to → 0 < length (option_to_list b))
     → 0 < length (option_to_list a) + (length (option_to_list b) + length (option_to_list c))
@@ -177,7 +177,7 @@ some_of None b None at to h some = let one = some h in omega arith
 some_of (Some x) b c at to h some = omega arith
 some_of None b (Some y) at to h some = omega arith
 
--- there is a word, or the rest covers a number
+-- there is a block, or the rest covers a number
 pub some_rest : (few : List Chunk) (a b c : Option Chunk) (at to : ℕ) → few ≡ option_to_list a ++ (option_to_list b ++ option_to_list c) → lo_or a at ≤ hi_or c to
     → (at ≤ to → 0 < length (option_to_list b)) → 0 < length few
 some_rest few a b c at to e h some =
@@ -187,13 +187,13 @@ some_rest few a b c at to e h some =
     let one : 0 < length (option_to_list a) + (length (option_to_list b) + length (option_to_list c)) = some_of a b c at to h some in
     omega arith
 
--- a word that has all bits once some are added
+-- a block that has all bits once some are added
 pub all_with : (e : Chunk) (bits more s : ℕ) → is_span e ≡ false → bits ≡ bits_of e → bit_or bits more ≡ 2 ^ 64 - 1 → lo_of e ≤ s → s ≤ hi_of e
     → Covers (members_in e) s ⊎ BitCovers 64 (64 * window_of e) more s
-all_with e bits more s word b all from to =
+all_with e bits more s block b all from to =
     let base = 64 * window_of e in
-    let ends = word_ends e word in
+    let ends = block_ends e block in
     let begins = ends.0 in
     let last = ends.1 in
-    ⊎_map (λ n. (in_word e s word).1 (subst (λ (k : ℕ). BitCovers 64 base k s) b n)) (λ n. n)
+    ⊎_map (λ n. (in_block e s block).1 (subst (λ (k : ℕ). BitCovers 64 base k s) b n)) (λ n. n)
     ((in_or base bits more s).0 (all_set base (bit_or bits more) s all (omega arith) (omega arith)))

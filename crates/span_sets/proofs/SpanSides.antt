@@ -3,14 +3,14 @@ use Rattle.span_sets.proofs.Common.{[], ⊎_map, ◌%◌, ◌*◌, ◌+◌, ◌-
 use Rattle.span_sets.proofs.Common.{◌≡◌, ◌≤◌, ◌⊎◌, All, All-append, All-cons, All-nil, ap, Apart}
 use Rattle.span_sets.proofs.Common.{AreSerials, AreTight, arith, BitCovers, Bool, cases_lt, Chunk}
 use Rattle.span_sets.proofs.Common.{ChunksFrom, Covers, false, get_or, Has, hi_by, hi_of, hi_or}
-use Rattle.span_sets.proofs.Common.{IfSome, in_stretch, inl, inr, is_span, IsBack, IsChunkFrom}
-use Rattle.span_sets.proofs.Common.{IsFront, IsFull, IsTight, KeepsTight, leb_tells, List, lo_by}
+use Rattle.span_sets.proofs.Common.{IfSome, in_stretch, inl, inr, is_span, IsUpperSide, IsChunkFrom}
+use Rattle.span_sets.proofs.Common.{IsLowerSide, IsFull, IsTight, KeepsTight, leb_tells, List, lo_by}
 use Rattle.span_sets.proofs.Common.{lo_of, lo_or, members_by, members_in, members_of, min}
 use Rattle.span_sets.proofs.Common.{names_left, names_right, None, Option, Some, stretch, subst}
 use Rattle.span_sets.proofs.Common.{sym, true, ℕ}
 use Rattle.span_sets.specs.Additions.{IsAt}
 use Rattle.span_sets.proofs.ChunkOrder.{chunks_each}
-use Rattle.span_sets.proofs.ChunkMembers.{in_mask, word_ends}
+use Rattle.span_sets.proofs.ChunkMembers.{in_mask, block_ends}
 use Rattle.span_sets.proofs.SetChunks.{Fills, at_member, ends_before}
 use Rattle.span_sets.proofs.ChunkQueries.{members_part, members_own}
 use Rattle.span_sets.proofs.OrderedChunks.{chunks_back}
@@ -52,12 +52,12 @@ none_after : (old : List Chunk) (e : Chunk) (n : ℕ) → AreTight old → IsChu
 none_after old e n t is span k d h = λ other same.
     at_member (λ x. All (Apart x) old) old is.0 e is.1.0 is.1.1.0 t.1 k d h span other same
 
--- ---- the front
+-- ---- the lower side
 
 -- no span ends directly before the number
-pub front_open : (old : List Chunk) (lo : ℕ) (met : Option Chunk) → ChunksFrom 0 old → IsChunkFrom old (lo - 1) met
-    → IfSome met (λ e. (lo ≤ lo_of e) ⊎ ((is_span e ≡ false) × (hi_of e < lo))) → IsFront old lo None lo
-front_open old lo None order is h = record {
+pub lower_open : (old : List Chunk) (lo : ℕ) (met : Option Chunk) → ChunksFrom 0 old → IsChunkFrom old (lo - 1) met
+    → IfSome met (λ e. (lo ≤ lo_of e) ⊎ ((is_span e ≡ false) × (hi_of e < lo))) → IsLowerSide old lo None lo
+lower_open old lo None order is h = record {
   from = omega arith;
   reach = omega arith;
   shared = tt;
@@ -66,7 +66,7 @@ front_open old lo None order is h = record {
   joins = λ s a b. absurd (omega arith);
   apart = λ k d q span same. absurd (let end = is k d q in omega arith);
 }
-front_open old lo (Some e) order is h =
+lower_open old lo (Some e) order is h =
     let whole = stretch e in
     let reach = is.1.1.2 in
     record {
@@ -74,19 +74,19 @@ front_open old lo (Some e) order is h =
       reach = omega arith;
       shared = tt;
       cut = parts_all (λ x. (hi_of x < lo) ⊎ (lo ≤ lo_of x)) old e (lo - 1) order is
-          (λ x a b c. inl (omega arith)) (elim h [ inl past ↦ inr past | inr word ↦ inl word.1 ]) (λ x a b. inr (omega arith));
+          (λ x a b c. inl (omega arith)) (elim h [ inl past ↦ inr past | inr block ↦ inl block.1 ]) (λ x a b. inr (omega arith));
       has = λ s a b. absurd (omega arith);
       joins = λ s a b. absurd (omega arith);
       apart = parts_all (λ x. is_span x ≡ true → hi_of x + 1 ≡ lo → lo ≤ hi_of x) old e (lo - 1) order is
           (λ x a b c span same. absurd (omega arith))
-          (λ span same. elim h [ inl past ↦ absurd (omega arith) | inr word ↦ absurd cc ])
+          (λ span same. elim h [ inl past ↦ absurd (omega arith) | inr block ↦ absurd cc ])
           (λ x a b span same. absurd (omega arith));
     }
 
 -- a span reaches the number before
-pub front_span : (old : List Chunk) (lo : ℕ) (e : Chunk) → ChunksFrom 0 old → AreTight old → IsChunkFrom old (lo - 1) (Some e) → is_span e ≡ true → lo_of e < lo
-    → IsFront old lo None (lo_of e)
-front_span old lo e order t is span begins =
+pub lower_span : (old : List Chunk) (lo : ℕ) (e : Chunk) → ChunksFrom 0 old → AreTight old → IsChunkFrom old (lo - 1) (Some e) → is_span e ≡ true → lo_of e < lo
+    → IsLowerSide old lo None (lo_of e)
+lower_span old lo e order t is span begins =
     let whole = stretch e in
     let reach = is.1.1.2 in
     let none = none_before old e (lo - 1) t is span in
@@ -101,16 +101,16 @@ front_span old lo e order t is span begins =
       apart = λ k d q other same. absurd (none k d q other same);
     }
 
--- a word reaches over the number, and is not full with the added bits
-pub front_shared : (old : List Chunk) (lo : ℕ) (e w : Chunk) → ChunksFrom 0 old → IsChunkFrom old (lo - 1) (Some e) → lo_of e < lo → lo ≤ hi_of e
+-- a block reaches over the number, and is not full with the added bits
+pub lower_shared : (old : List Chunk) (lo : ℕ) (e w : Chunk) → ChunksFrom 0 old → IsChunkFrom old (lo - 1) (Some e) → lo_of e < lo → lo ≤ hi_of e
     → hi_of e + 1 ≤ 64 * ((lo + 63) / 64) → lo_of w ≡ lo_of e → hi_of w ≡ hi_of e → is_span w ≡ false → (IsFull w → ⊥)
     → ((s : ℕ) → s < hi_of e + 1 → Covers (members_in w) s ↔ (Covers (members_in e) s ⊎ (lo ≤ s)))
-    → IsFront old lo (Some w) (hi_of e + 1)
-front_shared old lo e w order is from to reach same_lo same_hi word gap m =
+    → IsLowerSide old lo (Some w) (hi_of e + 1)
+lower_shared old lo e w order is from to reach same_lo same_hi block gap m =
     record {
       from = omega arith;
       reach = reach;
-      shared = (ap (λ n. n + 1) same_hi, word, (λ empty. empty lo ((m lo (omega arith)).1 (inr (omega arith))), λ not_span full. gap full));
+      shared = (ap (λ n. n + 1) same_hi, block, (λ empty. empty lo ((m lo (omega arith)).1 (inr (omega arith))), λ not_span full. gap full));
       cut = parts_all (λ x. (hi_of x < lo_of w) ⊎ (lo_of w ≤ lo_of x)) old e (lo - 1) order is
           (λ x a b c. inl (omega arith)) (inr (omega arith)) (λ x a b. inr (omega arith));
       has = λ s a b.
@@ -124,8 +124,8 @@ front_shared old lo e w order is from to reach same_lo same_hi word gap m =
     }
 
 -- all numbers from a lower one on are members
-pub front_further : (old : List Chunk) (low lo at : ℕ) → low ≤ lo → ((s : ℕ) → low ≤ s → s < lo → Covers (members_of old) s) → IsFront old low None at → IsFront old lo None at
-front_further old low lo at h all f =
+pub lower_further : (old : List Chunk) (low lo at : ℕ) → low ≤ lo → ((s : ℕ) → low ≤ s → s < lo → Covers (members_of old) s) → IsLowerSide old low None at → IsLowerSide old lo None at
+lower_further old low lo at h all f =
     let from = f.from in
     record {
       from = omega arith;
@@ -137,7 +137,7 @@ front_further old low lo at h all f =
       apart = f.apart;
     }
 
--- ---- the back
+-- ---- the upper side
 
 each_in : (es : List Chunk) → All (λ x. (s : ℕ) → Covers (members_in x) s → Covers (members_of es) s) es
 each_in [] = All-nil (λ x. (s : ℕ) → Covers (members_in x) s → Covers (members_of []) s)
@@ -146,9 +146,9 @@ each_in (e ∷ es) =
     All-cons P e es (λ s n. names_left (members_in e) (members_of es) s n) (λ k d h s n. names_right (members_in e) (members_of es) s (each_in es k d h s n))
 
 -- no span begins directly after the number
-pub back_open : (old : List Chunk) (hi n : ℕ) (met : Option Chunk) → ChunksFrom 0 old → AreSerials (members_of old) → n ≡ min (hi + 1) (2 ^ 64 - 1) → hi < 2 ^ 64 → IsChunkFrom old n met
-    → IfSome met (λ e. ((hi_of e ≤ hi) ⊎ (hi < lo_of e)) × (is_span e ≡ true → hi + 1 < lo_of e)) → IsBack old hi None hi
-back_open old hi n None order serials same fits is h = record {
+pub upper_open : (old : List Chunk) (hi n : ℕ) (met : Option Chunk) → ChunksFrom 0 old → AreSerials (members_of old) → n ≡ min (hi + 1) (2 ^ 64 - 1) → hi < 2 ^ 64 → IsChunkFrom old n met
+    → IfSome met (λ e. ((hi_of e ≤ hi) ⊎ (hi < lo_of e)) × (is_span e ≡ true → hi + 1 < lo_of e)) → IsUpperSide old hi None hi
+upper_open old hi n None order serials same fits is h = record {
   upto = omega arith;
   reach = omega arith;
   shared = tt;
@@ -157,7 +157,7 @@ back_open old hi n None order serials same fits is h = record {
   joins = λ s a b. absurd (omega arith);
   apart = λ k d q span at. absurd (let end = is k d q in let whole = stretch (get_or old k d) in omega arith);
 }
-back_open old hi n (Some e) order serials same fits is h =
+upper_open old hi n (Some e) order serials same fits is h =
     let whole = stretch e in
     let reach = is.1.1.2 in
     record {
@@ -180,9 +180,9 @@ back_open old hi n (Some e) order serials same fits is h =
     }
 
 -- a span reaches the number after
-pub back_span : (old : List Chunk) (hi n : ℕ) (e : Chunk) → ChunksFrom 0 old → AreTight old → n ≡ min (hi + 1) (2 ^ 64 - 1) → IsChunkFrom old n (Some e) → is_span e ≡ true → lo_of e ≤ n → hi < 2 ^ 64
-    → IsBack old hi None (hi_of e)
-back_span old hi n e order t same is span begins fits =
+pub upper_span : (old : List Chunk) (hi n : ℕ) (e : Chunk) → ChunksFrom 0 old → AreTight old → n ≡ min (hi + 1) (2 ^ 64 - 1) → IsChunkFrom old n (Some e) → is_span e ≡ true → lo_of e ≤ n → hi < 2 ^ 64
+    → IsUpperSide old hi None (hi_of e)
+upper_span old hi n e order t same is span begins fits =
     let whole = stretch e in
     let reach = is.1.1.2 in
     let none = none_after old e n t is span in
@@ -197,17 +197,17 @@ back_span old hi n e order t same is span begins fits =
       apart = λ k d q other at. absurd (none k d q other at);
     }
 
--- a word reaches over the number, and is not full with the added bits
-pub back_shared : (old : List Chunk) (hi n at : ℕ) (e w : Chunk) → ChunksFrom 0 old → IsChunkFrom old n (Some e) → lo_of e ≤ hi → hi ≤ hi_of e → at + 1 ≡ lo_of e
+-- a block reaches over the number, and is not full with the added bits
+pub upper_shared : (old : List Chunk) (hi n at : ℕ) (e w : Chunk) → ChunksFrom 0 old → IsChunkFrom old n (Some e) → lo_of e ≤ hi → hi ≤ hi_of e → at + 1 ≡ lo_of e
     → 64 * ((hi + 1) / 64) ≤ lo_of e → lo_of w ≡ lo_of e → hi_of w ≡ hi_of e → is_span w ≡ false → (IsFull w → ⊥)
     → ((s : ℕ) → lo_of e ≤ s → Covers (members_in w) s ↔ (Covers (members_in e) s ⊎ (s ≤ hi)))
-    → IsBack old hi (Some w) at
-back_shared old hi n at e w order is from to before reach same_lo same_hi word gap m =
+    → IsUpperSide old hi (Some w) at
+upper_shared old hi n at e w order is from to before reach same_lo same_hi block gap m =
     let whole = stretch e in
     record {
       upto = omega arith;
       reach = omega arith;
-      shared = (omega arith, word, (λ empty. empty hi ((m hi from).1 (inr (omega arith))), λ not_span full. gap full));
+      shared = (omega arith, block, (λ empty. empty hi ((m hi from).1 (inr (omega arith))), λ not_span full. gap full));
       cut = parts_all (λ x. (hi_of x ≤ hi_of w) ⊎ (hi_of w < lo_of x)) old e n order is
           (λ x a b c. inl (omega arith)) (inl (omega arith)) (λ x a b. inr (omega arith));
       has = λ s a b.
@@ -220,8 +220,8 @@ back_shared old hi n at e w order is from to before reach same_lo same_hi word g
       apart = λ k d q span at_lo. omega arith;
     }
 
-pub back_further : (old : List Chunk) (high hi at : ℕ) → hi ≤ high → ((s : ℕ) → hi < s → s ≤ high → Covers (members_of old) s) → IsBack old high None at → IsBack old hi None at
-back_further old high hi at h all f =
+pub upper_further : (old : List Chunk) (high hi at : ℕ) → hi ≤ high → ((s : ℕ) → hi < s → s ≤ high → Covers (members_of old) s) → IsUpperSide old high None at → IsUpperSide old hi None at
+upper_further old high hi at h all f =
     let upto = f.upto in
     record {
       upto = omega arith;
@@ -235,15 +235,15 @@ back_further old high hi at h all f =
 
 -- ---- a span between its ends
 
-front_in : (old : List Chunk) (lo at s : ℕ) (w : Option Chunk) → IsFront old lo w at → Has w s → (lo_or w at ≤ s) × (s < at)
-front_in old lo at s None f n = absurd n
-front_in old lo at s (Some w) f n = let in_w = in_stretch w s n in let end = f.shared.0 in omega (arith, in_w.0, in_w.1)
+lower_side_in : (old : List Chunk) (lo at s : ℕ) (w : Option Chunk) → IsLowerSide old lo w at → Has w s → (lo_or w at ≤ s) × (s < at)
+lower_side_in old lo at s None f n = absurd n
+lower_side_in old lo at s (Some w) f n = let in_w = in_stretch w s n in let end = f.shared.0 in omega (arith, in_w.0, in_w.1)
 
-back_in : (old : List Chunk) (hi at s : ℕ) (w : Option Chunk) → IsBack old hi w at → Has w s → (at < s) × (s ≤ hi_or w at)
-back_in old hi at s None f n = absurd n
-back_in old hi at s (Some w) f n = let in_w = in_stretch w s n in let end = f.shared.0 in omega (arith, in_w.0, in_w.1)
+upper_side_in : (old : List Chunk) (hi at s : ℕ) (w : Option Chunk) → IsUpperSide old hi w at → Has w s → (at < s) × (s ≤ hi_or w at)
+upper_side_in old hi at s None f n = absurd n
+upper_side_in old hi at s (Some w) f n = let in_w = in_stretch w s n in let end = f.shared.0 in omega (arith, in_w.0, in_w.1)
 
-ends_fill : (old few : List Chunk) (lo hi at to : ℕ) (front back : Option Chunk) → IsFront old lo front at → IsBack old hi back to → lo ≤ hi → (lo + 63) / 64 ≤ (hi + 1) / 64
+ends_fill : (old few : List Chunk) (lo hi at to : ℕ) (front back : Option Chunk) → IsLowerSide old lo front at → IsUpperSide old hi back to → lo ≤ hi → (lo + 63) / 64 ≤ (hi + 1) / 64
     → ((s : ℕ) → Covers (members_of few) s ↔ (Has front s ⊎ (((at ≤ s) × (s ≤ to)) ⊎ Has back s)))
     → Fills old (lo_or front at) (hi_or back to) few (λ s. (lo ≤ s) × (s ≤ hi))
 ends_fill old few lo hi at to front back f b order windows m =
@@ -256,13 +256,13 @@ ends_fill old few lo hi at to front back f b order windows m =
       high = b.cut;
       all = λ s p q. (
         λ n. elim ((m s).0 n) [
-          | inl x ↦ (let in_w = front_in old lo at s front f x in ⊎_map (λ o. o) (λ k. (k, omega (arith, in_w.1))) ((f.has s in_w.0 in_w.1).0 x))
+          | inl x ↦ (let in_w = lower_side_in old lo at s front f x in ⊎_map (λ o. o) (λ k. (k, omega (arith, in_w.1))) ((f.has s in_w.0 in_w.1).0 x))
           | inr rest ↦ elim rest [
             | inl k ↦ elim (cases_lt s lo) [
               | inl below ↦ inl (f.joins s k.0 below)
               | inr since ↦ elim (cases_lt hi s) [ inl above ↦ inl (b.joins s above k.1) | inr upto ↦ inr (since, upto) ]
             ]
-            | inr y ↦ (let in_w = back_in old hi to s back b y in ⊎_map (λ o. o) (λ k. (omega (arith, in_w.0), k)) ((b.has s in_w.0 in_w.1).0 y))
+            | inr y ↦ (let in_w = upper_side_in old hi to s back b y in ⊎_map (λ o. o) (λ k. (omega (arith, in_w.0), k)) ((b.has s in_w.0 in_w.1).0 y))
           ]
         ],
         λ n. (m s).1 (elim (cases_lt s at) [
@@ -276,7 +276,7 @@ ends_fill old few lo hi at to front back f b order windows m =
       inside = λ s k. (omega (arith, k.0), omega (arith, k.1));
     }
 
-pub ends_fill_at : (old few : List Chunk) (lo hi from upto at to : ℕ) (front back : Option Chunk) → IsFront old lo front at → IsBack old hi back to → lo ≤ hi → (lo / 64 < hi / 64) ⊎ ((lo % 64 ≡ 0) × (hi % 64 ≡ 63))
+pub ends_fill_at : (old few : List Chunk) (lo hi from upto at to : ℕ) (front back : Option Chunk) → IsLowerSide old lo front at → IsUpperSide old hi back to → lo ≤ hi → (lo / 64 < hi / 64) ⊎ ((lo % 64 ≡ 0) × (hi % 64 ≡ 63))
     → from ≡ lo_or front at → upto ≡ hi_or back to
     → ((s : ℕ) → Covers (members_of few) s ↔ (Has front s ⊎ (((at ≤ s) × (s ≤ to)) ⊎ Has back s)))
     → Fills old from upto few (λ s. (lo ≤ s) × (s ≤ hi))
@@ -287,7 +287,7 @@ ends_fill_at old few lo hi from upto at to front back f b order windows low high
     subst (λ n. Fills old n upto few Added) (sym low) (subst (λ n. Fills old (lo_or front at) n few Added) (sym high) fills)
 
 -- an added span touches no span that stays
-pub ends_keep_tight : (old few : List Chunk) (lo hi at to : ℕ) (front back : Option Chunk) → IsFront old lo front at → IsBack old hi back to
+pub ends_keep_tight : (old few : List Chunk) (lo hi at to : ℕ) (front back : Option Chunk) → IsLowerSide old lo front at → IsUpperSide old hi back to
     → All IsTight few → All (λ e. is_span e ≡ true → (lo_of e ≡ at) × (hi_of e ≡ to)) few → KeepsTight old (lo_or front at) (hi_or back to) few
 ends_keep_tight old few lo hi at to front back f b tight spans = record {
   tight = (
@@ -311,27 +311,27 @@ ends_keep_tight old few lo hi at to front back f b tight spans = record {
 -- ---- the bits of a window
 
 -- a chunk that reaches over the beginning of a window is a span
-not_word : (e : Chunk) (n : ℕ) → n % 64 ≡ 0 → lo_of e < n → n ≤ hi_of e → is_span e ≡ true
-not_word e n edge from to =
+not_block : (e : Chunk) (n : ℕ) → n % 64 ≡ 0 → lo_of e < n → n ≤ hi_of e → is_span e ≡ true
+not_block e n edge from to =
     elim (leb_tells e.a e.b) [
       | inl span ↦ span.0
-      | inr word ↦ absurd (let ends = word_ends e word.0 in let a = ends.0 in let b = ends.1 in omega arith)
+      | inr block ↦ absurd (let ends = block_ends e block.0 in let a = ends.0 in let b = ends.1 in omega arith)
     ]
 
 before_head : (old : List Chunk) (first : ℕ) (head : Option Chunk) (x : Chunk) → All (λ f. Apart x f) old → IsAt old first head → first % 64 ≡ 0 → lo_or head first < first
     → is_span x ≡ true → hi_of x + 1 ≡ lo_or head first → ⊥
 before_head old first None x t at edge less span same = absurd (omega arith)
 before_head old first (Some h) x t at edge less span same =
-    at_member (Apart x) old at.stands.0 h at.stands.1.0 at.stands.1.1 t span (not_word h first edge less at.to) same
+    at_member (Apart x) old at.stands.0 h at.stands.1.0 at.stands.1.1 t span (not_block h first edge less at.to) same
 
 after_tail : (old : List Chunk) (last : ℕ) (tail : Option Chunk) (x : Chunk) → All (λ f. Apart f x) old → IsAt old last tail → (last + 1) % 64 ≡ 0 → last < hi_or tail last
     → is_span x ≡ true → hi_or tail last + 1 ≡ lo_of x → ⊥
 after_tail old last None x t at edge less span same = absurd (omega arith)
 after_tail old last (Some e) x t at edge less span same =
     let from = at.from in
-    at_member (λ f. Apart f x) old at.stands.0 e at.stands.1.0 at.stands.1.1 t (not_word e (last + 1) edge (omega arith) (omega arith)) span same
+    at_member (λ f. Apart f x) old at.stands.0 e at.stands.1.0 at.stands.1.1 t (not_block e (last + 1) edge (omega arith) (omega arith)) span same
 
--- the word of a window, between what is left of the chunks at its ends, touches no span
+-- the block of a window, between what is left of the chunks at its ends, touches no span
 pub bits_keep_tight : (old few : List Chunk) (first : ℕ) (head tail : Option Chunk) → AreTight old → IsAt old first head → IsAt old (first + 63) tail → first % 64 ≡ 0
     → All IsTight few
     → All (λ e. is_span e ≡ true → ((lo_of e ≡ lo_or head first) × (hi_of e < first)) ⊎ ((first + 63 < lo_of e) × (hi_of e ≡ hi_or tail (first + 63)))) few

@@ -6,7 +6,7 @@ use Rattle.span_sets.proofs.Common.{Covers, eqb_tells, false≢true, get_or, hi_
 use Rattle.span_sets.proofs.Common.{inr, is_span, IsFull, IsRuns, IsTight, KeepsTight, leb_tells}
 use Rattle.span_sets.proofs.Common.{length, List, lo_of, members_in, members_of, names_append}
 use Rattle.span_sets.proofs.Common.{Replaces, runs_of, Span, stretch, subst, suc, sym, true}
-use Rattle.span_sets.proofs.Common.{WordWidened, zero, ℕ}
+use Rattle.span_sets.proofs.Common.{BlockWidened, zero, ℕ}
 use Rattle.serial_set.specs.Joined.{Rises, glued, glued_by, joined}
 use Rattle.serial_set.proofs.JoinedRuns.{joined_of, Rises-weaker}
 use Rattle.span_sets.proofs.ListsOfLists.{all_left, all_right}
@@ -122,7 +122,7 @@ next_begins a e f es s r on m =
 -- a tight chunk that is full is a span
 is_span_where_full : (e : Chunk) → IsTight e → IsFull e → is_span e ≡ true
 is_span_where_full e tight full =
-    elim (leb_tells e.a e.b) [ inl span ↦ span.0 | inr word ↦ absurd (tight.1 word.0 full) ]
+    elim (leb_tells e.a e.b) [ inl span ↦ span.0 | inr block ↦ absurd (tight.1 block.0 full) ]
 
 spans_on : (a : ℕ) (e : Chunk) (es : List Chunk) → ChunksFrom a (e ∷ es) → IsTight e → EndsNoRun e es
     → Covers (members_in e) (lo_of e) → is_span e ≡ true
@@ -227,21 +227,21 @@ replaced_tight old few new lo hi r order ends t k =
     let each = All-append IsTight front (few ++ back) (in_front IsTight t.0) (All-append IsTight few back k.tight.0 (in_back IsTight t.0)) in
     subst AreTight (sym r.are) (each, pairs)
 
--- ---- a word with more bits
+-- ---- a block with more bits
 
 swapped_all : (P : Chunk → Type 0) (front back : List Chunk) (was is : Chunk) → P is → All P (front ++ was ∷ back) → All P (front ++ is ∷ back)
 swapped_all P front back was is p h =
     All-append P front (is ∷ back) (all_left P front (was ∷ back) h) (All-cons P is back p (All-tail P was back (all_right P front (was ∷ back) h)))
 
-pub widened_tight : (old new : List Chunk) (window bits : ℕ) → WordWidened old window bits new → AreTight old → AreTight new
+pub widened_tight : (old new : List Chunk) (window bits : ℕ) → BlockWidened old window bits new → AreTight old → AreTight new
 widened_tight old new window bits k tight =
     let was = k.was in
     let is = k.is in
-    let is_word = k.word.word in
+    let is_block = k.block.block in
     let swapped : (P : Chunk → Type 0) → P is → All P old → All P new =
     λ P p h. subst (All P) (sym k.are) (swapped_all P k.front k.back was is p (subst (All P) k.were h)) in
     let here : IsTight was = All-head IsTight was k.back (all_right IsTight k.front (was ∷ k.back) (subst (All IsTight) k.were tight.0)) in (
-      swapped IsTight (λ empty. here.0 (λ s m. empty s ((k.word.more s).1 (inl m))), λ word. k.word.gap) tight.0,
-      swapped (λ e. All (Apart e) new) (λ i d h span. absurd (false≢true (sym is_word ∙ span)))
-          (All-weaker (λ e. All (Apart e) old) (λ e. All (Apart e) new) (λ e. swapped (Apart e) (λ first span. absurd (false≢true (sym is_word ∙ span)))) old tight.1),
+      swapped IsTight (λ empty. here.0 (λ s m. empty s ((k.block.more s).1 (inl m))), λ block. k.block.gap) tight.0,
+      swapped (λ e. All (Apart e) new) (λ i d h span. absurd (false≢true (sym is_block ∙ span)))
+          (All-weaker (λ e. All (Apart e) old) (λ e. All (Apart e) new) (λ e. swapped (Apart e) (λ first span. absurd (false≢true (sym is_block ∙ span)))) old tight.1),
     )

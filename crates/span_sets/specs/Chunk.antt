@@ -1,13 +1,13 @@
--- Chunks of a set: spans, and words, which are the members in one window of 64 numbers.
+-- Chunks of a set: spans, and blocks, which are the members in one window of 64 numbers.
 use Rattle.std.proofs.Common.{ℕ, ◌+◌, ◌-◌, ◌*◌, ◌/◌, ◌%◌, ◌^◌, ◌≤◌, List, [], ◌∷◌}
 use Rattle.std.specs.Prelude.{Bool, true, false, nat_eq, nat_le, ⊤}
 use Rattle.std.specs.List.{flat_map}
 use Rattle.serial_set.specs.declared.span.Span.{Span}
 use Rattle.span_sets.specs.declared.chunk.Chunk.{Chunk}
 use Rattle.serial_set.specs.Joined.{joined}
-use Rattle.span_sets.specs.Words.{singles}
+use Rattle.span_sets.specs.Blocks.{singles}
 
--- a span has its ends in order, a word does not
+-- a span has its ends in order, a block does not
 abbrev pub is_span : Chunk → Bool
 is_span e = nat_le e.a e.b
 
@@ -39,7 +39,7 @@ abbrev pub hi_by : Bool → Chunk → ℕ
 hi_by true e = e.b
 hi_by false e = 64 * window_of e + 63
 
--- the stretch of numbers that belongs to the chunk alone: a span itself, and the window of a word
+-- the stretch of numbers that belongs to the chunk alone: a span itself, and the window of a block
 abbrev pub lo_of : Chunk → ℕ
 lo_of e = lo_by (is_span e) e
 

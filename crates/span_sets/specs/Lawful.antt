@@ -11,7 +11,7 @@ use Rattle.serial_set.specs.Span.{Covers, IsRunsOf, AreSerials}
 use Rattle.serial_set.specs.Joined.{Rises}
 use Rattle.span_sets.specs.Chunk.{window_of, bits_of, members_in, members_by, lo_of, lo_by, hi_of}
 use Rattle.span_sets.specs.Chunk.{hi_by, ChunksFrom, members_of, runs_of}
-use Rattle.span_sets.specs.Words.{single_by, singles, BitCovers}
+use Rattle.span_sets.specs.Blocks.{single_by, singles, BitCovers}
 use Rattle.serial_set.proofs.JoinedRuns.{joined_of, Rises-weaker, Rises-join}
 
 -- ---- spans that rise, and their runs
@@ -68,7 +68,7 @@ in_stretch e s n =
     let P : Bool → Type 0 = λ v. Covers (members_by v e) s → (lo_by v e ≤ s) × (s ≤ hi_by v e) in
     elim (leb_tells e.a e.b) [
       | inl span ↦ subst P (sym span.0) (λ m. elim m [ inl here ↦ here | inr none ↦ absurd none ]) n
-      | inr word ↦ subst P (sym word.0) (λ m.
+      | inr block ↦ subst P (sym block.0) (λ m.
           let at = singles_to 64 (64 * window_of e) (bits_of e) s m in (at.0, omega arith)) n
     ]
 
@@ -77,7 +77,7 @@ stretch e =
     let P : Bool → Type 0 = λ v. lo_by v e ≤ hi_by v e in
     elim (leb_tells e.a e.b) [
       | inl span ↦ subst P (sym span.0) span.1
-      | inr word ↦ subst P (sym word.0) (omega arith)
+      | inr block ↦ subst P (sym block.0) (omega arith)
     ]
 
 pub members_rise : (e : Chunk) → Rises (lo_of e) (members_in e)
@@ -85,7 +85,7 @@ members_rise e =
     let P : Bool → Type 0 = λ v. Rises (lo_by v e) (members_by v e) in
     elim (leb_tells e.a e.b) [
       | inl span ↦ subst P (sym span.0) (omega arith, span.1, tt)
-      | inr word ↦ subst P (sym word.0) (singles_rise 64 (64 * window_of e) (bits_of e))
+      | inr block ↦ subst P (sym block.0) (singles_rise 64 (64 * window_of e) (bits_of e))
     ]
 
 pub chunks_rise : (a : ℕ) (es : List Chunk) → ChunksFrom a es → Rises a (members_of es)

@@ -12,4 +12,4 @@ pub mod Sides
 pub mod SpanPages
 pub mod Storage
 pub mod Tight
-pub mod Words
+pub mod Blocks

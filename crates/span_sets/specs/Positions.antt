@@ -6,7 +6,7 @@ use Rattle.span_sets.specs.declared.chunk.Chunk.{Chunk}
 use Rattle.span_sets.specs.Chunk.{is_span, members_in, lo_of, hi_of}
 use Rattle.serial_set.specs.Span.{Covers}
 use Rattle.span_sets.specs.Tight.{IsFull}
-use Rattle.span_sets.specs.Words.{BitCovers}
+use Rattle.span_sets.specs.Blocks.{BitCovers}
 
 -- the end of the last chunk, and 0 if there is none
 abbrev pub end_of : List Chunk → ℕ
@@ -38,21 +38,21 @@ pub record CutTo (old : List Chunk) (number : ℕ) (new : List Chunk) : Type 0 w
   pub inside : All (λ e. lo_of e ≤ number) gone
   pub above : All (λ e. number < lo_of e) new
 
--- the word of a window gets more bits, but not all
+-- the block of a window gets more bits, but not all
 pub record Widened (was : Chunk) (window bits : ℕ) (is : Chunk) : Type 0 where
-  pub word : is_span is ≡ false
+  pub block : is_span is ≡ false
   pub lo : (lo_of was ≡ 64 * window) × (lo_of is ≡ 64 * window)
   pub hi : (hi_of was ≡ 64 * window + 63) × (hi_of is ≡ 64 * window + 63)
   pub more : (s : ℕ) → Covers (members_in is) s
       ↔ (Covers (members_in was) s ⊎ BitCovers 64 (64 * window) bits s)
   pub gap : IsFull is → ⊥
 
--- the word of a window gets more bits, and nothing else changes
-pub record WordWidened (old : List Chunk) (window bits : ℕ) (new : List Chunk) : Type 0 where
+-- the block of a window gets more bits, and nothing else changes
+pub record BlockWidened (old : List Chunk) (window bits : ℕ) (new : List Chunk) : Type 0 where
   pub front : List Chunk
   pub back : List Chunk
   pub was : Chunk
   pub is : Chunk
   pub were : old ≡ front ++ was ∷ back
   pub are : new ≡ front ++ is ∷ back
-  pub word : Widened was window bits is
+  pub block : Widened was window bits is

@@ -1,9 +1,9 @@
--- Tight chunks, of which a set needs few: none is empty, no word is full, and no two spans touch.
+-- Tight chunks, of which a set needs few: none is empty, no block is full, and no two spans touch.
 use Rattle.std.specs.Prelude.{◌≡◌, ℕ, ◌+◌, ◌*◌, ◌≤◌, ◌<◌, List, All, true, false, bit_or}
 use Rattle.span_sets.specs.declared.chunk.Chunk.{Chunk}
 use Rattle.serial_set.specs.Span.{Covers}
 use Rattle.span_sets.specs.Chunk.{is_span, window_of, bits_of, members_in, lo_of, hi_of}
-use Rattle.span_sets.specs.Words.{singles}
+use Rattle.span_sets.specs.Blocks.{singles}
 
 -- the chunk has no member
 abbrev pub IsEmpty : Chunk → Type 0
@@ -30,10 +30,10 @@ pub record KeepsTight (old : List Chunk) (lo hi : ℕ) (few : List Chunk) : Type
   pub low : All (λ e. hi_of e < lo → All (Apart e) few) old
   pub high : All (λ e. hi < lo_of e → All (λ f. Apart f e) few) old
 
--- a word with more bits, but not all that its window has
+-- a block with more bits, but not all that its window has
 pub record HasBits (was : Chunk) (bits : ℕ) (is : Chunk) : Type 0 where
   pub lo : lo_of is ≡ lo_of was
   pub hi : hi_of is ≡ hi_of was
-  pub word : is_span is ≡ false
+  pub block : is_span is ≡ false
   pub members : members_in is ≡ singles 64 (64 * window_of was) (bit_or (bits_of was) bits)
   pub gap : IsFull is → ⊥

@@ -9,12 +9,12 @@ ghost use Rattle.span_sets.specs.Replacement.{lo_or, hi_or, Has};
 ghost use Rattle.span_sets.specs.Positions.{IsChunkFrom};
 ghost use Rattle.serial_set.specs.Span.{AddsSpan, Covers, IsRunsOf};
 ghost use Rattle.span_sets.specs.SpanPages.{chunks_held};
-ghost use Rattle.span_sets.specs.Words.{BitCovers};
+ghost use Rattle.span_sets.specs.Blocks.{BitCovers};
 
+use crate::block_bits::bits_of;
 use crate::chunk::{Chunk, mask};
 use crate::replacement::{replacement_of_bits, replacement_of_span};
 use crate::span_pages::SpanPages;
-use crate::word_bits::bits_of;
 use serial_set::Span;
 use std::alloc::AllocError;
 
@@ -74,7 +74,7 @@ impl SpanPages {
         self.join_bits(window, bits)
     }
 
-    // The same, if the window has no word, or if its word gets full.
+    // The same, if the window has no block, or if its block gets full.
     fn join_bits(&mut self, window: u64, bits: u64) -> Result<(), AllocError>
         requires window { window < 2 ^ 58 }
         requires some { 0 < bits }
@@ -113,9 +113,9 @@ impl SpanPages {
             return Ok(());
         }
         let next = hi.saturating_add(1);
-        let front = self.front_of(met, lo);
-        let back = self.back_of(self.chunk_on(met, next), hi);
-        let replacement = replacement_of_span(front, back);
+        let lower = self.lower_side(met, lo);
+        let upper = self.upper_side(self.chunk_on(met, next), hi);
+        let replacement = replacement_of_span(lower, upper);
         self.put(&replacement.few, replacement.lo, replacement.hi)
     }
 

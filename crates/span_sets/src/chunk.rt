@@ -2,18 +2,18 @@
 ghost use Rattle.std.specs.Prelude.{◌≡◌, ◌+◌, ◌-◌, ◌*◌, ◌^◌, ◌<◌, ◌≤◌, ◌∷◌, [], ℕ, ◌↔◌, ◌⊎◌};
 ghost use Rattle.std.specs.Prelude.{IfSome, IsTrue, None, false};
 ghost use Rattle.std.specs.Int.{bit_at};
-ghost use Rattle.span_sets.specs.Words.{BitCovers};
+ghost use Rattle.span_sets.specs.Blocks.{BitCovers};
 
+use crate::block_bits::{first_bit, last_bit};
 use crate::search::HasEnd;
-use crate::word_bits::{first_bit, last_bit};
 
-/// A span if `a` is at most `b`, otherwise a word: the window `b / 2`, whose bits are those of `a`,
-/// except that the highest is the lowest bit of `b`. So a chunk takes 16 bytes and no tag.
+/// A span if `a` is at most `b`, otherwise a block: the window `b / 2`, whose bits are those of
+/// `a`, except that the highest is the lowest bit of `b`. So a chunk takes 16 bytes and no tag.
 #[derive(Clone, Copy)]
 pub struct Chunk {
     a: u64,
     b: u64,
-    ghost word: { b < a → (b < 2 ^ 59) × (2 ^ 63 ≤ a) },
+    ghost block: { b < a → (b < 2 ^ 59) × (2 ^ 63 ≤ a) },
 }
 
 impl Chunk {
@@ -21,7 +21,7 @@ impl Chunk {
     ghost use Rattle.span_sets.specs.Positions.{Widened};
     ghost use Rattle.span_sets.specs.Members.{GoesOn, IsFirst};
     ghost use Rattle.span_sets.specs.Tight.{HasBits, IsTight};
-    ghost use Rattle.span_sets.specs.Words.{singles};
+    ghost use Rattle.span_sets.specs.Blocks.{singles};
     ghost use Rattle.serial_set.specs.Span.{Covers};
 
     /// The serials from `lo` to `hi`.
@@ -36,12 +36,12 @@ impl Chunk {
     }
 
     /// The serials of a window whose bits are set.
-    pub fn word(window: u64, bits: u64) -> Chunk
+    pub fn block(window: u64, bits: u64) -> Chunk
         requires { window < 2 ^ 58 }
         ensures members { members_in result ≡ singles 64 (64 * window) bits }
         ensures lo { lo_of result ≡ 64 * window }
         ensures hi { hi_of result ≡ 64 * window + 63 }
-        ensures word { is_span result ≡ false }
+        ensures block { is_span result ≡ false }
     {
         if bits < 1 << 63 {
             Chunk {
@@ -63,14 +63,14 @@ impl Chunk {
         self.a <= self.b
     }
 
-    /// The window of a word.
+    /// The window of a block.
     pub fn window(self) -> u64
         ensures { result ≡ window_of self }
     {
         self.b / 2
     }
 
-    /// The bits of a word.
+    /// The bits of a block.
     pub fn bits(self) -> u64
         requires { self.b < self.a }
         ensures { result ≡ bits_of self }
@@ -114,7 +114,7 @@ impl Chunk {
         serial / 64 == self.window() && has_bit(self.bits(), serial % 64)
     }
 
-    /// The word with more bits, if they belong to its window and do not fill it.
+    /// The block with more bits, if they belong to its window and do not fill it.
     pub fn widened(self, window: u64, bits: u64) -> Option<Chunk>
         ensures { IfSome result (λ is. Widened self window bits is) }
     {
@@ -124,7 +124,7 @@ impl Chunk {
         self.with(bits)
     }
 
-    /// The word with more bits of its window, unless they fill it.
+    /// The block with more bits of its window, unless they fill it.
     pub fn with(self, bits: u64) -> Option<Chunk>
         requires { self.b < self.a }
         ensures with { IfSome result (λ is. HasBits self bits is) }
@@ -135,7 +135,7 @@ impl Chunk {
         if bits == u64::MAX {
             return None;
         }
-        Some(Chunk::word(self.window(), bits))
+        Some(Chunk::block(self.window(), bits))
     }
 
     /// The first member from a number on.

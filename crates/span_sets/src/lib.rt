@@ -1,8 +1,9 @@
-//! Sets of serials: as runs and words of bits in pages, which is the representation in use, and as
+//! Sets of serials: as runs and blocks of bits in pages, which is the representation in use, and as
 //! one sorted vector.
 #![tactic(auto)]
 
 mod additions;
+mod block_bits;
 mod chunk;
 mod few;
 pub mod laws;
@@ -17,7 +18,6 @@ mod span_pages;
 mod span_search;
 mod span_vec;
 mod storage;
-mod word_bits;
 
 pub use span_pages::SpanPages;
 pub use span_vec::SpanVec;

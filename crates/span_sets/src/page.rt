@@ -4,7 +4,7 @@ ghost use Rattle.std.specs.Prelude.{drop, false, All, IsTrue, IfOk, OnOk, OnErr}
 ghost use Rattle.std.specs.Vec.{vec_len};
 ghost use Rattle.span_sets.specs.Chunk.{lo_of, hi_of, ChunksFrom};
 ghost use Rattle.span_sets.specs.Chunks.{Replaces};
-ghost use Rattle.span_sets.specs.Positions.{end_of, CutTo, WordWidened};
+ghost use Rattle.span_sets.specs.Positions.{end_of, CutTo, BlockWidened};
 
 use crate::chunk::Chunk;
 use crate::row::{insert_at, remove};
@@ -123,13 +123,13 @@ impl Page {
         Ok(())
     }
 
-    /// Sets bits in the word of their window, if there is one that they do not fill. Otherwise
+    /// Sets bits in the block of their window, if there is one that they do not fill. Otherwise
     /// nothing changes.
     pub fn set_bits(&mut self, window: u64, bits: u64) -> bool
         requires order { ChunksFrom 0 (chunks_in self.old) }
         requires window { window < 2 ^ 58 }
         ensures set { IsTrue result
-            → WordWidened (chunks_in self.old) window bits (chunks_in self.new) }
+            → BlockWidened (chunks_in self.old) window bits (chunks_in self.new) }
         ensures same { result ≡ false → chunks_in self.new ≡ chunks_in self.old }
     {
         let at = count_ending_below(self.as_slice(), 64 * window);

@@ -6,7 +6,7 @@ ghost use Rattle.span_sets.specs.declared.page.Page.{Page};
 ghost use Rattle.span_sets.specs.Chunk.{lo_of, hi_of, ChunksFrom};
 ghost use Rattle.span_sets.specs.Chunks.{Replaces};
 ghost use Rattle.span_sets.specs.Pages.{chunks_in, chunks_of, IsPageFor, IsSplit};
-ghost use Rattle.span_sets.specs.Positions.{end_of, CutTo, IsListFrom, WordWidened};
+ghost use Rattle.span_sets.specs.Positions.{end_of, CutTo, IsListFrom, BlockWidened};
 
 use crate::chunk::Chunk;
 use crate::page::Page;
@@ -202,13 +202,13 @@ fn page_of_two(pages: &[Page], at: usize, lo: u64) -> usize
     if pages[at].end() < lo { at + 1 } else { at }
 }
 
-/// Sets bits in the word of their window, if there is one that they do not fill. Otherwise nothing
+/// Sets bits in the block of their window, if there is one that they do not fill. Otherwise nothing
 /// changes.
 pub fn set_bits_in(pages: &mut Vec<Page>, window: u64, bits: u64) -> bool
     requires order { ChunksFrom 0 (chunks_of pages.old.items) }
     requires window { window < 2 ^ 58 }
     ensures set { IsTrue result
-        → WordWidened (chunks_of pages.old.items) window bits (chunks_of pages.new.items) }
+        → BlockWidened (chunks_of pages.old.items) window bits (chunks_of pages.new.items) }
     ensures same { result ≡ false
         → chunks_of pages.new.items ≡ chunks_of pages.old.items }
 {

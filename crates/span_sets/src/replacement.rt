@@ -7,7 +7,7 @@ ghost use Rattle.span_sets.specs.Few.{few_of};
 ghost use Rattle.span_sets.specs.Replacement.{lo_or, hi_or, Has, IsReplacement};
 ghost use Rattle.serial_set.specs.Span.{Covers};
 ghost use Rattle.span_sets.specs.Tight.{IsTight};
-ghost use Rattle.span_sets.specs.Words.{BitCovers};
+ghost use Rattle.span_sets.specs.Blocks.{BitCovers};
 
 use crate::chunk::Chunk;
 use crate::few::{Few, few_chunks};
@@ -20,36 +20,36 @@ pub struct Replacement {
     pub hi: u64,
 }
 
-/// One end of an added span: a word, if the span ends in a window that has one and does not fill
+/// One end of an added span: a block, if the span ends in a window that has one and does not fill
 /// it, and the number to which the rest of the span reaches on this side.
 #[derive(Clone, Copy)]
 pub struct Side {
-    pub word: Option<Chunk>,
+    pub block: Option<Chunk>,
     pub at: u64,
 }
 
 /// The chunks that replace those that a span with these ends meets.
-pub fn replacement_of_span(front: Side, back: Side) -> Replacement
-    requires front { IfSome front.word
-        (λ w. (hi_of w + 1 ≡ front.at) × (is_span w ≡ false) × IsTight w) }
-    requires back { IfSome back.word
-        (λ w. (back.at + 1 ≡ lo_of w) × (is_span w ≡ false) × IsTight w) }
-    requires order { front.at ≤ back.at + 1 }
-    requires between { lo_or front.word front.at ≤ hi_or back.word back.at }
+pub fn replacement_of_span(lower: Side, upper: Side) -> Replacement
+    requires lower { IfSome lower.block
+        (λ w. (hi_of w + 1 ≡ lower.at) × (is_span w ≡ false) × IsTight w) }
+    requires upper { IfSome upper.block
+        (λ w. (upper.at + 1 ≡ lo_of w) × (is_span w ≡ false) × IsTight w) }
+    requires order { lower.at ≤ upper.at + 1 }
+    requires between { lo_or lower.block lower.at ≤ hi_or upper.block upper.at }
     ensures lies { IsReplacement (few_of result.few) result.lo result.hi }
-    ensures lo { result.lo ≡ lo_or front.word front.at }
-    ensures hi { result.hi ≡ hi_or back.word back.at }
+    ensures lo { result.lo ≡ lo_or lower.block lower.at }
+    ensures hi { result.hi ≡ hi_or upper.block upper.at }
     ensures members { (s : ℕ) → Covers (members_of (few_of result.few)) s
-        ↔ (Has front.word s ⊎ (((front.at ≤ s) × (s ≤ back.at)) ⊎ Has back.word s)) }
+        ↔ (Has lower.block s ⊎ (((lower.at ≤ s) × (s ≤ upper.at)) ⊎ Has upper.block s)) }
     ensures tight { All IsTight (few_of result.few) }
-    ensures spans { All (λ e. is_span e ≡ true → (lo_of e ≡ front.at) × (hi_of e ≡ back.at))
+    ensures spans { All (λ e. is_span e ≡ true → (lo_of e ≡ lower.at) × (hi_of e ≡ upper.at))
         (few_of result.few) }
 {
-    let span = span_between(front.at, back.at);
+    let span = span_between(lower.at, upper.at);
     Replacement {
-        few: few_chunks(front.word, span, back.word),
-        lo: lo_or(front.word, front.at),
-        hi: hi_or(back.word, back.at),
+        few: few_chunks(lower.block, span, upper.block),
+        lo: lo_or(lower.block, lower.at),
+        hi: hi_or(upper.block, upper.at),
     }
 }
 
@@ -81,9 +81,9 @@ pub fn replacement_of_bits(
         (few_of result.few) }
 {
     let first = 64 * window;
-    let word = Chunk::word(window, bits);
+    let block = Chunk::block(window, bits);
     Replacement {
-        few: few_chunks(before(head, first), Some(word), after(tail, first + 63)),
+        few: few_chunks(before(head, first), Some(block), after(tail, first + 63)),
         lo: lo_or(head, first),
         hi: hi_or(tail, first + 63),
     }

@@ -1,11 +1,11 @@
-//! The runs of a set, in the order of a walk.
+//! The runs of a set, in the order of an iteration.
 ghost use Rattle.std.specs.Prelude.{◌≡◌, ◌+◌, ◌<◌, ◌≤◌, ◌↔◌, ℕ, [], length, take, slice_get, false};
 ghost use Rattle.std.specs.Prelude.{Contains, IsTrue, IfErr, IfOk};
 ghost use Rattle.span_sets.specs.Chunk.{hi_of, members_of, runs_of};
 ghost use Rattle.span_sets.specs.Members.{GoesOn, IsFirst, Reads, Taken};
 ghost use Rattle.serial_set.specs.Span.{Covers};
 ghost use Rattle.span_sets.specs.SpanPages.{chunks_held};
-ghost use Rattle.serial_set.specs.Walk.{IsPiece, piece_of, since};
+ghost use Rattle.serial_set.specs.Iteration.{IsPiece, piece_of, since};
 
 use crate::chunk::Chunk;
 use crate::span_pages::SpanPages;
@@ -109,7 +109,7 @@ impl SpanPages {
         }
     }
 
-    // The first member from a number on. No word is empty, but that is not known here.
+    // The first member from a number on. No block is empty, but that is not known here.
     fn first_member(&self, number: u64) -> Option<u64>
         ensures { IsFirst (members_of (chunks_held self.now)) number result }
     {

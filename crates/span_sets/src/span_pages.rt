@@ -1,4 +1,4 @@
-//! A set of serials as pages of spans and words of bits.
+//! A set of serials as pages of spans and blocks of bits.
 ghost use Rattle.std.specs.Prelude.{◌≡◌, ◌*◌, ◌^◌, ◌<◌, ◌≤◌, ◌⊎◌, ◌↔◌, ℕ, [], length, false, All};
 ghost use Rattle.std.specs.Prelude.{IsTrue, IfOk, OnOk, OnErr};
 ghost use Rattle.span_sets.specs.Chunk.{lo_of, hi_of, ChunksFrom, members_of, runs_of};
@@ -10,7 +10,7 @@ ghost use Rattle.span_sets.specs.OneWay.{order_prop};
 ghost use Rattle.span_sets.specs.Positions.{IsChunkFrom, IsListFrom};
 ghost use Rattle.serial_set.specs.Span.{AreSerials, Covers, IsRunsOf};
 ghost use Rattle.span_sets.specs.Tight.{AreTight, KeepsTight};
-ghost use Rattle.span_sets.specs.Words.{BitCovers};
+ghost use Rattle.span_sets.specs.Blocks.{BitCovers};
 
 use crate::chunk::Chunk;
 use crate::few::Few;
@@ -18,9 +18,9 @@ use crate::storage::Storage;
 use serial_set::{Piece, Span, Spans};
 use std::alloc::{AllocError, Global};
 
-/// The members as spans and as words of 64 serials: one of them in the set itself, or more in pages
-/// of at most 256. An addition moves the chunks of one page, whatever the order of the additions,
-/// and a page that is filled in order stays full.
+/// The members as spans and as blocks of 64 serials: one of them in the set itself, or more in
+/// pages of at most 256. An addition moves the chunks of one page, whatever the order of the
+/// additions, and a page that is filled in order stays full.
 #[derive(Drop)]
 pub struct SpanPages {
     alloc: Global,
@@ -87,7 +87,7 @@ impl SpanPages {
         self.storage.put(self.alloc, few.as_slice(), lo, hi)
     }
 
-    // Sets bits in the word of their window, if there is one that they do not fill. Otherwise
+    // Sets bits in the block of their window, if there is one that they do not fill. Otherwise
     // nothing changes.
     pub(crate) fn set_bits(&mut self, window: u64, bits: u64) -> bool
         requires window { window < 2 ^ 58 }

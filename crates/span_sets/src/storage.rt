@@ -6,7 +6,7 @@ ghost use Rattle.span_sets.specs.Chunk.{lo_of, hi_of, ChunksFrom};
 ghost use Rattle.span_sets.specs.Chunks.{Replaces};
 ghost use Rattle.span_sets.specs.Storage.{chunks_stored};
 ghost use Rattle.span_sets.specs.Pages.{chunks_of};
-ghost use Rattle.span_sets.specs.Positions.{IsListFrom, WordWidened};
+ghost use Rattle.span_sets.specs.Positions.{IsListFrom, BlockWidened};
 
 use crate::chunk::Chunk;
 use crate::page::Page;
@@ -53,13 +53,13 @@ impl Storage {
         }
     }
 
-    /// Sets bits in the word of their window, if there is one that they do not fill. Otherwise
+    /// Sets bits in the block of their window, if there is one that they do not fill. Otherwise
     /// nothing changes.
     pub fn set_bits(&mut self, window: u64, bits: u64) -> bool
         requires order { ChunksFrom 0 (chunks_stored self.old) }
         requires window { window < 2 ^ 58 }
         ensures set { IsTrue result
-            → WordWidened (chunks_stored self.old) window bits (chunks_stored self.new) }
+            → BlockWidened (chunks_stored self.old) window bits (chunks_stored self.new) }
         ensures same { result ≡ false → chunks_stored self.new ≡ chunks_stored self.old }
     {
         match self {
@@ -82,10 +82,10 @@ fn list_of(only: &Option<Chunk>, number: u64) -> &[Chunk]
     slice::from_ref(chunk)
 }
 
-// Sets bits in the only chunk, if it is the word of their window and they do not fill it.
+// Sets bits in the only chunk, if it is the block of their window and they do not fill it.
 fn set_bits_of(only: &mut Option<Chunk>, window: u64, bits: u64) -> bool
     ensures set { IsTrue result
-        → WordWidened (option_to_list only.old) window bits (option_to_list only.new) }
+        → BlockWidened (option_to_list only.old) window bits (option_to_list only.new) }
     ensures same { result ≡ false → only.new ≡ only.old }
 {
     let Some(chunk) = *only else {

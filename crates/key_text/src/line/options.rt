@@ -22,7 +22,7 @@ pub fn after_options(text: &[u8]) -> Option<&[u8]>
     if quoted { None } else { Some(&[]) }
 }
 
-// Returns true if the place after a byte is between quotes, given the place before it.
+// Returns true if the position after a byte is between quotes, given the position before it.
 fn quoted_after(quoted: bool, escaped: bool, byte: u8) -> bool
     ensures { result ≡ quoted_after quoted escaped byte }
 {

@@ -36,22 +36,22 @@ const OF_TWO: [Said<'static>; 4] = [
     Said::Serials(B, 3, 3),
 ];
 
-// The authorities are in the order of their bytes, all authorities first, both in a walk and by
-// index.
+// The authorities are in the order of their bytes, all authorities first, both from an iterator and
+// by index.
 fn stand_in_order<S: Spans>(rt: &impl Abort, alloc: Global) {
     let r = held_of::<S>(rt, alloc, &OF_TWO);
     assert!(rt; r.authorities() == 3);
-    let mut walk = r.walk_authorities();
+    let mut iter = r.iter_authorities();
     for (authority, ids, spans) in [(ALL, 1, 0), (A, 1, 0), (B, 0, 2)] {
-        let listed = walk.next().expect(rt, "an authority is left");
+        let listed = iter.next().expect(rt, "an authority is left");
         assert!(rt; listed.authority() == authority);
         assert!(rt; listed.ids() == ids && listed.spans().len() == spans);
     }
-    assert!(rt; walk.next().is_none());
+    assert!(rt; iter.next().is_none());
     let second = r.authority_at(1);
     assert!(rt; second.authority() == A && second.ids() == 1);
     assert!(rt; second.id_at(0) == b"x".as_slice());
-    assert!(rt; second.walk_ids().next() == Some(b"x".as_slice()));
+    assert!(rt; second.iter_ids().next() == Some(b"x".as_slice()));
 }
 
 #[test]
@@ -80,8 +80,8 @@ fn keys_and_hashes_stand_in_order(rt: HostRuntime) {
     assert!(rt; r.keys() == 2 && r.sha1s() == 2 && r.sha256s() == 2);
     assert!(rt; r.key_at(0) == A && r.key_at(1) == B);
     assert!(rt; r.sha1_at(0) == [5; 20].as_slice() && r.sha256_at(1) == [9; 32].as_slice());
-    assert!(rt; r.walk_sha1s().next() == Some([5; 20].as_slice()));
-    assert!(rt; r.walk_sha256s().next() == Some([8; 32].as_slice()));
-    let mut walk = r.walk_keys();
-    assert!(rt; walk.next() == Some(A) && walk.next() == Some(B) && walk.next().is_none());
+    assert!(rt; r.iter_sha1s().next() == Some([5; 20].as_slice()));
+    assert!(rt; r.iter_sha256s().next() == Some([8; 32].as_slice()));
+    let mut iter = r.iter_keys();
+    assert!(rt; iter.next() == Some(A) && iter.next() == Some(B) && iter.next().is_none());
 }

@@ -28,7 +28,7 @@ fn is_its_runs(rt: &impl Abort, alloc: Global) {
 
 // The number of additions to the set of the first authority.
 fn additions_of(held: &Revocations<Full<SpanVec, 1000>>) -> Option<u64> {
-    let listed = held.walk_authorities().next()?;
+    let listed = held.iter_authorities().next()?;
     Some(listed.spans().additions)
 }
 

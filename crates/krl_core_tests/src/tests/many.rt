@@ -57,20 +57,20 @@ fn of_authority(listed: &Listed<'_, Held>) -> (usize, usize) {
     (listed.ids(), listed.spans().len())
 }
 
-// The number of key IDs and spans of the next authority of a walk.
-fn next(walk: &mut Authorities<'_, Held>) -> Option<(usize, usize)> {
-    let listed = walk.next()?;
+// The number of key IDs and spans of the next authority of an iterator.
+fn next(iter: &mut Authorities<'_, Held>) -> Option<(usize, usize)> {
+    let listed = iter.next()?;
     Some(of_authority(&listed))
 }
 
 // All authorities have the key IDs, and each other authority has a key ID and a serial.
 fn are_listed(rt: &impl Abort, held: &Revocations<Held>) {
-    let mut walk = held.walk_authorities();
-    assert!(rt; next(&mut walk) == Some((COUNT, 0)));
+    let mut iter = held.iter_authorities();
+    assert!(rt; next(&mut iter) == Some((COUNT, 0)));
     for _ in 0..COUNT {
-        assert!(rt; next(&mut walk) == Some((1, 1)));
+        assert!(rt; next(&mut iter) == Some((1, 1)));
     }
-    assert!(rt; next(&mut walk).is_none());
+    assert!(rt; next(&mut iter).is_none());
 }
 
 // The text of the stored entries has this number of bytes, and is read back.

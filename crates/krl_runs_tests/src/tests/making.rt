@@ -210,7 +210,7 @@ fn long_files_are_read(rt: HostRuntime) {
     }
 }
 
-// The lines of a file, and the place and the cause of the fault if they are used under all
+// The lines of a file, and the line and the cause of the fault if they are used under all
 // authorities.
 const REFUSED: [(&[u8], &str); 6] = [
     (b"serial: 5-4", "s: line 1: spec 3 Reversed"),

@@ -98,7 +98,7 @@ pub fn held(rt: &(impl AllocGlobal + Abort + Print)) -> Option<Revocations<Held>
 
 #[test]
 fn each_addition(rt: HostRuntime) -> Result<(), Fail> {
-    let held = held(&rt).ok_or("a second refusal")?;
+    let held = held(&rt).ok_or("a second failure")?;
     assert!(rt; size(&held) == 1000 && held.authorities() == 201);
     Ok(())
 }

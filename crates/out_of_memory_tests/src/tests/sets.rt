@@ -136,7 +136,7 @@ const SECOND: [((u64, u64), (u64, u64)); 4] = [
     ((9, 9), (1000, 1000)),
     ((1000, 2000), (5, 5)),
     ((1000, 2000), (3000, 4000)),
-    // a word and a run replace the run
+    // a block and a run replace the run
     ((60, 200), (58, 58)),
 ];
 

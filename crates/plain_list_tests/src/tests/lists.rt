@@ -94,7 +94,7 @@ fn long_lists(rt: HostRuntime) {
     assert!(rt; asked(&rt, alloc, &list, GITHUB_LINE) == Ok(true));
     let revoked: Option<Revocations<Held>> = read_plain(alloc, &list).ok();
     let revoked = revoked.expect(&rt, "there is memory");
-    let mut keys = revoked.walk_keys();
+    let mut keys = revoked.iter_keys();
     assert!(rt; keys.next() == Some(OTHER) && keys.next() == Some(GITHUB));
     assert!(rt; keys.next().is_none());
     let long = vec![in alloc; b'\n'; 67_108_865].expect(&rt, "there is memory");

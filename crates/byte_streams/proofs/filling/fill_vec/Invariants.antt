@@ -4,13 +4,13 @@ use Rattle.std.specs.Io.KnownBytes.{Consumes}
 use Rattle.byte_streams.specs.Pull.{after_ahead}
 use Rattle.byte_streams.proofs.filling.fill_vec.Given as goal
 
-abbrev pub invariant-loop-chunk : goal.invariant-loop-chunk
-invariant-loop-chunk g l = record {
+abbrev pub invariant-loop-batch : goal.invariant-loop-batch
+invariant-loop-batch g l = record {
   comes : Consumes (after_ahead l.initial.ahead (g.R.Source.left l.initial.reader)) (after_ahead l.ahead (g.R.Source.left l.reader)) l.out.items;
   within : vec_len l.out ≤ l.size;
   working : g.R.Source.has_failed l.reader ≡ false;
   capacity : vec_capacity l.initial.out ≤ vec_capacity l.out;
 }
 
-abbrev pub decreases-loop-chunk : goal.decreases-loop-chunk
-decreases-loop-chunk g l = l.size - vec_len l.out
+abbrev pub decreases-loop-batch : goal.decreases-loop-batch
+decreases-loop-batch g l = l.size - vec_len l.out

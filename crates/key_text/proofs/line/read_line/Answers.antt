@@ -4,7 +4,7 @@ use Rattle.ssh_wire.specs.Reading.{Answers}
 use Rattle.key_text.specs.declared.line.Line.{Line}
 use Rattle.key_text.specs.declared.line_fault.LineFault.{LineFault}
 use Rattle.key_text.specs.KeyLine.{IsKeyLine}
-use Rattle.key_text.specs.LineReading.{Content, ReportsFault, content_of, line_at}
+use Rattle.key_text.specs.LineReading.{KeyLine, ReportsFault, content_of, line_at}
 use Rattle.key_text.proofs.LineFaults.{is_reported}
 use Rattle.key_text.proofs.LineLaws.{line_again, line_found}
 use Rattle.key_text.proofs.line.read_line.Goals as goal
@@ -17,7 +17,7 @@ pub returns-clause-found : goal.returns-clause-found
 returns-clause-found c = found c.args.text.now c.read_content.result (λ i. let byte = c.type_inv.text i in omega arith) c.read_content.ensures.exact
 
 pub returns-clause-only : goal.returns-clause-only
-returns-clause-only c = λ word blob comment is. subst (λ (read : Result Content LineFault). Answers ReportsFault content_of c.read_content.result read) (line_again c.args.text.now word blob comment is) c.read_content.ensures.exact
+returns-clause-only c = λ word blob comment is. subst (λ (read : Result KeyLine LineFault). Answers ReportsFault content_of c.read_content.result read) (line_again c.args.text.now word blob comment is) c.read_content.ensures.exact
 
 pub returns-clause-fault : goal.returns-clause-fault
 returns-clause-fault c = is_reported c.args.text.now c.read_content.result (λ i. let byte = c.type_inv.text i in omega arith) c.read_content.ensures.exact

@@ -1,4 +1,4 @@
--- The place, the key, the rest of the line, and the answer of the list.
+-- The location, the key, the rest of the line, and the answer of the list.
 use Rattle.json.specs.Token.{begin_object}
 use Rattle.std.proofs.Common.{[], ◌∷◌}
 use Rattle.json_lines.proofs.Objects.{four_fields}

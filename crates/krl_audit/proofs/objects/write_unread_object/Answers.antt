@@ -1,4 +1,4 @@
--- The place, and the fault.
+-- The location, and the fault.
 use Rattle.json.specs.Token.{begin_object}
 use Rattle.std.proofs.Common.{[], ◌∷◌}
 use Rattle.json_lines.proofs.Objects.{two_fields}

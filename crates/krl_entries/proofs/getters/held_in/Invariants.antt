@@ -3,9 +3,9 @@ use Rattle.krl_entries.proofs.getters.held_in.Given as goal
 
 abbrev pub invariant-loop-left : goal.invariant-loop-left
 invariant-loop-left g l = record {
-  rest : l.left ≡ length l.walk;
+  rest : l.left ≡ length l.iter;
   few : length l.sections < 2 ^ 64;
-  sum : l.total + sum_by (λ section. length section.spans) l.walk ≡ sum_by (λ section. length section.spans) l.sections;
+  sum : l.total + sum_by (λ section. length section.spans) l.iter ≡ sum_by (λ section. length section.spans) l.sections;
   bound : l.total + l.left * 2 ^ 64 ≤ length l.sections * 2 ^ 64;
 }
 

@@ -1,4 +1,4 @@
-use Rattle.krl_plan.proofs.Common.{◌∙◌, ap, IsPiece, next_of, subst, sym, walk_ends}
+use Rattle.krl_plan.proofs.Common.{◌∙◌, ap, IsPiece, next_of, subst, sym, iteration_ends}
 use Rattle.krl_plan.proofs.CopiedRuns.{copied_more}
 use Rattle.krl_plan.proofs.copies.copy_runs.Goals as goal
 
@@ -6,7 +6,7 @@ pub loop-next-smaller : goal.loop-next-smaller
 loop-next-smaller g c =
     let spans = g.S.Spans.spans c.args.set.now in
     let law = g.met.S.Spans.law c.args.set.now in
-    rw (c.in-Some.is, c.next-next.ensures) (walk_ends spans _ c.in-Some.number law.0 law.1 c.piece_from-piece.ensures)
+    rw (c.in-Some.is, c.next-next.ensures) (iteration_ends spans _ c.in-Some.number law.0 law.1 c.piece_from-piece.ensures)
 
 pub loop-next-preserved : goal.loop-next-preserved
 loop-next-preserved g c =

@@ -2,7 +2,7 @@ use Rattle.krl_plan.proofs.Common.{◌*◌, ◌≡◌, ◌≤◌, ap, arith, cos
 use Rattle.krl_plan.proofs.Common.{length_push, since, subst, sym, take, ℕ}
 use Rattle.std.proofs.lemmas.Result.{IfOk-weaker}
 use Rattle.krl_plan.proofs.Ranges.{cheapest_small}
-use Rattle.krl_plan.proofs.CopiedRuns.{last_chunk}
+use Rattle.krl_plan.proofs.CopiedRuns.{last_batch}
 use Rattle.krl_plan.proofs.planner.least_plan.Goals as goal
 
 pub loop-number-init : goal.loop-number-init
@@ -17,16 +17,16 @@ pub add_all-requires : goal.add_all-requires
 add_all-requires g c =
     let spans = g.S.Spans.spans c.args.set.now in
     let starts = c.loop-number.starts.items in
-    let chunk : c.deref.result.now ≡ take 1024 (since c.in-Some.number spans) = rw c.deref.ensures.value c.in_ok-copy_chunk.ensures in
-    let last = last_chunk spans c.deref.result.now starts c.pop.new.self.items c.in-Some.number (g.met.S.Spans.law c.args.set.now).0 c.in-Some.ensures.items c.loop-number.invariant.begin chunk in
+    let batch : c.deref.result.now ≡ take 1024 (since c.in-Some.number spans) = rw c.deref.ensures.value c.in_ok-copy_batch.ensures in
+    let last = last_batch spans c.deref.result.now starts c.pop.new.self.items c.in-Some.number (g.met.S.Spans.law c.args.set.now).0 c.in-Some.ensures.items c.loop-number.invariant.begin batch in
     (drop (1024 * length starts) spans, (last.1, c.loop-number.invariant.known))
 
 pub loop-number-preserved : goal.loop-number-preserved
 loop-number-preserved g c =
     let spans = g.S.Spans.spans c.args.set.now in
     let starts = c.loop-number.starts.items in
-    let chunk : c.deref.result.now ≡ take 1024 (since c.in-Some.number spans) = rw c.deref.ensures.value c.in_ok-copy_chunk.ensures in
-    let last = last_chunk spans c.deref.result.now starts c.pop.new.self.items c.in-Some.number (g.met.S.Spans.law c.args.set.now).0 c.in-Some.ensures.items c.loop-number.invariant.begin chunk in
+    let batch : c.deref.result.now ≡ take 1024 (since c.in-Some.number spans) = rw c.deref.ensures.value c.in_ok-copy_batch.ensures in
+    let last = last_batch spans c.deref.result.now starts c.pop.new.self.items c.in-Some.number (g.met.S.Spans.law c.args.set.now).0 c.in-Some.ensures.items c.loop-number.invariant.begin batch in
     record {
       begin = last.0;
       known = subst (Knows c.add_all.new.self) last.2 (c.in_ok-add_all.ensures (drop (1024 * length starts) spans) last.1 c.loop-number.invariant.known);

@@ -8,7 +8,7 @@ returns-then-made-clause-asked g c =
 
 pub returns-clause-hashed : goal.returns-clause-hashed
 returns-clause-hashed g c = λ _.
-    subst (λ keys. HashesOf g.H.KeyHash.hash keys c.hash_keys.new.hashes.keys) c.walk_keys.ensures c.in_ok-hash_keys.ensures
+    subst (λ keys. HashesOf g.H.KeyHash.hash keys c.hash_keys.new.hashes.keys) c.iter_keys.ensures c.in_ok-hash_keys.ensures
 
 pub returns-clause-asked : goal.returns-clause-asked
 returns-clause-asked g c =

@@ -1,6 +1,6 @@
 use Rattle.std.proofs.Common.{sym, ◌∙◌, arith, subst, eqb-true}
 use Rattle.krl_queries.proofs.FirstSerials.{none_from, not_none, some_from}
-use Rattle.serial_set.specs.Walk.{IsPiece}
+use Rattle.serial_set.specs.Iteration.{IsPiece}
 use Rattle.krl_queries.proofs.topics.first_from.Goals as goal
 
 pub returns-then-is_empty : goal.returns-then-is_empty

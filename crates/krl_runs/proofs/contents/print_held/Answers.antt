@@ -6,7 +6,7 @@ use Rattle.krl_runs.proofs.PrintedContents.{saying_stops}
 use Rattle.krl_runs.proofs.contents.print_held.Goals as goal
 
 pub loop-listed-init : goal.loop-listed-init
-loop-listed-init g c = rw (c.into_iter-listed-iterator.ensures.into_iter_gives, c.walk_authorities-listed-items.ensures) (held_first _ c.args.list.now _)
+loop-listed-init g c = rw (c.into_iter-listed-iterator.ensures.into_iter_gives, c.iter_authorities-listed-items.ensures) (held_first _ c.args.list.now _)
 
 pub loop-listed-preserved : goal.loop-listed-preserved
 loop-listed-preserved g c =
@@ -23,22 +23,22 @@ pub returns-in_err-print_texts : goal.returns-in_err-print_texts
 returns-in_err-print_texts g c =
     let p = err_from_is_err_and c.from_residual-in_err-print_texts.result c.from_residual-in_err-print_texts.ensures.1 in
     let is = rw c.in-None.ensures.steps.0 at c.loop-listed.invariant in
-    let keys = rw c.walk_keys.ensures at c.in_err-print_texts.ensures in
+    let keys = rw c.iter_keys.ensures at c.in_err-print_texts.ensures in
     rw (p.1, p.2) (saying_stops _ _ (map (fact_line Key) c.args.list.now.keys) _ _ _ _ _ is keys)
 
 pub returns-in_err-print_texts-2 : goal.returns-in_err-print_texts-2
 returns-in_err-print_texts-2 g c =
     let p = err_from_is_err_and c.from_residual-in_err-print_texts-2.result c.from_residual-in_err-print_texts-2.ensures.1 in
     let is = rw c.in-None.ensures.steps.0 at c.loop-listed.invariant in
-    let keys = rw c.walk_keys.ensures at c.in_ok-print_texts.ensures in
-    let sha1s = rw c.walk_sha1s.ensures at c.in_err-print_texts-2.ensures in
+    let keys = rw c.iter_keys.ensures at c.in_ok-print_texts.ensures in
+    let sha1s = rw c.iter_sha1s.ensures at c.in_err-print_texts-2.ensures in
     rw (p.1, p.2) (saying_stops _ _ (map (fact_line Sha1) c.args.list.now.sha1s) _ _ _ _ _ (more_said _ _ (map (fact_line Key) c.args.list.now.keys) _ _ _ _ is keys) sha1s)
 
 pub returns : goal.returns
 returns g c =
     let is = rw c.in-None.ensures.steps.0 at c.loop-listed.invariant in
-    let keys = rw c.walk_keys.ensures at c.in_ok-print_texts.ensures in
-    let sha1s = rw c.walk_sha1s.ensures at c.in_ok-print_texts-2.ensures in
-    let hashes = rw c.walk_sha256s.ensures at c.print_texts-3.ensures in
+    let keys = rw c.iter_keys.ensures at c.in_ok-print_texts.ensures in
+    let sha1s = rw c.iter_sha1s.ensures at c.in_ok-print_texts-2.ensures in
+    let hashes = rw c.iter_sha256s.ensures at c.print_texts-3.ensures in
     let rest = more_said _ _ (map (fact_line Sha1) c.args.list.now.sha1s) _ _ _ _ (more_said _ _ (map (fact_line Key) c.args.list.now.keys) _ _ _ _ is keys) sha1s in
     last_said _ _ (map (fact_line Hash) c.args.list.now.sha256s) _ _ _ _ rest hashes

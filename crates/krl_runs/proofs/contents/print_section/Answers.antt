@@ -29,5 +29,5 @@ returns g c =
     let one = c.in_ok-say_line.ensures text made in
     let is = more_said _ _ (text ∷ []) _ _ _ _ (section_started _ c.args.listed.now _) one in
     let spans = rw c.spans.ensures at c.in_ok-print_spans.ensures in
-    let ids = rw c.walk_ids.ensures at c.print_texts.ensures in
+    let ids = rw c.iter_ids.ensures at c.print_texts.ensures in
     last_said _ _ (map (fact_line Id) c.args.listed.now.ids) _ _ _ _ (more_said _ _ (map serials_line c.args.listed.now.spans) _ _ _ _ is spans) ids

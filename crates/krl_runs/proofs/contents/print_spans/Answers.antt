@@ -2,7 +2,7 @@
 use Rattle.krl_runs.proofs.Common.{◌∙◌, ap, err_from_is_err_and, IsPiece, List, map, next_of, refl}
 use Rattle.krl_runs.proofs.Common.{serials_line, subst, sym}
 use Rattle.serial_set.specs.declared.span.Span.{Span}
-use Rattle.serial_set.proofs.RunWalks.{since_same, walk_ends}
+use Rattle.serial_set.proofs.RunIteration.{since_same, iteration_ends}
 use Rattle.krl_runs.proofs.PrintedContents.{IsSaid, more_said, none_said, piece_next, saying_stops}
 use Rattle.krl_runs.proofs.contents.print_spans.Goals as goal
 
@@ -16,7 +16,7 @@ pub loop-next-smaller : goal.loop-next-smaller
 loop-next-smaller g c =
     let spans = g.S.Spans.spans c.args.spans.now in
     let law = g.met.S.Spans.law c.args.spans.now in
-    rw (c.in-Some.is, c.next-next.ensures) (walk_ends spans _ c.in-Some.number law.0 law.1 c.piece_from-piece.ensures)
+    rw (c.in-Some.is, c.next-next.ensures) (iteration_ends spans _ c.in-Some.number law.0 law.1 c.piece_from-piece.ensures)
 
 pub returns-in_err-print_piece : goal.returns-in_err-print_piece
 returns-in_err-print_piece g c =

@@ -4,14 +4,14 @@ use Rattle.krl_spec.proofs.Growth.{under_grows}
 use Rattle.krl_spec.proofs.adding.add.Goals as goal
 
 pub returns-in-Serials-clause-grows : goal.returns-in-Serials-clause-grows
-returns-in-Serials-clause-grows g c = λ at_hand size fits.
+returns-in-Serials-clause-grows g c = λ current size fits.
     let added = c.add_serials.ensures in
-    under_grows at_hand _ 0 size _ _ _ (rw c.in-Serials.is at fits) (λ named. omega (arith, added.known named)) (omega (arith, added.stored)) added.stays added.named added.refused
+    under_grows current _ 0 size _ _ _ (rw c.in-Serials.is at fits) (λ named. omega (arith, added.known named)) (omega (arith, added.stored)) added.stays added.named added.refused
 
 pub returns-in-Id-clause-grows : goal.returns-in-Id-clause-grows
-returns-in-Id-clause-grows g c = λ at_hand size fits.
+returns-in-Id-clause-grows g c = λ current size fits.
     let added = c.add_id.ensures in
-    under_grows at_hand _ _ size _ _ _ (rw c.in-Id.is at fits) added.known added.stored added.stays added.named added.refused
+    under_grows current _ _ size _ _ _ (rw c.in-Id.is at fits) added.known added.stored added.stays added.named added.refused
 
 pub returns-in-Serials-clause-means : goal.returns-in-Serials-clause-means
 returns-in-Serials-clause-means g c = rw c.in-Serials.is c.add_serials.ensures.means

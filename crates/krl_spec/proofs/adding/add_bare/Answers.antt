@@ -12,6 +12,6 @@ returns-clause-adds g c =
     (entry_of c.subject_entry.result, rw (c.in_ok-line.ensures.read, asked, c.subject_entry.ensures.named) refl, c.in_ok-add.ensures.means, c.in_ok-add.ensures.held)
 
 pub returns-clause-grows : goal.returns-clause-grows
-returns-clause-grows g c = λ at_hand.
+returns-clause-grows g c = λ current.
     let within = rw c.as_slice.ensures at c.in_ok-asked.ensures.room in
-    c.in_ok-add.ensures.grows at_hand (length c.args.text.now) (rw c.subject_entry.ensures.named (subject_fits at_hand _ _ _ c.in_ok-line.ensures.room within))
+    c.in_ok-add.ensures.grows current (length c.args.text.now) (rw c.subject_entry.ensures.named (subject_fits current _ _ _ c.in_ok-line.ensures.room within))

@@ -8,13 +8,13 @@ loop-one-init g c = rw c.into_iter-one-iterator.ensures.into_iter_gives (Listing
 
 pub loop-one-preserved : goal.loop-one-preserved
 loop-one-preserved g c =
-    let added = rw (c.authority.ensures, c.spans.ensures, c.walk_ids.ensures) at c.in_ok-add_authority.ensures in
+    let added = rw (c.authority.ensures, c.spans.ensures, c.iter_ids.ensures) at c.in_ok-add_authority.ensures in
     Listing-more _ _ _ _ _ _ c.in-Some.one c.in-Some.ensures.steps c.loop-one.invariant added
 
 pub returns-in_err-add_authority : goal.returns-in_err-add_authority
 returns-in_err-add_authority g c =
     let p = err_from_is_err_and c.from_residual.result c.from_residual.ensures.1 in
-    let refused = rw (c.authority.ensures, c.spans.ensures, c.walk_ids.ensures) at c.in_err-add_authority.ensures in
+    let refused = rw (c.authority.ensures, c.spans.ensures, c.iter_ids.ensures) at c.in_err-add_authority.ensures in
     rw (p.1, p.2) (Listing-refused c.in_err-add_authority.field-0.0 _ _ c.add_authority.new.out.items _ _ _ c.in-Some.one c.in-Some.ensures.steps c.loop-one.invariant refused)
 
 pub returns : goal.returns

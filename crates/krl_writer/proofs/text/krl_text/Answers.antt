@@ -23,7 +23,7 @@ returns-in_err-add_authorities g c =
     let header = c.args.header.now in
     let r = c.args.revocations.now in
     let fault = c.in_err-add_authorities.field-0.0 in
-    let refused = rw c.walk_authorities.ensures at c.in_err-add_authorities.ensures in
+    let refused = rw c.iter_authorities.ensures at c.in_err-add_authorities.ensures in
     rw (p.1, p.2) (refuses_list fault header r (λ plans least.
     let left = after_header header r plans c.new-out.result.items c.add_header.new.out.items c.new-out.ensures.items c.in_ok-add_header.ensures.0 in
     refuses_front fault (text_of header plans r) c.add_header.new.out.items (authorities_text plans r.sections) (texts_text r) (refused plans least) left))
@@ -31,14 +31,14 @@ returns-in_err-add_authorities g c =
 pub returns-in_err-add_texts : goal.returns-in_err-add_texts
 returns-in_err-add_texts g c =
     let p = err_from_is_err_and c.from_residual-in_err-add_texts.result c.from_residual-in_err-add_texts.ensures.1 in
-    let under = rw c.walk_authorities.ensures at c.in_ok-add_authorities.ensures in
+    let under = rw c.iter_authorities.ensures at c.in_ok-add_authorities.ensures in
     let left = after_authorities c.args.header.now c.args.revocations.now under.0 c.new-out.result.items c.add_header.new.out.items c.add_authorities.new.out.items c.new-out.ensures.items c.in_ok-add_header.ensures.0 under.1.1.0 in
     let fault = c.in_err-add_texts.field-0.0 in
     rw (p.1, p.2) (refuses_list fault c.args.header.now c.args.revocations.now (any_plans fault c.args.header.now c.args.revocations.now under.0 under.1.0 (subst (Refuses fault) left c.in_err-add_texts.ensures)))
 
 pub returns : goal.returns
 returns g c =
-    let under = rw c.walk_authorities.ensures at c.in_ok-add_authorities.ensures in
+    let under = rw c.iter_authorities.ensures at c.in_ok-add_authorities.ensures in
     let left = after_authorities c.args.header.now c.args.revocations.now under.0 c.new-out.result.items c.add_header.new.out.items c.add_authorities.new.out.items c.new-out.ensures.items c.in_ok-add_header.ensures.0 under.1.1.0 in
     (record { plans = under.0; least = under.1.0; text_is = c.in_ok-add_texts.ensures.0 ∙ left }, c.in_ok-add_texts.ensures.1)
 

@@ -1,4 +1,4 @@
-use Rattle.krl_core.proofs.Common.{◌∙◌, ◌≡◌, ap, arith, at_hand, false, false≢true, inr, length}
+use Rattle.krl_core.proofs.Common.{◌∙◌, ◌≡◌, ap, arith, available, false, false≢true, inr, length}
 use Rattle.krl_core.proofs.Common.{length-take-le, List, None, refl, sym, take, Walk, working, ℕ}
 use Rattle.krl_core.proofs.Progress.{advances_of, late_past_header, more_of, none_there}
 use Rattle.krl_core.proofs.BufferedFields.{bounded_count, leaps_buffered, reads_buffered, some_ok}
@@ -79,8 +79,8 @@ returns g c =
     let old = working c.self-2.inside.pull c.self-2.inside.place c.self-2.inside.stored in
     let done = some_ok _ _ _ _ _ _ _ (sym c.is_err.ensures.value ∙ c.if-is_err.false) (rw c.buffer.ensures at c.read_buffered-count.ensures) in
     let t = c.consume.ensures in
-    let bytes : List ℕ = take c.read_buffered-count.result.0 (at_hand c.self-2.inside.pull) in
-    let long : length bytes ≡ c.read_buffered-count.result.0 = length-take-le c.read_buffered-count.result.0 (at_hand c.self-2.inside.pull) done.within in
+    let bytes : List ℕ = take c.read_buffered-count.result.0 (available c.self-2.inside.pull) in
+    let long : length bytes ≡ c.read_buffered-count.result.0 = length-take-le c.read_buffered-count.result.0 (available c.self-2.inside.pull) done.within in
     rw (← c.self-2.view_is, faultless, on) (record {
       more = λ _. reads_buffered old _ _ _ bytes t done.ok;
       advances = λ _. inr (leaps_buffered old _ _ _ bytes c.self-2.invariant.bounded t done.ok (omega (arith, long, c.if-count-eq0.false)));

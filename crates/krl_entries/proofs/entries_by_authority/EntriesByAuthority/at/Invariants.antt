@@ -3,9 +3,9 @@ use Rattle.krl_entries.proofs.entries_by_authority.EntriesByAuthority.at.Given a
 
 abbrev pub invariant-loop-listed : goal.invariant-loop-listed
 invariant-loop-listed g l = record {
-  inside : l.left < length l.walk;
-  same : slice_get l.walk l.left ≡ slice_get l.self l.index;
+  inside : l.left < length l.iter;
+  same : slice_get l.iter l.left ≡ slice_get l.self l.index;
 }
 
 abbrev pub decreases-loop-listed : goal.decreases-loop-listed
-decreases-loop-listed g l = length l.walk
+decreases-loop-listed g l = length l.iter

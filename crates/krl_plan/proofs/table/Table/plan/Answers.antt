@@ -1,9 +1,9 @@
 use Rattle.std.proofs.Common.{◌≡◌, ℕ, arith, subst}
-use Rattle.krl_plan.proofs.CostTable.{Walked, Walked-all, Walked-more, Walked-start, choice_fits}
+use Rattle.krl_plan.proofs.CostTable.{Planned, Planned-all, Planned-more, Planned-start, choice_fits}
 use Rattle.krl_plan.proofs.table.Table.plan.Goals as goal
 
 pub loop-left-init : goal.loop-left-init
-loop-left-init c = record { within = omega arith; walked = Walked-start c.args.self.now.choices.items _ c.len-left.result c.new-plan.ensures.items (omega arith) }
+loop-left-init c = record { within = omega arith; planned = Planned-start c.args.self.now.choices.items _ c.len-left.result c.new-plan.ensures.items (omega arith) }
 
 pub overflow_sub-left-in-loop-left : goal.overflow_sub-left-in-loop-left
 overflow_sub-left-in-loop-left c =
@@ -21,11 +21,11 @@ loop-left-preserved c =
     let fits = choice_fits choices c.requires.known.0 c.loop-left.left c.index.result.now c.requires.known.1.1.1.1.choices c.index.ensures (omega arith) within in
     record {
       within = rw c.group-group.ensures (omega arith);
-      walked = rw (c.in_ok-push.ensures.items, c.group-group.ensures) (Walked-more choices c.loop-left.plan.items c.loop-left.left c.index.result.now c.index.ensures (omega arith) within fits.1 c.loop-left.invariant.walked);
+      planned = rw (c.in_ok-push.ensures.items, c.group-group.ensures) (Planned-more choices c.loop-left.plan.items c.loop-left.left c.index.result.now c.index.ensures (omega arith) within fits.1 c.loop-left.invariant.planned);
     }
 
 pub returns : goal.returns
 returns c runs known =
     let none : c.loop-left.left ≡ 0 = omega arith in
-    Walked-all c.args.self.now.choices.items c.loop-left.plan.items runs
-    (subst (λ (n : ℕ). Walked c.args.self.now.choices.items c.loop-left.plan.items n) none c.loop-left.invariant.walked) known.1.1.1.choices
+    Planned-all c.args.self.now.choices.items c.loop-left.plan.items runs
+    (subst (λ (n : ℕ). Planned c.args.self.now.choices.items c.loop-left.plan.items n) none c.loop-left.invariant.planned) known.1.1.1.choices

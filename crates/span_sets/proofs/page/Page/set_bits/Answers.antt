@@ -19,8 +19,8 @@ invariant_of-self-clause-ending c =
     let at = c.count_ending_below-at.result in
     let chunk = c.index.result.now in
     let within : at < length xs = omega arith in
-    let word = c.in-Some.ensures in
-    page.ending ∙ sym (end_set xs at c.in-Some.wider chunk within (word.hi.1 ∙ sym word.hi.0 ∙ ap hi_of c.index.ensures))
+    let block = c.in-Some.ensures in
+    page.ending ∙ sym (end_set xs at c.in-Some.wider chunk within (block.hi.1 ∙ sym block.hi.0 ∙ ap hi_of c.index.ensures))
 
 pub returns-clause-set : goal.returns-clause-set
 returns-clause-set c t =

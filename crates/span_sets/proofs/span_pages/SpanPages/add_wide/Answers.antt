@@ -22,7 +22,7 @@ put-requires-clause-serials c =
     let replacement = c.replacement_of_span-replacement in
     let some = c.requires.from_one in
     fills_serials old replacement.result.lo replacement.result.hi (few_of replacement.result.few) (λ s. (c.args.lo ≤ s) × (s ≤ c.args.hi)) replacement.ensures.lies
-    (ends_fill_at old (few_of replacement.result.few) c.args.lo c.args.hi replacement.result.lo replacement.result.hi c.front_of-front.result.at c.back_of-back.result.at c.front_of-front.result.word c.back_of-back.result.word c.front_of-front.ensures c.back_of-back.ensures c.requires.ordered c.requires.windows replacement.ensures.lo replacement.ensures.hi replacement.ensures.members)
+    (ends_fill_at old (few_of replacement.result.few) c.args.lo c.args.hi replacement.result.lo replacement.result.hi c.lower_side-lower.result.at c.upper_side-upper.result.at c.lower_side-lower.result.block c.upper_side-upper.result.block c.lower_side-lower.ensures c.upper_side-upper.ensures c.requires.ordered c.requires.windows replacement.ensures.lo replacement.ensures.hi replacement.ensures.members)
     c.args.self.now.serials (λ s k. (omega (arith, k.0), omega (arith, k.1)))
 
 pub put-requires-clause-tight : goal.put-requires-clause-tight
@@ -30,7 +30,7 @@ put-requires-clause-tight c =
     let old = chunks_held c.args.self.now in
     let replacement = c.replacement_of_span-replacement in
     let few = few_of replacement.result.few in
-    let keeps = ends_keep_tight old few c.args.lo c.args.hi c.front_of-front.result.at c.back_of-back.result.at c.front_of-front.result.word c.back_of-back.result.word c.front_of-front.ensures c.back_of-back.ensures replacement.ensures.tight replacement.ensures.spans in
+    let keeps = ends_keep_tight old few c.args.lo c.args.hi c.lower_side-lower.result.at c.upper_side-upper.result.at c.lower_side-lower.result.block c.upper_side-upper.result.block c.lower_side-lower.ensures c.upper_side-upper.ensures replacement.ensures.tight replacement.ensures.spans in
     rw (replacement.ensures.lo, replacement.ensures.hi) keeps
 
 pub returns-clause-runs : goal.returns-clause-runs
@@ -38,5 +38,5 @@ returns-clause-runs c =
     let old = chunks_held c.args.self.now in
     let replacement = c.replacement_of_span-replacement in
     let few = few_of replacement.result.few in
-    let fills = ends_fill_at old few c.args.lo c.args.hi replacement.result.lo replacement.result.hi c.front_of-front.result.at c.back_of-back.result.at c.front_of-front.result.word c.back_of-back.result.word c.front_of-front.ensures c.back_of-back.ensures c.requires.ordered c.requires.windows replacement.ensures.lo replacement.ensures.hi replacement.ensures.members in
+    let fills = ends_fill_at old few c.args.lo c.args.hi replacement.result.lo replacement.result.hi c.lower_side-lower.result.at c.upper_side-upper.result.at c.lower_side-lower.result.block c.upper_side-upper.result.block c.lower_side-lower.ensures c.upper_side-upper.ensures c.requires.ordered c.requires.windows replacement.ensures.lo replacement.ensures.hi replacement.ensures.members in
     on_ok c.put.result _ _ (λ r. fills_runs old replacement.result.lo replacement.result.hi few (chunks_held c.put.new.self) (λ s. (c.args.lo ≤ s) × (s ≤ c.args.hi)) c.args.self.now.order replacement.ensures.lies fills r) c.put.ensures.put

@@ -1,8 +1,8 @@
 use Rattle.span_sets.proofs.Common.{◌<◌, ◌∙◌, ◌≡◌, ap, arith, chunks_held, drop, left, length}
 use Rattle.span_sets.proofs.Common.{length-drop, length-take, piece_of, runs_few, runs_of}
 use Rattle.span_sets.proofs.Common.{runs_of_chunks, since, since_same, Some, steps, subst, sym}
-use Rattle.span_sets.proofs.Common.{walk_ends, walk_on}
-use Rattle.span_sets.proofs.MemberWalks.{serials_of}
+use Rattle.span_sets.proofs.Common.{iteration_ends, iteration_continues}
+use Rattle.span_sets.proofs.MemberIteration.{serials_of}
 use Rattle.span_sets.proofs.span_pages.SpanPages.count_runs.Goals as goal
 
 pub loop-next-init : goal.loop-next-init
@@ -30,7 +30,7 @@ loop-next-smaller c =
     let es = chunks_held set in
     let spans = runs_of es in
     let at = c.in-Some.at in
-    let ends = walk_ends spans (piece_of c.runs_from-piece.result) at (runs_of_chunks es set.order).0 (serials_of es set.order set.serials) c.runs_from-piece.ensures in
+    let ends = iteration_ends spans (piece_of c.runs_from-piece.result) at (runs_of_chunks es set.order).0 (serials_of es set.order set.serials) c.runs_from-piece.ensures in
     subst (λ n. steps c.next-next.result spans < steps n spans) (sym c.in-Some.is)
     (subst (λ n. steps n spans < steps (Some at) spans) (sym c.next-next.ensures) ends)
 
@@ -41,7 +41,7 @@ loop-next-preserved c =
     let spans = runs_of es in
     let at = c.in-Some.at in
     let piece = piece_of c.runs_from-piece.result in
-    let on = walk_on spans piece at (runs_of_chunks es set.order).0 (serials_of es set.order set.serials) c.runs_from-piece.ensures in
+    let on = iteration_continues spans piece at (runs_of_chunks es set.order).0 (serials_of es set.order set.serials) c.runs_from-piece.ensures in
     let rest : left c.next-next.result spans ≡ drop (length piece) (since at spans) = ap (λ n. left n spans) c.next-next.ensures ∙ on in
     let here = ap (λ n. length (left n spans)) c.in-Some.is in
     let size = ap length c.runs_from-piece.ensures.front in

@@ -1,5 +1,5 @@
 use Rattle.span_sets.proofs.Common.{arith, chunks_held, in_stretch}
-use Rattle.span_sets.proofs.MemberWalks.{no_chunk, first_in, none_in}
+use Rattle.span_sets.proofs.MemberIteration.{no_chunk, first_in, none_in}
 use Rattle.span_sets.proofs.span_pages.SpanPages.first_or_next.Goals as goal
 
 pub returns-in_default-clause-first : goal.returns-in_default-clause-first

@@ -3,7 +3,7 @@ use Rattle.span_sets.proofs.Common.{Contains-append_right, hi_of, in_stretch, in
 use Rattle.span_sets.proofs.Common.{sym}
 use Rattle.span_sets.proofs.SpanSides.{its_own}
 use Rattle.span_sets.proofs.ChunkQueries.{asked}
-use Rattle.span_sets.proofs.MemberWalks.{goes_in}
+use Rattle.span_sets.proofs.MemberIteration.{goes_in}
 use Rattle.span_sets.proofs.OrderedChunks.{none_below}
 use Rattle.span_sets.proofs.span_pages.SpanPages.last_in_chunk.Goals as goal
 

@@ -1,10 +1,10 @@
 use Rattle.span_sets.proofs.Common.{◌+◌, ◌-◌, ◌<◌, ◌∙◌, ◌≡◌, ap, arith, chunks_held, drop}
 use Rattle.span_sets.proofs.Common.{drop-drop, get_or, get_or-drop, get_or-take, left, length}
 use Rattle.span_sets.proofs.Common.{length-drop, piece_of, runs_of, runs_of_chunks, since}
-use Rattle.span_sets.proofs.Common.{since_same, Some, Span, steps, subst, sym, take, walk_ends}
-use Rattle.span_sets.proofs.Common.{walk_on}
+use Rattle.span_sets.proofs.Common.{since_same, Some, Span, steps, subst, sym, take, iteration_ends}
+use Rattle.span_sets.proofs.Common.{iteration_continues}
 use Rattle.std.proofs.lemmas.Option.{slice_get-get_or}
-use Rattle.span_sets.proofs.MemberWalks.{serials_of}
+use Rattle.span_sets.proofs.MemberIteration.{serials_of}
 use Rattle.span_sets.proofs.span_pages.SpanPages.run_at.Goals as goal
 
 pub loop-next-init : goal.loop-next-init
@@ -40,7 +40,7 @@ loop-next-smaller c =
     let es = chunks_held set in
     let spans = runs_of es in
     let at = c.in-Some.number in
-    let ends = walk_ends spans (piece_of c.runs_from-piece.result) at (runs_of_chunks es set.order).0 (serials_of es set.order set.serials) c.runs_from-piece.ensures in
+    let ends = iteration_ends spans (piece_of c.runs_from-piece.result) at (runs_of_chunks es set.order).0 (serials_of es set.order set.serials) c.runs_from-piece.ensures in
     subst (λ n. steps c.next-next.result spans < steps n spans) (sym c.in-Some.is)
     (subst (λ n. steps n spans < steps (Some at) spans) (sym c.next-next.ensures) ends)
 
@@ -53,7 +53,7 @@ loop-next-preserved c =
     let piece = piece_of c.runs_from-piece.result in
     let rest = c.loop-next.rest in
     let len = length c.as_slice-runs.result.now in
-    let on = walk_on spans piece at (runs_of_chunks es set.order).0 (serials_of es set.order set.serials) c.runs_from-piece.ensures in
+    let on = iteration_continues spans piece at (runs_of_chunks es set.order).0 (serials_of es set.order set.serials) c.runs_from-piece.ensures in
     let here : since at spans ≡ drop (c.args.at - rest) spans = sym (ap (λ n. left n spans) c.in-Some.is) ∙ c.loop-next.invariant.1 in
     let size : length piece ≡ len = sym (ap length c.as_slice-runs.ensures.runs) in
     let position : c.args.at - rest + len ≡ c.args.at - (rest - len) = omega (arith, c.loop-next.invariant.0) in (
