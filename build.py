@@ -159,9 +159,9 @@ class Task:
         self.made = self.place = self.process = self.lock = None
         self.was_killed = self.is_waiting = False
         lines = sum(read(it).count(b"\n") for it in self.files() if it.endswith(".rt"))
-        # About how many seconds the proofs of the crate take. Each library below is loaded, and the
-        # code of all libraries is compiled with the program's.
-        self.seconds = 10 + lines / 10 + 5 * len(below) + (80 if crate.is_program else 0)
+        # About how many seconds the proofs of the crate take. The code of all libraries is compiled
+        # with the program's.
+        self.seconds = lines / 8 + (80 if crate.is_program else 0)
 
     def files(self):
         walked = [
@@ -252,8 +252,9 @@ class Build:
 
     def begin_some(self, ready):
         """Begins to prove the crates that are ready, the longest chain first. A second process in a
-        crate repeats parts of the work, so a crate gets one only if no other can use the processor,
-        or its chain is by far the longest and there are more than two processors."""
+        crate repeats parts of the work. So a crate whose chain is by far the longest gets one if
+        there are more than two processors, and a crate with a short chain, which can wait, gets
+        none: others get one if no other crate can use the processor."""
         if self.lanes is None:
             self.lanes = count_lanes()
             say(f"proving and building, this once: {len(self.tasks)} crates")
@@ -264,8 +265,10 @@ class Build:
             if idle < 1 or busy and any(at.was_killed for at in (it, *busy)):
                 return
             most = 4 if it is self.last else 2
-            is_long = self.lanes > 2 and self.chain[it] > 1.5 * share
-            jobs = most if is_long else idle // (len(ready) - number)
+            chain = self.chain[it] / share
+            jobs = 1 if chain < 0.95 else idle // (len(ready) - number)
+            if self.lanes > 2 and chain > 1.5:
+                jobs = most
             it.jobs = 1 if it.was_killed else max(1, min(jobs, most, self.lanes))
             if self.begin(it):
                 busy.append(it)
@@ -307,17 +310,7 @@ class Build:
         if it.crate.makes_rlib():
             return [*words, "--statements", "-o", made]
         words += ["--backend", "llvm", "--toolchain", f"{self.kit}/toolchain"]
-        if it.crate.is_program:
-            # Unchanged functions are not proved again. This does not work for a library that is
-            # built as statements.
-            return [
-                *words,
-                "--incremental",
-                f"{self.store}/{it.name}.incremental",
-                "-o",
-                f"{made}.o",
-            ]
-        return [*words, "-o", made]
+        return [*words, "-o", f"{made}.o" if it.crate.is_program else made]
 
     def finish(self, it):
         """A crate's process has ended: keeps what it made."""
