@@ -20,8 +20,8 @@ abbrev pub command_fault_status : CommandFault → ℕ
 command_fault_status (Words help text) = words_status help
 command_fault_status NoMemory = 255
 
--- The result of parsed words, by the subcommand that they name: the task of its values, or why there
--- is none, because the options do not go together.
+-- The result of parsed words, by the subcommand that they name: the task of its values, or why
+-- there is none, because the options do not go together.
 abbrev pub AsksFor : Option (List ℕ × List Row) → Result TaskOf CommandFault → Type 0
 AsksFor found (Ok task) = task_in found ≡ Some (task_by task)
 AsksFor found (Err (Words help text)) =

@@ -98,8 +98,8 @@ IsRead = IsReadAs IsHeld
 abbrev pub IsListRead : Option (List ℕ) → Result Known KrlFault → Bool → Option (List ℕ) → Type 0
 IsListRead = IsResultOf IsHeld
 
--- The list's first fault ends the run immediately. Otherwise its contents are printed, and then each
--- key of each file gives one line, up to the first fault.
+-- The list's first fault ends the run immediately. Otherwise its contents are printed, and then
+-- each key of each file gives one line, up to the first fault.
 unfoldable pub query_run_of : List ℕ → Result Known KrlFault → List Named → List Item
 query_run_of name (Err fault) files = Stopped (run_fault_of name (krl_cause fault)) ∷ []
 query_run_of name (Ok known) files =
