@@ -1,5 +1,8 @@
 //! The files and directories that an audit goes over (krl(1), FILES THAT ARE READ).
 
+ghost use Rattle.std.specs.Prelude.{◌≡◌, ◌++◌, false, ℕ, List, IfOk, OnOk};
+ghost use Rattle.krl.specs.Listing.{Continues, IsListing, MayBeWanted};
+
 use crate::loading::{begins_private, open, read, refusal_of};
 use crate::screen::Screen;
 use crate::stop::Stop;
@@ -110,46 +113,61 @@ impl<'a, 'q, 'w> Rounds<'a, 'q, 'w> {
     }
 
     // The names of a directory that may be read, in their order. A link to a directory is followed
-    // where it has a slash at its end, which one gets that is named. Never inlined, so that the
-    // stack holds one buffer, and not one for each directory that is entered.
-    #[inline(never)]
+    // where it has a slash at its end, which one gets that is named.
     fn names_in(
         &mut self,
         path: &str,
         named: bool,
     ) -> Result<Result<Vec<Vec<u8>>, Refusal>, AllocError> {
-        let alloc = self.rt.alloc();
-        let with_slash = path_in(alloc, path, "")?;
+        let with_slash = path_in(self.rt.alloc(), path, "")?;
         let opened = if named { with_slash.as_str() } else { path };
-        let directory = match self.rt.open_dir(opened) {
-            Ok(directory) => directory,
-            Err(error) => return Ok(Err(refusal_of(&error))),
-        };
-        let mut names = Vec::new(alloc);
-        let mut name = Vec::new(alloc);
-        let mut reader = FromRead::new(directory);
-        let mut batch = [0; BUFFER];
-        // A bound that no directory reaches, so that this ends whatever the system returns.
-        for _ in 0..u64::MAX {
-            match reader.read(&mut batch) {
-                Ok(0) => break,
-                Ok(count) => self.take_names(path, &batch[..count], &mut name, &mut names)?,
-                Err(_) => return Ok(Err(Refusal::Read)),
-            }
+        match self.rt.open_dir(opened) {
+            Ok(directory) => self.read_names(path, &mut FromRead::new(directory)),
+            Err(error) => Ok(Err(refusal_of(&error))),
         }
-        sort_names(&mut names);
-        Ok(Ok(names))
     }
 
-    // Appends the names that may be read from some bytes of a directory. A zero byte ends each name,
-    // and the last one may continue in the bytes that follow.
+    // Reads the names of a directory to their end, and keeps those that may be read, in their
+    // order. Never inlined, so that the stack holds one buffer, and not one for each directory that
+    // is entered.
+    #[inline(never)]
+    fn read_names<R: Source>(
+        &mut self,
+        path: &str,
+        reader: &mut R,
+    ) -> Result<Result<Vec<Vec<u8>>, Refusal>, AllocError>
+        requires { R.has_failed reader.old ≡ false }
+        ensures { IfOk result (IsListing (R.left reader.old) (R.has_failed reader.new)) }
+    {
+        let mut names = Vec::new(self.rt.alloc());
+        let mut name = Vec::new(self.rt.alloc());
+        let mut batch = [0; BUFFER];
+        // A bound that no directory reaches, so that this ends whatever the system returns.
+        'batches: for _ in 0..u64::MAX {
+            let Ok(count) = reader.read(&mut batch) else {
+                return Ok(Err(Refusal::Read));
+            };
+            if count == 0 {
+                sort_names(&mut names);
+                return Ok(Ok(names));
+            }
+            self.take_names(path, &batch[..count], &mut name, &mut names)?;
+        }
+        Ok(Err(Refusal::TooLong))
+    }
+
+    // Appends the names that may be read from some bytes of a directory. A zero byte ends each
+    // name, and the last one may continue in the bytes that follow.
     fn take_names(
         &mut self,
         path: &str,
         bytes: &[u8],
         name: &mut Vec<u8>,
         names: &mut Vec<Vec<u8>>,
-    ) -> Result<(), AllocError> {
+    ) -> Result<(), AllocError>
+        ensures { OnOk result ((rest : List ℕ) → Continues name.old.items (bytes.now ++ rest)
+            names.old.items name.new.items rest names.new.items) }
+    {
         for byte in bytes {
             if *byte != 0 {
                 name.push(*byte)?;
@@ -166,7 +184,9 @@ impl<'a, 'q, 'w> Rounds<'a, 'q, 'w> {
 
     // Whether a name of a directory may be read: by its name, or since it is a directory or cannot
     // be looked at.
-    fn is_wanted(&self, path: &str, name: &[u8]) -> Result<bool, AllocError> {
+    fn is_wanted(&self, path: &str, name: &[u8]) -> Result<bool, AllocError>
+        ensures { IfOk result (λ wanted. MayBeWanted wanted name.now) }
+    {
         if name == b".".as_slice() || name == b"..".as_slice() {
             return Ok(false);
         }
