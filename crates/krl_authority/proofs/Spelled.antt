@@ -1,13 +1,13 @@
 -- The front of a list, and of each of its sections.
 use Rattle.std.proofs.Common.{◌≡◌, ℕ, ◌+◌, ◌^◌, ◌<◌, ◌≤◌, Bool, true, false, List, [], ◌∷◌, ◌++◌, length, take, drop, ◌-◌, refl, sym, ap, subst, ◌∙◌, arith, length-append, append_assoc}
 use Rattle.std.proofs.lemmas.Bool.{false≢true}
-use Rattle.std.proofs.lemmas.List.{append-nil}
-use Rattle.std.proofs.Math.Seq.{drop-append_seam, take-length}
-use Rattle.std.specs.Prelude.{IsTrue, ◌↔◌, Result, Ok, Err}
+use Rattle.std.proofs.lemmas.List.{append-nil, drop-drop, drop_at, take_all}
+use Rattle.std.specs.Prelude.{IsTrue, ◌↔◌, Result, Ok, Err, slice_index, slice_index_or}
+use Rattle.ssh_wire.specs.Rows.{BeginsWithPart, Leads, Number, Text}
 use Rattle.ssh_wire.specs.declared.fault.WireFault.{WireFault}
 use Rattle.ssh_wire.specs.Wire.{number, string}
-use Rattle.ssh_wire.proofs.Fields.{length-number, length-string}
-use Rattle.krl_core.specs.Krl.{Certificates, Signature, SpelledSection, Spells, SpellsContent, SpellsEach, SpellsSection, header_text, magic}
+use Rattle.ssh_wire.proofs.Fields.{length-number}
+use Rattle.krl_core.specs.Krl.{Certificates, Signature, SpelledSection, Spells, SpellsContent, SpellsEach, SpellsSection, authority_fields}
 use Rattle.krl_core.specs.declared.header.Header.{Header}
 use Rattle.krl_core.proofs.OneSpelling.{section_type}
 use Rattle.krl_authority.specs.Authority.{AuthoritiesAreKeys, IsJudged, IsKeyOrAll}
@@ -28,43 +28,32 @@ not_both read fault x e f = absurd cc
 
 -- ---- the header
 
--- its fields of a fixed size
-abbrev pub fixed : Header → ℕ → List ℕ
-fixed header flags = magic ++ (number 4 1 ++ (number 8 header.version ++ (number 8 header.date ++ number 8 flags)))
+-- the bytes after a number
+number_dropped : (k at : ℕ) (list bytes value left : List ℕ) → drop at list ≡ bytes → BeginsWithPart (Number k) bytes value left → (drop (at + k) list ≡ left) × (length bytes ≡ k + length left)
+number_dropped k at list bytes value left e begins =
+    let n = number k (slice_index value 0) in
+    let size : length n ≡ k = length-number k (slice_index value 0) in
+    (sym (drop-drop k at list) ∙ ap (drop k) (e ∙ begins.spelled) ∙ drop_at n left k size, omega (arith, ap length begins.spelled, length-append n left, size))
 
-pub header_parts : (header : Header) (flags : ℕ) (reserved body : List ℕ)
-    → header_text header flags reserved ++ body ≡ fixed header flags ++ (string reserved ++ (string header.comment ++ body))
-header_parts header flags reserved body =
-    let v = number 8 header.version in let d = number 8 header.date in let f = number 8 flags in let four = number 4 1 in
-    let r = string reserved in let s = string header.comment in
-    rw (
-      append_assoc magic (four ++ (v ++ (d ++ (f ++ (r ++ s))))) body,
-      append_assoc four (v ++ (d ++ (f ++ (r ++ s)))) body,
-      append_assoc v (d ++ (f ++ (r ++ s))) body,
-      append_assoc d (f ++ (r ++ s)) body,
-      append_assoc f (r ++ s) body,
-      append_assoc r s body,
-      append_assoc magic (four ++ (v ++ (d ++ f))) (r ++ (s ++ body)),
-      append_assoc four (v ++ (d ++ f)) (r ++ (s ++ body)),
-      append_assoc v (d ++ f) (r ++ (s ++ body)),
-      append_assoc d f (r ++ (s ++ body)),
-    ) refl
-
-pub length-fixed : (header : Header) (flags : ℕ) → length (fixed header flags) ≡ 36
-length-fixed header flags =
-    let v = number 8 header.version in let d = number 8 header.date in let f = number 8 flags in let four = number 4 1 in
-    omega (arith, length-append magic (four ++ (v ++ (d ++ f))), length-append four (v ++ (d ++ f)), length-append v (d ++ f), length-append d f, length-number 4 1, length-number 8 header.version, length-number 8 header.date, length-number 8 flags)
-
--- after them are two strings and the sections
+-- after its first 36 bytes are two strings and the sections
 pub left_at : (list : List ℕ) (header : Header) (sections : List SpelledSection) (spells : Spells list header sections)
-    → (36 ≤ length list) × (take (length list - 36) (drop 36 list) ≡ string spells.reserved ++ (string header.comment ++ spells.body))
+    → (36 ≤ length list) × (reserved comment : List ℕ) × (take (length list - 36) (drop 36 list) ≡ string reserved ++ (string comment ++ spells.body))
+    × (length reserved < 2 ^ 32) × (length comment < 2 ^ 32)
 left_at list header sections spells =
-    let front = fixed header spells.flags in let behind = string spells.reserved ++ (string header.comment ++ spells.body) in
-    let parts : list ≡ front ++ behind = spells.spelled ∙ header_parts header spells.flags spells.reserved spells.body in
-    let long : length list ≡ 36 + length behind = omega (arith, ap length parts, length-append front behind, length-fixed header spells.flags) in
-    let dropped : drop 36 list ≡ behind = ap (drop 36) parts ∙ sym (ap (λ n. drop n (front ++ behind)) (length-fixed header spells.flags)) ∙ drop-append_seam front behind in
-    let count : length list - 36 ≡ length behind = omega (arith, long) in
-    (omega (arith, long), rw (dropped, count) (take-length behind))
+    let format = spells.fields in
+    let version = format.4 in
+    let date = version.4 in
+    let flags = date.4 in
+    let reserved = flags.4 in
+    let comment = reserved.4 in
+    let one = number_dropped 4 8 list spells.after format.0 format.1 (ap (drop 8) spells.spelled) format.2 in
+    let two = number_dropped 8 12 list format.1 version.0 version.1 one.0 version.2 in
+    let three = number_dropped 8 20 list version.1 date.0 date.1 two.0 date.2 in
+    let four = number_dropped 8 28 list date.1 flags.0 flags.1 three.0 flags.2 in
+    let long : length list ≡ 36 + length flags.1 = omega (arith, ap length spells.spelled, one.1, two.1, three.1, four.1) in
+    let left = reserved.2.spelled ∙ ap (λ (x : List ℕ). string reserved.0 ++ x) (comment.2.spelled ∙ ap (λ (x : List ℕ). string comment.0 ++ x) comment.4.1) in
+    let taken = ap (take (length list - 36)) four.0 ∙ take_all (length list - 36) flags.1 (omega (arith, long)) in
+    (omega (arith, long), reserved.0, comment.0, taken ∙ left, reserved.2.is_part, comment.2.is_part)
 
 -- ---- a section
 
@@ -84,7 +73,8 @@ of_content section first is = record {
 }
 
 abbrev pub begins_so : (section : SpelledSection) (first : List ℕ) → SpellsSection first section → BeginsSo section first
-begins_so Signature first is = record { content = is.key; after = string is.signature; parts = is.spelled; fits = is.key_fits }
+begins_so Signature first (content, spelled, (values, (key, a, is_key, any_key, more))) =
+    record { content = key; after = a; parts = spelled ∙ ap (λ (x : List ℕ). 4 ∷ x) is_key.spelled; fits = is_key.is_part }
 begins_so section first is = of_content section first is
 
 -- reading a string that is spelled gives it and the bytes after it
@@ -107,9 +97,10 @@ front_is section first rest old after byte begins parts front =
     let same : byte ∷ after ≡ section_type section ∷ (more ++ rest) = sym front ∙ parts ∙ ap (λ bytes. bytes ++ rest) begins.parts in
     (ap head_of same, ap tail_of same ∙ append_assoc (string begins.content) begins.after rest)
 
--- if a content fits, so does a string at its front
-front_fits : (authority more content : List ℕ) → content ≡ string authority ++ more → length content < 2 ^ 32 → length authority < 2 ^ 32
-front_fits authority more content parts fits = omega (arith, ap length parts, length-append (string authority) more, length-string authority)
+-- a content begins with its authority
+authority_front : (content body : List ℕ) (values : List (List ℕ)) → Leads authority_fields [] content values body → (more : List ℕ) × BeginsWithPart Text content (slice_index_or values 0 []) more
+authority_front content body values (authority, a, is_authority, any_authority, (reserved, b, is_reserved, any_reserved, (same, ends))) =
+    (a, subst (λ (v : List (List ℕ)). BeginsWithPart Text content (slice_index_or v 0 []) a) same is_authority)
 
 -- a section of certificates, judged by its authority
 pub judged_certificates : (section : SpelledSection) (first rest old after content left : List ℕ) (fine : Bool) → SpellsSection first section → old ≡ first ++ rest → old ≡ 1 ∷ after
@@ -119,8 +110,10 @@ judged_certificates (Certificates authority subsections) first rest old after co
     let so = begins_so (Certificates authority subsections) first is in
     let taken = takes so.content (so.after ++ rest) (front_is (Certificates authority subsections) first rest old after 1 so parts front).1 so.fits in
     let held = is.content_is in
+    let (more, named) = authority_front is.content held.body held.values held.fields in
+    let begun = subst (λ (text : List ℕ). BeginsWithPart Text is.content text more) held.authority_is named in
     record {
-      judged = begins authority (string held.reserved ++ held.body) (taken.0 ∙ held.spelled) (front_fits authority (string held.reserved ++ held.body) is.content held.spelled is.fits);
+      judged = begins authority more (taken.0 ∙ begun.spelled) begun.is_part;
       left_is = λ _. taken.1;
     }
 judged_certificates section first rest old after content left fine is parts front takes begins = absurd (omega (arith, (front_is section first rest old after 1 (begins_so section first is) parts front).0))

@@ -21,11 +21,13 @@ pub use Rattle.krl_core.specs.FieldStore.{StoresBits, StoresEntries, StoresField
 pub use Rattle.krl_core.specs.Front.{ended, ends_early, HasRoom, IsEnd, IsFirstFault, IsFront}
 pub use Rattle.krl_core.specs.Front.{IsLongestFront, Leads, limit, no_room, Passes, refused}
 pub use Rattle.krl_core.specs.Front.{Reported, start, State, state_after, too_long}
-pub use Rattle.krl_core.specs.Krl.{Bitmap, Certificates, Extension, header_text, Ids, IsPositive}
+pub use Rattle.krl_core.specs.Krl.{authority_fields, extension_fields, header_fields, header_of}
+pub use Rattle.krl_core.specs.Krl.{signature_fields}
+pub use Rattle.krl_core.specs.Krl.{Bitmap, Certificates, Extension, Ids, IsPositive}
 pub use Rattle.krl_core.specs.Krl.{IsSignature, Keys, magic, numbers_text, Range, Serials, Sha1s}
 pub use Rattle.krl_core.specs.Krl.{Sha256s, Signature, SignaturesLast, SpelledSection, Spells}
 pub use Rattle.krl_core.specs.Krl.{SpellsBitmap, SpellsCertificates, SpellsContent, SpellsEach}
-pub use Rattle.krl_core.specs.Krl.{SpellsExtension, SpellsSection, SpellsSubsection, Subsection}
+pub use Rattle.krl_core.specs.Krl.{SpellsSection, SpellsSubsection, Subsection}
 pub use Rattle.krl_core.specs.Krl.{subsection_type, SubsectionContent, SubsectionExtension}
 pub use Rattle.krl_core.specs.Place.{authority_after, base_of, bits_judged, bits_within, can_end}
 pub use Rattle.krl_core.specs.Place.{Expected, expected, header_after, highest_bit, item_entry}
@@ -67,6 +69,9 @@ pub use Rattle.ssh_wire.proofs.Digits.{IsBytes-front, IsBytes-nil, IsBytes-tail,
 pub use Rattle.ssh_wire.proofs.Fields.{IsBytes-in_string, length-number, length-numbers}
 pub use Rattle.ssh_wire.proofs.Fields.{length-string}
 pub use Rattle.ssh_wire.proofs.Steps.{never_err, ok_is, ok_or_not, passed_ok}
+pub use Rattle.ssh_wire.proofs.RowLaws.{leads_front, leads_more}
+pub use Rattle.ssh_wire.specs.Rows.{BeginsWithPart, fault_unless, Leads as LeadsRow, Number}
+pub use Rattle.ssh_wire.specs.Rows.{passes, Step, step, Text}
 pub use Rattle.ssh_wire.specs.Wire.{IsBytes, strings}
 unfoldable pub use Rattle.ssh_wire.specs.Wire.{number, number_of, string}
 pub use Rattle.std.proofs.lemmas.Bool.{cases_Bool, cases_lt, false≢true, lt-leb}
@@ -77,5 +82,6 @@ pub use Rattle.std.proofs.lemmas.Nat.Bits.{bit_at-zero, bit_at_above, bit_at_cat
 pub use Rattle.std.proofs.lemmas.Nat.Bits.{bit_at_cat_low}
 pub use Rattle.std.proofs.lemmas.Result.{err_from_is_err_and, on_ok_weaker}
 pub use Rattle.std.specs.Int.{bit_at, leading_zeros}
+pub use Rattle.std.specs.Prelude.{slice_index, slice_index_or}
 pub use Rattle.std.specs.List.{AllByRecursion, concat}
 pub use Rattle.std.specs.declared.alloc.AllocError.{AllocError}

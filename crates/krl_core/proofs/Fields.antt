@@ -2,29 +2,29 @@
 use Rattle.krl_core.proofs.Common.{[], ◌%◌, ◌++◌, ◌-◌, ◌<◌, ◌==◌, ◌∙◌, ◌∷◌, ◌≡◌, ◌≤◌, ap}
 use Rattle.krl_core.proofs.Common.{append-nil, append_assoc, arith, authority_after, base_of}
 use Rattle.krl_core.proofs.Common.{Bitmap, BitmapEntry, Bool, bytes_eq, can_end, concat, Entry}
-use Rattle.krl_core.proofs.Common.{eq-eqb, eqb, eqb-true, false, flat_map, get_or, Header}
-use Rattle.krl_core.proofs.Common.{header_after, IdEntry, Ids, IsBytes, IsBytes-back}
-use Rattle.krl_core.proofs.Common.{IsBytes-front, item_entry, item_size, Keys, Leads, leb}
-use Rattle.krl_core.proofs.Common.{leb-true, length-append, length-number, length-string, List, ltb}
-use Rattle.krl_core.proofs.Common.{ltb-true, magic, map, names, next_bits}
-use Rattle.krl_core.proofs.Common.{number, number_back4, number_back8, number_of}
-use Rattle.krl_core.proofs.Common.{Ok, one_byte, passed_ok, Passes, passes_end, Place, Range}
-use Rattle.krl_core.proofs.Common.{RangeEntry, refl, same_append, same_is, same_refl, same_then}
-use Rattle.krl_core.proofs.Common.{section_of_type, Serials, SerialsEntry, Sha1s, Sha256s, State}
-use Rattle.krl_core.proofs.Common.{state_after, string, strings, subsection_of_type}
-use Rattle.krl_core.proofs.Common.{SubsectionExtension, subst, sym, true, ℕ}
+use Rattle.krl_core.proofs.Common.{eq-eqb, eqb, eqb-true, extension_fields, false, fault_unless}
+use Rattle.krl_core.proofs.Common.{flat_map, get_or, Header, header_after, IdEntry, Ids, IsBytes}
+use Rattle.krl_core.proofs.Common.{IsBytes-back, IsBytes-front, item_entry, item_size, Keys, Leads}
+use Rattle.krl_core.proofs.Common.{leads_front, leb, leb-true, length, length-append, length-number}
+use Rattle.krl_core.proofs.Common.{length-string, List, ltb, ltb-true, magic, map, names, next_bits}
+use Rattle.krl_core.proofs.Common.{number, number_back4, number_back8, number_of, Ok, one_byte}
+use Rattle.krl_core.proofs.Common.{passed_ok, Passes, passes_end, Place, Range, RangeEntry, refl}
+use Rattle.krl_core.proofs.Common.{same_append, same_is, same_refl, same_then, section_of_type}
+use Rattle.krl_core.proofs.Common.{Serials, SerialsEntry, Sha1s, Sha256s, State, state_after}
+use Rattle.krl_core.proofs.Common.{string, strings, subsection_of_type, SubsectionExtension, subst}
+use Rattle.krl_core.proofs.Common.{sym, true, ℕ}
 use Rattle.std.proofs.lemmas.Slice.Eq.{bytes_eq-Decides}
 use Rattle.krl_core.proofs.Bits.{judged_parts}
-use Rattle.krl_core.proofs.SpelledSections.{certificates_section, content_front, extension_from}
+use Rattle.krl_core.proofs.SpelledSections.{begins_number, certificates_section, content_front}
 use Rattle.krl_core.proofs.SpelledSections.{extension_section, fits_within, item_front, items_from}
-use Rattle.krl_core.proofs.SpelledSections.{items_section, length_front, number_front, sections_from}
-use Rattle.krl_core.proofs.SpelledSections.{serial_more, serials_from, signature_section}
-use Rattle.krl_core.proofs.SpelledSections.{string_front, string_more, string_parts}
-use Rattle.krl_core.proofs.SpelledSections.{subsections_from}
+use Rattle.krl_core.proofs.SpelledSections.{items_section, length_front, number_back1, number_front}
+use Rattle.krl_core.proofs.SpelledSections.{row_in, row_more, row_none, serial_more}
+use Rattle.krl_core.proofs.SpelledSections.{serials_from, signature_section, string_more}
+use Rattle.krl_core.proofs.SpelledSections.{string_parts, subsections_from, text_in, text_row}
 use Rattle.krl_core.proofs.SpelledSubsections.{bits_from, bits_more, part_front, serials_same}
 use Rattle.krl_core.proofs.SpelledSubsections.{subsections_more}
-use Rattle.krl_core.proofs.RestSpellings.{Completes, FromBits, FromItem, FromPart, FromSections}
-use Rattle.krl_core.proofs.RestSpellings.{FromSubsections, Items}
+use Rattle.krl_core.proofs.RestSpellings.{Completes, FromBits, FromContent, FromExtension, FromItem}
+use Rattle.krl_core.proofs.RestSpellings.{FromPart, FromSections, FromSubsections, Items}
 use Rattle.krl_core.proofs.Judgements.{done, each_type, same_place}
 use Rattle.krl_core.specs.Place.{last_types, section_types, subsection_types}
 use Rattle.krl_types.specs.declared.krl_fault.KrlFault.TheVariants as faults
@@ -64,24 +64,23 @@ pub field_front : (last h : Header) (a : List ℕ) (p q : Place) (field tail : L
     → Completes last h a p (field ++ tail) (names p a field ++ more)
 field_front last h a (places.Header headers.Magic) q field tail more fits pass k =
     let w = passed_ok (bytes_eq field magic) faults.Magic _ q pass.judged in
-    record { rest = tail; parts = ap (λ (x : List ℕ). x ++ tail) ((bytes_eq-Decides field magic).0 w.0); then_is = k _ (ap done w.1) }
+    (tail, ap (λ (x : List ℕ). x ++ tail) ((bytes_eq-Decides field magic).0 w.0), k _ (ap done w.1))
 field_front last h a (places.Header headers.FormatVersion) q field tail more fits pass k =
     let w = passed_ok (eqb (number_of field) 1) faults.FormatVersion _ q pass.judged in
-    let one : field ≡ number 4 1 = sym (number_back4 field pass.whole fits).0 ∙ ap (number 4) (eqb-true (number_of field) 1 w.0) in
-    record { rest = tail; parts = ap (λ (x : List ℕ). x ++ tail) one; then_is = k _ (ap done w.1) }
-field_front last h a (places.Header headers.Version) q field tail more fits pass k = number_front field tail fits pass.whole (k _ pass.judged)
-field_front last h a (places.Header headers.Date) q field tail more fits pass k = number_front field tail fits pass.whole (k _ pass.judged)
-field_front last h a (places.Header headers.Flags) q field tail more fits pass k = number_front field tail fits pass.whole (k _ pass.judged)
-field_front last h a (places.Header headers.ReservedLength) q field tail more fits pass k = length_front field tail fits pass.whole (k _ pass.judged)
+    row_more (begins_number field tail (number_back4 field pass.whole fits)) (λ before. ap (fault_unless faults.FormatVersion) w.0) (k _ (ap done w.1))
+field_front last h a (places.Header headers.Version) q field tail more fits pass k = row_more (begins_number field tail (number_back8 field pass.whole fits)) (λ before. refl) (k _ pass.judged)
+field_front last h a (places.Header headers.Date) q field tail more fits pass k = row_more (begins_number field tail (number_back8 field pass.whole fits)) (λ before. refl) (k _ pass.judged)
+field_front last h a (places.Header headers.Flags) q field tail more fits pass k = row_more (begins_number field tail (number_back8 field pass.whole fits)) (λ before. refl) (k _ pass.judged)
+field_front last h a (places.Header headers.ReservedLength) q field tail more fits pass k = text_row field tail fits pass.whole (k _ pass.judged)
 field_front last h a (places.Header (headers.Reserved n)) q field tail more fits pass k = content_front field tail pass.whole (k _ pass.judged)
-field_front last h a (places.Header headers.CommentLength) q field tail more fits pass k = length_front field tail fits pass.whole (k _ pass.judged)
-field_front last h a (places.Header (headers.Comment n)) q field tail more fits pass k = content_front field tail pass.whole (k _ pass.judged)
+field_front last h a (places.Header headers.CommentLength) q field tail more fits pass k = text_row field tail fits pass.whole (k _ pass.judged)
+field_front last h a (places.Header (headers.Comment n)) q field tail more fits pass k = content_front field tail pass.whole (row_none (k _ pass.judged))
 field_front last h a (places.SectionType signed) q field tail more fits pass k =
     subst (λ (x : List ℕ). FromSections signed (last ≡ h) (x ++ tail) more) (sym (one_byte field pass.whole)) (section_front last h signed q (number_of field) tail more pass.judged (k q refl))
-field_front last h a (places.Signature signatures.KeyLength) q field tail more fits pass k = length_front field tail fits pass.whole (k _ pass.judged)
+field_front last h a (places.Signature signatures.KeyLength) q field tail more fits pass k = text_row field tail fits pass.whole (k _ pass.judged)
 field_front last h a (places.Signature (signatures.Key n)) q field tail more fits pass k = content_front field tail pass.whole (k _ pass.judged)
-field_front last h a (places.Signature signatures.SignatureLength) q field tail more fits pass k = length_front field tail fits pass.whole (k _ pass.judged)
-field_front last h a (places.Signature (signatures.Signature n)) q field tail more fits pass k = content_front field tail pass.whole (k _ pass.judged)
+field_front last h a (places.Signature signatures.SignatureLength) q field tail more fits pass k = text_row field tail fits pass.whole (k _ pass.judged)
+field_front last h a (places.Signature (signatures.Signature n)) q field tail more fits pass k = content_front field tail pass.whole (row_none (k _ pass.judged))
 field_front last h a (places.List (lists.SectionLength kind)) q field tail more fits pass k =
     length_front field tail fits pass.whole (items_from kind (number_of field) (k _ pass.judged))
 field_front last h a (places.List (lists.IdsLength left)) q field tail more fits pass k =
@@ -101,12 +100,14 @@ field_front last h a (places.List (lists.Item kind n left after)) q field tail m
 field_front last h a (places.Certificates certificates.SectionLength) q field tail more fits pass k = length_front field tail fits pass.whole (k _ pass.judged)
 field_front last h a (places.Certificates (certificates.AuthorityLength left)) q field tail more fits pass k =
     let w = fits_within left (number_of field) _ q pass.judged in
-    string_front field tail fits pass.whole pass.room w.0 (k _ w.1)
+    let room : 4 ≤ left = pass.room in
+    text_in left (left - 4 - number_of field) field tail fits pass.whole (k _ w.1) (omega (arith, w.0, room))
 field_front last h a (places.Certificates (certificates.Authority n after)) q field tail more fits pass k = content_front field tail pass.whole (k _ pass.judged)
 field_front last h a (places.Certificates (certificates.ReservedLength left)) q field tail more fits pass k =
     let w = fits_within left (number_of field) _ q pass.judged in
-    string_front field tail fits pass.whole pass.room w.0 (k _ w.1)
-field_front last h a (places.Certificates (certificates.Reserved n after)) q field tail more fits pass k = content_front field tail pass.whole (subsections_from after (k _ pass.judged))
+    let room : 4 ≤ left = pass.room in
+    text_in left (left - 4 - number_of field) field tail fits pass.whole (k _ w.1) (omega (arith, w.0, room))
+field_front last h a (places.Certificates (certificates.Reserved n after)) q field tail more fits pass k = content_front field tail pass.whole (row_none (after, omega arith, subsections_from after (k _ pass.judged)))
 field_front last h a (places.Certificates (certificates.SubsectionType left)) q field tail more fits pass k =
     subst (λ (x : List ℕ). FromSubsections (last ≡ h) a left (x ++ tail) more) (sym (one_byte field pass.whole)) (subsection_front last h a left q (number_of field) tail more pass.room pass.judged (k q refl))
 field_front last h a (places.Serials (serials.SerialsLength left)) q field tail more fits pass k =
@@ -175,33 +176,29 @@ field_front last h a (places.Bitmap (bitmaps.Byte offset size left after)) q fie
     let w = judged_parts (eqb left size) (ltb n 128) (passes_end (base_of offset left) n) q (next_bits offset size (left - 1) after) pass.judged in
     subst (λ (x : List ℕ). FromBits (last ≡ h) a offset size left after (x ++ tail) (BitmapEntry a (base_of offset left) n ∷ more)) (sym one)
     (bits_more (last ≡ h) a offset size left after n tail more byte pos (λ e. ltb-true n 128 (w.0 (eq-eqb left size e))) w.1 (bits_from (left - 1) (k _ (ap done w.2))))
-field_front last h a (places.Extension extensions.SectionLength) q field tail more fits pass k =
-    let x = extension_from (k _ pass.judged) in
-    length_front field tail fits pass.whole (record { content = x.content; rest = x.rest; parts = x.parts; size_is = x.size_is; spelled = x.spelled; then_is = sections_from x.then_is })
+field_front last h a (places.Extension extensions.SectionLength) q field tail more fits pass k = length_front field tail fits pass.whole (k _ pass.judged)
 field_front last h a (places.Extension (extensions.SubsectionLength left)) q field tail more fits pass k =
     let w = fits_within left (number_of field) _ q pass.judged in
-    let x = extension_from (k _ w.1) in
-    part_front SubsectionExtension field tail x.content fits pass.whole pass.room w.0 refl x.parts x.size_is x.spelled (same_refl more) x.then_is
+    let x = k _ w.1 in
+    let front = leads_front extension_fields [] tail x.values x.rest (x.leads []) in
+    let size : length front.0 ≡ number_of field = omega (arith, x.then_is.1, x.then_is.2.0, ap length front.1, length-append front.0 x.rest) in
+    part_front SubsectionExtension field tail front.0 fits pass.whole pass.room w.0 refl front.1 size (x.values, front.2) (same_refl more) x.then_is.2.1
 field_front last h a (places.Extension (extensions.NameLength left after)) q field tail more fits pass k =
     let w = fits_within left (number_of field) _ q pass.judged in
-    string_front field tail fits pass.whole pass.room w.0 (k _ w.1)
+    let room : 4 ≤ left = pass.room in
+    text_in left (left - 4 - number_of field) field tail fits pass.whole (k _ w.1) (omega (arith, w.0, room))
 field_front last h a (places.Extension (extensions.Name n left after)) q field tail more fits pass k = content_front field tail pass.whole (k _ pass.judged)
 field_front last h a (places.Extension (extensions.Critical left after)) q field tail more fits pass k =
     let w = passed_ok (eqb (number_of field) 0) faults.CriticalExtension _ q pass.judged in
-    let zero_byte : field ≡ 0 ∷ [] = one_byte field pass.whole ∙ ap (λ (n : ℕ). n ∷ []) (eqb-true (number_of field) 0 w.0) in
-    (pass.room, record { rest = tail; parts = ap (λ (x : List ℕ). x ++ tail) zero_byte; then_is = k _ (ap done w.1) })
+    let room : 1 ≤ left = pass.room in
+    row_in left (left - 1) (begins_number field tail (number_back1 field pass.whole fits)) (λ before. ap (fault_unless faults.CriticalExtension) w.0) (k _ (ap done w.1)) (omega (arith, room, pass.whole, length-append field tail))
 field_front last h a (places.Extension (extensions.ContentsLength left after)) q field tail more fits pass k =
     let w = passed_ok (eqb (number_of field) (left - 4)) faults.Length _ q pass.judged in
-    let x = k _ (ap done w.1) in
+    let all = eqb-true (number_of field) (left - 4) w.0 in
     let room : 4 ≤ left = pass.room in
-    record {
-      contents = x.content;
-      rest = x.rest;
-      parts = string_parts field tail x.content x.rest fits pass.whole (x.size_is ∙ sym (eqb-true (number_of field) (left - 4) w.0)) x.parts;
-      size_is = omega (arith, length-string x.content, x.size_is, room);
-      then_is = x.then_is;
-    }
-field_front last h a (places.Extension (extensions.Contents n after)) q field tail more fits pass k = content_front field tail pass.whole (subsections_from after (k _ pass.judged))
+    let contents = λ (n : ℕ). FromContent n (λ c. FromExtension ([] ∷ [] ∷ c ∷ []) 0 (FromSubsections (last ≡ h) a after)) tail more in
+    text_in left 0 field tail fits pass.whole (subst contents (sym all) (k _ (ap done w.1))) (omega (arith, all, room))
+field_front last h a (places.Extension (extensions.Contents n after)) q field tail more fits pass k = content_front field tail pass.whole (row_none (0, omega arith, (refl, subsections_from after (k _ pass.judged))))
 
 -- ---- a row of fields
 

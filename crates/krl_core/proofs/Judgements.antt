@@ -1,13 +1,17 @@
 -- Judgements that passed: the places after them.
-use Rattle.krl_core.proofs.Common.{[], ◌∷◌, ◌≡◌, ◌⊎◌, AllByRecursion, Bool, cond, Err, eqb, eqb-true}
-use Rattle.krl_core.proofs.Common.{false, inl, inr, KrlFault, List, Ok, ok_is, Place, place_of_type}
-use Rattle.krl_core.proofs.Common.{refl, Result, subst, sym, true, ℕ}
+use Rattle.krl_core.proofs.Common.{[], ◌∷◌, ◌≡◌, ◌⊎◌, AllByRecursion, Bool, cond, eqb, eqb-true}
+use Rattle.krl_core.proofs.Common.{Err, false, fault_unless, inl, inr, KrlFault, List, None, Ok}
+use Rattle.krl_core.proofs.Common.{ok_is, Place, place_of_type, refl, Result, subst, sym, true, ℕ}
 
 abbrev pub done : Place → Result Place KrlFault
 done p = Ok p
 
 pub same_place : (p q : Place) → done p ≡ done q → p ≡ q
 same_place p q e = ok_is p q (done p) refl e
+
+pub must_ok : (good : Bool) (fault : KrlFault) → fault_unless fault good ≡ None → good ≡ true
+must_ok true fault e = refl
+must_ok false fault e = absurd (cc)
 
 pub held_back : (b : Bool) (why : KrlFault) (x : Result Place KrlFault) (q : Place) → cond b (Err why) x ≡ Ok q → (b ≡ false) × (x ≡ Ok q)
 held_back true why x q e = absurd (cc)

@@ -1,22 +1,15 @@
 -- A whole list is spelled, and means the entries of its sections.
-use Rattle.krl_core.proofs.Common.{◌++◌, ◌<◌, ◌^◌, ◌∙◌, ◌≡◌, ◌≤◌, ap, append-nil, append_assoc}
-use Rattle.krl_core.proofs.Common.{Bool, can_end, concat, ended, ends_early, entries_of, Entry}
-use Rattle.krl_core.proofs.Common.{false, Header, header_text, HoldsAll, HoldsInScope, IsBytes}
-use Rattle.krl_core.proofs.Common.{IsEnd, IsFirstFault, IsList, IsListAs, IsWholeAs, KrlFault}
-use Rattle.krl_core.proofs.Common.{Leads, length, limit, List, ltb, ltb-false, magic}
-use Rattle.krl_core.proofs.Common.{means_all_within, NamesSame, no_room, None, number, Option}
-use Rattle.krl_core.proofs.Common.{Place, refl, refused, Reported, Revocations, same_within, Scope}
-use Rattle.krl_core.proofs.Common.{SpelledSection, Spells, start, State, string, subst, sym}
-use Rattle.krl_core.proofs.Common.{take_all, too_long, true, ℕ}
+use Rattle.krl_core.proofs.Common.{[], ◌++◌, ◌∙◌, ◌≡◌, ◌≤◌, ap, append-nil, Bool, can_end, concat}
+use Rattle.krl_core.proofs.Common.{ended, ends_early, entries_of, Entry, false, Header, HoldsAll}
+use Rattle.krl_core.proofs.Common.{HoldsInScope, IsBytes, IsEnd, IsFirstFault, IsList, IsListAs}
+use Rattle.krl_core.proofs.Common.{IsWholeAs, KrlFault, Leads, length, limit, List, ltb, ltb-false}
+use Rattle.krl_core.proofs.Common.{means_all_within, NamesSame, no_room, None, Option, Place}
+use Rattle.krl_core.proofs.Common.{refl, refused, Reported, Revocations, same_within, Scope}
+use Rattle.krl_core.proofs.Common.{SpelledSection, Spells, start, State, subst, sym, take_all}
+use Rattle.krl_core.proofs.Common.{too_long, true, ℕ}
 use Rattle.krl_core.proofs.Fields.{completes}
-use Rattle.krl_core.proofs.RestSpellings.{FromText, FromFormat}
-use Rattle.krl_core.proofs.SpelledSections.{whole_string}
+use Rattle.krl_core.proofs.RestSpellings.{FromMagic}
 use Rattle.krl_entries.specs.Scope.{all as every_name}
-
--- the fields of a header and the bytes after it
-pub header_parts : (header : Header) (flags : ℕ) (reserved rest : List ℕ) → header_text header flags reserved ++ rest
-    ≡ magic ++ (number 4 1 ++ (number 8 header.version ++ (number 8 header.date ++ (number 8 flags ++ (string reserved ++ (string header.comment ++ rest))))))
-header_parts header flags reserved rest = simp append_assoc
 
 -- a header and sections spell the text, and the sections name the same as the entries
 pub record SpelledBy (text : List ℕ) (header : Header) (entries : List Entry) : Type 0 where
@@ -24,40 +17,13 @@ pub record SpelledBy (text : List ℕ) (header : Header) (entries : List Entry) 
   pub spelled : Spells text header sections
   pub named : NamesSame entries (entries_of sections)
 
-spelled_from : (text : List ℕ) (last h : Header) (more : List Entry) → FromText magic (FromFormat last h) text more → SpelledBy text last more
-spelled_from text last h more h0 =
-    let h1 = h0.then_is in
-    let h2 = h1.then_is in
-    let h3 = h2.then_is in
-    let h4 = h3.then_is in
-    let h5 = h4.then_is in
-    let r5 = h5.then_is in
-    let h6 = r5.then_is in
-    let r6 = h6.then_is in
-    let h7 = r6.then_is in
-    let header : Header = record { version = h2.value; date = h3.value; comment = r6.content } in
-    let e5 = whole_string h5.size r5.content r5.rest h5.rest h4.rest h5.parts r5.parts r5.size_is in
-    let e6 = whole_string h6.size r6.content r6.rest h6.rest r5.rest h6.parts r6.parts r6.size_is in
-    let spelled : Spells text header h7.sections = record {
-      flags = h4.value;
-      reserved = r5.content;
-      body = r6.rest;
-      spelled =
-          h0.parts ∙ ap (λ (x : List ℕ). magic ++ x) (h1.parts ∙ ap (λ (x : List ℕ). number 4 1 ++ x) (h2.parts ∙ ap (λ (x : List ℕ). number 8 h2.value ++ x) (h3.parts ∙ ap (λ (x : List ℕ). number 8 h3.value ++ x)
-          (h4.parts ∙ ap (λ (x : List ℕ). number 8 h4.value ++ x) (e5 ∙ ap (λ (x : List ℕ). string r5.content ++ x) e6)))))
-          ∙ sym (header_parts header h4.value r5.content r6.rest);
-      version_fits = h2.fits;
-      date_fits = h3.fits;
-      flags_fit = h4.fits;
-      reserved_fits = subst (λ (n : ℕ). n < 2 ^ 32) (sym r5.size_is) h5.fits;
-      comment_fits = subst (λ (n : ℕ). n < 2 ^ 32) (sym r6.size_is) h6.fits;
-      sections_are = h7.spelled;
-      signatures_last = h7.last;
-    } in
+spelled_from : (text : List ℕ) (last : Header) (more : List Entry) → FromMagic last text more → SpelledBy text last more
+spelled_from text last more (after, spelled, h) =
+    let k = h.then_is in
     record {
-      sections = h7.sections;
-      spelled = subst (λ (x : Header). Spells text x h7.sections) (sym h7.known) spelled;
-      named = h7.named;
+      sections = k.sections;
+      spelled = record { values = h.values; after = after; body = h.rest; spelled = spelled; fields = h.leads []; header_is = sym k.known; sections_are = k.spelled; signatures_last = k.last };
+      named = k.named;
     }
 
 -- the entries of a row of fields that leads to the end of a list
@@ -65,7 +31,7 @@ pub row_spelled : (fields : List (List ℕ)) (last : State) → Leads start fiel
     → SpelledBy (concat fields) last.header last.entries
 row_spelled fields last leads may fits =
     let w = completes start fields last leads may fits in
-    let k = spelled_from (concat fields) last.header start.header w.0 w.2 in
+    let k = spelled_from (concat fields) last.header w.0 w.2 in
     record {
       sections = k.sections;
       spelled = k.spelled;

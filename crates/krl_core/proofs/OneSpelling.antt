@@ -1,17 +1,22 @@
 -- One header and one list of sections spell a text.
 use Rattle.krl_core.proofs.Common.{[], ◌++◌, ◌+◌, ◌<◌, ◌^◌, ◌∙◌, ◌∷◌, ◌≡◌, AllByRecursion, ap}
-use Rattle.krl_core.proofs.Common.{append-nil, append_assoc, append_cancel_left, arith, Bitmap}
-use Rattle.krl_core.proofs.Common.{Certificates, Extension, Header, header_text, Ids, Keys, length}
-use Rattle.krl_core.proofs.Common.{length-append, length-number, length-numbers, length-string}
-use Rattle.krl_core.proofs.Common.{List, magic, number, number_again4, number_again8, number_of}
-use Rattle.krl_core.proofs.Common.{numbers_text, Range, refl, Serials, Sha1s, Sha256s, Signature}
+use Rattle.krl_core.proofs.Common.{append-nil, append_assoc, append_cancel_left, arith}
+use Rattle.krl_core.proofs.Common.{authority_fields, Bitmap, Certificates, Extension, Header}
+use Rattle.krl_core.proofs.Common.{header_fields, header_of, Ids, Keys, KrlFault, leads_more}
+use Rattle.krl_core.proofs.Common.{LeadsRow, length, length-append, length-number, length-numbers}
+use Rattle.krl_core.proofs.Common.{length-string, List, magic, number, number_again4, number_again8}
+use Rattle.krl_core.proofs.Common.{number_of, numbers_text, ok_is, Range, refl, Serials, Sha1s}
+use Rattle.krl_core.proofs.Common.{Sha256s, Signature, signature_fields, slice_index_or}
 use Rattle.krl_core.proofs.Common.{SpelledSection, Spells, SpellsBitmap, SpellsCertificates}
-use Rattle.krl_core.proofs.Common.{SpellsContent, SpellsEach, SpellsSection, SpellsSubsection}
-use Rattle.krl_core.specs.Krl.{SpellsSignature}
+use Rattle.krl_core.proofs.Common.{SpellsContent, SpellsEach, SpellsSection, SpellsSubsection, Step}
 use Rattle.krl_core.proofs.Common.{string, strings, Subsection, subsection_type, SubsectionContent}
 use Rattle.krl_core.proofs.Common.{SubsectionExtension, subst, sym, ℕ}
+use Rattle.ssh_wire.specs.Rows.{row_at}
+use Rattle.ssh_wire.specs.declared.fault.WireFault.{WireFault}
+use Rattle.ssh_wire.proofs.RowLaws.{row_again}
+use Rattle.krl_types.specs.declared.krl_fault.KrlFault.TheVariants as faults
+use Rattle.krl_core.specs.Krl.{SpellsSignature}
 use Rattle.krl_core.proofs.Fronts.{append_same}
-use Rattle.krl_core.proofs.Lists.{header_parts}
 
 -- ---- fields
 
@@ -121,24 +126,21 @@ some_subsection x text h = omega (arith, ap length h.spelled)
 
 -- ---- sections
 
-certificates_fit : (content authority reserved body : List ℕ) → content ≡ string authority ++ (string reserved ++ body) → length content < 2 ^ 32 → (length authority < 2 ^ 32) × (length reserved < 2 ^ 32)
-certificates_fit content authority reserved body e fits =
-    let a = length-append (string authority) (string reserved ++ body) in
-    let b = length-append (string reserved) body in
-    let c = length-string authority in
-    let d = length-string reserved in
-    let f = ap length e in
-    (omega arith, omega arith)
+-- the values of a table, and the bytes after it
+one_row : (steps : List (Step KrlFault)) (bytes : List ℕ) (values others : List (List ℕ)) (rest rest' : List ℕ) → LeadsRow steps [] bytes values rest → LeadsRow steps [] bytes others rest' → (values ≡ others) × (rest ≡ rest')
+one_row steps bytes values others rest rest' h k =
+    let unread = λ (why : WireFault). faults.Length in
+    let same : (values, rest) ≡ (others, rest') =
+    ok_is (values, rest) (others, rest') (row_at unread steps [] bytes) (row_again unread steps [] bytes values rest h) (row_again unread steps [] bytes others rest' k) in
+    (ap (λ (p : List (List ℕ) × List ℕ). p.0) same, ap (λ (p : List (List ℕ) × List ℕ). p.1) same)
 
-same_certificates : (content authority authority' : List ℕ) (subs subs' : List Subsection) → length content < 2 ^ 32 → SpellsCertificates content authority subs → SpellsCertificates content authority' subs'
+same_certificates : (content authority authority' : List ℕ) (subs subs' : List Subsection) → SpellsCertificates content authority subs → SpellsCertificates content authority' subs'
     → Certificates authority subs ≡ Certificates authority' subs'
-same_certificates content authority authority' subs subs' fits h k =
-    let f = certificates_fit content authority h.reserved h.body h.spelled fits in
-    let g = certificates_fit content authority' k.reserved k.body k.spelled fits in
-    let s = same_string authority authority' (string h.reserved ++ h.body) (string k.reserved ++ k.body) f.0 g.0 (sym h.spelled ∙ k.spelled) in
-    let t = same_string h.reserved k.reserved h.body k.body f.1 g.1 s.1 in
-    let more = same_each SpellsSubsection one_subsection some_subsection h.body k.body subs subs' t.1 h.subsections_are k.subsections_are in
-    ap (λ (a : List ℕ). Certificates a subs) s.0 ∙ ap (λ (xs : List Subsection). Certificates authority' xs) more
+same_certificates content authority authority' subs subs' h k =
+    let row = one_row authority_fields content h.values k.values h.body k.body h.fields k.fields in
+    let same : authority ≡ authority' = sym h.authority_is ∙ ap (λ (values : List (List ℕ)). slice_index_or values 0 []) row.0 ∙ k.authority_is in
+    let more = same_each SpellsSubsection one_subsection some_subsection h.body k.body subs subs' row.1 h.subsections_are k.subsections_are in
+    ap (λ (a : List ℕ). Certificates a subs) same ∙ ap (λ (xs : List Subsection). Certificates authority' xs) more
 
 abbrev pub section_type : SpelledSection → ℕ
 section_type (Certificates authority subs) = 1
@@ -150,7 +152,7 @@ section_type Extension = 255
 
 -- the text begins with the type byte of the section
 section_head : (x : SpelledSection) (text : List ℕ) → SpellsSection text x → (more : List ℕ) × (text ≡ section_type x ∷ more)
-section_head Signature text h = (string h.key ++ string h.signature, h.spelled)
+section_head Signature text h = (h.0, h.1)
 section_head x text h = (string h.content, h.spelled)
 
 same_type : (x y : SpelledSection) (text other rest rest' : List ℕ) → SpellsSection text x → SpellsSection other y → text ++ rest ≡ other ++ rest' → section_type x ≡ section_type y
@@ -160,19 +162,16 @@ same_type x y text other rest rest' h k e =
     head_is (section_type x) (section_type y) (p.0 ++ rest) (q.0 ++ rest') (sym (ap (λ (t : List ℕ). t ++ rest) p.1) ∙ e ∙ ap (λ (t : List ℕ). t ++ rest') q.1)
 
 signature_front : {text other : List ℕ} (rest rest' : List ℕ) → SpellsSignature text → SpellsSignature other → text ++ rest ≡ other ++ rest' → rest ≡ rest'
-signature_front rest rest' h k same =
-    let first : List ℕ = string h.key ++ string h.signature in
-    let first' : List ℕ = string k.key ++ string k.signature in
-    let whole : 4 ∷ (first ++ rest) ≡ 4 ∷ (first' ++ rest') = sym (ap (λ (t : List ℕ). t ++ rest) h.spelled) ∙ same ∙ ap (λ (t : List ℕ). t ++ rest') k.spelled in
-    let s = append_same (4 ∷ []) (4 ∷ []) (first ++ rest) (first' ++ rest') refl whole in
-    let t = same_string h.key k.key (string h.signature ++ rest) (string k.signature ++ rest') h.key_fits k.key_fits
-    (sym (append_assoc (string h.key) (string h.signature) rest) ∙ s.1 ∙ append_assoc (string k.key) (string k.signature) rest') in
-    (same_string h.signature k.signature rest rest' h.signature_fits k.signature_fits t.1).1
+signature_front rest rest' (first, spelled, (values, h)) (first', spelled', (values', k)) same =
+    let whole : 4 ∷ (first ++ rest) ≡ 4 ∷ (first' ++ rest') = sym (ap (λ (t : List ℕ). t ++ rest) spelled) ∙ same ∙ ap (λ (t : List ℕ). t ++ rest') spelled' in
+    let e = append_cancel_left (4 ∷ []) (first ++ rest) (first' ++ rest') whole in
+    (one_row signature_fields (first ++ rest) values values' rest rest' (leads_more signature_fields [] first values [] rest h)
+    (subst (λ (b : List ℕ). LeadsRow signature_fields [] b values' rest') (sym e) (leads_more signature_fields [] first' values' [] rest' k))).1
 
 one_section : OneAtFront SpellsSection
 one_section (Certificates authority subs) (Certificates authority' subs') text other rest rest' h k e =
     let s = content_front rest rest' h k e in
-    (same_certificates h.content authority authority' subs subs' h.fits h.content_is (subst (λ (c : List ℕ). SpellsCertificates c authority' subs') (sym s.1) k.content_is), s.2)
+    (same_certificates h.content authority authority' subs subs' h.content_is (subst (λ (c : List ℕ). SpellsCertificates c authority' subs') (sym s.1) k.content_is), s.2)
 one_section (Keys blobs) (Keys others) text other rest rest' h k e =
     let s = content_front rest rest' h k e in
     (ap Keys (same_strings blobs others (omega (arith, h.fits, ap length h.content_is)) (sym h.content_is ∙ s.1 ∙ k.content_is)), s.2)
@@ -193,20 +192,8 @@ some_section x text h = omega (arith, ap length (section_head x text h).1)
 
 -- ---- lists
 
-abbrev made : ℕ → ℕ → List ℕ → Header
-made version date comment = record { version = version; date = date; comment = comment }
-
-same_header : (h k : Header) → h.version ≡ k.version → h.date ≡ k.date → h.comment ≡ k.comment → h ≡ k
-same_header h k v d c = ap (λ (x : ℕ). made x h.date h.comment) v ∙ ap (λ (x : ℕ). made k.version x h.comment) d ∙ ap (λ (x : List ℕ). made k.version k.date x) c
-
 pub spelled_once : (text : List ℕ) (header header' : Header) (sections sections' : List SpelledSection) → Spells text header sections → Spells text header' sections' → (header ≡ header') × (sections ≡ sections')
 spelled_once text header header' sections sections' h k =
-    let e : header_text header h.flags h.reserved ++ h.body ≡ header_text header' k.flags k.reserved ++ k.body = sym h.spelled ∙ k.spelled in
-    let e0 = append_cancel_left magic _ _ (sym (header_parts header h.flags h.reserved h.body) ∙ e ∙ header_parts header' k.flags k.reserved k.body) in
-    let e1 = append_cancel_left (number 4 1) _ _ e0 in
-    let e2 = same_number8 header.version header'.version _ _ h.version_fits k.version_fits e1 in
-    let e3 = same_number8 header.date header'.date _ _ h.date_fits k.date_fits e2.1 in
-    let e4 = same_number8 h.flags k.flags _ _ h.flags_fit k.flags_fit e3.1 in
-    let e5 = same_string h.reserved k.reserved _ _ h.reserved_fits k.reserved_fits e4.1 in
-    let e6 = same_string header.comment header'.comment h.body k.body h.comment_fits k.comment_fits e5.1 in
-    (same_header header header' e2.0 e3.0 e6.0, same_each SpellsSection one_section some_section h.body k.body sections sections' e6.1 h.sections_are k.sections_are)
+    let same = append_cancel_left magic h.after k.after (sym h.spelled ∙ k.spelled) in
+    let row = one_row header_fields h.after h.values k.values h.body k.body h.fields (subst (λ (bytes : List ℕ). LeadsRow header_fields [] bytes k.values k.body) (sym same) k.fields) in
+    (sym h.header_is ∙ ap header_of row.0 ∙ k.header_is, same_each SpellsSection one_section some_section h.body k.body sections sections' row.1 h.sections_are k.sections_are)

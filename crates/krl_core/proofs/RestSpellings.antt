@@ -1,13 +1,15 @@
 -- The rest of a list from each place on: its spelling, if a row of fields leads to the end of the
 -- list and uses up the bytes, and its entries.
 use Rattle.krl_core.proofs.Common.{[], ◌*◌, ◌++◌, ◌+◌, ◌-◌, ◌<◌, ◌^◌, ◌∷◌, ◌≡◌, ◌≤◌, AllByRecursion}
-use Rattle.krl_core.proofs.Common.{bit_at, BitmapEntry, Bool, entries_of, Entry, false, flat_map}
-use Rattle.krl_core.proofs.Common.{Header, IsPositive, IsSignature, item_entry, item_size, ItemKind}
-use Rattle.krl_core.proofs.Common.{length, List, magic, map, NamesSame, number, number_of, Place}
-use Rattle.krl_core.proofs.Common.{RangeEntry, SerialsEntry, SignaturesLast, SpelledSection}
-use Rattle.krl_core.proofs.Common.{SpellsEach, SpellsExtension, SpellsSection}
-use Rattle.krl_core.proofs.Common.{SpellsSubsection, string, Subsection, subsection_entries}
-use Rattle.krl_core.proofs.Common.{subsection_type, SubsectionContent, true, ℕ}
+use Rattle.krl_core.proofs.Common.{authority_fields, bit_at, BitmapEntry, Bool, drop, entries_of}
+use Rattle.krl_core.proofs.Common.{Entry, extension_fields, false, flat_map, Header, header_fields}
+use Rattle.krl_core.proofs.Common.{header_of, IsPositive, IsSignature, item_entry, item_size}
+use Rattle.krl_core.proofs.Common.{ItemKind, KrlFault, LeadsRow, length, List, magic, map}
+use Rattle.krl_core.proofs.Common.{NamesSame, number, number_of, Place, RangeEntry, SerialsEntry}
+use Rattle.krl_core.proofs.Common.{signature_fields, SignaturesLast, slice_index_or, SpelledSection}
+use Rattle.krl_core.proofs.Common.{SpellsEach, SpellsSection, SpellsSubsection, Step, string}
+use Rattle.krl_core.proofs.Common.{Subsection, subsection_entries, subsection_type}
+use Rattle.krl_core.proofs.Common.{SubsectionContent, true, ℕ}
 use Rattle.krl_core.specs.declared.place.Place.TheVariants as places
 use Rattle.krl_core.specs.declared.place.header.HeaderPlace.TheVariants as headers
 use Rattle.krl_core.specs.declared.place.signature.SignaturePlace.TheVariants as signatures
@@ -32,11 +34,6 @@ pub record FromSections (signed : Bool) (K : Type 0) (bytes : List ℕ) (more : 
   pub named : NamesSame more (entries_of sections)
   pub known : K
 
-pub record FromText (text : List ℕ) (Then : Rest) (bytes : List ℕ) (more : List Entry) : Type 0 where
-  pub rest : List ℕ
-  pub parts : bytes ≡ text ++ rest
-  pub then_is : Then rest more
-
 pub record FromNumber (Then : ℕ → Rest) (bytes : List ℕ) (more : List Entry) : Type 0 where
   pub value : ℕ
   pub rest : List ℕ
@@ -58,14 +55,6 @@ pub record FromContent (size : ℕ) (Then : List ℕ → Rest) (bytes : List ℕ
   pub parts : bytes ≡ content ++ rest
   pub size_is : length content ≡ size
   pub then_is : Then content rest more
-
--- a string inside a part that has this many bytes left
-pub record FromString (left : ℕ) (Then : List ℕ → ℕ → Rest) (bytes : List ℕ) (more : List Entry) : Type 0 where
-  pub content : List ℕ
-  pub rest : List ℕ
-  pub parts : bytes ≡ string content ++ rest
-  pub room : 4 + length content ≤ left
-  pub then_is : Then content (left - 4 - length content) rest more
 
 -- items that fill the rest of a section or a subsection
 pub record FromItems {X : Type 0} (spell : X → List ℕ) (Good : X → Type 0) (entry : X → Entry) (left : ℕ) (Then : Rest) (bytes : List ℕ) (more : List Entry) : Type 0 where
@@ -99,14 +88,6 @@ pub record FromSubsections (K : Type 0) (a : List ℕ) (left : ℕ) (bytes : Lis
   pub spelled : SpellsEach SpellsSubsection body subsections
   pub named : NamesSame more (flat_map (subsection_entries a) subsections ++ others)
   pub then_is : FromSections false K rest others
-
--- a reserved string and the subsections
-abbrev pub FromReserved : Type 0 → List ℕ → ℕ → Rest
-FromReserved K a left = FromString left (λ reserved after. FromSubsections K a after)
-
--- the content of a section of certificates
-abbrev pub FromCertificates : Type 0 → ℕ → Rest
-FromCertificates K left = FromString left (λ authority after. FromReserved K authority after)
 
 -- the content of a subsection as a string, with this many bytes of the section left, and the rest
 -- after it
@@ -174,78 +155,66 @@ pub record FromBitmap (K : Type 0) (a : List ℕ) (offset left after : ℕ) (byt
 abbrev pub FromOffset : Type 0 → List ℕ → (left after : ℕ) → Rest
 FromOffset K a left after = λ bytes more. (8 ≤ left) × FromNumber (λ offset. FromBitmap K a offset (left - 8) after) bytes more
 
--- an extension that fills the rest of the part around it
-pub record FromExtension (left : ℕ) (Then : Rest) (bytes : List ℕ) (more : List Entry) : Type 0 where
-  pub content : List ℕ
+-- ---- tables
+
+-- The values of some rows, whatever the values before them.
+pub record FromRow (steps : List (Step KrlFault)) (Then : List (List ℕ) → Rest) (bytes : List ℕ) (more : List Entry) : Type 0 where
+  pub values : List (List ℕ)
   pub rest : List ℕ
-  pub parts : bytes ≡ content ++ rest
-  pub size_is : length content ≡ left
-  pub spelled : SpellsExtension content
-  pub then_is : Then rest more
+  pub leads : (before : List (List ℕ)) → LeadsRow steps before bytes (before ++ values) rest
+  pub then_is : Then values rest more
 
--- its contents, its critical byte and its name, and what follows each
-pub record FromContents (left : ℕ) (Then : Rest) (bytes : List ℕ) (more : List Entry) : Type 0 where
-  pub contents : List ℕ
-  pub rest : List ℕ
-  pub parts : bytes ≡ string contents ++ rest
-  pub size_is : length (string contents) ≡ left
-  pub then_is : Then rest more
+-- the fields of the header after some values; `last` is the header at the end of the list
+abbrev pub FromHeader : Header → List (List ℕ) → Rest
+FromHeader last values =
+    FromRow (drop (length values) header_fields) (λ others. FromSections false (last ≡ header_of (values ++ others)))
 
-abbrev pub FromCritical : ℕ → Rest → Rest
-FromCritical left Then = λ bytes more. (1 ≤ left) × FromText (0 ∷ []) (FromContents (left - 1) Then) bytes more
+-- the whole list
+abbrev pub FromMagic : Header → Rest
+FromMagic last = λ bytes more. (rest : List ℕ) × (bytes ≡ magic ++ rest) × FromHeader last [] rest more
 
-abbrev pub FromName : ℕ → Rest → Rest
-FromName left Then = FromString left (λ name after. FromCritical after Then)
+-- A table in a part that has `left` bytes left. `Then` has the number of bytes that are left after it.
+abbrev pub InRoom : ℕ → List (Step KrlFault) → (List (List ℕ) → ℕ → Rest) → Rest
+InRoom left steps Then = λ bytes more.
+    FromRow steps (λ values rest more. (after : ℕ) × (length bytes + after ≡ left + length rest) × Then values after rest more) bytes more
 
--- ---- the header; `last` is the header at the end of the list
+-- the fields of an extension after some values, which fill the part
+abbrev pub FromExtension : List (List ℕ) → ℕ → Rest → Rest
+FromExtension values left Then =
+    InRoom left (drop (length values) extension_fields) (λ others after bytes more. (after ≡ 0) × Then bytes more)
 
-abbrev pub FromComment : Header → Header → Rest
-FromComment last h = FromLength (λ n. FromContent n (λ c. FromSections false (last ≡ record h { comment = c })))
-
-abbrev pub FromHeaderReserved : Header → Header → Rest
-FromHeaderReserved last h = FromLength (λ n. FromContent n (λ r. FromComment last h))
-
-abbrev pub FromFlags : Header → Header → Rest
-FromFlags last h = FromNumber (λ f. FromHeaderReserved last h)
-
-abbrev pub FromDate : Header → Header → Rest
-FromDate last h = FromNumber (λ d. FromFlags last (record h { date = d }))
-
-abbrev pub FromVersion : Header → Header → Rest
-FromVersion last h = FromNumber (λ v. FromDate last (record h { version = v }))
-
-abbrev pub FromFormat : Header → Header → Rest
-FromFormat last h = FromText (number 4 1) (FromVersion last h)
+-- the fields before the subsections after some values, and the subsections
+abbrev pub FromAuthority : Type 0 → List (List ℕ) → ℕ → Rest
+FromAuthority K values left =
+    InRoom left (drop (length values) authority_fields) (λ others after. FromSubsections K (slice_index_or (values ++ others) 0 []) after)
 
 -- ---- all places, under an authority; h is the header so far
 
 abbrev pub Completes : Header → Header → List ℕ → Place → Rest
-Completes last h a (places.Header headers.Magic) = FromText magic (FromFormat last h)
-Completes last h a (places.Header headers.FormatVersion) = FromFormat last h
-Completes last h a (places.Header headers.Version) = FromVersion last h
-Completes last h a (places.Header headers.Date) = FromDate last h
-Completes last h a (places.Header headers.Flags) = FromFlags last h
-Completes last h a (places.Header headers.ReservedLength) = FromHeaderReserved last h
-Completes last h a (places.Header (headers.Reserved size)) = FromContent size (λ r. FromComment last h)
-Completes last h a (places.Header headers.CommentLength) = FromComment last h
-Completes last h a (places.Header (headers.Comment size)) = FromContent size (λ c. FromSections false (last ≡ record h { comment = c }))
+Completes last h a (places.Header headers.Magic) = FromMagic last
+Completes last h a (places.Header headers.FormatVersion) = FromHeader last []
+Completes last h a (places.Header headers.Version) = FromHeader last ([] ∷ [])
+Completes last h a (places.Header headers.Date) = FromHeader last ([] ∷ (h.version ∷ []) ∷ [])
+Completes last h a (places.Header headers.Flags) = FromHeader last ([] ∷ (h.version ∷ []) ∷ (h.date ∷ []) ∷ [])
+Completes last h a (places.Header headers.ReservedLength) = FromHeader last ([] ∷ (h.version ∷ []) ∷ (h.date ∷ []) ∷ [] ∷ [])
+Completes last h a (places.Header (headers.Reserved size)) = FromContent size (λ r. FromHeader last ([] ∷ (h.version ∷ []) ∷ (h.date ∷ []) ∷ [] ∷ r ∷ []))
+Completes last h a (places.Header headers.CommentLength) = FromHeader last ([] ∷ (h.version ∷ []) ∷ (h.date ∷ []) ∷ [] ∷ [] ∷ [])
+Completes last h a (places.Header (headers.Comment size)) = FromContent size (λ c. FromHeader last ([] ∷ (h.version ∷ []) ∷ (h.date ∷ []) ∷ [] ∷ [] ∷ c ∷ []))
 Completes last h a (places.SectionType signed) = FromSections signed (last ≡ h)
-Completes last h a (places.Signature signatures.KeyLength) =
-    FromLength (λ n. FromContent n (λ k. FromLength (λ m. FromContent m (λ s. FromSections true (last ≡ h)))))
-Completes last h a (places.Signature (signatures.Key size)) =
-    FromContent size (λ k. FromLength (λ m. FromContent m (λ s. FromSections true (last ≡ h))))
-Completes last h a (places.Signature signatures.SignatureLength) = FromLength (λ m. FromContent m (λ s. FromSections true (last ≡ h)))
-Completes last h a (places.Signature (signatures.Signature size)) = FromContent size (λ s. FromSections true (last ≡ h))
+Completes last h a (places.Signature signatures.KeyLength) = FromRow signature_fields (λ values. FromSections true (last ≡ h))
+Completes last h a (places.Signature (signatures.Key size)) = FromContent size (λ key. FromRow (drop 1 signature_fields) (λ values. FromSections true (last ≡ h)))
+Completes last h a (places.Signature signatures.SignatureLength) = FromRow (drop 1 signature_fields) (λ values. FromSections true (last ≡ h))
+Completes last h a (places.Signature (signatures.Signature size)) = FromContent size (λ signature. FromRow [] (λ values. FromSections true (last ≡ h)))
 Completes last h a (places.List (lists.SectionLength kind)) = FromLength (λ n. Items (last ≡ h) kind a n 0)
 Completes last h a (places.List (lists.IdsLength left)) = FromPart (last ≡ h) a 0x23 left
 Completes last h a (places.List (lists.ItemLength kind left after)) = Items (last ≡ h) kind a left after
 Completes last h a (places.List (lists.Item kind size left after)) =
     FromItem (item_size kind size) (item_entry kind a) (Items (last ≡ h) kind a left after)
-Completes last h a (places.Certificates certificates.SectionLength) = FromLength (FromCertificates (last ≡ h))
-Completes last h a (places.Certificates (certificates.AuthorityLength left)) = FromCertificates (last ≡ h) left
-Completes last h a (places.Certificates (certificates.Authority size after)) = FromContent size (λ b. FromReserved (last ≡ h) b after)
-Completes last h a (places.Certificates (certificates.ReservedLength left)) = FromReserved (last ≡ h) a left
-Completes last h a (places.Certificates (certificates.Reserved size after)) = FromContent size (λ r. FromSubsections (last ≡ h) a after)
+Completes last h a (places.Certificates certificates.SectionLength) = FromLength (FromAuthority (last ≡ h) [])
+Completes last h a (places.Certificates (certificates.AuthorityLength left)) = FromAuthority (last ≡ h) [] left
+Completes last h a (places.Certificates (certificates.Authority size after)) = FromContent size (λ b. FromAuthority (last ≡ h) (b ∷ []) after)
+Completes last h a (places.Certificates (certificates.ReservedLength left)) = FromAuthority (last ≡ h) (a ∷ []) left
+Completes last h a (places.Certificates (certificates.Reserved size after)) = FromContent size (λ r. FromAuthority (last ≡ h) (a ∷ r ∷ []) after)
 Completes last h a (places.Certificates (certificates.SubsectionType left)) = FromSubsections (last ≡ h) a left
 Completes last h a (places.Serials (serials.SerialsLength left)) = FromPart (last ≡ h) a 0x20 left
 Completes last h a (places.Serials (serials.Serial left after)) = SerialItems (last ≡ h) a left after
@@ -257,10 +226,10 @@ Completes last h a (places.Bitmap (bitmaps.Offset left after)) = FromOffset (las
 Completes last h a (places.Bitmap (bitmaps.Size offset left after)) = FromBitmap (last ≡ h) a offset left after
 Completes last h a (places.Bitmap (bitmaps.Byte offset size left after)) =
     λ bytes more. 0 < left → FromBits (last ≡ h) a offset size left after bytes more
-Completes last h a (places.Extension extensions.SectionLength) = FromLength (λ n. FromExtension n (FromSections false (last ≡ h)))
+Completes last h a (places.Extension extensions.SectionLength) = FromLength (λ n. FromExtension [] n (FromSubsections (last ≡ h) a 0))
 Completes last h a (places.Extension (extensions.SubsectionLength left)) = FromPart (last ≡ h) a 0x39 left
-Completes last h a (places.Extension (extensions.NameLength left after)) = FromName left (FromSubsections (last ≡ h) a after)
-Completes last h a (places.Extension (extensions.Name size left after)) = FromContent size (λ n. FromCritical left (FromSubsections (last ≡ h) a after))
-Completes last h a (places.Extension (extensions.Critical left after)) = FromCritical left (FromSubsections (last ≡ h) a after)
-Completes last h a (places.Extension (extensions.ContentsLength left after)) = FromContents left (FromSubsections (last ≡ h) a after)
-Completes last h a (places.Extension (extensions.Contents size after)) = FromContent size (λ c. FromSubsections (last ≡ h) a after)
+Completes last h a (places.Extension (extensions.NameLength left after)) = FromExtension [] left (FromSubsections (last ≡ h) a after)
+Completes last h a (places.Extension (extensions.Name size left after)) = FromContent size (λ n. FromExtension (n ∷ []) left (FromSubsections (last ≡ h) a after))
+Completes last h a (places.Extension (extensions.Critical left after)) = FromExtension ([] ∷ []) left (FromSubsections (last ≡ h) a after)
+Completes last h a (places.Extension (extensions.ContentsLength left after)) = FromExtension ([] ∷ [] ∷ []) left (FromSubsections (last ≡ h) a after)
+Completes last h a (places.Extension (extensions.Contents size after)) = FromContent size (λ c. FromExtension ([] ∷ [] ∷ c ∷ []) 0 (FromSubsections (last ≡ h) a after))

@@ -1,20 +1,21 @@
 -- A list that is spelled has no fault if it is within the limit.
 use Rattle.krl_core.proofs.Common.{[], ◌++◌, ◌+◌, ◌-◌, ◌<◌, ◌^◌, ◌∙◌, ◌∷◌, ◌≡◌, ◌≤◌, ◌⊎◌}
-use Rattle.krl_core.proofs.Common.{AllByRecursion, ap, append_assoc, arith, Bool, Certificates}
-use Rattle.krl_core.proofs.Common.{ended, expected, Extension, failed_read, false, first, Header}
-use Rattle.krl_core.proofs.Common.{header_text, inl, inr, IsBytes, IsBytes-back, IsBytes-front}
-use Rattle.krl_core.proofs.Common.{IsBytes-in_string, IsFirstFault, ItemKind, Keys, KrlFault}
-use Rattle.krl_core.proofs.Common.{le-ltb, length, length-append, length-string, limit, List, ltb}
-use Rattle.krl_core.proofs.Common.{next_item, next_subsection, None, number_of, Ok, Option, Place}
-use Rattle.krl_core.proofs.Common.{ran_out, refl, Says, Sha1s, Sha256s, Signature, Some}
-use Rattle.krl_core.proofs.Common.{SpelledSection, Spells, SpellsEach, SpellsSection, start, string}
-use Rattle.krl_core.proofs.Common.{strings, subst, sym, take_all, true, ℕ}
-use Rattle.krl_core.proofs.Common.{Expected, HasRoom, section_of_type}
+use Rattle.krl_core.proofs.Common.{AllByRecursion, ap, arith, authority_fields, Bool, Certificates}
+use Rattle.krl_core.proofs.Common.{ended, Expected, expected, Extension, extension_fields}
+use Rattle.krl_core.proofs.Common.{failed_read, false, first, HasRoom, Header, header_fields, inl}
+use Rattle.krl_core.proofs.Common.{inr, IsBytes, IsBytes-back, IsBytes-front, IsBytes-in_string}
+use Rattle.krl_core.proofs.Common.{IsFirstFault, ItemKind, Keys, KrlFault, le-ltb, leads_front}
+use Rattle.krl_core.proofs.Common.{leads_more, LeadsRow, length, length-append, length-string}
+use Rattle.krl_core.proofs.Common.{limit, List, ltb, magic, next_item, next_subsection, None}
+use Rattle.krl_core.proofs.Common.{number_of, Ok, Option, Place, ran_out, refl, Says}
+use Rattle.krl_core.proofs.Common.{section_of_type, Sha1s, Sha256s, Signature, signature_fields}
+use Rattle.krl_core.proofs.Common.{Some, SpelledSection, Spells, SpellsEach, SpellsSection, start}
+use Rattle.krl_core.proofs.Common.{string, strings, subst, sym, take_all, true, ℕ}
 use Rattle.krl_core.specs.Place.{any_length}
 use Rattle.krl_core.proofs.Fronts.{first_fault_is, one_reported}
 use Rattle.krl_core.proofs.PlaceRows.{Goes, goes_none, goes_one, goes_then, goes_from, reported_at}
-use Rattle.krl_core.proofs.RestSpellings.{LastFor, IsItem}
-use Rattle.krl_core.proofs.SpelledFields.{string_goes, content_goes, within_is, header_goes}
+use Rattle.krl_core.proofs.RestSpellings.{IsItem, LastFor}
+use Rattle.krl_core.proofs.SpelledFields.{content_goes, header_goes, text_goes, within_is}
 use Rattle.krl_core.proofs.SpelledFields.{items_go, any_size, extension_goes, subsections_go}
 use Rattle.krl_types.specs.declared.krl_fault.KrlFault.TheVariants as faults
 use Rattle.krl_core.specs.declared.place.list.ItemKind.TheVariants as kinds
@@ -45,25 +46,28 @@ items_section_goes kind n items content rest spelled fits is good judged =
     typed_goes n (places.List (lists.SectionLength kind)) (λ size. next_item kind size 0) content rest spelled fits judged refl
     (goes_from (ap (λ (x : List ℕ). x ++ rest) is) (items_go kind items (length content) 0 0 rest (omega (arith, ap length is)) fits good))
 
-certificates_go : (content rest authority reserved body : List ℕ) → content ≡ string authority ++ (string reserved ++ body) → length content < 2 ^ 32
-    → Goes (next_subsection (length body)) (body ++ rest) (places.SectionType false) rest
-    → Goes (places.Certificates (certificates.AuthorityLength (length content))) (content ++ rest) (places.SectionType false) rest
-certificates_go content rest authority reserved body parts fits w =
-    let total = length content in
+certificates_go : (total : ℕ) (bytes body rest : List ℕ) (values : List (List ℕ)) → LeadsRow authority_fields [] bytes values (body ++ rest) → length bytes ≡ total + length rest
+    → Goes (next_subsection (length body)) (body ++ rest) (places.SectionType false) rest → Goes (places.Certificates (certificates.AuthorityLength total)) bytes (places.SectionType false) rest
+certificates_go total bytes body rest values (authority, a, is_authority, any_authority, (reserved, b, is_reserved, any_reserved, (same, ends))) all w =
     let after : ℕ = 4 + length reserved + length body in
-    let size : total ≡ 4 + length authority + after =
-    ap length parts ∙ omega (arith, length-append (string authority) (string reserved ++ body), length-append (string reserved) body, length-string authority, length-string reserved) in
+    let after_size : length a ≡ after + length rest =
+    ap length is_reserved.spelled ∙ omega (arith, length-append (string reserved) b, length-string reserved, ap length ends, length-append body rest) in
+    let size : total ≡ 4 + length authority + after = omega (arith, all, after_size, ap length is_authority.spelled, length-append (string authority) a, length-string authority) in
     let first_left : total - 4 - length authority ≡ after = omega (arith, size) in
     let second_left : after - 4 - length reserved ≡ length body = omega arith in
     let room : 4 ≤ total = omega (arith, size) in
     let room' : 4 ≤ after = omega arith in
-    goes_from (ap (λ (x : List ℕ). x ++ rest) parts ∙ append_assoc (string authority) (string reserved ++ body) rest ∙ ap (λ (x : List ℕ). string authority ++ x) (append_assoc (string reserved) body rest))
-    (goes_then (string_goes authority room refl (omega (arith, size, fits))
+    goes_then (text_goes is_authority room refl
     (λ field e. within_is total (λ m. Ok (places.Certificates (certificates.Authority m (total - 4 - m)))) (number_of field) (length authority) e (omega (arith, size))
     ∙ ap (λ (m : ℕ). Ok (places.Certificates (certificates.Authority (length authority) m))) first_left) tt refl refl)
-    (goes_then (string_goes reserved room' refl (omega (arith, size, fits))
+    (goes_then (text_goes is_reserved room' refl
     (λ field e. within_is after (λ m. Ok (places.Certificates (certificates.Reserved m (after - 4 - m)))) (number_of field) (length reserved) e (omega arith)
-    ∙ ap (λ (m : ℕ). Ok (places.Certificates (certificates.Reserved (length reserved) m))) second_left) tt refl refl) w))
+    ∙ ap (λ (m : ℕ). Ok (places.Certificates (certificates.Reserved (length reserved) m))) second_left) tt refl refl) (goes_from ends w))
+
+signature_goes : (bytes : List ℕ) (values : List (List ℕ)) (rest : List ℕ) → LeadsRow signature_fields [] bytes values rest → Goes (places.Signature signatures.KeyLength) bytes (places.SectionType true) rest
+signature_goes bytes values rest (key, a, is_key, any_key, (signature, b, is_signature, any_signature, (same, ends))) =
+    goes_then (text_goes is_key tt refl (λ field e. ap (λ (n : ℕ). Ok (places.Signature (signatures.Key n))) e) tt refl refl)
+    (goes_then (text_goes is_signature tt refl (λ field e. ap (λ (n : ℕ). Ok (places.Signature (signatures.Signature n))) e) tt refl refl) (goes_from ends goes_none))
 
 -- a signature may always follow
 signature_type : (signed : Bool) → section_of_type signed 4 ≡ Ok (places.Signature signatures.KeyLength)
@@ -76,20 +80,20 @@ unfolding number_of
 section_goes (Certificates authority subs) false text rest h last fits =
     let c = h.content_is in
     let all = IsBytes-in_string h.content (IsBytes-back (1 ∷ []) (string h.content) (subst IsBytes h.spelled fits)) in
-    let body_bytes = IsBytes-back (string c.reserved) c.body (IsBytes-back (string authority) (string c.reserved ++ c.body) (subst IsBytes c.spelled all)) in
+    let front = leads_front authority_fields [] h.content c.values c.body c.fields in
+    let body_bytes = IsBytes-back front.0 c.body (subst IsBytes front.1 all) in
     typed_goes 1 (places.Certificates certificates.SectionLength) (λ size. places.Certificates (certificates.AuthorityLength size)) h.content rest h.spelled h.fits refl refl
-    (certificates_go h.content rest authority c.reserved c.body c.spelled h.fits (subsections_go subs c.body rest (length c.body) c.subsections_are refl body_bytes))
+    (certificates_go (length h.content) (h.content ++ rest) c.body rest c.values (leads_more authority_fields [] h.content c.values c.body rest c.fields) (length-append h.content rest) (subsections_go subs c.body rest (length c.body) c.subsections_are refl body_bytes))
 section_goes (Keys blobs) false text rest h last fits = items_section_goes kinds.Key 2 blobs h.content rest h.spelled h.fits h.content_is (any_size blobs) refl
 section_goes (Sha1s hashes) false text rest h last fits = items_section_goes kinds.Sha1 3 hashes h.content rest h.spelled h.fits h.content_is.0 h.content_is.1 refl
 section_goes (Sha256s hashes) false text rest h last fits = items_section_goes kinds.Sha256 5 hashes h.content rest h.spelled h.fits h.content_is.0 h.content_is.1 refl
 section_goes Extension false text rest h last fits =
     typed_goes 255 (places.Extension extensions.SectionLength) (λ size. places.Extension (extensions.NameLength size 0)) h.content rest h.spelled h.fits refl refl
-    (extension_goes (length h.content) 0 h.content rest h.content_is refl h.fits)
-section_goes Signature signed text rest h last fits =
-    goes_from (ap (λ (x : List ℕ). x ++ rest) h.spelled ∙ ap (λ (x : List ℕ). 4 ∷ x) (append_assoc (string h.key) (string h.signature) rest))
+    (extension_goes (length h.content) 0 (h.content ++ rest) h.content_is.0 rest (leads_more extension_fields [] h.content h.content_is.0 [] rest h.content_is.1) (length-append h.content rest))
+section_goes Signature signed text rest (content, spelled, (values, leads)) last fits =
+    goes_from (ap (λ (x : List ℕ). x ++ rest) spelled)
     (goes_then (goes_one (4 ∷ []) tt refl (signature_type signed))
-    (goes_then (string_goes h.key tt refl h.key_fits (λ field e. ap (λ (n : ℕ). Ok (places.Signature (signatures.Key n))) e) tt refl refl)
-    (string_goes h.signature tt refl h.signature_fits (λ field e. ap (λ (n : ℕ). Ok (places.Signature (signatures.Signature n))) e) tt refl refl)))
+    (signature_goes (content ++ rest) values rest (leads_more signature_fields [] content values [] rest leads)))
 section_goes _ true text rest h last fits = absurd last.0
 
 last_first : (signed : Bool) (section : SpelledSection) (sections : List SpelledSection) → LastFor signed (section ∷ sections) → LastFor signed (section ∷ []) × LastFor (signed_after section) sections
@@ -111,9 +115,10 @@ sections_go (section ∷ sections) signed body (first_one, (later, (parts, spell
 -- a spelled list within the limit has no fault
 pub spelled_unfaulted : (text : List ℕ) (header : Header) (sections : List SpelledSection) → IsBytes text → Spells text header sections → length text ≤ limit → IsFirstFault text None
 spelled_unfaulted text header sections fits h le =
-    let body_bytes = IsBytes-back (header_text header h.flags h.reserved) h.body (subst IsBytes h.spelled fits) in
-    let rest = sections_go sections false h.body h.sections_are h.signatures_last body_bytes in
-    let walk = goes_from h.spelled (goes_then (header_goes header h.flags h.reserved h.body h.reserved_fits h.comment_fits) rest.1) in
+    let front = leads_front header_fields [] h.after h.values h.body h.fields in
+    let after_bytes = IsBytes-back magic h.after (subst IsBytes h.spelled fits) in
+    let rest = sections_go sections false h.body h.sections_are h.signatures_last (IsBytes-back front.0 h.body (subst IsBytes front.1 after_bytes)) in
+    let walk = goes_from h.spelled (goes_then (goes_one magic tt refl refl) (goes_then (header_goes h.after h.values h.body h.fields) rest.1)) in
     let off : ltb limit (length text) ≡ false = le-ltb limit (length text) le in
     first_fault_is text None (reported_at start refl (goes_from (take_all limit text le) walk) (ended (refl, refl) off refl))
 

@@ -1,19 +1,22 @@
 -- A row of fields that leads to the end of a list spells its sections, and has their entries.
-use Rattle.krl_core.proofs.Common.{[], ◌++◌, ◌+◌, ◌-◌, ◌<◌, ◌^◌, ◌∙◌, ◌∷◌, ◌≡◌, ◌≤◌}
-use Rattle.krl_core.proofs.Common.{AllByRecursion, ap, append_assoc, arith, Bool, Certificates}
-use Rattle.krl_core.proofs.Common.{entries_of, Entry, Extension, false, flat_map, Header}
+use Rattle.krl_core.proofs.Common.{[], ◌%◌, ◌++◌, ◌+◌, ◌-◌, ◌<◌, ◌^◌, ◌∙◌, ◌∷◌, ◌≡◌, ◌≤◌}
+use Rattle.krl_core.proofs.Common.{AllByRecursion, ap, append-nil, append_assoc, arith}
+use Rattle.krl_core.proofs.Common.{authority_fields, BeginsWithPart, Bool, Certificates, entries_of}
+use Rattle.krl_core.proofs.Common.{Entry, Extension, extension_fields, false, flat_map, Header}
 use Rattle.krl_core.proofs.Common.{IsBytes, IsSignature, item_entry, ItemKind, KrlFault}
-use Rattle.krl_core.proofs.Common.{length, length-append, length-number, length-string, List, ltb}
-use Rattle.krl_core.proofs.Common.{ltb-false, map, NamesSame, next_item, next_serial}
-use Rattle.krl_core.proofs.Common.{next_subsection, number, number_back4, number_back8, number_of}
-use Rattle.krl_core.proofs.Common.{Ok, Place, refl, Result, same_append, same_is, same_refl}
-use Rattle.krl_core.proofs.Common.{same_then, section_entries, SerialsEntry, Signature}
-use Rattle.krl_core.proofs.Common.{SignaturesLast, SpelledSection, SpellsEach, SpellsSection}
-use Rattle.krl_core.proofs.Common.{SpellsSubsection, string, strings, Subsection}
-use Rattle.krl_core.proofs.Common.{subsection_entries, subst, suc, sym, true, within, zero, ℕ}
-use Rattle.krl_core.proofs.RestSpellings.{Completes, FromCertificates, FromContent, FromExtension}
-use Rattle.krl_core.proofs.RestSpellings.{FromItem, FromItems, FromLength, FromName, FromNumber}
-use Rattle.krl_core.proofs.RestSpellings.{FromSections, FromString, FromSubsections, IsItem, Items}
+use Rattle.krl_core.proofs.Common.{leads_front, leads_more, LeadsRow, length, length-append}
+use Rattle.krl_core.proofs.Common.{length-number, length-string, List, ltb, ltb-false, map}
+use Rattle.krl_core.proofs.Common.{NamesSame, next_item, next_serial, next_subsection, None, Number}
+use Rattle.krl_core.proofs.Common.{number, number_back4, number_back8, number_of, Ok, passes, Place}
+use Rattle.krl_core.proofs.Common.{refl, Result, same_append, same_is, same_refl, same_then}
+use Rattle.krl_core.proofs.Common.{section_entries, SerialsEntry, Signature, signature_fields}
+use Rattle.krl_core.proofs.Common.{SignaturesLast, slice_index_or, SpelledSection, SpellsEach}
+use Rattle.krl_core.proofs.Common.{SpellsSection, SpellsSubsection, Step, step, string, strings}
+use Rattle.krl_core.proofs.Common.{Subsection, subsection_entries, subst, suc, sym, Text, true}
+use Rattle.krl_core.proofs.Common.{within, zero, ℕ}
+use Rattle.krl_core.proofs.RestSpellings.{Completes, FromAuthority, FromContent, FromExtension}
+use Rattle.krl_core.proofs.RestSpellings.{FromItem, FromItems, FromLength, FromNumber, FromRow}
+use Rattle.krl_core.proofs.RestSpellings.{FromSections, FromSubsections, InRoom, IsItem, Items}
 use Rattle.krl_core.proofs.RestSpellings.{LastFor, Rest, SerialItems}
 use Rattle.krl_core.proofs.Judgements.{held_back}
 use Rattle.krl_types.specs.declared.krl_fault.KrlFault.TheVariants as faults
@@ -53,15 +56,47 @@ pub string_parts : (field tail content rest : List ℕ) → IsBytes field → le
 string_parts field tail content rest fits size len parts =
     whole_string (number_of field) content rest tail (field ++ tail) (ap (λ (x : List ℕ). x ++ tail) (sym (number_back4 field size fits).0)) parts len
 
-pub string_front : {left : ℕ} {Then : List ℕ → ℕ → Rest} {more : List Entry} (field tail : List ℕ) → IsBytes field → length field ≡ 4 → 4 ≤ left → number_of field ≤ left - 4
-    → FromContent (number_of field) (λ content. Then content (left - 4 - number_of field)) tail more → FromString left Then (field ++ tail) more
-string_front {left} {Then} {more} field tail fits size room enough h = record {
-  content = h.content;
-  rest = h.rest;
-  parts = string_parts field tail h.content h.rest fits size h.size_is h.parts;
-  room = omega (arith, h.size_is, room, enough);
-  then_is = subst (λ (n : ℕ). Then h.content (left - 4 - n) h.rest more) (sym h.size_is) h.then_is;
+-- ---- the rows of a table
+
+pub row_none : {Then : List (List ℕ) → Rest} {bytes : List ℕ} {more : List Entry} → Then [] bytes more → FromRow [] Then bytes more
+row_none {bytes = bytes} h = record { values = []; rest = bytes; leads = λ before. (sym (append-nil before), refl); then_is = h }
+
+pub row_more : {s : Step KrlFault} {steps : List (Step KrlFault)} {Then : List (List ℕ) → Rest} {bytes value tail : List ℕ} {more : List Entry} → BeginsWithPart s.part bytes value tail
+    → ((before : List (List ℕ)) → s.judged before value ≡ None) → FromRow steps (λ values. Then (value ∷ values)) tail more → FromRow (s ∷ steps) Then bytes more
+row_more {steps = steps} {value = value} {tail} begins passed k = record {
+  values = value ∷ k.values;
+  rest = k.rest;
+  leads = λ before. (value, tail, begins, passed before, rw (sym (append_assoc before (value ∷ []) k.values)) (k.leads (before ++ value ∷ [])));
+  then_is = k.then_is;
 }
+
+-- a row in a part that has some bytes left, before the row and after it
+pub row_in : (left inner : ℕ) {s : Step KrlFault} {steps : List (Step KrlFault)} {Then : List (List ℕ) → ℕ → Rest} {bytes value tail : List ℕ} {more : List Entry} → BeginsWithPart s.part bytes value tail
+    → ((before : List (List ℕ)) → s.judged before value ≡ None) → InRoom inner steps (λ values. Then (value ∷ values)) tail more → length bytes + inner ≡ left + length tail → InRoom left (s ∷ steps) Then bytes more
+row_in left inner begins passed k size =
+    row_more begins passed (record { values = k.values; rest = k.rest; leads = k.leads; then_is = (k.then_is.0, omega (arith, k.then_is.1, size), k.then_is.2) })
+
+pub begins_number : {size : ℕ} (field tail : List ℕ) → (number size (number_of field) ≡ field) × (number_of field < 256 ^ size) → BeginsWithPart (Number size) (field ++ tail) (number_of field ∷ []) tail
+begins_number field tail back = record { is_part = (refl, back.1); spelled = ap (λ (x : List ℕ). x ++ tail) (sym back.0) }
+
+pub number_back1 : (field : List ℕ) → length field ≡ 1 → IsBytes field → (number 1 (number_of field) ≡ field) × (number_of field < 256 ^ 1)
+unfolding number number_of
+number_back1 (byte ∷ []) whole fits = let small = fits 0 in (ap (λ (n : ℕ). n ∷ []) (let same : number_of (byte ∷ []) % 256 ≡ byte = omega arith in same), omega arith)
+number_back1 _ whole fits = absurd (omega arith)
+
+begins_text : {Then : List ℕ → Rest} {more : List Entry} (field tail : List ℕ) → IsBytes field → length field ≡ 4 → (h : FromContent (number_of field) Then tail more) → BeginsWithPart Text (field ++ tail) h.content h.rest
+begins_text field tail fits whole h =
+    record { is_part = omega (arith, h.size_is, (number_back4 field whole fits).1); spelled = string_parts field tail h.content h.rest fits whole h.size_is h.parts }
+
+pub text_row : {steps : List (Step KrlFault)} {Then : List (List ℕ) → Rest} {more : List Entry} (field tail : List ℕ) → IsBytes field → length field ≡ 4
+    → FromContent (number_of field) (λ text. FromRow steps (λ values. Then (text ∷ values))) tail more → FromRow (step Text passes ∷ steps) Then (field ++ tail) more
+text_row field tail fits whole h = row_more (begins_text field tail fits whole h) (λ before. refl) h.then_is
+
+pub text_in : (left inner : ℕ) {steps : List (Step KrlFault)} {Then : List (List ℕ) → ℕ → Rest} {more : List Entry} (field tail : List ℕ) → IsBytes field → length field ≡ 4
+    → FromContent (number_of field) (λ text. InRoom inner steps (λ values. Then (text ∷ values))) tail more → left ≡ 4 + number_of field + inner → InRoom left (step Text passes ∷ steps) Then (field ++ tail) more
+text_in left inner field tail fits whole h total =
+    row_in left inner (begins_text field tail fits whole h) (λ before. refl) h.then_is
+    (omega (arith, total, whole, h.size_is, length-append field tail, ap length h.parts, length-append h.content h.rest))
 
 items_none : {X : Type 0} {spell : X → List ℕ} {Good : X → Type 0} {entry : X → Entry} {Then : Rest} {bytes : List ℕ} {more : List Entry} → Then bytes more → FromItems spell Good entry 0 Then bytes more
 items_none {bytes = bytes} {more} h = record { items = []; rest = bytes; others = more; parts = refl; size_is = refl; good = tt; named = refl; then_is = h }
@@ -129,21 +164,6 @@ sections_from {K} {a} {bytes} {more} h = only h.subsections h.body h.spelled h.s
     only (sub ∷ subs) body (first, (more', (e, spelled, others))) size parts named =
         absurd (omega (arith, ap length spelled.spelled, ap length e, length-append first more', size))
 
--- an extension from its name on
-pub extension_from : {left : ℕ} {Then : Rest} {bytes : List ℕ} {more : List Entry} → FromName left Then bytes more → FromExtension left Then bytes more
-extension_from h =
-    let critical = h.then_is in
-    let zero_byte = critical.1 in
-    let k = zero_byte.then_is in
-    record {
-      content = string h.content ++ 0 ∷ string k.contents;
-      rest = k.rest;
-      parts = h.parts ∙ ap (λ (x : List ℕ). string h.content ++ x) (zero_byte.parts ∙ ap (λ (x : List ℕ). 0 ∷ x) k.parts) ∙ sym (append_assoc (string h.content) (0 ∷ string k.contents) k.rest);
-      size_is = omega (arith, length-append (string h.content) (0 ∷ string k.contents), length-string h.content, h.room, critical.0, k.size_is);
-      spelled = record { name = h.content; contents = k.contents; spelled = refl };
-      then_is = k.then_is;
-    }
-
 -- ---- sections
 
 sections_more : (K : Type 0) (section : SpelledSection) (text tail rest : List ℕ) (more others : List Entry) (k : FromSections false K rest others)
@@ -173,48 +193,40 @@ items_section K kind type_byte section bytes more spelled names last l =
     (spelled h.items h.good (omega (arith, l.fits, h.size_is)))
     (same_is more (section_entries (section h.items) ++ h.others) (h.named ∙ ap (λ (x : List Entry). x ++ h.others) (sym (names h.items)))) (last h.items k.sections k.last)
 
-pub certificates_section : (K : Type 0) (bytes : List ℕ) (more : List Entry) → FromLength (FromCertificates K) bytes more → FromSections false K (1 ∷ bytes) more
+pub certificates_section : (K : Type 0) (bytes : List ℕ) (more : List Entry) → FromLength (FromAuthority K []) bytes more → FromSections false K (1 ∷ bytes) more
 certificates_section K bytes more l =
     let h = l.then_is in
-    let r = h.then_is in
-    let s = r.then_is in
-    let content : List ℕ = string h.content ++ (string r.content ++ s.body) in
-    let size : length content ≡ l.size =
-    omega (arith, length-append (string h.content) (string r.content ++ s.body), length-append (string r.content) s.body, length-string h.content, length-string r.content, h.room, r.room, s.size_is) in
-    let parts : l.rest ≡ content ++ s.rest =
-    h.parts ∙ ap (λ (x : List ℕ). string h.content ++ x) (r.parts ∙ ap (λ (x : List ℕ). string r.content ++ x) s.parts ∙ sym (append_assoc (string r.content) s.body s.rest))
-    ∙ sym (append_assoc (string h.content) (string r.content ++ s.body) s.rest) in
-    sections_more K (Certificates h.content s.subsections) (1 ∷ string content) (1 ∷ bytes) s.rest more s.others s.then_is (ap (λ (x : List ℕ). 1 ∷ x) (whole_string l.size content s.rest l.rest bytes l.parts parts size))
-    (record { content = content; spelled = refl; fits = omega (arith, l.fits, size); content_is = record { reserved = r.content; body = s.body; spelled = refl; subsections_are = s.spelled } })
+    let s = h.then_is.2 in
+    let front = leads_front authority_fields [] l.rest h.values h.rest (h.leads []) in
+    let content : List ℕ = front.0 ++ s.body in
+    let size : length content ≡ l.size = omega (arith, h.then_is.1, ap length front.1, length-append front.0 h.rest, length-append front.0 s.body, s.size_is) in
+    let parts : l.rest ≡ content ++ s.rest = front.1 ∙ ap (λ (x : List ℕ). front.0 ++ x) s.parts ∙ sym (append_assoc front.0 s.body s.rest) in
+    let fields = leads_more authority_fields [] front.0 h.values [] s.body front.2 in
+    sections_more K (Certificates (slice_index_or h.values 0 []) s.subsections) (1 ∷ string content) (1 ∷ bytes) s.rest more s.others s.then_is
+    (ap (λ (x : List ℕ). 1 ∷ x) (whole_string l.size content s.rest l.rest bytes l.parts parts size))
+    (record { content = content; spelled = refl; fits = omega (arith, l.fits, size); content_is = record { values = h.values; body = s.body; fields = fields; authority_is = refl; subsections_are = s.spelled } })
     s.named s.then_is.last
 
-pub extension_section : (K : Type 0) (bytes : List ℕ) (more : List Entry) → FromLength (λ n. FromExtension n (FromSections false K)) bytes more → FromSections false K (255 ∷ bytes) more
+pub extension_section : (K : Type 0) (bytes : List ℕ) (more : List Entry) → FromLength (λ n. FromExtension [] n (FromSubsections K [] 0)) bytes more → FromSections false K (255 ∷ bytes) more
 extension_section K bytes more l =
     let h = l.then_is in
-    let parts = whole_string l.size h.content h.rest l.rest bytes l.parts h.parts h.size_is in
-    sections_more K Extension (255 ∷ string h.content) (255 ∷ bytes) h.rest more more h.then_is (ap (λ (x : List ℕ). 255 ∷ x) parts)
-    (record { content = h.content; spelled = refl; fits = omega (arith, l.fits, h.size_is); content_is = h.spelled }) (same_refl more) h.then_is.last
+    let k = sections_from h.then_is.2.1 in
+    let front = leads_front extension_fields [] l.rest h.values h.rest (h.leads []) in
+    let size : length front.0 ≡ l.size = omega (arith, h.then_is.1, h.then_is.2.0, ap length front.1, length-append front.0 h.rest) in
+    sections_more K Extension (255 ∷ string front.0) (255 ∷ bytes) h.rest more more k (ap (λ (x : List ℕ). 255 ∷ x) (whole_string l.size front.0 h.rest l.rest bytes l.parts front.1 size))
+    (record { content = front.0; spelled = refl; fits = omega (arith, l.fits, size); content_is = (h.values, front.2) }) (same_refl more) k.last
 
 signature_last : (signed : Bool) (sections : List SpelledSection) → AllByRecursion IsSignature sections → LastFor signed (Signature ∷ sections)
 signature_last true sections h = (tt, h)
 signature_last false sections h = h
 
-pub signature_section : (K : Type 0) (signed : Bool) (bytes : List ℕ) (more : List Entry)
-    → FromLength (λ n. FromContent n (λ k. FromLength (λ m. FromContent m (λ s. FromSections true K)))) bytes more → FromSections signed K (4 ∷ bytes) more
-signature_section K signed bytes more l =
-    let key = l.then_is in
-    let m = key.then_is in
-    let sig = m.then_is in
-    let k = sig.then_is in
-    let one = whole_string l.size key.content key.rest l.rest bytes l.parts key.parts key.size_is in
-    let two = whole_string m.size sig.content sig.rest m.rest key.rest m.parts sig.parts sig.size_is in
-    let parts : 4 ∷ bytes ≡ (4 ∷ (string key.content ++ string sig.content)) ++ sig.rest =
-    ap (λ (x : List ℕ). 4 ∷ x) (one ∙ ap (λ (x : List ℕ). string key.content ++ x) two ∙ sym (append_assoc (string key.content) (string sig.content) sig.rest)) in
-    let spells : SpellsSection (4 ∷ (string key.content ++ string sig.content)) Signature =
-    record { key = key.content; signature = sig.content; spelled = refl; key_fits = omega (arith, l.fits, key.size_is); signature_fits = omega (arith, m.fits, sig.size_is) } in
+pub signature_section : (K : Type 0) (signed : Bool) (bytes : List ℕ) (more : List Entry) → FromRow signature_fields (λ values. FromSections true K) bytes more → FromSections signed K (4 ∷ bytes) more
+signature_section K signed bytes more h =
+    let k = h.then_is in
+    let front = leads_front signature_fields [] bytes h.values h.rest (h.leads []) in
     record {
       sections = Signature ∷ k.sections;
-      spelled = (4 ∷ (string key.content ++ string sig.content), (sig.rest, (parts, spells, k.spelled)));
+      spelled = (4 ∷ front.0, (h.rest, (ap (λ (x : List ℕ). 4 ∷ x) front.1, (front.0, refl, (h.values, front.2)), k.spelled)));
       last = signature_last signed k.sections k.last;
       named = k.named;
       known = k.known;

@@ -1,8 +1,12 @@
 -- A key revocation list (PROTOCOL.krl): its header, its sections, and how they are spelled.
-use Rattle.std.specs.Prelude.{◌≡◌, ℕ, ◌+◌, ◌<◌, ◌≤◌, ◌^◌, List, [], ◌∷◌, ◌++◌, length}
+use Rattle.std.specs.Prelude.{◌≡◌, ℕ, ◌+◌, ◌<◌, ◌≤◌, ◌^◌, ◌==◌, List, [], ◌∷◌, ◌++◌, length}
+use Rattle.std.specs.Prelude.{Option, slice_index, slice_index_or}
 use Rattle.std.specs.List.{flat_map, AllByRecursion}
 use Rattle.std.specs.Int.{bit_at}
+use Rattle.ssh_wire.specs.Rows.{Leads, Number, Step, Text, fault_unless, passes, step}
 use Rattle.ssh_wire.specs.Wire.{number, number_of, string, strings}
+use Rattle.krl_types.specs.declared.krl_fault.KrlFault.{KrlFault}
+use Rattle.krl_types.specs.declared.krl_fault.KrlFault.TheVariants as faults
 use Rattle.krl_core.specs.declared.header.Header.{Header}
 
 -- a subsection of a section of certificates
@@ -36,11 +40,50 @@ pub data SpelledSection : Type 0 where
 abbrev pub magic : List ℕ
 magic = 0x53 ∷ 0x53 ∷ 0x48 ∷ 0x4b ∷ 0x52 ∷ 0x4c ∷ 0x0a ∷ 0x00 ∷ []
 
--- The magic, format version 1, the list's version and date, flags, a reserved string and a comment.
-abbrev pub header_text : Header → ℕ → List ℕ → List ℕ
-header_text header flags reserved =
-    magic ++ (number 4 1 ++ (number 8 header.version ++ (number 8 header.date
-    ++ (number 8 flags ++ (string reserved ++ string header.comment)))))
+-- a judgement: the number is this one
+abbrev pub must_be : ℕ → KrlFault → List (List ℕ) → List ℕ → Option KrlFault
+must_be n fault before value = fault_unless fault (slice_index value 0 == n)
+
+-- The fields of the header after the magic: format version 1, the list's version and date, flags, a
+-- reserved string and a comment.
+abbrev pub header_fields : List (Step KrlFault)
+header_fields =
+    step (Number 4) (must_be 1 faults.FormatVersion)
+    ∷ step (Number 8) passes
+    ∷ step (Number 8) passes
+    ∷ step (Number 8) passes
+    ∷ step Text passes
+    ∷ step Text passes
+    ∷ []
+
+-- the header whose fields have these values
+abbrev pub header_of : List (List ℕ) → Header
+header_of values = record {
+  version = slice_index (slice_index_or values 1 []) 0;
+  date = slice_index (slice_index_or values 2 []) 0;
+  comment = slice_index_or values 5 [];
+}
+
+-- the fields of a signature: a key and the signature
+abbrev pub signature_fields : List (Step KrlFault)
+signature_fields = step Text passes ∷ step Text passes ∷ []
+
+-- the fields of an extension: a name, a zero byte for "not critical", and contents
+abbrev pub extension_fields : List (Step KrlFault)
+extension_fields =
+    step Text passes
+    ∷ step (Number 1) (must_be 0 faults.CriticalExtension)
+    ∷ step Text passes
+    ∷ []
+
+-- the fields before the subsections of a section of certificates: the authority and a reserved
+-- string
+abbrev pub authority_fields : List (Step KrlFault)
+authority_fields = step Text passes ∷ step Text passes ∷ []
+
+-- The text is the fields of a table, with any values.
+abbrev pub SpellsFields : List (Step KrlFault) → List ℕ → Type 0
+SpellsFields steps text = (values : List (List ℕ)) × Leads steps [] text values []
 
 -- The text is the spellings of the items, one after the other.
 abbrev pub SpellsEach : {X : Type 0} → (List ℕ → X → Type 0) → List ℕ → List X → Type 0
@@ -68,12 +111,6 @@ pub record SpellsBitmap (content : List ℕ) (offset value : ℕ) : Type 0 where
   pub offset_fits : offset < 2 ^ 64
   pub within : (bit : ℕ) → bit_at value bit ≡ 1 → offset + bit < 2 ^ 64
 
--- A name, a zero byte for "not critical", and contents.
-pub record SpellsExtension (content : List ℕ) : Type 0 where
-  pub name : List ℕ
-  pub contents : List ℕ
-  pub spelled : content ≡ string name ++ 0 ∷ string contents
-
 -- the content of a subsection of a section of certificates
 abbrev pub SubsectionContent : List ℕ → Subsection → Type 0
 SubsectionContent content (Serials numbers) =
@@ -82,7 +119,7 @@ SubsectionContent content (Range min max) =
     (content ≡ number 8 min ++ number 8 max) × (min ≤ max) × (max < 2 ^ 64)
 SubsectionContent content (Bitmap offset value) = SpellsBitmap content offset value
 SubsectionContent content (Ids texts) = content ≡ strings texts
-SubsectionContent content SubsectionExtension = SpellsExtension content
+SubsectionContent content SubsectionExtension = SpellsFields extension_fields content
 
 abbrev pub subsection_type : Subsection → ℕ
 subsection_type (Serials numbers) = 0x20
@@ -106,9 +143,10 @@ SpellsSubsection text subsection =
 -- the authority, a reserved string, and the subsections
 pub record SpellsCertificates (content authority : List ℕ) (subsections : List Subsection)
     : Type 0 where
-  pub reserved : List ℕ
+  pub values : List (List ℕ)
   pub body : List ℕ
-  pub spelled : content ≡ string authority ++ (string reserved ++ body)
+  pub fields : Leads authority_fields [] content values body
+  pub authority_is : slice_index_or values 0 [] ≡ authority
   pub subsections_are : SpellsEach SpellsSubsection body subsections
 
 -- strings that are all hashes of this size
@@ -116,13 +154,10 @@ abbrev pub SpellsHashes : ℕ → List ℕ → List (List ℕ) → Type 0
 SpellsHashes size content hashes =
     (content ≡ strings hashes) × AllByRecursion (λ hash. length hash ≡ size) hashes
 
--- a signature's type byte, a key and a signature
-pub record SpellsSignature (text : List ℕ) : Type 0 where
-  pub key : List ℕ
-  pub signature : List ℕ
-  pub spelled : text ≡ 4 ∷ (string key ++ string signature)
-  pub key_fits : length key < 2 ^ 32
-  pub signature_fits : length signature < 2 ^ 32
+-- a signature's type byte, and its fields
+abbrev pub SpellsSignature : List ℕ → Type 0
+SpellsSignature text =
+    (content : List ℕ) × (text ≡ 4 ∷ content) × SpellsFields signature_fields content
 
 abbrev pub SpellsSection : List ℕ → SpelledSection → Type 0
 SpellsSection text (Certificates authority subsections) =
@@ -133,7 +168,7 @@ SpellsSection text (Sha1s hashes) =
 SpellsSection text Signature = SpellsSignature text
 SpellsSection text (Sha256s hashes) =
     SpellsContent 5 (λ content. SpellsHashes 32 content hashes) text
-SpellsSection text Extension = SpellsContent 255 SpellsExtension text
+SpellsSection text Extension = SpellsContent 255 (SpellsFields extension_fields) text
 
 abbrev pub IsSignature : SpelledSection → Type 0
 IsSignature Signature = Unit {0}
@@ -145,17 +180,14 @@ SignaturesLast [] = Unit {0}
 SignaturesLast (Signature ∷ sections) = AllByRecursion IsSignature sections
 SignaturesLast (section ∷ sections) = SignaturesLast sections
 
--- The text is the header and then the sections, one after the other. The flags and the reserved
--- string may have any value.
+-- The text is the magic, the fields of the header and then the sections, one after the other. The
+-- flags and the reserved string may have any value.
 pub record Spells (text : List ℕ) (header : Header) (sections : List SpelledSection) : Type 0 where
-  pub flags : ℕ
-  pub reserved : List ℕ
+  pub values : List (List ℕ)
+  pub after : List ℕ
   pub body : List ℕ
-  pub spelled : text ≡ header_text header flags reserved ++ body
-  pub version_fits : header.version < 2 ^ 64
-  pub date_fits : header.date < 2 ^ 64
-  pub flags_fit : flags < 2 ^ 64
-  pub reserved_fits : length reserved < 2 ^ 32
-  pub comment_fits : length header.comment < 2 ^ 32
+  pub spelled : text ≡ magic ++ after
+  pub fields : Leads header_fields [] after values body
+  pub header_is : header_of values ≡ header
   pub sections_are : SpellsEach SpellsSection body sections
   pub signatures_last : SignaturesLast sections

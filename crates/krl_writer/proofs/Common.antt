@@ -1,11 +1,11 @@
 -- The names that most proofs of this crate cite, passed on from one place. Declares nothing.
 pub use Rattle.std.proofs.Common.{[], ◌*◌, ◌++◌, ◌+◌, ◌-◌, ◌/◌, ◌<◌, ◌^◌, ◌↔◌, ◌∙◌, ◌∷◌, ◌≡◌, ◌≤◌}
 pub use Rattle.std.proofs.Common.{All, ap, append-nil, append_assoc, arith, Contains, drop, Err}
-pub use Rattle.std.proofs.Common.{flat_map, inl, inr, length, length-append, List, map, Ok, refl}
-pub use Rattle.std.proofs.Common.{Result, subst, suc, sum_by, sym, take, zero, ℕ}
+pub use Rattle.std.proofs.Common.{flat_map, inl, inr, length, length-append, List, map, None, Ok}
+pub use Rattle.std.proofs.Common.{refl, Result, subst, suc, sum_by, sym, take, zero, ℕ}
 pub use Rattle.krl_core.specs.Entries.{entries_of, subsection_entries}
 pub use Rattle.krl_core.specs.Front.{limit}
-pub use Rattle.krl_core.specs.Krl.{Certificates, header_text, Ids, IsPositive, Keys, magic, Sha1s}
+pub use Rattle.krl_core.specs.Krl.{Certificates, Ids, IsPositive, Keys, magic, Sha1s}
 pub use Rattle.krl_core.specs.Krl.{Sha256s, SignaturesLast, SpelledSection, Spells, SpellsBitmap}
 pub use Rattle.krl_core.specs.Krl.{SpellsEach, SpellsHashes, SpellsSection, SpellsSubsection}
 pub use Rattle.krl_core.specs.declared.header.Header.{Header}
@@ -24,7 +24,7 @@ pub use Rattle.krl_writer.specs.InLimit.{AddsAuthorities, AddsAuthority, IsWritt
 pub use Rattle.krl_writer.specs.KrlText.{authorities_text, authority_content, authority_sections}
 pub use Rattle.krl_writer.specs.KrlText.{authority_text, EachPlan, group_subsection, IsKrlText}
 pub use Rattle.krl_writer.specs.KrlText.{listed_as, listed_text, plan_subsections, sections_of}
-pub use Rattle.krl_writer.specs.KrlText.{sections_text, text_of, texts_text}
+pub use Rattle.krl_writer.specs.KrlText.{header_text, sections_text, text_of, texts_text}
 pub use Rattle.krl_writer.specs.declared.text_fault.TextFault.{TextFault}
 pub use Rattle.krl_writer.specs.declared.text_fault.TextFault.TheVariants.{NoMemory, TooLong}
 pub use Rattle.ssh_wire.proofs.Fields.{length-number, length-string}

@@ -1,14 +1,20 @@
 -- The sections of a written list are spelled, one after another.
-use Rattle.krl_writer.proofs.Common.{[], ◌++◌, ◌+◌, ◌<◌, ◌^◌, ◌∷◌, ◌≡◌, ◌≤◌, All, All-tail, arith}
-use Rattle.krl_writer.proofs.Common.{authorities_text, authority_content, authority_sections}
-use Rattle.krl_writer.proofs.Common.{authority_text, Certificates, EachPlan, Group, Header}
-use Rattle.krl_writer.proofs.Common.{header_text, Ids, IsListed, IsOrderly, IsPlan, Keys, length}
-use Rattle.krl_writer.proofs.Common.{length-append, length-number, length-string, limit, List}
-use Rattle.krl_writer.proofs.Common.{listed_as, listed_text, number, plan_subsections, plan_text}
+use Rattle.krl_writer.proofs.Common.{[], ◌++◌, ◌+◌, ◌<◌, ◌^◌, ◌∙◌, ◌∷◌, ◌≡◌, ◌≤◌, All, All-tail, ap}
+use Rattle.krl_writer.proofs.Common.{append-nil, append_assoc, arith, authorities_text}
+use Rattle.krl_writer.proofs.Common.{authority_content, authority_sections, authority_text}
+use Rattle.krl_writer.proofs.Common.{Certificates, EachPlan, Group, Header, header_text, Ids}
+use Rattle.krl_writer.proofs.Common.{IsListed, IsOrderly, IsPlan, Keys, length, length-append}
+use Rattle.krl_writer.proofs.Common.{length-number, length-string, limit, List, listed_as}
+use Rattle.krl_writer.proofs.Common.{listed_text, None, number, plan_subsections, plan_text}
 use Rattle.krl_writer.proofs.Common.{recursion_from_All, refl, Revocations, Section, sections_of}
 use Rattle.krl_writer.proofs.Common.{sections_text, Sha1s, Sha256s, SignaturesLast, SpelledSection}
 use Rattle.krl_writer.proofs.Common.{Spells, SpellsEach, SpellsHashes, SpellsSection}
-use Rattle.krl_writer.proofs.Common.{SpellsSubsection, string, strings, text_of, ℕ}
+use Rattle.krl_writer.proofs.Common.{SpellsSubsection, string, strings, subst, sym, text_of, ℕ}
+use Rattle.krl_core.specs.Krl.{header_fields}
+use Rattle.krl_writer.specs.KrlText.{header_values}
+use Rattle.ssh_wire.specs.Rows.{IsPart, Leads, row_text, Step}
+use Rattle.ssh_wire.proofs.RowLaws.{leads_more}
+use Rattle.krl_types.specs.declared.krl_fault.KrlFault.{KrlFault}
 use Rattle.krl_writer.proofs.Spelling.{each_append, listed_spelled, plan_spelled}
 
 -- ---- an authority
@@ -37,9 +43,10 @@ authority_spelled plan listed is p lt =
       spelled = refl;
       fits = omega arith;
       content_is = record {
-        reserved = [];
+        values = listed.authority ∷ [] ∷ [];
         body = plan_text listed.spans plan ++ listed_text 0x23 listed.ids;
-        spelled = refl;
+        fields = (listed.authority, _, record { is_part = omega arith; spelled = refl }, refl, ([], _, record { is_part = omega arith; spelled = refl }, refl, (refl, refl)));
+        authority_is = refl;
         subsections_are = each_append SpellsSubsection (plan_text listed.spans plan) (listed_text 0x23 listed.ids) (plan_subsections listed.spans plan) (listed_as Ids listed.ids)
             (plan_spelled listed.spans plan is.runs is.serials p)
             (listed_spelled SpellsSubsection 0x23 Ids listed.ids (λ fits. record { content = strings listed.ids; spelled = refl; fits = fits; content_is = refl }) (omega arith));
@@ -93,9 +100,21 @@ unsigned (plan ∷ plans) (first ∷ listed) rest h = unsigned plans listed rest
 
 -- ---- the whole text
 
-pub length-header : (header : Header) → length (header_text header 0 []) ≡ 44 + length header.comment
+-- each value is one of its row and passes
+abbrev ArePassed : List (Step KrlFault) → List (List ℕ) → List (List ℕ) → Type 0
+ArePassed [] before values = values ≡ []
+ArePassed (s ∷ steps) before [] = ⊥
+ArePassed (s ∷ steps) before (value ∷ values) = IsPart s.part value × (s.judged before value ≡ None) × ArePassed steps (before ++ value ∷ []) values
+
+row_led : (steps : List (Step KrlFault)) (before values : List (List ℕ)) → ArePassed steps before values → Leads steps before (row_text steps values) (before ++ values) []
+row_led [] before values none = (sym (append-nil before) ∙ ap (λ (others : List (List ℕ)). before ++ others) (sym none), refl)
+row_led (s ∷ steps) before [] none = absurd none
+row_led (s ∷ steps) before (value ∷ values) (is, passed, later) =
+    (value, row_text steps values, record { is_part = is; spelled = refl }, passed, rw (sym (append_assoc before (value ∷ []) values)) (row_led steps (before ++ value ∷ []) values later))
+
+pub length-header : (header : Header) → length (header_text header) ≡ 44 + length header.comment
 length-header header =
-    let end : List ℕ = string [] ++ string header.comment in
+    let end : List ℕ = string [] ++ (string header.comment ++ []) in
     let flags : List ℕ = number 8 0 ++ end in
     let date : List ℕ = number 8 header.date ++ flags in
     let version : List ℕ = number 8 header.version ++ date in
@@ -105,7 +124,8 @@ length-header header =
       length-append (number 8 header.version) date,
       length-append (number 8 header.date) flags,
       length-append (number 8 0) end,
-      length-append (string []) (string header.comment),
+      length-append (string []) (string header.comment ++ []),
+      length-append (string header.comment) [],
       length-string [],
       length-string header.comment,
       length-number 4 1,
@@ -117,7 +137,9 @@ length-header header =
 pub text_spelled : (header : Header) (plans : List (List Group)) (r : Revocations) → header.version < 2 ^ 64 → header.date < 2 ^ 64 → IsOrderly r
     → EachPlan IsPlan plans r.sections → length (text_of header plans r) ≤ limit → Spells (text_of header plans r) header (sections_of plans r)
 text_spelled header plans r version date orderly each short =
-    let head : List ℕ = header_text header 0 [] in
+    let head : List ℕ = header_text header in
+    let values = header_values header in
+    let fields : List ℕ = row_text header_fields values in
     let body : List ℕ = sections_text plans r in
     let hashes : List ℕ = listed_text 3 r.sha1s ++ listed_text 5 r.sha256s in
     let whole = length-append head body in
@@ -126,15 +148,13 @@ text_spelled header plans r version date orderly each short =
     let both = length-append (listed_text 3 r.sha1s) (listed_text 5 r.sha256s) in
     let comment = length-header header in
     record {
-      flags = 0;
-      reserved = [];
+      values = values;
       body = body;
+      after = fields ++ body;
       spelled = refl;
-      version_fits = version;
-      date_fits = date;
-      flags_fit = omega arith;
-      reserved_fits = omega arith;
-      comment_fits = omega arith;
+      fields = leads_more header_fields [] fields values [] body
+          (row_led header_fields [] values ((refl, omega arith), refl, ((refl, version), refl, ((refl, date), refl, ((refl, omega arith), refl, (omega arith, refl, (omega arith, refl, refl)))))));
+      header_is = refl;
       sections_are =
           each_append SpellsSection (authorities_text plans r.sections) (listed_text 2 r.keys ++ hashes) (authority_sections plans r.sections) (listed_as Keys r.keys ++ (listed_as Sha1s r.sha1s ++ listed_as Sha256s r.sha256s))
           (authorities_spelled plans r.sections orderly.listed each (omega arith))

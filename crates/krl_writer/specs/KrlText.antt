@@ -1,6 +1,7 @@
 -- The text of a written list, and the sections that it spells.
 use Rattle.std.specs.Prelude.{◌≡◌, ℕ, ◌+◌, ◌*◌, List, [], ◌∷◌, ◌++◌, take, drop}
 use Rattle.serial_set.specs.declared.span.Span.{Span}
+use Rattle.ssh_wire.specs.Rows.{row_text}
 use Rattle.ssh_wire.specs.Wire.{string, strings}
 use Rattle.krl_core.specs.declared.header.Header.{Header}
 use Rattle.krl_plan.specs.declared.group.Sort.{Sort}
@@ -8,7 +9,7 @@ use Rattle.krl_plan.specs.declared.group.Sort.TheVariants as sorts
 use Rattle.krl_plan.specs.declared.group.Group.{Group}
 use Rattle.krl_entries.specs.Revocations.{Revocations, Section}
 use Rattle.krl_core.specs.Krl.{SpelledSection, Certificates, Keys, Sha1s, Sha256s, Subsection}
-use Rattle.krl_core.specs.Krl.{Serials, Range, Bitmap, Ids, header_text}
+use Rattle.krl_core.specs.Krl.{Serials, Range, Bitmap, Ids, header_fields, magic}
 use Rattle.krl_plan.specs.Plan.{IsLeastPlan, reach}
 use Rattle.krl_plan.specs.Written.{bitmap_size, bits_of, first_of, plan_text, serials_of}
 
@@ -44,9 +45,17 @@ texts_text r = listed_text 2 r.keys ++ (listed_text 3 r.sha1s ++ listed_text 5 r
 abbrev pub sections_text : List (List Group) → Revocations → List ℕ
 sections_text plans r = authorities_text plans r.sections ++ texts_text r
 
+-- The values of the header's fields. The flags are 0, and the reserved string is empty.
+abbrev pub header_values : Header → List (List ℕ)
+header_values header =
+    (1 ∷ []) ∷ (header.version ∷ []) ∷ (header.date ∷ []) ∷ (0 ∷ []) ∷ [] ∷ header.comment ∷ []
+
+abbrev pub header_text : Header → List ℕ
+header_text header = magic ++ row_text header_fields (header_values header)
+
 -- the list with a header and the stored revocations, with a plan for each authority
 abbrev pub text_of : Header → List (List Group) → Revocations → List ℕ
-text_of header plans r = header_text header 0 [] ++ sections_text plans r
+text_of header plans r = header_text header ++ sections_text plans r
 
 -- there is a plan of each authority's runs
 abbrev pub EachPlan : (List Span → List Group → Type 0) → List (List Group) → List Section → Type 0

@@ -2,9 +2,8 @@
 
 ghost use Rattle.std.specs.Prelude.{◌≡◌, ◌*◌, ◌<◌, ◌≤◌, [], IsTrue, false, length};
 ghost use Rattle.krl_core.specs.Front.{limit};
-ghost use Rattle.krl_core.specs.Krl.{header_text};
 ghost use Rattle.krl_entries.specs.Revocations.{held};
-ghost use Rattle.krl_writer.specs.KrlText.{texts_text};
+ghost use Rattle.krl_writer.specs.KrlText.{header_text, texts_text};
 ghost use Rattle.krl_writer.specs.InLimit.{AddsAtMost, IsWritten, Writes, write_fault_number};
 
 use crate::authorities::add_authorities;
@@ -50,7 +49,7 @@ fn is_surely_too_long<S: Spans>(revocations: &Revocations<S>) -> bool
 
 // Appends the header of a list. Its flags are 0 and its reserved string is empty.
 fn add_header(out: &mut Vec<u8>, header: &Header) -> Result<(), TextFault>
-    ensures { AddsAtMost result out.old.items out.new.items (header_text header.now 0 []) }
+    ensures { AddsAtMost result out.old.items out.new.items (header_text header.now) }
 {
     out.extend_from_slice(MAGIC)?;
     put_u32(out, 1)?;

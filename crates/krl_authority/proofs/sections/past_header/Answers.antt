@@ -10,14 +10,17 @@ returns-then-list-lt-FIXED c = λ header sections spells.
 
 pub returns-in_default : goal.returns-in_default
 returns-in_default c = λ header sections spells.
-    c.in_default.ensures.text spells.reserved (string header.comment ++ spells.body) (c.new-left.ensures ∙ (left_at c.args.list.now header sections spells).1) spells.reserved_fits
+    let left = left_at c.args.list.now header sections spells in
+    c.in_default.ensures.text left.1 (string left.2 ++ spells.body) (c.new-left.ensures ∙ left.3) left.4
 
 pub returns-in_default-take_string : goal.returns-in_default-take_string
 returns-in_default-take_string c = λ header sections spells.
-    let first = c.in-Some.ensures.text spells.reserved (string header.comment ++ spells.body) (c.new-left.ensures ∙ (left_at c.args.list.now header sections spells).1) spells.reserved_fits in
-    c.in_default-take_string.ensures.text header.comment spells.body first.1 spells.comment_fits
+    let left = left_at c.args.list.now header sections spells in
+    let first = c.in-Some.ensures.text left.1 (string left.2 ++ spells.body) (c.new-left.ensures ∙ left.3) left.4 in
+    c.in_default-take_string.ensures.text left.2 spells.body first.1 left.5
 
 pub returns : goal.returns
 returns c = λ header sections spells.
-    let first = c.in-Some.ensures.text spells.reserved (string header.comment ++ spells.body) (c.new-left.ensures ∙ (left_at c.args.list.now header sections spells).1) spells.reserved_fits in
-    c.rest.ensures ∙ (c.in-Some-take_string.ensures.text header.comment spells.body first.1 spells.comment_fits).1
+    let left = left_at c.args.list.now header sections spells in
+    let first = c.in-Some.ensures.text left.1 (string left.2 ++ spells.body) (c.new-left.ensures ∙ left.3) left.4 in
+    c.rest.ensures ∙ (c.in-Some-take_string.ensures.text left.2 spells.body first.1 left.5).1

@@ -1,4 +1,4 @@
-use Rattle.krl_writer.proofs.Common.{[], ◌++◌, ◌<◌, ◌∙◌, ap, arith, authorities_text}
+use Rattle.krl_writer.proofs.Common.{◌++◌, ◌<◌, ◌∙◌, ap, arith, authorities_text}
 use Rattle.krl_writer.proofs.Common.{err_from_is_err_and, header_text, length, limit, List, Refuses}
 use Rattle.krl_writer.proofs.Common.{sections_text, subst, sym, text_of, texts_text, ℕ}
 use Rattle.krl_writer.proofs.Limits.{refuses_front}
@@ -15,7 +15,7 @@ returns-in_err-add_header g c =
     let fault = c.in_err-add_header.field-0.0 in
     rw (p.1, p.2) (refuses_list fault header r (λ plans least.
     let left = ap (λ (t : List ℕ). t ++ text_of header plans r) c.new-out.ensures.items in
-    refuses_front fault (text_of header plans r) c.new-out.result.items (header_text header 0 []) (sections_text plans r) c.in_err-add_header.ensures left))
+    refuses_front fault (text_of header plans r) c.new-out.result.items (header_text header) (sections_text plans r) c.in_err-add_header.ensures left))
 
 pub returns-in_err-add_authorities : goal.returns-in_err-add_authorities
 returns-in_err-add_authorities g c =
