@@ -1,9 +1,8 @@
 -- A plain list has one answer, unless an allocation fails.
-use Rattle.krl_c.proofs.Common.{[], ◌++◌, ◌<◌, ◌∙◌, ◌∷◌, ◌≡◌, ◌≤◌, Answers, AnswersBlob, ap, arith}
+use Rattle.krl_c.proofs.Common.{[], ◌<◌, ◌∙◌, ◌∷◌, ◌≡◌, ◌≤◌, Answers, AnswersBlob, ap, arith}
 use Rattle.krl_c.proofs.Common.{Bool, Entry, false, get_or, inl, inr, length, length-append, List}
 use Rattle.krl_c.proofs.Common.{no_memory, plain_number, sym, true, ℕ, ℤ}
 use Rattle.std.proofs.Math.Seq.{get_or-append_seam}
-use Rattle.plain_list.specs.Key.{line_key}
 use Rattle.plain_list.specs.List.{AreRead, HasFault, IsFirstFault, entries_of, limit, lines_of}
 use Rattle.plain_list.specs.declared.fault.LineCause.{LineCause}
 use Rattle.plain_list.specs.declared.fault.PlainFault.{PlainFault}

@@ -15,8 +15,8 @@ use crate::number::{FINE, REVOKED, of_line, of_list, of_subject};
 use crate::refusal::Refusal;
 use key_text::read_line;
 use krl_authority::authorities_are_keys;
-use krl_core::{KrlFault, Reading};
-use krl_queries::{Findings, Questions};
+use krl_core::{KrlFault, Walk};
+use krl_queries::Questions;
 use span_sets::Held;
 use ssh_cert::{Subject, subject};
 use std::alloc::Global;
@@ -58,9 +58,9 @@ fn revokes(alloc: Global, list: &[u8], asked: &Subject) -> Result<bool, Refusal>
     ensures refused { IfErr result (λ refusal. IsRefusal list.now refusal) }
 {
     match stream(alloc, list, asked) {
-        Ok(findings) => {
+        Ok(questions) => {
             if authorities_are_keys(list) {
-                Ok(findings.answer(asked))
+                Ok(questions.answer(asked))
             } else {
                 Err(Refusal::Authority)
             }
@@ -74,24 +74,21 @@ pub(crate) fn stream(
     alloc: Global,
     list: &[u8],
     asked: &Subject,
-) -> Result<Findings<Held>, KrlFault>
-    ensures found { IfOk result (λ findings. (entries : List Entry)
-        × IsListOf list.now entries × MeansInScope (asked_in findings) findings.found entries) }
-    ensures asked { IfOk result (λ findings. Asks findings.topics asked.now) }
-    ensures stored { IfOk result (λ findings. StoresAsked asked.now findings) }
+) -> Result<Questions<Held>, KrlFault>
+    ensures found { IfOk result (λ questions. (entries : List Entry)
+        × IsListOf list.now entries × MeansInScope (asked_in questions) questions.found entries) }
+    ensures asked { IfOk result (λ questions. Asks questions.topics asked.now) }
+    ensures stored { IfOk result (λ questions. StoresAsked asked.now questions) }
     ensures fault { IfErr result (λ fault.
         (fault ≡ NoMemory) ⊎ IsFirstFault list.now (Some fault)) }
 {
-    let reading: Reading<Held, Lent> = Reading::new(alloc, Lent::new(list));
     let mut questions: Questions<Held> = Questions::new(alloc);
-    let front = reading.stored_so_far();
-    let Ok(()) = questions.ask(front, asked) else {
+    let Ok(()) = questions.ask(asked) else {
         return Err(KrlFault::NoMemory);
     };
-    let findings = Findings::of(alloc, front, questions);
-    let (read, _list) = reading.continue_over(alloc, findings).read_on();
+    let (read, _list) = Walk::over(alloc, questions, Lent::new(list)).read_on();
     match read {
-        Ok((_header, findings)) => Ok(findings),
+        Ok((_header, questions)) => Ok(questions),
         Err(fault) => Err(fault),
     }
 }
@@ -119,10 +116,8 @@ fn stream_unasked(alloc: Global, list: &[u8]) -> Result<(), KrlFault>
     ensures fault { IfErr result (λ fault.
         (fault ≡ NoMemory) ⊎ IsFirstFault list.now (Some fault)) }
 {
-    let reading: Reading<Held, Lent> = Reading::new(alloc, Lent::new(list));
     let none: Questions<Held> = Questions::new(alloc);
-    let findings = Findings::of(alloc, reading.stored_so_far(), none);
-    let (read, _list) = reading.continue_over(alloc, findings).read_on();
+    let (read, _list) = Walk::over(alloc, none, Lent::new(list)).read_on();
     match read {
         Ok(_) => Ok(()),
         Err(fault) => Err(fault),

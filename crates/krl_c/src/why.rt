@@ -39,9 +39,9 @@ fn explain(alloc: Global, list: &[u8], asked: &Subject) -> Result<Reasons, Refus
     ensures refused { IfErr result (λ refusal. IsRefusal list.now refusal) }
 {
     match stream(alloc, list, asked) {
-        Ok(findings) => {
+        Ok(questions) => {
             if authorities_are_keys(list) {
-                Ok(findings.reasons(asked))
+                Ok(questions.reasons(asked))
             } else {
                 Err(Refusal::Authority)
             }

@@ -15,7 +15,7 @@ pub use Rattle.krl_core.specs.Buffered.{AreBitsOutOfScope, HasStored, MaySkip, R
 pub use Rattle.krl_core.specs.Buffered.{ReadsSome, ReadsWhole}
 pub use Rattle.krl_core.specs.Entries.{entries_of, section_entries, subsection_entries}
 pub use Rattle.krl_core.specs.FieldStore.{Adds, AddsEntries, ChangesOnlyEntries, Closes, FieldStore}
-pub use Rattle.krl_core.specs.FieldStore.{GrowsAtMost, held_with_open, InStep, open_run, Skips}
+pub use Rattle.krl_core.specs.FieldStore.{Gains, GrowsAtMost, held_with_open, InStep, open_run, Skips}
 pub use Rattle.krl_core.specs.FieldStore.{stored_header, stored_header_after, StoresAtMost}
 pub use Rattle.krl_core.specs.FieldStore.{StoresBits, StoresEntries, StoresField, StoresNoMore}
 pub use Rattle.krl_core.specs.Front.{ended, ends_early, HasRoom, IsEnd, IsFirstFault, IsFront}
@@ -51,15 +51,16 @@ pub use Rattle.krl_entries.proofs.SameNames.{same_append, same_between, same_fro
 pub use Rattle.krl_entries.proofs.SameNames.{same_none, same_nothing, same_refl, same_serial}
 pub use Rattle.krl_entries.proofs.SameNames.{same_serials, same_swap, same_then, same_zero}
 pub use Rattle.krl_entries.proofs.SameNames.{some_append}
-pub use Rattle.krl_entries.proofs.ScopedMeaning.{means_all_within, nothing_within, same_within}
+pub use Rattle.krl_entries.proofs.ScopedMeaning.{means_all_within, nothing_in_scope, nothing_within, same_within}
 pub use Rattle.krl_entries.proofs.SkippedSerials.{first_byte, serial_within, take_fewer}
+pub use Rattle.krl_entries.specs.Canonical.{entries_in}
 pub use Rattle.krl_entries.specs.Changes.{run_entries}
 pub use Rattle.krl_entries.specs.Entry.{BitmapEntry, Entry, IdEntry, RangeEntry, SerialsEntry}
 pub use Rattle.krl_entries.specs.Naming.{EntryNames, Name, NamesSame, SerialOf, SomeNames}
 pub use Rattle.krl_entries.specs.Revocations.{held, HoldsSerial, IsListed, Means, Revocations}
 pub use Rattle.krl_entries.specs.Revocations.{Section, SomeSection}
 pub use Rattle.krl_entries.specs.Scope.{all, AreOutOfScope, InScope, IsInScope, MeansInScope}
-pub use Rattle.krl_entries.specs.Scope.{MeansMoreInScope, Narrows, Scope, serial_at}
+pub use Rattle.krl_entries.specs.Scope.{MeansMoreInScope, Scope, serial_at}
 pub use Rattle.krl_types.specs.declared.krl_fault.KrlFault.{KrlFault}
 pub use Rattle.serial_set.specs.BitRuns.{big_endian, BitNames, BitRuns, Feeds, HasFault, lowest}
 pub use Rattle.serial_set.specs.BitRuns.{ShowsFault}

@@ -9,6 +9,7 @@ pub mod Bits
 pub mod Steps
 pub mod BufferedFields
 pub mod ListEnds
+pub mod GainedEntries
 pub mod ContinuedWalks
 pub mod WholeLists
 pub mod Progress

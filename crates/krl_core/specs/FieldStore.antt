@@ -85,6 +85,15 @@ pub record Adds (old : FieldStore) (named : List Entry) (new : FieldStore) : Typ
   pub stores : AddsEntries old named new
   pub rest : ChangesOnlyEntries old new
 
+-- These entries were added, whatever the authority in force is then. The stored entries stay within
+-- the scope.
+pub record Gains (old : FieldStore) (named : List Entry) (new : FieldStore) : Type 0 where
+  pub stores : AddsEntries old named new
+  pub header_is : new.header ≡ old.header
+  pub bitmap_is : new.bitmap ≡ old.bitmap
+  pub scope_is : new.scope ≡ old.scope
+  pub within : IsInScope old.scope old.contents → IsInScope new.scope new.contents
+
 -- The entries of a field were added. The authority, the header and the bitmap are those after the
 -- field.
 pub record StoresField (place : Place) (field : List ℕ) (next : Place) (old new : FieldStore)

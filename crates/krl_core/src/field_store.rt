@@ -1,14 +1,13 @@
 //! The field store: it stores what the fields of a list name.
 
 ghost use Rattle.std.specs.Prelude.{◌≡◌, ◌+◌, ◌%◌, ◌^◌, ◌<◌, ◌≤◌, ◌∷◌, [], ℕ, List, None, OnErr};
-ghost use Rattle.std.specs.Prelude.{OnOk, false};
-ghost use Rattle.std.specs.Prelude.{length, All};
+ghost use Rattle.std.specs.Prelude.{All, OnOk, false, length};
 ghost use Rattle.serial_set.specs.BitRuns.{IsInterval};
 ghost use Rattle.serial_set.specs.Near.{AreNear};
 ghost use Rattle.krl_entries.specs.Revocations.{nothing};
 ghost use Rattle.krl_entries.specs.Entry.{Entry, SerialsEntry, RangeEntry};
 ghost use Rattle.krl_entries.specs.Naming.{SerialOf};
-ghost use Rattle.krl_entries.specs.Scope.{AreOutOfScope, InScope, IsInScope, Narrows, all};
+ghost use Rattle.krl_entries.specs.Scope.{AreOutOfScope, InScope, all};
 ghost use Rattle.krl_entries.specs.Scope.{stored_comment};
 ghost use Rattle.krl_core.specs.Front.{Passes, start};
 ghost use Rattle.krl_core.specs.FieldStore.{Adds, Closes, GrowsAtMost, InStep, StoresEntries};
@@ -33,13 +32,13 @@ use std::marker::Model;
 /// The parts of a list that are stored while it is read.
 #[derive(Drop)]
 pub struct FieldStore<T: Store> {
-    version: u64,
-    date: u64,
+    pub(crate) version: u64,
+    pub(crate) date: u64,
     comment: Vec<u8>,
     // the authority in force, empty for all authorities
-    authority: Vec<u8>,
-    store: T,
-    bitmap: BitRuns,
+    pub(crate) authority: Vec<u8>,
+    pub(crate) store: T,
+    pub(crate) bitmap: BitRuns,
 }
 
 impl<T: Store> Model for FieldStore<T> {
@@ -65,8 +64,7 @@ impl<T: Store> Model for FieldStore<T> {
 impl<T: Store> FieldStore<T> {
     /// A field store that has stored nothing yet.
     pub fn new(alloc: Global, store: T) -> Self
-        requires empty { T.contents store ≡ nothing }
-        requires within { IsInScope (T.scope store) nothing }
+        requires { T.contents store ≡ nothing }
         ensures scope { result.scope ≡ T.scope store }
         ensures stores { StoresEntries result [] }
         ensures start { (result.authority ≡ [])
@@ -159,7 +157,7 @@ impl<T: Store> FieldStore<T> {
     }
 
     // Sets the authority of the certificates that follow.
-    fn set_authority(&mut self, authority: &[u8]) -> Result<(), AllocError>
+    pub(crate) fn set_authority(&mut self, authority: &[u8]) -> Result<(), AllocError>
         ensures set { OnOk result (self.new ≡ record self.old { authority = authority.now }) }
         ensures grows { GrowsAtMost (length authority.now) self.old self.new }
     {
@@ -222,7 +220,7 @@ impl<T: Store> FieldStore<T> {
     }
 
     // Adds a key, a hash, or a key ID under the authority in force.
-    fn add_item(&mut self, kind: ItemKind, item: &[u8]) -> Result<(), AllocError>
+    pub(crate) fn add_item(&mut self, kind: ItemKind, item: &[u8]) -> Result<(), AllocError>
         requires { length item.now ≡ item_size kind (length item.now) }
         ensures adds { OnOk result
             (Adds self.old (item_entry kind self.old.authority item.now ∷ []) self.new) }
@@ -249,7 +247,7 @@ impl<T: Store> FieldStore<T> {
     }
 
     // Most bytes finish spans of only one window, which are added together.
-    fn add_spans(&mut self, spans: &[Span]) -> Result<(), AllocError>
+    pub(crate) fn add_spans(&mut self, spans: &[Span]) -> Result<(), AllocError>
         requires { All IsInterval spans.now }
         ensures adds { OnOk result
             (Adds self.old (run_entries self.old.authority spans.now) self.new) }
@@ -328,46 +326,6 @@ impl<S: Spans> FieldStore<Revocations<S>> {
             None => 0,
         };
         self.store.held() + open
-    }
-
-    /// The entries that are stored so far.
-    pub fn stored_so_far(&self) -> &Revocations<S>
-        ensures { result.now ≡ self.now.contents }
-    {
-        &self.store
-    }
-
-    /// Continues over another store, which answers for some topics as the stored entries do. The
-    /// comment is dropped.
-    pub fn continue_over<T: Store>(self, alloc: Global, store: T) -> FieldStore<T>
-        requires { Narrows self.contents (T.scope store) (T.contents store) }
-        ensures stores { (entries : List Entry)
-            → StoresEntries self entries → StoresEntries result entries }
-        ensures same { result ≡ record self {
-          header = stored_header (T.scope store) self.header;
-          contents = T.contents store;
-          scope = T.scope store;
-        } }
-        ensures all { self.scope ≡ all }
-    {
-        let mut rest = store;
-        rest.leave();
-        let FieldStore {
-            version,
-            date,
-            comment: _comment,
-            authority,
-            store: _front,
-            bitmap,
-        } = self;
-        FieldStore {
-            version,
-            date,
-            comment: Vec::new(alloc),
-            authority,
-            store: rest,
-            bitmap,
-        }
     }
 }
 

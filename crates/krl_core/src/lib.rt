@@ -2,6 +2,7 @@
 #![tactic(auto)]
 
 mod buffered;
+mod continuing;
 mod field_store;
 mod header;
 mod judging;

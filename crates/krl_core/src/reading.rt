@@ -1,7 +1,7 @@
 //! Reading a list in one pass, field by field.
 
 ghost use Rattle.std.specs.Prelude.{◌≡◌, ◌+◌, ◌*◌, ◌<◌, ◌≤◌, ◌⊎◌, ℕ, false, true, None, Some, Ok};
-ghost use Rattle.std.specs.Prelude.{Err, List, [], IfOk, IfErr, IfSome, IsTrue, OnOk, length};
+ghost use Rattle.std.specs.Prelude.{◌≢◌, Err, List, [], IfOk, IfErr, IfSome, IsTrue, OnOk, length};
 ghost use Rattle.ssh_wire.specs.Wire.{IsBytes};
 ghost use Rattle.byte_streams.specs.Pull.{Refuses, Takes};
 ghost use Rattle.ssh_wire.specs.declared.pull_fault.PullFault.TheVariants as pulls;
@@ -16,8 +16,8 @@ ghost use Rattle.krl_core.specs.Reading.{IsReached};
 ghost use Rattle.krl_core.specs.Reading.{ReadsMore};
 ghost use Rattle.krl_core.specs.Reading.{IsList, IsWhole, IsWholeAs, IsWithinLimit, LooksFor};
 ghost use Rattle.krl_core.specs.Reading.{Missed, OfHeader, ReadsOneMore, Refused};
-ghost use Rattle.krl_core.specs.Reading.{ReportsFailure, is_fixed, working};
-ghost use Rattle.krl_entries.specs.Scope.{IsInScope, Narrows, all};
+ghost use Rattle.krl_core.specs.Reading.{ReportsFailure, Says, is_fixed, working};
+ghost use Rattle.krl_entries.specs.Scope.{all};
 
 use crate::buffered::read_buffered;
 use crate::field_store::FieldStore;
@@ -115,24 +115,22 @@ impl<S: Spans, R: Source + Drop> Walk<Revocations<S>, R> {
 }
 
 impl<S: Spans, R: Source + Drop> Walk<Revocations<S>, R> {
-    /// The entries that are stored so far, for questions about them. They are part of a list: what
-    /// they do not name, the rest of it may.
-    pub fn stored_so_far(&self) -> &Revocations<S>
-        requires { self.now.fault ≡ None }
-        ensures { result.now ≡ self.now.stored.contents }
-    {
-        self.stored.stored_so_far()
-    }
-
-    /// Continues over another store, which answers for some topics as the stored entries do. From
-    /// then on only what is in its scope is stored. The comment is dropped.
-    pub fn continue_over<T: Store>(self, alloc: Global, store: T) -> Walk<T, R>
-        requires { Narrows self.stored.contents (T.scope store) (T.contents store) }
-        ensures reads { (text : List ℕ) (fields : List (List ℕ)) → HasRead text fields self
-            → HasRead text fields result }
-        ensures scope { result.stored.scope ≡ T.scope store }
-        ensures fault { result.fault ≡ self.fault }
-        ensures bounds { IsBounded result.pull result.stored }
+    /// Continues over another store, which takes the entries that are stored so far. From then on
+    /// only what is in its scope is stored. The comment is dropped. If an allocation fails, returns
+    /// the reader: the list is refused with `NoMemory`.
+    pub fn continue_over<T: Store>(self, alloc: Global, store: T) -> Result<Walk<T, R>, R>
+        requires empty { T.contents store ≡ nothing }
+        requires narrower { T.scope store ≢ all }
+        ensures reads { IfOk result (λ walk. (text : List ℕ) (fields : List (List ℕ))
+            → HasRead text fields self → HasRead text fields walk) }
+        ensures scope { IfOk result (λ walk. walk.stored.scope ≡ T.scope store) }
+        ensures fault { IfOk result (λ walk. walk.fault ≡ self.fault) }
+        ensures bounds { IfOk result (λ walk. IsBounded walk.pull walk.stored) }
+        ensures refused { IfErr result (λ reader. (text : List ℕ) (fields : List (List ℕ))
+            → HasRead text fields self
+            → Says NoMemory text (R.has_failed reader) (R.left reader)) }
+        ensures failed { IfErr result (λ reader. self.fault ≡ None
+            → R.has_failed reader ≡ false) }
     {
         let Walk {
             pull,
@@ -142,13 +140,16 @@ impl<S: Spans, R: Source + Drop> Walk<Revocations<S>, R> {
             ended,
             fault,
         } = self;
-        Walk {
-            pull,
-            place,
-            stored: stored.continue_over(alloc, store),
-            large,
-            ended,
-            fault,
+        match stored.continue_over(alloc, store) {
+            Ok(stored) => Ok(Walk {
+                pull,
+                place,
+                stored,
+                large,
+                ended,
+                fault,
+            }),
+            Err(_) => Err(pull.into_inner()),
         }
     }
 }
@@ -158,7 +159,6 @@ impl<T: Store, R: Source + Drop> Walk<T, R> {
     /// before.
     pub fn over(alloc: Global, store: T, reader: R) -> Self
         requires empty { T.contents store ≡ nothing }
-        requires within { IsInScope (T.scope store) nothing }
         requires fresh { R.has_failed reader ≡ false }
         ensures start { (text : List ℕ) → R.left reader ≡ Some text → HasRead text [] result }
         ensures bounds { IsBounded result.pull result.stored }

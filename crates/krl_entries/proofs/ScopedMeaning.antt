@@ -1,7 +1,9 @@
 -- The meaning of revocations within a scope.
-use Rattle.krl_entries.proofs.Common.{[], all, Entry, List, Means, MeansInScope, NamesSame, nothing}
-use Rattle.krl_entries.proofs.Common.{Revocations, Scope}
+use Rattle.krl_entries.proofs.Common.{[], all, Entry, List, Means, MeansInScope, NamesSame, None}
+use Rattle.krl_entries.proofs.Common.{nothing, Revocations, Scope, Some}
+use Rattle.krl_entries.proofs.Elements.{contains_none}
 use Rattle.krl_entries.proofs.SameMeaning.{nothing_meant}
+use Rattle.krl_entries.specs.Scope.{IsInScope}
 use Rattle.std.proofs.Math.Logic.Iff as Iff
 
 -- revocations that mean some entries mean them within any scope
@@ -19,3 +21,14 @@ means_all_within r entries m = record { orderly = m.orderly; names = λ name. m.
 -- no entries mean no revocations within any scope
 pub nothing_within : (scope : Scope) → MeansInScope scope nothing []
 nothing_within scope = means_within scope nothing [] nothing_meant
+
+pub nothing_in_scope : (scope : Scope) → IsInScope scope nothing
+nothing_in_scope None = tt
+nothing_in_scope (Some topics) = record {
+  orderly = nothing_meant.orderly;
+  runs = λ a s begins. absurd begins.0;
+  ids = λ a text is. absurd is;
+  keys = λ blob is. absurd (contains_none blob is);
+  sha1s = λ hash is. absurd (contains_none hash is);
+  sha256s = λ hash is. absurd (contains_none hash is);
+}

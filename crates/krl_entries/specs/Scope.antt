@@ -66,14 +66,6 @@ abbrev pub IsInScope : Scope → Revocations → Type 0
 IsInScope None r = ⊤
 IsInScope (Some topics) r = HoldsOnlyTopics topics r
 
--- The contents hold a topic exactly if the front holds it, and hold only topics. The scope of all
--- names is not narrower.
-abbrev pub Narrows : (front : Revocations) → Scope → (contents : Revocations) → Type 0
-Narrows front None contents = ⊥
-Narrows front (Some topics) contents =
-    HoldsOnlyTopics topics contents
-    × ((name : Name) → IsTopic topics name → HoldsName contents name ↔ HoldsName front name)
-
 -- ---- serial numbers that are no topics
 
 -- the serial number at this index, where each is eight bytes long

@@ -11,8 +11,8 @@ pub use Rattle.krl_entries.specs.Entry.{BitmapEntry, Entry, IdEntry, KeyEntry, R
 pub use Rattle.krl_entries.specs.Entry.{SerialsEntry, Sha1Entry, Sha256Entry}
 pub use Rattle.krl_entries.specs.Naming.{EntryNames, IdOf, KeyOf, Name, SerialOf, Sha1Of, Sha256Of}
 pub use Rattle.krl_entries.specs.Naming.{SomeNames}
-pub use Rattle.krl_queries.specs.Questions.{Asked, asked_in, Asks, AsksMore, Finds, FindsIn}
-pub use Rattle.krl_queries.specs.Questions.{HasCert, HashesOf, HasUnder, IsFirst, IsOfKey, IsSmall}
+pub use Rattle.krl_queries.specs.Questions.{Asked, asked_in, Asks, AsksMore}
+pub use Rattle.krl_queries.specs.Questions.{HasCert, HashesOf, HasUnder, IsFirst, IsSmall}
 pub use Rattle.krl_queries.specs.Questions.{serials_in, span_size}
 pub use Rattle.krl_entries.specs.Reasons.{any_reason, has_reason, held_reasons, IsReason}
 pub use Rattle.krl_entries.specs.Reasons.{reasons_of}
@@ -22,7 +22,7 @@ pub use Rattle.krl_entries.specs.Revocations.{IsNamed, IsOrderly, IsStoredAtMost
 pub use Rattle.krl_entries.specs.Revocations.{Section, section_size, size_of, SomeSection, stored}
 pub use Rattle.krl_entries.specs.Rising.{bytes_cmp, Rises, RisesBy}
 pub use Rattle.krl_entries.specs.Scope.{BeginsRun, HoldsOnlyTopics, InScope, IsTopic, MeansInScope}
-pub use Rattle.krl_entries.specs.Scope.{MeansMoreInScope, Narrows, NoneHolds, Scope, serial_at}
+pub use Rattle.krl_entries.specs.Scope.{MeansMoreInScope, NoneHolds, Scope, serial_at}
 pub use Rattle.serial_set.proofs.RisingLists.{names_from}
 pub use Rattle.serial_set.specs.Span.{Covers, IsRuns, RunsFrom}
 pub use Rattle.serial_set.specs.declared.span.Span.{Span}

@@ -1,14 +1,12 @@
 -- Questions that are asked while a list is read.
-use Rattle.std.specs.Prelude.{◌≡◌, ℕ, ◌+◌, ◌-◌, ◌*◌, ◌<◌, ◌≤◌, ◌⊎◌, ◌↔◌, Bool, true, List, []}
+use Rattle.std.specs.Prelude.{◌≡◌, ℕ, ◌+◌, ◌-◌, ◌*◌, ◌<◌, ◌≤◌, ◌⊎◌, Bool, true, List, []}
 use Rattle.std.specs.Prelude.{length, sum_by, Option, Some, None, Contains, ⊤}
-use Rattle.sha1.specs.Sha1.{sha1}
-use Rattle.sha2.specs.Sha256.{sha256}
 use Rattle.serial_set.specs.declared.span.Span.{Span}
 use Rattle.krl_types.specs.Subject.{CertNames, Subject}
-use Rattle.krl_entries.specs.Revocations.{Revocations, Section, HoldsId, HoldsName, HoldsSerial}
-use Rattle.krl_entries.specs.Revocations.{IsOrderly, held, stored}
-use Rattle.krl_entries.specs.Naming.{KeyOf, Name, Sha1Of, Sha256Of}
-use Rattle.krl_entries.specs.Scope.{IsTopic, HoldsOnlyTopics, Scope}
+use Rattle.krl_entries.specs.Revocations.{Revocations, Section, HoldsId, HoldsSerial}
+use Rattle.krl_entries.specs.Revocations.{held, stored}
+use Rattle.krl_entries.specs.Naming.{Name}
+use Rattle.krl_entries.specs.Scope.{IsTopic, Scope}
 
 -- the topics, which are asked about, and what was found of them
 pub record Asked : Type 0 where
@@ -19,29 +17,9 @@ pub record Asked : Type 0 where
 abbrev pub asked_in : Asked → Scope
 asked_in asked = Some asked.topics
 
--- Every name that was found is in the front of the list, and every topic that the front holds was
--- found.
-pub record FindsIn (front : Revocations) (asked : Asked) : Type 0 where
-  pub held : (name : Name) → HoldsName asked.found name → HoldsName front name
-  pub all : (name : Name) → IsTopic asked.topics name → HoldsName front name
-      → HoldsName asked.found name
-  pub within : HoldsOnlyTopics asked.topics asked.found
-
 -- every topic stays one
 abbrev pub AsksMore : (old new : Revocations) → Type 0
 AsksMore old new = (name : Name) → IsTopic old name → IsTopic new name
-
--- a name of a key: its blob, or one of its hashes
-abbrev pub IsOfKey : (blob : List ℕ) → Name → Type 0
-IsOfKey blob name =
-    (name ≡ KeyOf blob) ⊎ ((name ≡ Sha1Of (sha1 blob)) ⊎ (name ≡ Sha256Of (sha256 blob)))
-
--- The sought names that the front holds are found too. Findings in order stay in order.
-pub record Finds (front : Revocations) (Sought : Name → Type 0) (old new : Revocations)
-    : Type 0 where
-  pub orderly : IsOrderly old → IsOrderly new
-  pub names : (name : Name)
-      → HoldsName new name ↔ (HoldsName old name ⊎ (HoldsName front name × Sought name))
 
 -- the hashes are exactly those of the keys
 pub record HashesOf (hash : List ℕ → List ℕ) (keys hashes : List (List ℕ)) : Type 0 where

@@ -1,106 +1,22 @@
-//! The findings of questions about a list that is streamed.
+//! The findings: a store that takes from a list what the questions are about.
 
-ghost use Rattle.std.specs.Prelude.{◌≡◌, ◌↔◌, ◌+◌, ◌<◌, ◌≤◌, ◌∷◌, [], ℕ, List};
-ghost use Rattle.std.specs.Prelude.{IsTrue, OnOk, ⊤};
+ghost use Rattle.std.specs.Prelude.{◌≡◌, ◌+◌, ◌≤◌, ◌∷◌, [], ℕ, OnOk, ⊤};
 ghost use Rattle.serial_set.specs.BitRuns.{IsInterval};
-ghost use Rattle.krl_entries.specs.Revocations.{IsOrderly, IsStoredAtMost, held};
-ghost use Rattle.krl_entries.specs.Entry.{Entry, RangeEntry};
-ghost use Rattle.krl_entries.specs.Revoked.{Revoked};
-ghost use Rattle.krl_queries.specs.Questions.{Asks, FindsIn, asked_in};
-ghost use Rattle.krl_entries.specs.Scope.{HoldsOnlyTopics, MeansInScope, MeansMoreInScope, Narrows};
-ghost use Rattle.krl_entries.specs.Reasons.{IsReason, has_reason, held_reasons, revokes};
-ghost use Rattle.krl_entries.specs.declared.reasons.Reason.{Reason as ReasonOf};
+ghost use Rattle.krl_entries.specs.Revocations.{IsStoredAtMost, held};
+ghost use Rattle.krl_entries.specs.Entry.{RangeEntry};
+ghost use Rattle.krl_queries.specs.Questions.{asked_in};
+ghost use Rattle.krl_entries.specs.Scope.{HoldsOnlyTopics, MeansMoreInScope};
 
 use crate::key_hashes::asks_hash;
 use crate::questions::Questions;
 use crate::topics::{count_skipped, first_serial, may_have};
-use krl_entries::{Reasons, Revocations, Store};
-use krl_types::Subject;
+use krl_entries::Store;
 use serial_set::{Span, Spans};
 use sha1::Sha1;
 use sha2::Sha256;
-use std::alloc::{AllocError, Global};
-use std::collections::BTreeSet;
-use std::marker::Model;
+use std::alloc::AllocError;
 
-/// The topics that a list is asked about, and what its entries have named of them so far. Contracts
-/// see both.
-#[derive(Drop)]
-pub struct Findings<S: Spans> {
-    topics: Revocations<S>,
-    found: Revocations<S>,
-    // the hashes of the keys that are asked about, once a hash was looked for
-    has_sha1s: bool,
-    has_sha256s: bool,
-    sha1s: BTreeSet<[u8; 20]>,
-    sha256s: BTreeSet<[u8; 32]>,
-}
-
-impl<S: Spans> Model for Findings<S> {
-    ghost use Rattle.krl_queries.specs.Questions.{AreHashed, Asked};
-    ghost use Rattle.sha1.specs.Sha1.{sha1};
-    ghost use Rattle.sha2.specs.Sha256.{sha256};
-
-    ghost Value = { Asked };
-
-    ghost view = { λ f. record { topics = f.topics; found = f.found } };
-
-    ghost invariant = { λ f. AreHashed f.has_sha1s sha1 f.topics.keys f.sha1s.keys
-        × AreHashed f.has_sha256s sha256 f.topics.keys f.sha256s.keys };
-}
-
-impl<S: Spans> Findings<S> {
-    /// The findings for the rest of a list, from the questions and what its front holds of them.
-    /// The front is passed so that a caller that does not have it, such as the caller of a walk,
-    /// gets no answer from it. Allocates nothing.
-    pub fn of(alloc: Global, front: &Revocations<S>, questions: Questions<S>) -> Findings<S>
-        requires { FindsIn front.now questions }
-        ensures same { result ≡ questions }
-        ensures narrows { Narrows front.now (asked_in result) result.found }
-    {
-        let _front = front;
-        let Questions { topics, found } = questions;
-        Findings {
-            topics,
-            found,
-            has_sha1s: false,
-            has_sha256s: false,
-            sha1s: BTreeSet::new(alloc),
-            sha256s: BTreeSet::new(alloc),
-        }
-    }
-
-    /// Whether a key or a certificate that is asked about is revoked. Allocates nothing.
-    pub fn answer(&self, subject: &Subject) -> bool
-        requires { Asks self.now.topics subject.now }
-        ensures meant { (entries : List Entry)
-            → MeansInScope (asked_in self.now) self.now.found entries
-            → (IsTrue result ↔ Revoked entries subject.now) }
-        ensures tested { result ≡ revokes self.now.found subject.now }
-    {
-        self.found.query(subject)
-    }
-
-    /// Why a key or a certificate that is asked about is revoked: every reason in the list.
-    /// Allocates nothing.
-    pub fn reasons(&self, subject: &Subject) -> Reasons
-        requires { Asks self.now.topics subject.now }
-        ensures meant { (entries : List Entry)
-            → MeansInScope (asked_in self.now) self.now.found entries → (reason : ReasonOf)
-            → (IsTrue (has_reason result reason) ↔ IsReason entries subject.now reason) }
-        ensures tested { result ≡ held_reasons self.now.found subject.now }
-    {
-        self.found.reasons(subject)
-    }
-
-    /// The revocations that were found.
-    pub fn found(&self) -> &Revocations<S>
-        ensures value { result.now ≡ self.now.found }
-        ensures orderly { IsOrderly self.now.found }
-    {
-        self.found.in_order()
-    }
-
+impl<S: Spans> Questions<S> {
     // Takes the serials of a span, from the first one that is asked about.
     fn store_span(&mut self, authority: &[u8], span: Span) -> Result<(), AllocError>
         requires { IsInterval span }
@@ -121,12 +37,12 @@ impl<S: Spans> Findings<S> {
     }
 }
 
-impl<S: Spans> Store for Findings<S> {
+impl<S: Spans> Store for Questions<S> {
     ghost use Rattle.krl_queries.specs.Questions.{asked_in};
 
-    ghost contents = { λ findings. findings.found };
+    ghost contents = { λ questions. questions.found };
 
-    ghost scope = { λ findings. asked_in findings };
+    ghost scope = { λ questions. asked_in questions };
 
     ghost is_at = { λ _ _. ⊤ };
 

@@ -7,5 +7,4 @@ pub mod laws;
 mod questions;
 mod topics;
 
-pub use findings::Findings;
 pub use questions::Questions;

@@ -1,37 +1,46 @@
-//! Questions about a list.
+//! Questions about a list that is streamed.
 
-ghost use Rattle.std.specs.Prelude.{◌≡◌, ◌+◌, ◌<◌, ◌≤◌, Contains, OnOk, Some, length};
-ghost use Rattle.sha1.specs.Sha1.{sha1};
-ghost use Rattle.sha2.specs.Sha256.{sha256};
-ghost use Rattle.krl_entries.specs.Revocations.{IsOrderly, Revocations as RevocationsOf, nothing};
-ghost use Rattle.krl_entries.specs.Revocations.{stored};
-ghost use Rattle.krl_entries.specs.Naming.{IdOf, KeyOf, SerialOf, Sha1Of, Sha256Of};
-ghost use Rattle.krl_queries.specs.Questions.{Asks, AsksMore, Finds, FindsIn, HasAll, HasUnder};
-ghost use Rattle.krl_queries.specs.Questions.{IsOfKey, names_size, serials_in, subject_size};
+ghost use Rattle.std.specs.Prelude.{◌≡◌, ◌↔◌, ◌+◌, ◌≤◌, IsTrue, List, OnOk, Some, length};
+ghost use Rattle.krl_entries.specs.Entry.{Entry};
+ghost use Rattle.krl_entries.specs.Reasons.{IsReason, has_reason, held_reasons, revokes};
+ghost use Rattle.krl_entries.specs.Revocations.{IsOrderly, nothing, stored};
+ghost use Rattle.krl_entries.specs.Revoked.{Revoked};
+ghost use Rattle.krl_entries.specs.Scope.{MeansInScope};
+ghost use Rattle.krl_entries.specs.declared.reasons.Reason.{Reason as ReasonOf};
+ghost use Rattle.krl_queries.specs.Questions.{Asks, AsksMore, HasAll, HasUnder, asked_in};
+ghost use Rattle.krl_queries.specs.Questions.{names_size, serials_in, subject_size};
 
-use krl_entries::Revocations;
+use krl_entries::{Reasons, Revocations};
 use krl_types::{CertNames, Subject};
 use serial_set::Spans;
-use sha1::Sha1;
-use sha2::{Digest, Sha256};
 use std::alloc::{AllocError, Global};
+use std::collections::BTreeSet;
 use std::marker::Model;
 
-/// The questions about a list whose front was read, and what the front holds of them. Contracts see
-/// the topics, which are keys, and serial numbers and key IDs under authorities, and what was found
-/// of them.
+/// Questions about a list, and what its entries have named of them so far. Contracts see the topics,
+/// which are keys, and serial numbers and key IDs under authorities, and what was found of them.
 #[derive(Drop)]
 pub struct Questions<S: Spans> {
     pub(crate) topics: Revocations<S>,
     pub(crate) found: Revocations<S>,
+    // the hashes of the keys that are asked about, once a hash was looked for
+    pub(crate) has_sha1s: bool,
+    pub(crate) has_sha256s: bool,
+    pub(crate) sha1s: BTreeSet<[u8; 20]>,
+    pub(crate) sha256s: BTreeSet<[u8; 32]>,
 }
 
 impl<S: Spans> Model for Questions<S> {
-    ghost use Rattle.krl_queries.specs.Questions.{Asked};
+    ghost use Rattle.krl_queries.specs.Questions.{AreHashed, Asked};
+    ghost use Rattle.sha1.specs.Sha1.{sha1};
+    ghost use Rattle.sha2.specs.Sha256.{sha256};
 
     ghost Value = { Asked };
 
     ghost view = { λ q. record { topics = q.topics; found = q.found } };
+
+    ghost invariant = { λ q. AreHashed q.has_sha1s sha1 q.topics.keys q.sha1s.keys
+        × AreHashed q.has_sha256s sha256 q.topics.keys q.sha256s.keys };
 }
 
 impl<S: Spans> Questions<S> {
@@ -40,204 +49,117 @@ impl<S: Spans> Questions<S> {
         ensures topics { result.topics ≡ nothing }
         ensures orderly { IsOrderly result.topics }
         ensures found { result.found ≡ nothing }
-        ensures of_any { (front : RevocationsOf) → FindsIn front result }
     {
         let topics: Revocations<S> = Revocations::new(alloc);
         let _topics = topics.in_order();
         Questions {
             topics,
             found: Revocations::new(alloc),
+            has_sha1s: false,
+            has_sha256s: false,
+            sha1s: BTreeSet::new(alloc),
+            sha256s: BTreeSet::new(alloc),
         }
     }
 
-    /// Asks about a key or a certificate too. `front` is what the front of the list holds. Fails
-    /// only if an allocation fails.
-    pub fn ask(&mut self, front: &Revocations<S>, subject: &Subject) -> Result<(), AllocError>
-        requires { FindsIn front.now self.old }
+    /// Asks about a key or a certificate too, before the list is read. Fails only if an allocation
+    /// fails.
+    pub fn ask(&mut self, subject: &Subject) -> Result<(), AllocError>
         ensures asked { OnOk result (Asks self.new.topics subject.now) }
         ensures orderly { IsOrderly self.new.topics }
         ensures more { OnOk result (AsksMore self.old.topics self.new.topics) }
-        ensures found { OnOk result (FindsIn front.now self.new) }
+        ensures found { self.new.found ≡ self.old.found }
         ensures serials { serials_in self.new.topics.sections
             ≤ serials_in self.old.topics.sections + 2 }
         ensures stored { stored self.new.topics
             ≤ stored self.old.topics + subject_size subject.now }
         ensures keys { length self.new.topics.keys ≤ length self.old.topics.keys + 2 }
     {
-        let asked = self.ask_names(front, subject);
+        self.has_sha1s = false;
+        self.has_sha256s = false;
+        let asked = ask_names(&mut self.topics, subject);
         let _topics = self.topics.in_order();
         asked
     }
-}
 
-impl<S: Spans> Questions<S> {
-    // Asks about a key, and about the names of its certificate.
-    fn ask_names(&mut self, front: &Revocations<S>, subject: &Subject) -> Result<(), AllocError>
-        requires { FindsIn front.now self.old }
-        ensures asked { OnOk result (Asks self.new.topics subject.now) }
-        ensures more { OnOk result (AsksMore self.old.topics self.new.topics) }
-        ensures found { OnOk result (FindsIn front.now self.new) }
-        ensures serials { serials_in self.new.topics.sections
-            ≤ serials_in self.old.topics.sections + 2 }
-        ensures stored { stored self.new.topics
-            ≤ stored self.old.topics + subject_size subject.now }
-        ensures keys { length self.new.topics.keys ≤ length self.old.topics.keys + 2 }
+    /// Whether a key or a certificate that is asked about is revoked. Allocates nothing.
+    pub fn answer(&self, subject: &Subject) -> bool
+        requires { Asks self.now.topics subject.now }
+        ensures meant { (entries : List Entry)
+            → MeansInScope (asked_in self.now) self.now.found entries
+            → (IsTrue result ↔ Revoked entries subject.now) }
+        ensures tested { result ≡ revokes self.now.found subject.now }
     {
-        self.ask_key(front, subject.plain.as_slice())?;
-        match &subject.cert {
-            None => Ok(()),
-            Some(cert) => self.ask_cert(front, cert),
-        }
+        self.found.query(subject)
     }
 
-    // Asks about a key by its blob and its hashes.
-    fn ask_key(&mut self, front: &Revocations<S>, blob: &[u8]) -> Result<(), AllocError>
-        requires { FindsIn front.now self.old }
-        ensures asked { OnOk result (Contains self.new.topics.keys blob.now) }
-        ensures more { OnOk result (AsksMore self.old.topics self.new.topics) }
-        ensures found { OnOk result (FindsIn front.now self.new) }
-        ensures serials { self.new.topics.sections ≡ self.old.topics.sections }
-        ensures stored { stored self.new.topics ≤ stored self.old.topics + length blob.now }
-        ensures keys { length self.new.topics.keys ≤ length self.old.topics.keys + 1 }
+    /// Why a key or a certificate that is asked about is revoked: every reason in the list.
+    /// Allocates nothing.
+    pub fn reasons(&self, subject: &Subject) -> Reasons
+        requires { Asks self.now.topics subject.now }
+        ensures meant { (entries : List Entry)
+            → MeansInScope (asked_in self.now) self.now.found entries → (reason : ReasonOf)
+            → (IsTrue (has_reason result reason) ↔ IsReason entries subject.now reason) }
+        ensures tested { result ≡ held_reasons self.now.found subject.now }
     {
-        self.topics.add_key(blob)?;
-        find_key(front, &mut self.found, blob)
+        self.found.reasons(subject)
     }
 
-    // Asks about the names of a certificate.
-    fn ask_cert(&mut self, front: &Revocations<S>, cert: &CertNames) -> Result<(), AllocError>
-        requires { FindsIn front.now self.old }
-        ensures asked { OnOk result (HasAll self.new.topics cert.now) }
-        ensures more { OnOk result (AsksMore self.old.topics self.new.topics) }
-        ensures found { OnOk result (FindsIn front.now self.new) }
-        ensures serials { serials_in self.new.topics.sections
-            ≤ serials_in self.old.topics.sections + 2 }
-        ensures stored { stored self.new.topics
-            ≤ stored self.old.topics + names_size (Some cert.now) }
-        ensures keys { length self.new.topics.keys ≤ length self.old.topics.keys + 1 }
+    /// The revocations that were found.
+    pub fn found(&self) -> &Revocations<S>
+        ensures value { result.now ≡ self.now.found }
+        ensures orderly { IsOrderly self.now.found }
     {
-        self.ask_key(front, cert.authority)?;
-        self.ask_under(front, &[], cert)?;
-        self.ask_under(front, cert.authority, cert)
-    }
-
-    // Asks about a certificate's key ID and serial number under an authority, or under all
-    // authorities if it is empty.
-    fn ask_under(
-        &mut self,
-        front: &Revocations<S>,
-        authority: &[u8],
-        cert: &CertNames,
-    ) -> Result<(), AllocError>
-        requires { FindsIn front.now self.old }
-        ensures asked { OnOk result (HasUnder self.new.topics
-            authority.now cert.now.key_id cert.now.serial) }
-        ensures more { OnOk result (AsksMore self.old.topics self.new.topics) }
-        ensures found { OnOk result (FindsIn front.now self.new) }
-        ensures serials { serials_in self.new.topics.sections
-            ≤ serials_in self.old.topics.sections + 1 }
-        ensures stored { stored self.new.topics ≤ stored self.old.topics
-            + length authority.now + length cert.now.key_id }
-        ensures keys { self.new.topics.keys ≡ self.old.topics.keys }
-    {
-        self.topics.add_id(authority, cert.key_id)?;
-        find_id(front, &mut self.found, authority, cert.key_id)?;
-        if cert.serial == 0 {
-            return Ok(());
-        }
-        self.topics
-            .add_serials(authority, cert.serial, cert.serial)?;
-        find_serial(front, &mut self.found, authority, cert.serial)
+        self.found.in_order()
     }
 }
 
-// Looks for a key in a front, by its blob and its hashes.
-fn find_key<S: Spans>(
-    front: &Revocations<S>,
-    found: &mut Revocations<S>,
-    blob: &[u8],
-) -> Result<(), AllocError>
-    ensures { OnOk result (Finds front.now (IsOfKey blob.now) found.old found.new) }
+// Asks about a key, and about the names of its certificate.
+fn ask_names<S: Spans>(topics: &mut Revocations<S>, subject: &Subject) -> Result<(), AllocError>
+    ensures asked { OnOk result (Asks topics.new subject.now) }
+    ensures more { OnOk result (AsksMore topics.old topics.new) }
+    ensures serials { serials_in topics.new.sections ≤ serials_in topics.old.sections + 2 }
+    ensures stored { stored topics.new ≤ stored topics.old + subject_size subject.now }
+    ensures keys { length topics.new.keys ≤ length topics.old.keys + 2 }
 {
-    find_blob(front, found, blob)?;
-    find_sha1(front, found, blob)?;
-    find_sha256(front, found, blob)
-}
-
-// Looks for a key by its blob.
-fn find_blob<S: Spans>(
-    front: &Revocations<S>,
-    found: &mut Revocations<S>,
-    blob: &[u8],
-) -> Result<(), AllocError>
-    ensures { OnOk result
-        (Finds front.now (λ name. name ≡ KeyOf blob.now) found.old found.new) }
-{
-    if !front.has_blob(blob) {
-        return Ok(());
+    topics.add_key(subject.plain.as_slice())?;
+    match &subject.cert {
+        None => Ok(()),
+        Some(cert) => ask_cert(topics, cert),
     }
-    found.add_key(blob)
 }
 
-// Looks for a key by its SHA-1.
-fn find_sha1<S: Spans>(
-    front: &Revocations<S>,
-    found: &mut Revocations<S>,
-    blob: &[u8],
-) -> Result<(), AllocError>
-    ensures { OnOk result
-        (Finds front.now (λ name. name ≡ Sha1Of (sha1 blob.now)) found.old found.new) }
+// Asks about the names of a certificate.
+fn ask_cert<S: Spans>(topics: &mut Revocations<S>, cert: &CertNames) -> Result<(), AllocError>
+    ensures asked { OnOk result (HasAll topics.new cert.now) }
+    ensures more { OnOk result (AsksMore topics.old topics.new) }
+    ensures serials { serials_in topics.new.sections ≤ serials_in topics.old.sections + 2 }
+    ensures stored { stored topics.new ≤ stored topics.old + names_size (Some cert.now) }
+    ensures keys { length topics.new.keys ≤ length topics.old.keys + 1 }
 {
-    if !front.has_sha1(blob) {
-        return Ok(());
-    }
-    found.add_sha1(&Sha1::digest(blob))
+    topics.add_key(cert.authority)?;
+    ask_under(topics, &[], cert)?;
+    ask_under(topics, cert.authority, cert)
 }
 
-// Looks for a key by its SHA-256.
-fn find_sha256<S: Spans>(
-    front: &Revocations<S>,
-    found: &mut Revocations<S>,
-    blob: &[u8],
-) -> Result<(), AllocError>
-    ensures { OnOk result
-        (Finds front.now (λ name. name ≡ Sha256Of (sha256 blob.now)) found.old found.new) }
-{
-    if !front.has_sha256(blob) {
-        return Ok(());
-    }
-    found.add_sha256(&Sha256::digest(blob))
-}
-
-// Looks for a key ID under an authority.
-fn find_id<S: Spans>(
-    front: &Revocations<S>,
-    found: &mut Revocations<S>,
+// Asks about a certificate's key ID and serial number under an authority, or under all authorities
+// if it is empty.
+fn ask_under<S: Spans>(
+    topics: &mut Revocations<S>,
     authority: &[u8],
-    id: &[u8],
+    cert: &CertNames,
 ) -> Result<(), AllocError>
-    ensures { OnOk result (Finds front.now
-        (λ name. name ≡ IdOf authority.now id.now) found.old found.new) }
+    ensures asked { OnOk result (HasUnder topics.new
+        authority.now cert.now.key_id cert.now.serial) }
+    ensures more { OnOk result (AsksMore topics.old topics.new) }
+    ensures serials { serials_in topics.new.sections ≤ serials_in topics.old.sections + 1 }
+    ensures stored { stored topics.new
+        ≤ stored topics.old + length authority.now + length cert.now.key_id }
+    ensures keys { topics.new.keys ≡ topics.old.keys }
 {
-    if !front.has_id(authority, id) {
+    topics.add_id(authority, cert.key_id)?;
+    if cert.serial == 0 {
         return Ok(());
     }
-    found.add_id(authority, id)
-}
-
-// Looks for a serial number under an authority.
-fn find_serial<S: Spans>(
-    front: &Revocations<S>,
-    found: &mut Revocations<S>,
-    authority: &[u8],
-    serial: u64,
-) -> Result<(), AllocError>
-    requires { 0 < serial }
-    ensures { OnOk result (Finds front.now
-        (λ name. name ≡ SerialOf authority.now serial) found.old found.new) }
-{
-    if !front.has_serial(authority, serial) {
-        return Ok(());
-    }
-    found.add_serials(authority, serial, serial)
+    topics.add_serials(authority, cert.serial, cert.serial)
 }

@@ -6,13 +6,13 @@ use Rattle.krl_runs.proofs.Common.{contents_lines, date_line, drop, drop-cons, E
 use Rattle.krl_runs.proofs.Common.{false, flat_map, get_or, Hash, Header, header_lines, Id}
 use Rattle.krl_runs.proofs.Common.{IsPiece, Item, Key, Known, known_lines, left, length, List}
 use Rattle.krl_runs.proofs.Common.{map, next_of, Ok, Option, refl, Result, Revocations, RunFault}
-use Rattle.krl_runs.proofs.Common.{said_of, Section, section_lines, serials_line, Sha1, since}
-use Rattle.krl_runs.proofs.Common.{Some, subst, sym, take-append-drop, true, version_line, ℕ}
+use Rattle.krl_runs.proofs.Common.{said_of, Section, section_lines, serials_line, Sha1}
+use Rattle.krl_runs.proofs.Common.{Some, subst, sym, true, version_line, ℕ}
 use Rattle.std.proofs.lemmas.List.{map-append}
 use Rattle.std.proofs.lemmas.Bool.Decides.{nat_tests}
 use Rattle.serial_set.specs.declared.span.Span.{Span}
 use Rattle.serial_set.specs.Span.{IsRuns, AreSerials}
-use Rattle.serial_set.proofs.RunIteration.{iteration_continues}
+use Rattle.krl_core.proofs.GainedEntries.{spans_left}
 use Rattle.key_listing.specs.Carries.{Carries}
 use Rattle.key_listing.specs.Printer.{Printer}
 
@@ -94,11 +94,7 @@ spans_next spans i d lt =
 pub piece_next : (spans piece : List Span) (n : ℕ) (before next : Option ℕ) → IsRuns spans → AreSerials spans → before ≡ Some n → IsPiece spans n piece → next ≡ next_of piece
     → map serials_line (left before spans) ≡ map serials_line piece ++ map serials_line (left next spans)
 piece_next spans piece n before next r fits b p e =
-    let k = length piece in
-    let rest : left next spans ≡ drop k (since n spans) = ap (λ (o : Option ℕ). left o spans) e ∙ iteration_continues spans piece n r fits p in
-    let parts : left before spans ≡ piece ++ left next spans =
-    ap (λ (o : Option ℕ). left o spans) b ∙ sym (take-append-drop k (since n spans)) ∙ ap (λ (xs : List Span). xs ++ drop k (since n spans)) (sym p.front) ∙ ap (λ (xs : List Span). piece ++ xs) (sym rest) in
-    ap (λ (xs : List Span). map serials_line xs) parts ∙ map-append serials_line piece (left next spans)
+    ap (λ (xs : List Span). map serials_line xs) (spans_left spans piece n before next r fits b p e) ∙ map-append serials_line piece (left next spans)
 
 -- the lines of an authority and those of the others
 pub held_next : (section : Section) (rest : List Section) (r : Revocations) → held_lines (section ∷ rest) r ≡ section_lines section ++ held_lines rest r

@@ -8,19 +8,19 @@ use Rattle.krl_runs.proofs.Common.{krl_cause, List, Named, None, Ok, Option, out
 use Rattle.krl_runs.proofs.Common.{query_run_of, refl, Result, Revocations, revokes, run_fault_of}
 use Rattle.krl_runs.proofs.Common.{RunFault, RunOutcome, Some, Stopped, Subject, subst, sym, ℕ}
 use Rattle.std.specs.List.{concat}
+use Rattle.std.proofs.lemmas.Bool.{false≢true}
 use Rattle.krl_entries.proofs.RevokedTests.{revokes_meant}
 use Rattle.krl_entries.specs.Canonical.{entries_in}
 use Rattle.krl_entries.specs.Entry.{Entry}
 use Rattle.krl_entries.proofs.OwnEntries.{means_itself}
 use Rattle.krl_entries.proofs.ScopedMeaning.{means_within}
 use Rattle.krl_core.specs.Front.{IsFirstFault}
-use Rattle.krl_core.specs.Reading.{HoldsInScope, IsList, IsListAs, OfHeader}
+use Rattle.krl_core.specs.Reading.{HoldsInScope, IsList, IsListAs, IsResultOf, OfHeader, Says}
 use Rattle.krl_entries.proofs.ReasonTests.{meant_tested}
 use Rattle.krl_queries.proofs.FoundReasons.{found_tested}
 use Rattle.krl_types.specs.declared.krl_fault.KrlFault.{KrlFault}
 use Rattle.key_listing.specs.Carries.{Carries}
 use Rattle.key_listing.specs.Printer.{Printer}
-use Rattle.krl_runs.proofs.AgreeingTests.{files_same}
 use Rattle.key_files.specs.declared.cause.Cause.TheVariants as causes
 use Rattle.krl_entries.specs.Reasons.{is_revoked as is_named}
 use Rattle.krl_types.specs.declared.krl_fault.KrlFault.TheVariants as faults
@@ -147,3 +147,14 @@ unfolding asked_run_of
 asked_ran_out name files entries now =
     carries_more {A = Unit {0}} {B = Unit {0}} (Passed name ∷ []) (files_items (ask_by (is_named entries)) files) (run_fault_of name causes.NoMemory) now now
     (carries_withheld (Passed name) (run_fault_of name causes.NoMemory) now refl)
+
+-- an allocation failed before the list was read to its end
+pub ran_out_run : (name : List ℕ) (files : List Named) (before left : Option (List ℕ)) (failed : Bool) (now : Printer) → failed ≡ false
+    → ((text : List ℕ) → before ≡ Some text → Says faults.NoMemory text failed left)
+    → (outcome : Result (List Entry) KrlFault) × IsResultOf HasEntries before outcome failed left
+    × Carries {A = Unit {0}} (asked_run_of name outcome files) (Err (run_fault_of name causes.NoMemory)) now now
+ran_out_run name files before left failed now works says = (
+  Err faults.NoMemory,
+  record { failure = (λ no. absurd cc, λ was. absurd (false≢true (sym works ∙ was))); read = says },
+  asked_refused name files faults.NoMemory now,
+)

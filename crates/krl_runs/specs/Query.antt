@@ -66,12 +66,12 @@ pub record AnswersAbout (Expected : Subject → Type 0) (entries : Revocations)
 -- was streamed
 abbrev pub IsFor : Query → Subject → Type 0
 IsFor (Stored list) asked = ⊤
-IsFor (Streamed findings) asked = Asks findings.now.topics asked
+IsFor (Streamed questions) asked = Asks questions.now.topics asked
 
 -- the entries by which it answers
 abbrev pub entries_for : Query → Revocations
 entries_for (Stored list) = list.now
-entries_for (Streamed findings) = findings.now.found
+entries_for (Streamed questions) = questions.now.found
 
 -- The text is a list without a fault, and these are the entries that its sections have.
 pub record HasEntries (text : List ℕ) (entries : List Entry) : Type 0 where

@@ -16,7 +16,7 @@ use byte_streams::{Sink, Source};
 use key_files::{FileFault, FileKey, Named, RunFault, cause_of};
 use key_listing::{Answer, Answers, Done, Printer, Run, print_files};
 use krl_core::{Header, Revocations, read_krl};
-use krl_queries::Findings;
+use krl_queries::Questions;
 use krl_types::Subject;
 use span_sets::Held;
 use ssh_cert::{AnyKey, push_escaped};
@@ -29,7 +29,7 @@ pub(crate) enum Query<'q> {
     /// By all that the list revokes.
     Stored(&'q Revocations<Held>),
     /// By what was found while the list was streamed, for the keys that were asked about.
-    Streamed(&'q Findings<Held>),
+    Streamed(&'q Questions<Held>),
 }
 
 impl<'q> Query<'q> {
@@ -40,7 +40,7 @@ impl<'q> Query<'q> {
     {
         match self {
             Query::Stored(list) => list.query(subject),
-            Query::Streamed(findings) => findings.answer(subject),
+            Query::Streamed(questions) => questions.answer(subject),
         }
     }
 }

@@ -6,13 +6,12 @@ ghost use Rattle.ssh_cert.specs.SubjectReading.{subject_of};
 ghost use Rattle.key_files.specs.Keys.{keys_of};
 ghost use Rattle.key_files.specs.Sizes.{blob_room, file_size, files_size};
 ghost use Rattle.key_files.specs.declared.cause.Cause.TheVariants.{NoMemory};
-ghost use Rattle.krl_queries.specs.Questions.{Asks, AsksMore, FindsIn};
+ghost use Rattle.krl_queries.specs.Questions.{Asks, AsksMore};
 ghost use Rattle.krl_entries.specs.Revocations.{IsOrderly};
 ghost use Rattle.key_listing.specs.Expected.{AllExpected, AreExpected};
 ghost use Rattle.krl_runs.specs.Questions.{AsksAtMost};
 
 use key_files::{Cause, FileKey, Named, keys_of};
-use krl_entries::Revocations;
 use krl_queries::Questions;
 use span_sets::Held;
 use std::alloc::{AllocError, Global};
@@ -22,19 +21,17 @@ use std::alloc::{AllocError, Global};
 pub fn ask_about<'a>(
     alloc: Global,
     questions: &mut Questions<Held>,
-    front: &Revocations<Held>,
     files: &'a [Named<'a>],
 ) -> Result<(), AllocError>
-    requires found { FindsIn front.now questions.old }
-    requires orderly { IsOrderly questions.old.topics }
-    ensures found { OnOk result (FindsIn front.now questions.new) }
+    requires { IsOrderly questions.old.topics }
+    ensures found { questions.new.found ≡ questions.old.found }
     ensures orderly { IsOrderly questions.new.topics }
     ensures asked { OnOk result (AllExpected (Asks questions.new.topics) files.now) }
     ensures within { AsksAtMost (3 * files_size files.now) questions.old.topics
         questions.new.topics }
 {
     for file in files {
-        ask_file(alloc, questions, front, file)?;
+        ask_file(alloc, questions, file)?;
     }
     Ok(())
 }
@@ -43,12 +40,10 @@ pub fn ask_about<'a>(
 fn ask_file<'a>(
     alloc: Global,
     questions: &mut Questions<Held>,
-    front: &Revocations<Held>,
     file: &'a Named<'a>,
 ) -> Result<(), AllocError>
-    requires found { FindsIn front.now questions.old }
-    requires orderly { IsOrderly questions.old.topics }
-    ensures found { OnOk result (FindsIn front.now questions.new) }
+    requires { IsOrderly questions.old.topics }
+    ensures found { questions.new.found ≡ questions.old.found }
     ensures orderly { IsOrderly questions.new.topics }
     ensures more { OnOk result (AsksMore questions.old.topics questions.new.topics) }
     ensures asked { OnOk result (AreExpected (Asks questions.new.topics) (keys_of file.now)) }
@@ -58,7 +53,7 @@ fn ask_file<'a>(
     for next in keys_of(alloc, file) {
         match next {
             Ok(key) => {
-                if !ask_key(alloc, questions, front, &key)? {
+                if !ask_key(alloc, questions, &key)? {
                     return Ok(());
                 }
             }
@@ -82,12 +77,10 @@ fn stopped_by(cause: Cause) -> Result<(), AllocError>
 fn ask_key(
     alloc: Global,
     questions: &mut Questions<Held>,
-    front: &Revocations<Held>,
     key: &FileKey,
 ) -> Result<bool, AllocError>
-    requires found { FindsIn front.now questions.old }
-    requires orderly { IsOrderly questions.old.topics }
-    ensures found { OnOk result (FindsIn front.now questions.new) }
+    requires { IsOrderly questions.old.topics }
+    ensures found { questions.new.found ≡ questions.old.found }
     ensures orderly { IsOrderly questions.new.topics }
     ensures more { OnOk result (AsksMore questions.old.topics questions.new.topics) }
     ensures asked { OnOk result
@@ -98,7 +91,7 @@ fn ask_key(
 {
     match key.read() {
         Ok(any) => {
-            questions.ask(front, &any.subject(alloc)?)?;
+            questions.ask(&any.subject(alloc)?)?;
             Ok(true)
         }
         Err(_) => Ok(false),

@@ -20,7 +20,7 @@ use byte_streams::{Sink, Source};
 use key_files::{Cause, Named, RunFault, cause_of};
 use key_listing::{Run, print_files};
 use krl_core::{Reading, Walk};
-use krl_queries::{Findings, Questions};
+use krl_queries::Questions;
 use span_sets::Held;
 
 // At most this number of bytes of a list is stored.
@@ -69,9 +69,8 @@ fn front_size(files: &[Named<'_>]) -> u64
     size.min(FRONT)
 }
 
-// Queries for the keys of the files, with the answers of the list's front, and streams the rest of
-// the list. If an allocation fails before all queries are stored, the list is streamed all the
-// same: its fault is reported first.
+// Queries for the keys of the files, and streams the rest of the list. If an allocation fails before
+// all queries are stored, the list is streamed all the same: its fault is reported first.
 fn ask_rest<'a, R: Source + Drop, W: Sink>(
     run: &mut Run<W>,
     krl_name: &'a str,
@@ -87,18 +86,17 @@ fn ask_rest<'a, R: Source + Drop, W: Sink>(
         run.old.printer run.new.printer }
 {
     let mut questions: Questions<Held> = Questions::new(run.alloc);
-    let stored = front.stored_so_far();
-    match ask_about(run.alloc, &mut questions, stored, files) {
-        Ok(()) => {
-            let findings = Findings::of(run.alloc, stored, questions);
-            let walk = front.continue_over(run.alloc, findings);
-            stream(run, krl_name, walk, files)
-        }
+    match ask_about(run.alloc, &mut questions, files) {
+        Ok(()) => match front.continue_over(run.alloc, questions) {
+            Ok(walk) => stream(run, krl_name, walk, files),
+            Err(reader) => (Err(RunFault::whole(krl_name, Cause::NoMemory)), reader),
+        },
         Err(_) => {
             let none: Questions<Held> = Questions::new(run.alloc);
-            let findings = Findings::of(run.alloc, stored, none);
-            let walk = front.continue_over(run.alloc, findings);
-            stream_unasked(run, krl_name, walk)
+            match front.continue_over(run.alloc, none) {
+                Ok(walk) => stream_unasked(run, krl_name, walk),
+                Err(reader) => (Err(RunFault::whole(krl_name, Cause::NoMemory)), reader),
+            }
         }
     }
 }
@@ -108,7 +106,7 @@ fn ask_rest<'a, R: Source + Drop, W: Sink>(
 fn stream<'a, R: Source + Drop, W: Sink>(
     run: &mut Run<W>,
     krl_name: &'a str,
-    walk: Walk<Findings<Held>, R>,
+    walk: Walk<Questions<Held>, R>,
     files: &'a [Named<'a>],
 ) -> (Result<(), RunFault<'a>>, R)
     requires working { walk.fault ≡ None }
@@ -124,10 +122,10 @@ fn stream<'a, R: Source + Drop, W: Sink>(
 {
     let (read, reader) = walk.read_on();
     match read {
-        Ok((header, findings)) => {
+        Ok((header, questions)) => {
             let _header = header;
-            let _found = findings.found();
-            (print_streamed(run, &findings, files), reader)
+            let _found = questions.found();
+            (print_streamed(run, &questions, files), reader)
         }
         Err(fault) => (Err(RunFault::whole(krl_name, cause_of(fault))), reader),
     }
@@ -136,23 +134,23 @@ fn stream<'a, R: Source + Drop, W: Sink>(
 // Prints the answer for each key of the files. Few entries of the list were stored for that.
 fn print_streamed<'a, W: Sink>(
     run: &mut Run<W>,
-    findings: &Findings<Held>,
+    questions: &Questions<Held>,
     files: &'a [Named<'a>],
 ) -> Result<(), RunFault<'a>>
-    requires asked { AllExpected (Asks findings.now.topics) files.now }
-    requires few { IsFewFor (files_size files.now) findings.now.found }
+    requires asked { AllExpected (Asks questions.now.topics) files.now }
+    requires few { IsFewFor (files_size files.now) questions.now.found }
     ensures { (answering : AnsweringOf)
-        → AnswersAbout (Asks findings.now.topics) findings.now.found answering
+        → AnswersAbout (Asks questions.now.topics) questions.now.found answering
         → Carries (files_items answering files.now) result run.old.printer run.new.printer }
 {
-    print_files(run, &Query::Streamed(findings), files)
+    print_files(run, &Query::Streamed(questions), files)
 }
 
 // Streams the rest of a list without queries, because an allocation failed.
 fn stream_unasked<'a, R: Source + Drop, W: Sink>(
     run: &mut Run<W>,
     krl_name: &'a str,
-    walk: Walk<Findings<Held>, R>,
+    walk: Walk<Questions<Held>, R>,
 ) -> (Result<(), RunFault<'a>>, R)
     requires { walk.fault ≡ None }
     ensures { (files : List NamedOf) (before : Option (List ℕ)) → HasReadOf before walk

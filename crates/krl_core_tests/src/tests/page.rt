@@ -3,8 +3,8 @@
 
 use byte_streams::FromRead;
 use krl_authority::authorities_are_keys;
-use krl_core::{Header, Reading, Revocations, read_krl};
-use krl_queries::{Findings, Questions};
+use krl_core::{Header, Revocations, Walk, read_krl};
+use krl_queries::Questions;
 use krl_types::KrlFault;
 use krl_writer::{TextFault, krl_text};
 use span_sets::Held;
@@ -57,13 +57,11 @@ fn a_list_is_asked(rt: HostRuntime) {
 
 /// Whether a list revokes the key or the certificate that is asked about.
 fn is_revoked_in(alloc: Global, list: &[u8], asked: &Subject) -> Result<bool, KrlFault> {
-    let front: Reading<Held, FromRead<&[u8]>> = Reading::new(alloc, FromRead::new(list));
     let mut questions: Questions<Held> = Questions::new(alloc);
-    questions.ask(front.stored_so_far(), asked)?;
-    let findings = Findings::of(alloc, front.stored_so_far(), questions);
-    let (read, _reader) = front.continue_over(alloc, findings).read_on();
-    let (_header, findings) = read?;
-    Ok(findings.answer(asked))
+    questions.ask(asked)?;
+    let (read, _reader) = Walk::over(alloc, questions, FromRead::new(list)).read_on();
+    let (_header, questions) = read?;
+    Ok(questions.answer(asked))
 }
 
 /// Whether a list may be good all the same: its reader failed, or memory ran out.

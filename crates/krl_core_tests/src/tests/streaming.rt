@@ -10,7 +10,7 @@ use byte_streams::{FromBuffer, Source};
 use key_text::{sha1_of, sha256_of};
 use krl_core::{KrlFault, Reading, Store, Walk};
 use krl_entries::{Reason, Reasons};
-use krl_queries::{Findings, Questions};
+use krl_queries::Questions;
 use span_sets::Held;
 use std::alloc::Global;
 use std::io::BufReader;
@@ -87,14 +87,13 @@ fn passes<R: Source + Drop>(
         return Ok((list.query(&subject), list.reasons(&subject)));
     }
     let mut questions: Questions<Held> = Questions::new(alloc);
-    let stored = front.stored_so_far();
-    questions
-        .ask(stored, &subject)
-        .expect(rt, "there is memory");
-    let findings = Findings::of(alloc, stored, questions);
-    let (read, _) = front.continue_over(alloc, findings).read_on();
-    let (_, findings) = read?;
-    Ok((findings.answer(&subject), findings.reasons(&subject)))
+    questions.ask(&subject).expect(rt, "there is memory");
+    let Ok(walk) = front.continue_over(alloc, questions) else {
+        return Err(KrlFault::NoMemory);
+    };
+    let (read, _) = walk.read_on();
+    let (_, questions) = read?;
+    Ok((questions.answer(&subject), questions.reasons(&subject)))
 }
 
 #[test]
@@ -154,12 +153,11 @@ fn pass_on<R: Source + Drop>(rt: &impl Abort, alloc: Global, reader: R, most: u6
     }
     let mut questions: Questions<Held> = Questions::new(alloc);
     let subject = subject_of(rt, alloc, Some((A, 70, b"x")));
-    let stored = front.stored_so_far();
-    questions
-        .ask(stored, &subject)
-        .expect(rt, "there is memory");
-    let findings = Findings::of(alloc, stored, questions);
-    stride_on(front.continue_over(alloc, findings))
+    questions.ask(&subject).expect(rt, "there is memory");
+    match front.continue_over(alloc, questions) {
+        Ok(walk) => stride_on(walk),
+        Err(_) => (Err(KrlFault::NoMemory), 0),
+    }
 }
 
 // A giver of a text's first bytes, a number of them at a call, which fails from a call on or where

@@ -1,5 +1,5 @@
 -- The keys of the files so far are still in the queries, and those of one more file are too.
-use Rattle.krl_runs.proofs.Common.{◌*◌, ◌+◌, ap, arith, file_size, files_size, take}
+use Rattle.krl_runs.proofs.Common.{◌*◌, ◌+◌, ◌∙◌, ap, arith, file_size, files_size, take}
 use Rattle.std.proofs.lemmas.List.Sums.{sum_by_more}
 use Rattle.krl_runs.proofs.Bounds.{asks_then}
 use Rattle.krl_runs.proofs.ExpectedKeys.{files_more}
@@ -13,7 +13,7 @@ loop-file-preserved c =
     let i = c.loop-file.file-index in
     let more = sum_by_more file_size files i c.file-item.result c.loop-file-test.true in
     record {
-      found = asked.found;
+      found = asked.found ∙ c.loop-file.invariant.found;
       orderly = asked.orderly;
       asked = files_more c.loop-file.questions.topics now files i c.file-item.result asked.more c.loop-file.invariant.asked c.loop-file-test.true c.file-item.is asked.asked;
       within = asks_then (3 * files_size (take i files)) (3 * file_size c.file-item.result) (3 * files_size (take (i + 1) files)) _ _ now

@@ -15,7 +15,7 @@ loop-next-preserved-else-not-branch c =
     let before = rw first at c.loop-next.invariant.asked in
     let within = rw first at c.loop-next.invariant.within in
     record {
-      found = asked.found;
+      found = asked.found ∙ c.loop-next.invariant.found;
       orderly = asked.orderly;
       more = λ name h. asked.more name (c.loop-next.invariant.more name h);
       asked = λ later more rest. before later (λ name h. more name (asked.more name h))
@@ -31,7 +31,7 @@ loop-next-preserved c =
     let before = rw first at c.loop-next.invariant.asked in
     let within = rw first at c.loop-next.invariant.within in
     record {
-      found = asked.found;
+      found = asked.found ∙ c.loop-next.invariant.found;
       orderly = asked.orderly;
       more = λ name h. asked.more name (c.loop-next.invariant.more name h);
       asked = λ later more rest. before later (λ name h. more name (asked.more name h))

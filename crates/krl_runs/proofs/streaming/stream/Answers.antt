@@ -8,8 +8,8 @@ use Rattle.krl_runs.proofs.streaming.stream.Goals as goal
 pub returns-in-Ok : goal.returns-in-Ok
 returns-in-Ok g c = λ before begun.
     let read = rw c.in-Ok.is at c.read_on-read.ensures in
-    let topics = c.in-Ok.findings.topics in
-    let found = c.in-Ok.findings.found in
+    let topics = c.in-Ok.questions.topics in
+    let found = c.in-Ok.questions.found in
     let answers = streamed_list before topics found c.in-Ok.header c.found-found.ensures.orderly
     (λ text e. let h = begun text e in read.found text h.0 h.1) (λ text e. let h = begun text e in read.no_fault text h.0 h.1) in (
       Ok answers.0,
@@ -36,5 +36,5 @@ print_streamed-requires-clause-few g c =
     let read = rw c.in-Ok.is at c.read_on-read.ensures in
     let orderly = rw (← read.scope) at c.requires.orderly in
     let within = rw (← read.scope) at c.requires.within in
-    few_found (files_size c.args.files.now) c.in-Ok.findings.topics c.in-Ok.findings.found within
-    (small_within c.in-Ok.findings.topics c.in-Ok.findings.found orderly read.within.within)
+    few_found (files_size c.args.files.now) c.in-Ok.questions.topics c.in-Ok.questions.found within
+    (small_within c.in-Ok.questions.topics c.in-Ok.questions.found orderly read.within.within)

@@ -1,4 +1,4 @@
-use Rattle.krl_core.proofs.Common.{[], ◌∙◌, ap, BitRuns, List, MeansInScope, nothing_within}
+use Rattle.krl_core.proofs.Common.{[], ◌∙◌, ap, BitRuns, List, MeansInScope, nothing_in_scope, nothing_within}
 use Rattle.krl_core.proofs.Common.{option_to_list, Revocations, run_entries, same_is, start, subst}
 use Rattle.krl_core.proofs.Common.{sym, ℕ}
 use Rattle.krl_core.proofs.StoredEntries.{stored_start}
@@ -7,7 +7,7 @@ use Rattle.krl_core.proofs.field_store.FieldStore.new.Goals as goal
 pub returns-clause-stores : goal.returns-clause-stores
 returns-clause-stores g c = record {
   closed = [];
-  means = subst (λ (r : Revocations). MeansInScope (g.T.Store.scope c.leave.new.self) r []) (sym (c.leave.ensures.contents ∙ c.requires.empty)) (nothing_within (g.T.Store.scope c.leave.new.self));
+  means = subst (λ (r : Revocations). MeansInScope (g.T.Store.scope c.leave.new.self) r []) (sym (c.leave.ensures.contents ∙ c.requires)) (nothing_within (g.T.Store.scope c.leave.new.self));
   same = same_is (run_entries c.new-2.result.items (option_to_list c.new-3.result.pending)) []
       (ap (λ (b : BitRuns). run_entries c.new-2.result.items (option_to_list b.pending)) c.new-3.ensures);
 }
@@ -19,4 +19,4 @@ returns-clause-start g c = (
 )
 
 pub returns-clause-within : goal.returns-clause-within
-returns-clause-within g c = rw (c.leave.ensures.scope, c.leave.ensures.contents, c.requires.empty) c.requires.within
+returns-clause-within g c = rw (c.leave.ensures.contents, c.requires) (nothing_in_scope (g.T.Store.scope c.leave.new.self))
