@@ -1,10 +1,11 @@
 -- The outcome of a line, by the result of reading it.
-use Rattle.std.specs.List.{prefix_len, suffix_len}
-use Rattle.std.proofs.Common.{◌≡◌, ℕ, ◌-◌, length, not, Bool, true, false, List, None, Some, Err, Result, is_some, refl, ap, inl, inr}
+use Rattle.std.specs.List.{prefix_len}
+use Rattle.std.proofs.Common.{◌≡◌, ℕ, not, Bool, true, false, List, None, Some, Err, Result, is_some, refl, ap, inl, inr}
 use Rattle.std.proofs.lemmas.Bool.{cases_Bool}
 use Rattle.ssh_wire.specs.Wire.{IsBytes}
-use Rattle.ssh_wire.proofs.Digits.{IsBytes-drop, IsBytes-take}
-use Rattle.key_text.specs.Blanks.{after_blanks, before_ending, is_blank, is_ending, trimmed}
+use Rattle.ssh_wire.proofs.Digits.{IsBytes-drop}
+use Rattle.key_text.proofs.LineWords.{IsBytes-trimmed}
+use Rattle.key_text.specs.Blanks.{is_blank, trimmed}
 use Rattle.key_text.specs.KeyFile.{has_key}
 use Rattle.key_text.specs.LineReading.{KeyLine, after_word, line_at}
 use Rattle.key_text.specs.Marker.{marked_line_at, marker_of, unmarked}
@@ -33,25 +34,13 @@ pub marked_read : (text : List ℕ) (marker : Marker) (read : Result KeyLine Lin
 unfolding outcome_of
 marked_read text marker read has some is = rw (has, some) (ap (line_outcome (Some marker) (front_of (unmarked text))) is)
 
-after_blanks_bytes : (text : List ℕ) → IsBytes text → IsBytes (after_blanks text)
-unfolding after_blanks
-after_blanks_bytes text all = IsBytes-drop (prefix_len is_blank text) text all
-
-before_ending_bytes : (text : List ℕ) → IsBytes text → IsBytes (before_ending text)
-unfolding before_ending
-before_ending_bytes text all = IsBytes-take (length text - suffix_len is_ending text) text all
-
 after_word_bytes : (text : List ℕ) → IsBytes text → IsBytes (after_word text)
 unfolding after_word
 after_word_bytes text all = IsBytes-drop (prefix_len (λ byte. not (is_blank byte)) text) text all
 
-trimmed_bytes : (text : List ℕ) → IsBytes text → IsBytes (trimmed text)
-unfolding trimmed
-trimmed_bytes text all = before_ending_bytes (after_blanks text) (after_blanks_bytes text all)
-
 unmarked_bytes-if : (text : List ℕ) → IsBytes text → (marked : Bool) → is_some (marker_of text) ≡ marked → IsBytes (unmarked text)
 unfolding unmarked
-unmarked_bytes-if text all true is = rw is (after_word_bytes (trimmed text) (trimmed_bytes text all))
+unmarked_bytes-if text all true is = rw is (after_word_bytes (trimmed text) (IsBytes-trimmed text all))
 unmarked_bytes-if text all false is = rw is all
 
 pub unmarked_bytes : (text : List ℕ) → IsBytes text → IsBytes (unmarked text)
