@@ -4,7 +4,7 @@ import os
 
 import lists
 import specs
-from measure import AUDIT, OURS, build_audit, least, own
+from measure import AUDIT, OURS, build_audit, least, least_in_turn, own
 
 FILES, KEYS = 10_000, 34_000
 LIST = 4 << 20
@@ -43,9 +43,13 @@ def auditing():
             for name in names:
                 with open(name) as part:
                     out.write(part.read())
-        printed = least([OURS, "-Q", "-l", "-f", "list.krl"])
-        asked = least([OURS, "-Q", "-f", "list.krl", "all.pub"])
-        audited = least([AUDIT, "audit", "-f", "list.krl", "tree"])
+        printed, asked, audited = least_in_turn(
+            [
+                [OURS, "-Q", "-l", "-f", "list.krl"],
+                [OURS, "-Q", "-f", "list.krl", "all.pub"],
+                [AUDIT, "audit", "-f", "list.krl", "tree"],
+            ]
+        )
         both = printed[0] + asked[0], printed[1]
         ratio("%d files, %d keys, 4 MiB of %s" % (FILES, KEYS, shape), audited, both)
         print(

@@ -84,6 +84,13 @@ def least(words, prepare=lambda: None, statuses=(0, 1)):
     return min([first] + others)
 
 
+def least_in_turn(commands, rounds=7):
+    """The least of each command. They are run in turn, so that a slow moment of the machine slows
+    all of them."""
+    taken = [[measure(words) for words in commands] for _ in range(rounds)]
+    return [min(runs) for runs in zip(*taken)]
+
+
 def over(other, ours):
     """The columns of a program beside ours."""
     if other is None:
