@@ -17,8 +17,9 @@ use std::alloc::{AllocError, Global};
 use std::collections::BTreeSet;
 use std::marker::Model;
 
-/// Questions about a list, and what its entries have named of them so far. Contracts see the topics,
-/// which are keys, and serial numbers and key IDs under authorities, and what was found of them.
+/// Questions about a list, and what its entries have named of them so far. Contracts see the
+/// topics, which are keys, and serial numbers and key IDs under authorities, and what was found of
+/// them.
 #[derive(Drop)]
 pub struct Questions<S: Spans> {
     pub(crate) topics: Revocations<S>,

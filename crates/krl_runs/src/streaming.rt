@@ -69,8 +69,8 @@ fn front_size(files: &[Named<'_>]) -> u64
     size.min(FRONT)
 }
 
-// Queries for the keys of the files, and streams the rest of the list. If an allocation fails before
-// all queries are stored, the list is streamed all the same: its fault is reported first.
+// Queries for the keys of the files, and streams the rest of the list. If an allocation fails
+// before all queries are stored, the list is streamed all the same: its fault is reported first.
 fn ask_rest<'a, R: Source + Drop, W: Sink>(
     run: &mut Run<W>,
     krl_name: &'a str,

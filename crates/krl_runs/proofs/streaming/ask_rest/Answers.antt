@@ -1,4 +1,4 @@
--- What was read of the front stays read, or an allocation failed.
+-- The new walk has read the same fields of the list, or an allocation failed.
 use Rattle.krl_runs.proofs.QueryRuns.{ran_out_run}
 use Rattle.krl_runs.proofs.streaming.ask_rest.Goals as goal
 

@@ -1,4 +1,4 @@
--- What is left of the bytes continues all of them.
+-- The names so far, and those of the bytes that are left, are the names of all bytes.
 use Rattle.std.proofs.Common.{ℕ, ◌++◌, List, drop}
 use Rattle.krl.specs.Listing.{Continues}
 use Rattle.krl.proofs.rounds.Rounds.take_names.Given as goal
