@@ -40,17 +40,19 @@ pub left_at : (list : List ℕ) (header : Header) (sections : List SpelledSectio
     → (36 ≤ length list) × (reserved comment : List ℕ) × (take (length list - 36) (drop 36 list) ≡ string reserved ++ (string comment ++ spells.body))
     × (length reserved < 2 ^ 32) × (length comment < 2 ^ 32)
 left_at list header sections spells =
-    let format = spells.fields in
+    let magic = spells.fields in
+    let format = magic.4 in
     let version = format.4 in
     let date = version.4 in
     let flags = date.4 in
     let reserved = flags.4 in
     let comment = reserved.4 in
-    let one = number_dropped 4 8 list spells.after format.0 format.1 (ap (drop 8) spells.spelled) format.2 in
+    let none = number_dropped 8 0 list list magic.0 magic.1 refl magic.2 in
+    let one = number_dropped 4 8 list magic.1 format.0 format.1 none.0 format.2 in
     let two = number_dropped 8 12 list format.1 version.0 version.1 one.0 version.2 in
     let three = number_dropped 8 20 list version.1 date.0 date.1 two.0 date.2 in
     let four = number_dropped 8 28 list date.1 flags.0 flags.1 three.0 flags.2 in
-    let long : length list ≡ 36 + length flags.1 = omega (arith, ap length spells.spelled, one.1, two.1, three.1, four.1) in
+    let long : length list ≡ 36 + length flags.1 = omega (arith, none.1, one.1, two.1, three.1, four.1) in
     let left = reserved.2.spelled ∙ ap (λ (x : List ℕ). string reserved.0 ++ x) (comment.2.spelled ∙ ap (λ (x : List ℕ). string comment.0 ++ x) comment.4.1) in
     let taken = ap (take (length list - 36)) four.0 ∙ take_all (length list - 36) flags.1 (omega (arith, long)) in
     (omega (arith, long), reserved.0, comment.0, taken ∙ left, reserved.2.is_part, comment.2.is_part)

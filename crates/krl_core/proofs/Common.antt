@@ -18,13 +18,15 @@ pub use Rattle.krl_core.specs.FieldStore.{Adds, AddsEntries, ChangesOnlyEntries,
 pub use Rattle.krl_core.specs.FieldStore.{Gains, GrowsAtMost, held_with_open, InStep, open_run, Skips}
 pub use Rattle.krl_core.specs.FieldStore.{stored_header, stored_header_after, StoresAtMost}
 pub use Rattle.krl_core.specs.FieldStore.{StoresBits, StoresEntries, StoresField, StoresNoMore}
+pub use Rattle.krl_core.specs.Field.{empty_header, fields_after, fields_from, header_from}
+pub use Rattle.krl_core.specs.Field.{header_with, row_of, steps_of}
 pub use Rattle.krl_core.specs.Front.{ended, ends_early, HasRoom, IsEnd, IsFirstFault, IsFront}
 pub use Rattle.krl_core.specs.Front.{IsLongestFront, Leads, limit, no_room, Passes, refused}
 pub use Rattle.krl_core.specs.Front.{Reported, start, State, state_after, too_long}
 pub use Rattle.krl_core.specs.Krl.{authority_fields, extension_fields, header_fields, header_of}
 pub use Rattle.krl_core.specs.Krl.{signature_fields}
 pub use Rattle.krl_core.specs.Krl.{Bitmap, Certificates, Extension, Ids, IsPositive}
-pub use Rattle.krl_core.specs.Krl.{IsSignature, Keys, magic, numbers_text, Range, Serials, Sha1s}
+pub use Rattle.krl_core.specs.Krl.{IsSignature, Keys, numbers_text, Range, Serials, Sha1s}
 pub use Rattle.krl_core.specs.Krl.{Sha256s, Signature, SignaturesLast, SpelledSection, Spells}
 pub use Rattle.krl_core.specs.Krl.{SpellsBitmap, SpellsCertificates, SpellsContent, SpellsEach}
 pub use Rattle.krl_core.specs.Krl.{SpellsSection, SpellsSubsection, Subsection}
@@ -41,6 +43,8 @@ pub use Rattle.krl_core.specs.Reading.{IsWithinLimit, Leaps, LooksFor, Missed, O
 pub use Rattle.krl_core.specs.Reading.{ReadsMore, ReadsOneMore, Refused, Says, Walk, working}
 pub use Rattle.krl_core.specs.declared.header.Header.{Header}
 pub use Rattle.krl_core.specs.declared.place.Place.{Place}
+pub use Rattle.krl_core.specs.declared.place.field.Field.{Field}
+pub use Rattle.krl_core.specs.declared.place.field.Table.{Table}
 pub use Rattle.krl_core.specs.declared.place.list.ItemKind.{ItemKind}
 pub use Rattle.krl_entries.proofs.Elements.{all_append, contains_cases, contains_none}
 pub use Rattle.krl_entries.proofs.Equivalences.{contains_one, iff_both, iff_none, iff_or, iff_swap}

@@ -69,10 +69,10 @@ continued_bounded pull old new b narrower within =
 
 -- the first fields name nothing
 fixed_names : (p : Place) (a field : List ℕ) → is_fixed p ≡ true → names p a field ≡ []
-fixed_names (places.Header at) a field first = refl
+fixed_names (places.Field f left after) a field first = refl
 fixed_names _ a field first = absurd cc
 
--- some of the fields lead past the first ones
+-- Some of these fields include all first fields of a list.
 record LeadsPast (from : State) (fields : List (List ℕ)) : Type 0 where
   front : List (List ℕ)
   more : List (List ℕ)

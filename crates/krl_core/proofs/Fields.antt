@@ -1,37 +1,37 @@
 -- The expected field, in front of the spelling after it.
 use Rattle.krl_core.proofs.Common.{[], ◌%◌, ◌++◌, ◌-◌, ◌<◌, ◌==◌, ◌∙◌, ◌∷◌, ◌≡◌, ◌≤◌, ap}
 use Rattle.krl_core.proofs.Common.{append-nil, append_assoc, arith, authority_after, base_of}
-use Rattle.krl_core.proofs.Common.{Bitmap, BitmapEntry, Bool, bytes_eq, can_end, concat, Entry}
-use Rattle.krl_core.proofs.Common.{eq-eqb, eqb, eqb-true, extension_fields, false, fault_unless}
+use Rattle.krl_core.proofs.Common.{Bitmap, BitmapEntry, Bool, can_end, concat, Entry}
+use Rattle.krl_core.proofs.Common.{eq-eqb, eqb, eqb-true, extension_fields, false}
 use Rattle.krl_core.proofs.Common.{flat_map, get_or, Header, header_after, IdEntry, Ids, IsBytes}
 use Rattle.krl_core.proofs.Common.{IsBytes-back, IsBytes-front, item_entry, item_size, Keys, Leads}
 use Rattle.krl_core.proofs.Common.{leads_front, leb, leb-true, length, length-append, length-number}
-use Rattle.krl_core.proofs.Common.{length-string, List, ltb, ltb-true, magic, map, names, next_bits}
-use Rattle.krl_core.proofs.Common.{number, number_back4, number_back8, number_of, Ok, one_byte}
+use Rattle.krl_core.proofs.Common.{length-string, List, ltb, ltb-true, map, names, next_bits}
+use Rattle.krl_core.proofs.Common.{number, number_back8, number_of, Ok, one_byte}
 use Rattle.krl_core.proofs.Common.{passed_ok, Passes, passes_end, Place, Range, RangeEntry, refl}
 use Rattle.krl_core.proofs.Common.{same_append, same_is, same_refl, same_then, section_of_type}
 use Rattle.krl_core.proofs.Common.{Serials, SerialsEntry, Sha1s, Sha256s, State, state_after}
 use Rattle.krl_core.proofs.Common.{string, strings, subsection_of_type, SubsectionExtension, subst}
 use Rattle.krl_core.proofs.Common.{sym, true, ℕ}
-use Rattle.std.proofs.lemmas.Slice.Eq.{bytes_eq-Decides}
 use Rattle.krl_core.proofs.Bits.{judged_parts}
-use Rattle.krl_core.proofs.SpelledSections.{begins_number, certificates_section, content_front}
+use Rattle.krl_core.proofs.SpelledSections.{certificates_section, content_front}
 use Rattle.krl_core.proofs.SpelledSections.{extension_section, fits_within, item_front, items_from}
-use Rattle.krl_core.proofs.SpelledSections.{items_section, length_front, number_back1, number_front}
-use Rattle.krl_core.proofs.SpelledSections.{row_in, row_more, row_none, serial_more}
+use Rattle.krl_core.proofs.SpelledSections.{items_section, length_front, number_front}
+use Rattle.krl_core.proofs.SpelledSections.{row_none, serial_more}
 use Rattle.krl_core.proofs.SpelledSections.{serials_from, signature_section, string_more}
-use Rattle.krl_core.proofs.SpelledSections.{string_parts, subsections_from, text_in, text_row}
+use Rattle.krl_core.proofs.SpelledSections.{string_parts, subsections_from, text_in}
 use Rattle.krl_core.proofs.SpelledSubsections.{bits_from, bits_more, part_front, serials_same}
 use Rattle.krl_core.proofs.SpelledSubsections.{subsections_more}
-use Rattle.krl_core.proofs.RestSpellings.{Completes, FromBits, FromContent, FromExtension, FromItem}
+use Rattle.krl_core.proofs.RestSpellings.{Completes, FromBits, FromItem}
 use Rattle.krl_core.proofs.RestSpellings.{FromPart, FromSections, FromSubsections, Items}
 use Rattle.krl_core.proofs.Judgements.{done, each_type, same_place}
-use Rattle.krl_core.specs.Place.{last_types, section_types, subsection_types}
+use Rattle.krl_core.proofs.TableRows.{rest_of_table, row_front}
+use Rattle.ssh_wire.specs.Rows.{Part}
+use Rattle.krl_core.specs.Place.{header_with_text, last_types, place_after, section_types}
+use Rattle.krl_core.specs.Place.{subsection_types}
 use Rattle.krl_types.specs.declared.krl_fault.KrlFault.TheVariants as faults
 use Rattle.krl_core.specs.declared.place.list.ItemKind.TheVariants as kinds
 use Rattle.krl_core.specs.declared.place.Place.TheVariants as places
-use Rattle.krl_core.specs.declared.place.header.HeaderPlace.TheVariants as headers
-use Rattle.krl_core.specs.declared.place.signature.SignaturePlace.TheVariants as signatures
 use Rattle.krl_core.specs.declared.place.list.ListPlace.TheVariants as lists
 use Rattle.krl_core.specs.declared.place.certificates.CertificatesPlace.TheVariants as certificates
 use Rattle.krl_core.specs.declared.place.serials.SerialsPlace.TheVariants as serials
@@ -50,7 +50,7 @@ section_front last h false q n tail more =
     let sha256s = items_section (last ≡ h) kinds.Sha256 5 Sha256s tail more (λ items good fits. record { content = strings items; spelled = refl; fits = fits; content_is = (refl, good) })
     (λ items. refl) (λ items others last. last) in
     each_type (λ n q. Completes last h [] q tail more → FromSections false (last ≡ h) (n ∷ tail) more) faults.UnknownSection section_types n q
-    (certificates_section (last ≡ h) tail more, (keys, (sha1s, (signature_section (last ≡ h) false tail more, (sha256s, (extension_section (last ≡ h) tail more, tt))))))
+    (certificates_section (last ≡ h) tail more, (keys, (sha1s, (signature_section (last ≡ h) false tail more, (sha256s, (extension_section last h tail more, tt))))))
 
 subsection_front : (last h : Header) (a : List ℕ) (left : ℕ) (q : Place) (n : ℕ) (tail : List ℕ) (more : List Entry) → 1 ≤ left → subsection_of_type (left - 1) n ≡ Ok q
     → Completes last h a q tail more → FromSubsections (last ≡ h) a left (n ∷ tail) more
@@ -62,25 +62,12 @@ subsection_front last h a left q n tail more room e k =
 pub field_front : (last h : Header) (a : List ℕ) (p q : Place) (field tail : List ℕ) (more : List Entry) → IsBytes field → Passes p field q
     → ((next : Place) → done next ≡ done q → Completes last (header_after p h field) (authority_after p a field) next tail more)
     → Completes last h a p (field ++ tail) (names p a field ++ more)
-field_front last h a (places.Header headers.Magic) q field tail more fits pass k =
-    let w = passed_ok (bytes_eq field magic) faults.Magic _ q pass.judged in
-    (tail, ap (λ (x : List ℕ). x ++ tail) ((bytes_eq-Decides field magic).0 w.0), k _ (ap done w.1))
-field_front last h a (places.Header headers.FormatVersion) q field tail more fits pass k =
-    let w = passed_ok (eqb (number_of field) 1) faults.FormatVersion _ q pass.judged in
-    row_more (begins_number field tail (number_back4 field pass.whole fits)) (λ before. ap (fault_unless faults.FormatVersion) w.0) (k _ (ap done w.1))
-field_front last h a (places.Header headers.Version) q field tail more fits pass k = row_more (begins_number field tail (number_back8 field pass.whole fits)) (λ before. refl) (k _ pass.judged)
-field_front last h a (places.Header headers.Date) q field tail more fits pass k = row_more (begins_number field tail (number_back8 field pass.whole fits)) (λ before. refl) (k _ pass.judged)
-field_front last h a (places.Header headers.Flags) q field tail more fits pass k = row_more (begins_number field tail (number_back8 field pass.whole fits)) (λ before. refl) (k _ pass.judged)
-field_front last h a (places.Header headers.ReservedLength) q field tail more fits pass k = text_row field tail fits pass.whole (k _ pass.judged)
-field_front last h a (places.Header (headers.Reserved n)) q field tail more fits pass k = content_front field tail pass.whole (k _ pass.judged)
-field_front last h a (places.Header headers.CommentLength) q field tail more fits pass k = text_row field tail fits pass.whole (k _ pass.judged)
-field_front last h a (places.Header (headers.Comment n)) q field tail more fits pass k = content_front field tail pass.whole (row_none (k _ pass.judged))
+field_front last h a (places.Field f left after) q field tail more fits pass k = row_front last h a f left after q field tail more fits pass.room pass.whole pass.judged k
+field_front last h a (places.Content f size left after) q field tail more fits pass k = content_front field tail pass.whole
+    (λ is. rest_of_table f last h a field tail more left after
+    (subst (λ (x : Header). Completes last x a (place_after f left after) tail more) (ap (λ (part : Part). header_with_text part f field h) is) (k _ pass.judged)))
 field_front last h a (places.SectionType signed) q field tail more fits pass k =
     subst (λ (x : List ℕ). FromSections signed (last ≡ h) (x ++ tail) more) (sym (one_byte field pass.whole)) (section_front last h signed q (number_of field) tail more pass.judged (k q refl))
-field_front last h a (places.Signature signatures.KeyLength) q field tail more fits pass k = text_row field tail fits pass.whole (k _ pass.judged)
-field_front last h a (places.Signature (signatures.Key n)) q field tail more fits pass k = content_front field tail pass.whole (k _ pass.judged)
-field_front last h a (places.Signature signatures.SignatureLength) q field tail more fits pass k = text_row field tail fits pass.whole (k _ pass.judged)
-field_front last h a (places.Signature (signatures.Signature n)) q field tail more fits pass k = content_front field tail pass.whole (row_none (k _ pass.judged))
 field_front last h a (places.List (lists.SectionLength kind)) q field tail more fits pass k =
     length_front field tail fits pass.whole (items_from kind (number_of field) (k _ pass.judged))
 field_front last h a (places.List (lists.IdsLength left)) q field tail more fits pass k =
@@ -183,22 +170,6 @@ field_front last h a (places.Extension (extensions.SubsectionLength left)) q fie
     let front = leads_front extension_fields [] tail x.values x.rest (x.leads []) in
     let size : length front.0 ≡ number_of field = omega (arith, x.then_is.1, x.then_is.2.0, ap length front.1, length-append front.0 x.rest) in
     part_front SubsectionExtension field tail front.0 fits pass.whole pass.room w.0 refl front.1 size (x.values, front.2) (same_refl more) x.then_is.2.1
-field_front last h a (places.Extension (extensions.NameLength left after)) q field tail more fits pass k =
-    let w = fits_within left (number_of field) _ q pass.judged in
-    let room : 4 ≤ left = pass.room in
-    text_in left (left - 4 - number_of field) field tail fits pass.whole (k _ w.1) (omega (arith, w.0, room))
-field_front last h a (places.Extension (extensions.Name n left after)) q field tail more fits pass k = content_front field tail pass.whole (k _ pass.judged)
-field_front last h a (places.Extension (extensions.Critical left after)) q field tail more fits pass k =
-    let w = passed_ok (eqb (number_of field) 0) faults.CriticalExtension _ q pass.judged in
-    let room : 1 ≤ left = pass.room in
-    row_in left (left - 1) (begins_number field tail (number_back1 field pass.whole fits)) (λ before. ap (fault_unless faults.CriticalExtension) w.0) (k _ (ap done w.1)) (omega (arith, room, pass.whole, length-append field tail))
-field_front last h a (places.Extension (extensions.ContentsLength left after)) q field tail more fits pass k =
-    let w = passed_ok (eqb (number_of field) (left - 4)) faults.Length _ q pass.judged in
-    let all = eqb-true (number_of field) (left - 4) w.0 in
-    let room : 4 ≤ left = pass.room in
-    let contents = λ (n : ℕ). FromContent n (λ c. FromExtension ([] ∷ [] ∷ c ∷ []) 0 (FromSubsections (last ≡ h) a after)) tail more in
-    text_in left 0 field tail fits pass.whole (subst contents (sym all) (k _ (ap done w.1))) (omega (arith, all, room))
-field_front last h a (places.Extension (extensions.Contents n after)) q field tail more fits pass k = content_front field tail pass.whole (row_none (0, omega arith, (refl, subsections_from after (k _ pass.judged))))
 
 -- ---- a row of fields
 

@@ -17,9 +17,11 @@ pub mod Bitmaps
 pub mod RestSpellings
 pub mod SpelledSections
 pub mod SpelledSubsections
+pub mod TableRows
 pub mod Fields
 pub mod Lists
 pub mod PlaceRows
+pub mod TableWalks
 pub mod SpelledFields
 pub mod SpelledLists
 pub mod TruncatedLists

@@ -1,6 +1,6 @@
 -- A whole list is spelled, and means the entries of its sections.
 use Rattle.krl_core.proofs.Common.{[], ◌++◌, ◌∙◌, ◌≡◌, ◌≤◌, ap, append-nil, Bool, can_end, concat}
-use Rattle.krl_core.proofs.Common.{ended, ends_early, entries_of, Entry, false, Header, HoldsAll}
+use Rattle.krl_core.proofs.Common.{empty_header, ended, ends_early, entries_of, Entry, false, Header, HoldsAll}
 use Rattle.krl_core.proofs.Common.{HoldsInScope, IsBytes, IsEnd, IsFirstFault, IsList, IsListAs}
 use Rattle.krl_core.proofs.Common.{IsWholeAs, KrlFault, Leads, length, limit, List, ltb, ltb-false}
 use Rattle.krl_core.proofs.Common.{means_all_within, NamesSame, no_room, None, Option, Place}
@@ -8,7 +8,8 @@ use Rattle.krl_core.proofs.Common.{refl, refused, Reported, Revocations, same_wi
 use Rattle.krl_core.proofs.Common.{SpelledSection, Spells, start, State, subst, sym, take_all}
 use Rattle.krl_core.proofs.Common.{too_long, true, ℕ}
 use Rattle.krl_core.proofs.Fields.{completes}
-use Rattle.krl_core.proofs.RestSpellings.{FromMagic}
+use Rattle.krl_core.proofs.RestSpellings.{FromField}
+use Rattle.krl_core.specs.declared.place.field.Field.TheVariants as fields
 use Rattle.krl_entries.specs.Scope.{all as every_name}
 
 -- a header and sections spell the text, and the sections name the same as the entries
@@ -17,12 +18,12 @@ pub record SpelledBy (text : List ℕ) (header : Header) (entries : List Entry) 
   pub spelled : Spells text header sections
   pub named : NamesSame entries (entries_of sections)
 
-spelled_from : (text : List ℕ) (last : Header) (more : List Entry) → FromMagic last text more → SpelledBy text last more
-spelled_from text last more (after, spelled, h) =
+spelled_from : (text : List ℕ) (last : Header) (more : List Entry) → FromField last empty_header [] fields.Magic 0 0 text more → SpelledBy text last more
+spelled_from text last more h =
     let k = h.then_is in
     record {
       sections = k.sections;
-      spelled = record { values = h.values; after = after; body = h.rest; spelled = spelled; fields = h.leads []; header_is = sym k.known; sections_are = k.spelled; signatures_last = k.last };
+      spelled = record { values = h.values; body = h.rest; fields = h.leads []; header_is = sym k.known; sections_are = k.spelled; signatures_last = k.last };
       named = k.named;
     }
 

@@ -1,12 +1,13 @@
 -- From each place and for any bytes, the fields lead to a place where something is reported.
 use Rattle.krl_core.proofs.Common.{[], ◌*◌, ◌++◌, ◌+◌, ◌<◌, ◌∙◌, ◌∷◌, ◌≡◌, ◌≤◌, ◌⊎◌, ap, arith}
 use Rattle.krl_core.proofs.Common.{Bool, can_end, cases_Bool, cases_lt, drop, ended, ends_early}
-use Rattle.krl_core.proofs.Common.{expected, false, false≢true, HasRoom, IfSome, inl, inr}
+use Rattle.krl_core.proofs.Common.{expected, false, Field, false≢true, HasRoom, IfSome, inl, inr}
 use Rattle.krl_core.proofs.Common.{IsFirstFault, ItemKind, KrlFault, length, length-drop}
 use Rattle.krl_core.proofs.Common.{length-take, limit, List, ltb, next_item, next_subsection}
 use Rattle.krl_core.proofs.Common.{no_room, None, Ok, ok_or_not, Option, Place, refl, refused}
 use Rattle.krl_core.proofs.Common.{Reported, Some, start, suc, sym, take}
 use Rattle.krl_core.proofs.Common.{take-append-drop, too_long, true, zero, ℕ}
+use Rattle.krl_core.specs.Place.{place_after}
 use Rattle.krl_core.proofs.Fronts.{first_fault_is}
 use Rattle.krl_core.proofs.PlaceRows.{Goes, goes_from, goes_none, goes_one, goes_then, reported_at}
 use Rattle.krl_core.proofs.Judgements.{done, same_place}
@@ -14,10 +15,9 @@ use Rattle.krl_types.specs.declared.krl_fault.KrlFault.TheVariants as faults
 use Rattle.krl_core.specs.declared.place.Place.TheVariants as places
 use Rattle.krl_core.specs.declared.place.bitmap.BitmapPlace.TheVariants as bitmaps
 use Rattle.krl_core.specs.declared.place.serials.SerialsPlace.TheVariants as serials
-use Rattle.krl_core.specs.declared.place.header.HeaderPlace.TheVariants as headers
-use Rattle.krl_core.specs.declared.place.signature.SignaturePlace.TheVariants as signatures
 use Rattle.krl_core.specs.declared.place.list.ListPlace.TheVariants as lists
 use Rattle.krl_core.specs.declared.place.certificates.CertificatesPlace.TheVariants as certificates
+use Rattle.krl_core.specs.declared.place.field.Field.TheVariants as fields
 use Rattle.krl_core.specs.declared.place.extension.ExtensionPlace.TheVariants as extensions
 
 room_or_not : (size : ℕ) (room : Option ℕ) → IfSome room (λ left. size ≤ left) ⊎ (IfSome room (λ left. size ≤ left) → ⊥)
@@ -40,23 +40,16 @@ short_reported p rest false room short = elim (end_or_early p rest room short) [
 
 -- after a field that may be empty comes one that is not
 abbrev pub weight : Place → ℕ
-weight (places.Header (headers.Reserved n)) = 1
-weight (places.Header (headers.Comment n)) = 1
-weight (places.Signature (signatures.Key n)) = 1
-weight (places.Signature (signatures.Signature n)) = 1
+weight (places.Content field n m k) = 1
 weight (places.Certificates (certificates.Authority n m)) = 1
 weight (places.Certificates (certificates.Reserved n m)) = 1
 weight (places.List (lists.Item kind n m k)) = 1
-weight (places.Extension (extensions.Name n m k)) = 1
-weight (places.Extension (extensions.Contents n m)) = 1
 weight _ = 0
 
 pub weight_below : (p : Place) → weight p < 2
-weight_below (places.Header (headers.Reserved n)) = omega arith
-weight_below (places.Signature (signatures.Key n)) = omega arith
+weight_below (places.Content field n m k) = omega arith
 weight_below (places.Certificates (certificates.Authority n m)) = omega arith
 weight_below (places.List (lists.Item kind n m k)) = omega arith
-weight_below (places.Extension (extensions.Name n m k)) = omega arith
 weight_below _ = omega arith
 
 weight-next_subsection : (left : ℕ) → weight (next_subsection left) ≡ 0
@@ -67,20 +60,26 @@ weight-next_item : (kind : ItemKind) (left after : ℕ) → weight (next_item ki
 weight-next_item kind zero after = weight-next_subsection after
 weight-next_item kind (suc left) after = refl
 
+weight-place_after : (field : Field) (left after : ℕ) → weight (place_after field left after) ≡ 0
+weight-place_after fields.ExtensionContents left after = weight-next_subsection after
+weight-place_after _ left after = refl
+
+-- a number, or the length of a string, is not empty
+field_size : (field : Field) (left after : ℕ) → 1 ≤ (expected (places.Field field left after)).size
+field_size fields.FormatVersion left after = omega arith
+field_size _ left after = omega arith
+
 same_weight : {p q : Place} → done p ≡ done q → weight p ≡ weight q
 same_weight {p} {q} e = ap weight (same_place p q e)
 
 -- each field brings the end nearer
 pub nearer : (p q : Place) (field : List ℕ) → (expected p).judged field ≡ Ok q → weight q < 2 * (expected p).size + weight p
-nearer (places.Header (headers.Reserved n)) q field e = omega (arith, same_weight e)
-nearer (places.Header (headers.Comment n)) q field e = omega (arith, same_weight e)
-nearer (places.Signature (signatures.Key n)) q field e = omega (arith, same_weight e)
-nearer (places.Signature (signatures.Signature n)) q field e = omega (arith, same_weight e)
+nearer (places.Field f left after) q field e = omega (arith, field_size f left after, weight_below q)
+nearer (places.Content f n left after) q field e = omega (arith, same_weight e, weight-place_after f left after)
 nearer (places.Certificates (certificates.Authority n m)) q field e = omega (arith, same_weight e)
 nearer (places.Certificates (certificates.Reserved n m)) q field e = omega (arith, same_weight e, weight-next_subsection m)
 nearer (places.List (lists.Item kind n m k)) q field e = omega (arith, same_weight e, weight-next_item kind m k)
-nearer (places.Extension (extensions.Name n m k)) q field e = omega (arith, same_weight e)
-nearer (places.Extension (extensions.Contents n m)) q field e = omega (arith, same_weight e, weight-next_subsection m)
+nearer (places.Extension extensions.SectionLength) q field e = omega (arith, weight_below q)
 nearer (places.Serials (serials.Serial n m)) q field e = omega (arith, weight_below q)
 nearer (places.Bitmap (bitmaps.Offset n m)) q field e = omega (arith, weight_below q)
 nearer _ q field e = omega (arith, weight_below q)

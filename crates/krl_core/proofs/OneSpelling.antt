@@ -4,7 +4,7 @@ use Rattle.krl_core.proofs.Common.{append-nil, append_assoc, append_cancel_left,
 use Rattle.krl_core.proofs.Common.{authority_fields, Bitmap, Certificates, Extension, Header}
 use Rattle.krl_core.proofs.Common.{header_fields, header_of, Ids, Keys, KrlFault, leads_more}
 use Rattle.krl_core.proofs.Common.{LeadsRow, length, length-append, length-number, length-numbers}
-use Rattle.krl_core.proofs.Common.{length-string, List, magic, number, number_again4, number_again8}
+use Rattle.krl_core.proofs.Common.{length-string, List, number, number_again4, number_again8}
 use Rattle.krl_core.proofs.Common.{number_of, numbers_text, ok_is, Range, refl, Serials, Sha1s}
 use Rattle.krl_core.proofs.Common.{Sha256s, Signature, signature_fields, slice_index_or}
 use Rattle.krl_core.proofs.Common.{SpelledSection, Spells, SpellsBitmap, SpellsCertificates}
@@ -194,6 +194,5 @@ some_section x text h = omega (arith, ap length (section_head x text h).1)
 
 pub spelled_once : (text : List ℕ) (header header' : Header) (sections sections' : List SpelledSection) → Spells text header sections → Spells text header' sections' → (header ≡ header') × (sections ≡ sections')
 spelled_once text header header' sections sections' h k =
-    let same = append_cancel_left magic h.after k.after (sym h.spelled ∙ k.spelled) in
-    let row = one_row header_fields h.after h.values k.values h.body k.body h.fields (subst (λ (bytes : List ℕ). LeadsRow header_fields [] bytes k.values k.body) (sym same) k.fields) in
+    let row = one_row header_fields text h.values k.values h.body k.body h.fields k.fields in
     (sym h.header_is ∙ ap header_of row.0 ∙ k.header_is, same_each SpellsSection one_section some_section h.body k.body sections sections' row.1 h.sections_are k.sections_are)

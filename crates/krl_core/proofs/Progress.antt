@@ -1,13 +1,11 @@
 -- Progress: each step takes one field or several.
 use Rattle.krl_core.proofs.Common.{[], ◌*◌, ◌+◌, ◌-◌, ◌<◌, ◌∷◌, ◌≡◌, Advances, arith, Bool, Err}
-use Rattle.krl_core.proofs.Common.{false, Follows, IfOk, inl, inr, is_fixed, IsTrue, KrlFault}
-use Rattle.krl_core.proofs.Common.{limit, Ok, Place, ReadsMore, ReadsOneMore, refl, Result, Walk}
+use Rattle.krl_core.proofs.Common.{false, Follows, IfOk, inl, inr, IsTrue, KrlFault}
+use Rattle.krl_core.proofs.Common.{limit, Ok, ReadsMore, ReadsOneMore, refl, Result, Walk}
 use Rattle.krl_core.proofs.Common.{None, Option, Some}
 use Rattle.std.specs.Prelude.{is_some}
-use Rattle.krl_core.specs.declared.place.header.HeaderPlace.{HeaderPlace}
 use Rattle.krl_core.proofs.LongestFronts.{weight, weight_below}
 use Rattle.krl_core.proofs.WholeLists.{step_nearer}
-use Rattle.krl_core.specs.declared.place.Place.TheVariants as places
 
 pub one_or_more : (old new : Walk) → ReadsOneMore old new → ReadsMore old new
 one_or_more old new one text fields h = let more = one text fields h in (more.0 ∷ [], more.1)
@@ -31,14 +29,3 @@ advances_of (Err fault) old new h = h
 pub none_there : (fault : Option KrlFault) → is_some fault ≡ false → fault ≡ None
 none_there None e = refl
 none_there (Some fault) e = absurd (cc)
-
--- an allocation can fail after the header
-pub late_past_header : (p : Place) → ((at : HeaderPlace) → p ≡ places.Header at → ⊥) → is_fixed p ≡ false
-late_past_header (places.Header at) past = absurd (past at refl)
-late_past_header (places.SectionType signed) past = refl
-late_past_header (places.Signature at) past = refl
-late_past_header (places.List at) past = refl
-late_past_header (places.Certificates at) past = refl
-late_past_header (places.Serials at) past = refl
-late_past_header (places.Bitmap at) past = refl
-late_past_header (places.Extension at) past = refl

@@ -2,17 +2,18 @@
 -- list and uses up the bytes, and its entries.
 use Rattle.krl_core.proofs.Common.{[], ◌*◌, ◌++◌, ◌+◌, ◌-◌, ◌<◌, ◌^◌, ◌∷◌, ◌≡◌, ◌≤◌, AllByRecursion}
 use Rattle.krl_core.proofs.Common.{authority_fields, bit_at, BitmapEntry, Bool, drop, entries_of}
-use Rattle.krl_core.proofs.Common.{Entry, extension_fields, false, flat_map, Header, header_fields}
-use Rattle.krl_core.proofs.Common.{header_of, IsPositive, IsSignature, item_entry, item_size}
-use Rattle.krl_core.proofs.Common.{ItemKind, KrlFault, LeadsRow, length, List, magic, map}
+use Rattle.krl_core.proofs.Common.{Entry, Field, fields_after, false, flat_map, Header, header_from}
+use Rattle.krl_core.proofs.Common.{header_with, IsPositive, IsSignature, item_entry, item_size}
+use Rattle.krl_core.proofs.Common.{ItemKind, KrlFault, LeadsRow, length, List, map}
 use Rattle.krl_core.proofs.Common.{NamesSame, number, number_of, Place, RangeEntry, SerialsEntry}
-use Rattle.krl_core.proofs.Common.{signature_fields, SignaturesLast, slice_index_or, SpelledSection}
+use Rattle.krl_core.proofs.Common.{None, Option, row_of, SignaturesLast, slice_index_or, Some}
+use Rattle.krl_core.proofs.Common.{SpelledSection, steps_of, Table}
 use Rattle.krl_core.proofs.Common.{SpellsEach, SpellsSection, SpellsSubsection, Step, string}
 use Rattle.krl_core.proofs.Common.{Subsection, subsection_entries, subsection_type}
-use Rattle.krl_core.proofs.Common.{SubsectionContent, true, ℕ}
+use Rattle.krl_core.proofs.Common.{SubsectionContent, Text, true, ℕ}
 use Rattle.krl_core.specs.declared.place.Place.TheVariants as places
-use Rattle.krl_core.specs.declared.place.header.HeaderPlace.TheVariants as headers
-use Rattle.krl_core.specs.declared.place.signature.SignaturePlace.TheVariants as signatures
+use Rattle.krl_core.specs.declared.place.field.Field.TheVariants as fields
+use Rattle.krl_core.specs.declared.place.field.Table.TheVariants as tables
 use Rattle.krl_core.specs.declared.place.list.ListPlace.TheVariants as lists
 use Rattle.krl_core.specs.declared.place.certificates.CertificatesPlace.TheVariants as certificates
 use Rattle.krl_core.specs.declared.place.serials.SerialsPlace.TheVariants as serials
@@ -164,24 +165,32 @@ pub record FromRow (steps : List (Step KrlFault)) (Then : List (List ℕ) → Re
   pub leads : (before : List (List ℕ)) → LeadsRow steps before bytes (before ++ values) rest
   pub then_is : Then values rest more
 
--- the fields of the header after some values; `last` is the header at the end of the list
-abbrev pub FromHeader : Header → List (List ℕ) → Rest
-FromHeader last values =
-    FromRow (drop (length values) header_fields) (λ others. FromSections false (last ≡ header_of (values ++ others)))
-
--- the whole list
-abbrev pub FromMagic : Header → Rest
-FromMagic last = λ bytes more. (rest : List ℕ) × (bytes ≡ magic ++ rest) × FromHeader last [] rest more
-
 -- A table in a part that has `left` bytes left. `Then` has the number of bytes that are left after it.
 abbrev pub InRoom : ℕ → List (Step KrlFault) → (List (List ℕ) → ℕ → Rest) → Rest
 InRoom left steps Then = λ bytes more.
     FromRow steps (λ values rest more. (after : ℕ) × (length bytes + after ≡ left + length rest) × Then values after rest more) bytes more
 
--- the fields of an extension after some values, which fill the part
-abbrev pub FromExtension : List (List ℕ) → ℕ → Rest → Rest
-FromExtension values left Then =
-    InRoom left (drop (length values) extension_fields) (λ others after bytes more. (after ≡ 0) × Then bytes more)
+-- the header with the value of a field, if it is one of the header
+abbrev pub value_in : Table → Field → List ℕ → Header → Header
+value_in tables.Header field value h = header_with field value h
+value_in _ field value h = h
+
+-- The fields of a table, and what comes after it. `h` is the header so far, and `last` the one at the
+-- end of the list. An extension fills the part around it.
+abbrev pub FromTable : Table → Header → Header → List ℕ → List Field → (left after : ℕ) → Rest
+FromTable tables.Header last h a fields left after =
+    FromRow (steps_of fields) (λ values. FromSections false (last ≡ header_from fields h values))
+FromTable tables.Signature last h a fields left after = FromRow (steps_of fields) (λ values. FromSections true (last ≡ h))
+FromTable tables.Extension last h a fields left after =
+    InRoom left (steps_of fields) (λ values room bytes more. (room ≡ 0) × FromSubsections (last ≡ h) a after bytes more)
+
+abbrev pub FromField : Header → Header → List ℕ → Field → (left after : ℕ) → Rest
+FromField last h a field left after = FromTable (row_of field).table last h a (field ∷ fields_after field) left after
+
+-- the bytes that are left of the part around a table, after a field: none after the last
+abbrev pub room_in : Option Field → ℕ → ℕ
+room_in None left = 0
+room_in (Some next) left = left
 
 -- the fields before the subsections after some values, and the subsections
 abbrev pub FromAuthority : Type 0 → List (List ℕ) → ℕ → Rest
@@ -191,20 +200,11 @@ FromAuthority K values left =
 -- ---- all places, under an authority; h is the header so far
 
 abbrev pub Completes : Header → Header → List ℕ → Place → Rest
-Completes last h a (places.Header headers.Magic) = FromMagic last
-Completes last h a (places.Header headers.FormatVersion) = FromHeader last []
-Completes last h a (places.Header headers.Version) = FromHeader last ([] ∷ [])
-Completes last h a (places.Header headers.Date) = FromHeader last ([] ∷ (h.version ∷ []) ∷ [])
-Completes last h a (places.Header headers.Flags) = FromHeader last ([] ∷ (h.version ∷ []) ∷ (h.date ∷ []) ∷ [])
-Completes last h a (places.Header headers.ReservedLength) = FromHeader last ([] ∷ (h.version ∷ []) ∷ (h.date ∷ []) ∷ [] ∷ [])
-Completes last h a (places.Header (headers.Reserved size)) = FromContent size (λ r. FromHeader last ([] ∷ (h.version ∷ []) ∷ (h.date ∷ []) ∷ [] ∷ r ∷ []))
-Completes last h a (places.Header headers.CommentLength) = FromHeader last ([] ∷ (h.version ∷ []) ∷ (h.date ∷ []) ∷ [] ∷ [] ∷ [])
-Completes last h a (places.Header (headers.Comment size)) = FromContent size (λ c. FromHeader last ([] ∷ (h.version ∷ []) ∷ (h.date ∷ []) ∷ [] ∷ [] ∷ c ∷ []))
+Completes last h a (places.Field field left after) = FromField last h a field left after
+Completes last h a (places.Content field size left after) =
+    FromContent size (λ text bytes more. (row_of field).step.part ≡ Text
+    → FromTable (row_of field).table last (value_in (row_of field).table field text h) a (fields_after field) (room_in (row_of field).next left) after bytes more)
 Completes last h a (places.SectionType signed) = FromSections signed (last ≡ h)
-Completes last h a (places.Signature signatures.KeyLength) = FromRow signature_fields (λ values. FromSections true (last ≡ h))
-Completes last h a (places.Signature (signatures.Key size)) = FromContent size (λ key. FromRow (drop 1 signature_fields) (λ values. FromSections true (last ≡ h)))
-Completes last h a (places.Signature signatures.SignatureLength) = FromRow (drop 1 signature_fields) (λ values. FromSections true (last ≡ h))
-Completes last h a (places.Signature (signatures.Signature size)) = FromContent size (λ signature. FromRow [] (λ values. FromSections true (last ≡ h)))
 Completes last h a (places.List (lists.SectionLength kind)) = FromLength (λ n. Items (last ≡ h) kind a n 0)
 Completes last h a (places.List (lists.IdsLength left)) = FromPart (last ≡ h) a 0x23 left
 Completes last h a (places.List (lists.ItemLength kind left after)) = Items (last ≡ h) kind a left after
@@ -226,10 +226,5 @@ Completes last h a (places.Bitmap (bitmaps.Offset left after)) = FromOffset (las
 Completes last h a (places.Bitmap (bitmaps.Size offset left after)) = FromBitmap (last ≡ h) a offset left after
 Completes last h a (places.Bitmap (bitmaps.Byte offset size left after)) =
     λ bytes more. 0 < left → FromBits (last ≡ h) a offset size left after bytes more
-Completes last h a (places.Extension extensions.SectionLength) = FromLength (λ n. FromExtension [] n (FromSubsections (last ≡ h) a 0))
+Completes last h a (places.Extension extensions.SectionLength) = FromLength (λ n. FromField last h a fields.ExtensionName n 0)
 Completes last h a (places.Extension (extensions.SubsectionLength left)) = FromPart (last ≡ h) a 0x39 left
-Completes last h a (places.Extension (extensions.NameLength left after)) = FromExtension [] left (FromSubsections (last ≡ h) a after)
-Completes last h a (places.Extension (extensions.Name size left after)) = FromContent size (λ n. FromExtension (n ∷ []) left (FromSubsections (last ≡ h) a after))
-Completes last h a (places.Extension (extensions.Critical left after)) = FromExtension ([] ∷ []) left (FromSubsections (last ≡ h) a after)
-Completes last h a (places.Extension (extensions.ContentsLength left after)) = FromExtension ([] ∷ [] ∷ []) left (FromSubsections (last ≡ h) a after)
-Completes last h a (places.Extension (extensions.Contents size after)) = FromContent size (λ c. FromExtension ([] ∷ [] ∷ c ∷ []) 0 (FromSubsections (last ≡ h) a after))

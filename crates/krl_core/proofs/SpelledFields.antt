@@ -1,87 +1,35 @@
 -- A walk goes through all fields of a spelling.
 use Rattle.krl_core.proofs.Common.{[], ◌%◌, ◌*◌, ◌++◌, ◌+◌, ◌-◌, ◌<◌, ◌==◌, ◌^◌, ◌∙◌, ◌∷◌, ◌≡◌, ◌≤◌}
-use Rattle.krl_core.proofs.Common.{AllByRecursion, ap, append_assoc, arith, base_of, BeginsWithPart}
+use Rattle.krl_core.proofs.Common.{AllByRecursion, ap, append_assoc, arith, base_of}
 use Rattle.krl_core.proofs.Common.{bit_at, bit_at_above, bit_at_cat_high, bit_at_cat_low, Bitmap}
-use Rattle.krl_core.proofs.Common.{bits_judged, Bool, cases_lt, cond, eq-eqb, eqb, eqb-true, Err}
+use Rattle.krl_core.proofs.Common.{bits_judged, cases_lt, eq-eqb}
 use Rattle.krl_core.proofs.Common.{Expected, expected, extension_fields, false, HasRoom}
-use Rattle.krl_core.proofs.Common.{header_fields, highest_bit, Ids, inl, inr, IsBytes, IsBytes-back}
+use Rattle.krl_core.proofs.Common.{highest_bit, Ids, inl, inr, IsBytes, IsBytes-back}
 use Rattle.krl_core.proofs.Common.{IsBytes-front, IsBytes-in_string, IsPositive, item_size}
-use Rattle.krl_core.proofs.Common.{ItemKind, judge, KrlFault, le-leb, le-ltb, leading_zeros}
-use Rattle.krl_core.proofs.Common.{leads_more, LeadsRow, length, length-append, length-number}
-use Rattle.krl_core.proofs.Common.{length-numbers, length-string, length_within, List, lt-leb, ltb}
+use Rattle.krl_core.proofs.Common.{ItemKind, judge, KrlFault, le-leb, leading_zeros}
+use Rattle.krl_core.proofs.Common.{leads_more, length, length-append, length-number}
+use Rattle.krl_core.proofs.Common.{length-numbers, length-string, length_within, List, lt-leb}
 use Rattle.krl_core.proofs.Common.{ne_eqb, next_bits, next_item, next_serial, next_subsection}
-use Rattle.krl_core.proofs.Common.{Number, number, number_again4, number_again8, number_of}
+use Rattle.krl_core.proofs.Common.{number, number_again8, number_of}
 use Rattle.krl_core.proofs.Common.{number_of-one, numbers_text, Ok, passes_end, Place, Range, refl}
-use Rattle.krl_core.proofs.Common.{Result, Serials, slice_index, SpellsEach, SpellsSubsection}
+use Rattle.krl_core.proofs.Common.{Result, Serials, SpellsEach, SpellsSubsection}
 use Rattle.krl_core.proofs.Common.{string, strings, Subsection, SubsectionExtension, subst, suc}
-use Rattle.krl_core.proofs.Common.{sym, Text, true, w8, within, zero, ℕ}
+use Rattle.krl_core.proofs.Common.{sym, w8, within, zero, ℕ}
 use Rattle.krl_core.proofs.Bitmaps.{number_of-byte, low_more, low_none}
 use Rattle.krl_core.proofs.Bits.{bits_pass}
 use Rattle.krl_core.proofs.PlaceRows.{Goes, goes_none, goes_one, goes_then, goes_from}
-use Rattle.krl_core.specs.declared.place.header.HeaderPlace.TheVariants as headers
-use Rattle.krl_core.proofs.Judgements.{must_ok}
+use Rattle.krl_core.proofs.TableWalks.{content_goes, fields_go, judge_is, text_goes, within_is}
 use Rattle.krl_core.proofs.RestSpellings.{IsItem}
 use Rattle.krl_types.specs.declared.krl_fault.KrlFault.TheVariants as faults
 use Rattle.krl_core.specs.declared.place.list.ItemKind.TheVariants as kinds
 use Rattle.krl_core.specs.declared.place.Place.TheVariants as places
-use Rattle.krl_core.specs.declared.place.header.HeaderPlace.TheVariants as headers
 use Rattle.krl_core.specs.declared.place.list.ListPlace.TheVariants as lists
 use Rattle.krl_core.specs.declared.place.certificates.CertificatesPlace.TheVariants as certificates
 use Rattle.krl_core.specs.declared.place.serials.SerialsPlace.TheVariants as serials
 use Rattle.krl_core.specs.declared.place.bitmap.BitmapPlace.TheVariants as bitmaps
-use Rattle.krl_core.specs.declared.place.extension.ExtensionPlace.TheVariants as extensions
+use Rattle.krl_core.specs.declared.place.field.Field.TheVariants as fields
+use Rattle.krl_core.specs.declared.place.field.Table.TheVariants as tables
 use Rattle.serial_set.proofs.Bits.{highest_bit as top_bit}
-
--- ---- a field, and the place after it
-
--- the length of content that is read in parts
-pub content_goes : {p q r : Place} {rest : List ℕ} (content : List ℕ) → HasRoom (expected p) → (expected p).size ≡ 4 → length content < 2 ^ 32
-    → ((field : List ℕ) → number_of field ≡ length content → (expected p).judged field ≡ Ok q) → Goes q (content ++ rest) r rest → Goes p (string content ++ rest) r rest
-unfolding string
-content_goes {rest = rest} content room size fits judged w =
-    let n : List ℕ = number 4 (length content) in
-    goes_from (append_assoc n content rest)
-    (goes_then (goes_one n room (length-number 4 (length content) ∙ sym size) (judged n (number_again4 (length content) fits))) w)
-
-pub number_goes : {p q : Place} {size : ℕ} {bytes value left : List ℕ} → BeginsWithPart (Number size) bytes value left → HasRoom (expected p) → size ≡ (expected p).size
-    → (expected p).judged (number size (slice_index value 0)) ≡ Ok q → Goes p bytes q left
-number_goes {size = size} {value = value} begins room whole judged =
-    let n : ℕ = slice_index value 0 in
-    goes_from begins.spelled (goes_one (number size n) room (length-number size n ∙ whole) judged)
-
--- a text: its length, and its content
-pub text_goes : {p q r : Place} {bytes value left : List ℕ} → BeginsWithPart Text bytes value left → HasRoom (expected p) → (expected p).size ≡ 4
-    → ((field : List ℕ) → number_of field ≡ length value → (expected p).judged field ≡ Ok q)
-    → HasRoom (expected q) → length value ≡ (expected q).size → (expected q).judged value ≡ Ok r → Goes p bytes r left
-text_goes {value = value} begins room size judged room' size' judged' =
-    goes_from begins.spelled (content_goes value room size begins.is_part judged (goes_one value room' size' judged'))
-
--- a length that fits passes, and the judgement is that of its value
-pub within_is : (left : ℕ) (next : ℕ → Result Place KrlFault) (size n : ℕ) → size ≡ n → n ≤ left - 4 → within left next size ≡ next n
-within_is left next size n e le =
-    let f : ltb (left - 4) size ≡ false = le-ltb (left - 4) size (omega arith) in
-    ap (λ (b : Bool). cond b (Err faults.Length) (next size)) f ∙ ap next e
-
-judge_is : (b : Bool) (why : KrlFault) (p : Place) → b ≡ true → judge b why p ≡ Ok p
-judge_is b why p e = ap (λ (x : Bool). judge x why p) e
-
--- ---- the header
-
-pub header_goes : (bytes : List ℕ) (values : List (List ℕ)) (rest : List ℕ) → LeadsRow header_fields [] bytes values rest → Goes (places.Header headers.FormatVersion) bytes (places.SectionType false) rest
-header_goes bytes values rest format =
-    let version = format.4 in
-    let date = version.4 in
-    let flags = date.4 in
-    let reserved = flags.4 in
-    let comment = reserved.4 in
-    let n : ℕ = slice_index format.0 0 in
-    let good = λ (m : ℕ). judge (m == 1) faults.FormatVersion (places.Header headers.Version) in
-    goes_then (number_goes format.2 tt refl (ap good (number_again4 n format.2.is_part.1) ∙ judge_is (eqb n 1) faults.FormatVersion _ (must_ok (eqb n 1) faults.FormatVersion format.3)))
-    (goes_then (number_goes version.2 tt refl refl)
-    (goes_then (number_goes date.2 tt refl refl)
-    (goes_then (number_goes flags.2 tt refl refl)
-    (goes_then (text_goes reserved.2 tt refl (λ field e. ap (λ (m : ℕ). Ok (places.Header (headers.Reserved m))) e) tt refl refl)
-    (goes_then (text_goes comment.2 tt refl (λ field e. ap (λ (m : ℕ). Ok (places.Header (headers.Comment m))) e) tt refl refl) (goes_from comment.4.1 goes_none))))))
 
 -- ---- the items of a list
 
@@ -171,31 +119,6 @@ bits_go (b ∷ bits) offset size after rest fits le sign within =
 
 -- ---- subsections
 
--- an extension that fills the part around it
-pub extension_goes : (left after : ℕ) (bytes : List ℕ) (values : List (List ℕ)) (rest : List ℕ) → LeadsRow extension_fields [] bytes values rest → length bytes ≡ left + length rest
-    → Goes (places.Extension (extensions.NameLength left after)) bytes (next_subsection after) rest
-unfolding number number_of
-extension_goes left after bytes values rest (name, a, is_name, any_name, (critical, b, is_critical, uncritical, (contents, c, is_contents, any_contents, (same, ends)))) size =
-    let n = length contents in
-    let byte : ℕ = slice_index critical 0 in
-    let none : byte ≡ 0 = eqb-true byte 0 (must_ok (eqb byte 0) faults.CriticalExtension uncritical) in
-    let all : left ≡ 4 + length name + (5 + n) =
-    omega (arith, size, ap length is_name.spelled, length-append (string name) a, length-string name, ap length is_critical.spelled, ap length is_contents.spelled, length-append (string contents) c, length-string contents, ap length ends) in
-    let left_is : left - 4 - length name ≡ 5 + n = omega (arith, all) in
-    let room : 4 ≤ left = omega (arith, all) in
-    let four : 4 ≤ 4 + n = omega arith in
-    let one : 1 ≤ 5 + n = omega arith in
-    let less : 4 + n - 4 ≡ n = omega arith in
-    let fewer : 5 + n - 1 ≡ 4 + n = omega arith in
-    let next : ℕ → Place = λ m. places.Extension (extensions.ContentsLength m after) in
-    goes_then (text_goes is_name room refl
-    (λ field e. within_is left (λ m. Ok (places.Extension (extensions.Name m (left - 4 - m) after))) (number_of field) (length name) e (omega (arith, all))
-    ∙ ap (λ (m : ℕ). Ok (places.Extension (extensions.Name (length name) m after))) left_is) tt refl refl)
-    (goes_then (number_goes is_critical one refl (ap (λ (m : ℕ). judge (number_of (number 1 m) == 0) faults.CriticalExtension (next (5 + n - 1))) none ∙ ap (λ (m : ℕ). Ok (next m)) fewer))
-    (goes_then (text_goes is_contents four refl
-    (λ field e. judge_is _ faults.Length (places.Extension (extensions.Contents (4 + n - 4) after)) (eq-eqb (number_of field) (4 + n - 4) (e ∙ sym less))
-    ∙ ap (λ (m : ℕ). Ok (places.Extension (extensions.Contents m after))) less) tt refl refl) (goes_from ends goes_none)))
-
 -- the type byte of a subsection, the length of its content, and the content
 part_goes : (left type_byte : ℕ) (p q : Place) (text content rest : List ℕ) (next : (size after : ℕ) → Result Place KrlFault) → text ≡ type_byte ∷ string content → length text ≤ left → length content < 2 ^ 32
     → (expected (places.Certificates (certificates.SubsectionType left))).judged (type_byte ∷ []) ≡ Ok p → expected p ≡ length_within (left - 1) (λ size. next size (left - 1 - 4 - size))
@@ -260,8 +183,8 @@ subsection_goes left (Ids texts) text rest h le fits =
 subsection_goes left SubsectionExtension text rest h le fits =
     let n = length h.content in
     let b = left - length text in
-    part_goes left 0x39 _ (places.Extension (extensions.NameLength n b)) text h.content rest (λ size after. Ok (places.Extension (extensions.NameLength size after))) h.spelled le h.fits refl refl refl
-    (extension_goes n b (h.content ++ rest) h.content_is.0 rest (leads_more extension_fields [] h.content h.content_is.0 [] rest h.content_is.1) (length-append h.content rest))
+    part_goes left 0x39 _ (places.Field fields.ExtensionName n b) text h.content rest (λ size after. Ok (places.Field fields.ExtensionName size after)) h.spelled le h.fits refl refl refl
+    (fields_go tables.Extension fields.ExtensionName n b h.content_is.0 (h.content ++ rest) rest (refl, (refl, (refl, tt))) (leads_more extension_fields [] h.content h.content_is.0 [] rest h.content_is.1) (length-append h.content rest))
 
 pub subsections_go : (subs : List Subsection) (body rest : List ℕ) (total : ℕ) → SpellsEach SpellsSubsection body subs → total ≡ length body → IsBytes body
     → Goes (next_subsection total) (body ++ rest) (places.SectionType false) rest

@@ -6,7 +6,7 @@ use Rattle.krl_core.proofs.Common.{failed_read, false, first, HasRoom, Header, h
 use Rattle.krl_core.proofs.Common.{inr, IsBytes, IsBytes-back, IsBytes-front, IsBytes-in_string}
 use Rattle.krl_core.proofs.Common.{IsFirstFault, ItemKind, Keys, KrlFault, le-ltb, leads_front}
 use Rattle.krl_core.proofs.Common.{leads_more, LeadsRow, length, length-append, length-string}
-use Rattle.krl_core.proofs.Common.{limit, List, ltb, magic, next_item, next_subsection, None}
+use Rattle.krl_core.proofs.Common.{limit, List, ltb, next_item, next_subsection, None}
 use Rattle.krl_core.proofs.Common.{number_of, Ok, Option, Place, ran_out, refl, Says}
 use Rattle.krl_core.proofs.Common.{section_of_type, Sha1s, Sha256s, Signature, signature_fields}
 use Rattle.krl_core.proofs.Common.{Some, SpelledSection, Spells, SpellsEach, SpellsSection, start}
@@ -15,12 +15,13 @@ use Rattle.krl_core.specs.Place.{any_length}
 use Rattle.krl_core.proofs.Fronts.{first_fault_is, one_reported}
 use Rattle.krl_core.proofs.PlaceRows.{Goes, goes_none, goes_one, goes_then, goes_from, reported_at}
 use Rattle.krl_core.proofs.RestSpellings.{IsItem, LastFor}
-use Rattle.krl_core.proofs.SpelledFields.{content_goes, header_goes, text_goes, within_is}
-use Rattle.krl_core.proofs.SpelledFields.{items_go, any_size, extension_goes, subsections_go}
+use Rattle.krl_core.proofs.SpelledFields.{items_go, any_size, subsections_go}
+use Rattle.krl_core.proofs.TableWalks.{content_goes, fields_go, text_goes, within_is}
 use Rattle.krl_types.specs.declared.krl_fault.KrlFault.TheVariants as faults
 use Rattle.krl_core.specs.declared.place.list.ItemKind.TheVariants as kinds
 use Rattle.krl_core.specs.declared.place.Place.TheVariants as places
-use Rattle.krl_core.specs.declared.place.signature.SignaturePlace.TheVariants as signatures
+use Rattle.krl_core.specs.declared.place.field.Field.TheVariants as fields
+use Rattle.krl_core.specs.declared.place.field.Table.TheVariants as tables
 use Rattle.krl_core.specs.declared.place.list.ListPlace.TheVariants as lists
 use Rattle.krl_core.specs.declared.place.certificates.CertificatesPlace.TheVariants as certificates
 use Rattle.krl_core.specs.declared.place.extension.ExtensionPlace.TheVariants as extensions
@@ -64,13 +65,8 @@ certificates_go total bytes body rest values (authority, a, is_authority, any_au
     (λ field e. within_is after (λ m. Ok (places.Certificates (certificates.Reserved m (after - 4 - m)))) (number_of field) (length reserved) e (omega arith)
     ∙ ap (λ (m : ℕ). Ok (places.Certificates (certificates.Reserved (length reserved) m))) second_left) tt refl refl) (goes_from ends w))
 
-signature_goes : (bytes : List ℕ) (values : List (List ℕ)) (rest : List ℕ) → LeadsRow signature_fields [] bytes values rest → Goes (places.Signature signatures.KeyLength) bytes (places.SectionType true) rest
-signature_goes bytes values rest (key, a, is_key, any_key, (signature, b, is_signature, any_signature, (same, ends))) =
-    goes_then (text_goes is_key tt refl (λ field e. ap (λ (n : ℕ). Ok (places.Signature (signatures.Key n))) e) tt refl refl)
-    (goes_then (text_goes is_signature tt refl (λ field e. ap (λ (n : ℕ). Ok (places.Signature (signatures.Signature n))) e) tt refl refl) (goes_from ends goes_none))
-
 -- a signature may always follow
-signature_type : (signed : Bool) → section_of_type signed 4 ≡ Ok (places.Signature signatures.KeyLength)
+signature_type : (signed : Bool) → section_of_type signed 4 ≡ Ok (places.Field fields.SignatureKey 0 0)
 signature_type true = refl
 signature_type false = refl
 
@@ -88,12 +84,12 @@ section_goes (Keys blobs) false text rest h last fits = items_section_goes kinds
 section_goes (Sha1s hashes) false text rest h last fits = items_section_goes kinds.Sha1 3 hashes h.content rest h.spelled h.fits h.content_is.0 h.content_is.1 refl
 section_goes (Sha256s hashes) false text rest h last fits = items_section_goes kinds.Sha256 5 hashes h.content rest h.spelled h.fits h.content_is.0 h.content_is.1 refl
 section_goes Extension false text rest h last fits =
-    typed_goes 255 (places.Extension extensions.SectionLength) (λ size. places.Extension (extensions.NameLength size 0)) h.content rest h.spelled h.fits refl refl
-    (extension_goes (length h.content) 0 (h.content ++ rest) h.content_is.0 rest (leads_more extension_fields [] h.content h.content_is.0 [] rest h.content_is.1) (length-append h.content rest))
+    typed_goes 255 (places.Extension extensions.SectionLength) (λ size. places.Field fields.ExtensionName size 0) h.content rest h.spelled h.fits refl refl
+    (fields_go tables.Extension fields.ExtensionName (length h.content) 0 h.content_is.0 (h.content ++ rest) rest (refl, (refl, (refl, tt))) (leads_more extension_fields [] h.content h.content_is.0 [] rest h.content_is.1) (length-append h.content rest))
 section_goes Signature signed text rest (content, spelled, (values, leads)) last fits =
     goes_from (ap (λ (x : List ℕ). x ++ rest) spelled)
     (goes_then (goes_one (4 ∷ []) tt refl (signature_type signed))
-    (signature_goes (content ++ rest) values rest (leads_more signature_fields [] content values [] rest leads)))
+    (fields_go tables.Signature fields.SignatureKey 0 0 values (content ++ rest) rest (refl, (refl, tt)) (leads_more signature_fields [] content values [] rest leads) tt))
 section_goes _ true text rest h last fits = absurd last.0
 
 last_first : (signed : Bool) (section : SpelledSection) (sections : List SpelledSection) → LastFor signed (section ∷ sections) → LastFor signed (section ∷ []) × LastFor (signed_after section) sections
@@ -115,10 +111,9 @@ sections_go (section ∷ sections) signed body (first_one, (later, (parts, spell
 -- a spelled list within the limit has no fault
 pub spelled_unfaulted : (text : List ℕ) (header : Header) (sections : List SpelledSection) → IsBytes text → Spells text header sections → length text ≤ limit → IsFirstFault text None
 spelled_unfaulted text header sections fits h le =
-    let front = leads_front header_fields [] h.after h.values h.body h.fields in
-    let after_bytes = IsBytes-back magic h.after (subst IsBytes h.spelled fits) in
-    let rest = sections_go sections false h.body h.sections_are h.signatures_last (IsBytes-back front.0 h.body (subst IsBytes front.1 after_bytes)) in
-    let walk = goes_from h.spelled (goes_then (goes_one magic tt refl refl) (goes_then (header_goes h.after h.values h.body h.fields) rest.1)) in
+    let front = leads_front header_fields [] text h.values h.body h.fields in
+    let rest = sections_go sections false h.body h.sections_are h.signatures_last (IsBytes-back front.0 h.body (subst IsBytes front.1 fits)) in
+    let walk = goes_then (fields_go tables.Header fields.Magic 0 0 h.values text h.body (refl, (refl, (refl, (refl, (refl, (refl, (refl, tt))))))) h.fields tt) rest.1 in
     let off : ltb limit (length text) ≡ false = le-ltb limit (length text) le in
     first_fault_is text None (reported_at start refl (goes_from (take_all limit text le) walk) (ended (refl, refl) off refl))
 

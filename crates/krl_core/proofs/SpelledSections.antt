@@ -1,10 +1,10 @@
 -- A row of fields that leads to the end of a list spells its sections, and has their entries.
-use Rattle.krl_core.proofs.Common.{[], ◌%◌, ◌++◌, ◌+◌, ◌-◌, ◌<◌, ◌^◌, ◌∙◌, ◌∷◌, ◌≡◌, ◌≤◌}
+use Rattle.krl_core.proofs.Common.{[], ◌++◌, ◌+◌, ◌-◌, ◌<◌, ◌^◌, ◌∙◌, ◌∷◌, ◌≡◌, ◌≤◌}
 use Rattle.krl_core.proofs.Common.{AllByRecursion, ap, append-nil, append_assoc, arith}
 use Rattle.krl_core.proofs.Common.{authority_fields, BeginsWithPart, Bool, Certificates, entries_of}
 use Rattle.krl_core.proofs.Common.{Entry, Extension, extension_fields, false, flat_map, Header}
 use Rattle.krl_core.proofs.Common.{IsBytes, IsSignature, item_entry, ItemKind, KrlFault}
-use Rattle.krl_core.proofs.Common.{leads_front, leads_more, LeadsRow, length, length-append}
+use Rattle.krl_core.proofs.Common.{leads_front, leads_more, length, length-append}
 use Rattle.krl_core.proofs.Common.{length-number, length-string, List, ltb, ltb-false, map}
 use Rattle.krl_core.proofs.Common.{NamesSame, next_item, next_serial, next_subsection, None, Number}
 use Rattle.krl_core.proofs.Common.{number, number_back4, number_back8, number_of, Ok, passes, Place}
@@ -14,12 +14,13 @@ use Rattle.krl_core.proofs.Common.{SignaturesLast, slice_index_or, SpelledSectio
 use Rattle.krl_core.proofs.Common.{SpellsSection, SpellsSubsection, Step, step, string, strings}
 use Rattle.krl_core.proofs.Common.{Subsection, subsection_entries, subst, suc, sym, Text, true}
 use Rattle.krl_core.proofs.Common.{within, zero, ℕ}
-use Rattle.krl_core.proofs.RestSpellings.{Completes, FromAuthority, FromContent, FromExtension}
+use Rattle.krl_core.proofs.RestSpellings.{Completes, FromAuthority, FromContent, FromField}
 use Rattle.krl_core.proofs.RestSpellings.{FromItem, FromItems, FromLength, FromNumber, FromRow}
 use Rattle.krl_core.proofs.RestSpellings.{FromSections, FromSubsections, InRoom, IsItem, Items}
 use Rattle.krl_core.proofs.RestSpellings.{LastFor, Rest, SerialItems}
 use Rattle.krl_core.proofs.Judgements.{held_back}
 use Rattle.krl_types.specs.declared.krl_fault.KrlFault.TheVariants as faults
+use Rattle.krl_core.specs.declared.place.field.Field.TheVariants as fields
 
 -- ---- judgements that passed
 
@@ -79,18 +80,9 @@ row_in left inner begins passed k size =
 pub begins_number : {size : ℕ} (field tail : List ℕ) → (number size (number_of field) ≡ field) × (number_of field < 256 ^ size) → BeginsWithPart (Number size) (field ++ tail) (number_of field ∷ []) tail
 begins_number field tail back = record { is_part = (refl, back.1); spelled = ap (λ (x : List ℕ). x ++ tail) (sym back.0) }
 
-pub number_back1 : (field : List ℕ) → length field ≡ 1 → IsBytes field → (number 1 (number_of field) ≡ field) × (number_of field < 256 ^ 1)
-unfolding number number_of
-number_back1 (byte ∷ []) whole fits = let small = fits 0 in (ap (λ (n : ℕ). n ∷ []) (let same : number_of (byte ∷ []) % 256 ≡ byte = omega arith in same), omega arith)
-number_back1 _ whole fits = absurd (omega arith)
-
-begins_text : {Then : List ℕ → Rest} {more : List Entry} (field tail : List ℕ) → IsBytes field → length field ≡ 4 → (h : FromContent (number_of field) Then tail more) → BeginsWithPart Text (field ++ tail) h.content h.rest
+pub begins_text : {Then : List ℕ → Rest} {more : List Entry} (field tail : List ℕ) → IsBytes field → length field ≡ 4 → (h : FromContent (number_of field) Then tail more) → BeginsWithPart Text (field ++ tail) h.content h.rest
 begins_text field tail fits whole h =
     record { is_part = omega (arith, h.size_is, (number_back4 field whole fits).1); spelled = string_parts field tail h.content h.rest fits whole h.size_is h.parts }
-
-pub text_row : {steps : List (Step KrlFault)} {Then : List (List ℕ) → Rest} {more : List Entry} (field tail : List ℕ) → IsBytes field → length field ≡ 4
-    → FromContent (number_of field) (λ text. FromRow steps (λ values. Then (text ∷ values))) tail more → FromRow (step Text passes ∷ steps) Then (field ++ tail) more
-text_row field tail fits whole h = row_more (begins_text field tail fits whole h) (λ before. refl) h.then_is
 
 pub text_in : (left inner : ℕ) {steps : List (Step KrlFault)} {Then : List (List ℕ) → ℕ → Rest} {more : List Entry} (field tail : List ℕ) → IsBytes field → length field ≡ 4
     → FromContent (number_of field) (λ text. InRoom inner steps (λ values. Then (text ∷ values))) tail more → left ≡ 4 + number_of field + inner → InRoom left (step Text passes ∷ steps) Then (field ++ tail) more
@@ -207,13 +199,13 @@ certificates_section K bytes more l =
     (record { content = content; spelled = refl; fits = omega (arith, l.fits, size); content_is = record { values = h.values; body = s.body; fields = fields; authority_is = refl; subsections_are = s.spelled } })
     s.named s.then_is.last
 
-pub extension_section : (K : Type 0) (bytes : List ℕ) (more : List Entry) → FromLength (λ n. FromExtension [] n (FromSubsections K [] 0)) bytes more → FromSections false K (255 ∷ bytes) more
-extension_section K bytes more l =
+pub extension_section : (last before : Header) (bytes : List ℕ) (more : List Entry) → FromLength (λ n. FromField last before [] fields.ExtensionName n 0) bytes more → FromSections false (last ≡ before) (255 ∷ bytes) more
+extension_section last before bytes more l =
     let h = l.then_is in
     let k = sections_from h.then_is.2.1 in
     let front = leads_front extension_fields [] l.rest h.values h.rest (h.leads []) in
     let size : length front.0 ≡ l.size = omega (arith, h.then_is.1, h.then_is.2.0, ap length front.1, length-append front.0 h.rest) in
-    sections_more K Extension (255 ∷ string front.0) (255 ∷ bytes) h.rest more more k (ap (λ (x : List ℕ). 255 ∷ x) (whole_string l.size front.0 h.rest l.rest bytes l.parts front.1 size))
+    sections_more (last ≡ before) Extension (255 ∷ string front.0) (255 ∷ bytes) h.rest more more k (ap (λ (x : List ℕ). 255 ∷ x) (whole_string l.size front.0 h.rest l.rest bytes l.parts front.1 size))
     (record { content = front.0; spelled = refl; fits = omega (arith, l.fits, size); content_is = (h.values, front.2) }) (same_refl more) k.last
 
 signature_last : (signed : Bool) (sections : List SpelledSection) → AllByRecursion IsSignature sections → LastFor signed (Signature ∷ sections)

@@ -12,7 +12,7 @@ use Rattle.krl_core.proofs.Common.{StoresEntries, StoresField, StoresNoMore, sub
 use Rattle.krl_core.proofs.Common.{take-add, ℕ}
 use Rattle.krl_entries.proofs.Runs.{run_entries-append}
 use Rattle.krl_core.specs.declared.place.Place.TheVariants as places
-use Rattle.krl_core.specs.declared.place.header.HeaderPlace.TheVariants as headers
+use Rattle.krl_core.specs.declared.place.field.Field.TheVariants as fields
 
 abbrev pub open_entries : FieldStore → List Entry
 open_entries stored = run_entries stored.authority (open_run stored)
@@ -112,9 +112,11 @@ stored_start (Some topics) = refl
 stored_next : (scope : Scope) (place : Place) (header : Header) (field : List ℕ)
     → stored_header_after scope place (stored_header scope header) field
     ≡ stored_header scope (header_after place header field)
-stored_next scope (places.Header headers.Version) header field = refl
-stored_next scope (places.Header headers.Date) header field = refl
-stored_next scope (places.Header (headers.Comment size)) header field = refl
+stored_next scope (places.Field fields.Version left after) header field = refl
+stored_next scope (places.Field fields.Date left after) header field = refl
+stored_next scope (places.Field f left after) header field = refl
+stored_next scope (places.Content fields.Comment size left after) header field = refl
+stored_next scope (places.Content f size left after) header field = refl
 stored_next scope _ header field = refl
 
 -- after a field

@@ -9,7 +9,7 @@ use Rattle.krl_core.specs.declared.header.Header.{Header}
 use Rattle.krl_core.specs.declared.place.Place.{Place}
 use Rattle.krl_core.specs.declared.place.Place.TheVariants as places
 use Rattle.krl_core.specs.declared.place.bitmap.BitmapPlace.TheVariants as bitmaps
-use Rattle.krl_core.specs.declared.place.header.HeaderPlace.TheVariants as headers
+use Rattle.krl_core.specs.declared.place.field.Field.TheVariants as fields
 use Rattle.krl_entries.specs.Changes.{run_entries}
 use Rattle.krl_entries.specs.Revocations.{Revocations, IsStoredAtMost, held}
 use Rattle.krl_entries.specs.Entry.{Entry, BitmapEntry}
@@ -32,7 +32,7 @@ stored_header scope header = record header { comment = stored_comment scope head
 
 -- the stored parts of the header after a field
 abbrev pub stored_header_after : Scope → Place → Header → List ℕ → Header
-stored_header_after scope (places.Header (headers.Comment size)) header field =
+stored_header_after scope (places.Content fields.Comment size left after) header field =
     record header { comment = stored_comment scope field }
 stored_header_after scope place header field = header_after place header field
 

@@ -7,8 +7,9 @@ use Rattle.krl_types.specs.declared.krl_fault.KrlFault.TheVariants as faults
 use Rattle.krl_core.specs.declared.header.Header.{Header}
 use Rattle.krl_core.specs.declared.place.Place.{Place}
 use Rattle.krl_core.specs.declared.place.Place.TheVariants as places
-use Rattle.krl_core.specs.declared.place.header.HeaderPlace.TheVariants as headers
+use Rattle.krl_core.specs.declared.place.field.Field.TheVariants as fields
 use Rattle.krl_entries.specs.Entry.{Entry}
+use Rattle.krl_core.specs.Field.{empty_header}
 use Rattle.krl_core.specs.Place.{can_end, Expected, expected, names, authority_after, header_after}
 
 -- at most this many bytes of a list are read
@@ -30,8 +31,8 @@ pub record State : Type 0 where
 -- the state before the first field
 abbrev pub start : State
 start = record {
-  place = (places.Header headers.Magic);
-  header = record { version = 0; date = 0; comment = [] };
+  place = places.Field fields.Magic 0 0;
+  header = empty_header;
   authority = [];
   entries = [];
 }

@@ -1,13 +1,14 @@
 -- A key revocation list (PROTOCOL.krl): its header, its sections, and how they are spelled.
-use Rattle.std.specs.Prelude.{◌≡◌, ℕ, ◌+◌, ◌<◌, ◌≤◌, ◌^◌, ◌==◌, List, [], ◌∷◌, ◌++◌, length}
-use Rattle.std.specs.Prelude.{Option, slice_index, slice_index_or}
+use Rattle.std.specs.Prelude.{◌≡◌, ℕ, ◌+◌, ◌<◌, ◌≤◌, ◌^◌, List, [], ◌∷◌, ◌++◌, length}
+use Rattle.std.specs.Prelude.{slice_index_or}
 use Rattle.std.specs.List.{flat_map, AllByRecursion}
 use Rattle.std.specs.Int.{bit_at}
-use Rattle.ssh_wire.specs.Rows.{Leads, Number, Step, Text, fault_unless, passes, step}
+use Rattle.ssh_wire.specs.Rows.{Leads, Step, Text, passes, step}
 use Rattle.ssh_wire.specs.Wire.{number, number_of, string, strings}
 use Rattle.krl_types.specs.declared.krl_fault.KrlFault.{KrlFault}
-use Rattle.krl_types.specs.declared.krl_fault.KrlFault.TheVariants as faults
+use Rattle.krl_core.specs.Field.{empty_header, fields_after, header_from, table_of}
 use Rattle.krl_core.specs.declared.header.Header.{Header}
+use Rattle.krl_core.specs.declared.place.field.Field.TheVariants as fields
 
 -- a subsection of a section of certificates
 pub data Subsection : Type 0 where
@@ -36,45 +37,22 @@ pub data SpelledSection : Type 0 where
   -- an extension that may be skipped
   Extension : SpelledSection
 
--- `SSHKRL`, a line feed and a zero byte
+-- the bytes of the magic
 abbrev pub magic : List ℕ
 magic = 0x53 ∷ 0x53 ∷ 0x48 ∷ 0x4b ∷ 0x52 ∷ 0x4c ∷ 0x0a ∷ 0x00 ∷ []
 
--- a judgement: the number is this one
-abbrev pub must_be : ℕ → KrlFault → List (List ℕ) → List ℕ → Option KrlFault
-must_be n fault before value = fault_unless fault (slice_index value 0 == n)
-
--- The fields of the header after the magic: format version 1, the list's version and date, flags, a
--- reserved string and a comment.
 abbrev pub header_fields : List (Step KrlFault)
-header_fields =
-    step (Number 4) (must_be 1 faults.FormatVersion)
-    ∷ step (Number 8) passes
-    ∷ step (Number 8) passes
-    ∷ step (Number 8) passes
-    ∷ step Text passes
-    ∷ step Text passes
-    ∷ []
+header_fields = table_of fields.Magic
 
 -- the header whose fields have these values
 abbrev pub header_of : List (List ℕ) → Header
-header_of values = record {
-  version = slice_index (slice_index_or values 1 []) 0;
-  date = slice_index (slice_index_or values 2 []) 0;
-  comment = slice_index_or values 5 [];
-}
+header_of values = header_from (fields.Magic ∷ fields_after fields.Magic) empty_header values
 
--- the fields of a signature: a key and the signature
 abbrev pub signature_fields : List (Step KrlFault)
-signature_fields = step Text passes ∷ step Text passes ∷ []
+signature_fields = table_of fields.SignatureKey
 
--- the fields of an extension: a name, a zero byte for "not critical", and contents
 abbrev pub extension_fields : List (Step KrlFault)
-extension_fields =
-    step Text passes
-    ∷ step (Number 1) (must_be 0 faults.CriticalExtension)
-    ∷ step Text passes
-    ∷ []
+extension_fields = table_of fields.ExtensionName
 
 -- the fields before the subsections of a section of certificates: the authority and a reserved
 -- string
@@ -180,14 +158,12 @@ SignaturesLast [] = Unit {0}
 SignaturesLast (Signature ∷ sections) = AllByRecursion IsSignature sections
 SignaturesLast (section ∷ sections) = SignaturesLast sections
 
--- The text is the magic, the fields of the header and then the sections, one after the other. The
--- flags and the reserved string may have any value.
+-- The text is the fields of the header and then the sections, one after the other. The flags and the
+-- reserved string may have any value.
 pub record Spells (text : List ℕ) (header : Header) (sections : List SpelledSection) : Type 0 where
   pub values : List (List ℕ)
-  pub after : List ℕ
   pub body : List ℕ
-  pub spelled : text ≡ magic ++ after
-  pub fields : Leads header_fields [] after values body
+  pub fields : Leads header_fields [] text values body
   pub header_is : header_of values ≡ header
   pub sections_are : SpellsEach SpellsSection body sections
   pub signatures_last : SignaturesLast sections

@@ -1,3 +1,4 @@
+pub mod Field
 pub mod Krl
 pub mod Place
 pub mod Front

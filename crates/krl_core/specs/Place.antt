@@ -4,7 +4,7 @@ use Rattle.std.specs.Prelude.{ℕ, zero, suc, ◌+◌, ◌-◌, ◌*◌, ◌%◌
 use Rattle.std.specs.Prelude.{Bool, true, false, not, List, [], ◌∷◌, Option, Some, None, Result, Ok}
 use Rattle.std.specs.Prelude.{Err}
 use Rattle.std.specs.Int.{leading_zeros, w8}
-use Rattle.std.specs.Str.{bytes_eq}
+use Rattle.ssh_wire.specs.Rows.{Number, Part, Text, unless}
 use Rattle.ssh_wire.specs.Wire.{number_of}
 use Rattle.krl_types.specs.declared.krl_fault.KrlFault.{KrlFault}
 use Rattle.krl_types.specs.declared.krl_fault.KrlFault.TheVariants as faults
@@ -17,19 +17,19 @@ use Rattle.krl_core.specs.declared.place.certificates.CertificatesPlace.{Certifi
 use Rattle.krl_core.specs.declared.place.certificates.CertificatesPlace.TheVariants as certificates
 use Rattle.krl_core.specs.declared.place.extension.ExtensionPlace.{ExtensionPlace}
 use Rattle.krl_core.specs.declared.place.extension.ExtensionPlace.TheVariants as extensions
-use Rattle.krl_core.specs.declared.place.header.HeaderPlace.{HeaderPlace}
-use Rattle.krl_core.specs.declared.place.header.HeaderPlace.TheVariants as headers
+use Rattle.krl_core.specs.declared.place.field.Field.{Field}
+use Rattle.krl_core.specs.declared.place.field.Field.TheVariants as fields
+use Rattle.krl_core.specs.declared.place.field.Table.{Table}
+use Rattle.krl_core.specs.declared.place.field.Table.TheVariants as tables
 use Rattle.krl_core.specs.declared.place.list.ItemKind.{ItemKind}
 use Rattle.krl_core.specs.declared.place.list.ItemKind.TheVariants as kinds
 use Rattle.krl_core.specs.declared.place.list.ListPlace.{ListPlace}
 use Rattle.krl_core.specs.declared.place.list.ListPlace.TheVariants as lists
 use Rattle.krl_core.specs.declared.place.serials.SerialsPlace.{SerialsPlace}
 use Rattle.krl_core.specs.declared.place.serials.SerialsPlace.TheVariants as serials
-use Rattle.krl_core.specs.declared.place.signature.SignaturePlace.{SignaturePlace}
-use Rattle.krl_core.specs.declared.place.signature.SignaturePlace.TheVariants as signatures
 use Rattle.krl_entries.specs.Entry.{Entry, SerialsEntry, RangeEntry, BitmapEntry, IdEntry, KeyEntry}
 use Rattle.krl_entries.specs.Entry.{Sha1Entry, Sha256Entry}
-use Rattle.krl_core.specs.Krl.{magic}
+use Rattle.krl_core.specs.Field.{header_with, row_of}
 
 -- An expected field: its size in bytes; the number of bytes that the part around it has left, if
 -- there is such a part and no earlier length has already set the field's size; and the judgement on
@@ -136,14 +136,14 @@ section_types =
     (1, places.Certificates certificates.SectionLength)
     ∷ (2, places.List (lists.SectionLength kinds.Key))
     ∷ (3, places.List (lists.SectionLength kinds.Sha1))
-    ∷ (4, places.Signature signatures.KeyLength)
+    ∷ (4, places.Field fields.SignatureKey 0 0)
     ∷ (5, places.List (lists.SectionLength kinds.Sha256))
     ∷ (255, places.Extension extensions.SectionLength)
     ∷ []
 
 -- the types after a signature
 abbrev pub last_types : List (ℕ × Place)
-last_types = (4, places.Signature signatures.KeyLength) ∷ []
+last_types = (4, places.Field fields.SignatureKey 0 0) ∷ []
 
 abbrev pub section_of_type : Bool → ℕ → Result Place KrlFault
 section_of_type false type_byte = place_of_type faults.UnknownSection section_types type_byte
@@ -190,32 +190,56 @@ bits_judged offset size left after byte =
 
 -- ---- the format as a table, section by section
 
-abbrev pub header_expected : HeaderPlace → Expected
-header_expected headers.Magic = record {
-  size = 8;
-  room = None;
-  judged = λ field.
-      judge (bytes_eq field magic) faults.Magic (places.Header headers.FormatVersion);
-}
-header_expected headers.FormatVersion =
-    any_number 4
-    (λ version. judge (version == 1) faults.FormatVersion (places.Header headers.Version))
-header_expected headers.Version = any_bytes 8 (places.Header headers.Date)
-header_expected headers.Date = any_bytes 8 (places.Header headers.Flags)
-header_expected headers.Flags = any_bytes 8 (places.Header headers.ReservedLength)
-header_expected headers.ReservedLength = any_length (λ size. places.Header (headers.Reserved size))
-header_expected (headers.Reserved size) = any_bytes size (places.Header headers.CommentLength)
-header_expected headers.CommentLength = any_length (λ size. places.Header (headers.Comment size))
-header_expected (headers.Comment size) = any_bytes size (places.SectionType false)
+-- the place after a table; `after` bytes of a section are left after an extension
+abbrev pub table_end : Table → ℕ → Place
+table_end tables.Header after = places.SectionType false
+table_end tables.Signature after = places.SectionType true
+table_end tables.Extension after = next_subsection after
 
-abbrev pub signature_expected : SignaturePlace → Expected
-signature_expected signatures.KeyLength =
-    any_length (λ size. places.Signature (signatures.Key size))
-signature_expected (signatures.Key size) =
-    any_bytes size (places.Signature signatures.SignatureLength)
-signature_expected signatures.SignatureLength =
-    any_length (λ size. places.Signature (signatures.Signature size))
-signature_expected (signatures.Signature size) = any_bytes size (places.SectionType true)
+-- the place of the next field of a table, or the place after the table
+abbrev pub place_in : Table → Option Field → (left after : ℕ) → Place
+place_in table None left after = table_end table after
+place_in table (Some field) left after = places.Field field left after
+
+abbrev pub place_after : Field → (left after : ℕ) → Place
+place_after field left after = place_in (row_of field).table (row_of field).next left after
+
+-- only an extension is in a part that has some bytes left
+abbrev pub room_of : Table → ℕ → Option ℕ
+room_of tables.Extension left = Some left
+room_of _ left = None
+
+-- The length of a string. The last string of an extension fills it.
+abbrev pub length_judged
+    : Field → Table → Option Field → (left after size : ℕ) → Result Place KrlFault
+length_judged field tables.Extension (Some next) left after size =
+    within left (λ size. Ok (places.Content field size (left - 4 - size) after)) size
+length_judged field tables.Extension None left after size =
+    judge (size == left - 4) faults.Length (places.Content field size 0 after)
+length_judged field _ next left after size = Ok (places.Content field size left after)
+
+-- the size in bytes of a number, or of the length of a string
+abbrev pub part_size : Part → ℕ
+part_size (Number size) = size
+part_size _ = 4
+
+abbrev pub part_judged : Field → Part → (left after : ℕ) → List ℕ → Result Place KrlFault
+part_judged field (Number size) left after number =
+    unless ((row_of field).step.judged [] (number_of number ∷ []))
+    (place_after field (left - size) after)
+part_judged field _ left after length =
+    length_judged field (row_of field).table (row_of field).next left after (number_of length)
+
+abbrev pub part_expected : Field → Part → (left after : ℕ) → Expected
+part_expected field part left after = record {
+  size = part_size part;
+  room = room_of (row_of field).table left;
+  judged = part_judged field part left after;
+}
+
+-- the number of a row, or the length of its string
+abbrev pub row_expected : Field → (left after : ℕ) → Expected
+row_expected field left after = part_expected field (row_of field).step.part left after
 
 abbrev pub list_expected : ListPlace → Expected
 list_expected (lists.SectionLength kind) = any_length (λ size. next_item kind size 0)
@@ -269,31 +293,18 @@ bitmap_expected (bitmaps.Byte offset size left after) =
 
 abbrev pub extension_expected : ExtensionPlace → Expected
 extension_expected extensions.SectionLength =
-    any_length (λ size. places.Extension (extensions.NameLength size 0))
+    any_length (λ size. places.Field fields.ExtensionName size 0)
 extension_expected (extensions.SubsectionLength left) =
-    length_within left
-    (λ size. Ok (places.Extension (extensions.NameLength size (left - 4 - size))))
-extension_expected (extensions.NameLength left after) =
-    length_within left
-    (λ size. Ok (places.Extension (extensions.Name size (left - 4 - size) after)))
-extension_expected (extensions.Name size left after) =
-    any_bytes size (places.Extension (extensions.Critical left after))
-extension_expected (extensions.Critical left after) =
-    byte_within left
-    (λ critical. judge (critical == 0) faults.CriticalExtension
-    (places.Extension (extensions.ContentsLength (left - 1) after)))
-extension_expected (extensions.ContentsLength left after) =
-    length_of_rest left (places.Extension (extensions.Contents (left - 4) after))
-extension_expected (extensions.Contents size after) = any_bytes size (next_subsection after)
+    length_within left (λ size. Ok (places.Field fields.ExtensionName size (left - 4 - size)))
 
 abbrev pub expected : Place → Expected
-expected (places.Header at) = header_expected at
+expected (places.Field field left after) = row_expected field left after
+expected (places.Content field size left after) = any_bytes size (place_after field left after)
 expected (places.SectionType signed) = record {
   size = 1;
   room = None;
   judged = λ field. section_of_type signed (number_of field);
 }
-expected (places.Signature at) = signature_expected at
 expected (places.List at) = list_expected at
 expected (places.Certificates at) = certificates_expected at
 expected (places.Serials at) = serials_expected at
@@ -332,11 +343,20 @@ authority_after (places.Certificates (certificates.Authority size after)) author
 authority_after (places.SectionType signed) authority field = []
 authority_after _ authority field = authority
 
+-- the header with a number; the length of a string is no value
+abbrev pub header_with_number : Part → Field → List ℕ → Header → Header
+header_with_number (Number size) field number header =
+    header_with field (number_of number ∷ []) header
+header_with_number _ field length header = header
+
+abbrev pub header_with_text : Part → Field → List ℕ → Header → Header
+header_with_text Text field text header = header_with field text header
+header_with_text _ field text header = header
+
 -- the known parts of the header after a field
 abbrev pub header_after : Place → Header → List ℕ → Header
-header_after (places.Header headers.Version) header field =
-    record header { version = number_of field }
-header_after (places.Header headers.Date) header field =
-    record header { date = number_of field }
-header_after (places.Header (headers.Comment size)) header field = record header { comment = field }
+header_after (places.Field field left after) header number =
+    header_with_number (row_of field).step.part field number header
+header_after (places.Content field size left after) header text =
+    header_with_text (row_of field).step.part field text header
 header_after _ header field = header

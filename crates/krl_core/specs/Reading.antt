@@ -12,7 +12,7 @@ use Rattle.krl_types.specs.declared.krl_fault.KrlFault.TheVariants.{EndsEarly, L
 use Rattle.krl_types.specs.declared.krl_fault.KrlFault.TheVariants.{NoMemory}
 use Rattle.krl_core.specs.declared.place.Place.{Place}
 use Rattle.krl_core.specs.declared.place.Place.TheVariants as places
-use Rattle.krl_core.specs.declared.place.header.HeaderPlace.TheVariants as headers
+use Rattle.krl_core.specs.declared.place.field.Field.TheVariants as fields
 use Rattle.krl_core.specs.declared.header.Header.{Header}
 use Rattle.krl_entries.specs.Revocations.{Revocations, Means, held, stored}
 use Rattle.krl_core.specs.Entries.{entries_of}
@@ -101,12 +101,12 @@ ReportsFailure (Err fault) failed = fault ≡ Read ↔ failed ≡ true
 -- The first fields of a list, which have 40 bytes together. The size of none of them depends on a
 -- length.
 abbrev pub is_fixed : Place → Bool
-is_fixed (places.Header headers.Magic) = true
-is_fixed (places.Header headers.FormatVersion) = true
-is_fixed (places.Header headers.Version) = true
-is_fixed (places.Header headers.Date) = true
-is_fixed (places.Header headers.Flags) = true
-is_fixed (places.Header headers.ReservedLength) = true
+is_fixed (places.Field fields.Magic left after) = true
+is_fixed (places.Field fields.FormatVersion left after) = true
+is_fixed (places.Field fields.Version left after) = true
+is_fixed (places.Field fields.Date left after) = true
+is_fixed (places.Field fields.Flags left after) = true
+is_fixed (places.Field fields.Reserved left after) = true
 is_fixed _ = false
 
 -- The text begins with these first fields, each of which passes its judgement, and may have more

@@ -21,7 +21,7 @@ ghost use Rattle.krl_core.specs.Reading.{is_fixed};
 
 use crate::header::Header;
 use crate::place::{
-    BitmapPlace, CertificatesPlace, HeaderPlace, ItemKind, ListPlace, Place, SerialsPlace,
+    BitmapPlace, CertificatesPlace, Field, ItemKind, ListPlace, Place, SerialsPlace,
 };
 use krl_entries::{Revocations, Store, byte_of, u64_of};
 use serial_set::{BitRuns, Span, Spans, count_near};
@@ -110,15 +110,24 @@ impl<T: Store> FieldStore<T> {
         ensures grows { GrowsAtMost (length field.now) self.old self.new }
     {
         match place {
-            Place::Header(HeaderPlace::Version) => {
+            Place::Field {
+                field: Field::Version,
+                ..
+            } => {
                 self.version = u64_of(field);
                 Ok(())
             }
-            Place::Header(HeaderPlace::Date) => {
+            Place::Field {
+                field: Field::Date,
+                ..
+            } => {
                 self.date = u64_of(field);
                 Ok(())
             }
-            Place::Header(HeaderPlace::Comment { .. }) => self.set_comment(field),
+            Place::Content {
+                field: Field::Comment,
+                ..
+            } => self.set_comment(field),
             Place::SectionType { .. } => {
                 self.store.leave();
                 self.authority.clear();

@@ -5,6 +5,9 @@ use ssh_wire::Bytes;
 /// The bytes at the beginning of each list.
 pub const MAGIC: &[u8] = b"SSHKRL\n\0";
 
+/// The same as a number.
+pub const MAGIC_NUMBER: u64 = 0x5353_484b_524c_0a00;
+
 /// The header of a revocation list: its version, its date in seconds since 1970, and a comment,
 /// which may be any bytes.
 #[derive(Drop)]

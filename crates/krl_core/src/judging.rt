@@ -8,12 +8,23 @@ ghost use Rattle.krl_core.specs.Place.{next_item as item_after, next_serial as s
 ghost use Rattle.krl_core.specs.Place.{next_subsection as subsection_after};
 ghost use Rattle.krl_core.specs.Place.{section_of_type as section_of};
 ghost use Rattle.krl_core.specs.Place.{subsection_of_type as subsection_of};
+ghost use Rattle.krl_core.specs.declared.place.Place.TheVariants as places;
 
 use crate::place::{
-    BitmapPlace, CertificatesPlace, ExtensionPlace, ItemKind, ListPlace, Place, SerialsPlace,
-    SignaturePlace,
+    BitmapPlace, CertificatesPlace, ExtensionPlace, Field, ItemKind, ListPlace, Place, SerialsPlace,
 };
 use krl_types::KrlFault;
+
+// The place of the first field of a table that is not inside a part.
+pub(crate) fn first_field(field: Field) -> Place
+    ensures { result ≡ places.Field field 0 0 }
+{
+    Place::Field {
+        field,
+        left: 0,
+        after: 0,
+    }
+}
 
 // The next place if a field is good, and otherwise the fault.
 pub(crate) fn judge(good: bool, fault: KrlFault, next: Place) -> Result<Place, KrlFault>
@@ -96,7 +107,7 @@ pub(crate) fn section_of_type(signed: bool, type_byte: u8) -> Result<Place, KrlF
 {
     if signed {
         return match type_byte {
-            4 => Ok(Place::Signature(SignaturePlace::KeyLength)),
+            4 => Ok(first_field(Field::SignatureKey)),
             _ => Err(KrlFault::AfterSignature),
         };
     }
@@ -108,7 +119,7 @@ pub(crate) fn section_of_type(signed: bool, type_byte: u8) -> Result<Place, KrlF
         3 => Ok(Place::List(ListPlace::SectionLength {
             kind: ItemKind::Sha1,
         })),
-        4 => Ok(Place::Signature(SignaturePlace::KeyLength)),
+        4 => Ok(first_field(Field::SignatureKey)),
         5 => Ok(Place::List(ListPlace::SectionLength {
             kind: ItemKind::Sha256,
         })),

@@ -11,12 +11,12 @@ mod place;
 mod read;
 mod reading;
 
-pub use header::{Header, MAGIC};
+pub use header::{Header, MAGIC, MAGIC_NUMBER};
 pub use krl_entries::{Authorities, Listed, Revocations, Store, Texts};
 pub use krl_types::KrlFault;
 pub use place::{
-    BitmapPlace, CertificatesPlace, ExtensionPlace, HeaderPlace, ItemKind, ListPlace, Place,
-    SerialsPlace, SignaturePlace,
+    BitmapPlace, CertificatesPlace, ExtensionPlace, Field, ItemKind, ListPlace, Place,
+    SerialsPlace, Table,
 };
 pub use read::read_krl;
 pub use reading::{LIMIT, Reading, Walk};

@@ -3,39 +3,51 @@
 ghost use Rattle.std.specs.Prelude.{◌≡◌, ◌≢◌, ◌↔◌, ◌++◌, ◌≤◌, IfSome, IsTrue, List, ℕ, None};
 ghost use Rattle.std.specs.Prelude.{length, take};
 ghost use Rattle.krl_core.specs.Place.{can_end, expected};
-ghost use Rattle.krl_core.specs.Front.{HasRoom, Passes};
+ghost use Rattle.krl_core.specs.Front.{HasRoom, Passes, start};
+ghost use Rattle.krl_core.specs.Reading.{is_fixed};
 ghost use Rattle.krl_core.specs.declared.place.Place.{Place as PlaceOf};
 
 mod bitmap;
 mod certificates;
 mod extension;
-mod header;
+mod field;
 mod list;
 mod serials;
-mod signature;
 
-use crate::judging::section_of_type;
+use crate::judging::{first_field, section_of_type};
 pub use bitmap::BitmapPlace;
 pub use certificates::CertificatesPlace;
 pub use extension::ExtensionPlace;
-pub use header::HeaderPlace;
+pub use field::{Field, Table};
 use krl_entries::byte_of;
 use krl_types::KrlFault;
 pub use list::{ItemKind, ListPlace};
 pub use serials::SerialsPlace;
-pub use signature::SignaturePlace;
 
 /// The place of a walk in a list: the field that is expected next. A byte of a bitmap is a field.
 ///
 /// `left` is the number of bytes that are left of the part around the field. It counts the field,
 /// unless the place has the field's `size`. `after` is the number of bytes of the section after
-/// that part.
+/// that part. Both are 0 in the header and in a signature, which are not inside a part.
 #[derive(Clone, Copy)]
 pub enum Place {
-    Header(HeaderPlace),
+    /// A number of a table, or the length of a string.
+    Field {
+        field: Field,
+        left: u32,
+        after: u32,
+    },
+    /// The content of a string of a table.
+    Content {
+        field: Field,
+        size: u32,
+        left: u32,
+        after: u32,
+    },
     /// The next section, or the end of the list. `signed` is true after a signature.
-    SectionType { signed: bool },
-    Signature(SignaturePlace),
+    SectionType {
+        signed: bool,
+    },
     List(ListPlace),
     Certificates(CertificatesPlace),
     Serials(SerialsPlace),
@@ -51,9 +63,9 @@ impl Place {
         ensures room { result.1 ≡ (expected self).room }
     {
         match self {
-            Place::Header(at) => at.size_and_room(),
+            Place::Field { field, left, .. } => field.size_and_room(left),
+            Place::Content { size, .. } => (size, None),
             Place::SectionType { .. } => (1, None),
-            Place::Signature(at) => at.size_and_room(),
             Place::List(at) => at.size_and_room(),
             Place::Certificates(at) => at.size_and_room(),
             Place::Serials(at) => at.size_and_room(),
@@ -81,6 +93,13 @@ impl Place {
         }
     }
 
+    /// The place of the first field of a list.
+    pub fn start() -> Place
+        ensures { result ≡ start.place }
+    {
+        first_field(Field::Magic)
+    }
+
     /// Whether the list may end here.
     #[inline(always)]
     pub fn may_end(self) -> bool
@@ -88,6 +107,24 @@ impl Place {
     {
         match self {
             Place::SectionType { .. } => true,
+            _ => false,
+        }
+    }
+
+    // Whether the field is one of the first, whose sizes depend on no length.
+    pub(crate) fn is_fixed(self) -> bool
+        ensures { result ≡ is_fixed self }
+    {
+        match self {
+            Place::Field { field, .. } => match field {
+                Field::Magic
+                | Field::FormatVersion
+                | Field::Version
+                | Field::Date
+                | Field::Flags
+                | Field::Reserved => true,
+                _ => false,
+            },
             _ => false,
         }
     }
@@ -100,9 +137,18 @@ impl Place {
         ensures { result ≡ (expected self).judged field.now }
     {
         match self {
-            Place::Header(at) => at.after(field),
+            Place::Field {
+                field: expected,
+                left,
+                after,
+            } => expected.after(left, after, field),
+            Place::Content {
+                field: expected,
+                left,
+                after,
+                ..
+            } => Ok(expected.place_after(left, after)),
             Place::SectionType { signed } => section_of_type(signed, byte_of(field)),
-            Place::Signature(at) => Ok(at.after(field)),
             Place::List(at) => at.after(field),
             Place::Certificates(at) => at.after(field),
             Place::Serials(at) => at.after(field),

@@ -22,7 +22,7 @@ ghost use Rattle.krl_entries.specs.Scope.{all};
 use crate::buffered::read_buffered;
 use crate::field_store::FieldStore;
 use crate::header::Header;
-use crate::place::{HeaderPlace, Place};
+use crate::place::Place;
 use byte_streams::{Pull, Source};
 use krl_entries::{Revocations, Store};
 use krl_types::KrlFault;
@@ -168,7 +168,7 @@ impl<T: Store, R: Source + Drop> Walk<T, R> {
     {
         Walk {
             pull: Pull::new(reader, LIMIT),
-            place: Place::Header(HeaderPlace::Magic),
+            place: Place::start(),
             stored: FieldStore::new(alloc, store),
             large: Vec::new(alloc),
             ended: false,
@@ -239,7 +239,7 @@ impl<T: Store, R: Source + Drop> Walk<T, R> {
         if self.fault.is_some() || self.ended {
             return self.step();
         }
-        if let Place::Header(_) = self.place {
+        if self.place.is_fixed() {
             return self.step();
         }
         let (count, done) = read_buffered(&mut self.place, &mut self.stored, self.pull.buffer());

@@ -16,7 +16,7 @@ use Rattle.krl_core.specs.declared.place.Place.TheVariants as places
 use Rattle.krl_core.specs.declared.place.bitmap.BitmapPlace.TheVariants as bitmaps
 use Rattle.krl_core.specs.declared.place.certificates.CertificatesPlace.{CertificatesPlace}
 use Rattle.krl_core.specs.declared.place.certificates.CertificatesPlace.TheVariants as certificates
-use Rattle.krl_core.specs.declared.place.header.HeaderPlace.TheVariants as headers
+use Rattle.krl_core.specs.declared.place.field.Field.TheVariants as fields
 use Rattle.krl_core.specs.declared.place.list.ItemKind.TheVariants as kinds
 use Rattle.krl_core.specs.declared.place.list.ListPlace.TheVariants as lists
 use Rattle.krl_core.specs.declared.place.serials.SerialsPlace.{SerialsPlace}
@@ -98,7 +98,7 @@ bits_difference offset size left byte =
 
 -- a whole field at a place
 abbrev pub difference_at : Place → List ℕ → Option Difference
-difference_at (places.Header (headers.Comment size)) field = comment_difference field
+difference_at (places.Content fields.Comment size left after) field = comment_difference field
 difference_at (places.SectionType signed) field = section_difference (number_of field)
 difference_at (places.Certificates at) field = certificates_difference at field
 difference_at (places.Serials at) field = serials_difference at field

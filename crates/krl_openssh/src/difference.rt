@@ -8,9 +8,7 @@ ghost use Rattle.krl_openssh.specs.Difference.{difference_at, difference_words, 
 ghost use Rattle.krl_openssh.specs.Difference.{is_long, names_zero, section_difference};
 ghost use Rattle.krl_openssh.specs.Difference.{serials_difference, size_fits};
 
-use krl_core::{
-    BitmapPlace, CertificatesPlace, HeaderPlace, ItemKind, ListPlace, Place, SerialsPlace,
-};
+use krl_core::{BitmapPlace, CertificatesPlace, Field, ItemKind, ListPlace, Place, SerialsPlace};
 use krl_entries::{byte_of, u64_of};
 use ssh_key::{Kind, read_key};
 
@@ -60,7 +58,10 @@ pub(crate) fn difference_at(place: Place, field: &[u8]) -> Option<Difference>
     ensures { result ≡ difference_at place field.now }
 {
     match place {
-        Place::Header(HeaderPlace::Comment { .. }) => comment_difference(field),
+        Place::Content {
+            field: Field::Comment,
+            ..
+        } => comment_difference(field),
         Place::SectionType { .. } => section_difference(byte_of(field)),
         Place::Certificates(at) => certificates_difference(at, field),
         Place::Serials(at) => serials_difference(at, field),

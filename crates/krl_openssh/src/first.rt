@@ -6,7 +6,7 @@ ghost use Rattle.krl_openssh.specs.Difference.{first_difference};
 ghost use Rattle.krl_openssh.specs.Fields.{HasFields};
 
 use crate::difference::{Difference, difference_at};
-use krl_core::{HeaderPlace, Place};
+use krl_core::Place;
 
 /// Returns the first field for which OpenSSH refuses a list or reads other names from it, and why.
 /// Returns none if OpenSSH also reads the list, and reads the same names. The list must be one that
@@ -17,7 +17,7 @@ pub fn first_difference(list: &[u8]) -> Option<Difference>
     ensures { (fields : List (List ℕ)) → HasFields list.now fields
         → result ≡ first_difference start.place fields }
 {
-    let mut place = Place::Header(HeaderPlace::Magic);
+    let mut place = Place::start();
     let mut rest = list;
     'fields: while !is_end(place, rest) {
         let Some((size, next)) = place.passes(rest) else {

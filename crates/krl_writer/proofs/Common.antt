@@ -5,7 +5,8 @@ pub use Rattle.std.proofs.Common.{flat_map, inl, inr, length, length-append, Lis
 pub use Rattle.std.proofs.Common.{refl, Result, subst, suc, sum_by, sym, take, zero, ℕ}
 pub use Rattle.krl_core.specs.Entries.{entries_of, subsection_entries}
 pub use Rattle.krl_core.specs.Front.{limit}
-pub use Rattle.krl_core.specs.Krl.{Certificates, Ids, IsPositive, Keys, magic, Sha1s}
+pub use Rattle.krl_core.specs.Field.{magic_number}
+pub use Rattle.krl_core.specs.Krl.{Certificates, Ids, IsPositive, Keys, Sha1s}
 pub use Rattle.krl_core.specs.Krl.{Sha256s, SignaturesLast, SpelledSection, Spells, SpellsBitmap}
 pub use Rattle.krl_core.specs.Krl.{SpellsEach, SpellsHashes, SpellsSection, SpellsSubsection}
 pub use Rattle.krl_core.specs.declared.header.Header.{Header}

@@ -5,8 +5,8 @@ use Rattle.krl_writer.proofs.Common.{authority_content, authority_sections, auth
 use Rattle.krl_writer.proofs.Common.{Certificates, EachPlan, Group, Header, header_text, Ids}
 use Rattle.krl_writer.proofs.Common.{IsListed, IsOrderly, IsPlan, Keys, length, length-append}
 use Rattle.krl_writer.proofs.Common.{length-number, length-string, limit, List, listed_as}
-use Rattle.krl_writer.proofs.Common.{listed_text, None, number, plan_subsections, plan_text}
-use Rattle.krl_writer.proofs.Common.{recursion_from_All, refl, Revocations, Section, sections_of}
+use Rattle.krl_writer.proofs.Common.{listed_text, magic_number, None, number, plan_subsections}
+use Rattle.krl_writer.proofs.Common.{plan_text, recursion_from_All, refl, Revocations, Section, sections_of}
 use Rattle.krl_writer.proofs.Common.{sections_text, Sha1s, Sha256s, SignaturesLast, SpelledSection}
 use Rattle.krl_writer.proofs.Common.{Spells, SpellsEach, SpellsHashes, SpellsSection}
 use Rattle.krl_writer.proofs.Common.{SpellsSubsection, string, strings, subst, sym, text_of, ℕ}
@@ -120,6 +120,7 @@ length-header header =
     let version : List ℕ = number 8 header.version ++ date in
     omega (
       arith,
+      length-append (number 8 magic_number) (number 4 1 ++ version),
       length-append (number 4 1) version,
       length-append (number 8 header.version) date,
       length-append (number 8 header.date) flags,
@@ -128,6 +129,7 @@ length-header header =
       length-append (string header.comment) [],
       length-string [],
       length-string header.comment,
+      length-number 8 magic_number,
       length-number 4 1,
       length-number 8 header.version,
       length-number 8 header.date,
@@ -150,10 +152,8 @@ text_spelled header plans r version date orderly each short =
     record {
       values = values;
       body = body;
-      after = fields ++ body;
-      spelled = refl;
       fields = leads_more header_fields [] fields values [] body
-          (row_led header_fields [] values ((refl, omega arith), refl, ((refl, version), refl, ((refl, date), refl, ((refl, omega arith), refl, (omega arith, refl, (omega arith, refl, refl)))))));
+          (row_led header_fields [] values ((refl, omega arith), refl, ((refl, omega arith), refl, ((refl, version), refl, ((refl, date), refl, ((refl, omega arith), refl, (omega arith, refl, (omega arith, refl, refl))))))));
       header_is = refl;
       sections_are =
           each_append SpellsSection (authorities_text plans r.sections) (listed_text 2 r.keys ++ hashes) (authority_sections plans r.sections) (listed_as Keys r.keys ++ (listed_as Sha1s r.sha1s ++ listed_as Sha256s r.sha256s))

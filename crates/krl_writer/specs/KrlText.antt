@@ -9,7 +9,8 @@ use Rattle.krl_plan.specs.declared.group.Sort.TheVariants as sorts
 use Rattle.krl_plan.specs.declared.group.Group.{Group}
 use Rattle.krl_entries.specs.Revocations.{Revocations, Section}
 use Rattle.krl_core.specs.Krl.{SpelledSection, Certificates, Keys, Sha1s, Sha256s, Subsection}
-use Rattle.krl_core.specs.Krl.{Serials, Range, Bitmap, Ids, header_fields, magic}
+use Rattle.krl_core.specs.Field.{magic_number}
+use Rattle.krl_core.specs.Krl.{Serials, Range, Bitmap, Ids, header_fields}
 use Rattle.krl_plan.specs.Plan.{IsLeastPlan, reach}
 use Rattle.krl_plan.specs.Written.{bitmap_size, bits_of, first_of, plan_text, serials_of}
 
@@ -48,10 +49,11 @@ sections_text plans r = authorities_text plans r.sections ++ texts_text r
 -- The values of the header's fields. The flags are 0, and the reserved string is empty.
 abbrev pub header_values : Header → List (List ℕ)
 header_values header =
-    (1 ∷ []) ∷ (header.version ∷ []) ∷ (header.date ∷ []) ∷ (0 ∷ []) ∷ [] ∷ header.comment ∷ []
+    (magic_number ∷ []) ∷ (1 ∷ []) ∷ (header.version ∷ []) ∷ (header.date ∷ []) ∷ (0 ∷ []) ∷ []
+    ∷ header.comment ∷ []
 
 abbrev pub header_text : Header → List ℕ
-header_text header = magic ++ row_text header_fields (header_values header)
+header_text header = row_text header_fields (header_values header)
 
 -- the list with a header and the stored revocations, with a plan for each authority
 abbrev pub text_of : Header → List (List Group) → Revocations → List ℕ

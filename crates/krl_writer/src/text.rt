@@ -10,7 +10,7 @@ use crate::authorities::add_authorities;
 use crate::strings::{add_listed, add_string};
 use crate::text_fault::TextFault;
 use byte_streams::{Sink, send};
-use krl_core::{Header, LIMIT, MAGIC, Revocations};
+use krl_core::{Header, LIMIT, MAGIC_NUMBER, Revocations};
 use serial_set::Spans;
 use ssh_wire::{put_string, put_u32, put_u64};
 use std::alloc::Global;
@@ -51,7 +51,7 @@ fn is_surely_too_long<S: Spans>(revocations: &Revocations<S>) -> bool
 fn add_header(out: &mut Vec<u8>, header: &Header) -> Result<(), TextFault>
     ensures { AddsAtMost result out.old.items out.new.items (header_text header.now) }
 {
-    out.extend_from_slice(MAGIC)?;
+    put_u64(out, MAGIC_NUMBER)?;
     put_u32(out, 1)?;
     put_u64(out, header.version)?;
     put_u64(out, header.date)?;

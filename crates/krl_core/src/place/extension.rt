@@ -1,25 +1,19 @@
-//! The places of an extension, as a section or a subsection, and the place after each of its
-//! fields.
+//! The length of an extension, as a section or a subsection, and the place after it.
 
 ghost use Rattle.std.specs.Prelude.{◌≡◌, length};
 ghost use Rattle.krl_core.specs.Front.{HasRoom};
 ghost use Rattle.krl_core.specs.Place.{extension_expected};
 
-use crate::judging::{judge, next_subsection, rest, within};
-use crate::place::Place;
-use krl_entries::{byte_of, u32_of};
+use crate::judging::{rest, within};
+use crate::place::{Field, Place};
+use krl_entries::u32_of;
 use krl_types::KrlFault;
 
-/// The places of an extension, as a section or a subsection.
+/// The length of an extension, as a section or a subsection.
 #[derive(Clone, Copy)]
 pub enum ExtensionPlace {
     SectionLength,
     SubsectionLength { left: u32 },
-    NameLength { left: u32, after: u32 },
-    Name { size: u32, left: u32, after: u32 },
-    Critical { left: u32, after: u32 },
-    ContentsLength { left: u32, after: u32 },
-    Contents { size: u32, after: u32 },
 }
 
 impl ExtensionPlace {
@@ -32,12 +26,6 @@ impl ExtensionPlace {
         match self {
             ExtensionPlace::SectionLength => (4, None),
             ExtensionPlace::SubsectionLength { left } => (4, Some(left)),
-            ExtensionPlace::NameLength { left, .. } => (4, Some(left)),
-            ExtensionPlace::Name { size, .. } | ExtensionPlace::Contents { size, .. } => (
-                size, None,
-            ),
-            ExtensionPlace::Critical { left, .. } => (1, Some(left)),
-            ExtensionPlace::ContentsLength { left, .. } => (4, Some(left)),
         }
     }
 
@@ -48,41 +36,21 @@ impl ExtensionPlace {
         requires room { HasRoom (extension_expected self) }
         ensures { result ≡ (extension_expected self).judged field.now }
     {
+        let size = u32_of(field);
         match self {
-            ExtensionPlace::SectionLength => {
-                let left = u32_of(field);
-                Ok(Place::Extension(ExtensionPlace::NameLength { left, after: 0 }))
-            }
+            ExtensionPlace::SectionLength => Ok(Place::Field {
+                field: Field::ExtensionName,
+                left: size,
+                after: 0,
+            }),
             ExtensionPlace::SubsectionLength { left } => {
-                let size = u32_of(field);
-                let after = rest(left, size);
-                let next = ExtensionPlace::NameLength { left: size, after };
-                within(left, size, Ok(Place::Extension(next)))
-            }
-            ExtensionPlace::NameLength { left, after } => {
-                let size = u32_of(field);
-                let left_then = rest(left, size);
-                let next = ExtensionPlace::Name {
-                    size,
-                    left: left_then,
-                    after,
+                let next = Place::Field {
+                    field: Field::ExtensionName,
+                    left: size,
+                    after: rest(left, size),
                 };
-                within(left, size, Ok(Place::Extension(next)))
+                within(left, size, Ok(next))
             }
-            ExtensionPlace::Name { left, after, .. } => {
-                Ok(Place::Extension(ExtensionPlace::Critical { left, after }))
-            }
-            ExtensionPlace::Critical { left, after } => {
-                let left = left - 1;
-                let next = Place::Extension(ExtensionPlace::ContentsLength { left, after });
-                judge(byte_of(field) == 0, KrlFault::CriticalExtension, next)
-            }
-            ExtensionPlace::ContentsLength { left, after } => {
-                let size = left - 4;
-                let next = Place::Extension(ExtensionPlace::Contents { size, after });
-                judge(u32_of(field) == size, KrlFault::Length, next)
-            }
-            ExtensionPlace::Contents { after, .. } => Ok(next_subsection(after)),
         }
     }
 }

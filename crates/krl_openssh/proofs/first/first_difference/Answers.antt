@@ -6,7 +6,7 @@ use Rattle.krl_openssh.proofs.Rows.{begins, comes_nearer, ends, found, goes_on, 
 use Rattle.krl_openssh.proofs.first.first_difference.Goals as goal
 
 pub fields-init : goal.fields-init
-fields-init c = begins c.args.list.now
+fields-init c = rw c.start-place.ensures (begins c.args.list.now)
 
 pub returns-in_default : goal.returns-in_default
 returns-in_default c = λ fields is.

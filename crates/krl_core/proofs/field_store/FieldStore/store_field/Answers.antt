@@ -7,8 +7,8 @@ use Rattle.krl_core.specs.declared.place.bitmap.BitmapPlace.TheVariants as bitma
 use Rattle.krl_core.specs.declared.place.serials.SerialsPlace.TheVariants as serials
 use Rattle.krl_core.proofs.field_store.FieldStore.store_field.Goals as goal
 
-pub returns-in-Header-Comment-clause-grows : goal.returns-in-Header-Comment-clause-grows
-returns-in-Header-Comment-clause-grows g c = c.set_comment.ensures.grows (length c.args.field.now)
+pub returns-in-Content-Comment-default-default-default-clause-grows : goal.returns-in-Content-Comment-default-default-default-clause-grows
+returns-in-Content-Comment-default-default-default-clause-grows g c = c.set_comment.ensures.grows (length c.args.field.now)
 
 pub returns-in-Serials-Serial-clause-grows : goal.returns-in-Serials-Serial-clause-grows
 returns-in-Serials-Serial-clause-grows g c =

@@ -1,4 +1,4 @@
--- What was read stays read, or an allocation failed past the first fields.
+-- The new walk has read the same fields, or an allocation failed after the first fields of the list.
 use Rattle.krl_core.proofs.Common.{◌∙◌, all, ap, BitRuns, InStep, IsBounded, Scope, stored_header}
 use Rattle.krl_core.proofs.Common.{subst, sym}
 use Rattle.std.specs.Prelude.{◌≢◌}
