@@ -158,6 +158,9 @@ impl<'q, 'w, W: Sink> Checker<'q, 'w, W> {
             → EndsCheck run self.old.refused self.old.unread before
             self.new.auditor.run.printer.taken self.new.auditor.run.printer.failed result.status
             result.fault }
+        ensures refused { self.new.refused ≡ self.old.refused }
+        ensures unread { self.new.unread ≡ self.old.unread }
+        ensures judge { self.new.auditor.judge ≡ self.old.auditor.judge }
     {
         let done = self.auditor.run.printer.finish(stop);
         let fault = done.fault;

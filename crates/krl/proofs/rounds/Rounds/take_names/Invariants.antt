@@ -1,4 +1,4 @@
--- The names so far, and those of the bytes that are left, are the names of all bytes.
+-- What is left of the bytes continues all of them.
 use Rattle.std.proofs.Common.{ℕ, ◌++◌, List, drop}
 use Rattle.krl.specs.Listing.{Continues}
 use Rattle.krl.proofs.rounds.Rounds.take_names.Given as goal
