@@ -1,7 +1,8 @@
 -- The steps of reading a directory: a byte, the end of a name, and some bytes of its reader.
 use Rattle.std.proofs.Common.{◌≡◌, ◌≢◌, ◌∙◌, ap, refl, sym, true, false, ℕ, zero, suc, ◌+◌, ◌<◌}
 use Rattle.std.proofs.Common.{List, [], ◌∷◌, ◌++◌, append-nil, append_assoc, drop, length, slice_index_or}
-use Rattle.std.proofs.Common.{IsPermutation, IsSorted, Option, None, Some, IfSome}
+use Rattle.std.proofs.Common.{IsPermutation, IsSorted, Option, None, Some, IfSome, ◌≤◌, arith}
+use Rattle.std.proofs.lemmas.List.{length-append}
 use Rattle.std.proofs.Math.Dec.{eqb-suc-zero}
 use Rattle.std.proofs.Math.Seq.{drop-cons}
 use Rattle.std.specs.Cmp.Lexicographic.{slice_cmp}
@@ -119,3 +120,29 @@ all_read (Some all) (Some old) (Some new) front names sorted leads comes end sam
       same = same;
       ordered = ordered;
     }
+
+-- so many parts of a reader were read, each of which has a byte
+abbrev pub HasParts : (all left : Option (List ℕ)) → ℕ → Type 0
+HasParts None left count = Unit {0}
+HasParts (Some all) None count = ⊥
+HasParts (Some all) (Some left) count = count + length left ≤ length all
+
+pub no_part : (all : Option (List ℕ)) → HasParts all all 0
+no_part None = tt
+no_part (Some all) = omega arith
+
+pub one_part : (all old new : Option (List ℕ)) (bytes : List ℕ) (count : ℕ) → HasParts all old count
+    → Consumes old new bytes → 0 < length bytes → HasParts all new (count + 1)
+one_part None old new bytes count has comes some = tt
+one_part (Some all) None new bytes count has comes some = absurd has
+one_part (Some all) (Some old) None bytes count has comes some = absurd comes
+one_part (Some all) (Some old) (Some new) bytes count has comes some =
+    let longer : length old ≡ length bytes + length new =
+    ap (λ (l : List ℕ). length l) comes ∙ length-append bytes new in
+    omega (arith, has, longer, some)
+
+pub all_parts : (all left : Option (List ℕ)) (most count : ℕ) → HasParts all left count → most ≤ count
+    → IfSome all (λ bytes. most ≤ length bytes)
+all_parts None left most count has reached = tt
+all_parts (Some all) None most count has reached = absurd has
+all_parts (Some all) (Some left) most count has reached = omega (arith, has, reached)

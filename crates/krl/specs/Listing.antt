@@ -1,7 +1,7 @@
 -- The names of a directory that an audit goes to.
-use Rattle.std.specs.Prelude.{◌≡◌, ℕ, ◌==◌, ◌||◌, if◌then◌else◌, Bool, true, false}
+use Rattle.std.specs.Prelude.{◌≡◌, ℕ, ◌==◌, ◌||◌, if◌then◌else◌, Bool, true, false, ◌≤◌, ◌-◌, ◌^◌}
 use Rattle.std.specs.Prelude.{List, [], ◌∷◌, ◌++◌, codes, IsPermutation, Option, IfSome, Result, Ok}
-use Rattle.std.specs.Prelude.{Err}
+use Rattle.std.specs.Prelude.{Err, length}
 use Rattle.std.specs.Cmp.Lexicographic.{slice_cmp}
 use Rattle.std.specs.Global.{Vec}
 use Rattle.std.specs.List.Sorted.{IsSorted}
@@ -45,12 +45,13 @@ pub record IsListed (bytes : List ℕ) (names : List (Vec ℕ)) : Type 0 where
   pub ordered : IsSorted (λ (x y : Vec ℕ). slice_cmp nat_cmp x.items y.items) names
 
 -- The result of reading a directory by a reader that has these bytes left and failed or not: it
--- fails, or there are more parts than can be counted, or all names that the bytes hold are known.
+-- fails, or there are more bytes than can be counted, or all names that the bytes hold are known.
 abbrev pub IsListing : Option (List ℕ) → Bool → Result (Vec (Vec ℕ)) Refusal → Type 0
 IsListing left failed (Ok names) =
     (failed ≡ false) × IfSome left (λ bytes. IsListed bytes names.items)
 IsListing left failed (Err refusals.Read) = failed ≡ true
-IsListing left failed (Err refusals.TooLong) = failed ≡ false
+IsListing left failed (Err refusals.TooLong) =
+    (failed ≡ false) × IfSome left (λ bytes. 2 ^ 64 - 1 ≤ length bytes)
 IsListing left failed (Err refusals.Missing) = ⊥
 IsListing left failed (Err refusals.Denied) = ⊥
 IsListing left failed (Err refusals.Irregular) = ⊥

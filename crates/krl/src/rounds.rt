@@ -49,7 +49,11 @@ impl<'a, 'q, 'w> Rounds<'a, 'q, 'w> {
     }
 
     // Shows the counts so far.
-    fn show(&mut self) {
+    fn show(&mut self)
+        ensures rest { self.new ≡ record self.old {
+          auditor = record self.old.auditor { run = self.new.auditor.run };
+        } }
+    {
         let summary = self.summary();
         self.auditor.run.printer.out.show(&summary);
     }
@@ -137,13 +141,16 @@ impl<'a, 'q, 'w> Rounds<'a, 'q, 'w> {
         reader: &mut R,
     ) -> Result<Result<Vec<Vec<u8>>, Refusal>, AllocError>
         requires { R.has_failed reader.old ≡ false }
-        ensures { IfOk result (IsListing (R.left reader.old) (R.has_failed reader.new)) }
+        ensures names { IfOk result (IsListing (R.left reader.old) (R.has_failed reader.new)) }
+        ensures rest { self.new ≡ record self.old {
+          auditor = record self.old.auditor { run = self.new.auditor.run };
+        } }
     {
         let mut names = Vec::new(self.rt.alloc());
         let mut name = Vec::new(self.rt.alloc());
         let mut batch = [0; BUFFER];
         // A bound that no directory reaches, so that this ends whatever the system returns.
-        'batches: for _ in 0..u64::MAX {
+        'batches: for _part in 0..u64::MAX {
             let Ok(count) = reader.read(&mut batch) else {
                 return Ok(Err(Refusal::Read));
             };
@@ -165,8 +172,11 @@ impl<'a, 'q, 'w> Rounds<'a, 'q, 'w> {
         name: &mut Vec<u8>,
         names: &mut Vec<Vec<u8>>,
     ) -> Result<(), AllocError>
-        ensures { OnOk result ((rest : List ℕ) → Continues name.old.items (bytes.now ++ rest)
-            names.old.items name.new.items rest names.new.items) }
+        ensures names { OnOk result ((rest : List ℕ) → Continues name.old.items
+            (bytes.now ++ rest) names.old.items name.new.items rest names.new.items) }
+        ensures rest { self.new ≡ record self.old {
+          auditor = record self.old.auditor { run = self.new.auditor.run };
+        } }
     {
         for byte in bytes {
             if *byte != 0 {
