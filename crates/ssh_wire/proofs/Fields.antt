@@ -6,7 +6,7 @@ use Rattle.std.specs.Prelude.{IfOk}
 use Rattle.std.specs.Borrow.{Bor}
 use Rattle.std.specs.List.{flat_map}
 use Rattle.std.proofs.lemmas.Bool.{cases_lt, lt-ltb, ltb-false, le-ltb}
-use Rattle.std.proofs.lemmas.List.{take_at, drop_at, take-append-drop, length-append, length-drop}
+use Rattle.std.proofs.lemmas.List.{append-nil, take_at, drop_at, take-append-drop, length-append, length-drop}
 use Rattle.std.proofs.lemmas.List.{length-take, take_all}
 use Rattle.byteorder.specs.Endian.{big_number}
 use Rattle.byteorder.specs.Numbers.{big_from-lt, big_number-reads_back}
@@ -14,7 +14,7 @@ use Rattle.byteorder.specs.Numbers.{length-bytes_high_first}
 use Rattle.ssh_wire.specs.declared.fault.WireFault.{WireFault}
 use Rattle.ssh_wire.specs.declared.fault.WireFault.TheVariants.{Short}
 use Rattle.ssh_wire.specs.Wire.{BeginsWith, IsBytes, IsMagnitude, complement, mpint, number}
-use Rattle.ssh_wire.specs.Wire.{string}
+use Rattle.ssh_wire.specs.Wire.{number_of, string}
 use Rattle.ssh_wire.specs.Reading.{Lends, content_at, front_at, magnitude_at, magnitude_before}
 use Rattle.ssh_wire.specs.Reading.{magnitude_of, mpint_at, number_at, string_at}
 use Rattle.ssh_wire.proofs.Digits.{IsBytes-append, IsBytes-back, IsBytes-big, IsBytes-drop}
@@ -83,6 +83,24 @@ number_again k n rest lt =
     let long : ltb (length (number k n ++ rest)) k ≡ false =
     le-ltb _ _ (omega (arith, length-append (number k n) rest)) in
     rw (long, big_number-reads_back k n rest lt, drop_at (number k n) rest k len) refl
+
+-- the bytes of the number that bytes spell
+pub number-number_of : (size : ℕ) (bytes : List ℕ) → length bytes ≡ size → IsBytes bytes
+    → (number size (number_of bytes) ≡ bytes) × (number_of bytes < 256 ^ size)
+unfolding number number_of
+number-number_of size bytes whole fits =
+    let n = length bytes in
+    let back = big_bytes-number n bytes (omega arith) fits ∙ take_all n bytes (omega arith) in
+    subst (λ (k : ℕ). (number k (number_of bytes) ≡ bytes) × (number_of bytes < 256 ^ k)) whole
+    (back, big_from-lt 0 n bytes fits)
+
+-- the number that the bytes of a number spell
+pub number_of-number : (size n : ℕ) → n < 256 ^ size → number_of (number size n) ≡ n
+unfolding number number_of
+number_of-number size n lt =
+    let bytes = number size n in
+    ap (λ (k : ℕ). big_number k bytes) (length-number size n)
+    ∙ ap (big_number size) (sym (append-nil bytes)) ∙ big_number-reads_back size n [] lt
 
 -- ---- strings
 

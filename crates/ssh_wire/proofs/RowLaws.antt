@@ -1,16 +1,16 @@
 -- Tables: reading returns only what the table spells, reads each spelling, and reports its first fault; and a spelling
 -- that is truncated has a fault.
-use Rattle.std.proofs.Common.{◌≡◌, ℕ, ◌-◌, ◌<◌, List, [], ◌∷◌, ◌++◌, length, take, drop, slice_index, Option, Some, None, Result, Ok, Err, refl, sym, ap, subst, ◌∙◌, append_assoc, arith, inl, inr}
+use Rattle.std.proofs.Common.{◌≡◌, ℕ, ◌+◌, ◌-◌, ◌<◌, List, [], ◌∷◌, ◌++◌, length, take, drop, slice_index, Option, Some, None, Result, Ok, Err, refl, sym, ap, subst, ◌∙◌, append_assoc, arith, inl, inr}
 use Rattle.std.proofs.lemmas.Bool.{cases_lt}
 use Rattle.std.proofs.lemmas.List.{append-nil, length-append, length-drop, take-append-drop, take-append-le}
 use Rattle.ssh_wire.specs.Laws.{IsShortWhereCut}
-use Rattle.ssh_wire.specs.Wire.{IsBytes}
+use Rattle.ssh_wire.specs.Wire.{IsBytes, complement}
 use Rattle.ssh_wire.specs.Reading.{in_fault, mpint_at, number_at, string_at}
 use Rattle.ssh_wire.specs.Rows.{BeginsWithPart, Fails, IsPart, Leads, Magnitude, Number, Part, Step, StepFails, Text, alone, part_at, part_text, row_at, row_text, step_at, unless}
 use Rattle.ssh_wire.specs.declared.fault.WireFault.{WireFault}
 use Rattle.ssh_wire.specs.declared.fault.WireFault.TheVariants.{Short}
 use Rattle.ssh_wire.proofs.TruncatedFields.{mpint-cut, number-cut, string-cut, take-after}
-use Rattle.ssh_wire.proofs.Fields.{mpint_again, mpint_takes, number_again, number_takes, string_again, string_takes}
+use Rattle.ssh_wire.proofs.Fields.{length-mpint, length-number, length-string, mpint_again, mpint_takes, number_again, number_takes, string_again, string_takes}
 use Rattle.ssh_wire.proofs.Steps.{bind_err, bind_ok, err_is, in_fault_err, in_fault_ok, ok_or_err}
 
 -- ---- one part
@@ -66,7 +66,7 @@ part_cut part bytes value rest n s lt =
 
 -- ---- a row of a table
 
-unless_ok : {A F : Type 0} (o : Option F) (x y : A) → unless o x ≡ Ok y → (o ≡ None) × (x ≡ y)
+pub unless_ok : {A F : Type 0} (o : Option F) (x y : A) → unless o x ≡ Ok y → (o ≡ None) × (x ≡ y)
 unless_ok None x y e = (refl, cc)
 unless_ok (Some fault) x y e = absurd cc
 
@@ -202,3 +202,38 @@ pub leads_text : {F : Type 0} (steps : List (Step F)) (text : List ℕ) (values 
 leads_text steps text values l =
     let o = own_values steps [] text values [] l in
     subst (λ (v : List (List ℕ)). (text ≡ row_text steps v) × AreParts steps v) (sym o.all) (o.parts ∙ append-nil (row_text steps o.own), o.are)
+
+-- ---- the text of values
+
+-- each value is one of its row, and passes
+abbrev pub ArePassed : {F : Type 0} → List (Step F) → List (List ℕ) → List (List ℕ) → Type 0
+ArePassed [] before values = values ≡ []
+ArePassed (s ∷ steps) before [] = ⊥
+ArePassed (s ∷ steps) before (value ∷ values) = IsPart s.part value × (s.judged before value ≡ None) × ArePassed steps (before ++ value ∷ []) values
+
+pub row_led : {F : Type 0} (steps : List (Step F)) (before values : List (List ℕ)) → ArePassed steps before values → Leads steps before (row_text steps values) (before ++ values) []
+row_led [] before values none = (sym (append-nil before) ∙ ap (λ (others : List (List ℕ)). before ++ others) (sym none), refl)
+row_led (s ∷ steps) before [] none = absurd none
+row_led (s ∷ steps) before (value ∷ values) (is, passed, later) =
+    (value, row_text steps values, record { is_part = is; spelled = refl }, passed, rw (sym (append_assoc before (value ∷ []) values)) (row_led steps (before ++ value ∷ []) values later))
+
+-- how many bytes the encoding of a value has
+abbrev pub part_length : Part → List ℕ → ℕ
+part_length (Number size) value = size
+part_length Magnitude value = 4 + length (complement value)
+part_length Text value = 4 + length value
+
+length-part : (part : Part) (value : List ℕ) → length (part_text part value) ≡ part_length part value
+length-part (Number size) value = length-number size (slice_index value 0)
+length-part Magnitude value = length-mpint value
+length-part Text value = length-string value
+
+abbrev pub row_length : {F : Type 0} → List (Step F) → List (List ℕ) → ℕ
+row_length [] values = 0
+row_length (s ∷ steps) [] = 0
+row_length (s ∷ steps) (value ∷ values) = part_length s.part value + row_length steps values
+
+pub length-row : {F : Type 0} (steps : List (Step F)) (values : List (List ℕ)) → length (row_text steps values) ≡ row_length steps values
+length-row [] values = refl
+length-row (s ∷ steps) [] = refl
+length-row (s ∷ steps) (value ∷ values) = omega (arith, length-append (part_text s.part value) (row_text steps values), length-part s.part value, length-row steps values)
