@@ -6,7 +6,7 @@ use Rattle.std.specs.Result.{result_err, result_unwrap_or}
 use Rattle.std.proofs.lemmas.Bool.{eqb-true}
 use Rattle.ssh_wire.specs.Wire.{BeginsWith, IsBytes, strings}
 use Rattle.ssh_wire.specs.Reading.{in_fault, string_at}
-use Rattle.ssh_wire.specs.Rows.{IsPart, Number}
+use Rattle.ssh_wire.specs.Rows.{IsPart, Number, Part, Text}
 use Rattle.ssh_wire.proofs.Fields.{string_read, string_takes}
 use Rattle.ssh_wire.proofs.Steps.{bind_ok, in_fault_ok, some_ok}
 use Rattle.ssh_key.specs.declared.kind.Kind.{Kind}
@@ -20,9 +20,9 @@ use Rattle.ssh_cert.specs.declared.fault.CertFault.{CertFault}
 use Rattle.ssh_cert.specs.declared.fault.CertFault.TheVariants as faults
 use Rattle.ssh_cert.specs.declared.role.Role.{Role}
 use Rattle.ssh_cert.specs.declared.role.Role.TheVariants.{User, Host}
-use Rattle.ssh_cert.specs.Cert.{role_number}
-use Rattle.ssh_cert.specs.CertReading.{no_key}
-use Rattle.ssh_cert.specs.Field.{algorithm_in, authority_in, kind_in, options_in, principals_in, role_in, role_of}
+use Rattle.ssh_cert.specs.Cert.{IsValue, Value, role_number, text_of}
+use Rattle.ssh_cert.specs.CertReading.{no_key, value_of}
+use Rattle.ssh_cert.specs.Field.{Bytes, Count, KeyBlob, Meaning, Options, Principals, RoleNumber, Signature, algorithm_in, authority_in, kind_in, options_in, principals_in, role_in, role_of, step_of}
 use Rattle.ssh_cert.specs.Options.{CertOption, options_of, options_text, pairs_of, parts_of}
 use Rattle.ssh_cert.specs.Strings.{strings_of}
 use Rattle.ssh_cert.proofs.StringLists.{map_some, strings_of_again, strings_of_takes}
@@ -53,25 +53,25 @@ role_by false false role e = absurd cc
 role_takes : (n : ℕ) (role : Role) → role_of n ≡ Some role → n ≡ role_number role
 role_takes n role e = grind (arith, common_steps, eqb-true, role_by)
 
-pub role_same : (number : List ℕ) → IsPart (Number 4) number → result_err (role_in number) ≡ None → number ≡ role_number (result_unwrap_or (role_in number) User) ∷ []
+role_same : (number : List ℕ) → IsPart (Number 4) number → result_err (role_in number) ≡ None → number ≡ role_number (result_unwrap_or (role_in number) User) ∷ []
 unfolding role_in
 role_same number is e =
     meant (λ (role : Role). number ≡ role_number role ∷ []) (role_in number) User e
     (λ role read. is.0 ∙ ap (λ (n : ℕ). n ∷ []) (role_takes (slice_index number 0) role (some_ok (role_of (slice_index number 0)) faults.CertType role read)))
 
-pub role_again : (role : Role) → role_in (role_number role ∷ []) ≡ Ok role
+role_again : (role : Role) → role_in (role_number role ∷ []) ≡ Ok role
 unfolding role_in
 role_again User = refl
 role_again Host = refl
 
 -- ---- principals and options
 
-pub principals_same : (text : List ℕ) → IsBytes text → result_err (principals_in text) ≡ None → text ≡ strings (result_unwrap_or (principals_in text) [])
+principals_same : (text : List ℕ) → IsBytes text → result_err (principals_in text) ≡ None → text ≡ strings (result_unwrap_or (principals_in text) [])
 unfolding principals_in
 principals_same text fits e =
     meant (λ (list : List (List ℕ)). text ≡ strings list) (principals_in text) [] e (λ list read. strings_of_takes text list fits (some_ok (strings_of text) faults.Principals list read))
 
-pub principals_again : (list : List (List ℕ)) → length (strings list) < 2 ^ 32 → principals_in (strings list) ≡ Ok list
+principals_again : (list : List (List ℕ)) → length (strings list) < 2 ^ 32 → principals_in (strings list) ≡ Ok list
 unfolding principals_in
 principals_again list lt = rw (strings_of_again list lt) refl
 
@@ -94,22 +94,22 @@ some_then (Some list) options e = (list, refl, e)
 options_take : (bytes : List ℕ) (options : List CertOption) → IsBytes bytes → options_of bytes ≡ Some options → bytes ≡ options_text options
 options_take bytes options fits e = grind (arith, common_steps, pairs_take, some_then, strings_of_takes)
 
-pub options_same : (text : List ℕ) → IsBytes text → result_err (options_in text) ≡ None → text ≡ options_text (result_unwrap_or (options_in text) [])
+options_same : (text : List ℕ) → IsBytes text → result_err (options_in text) ≡ None → text ≡ options_text (result_unwrap_or (options_in text) [])
 unfolding options_in
 options_same text fits e =
     meant (λ (options : List CertOption). text ≡ options_text options) (options_in text) [] e (λ options read. options_take text options fits (some_ok (options_of text) faults.Options options read))
 
-pub options_again : (options : List CertOption) → length (options_text options) < 2 ^ 32 → options_in (options_text options) ≡ Ok options
+options_again : (options : List CertOption) → length (options_text options) < 2 ^ 32 → options_in (options_text options) ≡ Ok options
 unfolding options_in
 options_again options lt = rw (strings_of_again (parts_of options) lt, pairs_again options) refl
 
 -- ---- the signature key and the signature
 
-pub authority_same : (blob : List ℕ) → IsBytes blob → result_err (authority_in blob) ≡ None → IsKey blob (result_unwrap_or (authority_in blob) no_key)
+authority_same : (blob : List ℕ) → IsBytes blob → result_err (authority_in blob) ≡ None → IsKey blob (result_unwrap_or (authority_in blob) no_key)
 unfolding authority_in
 authority_same blob fits e = meant (IsKey blob) (authority_in blob) no_key e (λ key read. key_found blob key fits (in_fault_ok faults.Authority (key_at blob) key read))
 
-pub authority_again : (blob : List ℕ) (key : PublicKey) → IsKey blob key → authority_in blob ≡ Ok key
+authority_again : (blob : List ℕ) (key : PublicKey) → IsKey blob key → authority_in blob ≡ Ok key
 unfolding authority_in
 authority_again blob key is = rw (key_again blob key is) refl
 
@@ -121,9 +121,35 @@ algorithm_begins signature algorithm fits e =
     let same : first.0.0 ≡ algorithm = let last = first.2 in cc in
     rw (← same) (record { rest = first.0.1; spelled = t.0.parts; fits = t.1 })
 
-pub algorithm_same : (signature : List ℕ) → IsBytes signature → result_err (algorithm_in signature) ≡ None → BeginsWith signature (result_unwrap_or (algorithm_in signature) [])
+algorithm_same : (signature : List ℕ) → IsBytes signature → result_err (algorithm_in signature) ≡ None → BeginsWith signature (result_unwrap_or (algorithm_in signature) [])
 algorithm_same signature fits e = meant (BeginsWith signature) (algorithm_in signature) [] e (λ algorithm read. algorithm_begins signature algorithm fits read)
 
-pub algorithm_again : (signature algorithm : List ℕ) → BeginsWith signature algorithm → algorithm_in signature ≡ Ok algorithm
+algorithm_again : (signature algorithm : List ℕ) → BeginsWith signature algorithm → algorithm_in signature ≡ Ok algorithm
 unfolding algorithm_in
 algorithm_again signature algorithm begins = rw (string_read signature algorithm begins) refl
+
+-- ---- any field after the public ones
+
+-- the text has only bytes, if its part is a string
+abbrev pub HasBytes : Part → List ℕ → Type 0
+HasBytes Text text = IsBytes text
+HasBytes part text = Unit {0}
+
+pub value_same : (meaning : Meaning) (before : List (List ℕ)) (text : List ℕ) → IsPart (step_of meaning).part text → HasBytes (step_of meaning).part text → (step_of meaning).judged before text ≡ None
+    → (text_of meaning (value_of meaning text) ≡ text) × IsValue meaning (value_of meaning text)
+value_same Count before text is fits passed = (sym is.0, tt)
+value_same Bytes before text is fits passed = (refl, tt)
+value_same RoleNumber before text is fits passed = (sym (role_same text is passed), tt)
+value_same Principals before text is fits passed = (sym (principals_same text fits passed), tt)
+value_same Options before text is fits passed = (sym (options_same text fits passed), tt)
+value_same KeyBlob before text is fits passed = (refl, authority_same text fits passed)
+value_same Signature before text is fits passed = (refl, algorithm_same text fits passed)
+
+pub value_again : (meaning : Meaning) (value : Value meaning) → IsPart (step_of meaning).part (text_of meaning value) → IsValue meaning value → value_of meaning (text_of meaning value) ≡ value
+value_again Count value is stands = refl
+value_again Bytes value is stands = refl
+value_again RoleNumber value is stands = rw (role_again value) refl
+value_again Principals value is stands = rw (principals_again value is) refl
+value_again Options value is stands = rw (options_again value is) refl
+value_again KeyBlob value is stands = rw (authority_again value.0 value.1 stands) refl
+value_again Signature value is stands = rw (algorithm_again value.0 value.1 stands) refl

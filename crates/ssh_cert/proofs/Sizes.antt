@@ -1,35 +1,22 @@
 -- A subject has no more bytes than its blob.
-use Rattle.std.proofs.Common.{◌≡◌, ℕ, ◌+◌, List, [], ◌∷◌, ◌++◌, length, refl, ap, ◌∙◌, arith}
+use Rattle.std.proofs.Common.{◌≡◌, ℕ, ◌+◌, List, ◌++◌, length, ap, ◌∙◌, arith}
 use Rattle.std.proofs.lemmas.List.{length-append}
-use Rattle.ssh_wire.specs.Rows.{Step, part_text, row_text}
 use Rattle.ssh_wire.specs.Wire.{string}
-use Rattle.ssh_wire.proofs.Fields.{length-number, length-string}
-use Rattle.ssh_wire.proofs.RowLaws.{leads_text}
+use Rattle.ssh_wire.proofs.Fields.{length-string}
+use Rattle.ssh_wire.proofs.RowLaws.{leads_text, length-row, row_length}
 use Rattle.ssh_key.specs.Kind.{certificate_name, type_name}
 use Rattle.ssh_key.proofs.Sizes.{key_room, name_room}
 use Rattle.krl_types.specs.Subject.{Subject}
 use Rattle.ssh_cert.specs.AnyKey.{IsReadAs, asked_of}
 use Rattle.ssh_cert.specs.declared.any_key.AnyKey.{AnyKey}
 use Rattle.ssh_cert.specs.declared.any_key.AnyKey.TheVariants.{Plain, Certified}
-use Rattle.ssh_cert.specs.declared.fault.CertFault.{CertFault}
-use Rattle.ssh_cert.specs.Cert.{Cert, IsCertificate, closing_values}
-use Rattle.ssh_cert.specs.Field.{closing_fields}
+use Rattle.ssh_cert.specs.Cert.{Cert, IsCertificate, texts_of}
+use Rattle.ssh_cert.specs.Field.{closing_fields, closing_table}
 use Rattle.ssh_cert.specs.Sizes.{IsWithinBlob}
 use Rattle.ssh_cert.specs.SubjectReading.{IsSubject, plain_key, certified, of_certificate}
 use Rattle.ssh_cert.proofs.Certs.{opening_spelled}
 
 -- ---- certificates
-
--- the bytes of the values of a table
-abbrev lengths : List (Step CertFault) → List (List ℕ) → ℕ
-lengths [] values = 0
-lengths (s ∷ steps) [] = 0
-lengths (s ∷ steps) (value ∷ values) = length (part_text s.part value) + lengths steps values
-
-length-row_text : (steps : List (Step CertFault)) (values : List (List ℕ)) → length (row_text steps values) ≡ lengths steps values
-length-row_text [] values = refl
-length-row_text (s ∷ steps) [] = refl
-length-row_text (s ∷ steps) (value ∷ values) = omega (arith, length-append (part_text s.part value) (row_text steps values), length-row_text steps values)
 
 certificate_room : (blob : List ℕ) (certificate : Cert) → IsCertificate blob certificate → IsWithinBlob blob (of_certificate certificate)
 certificate_room blob certificate is =
@@ -37,18 +24,18 @@ certificate_room blob certificate is =
     let name : List ℕ = string (certificate_name kind) in
     let nonce : List ℕ = string certificate.nonce in
     let fields : List ℕ = certificate.key.fields in
-    let values : List (List ℕ) = closing_values certificate is.reserved is.signature in
+    let values : List (List ℕ) = texts_of closing_table is.values in
     let opening : length blob ≡ length name + (length nonce + length is.fields) =
     ap length (opening_spelled blob (certificate_name kind) certificate.nonce is.fields is.opening) ∙ omega (arith, length-append name (nonce ++ is.fields), length-append nonce is.fields) in
     let public : length is.fields ≡ length fields + length is.rest = ap length is.public.spelled ∙ length-append fields is.rest in
-    let closing : length is.rest ≡ lengths closing_fields values = ap length (leads_text closing_fields is.rest values is.closing).0 ∙ length-row_text closing_fields values in
+    let closing : length is.rest ≡ row_length closing_fields values = ap length (leads_text closing_fields is.rest values is.closing).0 ∙ length-row closing_fields values in
     let first = length-string (certificate_name kind) in
-    let id = length-string certificate.key_id in
-    let authority = length-string certificate.authority in
+    let id = ap (λ (c : Cert). length c.key_id) is.same in
+    let authority = ap (λ (c : Cert). length c.authority) is.same in
     record {
       asked_is = omega (arith, opening, public, closing, first, id, authority);
       together = omega (arith, opening, public, closing, first, id, authority, (name_room kind).1, length-append (string (type_name kind)) fields, length-string (type_name kind));
-      least = omega (arith, opening, public, closing, first, id, authority, length-number 8 certificate.serial, length-number 8 certificate.after);
+      least = omega (arith, opening, public, closing, first, id, authority);
     }
 
 -- ---- subjects

@@ -11,9 +11,9 @@ use Rattle.ssh_key.specs.FirstFault.{IsFieldsFault}
 use Rattle.ssh_key.specs.Key.{BeginsWithFields}
 use Rattle.ssh_key.proofs.TruncatedBlobs.{public_cut}
 use Rattle.ssh_cert.specs.declared.fault.CertFault.TheVariants as faults
-use Rattle.ssh_cert.specs.Cert.{Cert, IsCertificate, closing_values, opening_values}
+use Rattle.ssh_cert.specs.Cert.{Cert, IsCertificate, opening_values, texts_of}
 use Rattle.ssh_cert.specs.CertReading.{kind_of}
-use Rattle.ssh_cert.specs.Field.{closing_fields, cut_short, opening_fields}
+use Rattle.ssh_cert.specs.Field.{closing_fields, closing_table, cut_short, opening_fields}
 use Rattle.ssh_cert.specs.FirstFault.{in_closing, in_key, in_opening}
 use Rattle.ssh_cert.specs.Laws.{HasCutFault, IsCut}
 use Rattle.ssh_cert.proofs.Certs.{kind_is}
@@ -38,7 +38,7 @@ cut_fields blob front c n is lt opening =
             fault = faults.Wire;
             first =
                 in_closing c.key (take m is.rest) (record { values = opening_values c; fields = take n is.fields; opening = opening; kind = kind; public = begins })
-                (row_cut cut_short closing_fields [] is.rest (closing_values c is.reserved is.signature) m is.closing fewer);
+                (row_cut cut_short closing_fields [] is.rest (texts_of closing_table is.values) m is.closing fewer);
             cut = tt;
           }
     ]

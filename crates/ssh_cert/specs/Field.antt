@@ -1,7 +1,7 @@
 -- The fields of a certificate as tables (PROTOCOL.certkeys): those before the public fields of its
 -- key, which `ssh_key` has as tables, and those after them.
-use Rattle.std.specs.Prelude.{ℕ, List, [], ◌∷◌, slice_index, Option, Some, None, Result, Ok, ◌==◌}
-use Rattle.std.specs.Prelude.{if◌then◌else◌}
+use Rattle.std.specs.Prelude.{ℕ, List, [], ◌∷◌, map, slice_index, Option, Some, None, Result, Ok}
+use Rattle.std.specs.Prelude.{◌==◌, if◌then◌else◌}
 use Rattle.std.specs.Option.{ok_or}
 use Rattle.std.specs.Result.{result_err}
 use Rattle.ssh_wire.specs.Reading.{◌>>=◌, in_fault, string_at}
@@ -62,20 +62,47 @@ meaning part read = step part (λ before value. result_err (read value))
 abbrev pub opening_fields : List (Step CertFault)
 opening_fields = meaning Text kind_in ∷ step Text passes ∷ []
 
+-- what the value of a field after the public ones means
+pub data Meaning : Type 0 where
+  -- a number of eight bytes
+  Count : Meaning
+  -- any bytes
+  Bytes : Meaning
+  RoleNumber : Meaning
+  Principals : Meaning
+  -- options or extensions
+  Options : Meaning
+  -- the blob of a key
+  KeyBlob : Meaning
+  -- a signature, which begins with the name of its algorithm
+  Signature : Meaning
+
+abbrev pub step_of : Meaning → Step CertFault
+step_of Count = step (Number 8) passes
+step_of Bytes = step Text passes
+step_of RoleNumber = meaning (Number 4) role_in
+step_of Principals = meaning Text principals_in
+step_of Options = meaning Text options_in
+step_of KeyBlob = meaning Text authority_in
+step_of Signature = meaning Text algorithm_in
+
 -- The serial number, the role, the key ID, the principals, the times between which the certificate
 -- is valid, the critical options, the extensions, the reserved field, the signature key and the
 -- signature.
-abbrev pub closing_fields : List (Step CertFault)
-closing_fields =
-    step (Number 8) passes
-    ∷ meaning (Number 4) role_in
-    ∷ step Text passes
-    ∷ meaning Text principals_in
-    ∷ step (Number 8) passes
-    ∷ step (Number 8) passes
-    ∷ meaning Text options_in
-    ∷ meaning Text options_in
-    ∷ step Text passes
-    ∷ meaning Text authority_in
-    ∷ meaning Text algorithm_in
+abbrev pub closing_table : List Meaning
+closing_table =
+    Count
+    ∷ RoleNumber
+    ∷ Bytes
+    ∷ Principals
+    ∷ Count
+    ∷ Count
+    ∷ Options
+    ∷ Options
+    ∷ Bytes
+    ∷ KeyBlob
+    ∷ Signature
     ∷ []
+
+abbrev pub closing_fields : List (Step CertFault)
+closing_fields = map step_of closing_table
