@@ -1,15 +1,16 @@
 -- The front of a list, and of each of its sections.
-use Rattle.std.proofs.Common.{◌≡◌, ℕ, ◌+◌, ◌^◌, ◌<◌, ◌≤◌, Bool, true, false, List, [], ◌∷◌, ◌++◌, length, take, drop, ◌-◌, refl, sym, ap, subst, ◌∙◌, arith, length-append, append_assoc}
+use Rattle.std.proofs.Common.{◌≡◌, ℕ, ◌^◌, ◌<◌, Bool, true, false, List, [], ◌∷◌, ◌++◌, length, refl, sym, ap, subst, ◌∙◌, arith, length-append, append_assoc}
 use Rattle.std.proofs.lemmas.Bool.{false≢true}
-use Rattle.std.proofs.lemmas.List.{append-nil, drop-drop, drop_at, take_all}
-use Rattle.std.specs.Prelude.{IsTrue, ◌↔◌, Result, Ok, Err, slice_index, slice_index_or}
-use Rattle.ssh_wire.specs.Rows.{BeginsWithPart, Leads, Number, Text}
+use Rattle.std.proofs.lemmas.List.{append-nil}
+use Rattle.std.specs.Prelude.{IsTrue, ◌↔◌, Option, Some, Result, Ok, Err, slice_index_or}
+use Rattle.ssh_wire.specs.Rows.{BeginsWithPart, Leads, Text}
 use Rattle.ssh_wire.specs.declared.fault.WireFault.{WireFault}
-use Rattle.ssh_wire.specs.Wire.{number, string}
-use Rattle.ssh_wire.proofs.Fields.{length-number}
-use Rattle.krl_core.specs.Krl.{Certificates, Signature, SpelledSection, Spells, SpellsContent, SpellsEach, SpellsSection, authority_fields}
-use Rattle.krl_core.specs.declared.header.Header.{Header}
+use Rattle.ssh_wire.specs.Wire.{string}
+use Rattle.krl_core.specs.Field.{row_of, steps_of}
+use Rattle.krl_core.specs.Krl.{Certificates, Signature, SpelledSection, SpellsContent, SpellsEach, SpellsSection, authority_fields}
+use Rattle.krl_core.specs.declared.place.field.Field.{Field}
 use Rattle.krl_core.proofs.OneSpelling.{section_type}
+use Rattle.krl_core.proofs.TableRows.{after_is, fields_at}
 use Rattle.krl_authority.specs.Authority.{AuthoritiesAreKeys, IsJudged, IsKeyOrAll}
 
 -- ---- what was read
@@ -28,34 +29,19 @@ not_both read fault x e f = absurd cc
 
 -- ---- the header
 
--- the bytes after a number
-number_dropped : (k at : ℕ) (list bytes value left : List ℕ) → drop at list ≡ bytes → BeginsWithPart (Number k) bytes value left → (drop (at + k) list ≡ left) × (length bytes ≡ k + length left)
-number_dropped k at list bytes value left e begins =
-    let n = number k (slice_index value 0) in
-    let size : length n ≡ k = length-number k (slice_index value 0) in
-    (sym (drop-drop k at list) ∙ ap (drop k) (e ∙ begins.spelled) ∙ drop_at n left k size, omega (arith, ap length begins.spelled, length-append n left, size))
+-- the fields of the header from one on, and then the sections
+abbrev pub Leaves : Option Field → (left body : List ℕ) → Type 0
+Leaves at left body = (before values : List (List ℕ)) × Leads (steps_of (fields_at at)) before left values body
 
--- after its first 36 bytes are two strings and the sections
-pub left_at : (list : List ℕ) (header : Header) (sections : List SpelledSection) (spells : Spells list header sections)
-    → (36 ≤ length list) × (reserved comment : List ℕ) × (take (length list - 36) (drop 36 list) ≡ string reserved ++ (string comment ++ spells.body))
-    × (length reserved < 2 ^ 32) × (length comment < 2 ^ 32)
-left_at list header sections spells =
-    let magic = spells.fields in
-    let format = magic.4 in
-    let version = format.4 in
-    let date = version.4 in
-    let flags = date.4 in
-    let reserved = flags.4 in
-    let comment = reserved.4 in
-    let none = number_dropped 8 0 list list magic.0 magic.1 refl magic.2 in
-    let one = number_dropped 4 8 list magic.1 format.0 format.1 none.0 format.2 in
-    let two = number_dropped 8 12 list format.1 version.0 version.1 one.0 version.2 in
-    let three = number_dropped 8 20 list version.1 date.0 date.1 two.0 date.2 in
-    let four = number_dropped 8 28 list date.1 flags.0 flags.1 three.0 flags.2 in
-    let long : length list ≡ 36 + length flags.1 = omega (arith, none.1, one.1, two.1, three.1, four.1) in
-    let left = reserved.2.spelled ∙ ap (λ (x : List ℕ). string reserved.0 ++ x) (comment.2.spelled ∙ ap (λ (x : List ℕ). string comment.0 ++ x) comment.4.1) in
-    let taken = ap (take (length list - 36)) four.0 ∙ take_all (length list - 36) flags.1 (omega (arith, long)) in
-    (omega (arith, long), reserved.0, comment.0, taken ∙ left, reserved.2.is_part, comment.2.is_part)
+-- the field at the front
+pub leaves_field : (field : Field) (left body : List ℕ) → Leaves (Some field) left body → (value rest : List ℕ) × BeginsWithPart (row_of field).step.part left value rest
+leaves_field field left body (before, values, (value, tail, begins, passed, later)) = (value, tail, begins)
+
+-- and what is left after it
+pub leaves_next : (field : Field) (left new body : List ℕ) → Leaves (Some field) left body → ((value rest : List ℕ) → BeginsWithPart (row_of field).step.part left value rest → new ≡ rest)
+    → Leaves (row_of field).next new body
+leaves_next field left new body (before, values, (value, tail, begins, passed, later)) skipped =
+    (before ++ value ∷ [], values, rw (skipped value tail begins, ← after_is field) later)
 
 -- ---- a section
 

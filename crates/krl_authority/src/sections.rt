@@ -2,17 +2,17 @@
 
 ghost use Rattle.std.specs.Prelude.{◌≡◌, ◌↔◌, ◌<◌, ◌≤◌, ◌^◌, ◌++◌, List, ℕ, IsTrue, MatchOption};
 ghost use Rattle.std.specs.Prelude.{length};
+ghost use Rattle.ssh_wire.specs.Rows.{BeginsWithPart};
 ghost use Rattle.ssh_wire.specs.Wire.{string};
+ghost use Rattle.krl_core.specs.Field.{part_of};
 ghost use Rattle.krl_core.specs.Krl.{SpelledSection, Spells, SpellsSection};
 ghost use Rattle.krl_core.specs.declared.header.Header.{Header as HeaderOf};
 ghost use Rattle.krl_authority.specs.Authority.{AuthoritiesAreKeys, IsJudged, IsKeyOrAll};
 
+use krl_core::{Field, FieldPart};
 use ssh_key::laws::read_where_spelled;
 use ssh_key::read_key;
 use ssh_wire::Cursor;
-
-// The length of a list's header before its two strings, in bytes.
-const FIXED: usize = 36;
 
 /// Whether each certificate authority that a list names is a key in its one spelling, or empty,
 /// which means all authorities. The list must be one that can be read; for other bytes nothing is
@@ -47,23 +47,46 @@ pub fn is_key_or_all(authority: &[u8]) -> bool
     }
 }
 
-// The bytes after the header.
+// The bytes after the header, whose fields are skipped one after the other.
 fn past_header(list: &[u8]) -> Option<&[u8]>
     ensures { (header : HeaderOf) (sections : List SpelledSection)
         (spells : Spells list.now header sections)
         → MatchOption result ⊥ (λ rest. rest.now ≡ spells.body) }
 {
-    if list.len() < FIXED {
-        return None;
+    let mut left = Cursor::new(list);
+    let mut at = Some(Field::Magic);
+    while let Some(field) = at {
+        let (_, part, next) = field.row();
+        if !skips_part(part, &mut left) {
+            return None;
+        }
+        at = next;
     }
-    let mut left = Cursor::new(&list[FIXED..]);
-    let Some(_reserved) = take_string(&mut left) else {
-        return None;
-    };
-    let Some(_comment) = take_string(&mut left) else {
-        return None;
-    };
     Some(left.rest())
+}
+
+// Skips the part at the front, if there is one.
+fn skips_part(part: FieldPart, left: &mut Cursor) -> bool
+    ensures { (value rest : List ℕ) → BeginsWithPart (part_of part) left.old value rest
+        → IsTrue result × (left.new ≡ rest) }
+{
+    match part {
+        FieldPart::Number(size) => skips_bytes(size as usize, left),
+        FieldPart::Text => skips_string(left),
+    }
+}
+
+// Skips this many bytes, if there are as many.
+fn skips_bytes(count: usize, left: &mut Cursor) -> bool
+    ensures { (bytes rest : List ℕ) → left.old ≡ bytes ++ rest → length bytes ≡ count
+        → IsTrue result × (left.new ≡ rest) }
+{
+    let bytes = left.rest();
+    if bytes.len() < count {
+        return false;
+    }
+    *left = Cursor::new(&bytes[count..]);
+    true
 }
 
 // Skips a section, and returns whether its authority, if it has one, is a key or empty.

@@ -7,7 +7,7 @@ pub use Rattle.std.proofs.Common.{IsTrue, le-leb, le-ltb, leb, leb-false, leb-tr
 pub use Rattle.std.proofs.Common.{length-append, length-drop, length-take, length-take-le, List}
 pub use Rattle.std.proofs.Common.{lt-ltb, ltb, ltb-false, ltb-true, map, mul-le-mul_right, nat_lt}
 pub use Rattle.std.proofs.Common.{ne_eqb, None, not, Ok, OnOk, Option, option_to_list, pow-add}
-pub use Rattle.std.proofs.Common.{refl, Result, reverse, rules, Some, subst, subst₂, suc, sum_by}
+pub use Rattle.std.proofs.Common.{refl, Result, reverse, rules, Some, subst, suc, sum_by}
 pub use Rattle.std.proofs.Common.{sym, take, take-add, take-append-drop, take_all, true, w8, zero}
 pub use Rattle.std.proofs.Common.{ℕ}
 pub use Rattle.byte_streams.specs.Pull.{after_ahead, available, left_of, Pull, Refuses, Takes}
@@ -18,7 +18,7 @@ pub use Rattle.krl_core.specs.FieldStore.{Adds, AddsEntries, ChangesOnlyEntries,
 pub use Rattle.krl_core.specs.FieldStore.{Gains, GrowsAtMost, held_with_open, InStep, open_run, Skips}
 pub use Rattle.krl_core.specs.FieldStore.{stored_header, stored_header_after, StoresAtMost}
 pub use Rattle.krl_core.specs.FieldStore.{StoresBits, StoresEntries, StoresField, StoresNoMore}
-pub use Rattle.krl_core.specs.Field.{empty_header, fields_after, fields_from, header_from}
+pub use Rattle.krl_core.specs.Field.{empty_header, fields_after, header_from}
 pub use Rattle.krl_core.specs.Field.{header_with, row_of, steps_of}
 pub use Rattle.krl_core.specs.Front.{ended, ends_early, HasRoom, IsEnd, IsFirstFault, IsFront}
 pub use Rattle.krl_core.specs.Front.{IsLongestFront, Leads, limit, no_room, Passes, refused}
@@ -31,7 +31,7 @@ pub use Rattle.krl_core.specs.Krl.{Sha256s, Signature, SignaturesLast, SpelledSe
 pub use Rattle.krl_core.specs.Krl.{SpellsBitmap, SpellsCertificates, SpellsContent, SpellsEach}
 pub use Rattle.krl_core.specs.Krl.{SpellsSection, SpellsSubsection, Subsection}
 pub use Rattle.krl_core.specs.Krl.{subsection_type, SubsectionContent, SubsectionExtension}
-pub use Rattle.krl_core.specs.Place.{authority_after, base_of, bits_judged, bits_within, can_end}
+pub use Rattle.krl_core.specs.Place.{authority_after, base_of, bits_judged, can_end}
 pub use Rattle.krl_core.specs.Place.{Expected, expected, header_after, highest_bit, item_entry}
 pub use Rattle.krl_core.specs.Place.{item_size, judge, length_within, names, next_bits, next_item}
 pub use Rattle.krl_core.specs.Place.{next_serial, next_subsection, passes_end, place_of_type}
@@ -48,7 +48,6 @@ pub use Rattle.krl_core.specs.declared.place.field.Table.{Table}
 pub use Rattle.krl_core.specs.declared.place.list.ItemKind.{ItemKind}
 pub use Rattle.krl_entries.proofs.Elements.{all_append, contains_cases, contains_none}
 pub use Rattle.krl_entries.proofs.Equivalences.{contains_one, iff_both, iff_none, iff_or, iff_swap}
-pub use Rattle.krl_entries.proofs.Numbers.{number_again4, number_again8, number_back4, number_back8}
 pub use Rattle.krl_entries.proofs.Numbers.{number_of-one, one_byte}
 pub use Rattle.krl_entries.proofs.SameNames.{AreSerials, IsSerials, mapped_name, one_more}
 pub use Rattle.krl_entries.proofs.SameNames.{same_append, same_between, same_from_one, same_is}
@@ -72,10 +71,10 @@ pub use Rattle.serial_set.specs.declared.span.Span.{Span}
 pub use Rattle.ssh_wire.proofs.Digits.{bytes_as_bits, IsBytes-append, IsBytes-back, IsBytes-drop}
 pub use Rattle.ssh_wire.proofs.Digits.{IsBytes-front, IsBytes-nil, IsBytes-tail, IsBytes-take}
 pub use Rattle.ssh_wire.proofs.Fields.{IsBytes-in_string, length-number, length-numbers}
-pub use Rattle.ssh_wire.proofs.Fields.{length-string}
+pub use Rattle.ssh_wire.proofs.Fields.{length-string, number-number_of, number_of-number}
 pub use Rattle.ssh_wire.proofs.Steps.{never_err, ok_is, ok_or_not, passed_ok}
-pub use Rattle.ssh_wire.proofs.RowLaws.{leads_front, leads_more}
-pub use Rattle.ssh_wire.specs.Rows.{BeginsWithPart, fault_unless, Leads as LeadsRow, Number}
+pub use Rattle.ssh_wire.proofs.RowLaws.{leads_front, leads_more, unless_ok}
+pub use Rattle.ssh_wire.specs.Rows.{BeginsWithPart, Leads as LeadsRow, Number}
 pub use Rattle.ssh_wire.specs.Rows.{passes, Step, step, Text}
 pub use Rattle.ssh_wire.specs.Wire.{IsBytes, strings}
 unfoldable pub use Rattle.ssh_wire.specs.Wire.{number, number_of, string}

@@ -7,7 +7,7 @@ use Rattle.krl_core.proofs.Common.{flat_map, get_or, Header, header_after, IdEnt
 use Rattle.krl_core.proofs.Common.{IsBytes-back, IsBytes-front, item_entry, item_size, Keys, Leads}
 use Rattle.krl_core.proofs.Common.{leads_front, leb, leb-true, length, length-append, length-number}
 use Rattle.krl_core.proofs.Common.{length-string, List, ltb, ltb-true, map, names, next_bits}
-use Rattle.krl_core.proofs.Common.{number, number_back8, number_of, Ok, one_byte}
+use Rattle.krl_core.proofs.Common.{number, number-number_of, number_of, Ok, one_byte}
 use Rattle.krl_core.proofs.Common.{passed_ok, Passes, passes_end, Place, Range, RangeEntry, refl}
 use Rattle.krl_core.proofs.Common.{same_append, same_is, same_refl, same_then, section_of_type}
 use Rattle.krl_core.proofs.Common.{Serials, SerialsEntry, Sha1s, Sha256s, State, state_after}
@@ -120,7 +120,7 @@ field_front last h a (places.Serials (serials.RangeLength left)) q field tail mo
 field_front last h a (places.Serials (serials.RangeMin after)) q field tail more fits pass k = number_front field tail fits pass.whole (k _ pass.judged)
 field_front last h a (places.Serials (serials.RangeMax min after)) q field tail more fits pass k =
     let w = passed_ok (leb min (number_of field)) faults.RangeReversed _ q pass.judged in
-    let n = number_back8 field pass.whole fits in
+    let n = number-number_of 8 field pass.whole fits in
     record {
       max = number_of field;
       rest = tail;

@@ -1,18 +1,13 @@
 -- Judgements that passed: the places after them.
 use Rattle.krl_core.proofs.Common.{[], ◌∷◌, ◌≡◌, ◌⊎◌, AllByRecursion, Bool, cond, eqb, eqb-true}
-use Rattle.krl_core.proofs.Common.{Err, false, inl, inr, KrlFault, List, None, Ok}
-use Rattle.krl_core.proofs.Common.{ok_is, Option, Place, place_of_type, refl, Result, Some, subst, sym, true, ℕ}
-use Rattle.ssh_wire.specs.Rows.{unless}
+use Rattle.krl_core.proofs.Common.{Err, false, inl, inr, KrlFault, List, Ok}
+use Rattle.krl_core.proofs.Common.{ok_is, Place, place_of_type, refl, Result, subst, sym, true, ℕ}
 
 abbrev pub done : Place → Result Place KrlFault
 done p = Ok p
 
 pub same_place : (p q : Place) → done p ≡ done q → p ≡ q
 same_place p q e = ok_is p q (done p) refl e
-
-pub unless_ok : (fault : Option KrlFault) (p q : Place) → unless fault p ≡ done q → (fault ≡ None) × (p ≡ q)
-unless_ok None p q e = (refl, same_place p q e)
-unless_ok (Some fault) p q e = absurd (cc)
 
 pub held_back : (b : Bool) (why : KrlFault) (x : Result Place KrlFault) (q : Place) → cond b (Err why) x ≡ Ok q → (b ≡ false) × (x ≡ Ok q)
 held_back true why x q e = absurd (cc)

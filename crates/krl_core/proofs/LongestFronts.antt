@@ -5,9 +5,9 @@ use Rattle.krl_core.proofs.Common.{expected, false, Field, false≢true, HasRoom
 use Rattle.krl_core.proofs.Common.{IsFirstFault, ItemKind, KrlFault, length, length-drop}
 use Rattle.krl_core.proofs.Common.{length-take, limit, List, ltb, next_item, next_subsection}
 use Rattle.krl_core.proofs.Common.{no_room, None, Ok, ok_or_not, Option, Place, refl, refused}
-use Rattle.krl_core.proofs.Common.{Reported, Some, start, suc, sym, take}
+use Rattle.krl_core.proofs.Common.{Reported, row_of, Some, start, suc, sym, Table, take}
 use Rattle.krl_core.proofs.Common.{take-append-drop, too_long, true, zero, ℕ}
-use Rattle.krl_core.specs.Place.{place_after}
+use Rattle.krl_core.specs.Place.{place_in}
 use Rattle.krl_core.proofs.Fronts.{first_fault_is}
 use Rattle.krl_core.proofs.PlaceRows.{Goes, goes_from, goes_none, goes_one, goes_then, reported_at}
 use Rattle.krl_core.proofs.Judgements.{done, same_place}
@@ -18,6 +18,7 @@ use Rattle.krl_core.specs.declared.place.serials.SerialsPlace.TheVariants as ser
 use Rattle.krl_core.specs.declared.place.list.ListPlace.TheVariants as lists
 use Rattle.krl_core.specs.declared.place.certificates.CertificatesPlace.TheVariants as certificates
 use Rattle.krl_core.specs.declared.place.field.Field.TheVariants as fields
+use Rattle.krl_core.specs.declared.place.field.Table.TheVariants as tables
 use Rattle.krl_core.specs.declared.place.extension.ExtensionPlace.TheVariants as extensions
 
 room_or_not : (size : ℕ) (room : Option ℕ) → IfSome room (λ left. size ≤ left) ⊎ (IfSome room (λ left. size ≤ left) → ⊥)
@@ -60,9 +61,10 @@ weight-next_item : (kind : ItemKind) (left after : ℕ) → weight (next_item ki
 weight-next_item kind zero after = weight-next_subsection after
 weight-next_item kind (suc left) after = refl
 
-weight-place_after : (field : Field) (left after : ℕ) → weight (place_after field left after) ≡ 0
-weight-place_after fields.ExtensionContents left after = weight-next_subsection after
-weight-place_after _ left after = refl
+weight-place_in : (table : Table) (next : Option Field) (left after : ℕ) → weight (place_in table next left after) ≡ 0
+weight-place_in tables.Extension None left after = weight-next_subsection after
+weight-place_in _ None left after = refl
+weight-place_in table (Some field) left after = refl
 
 -- a number, or the length of a string, is not empty
 field_size : (field : Field) (left after : ℕ) → 1 ≤ (expected (places.Field field left after)).size
@@ -75,7 +77,7 @@ same_weight {p} {q} e = ap weight (same_place p q e)
 -- each field brings the end nearer
 pub nearer : (p q : Place) (field : List ℕ) → (expected p).judged field ≡ Ok q → weight q < 2 * (expected p).size + weight p
 nearer (places.Field f left after) q field e = omega (arith, field_size f left after, weight_below q)
-nearer (places.Content f n left after) q field e = omega (arith, same_weight e, weight-place_after f left after)
+nearer (places.Content f n left after) q field e = omega (arith, same_weight e, weight-place_in (row_of f).table (row_of f).next left after)
 nearer (places.Certificates (certificates.Authority n m)) q field e = omega (arith, same_weight e)
 nearer (places.Certificates (certificates.Reserved n m)) q field e = omega (arith, same_weight e, weight-next_subsection m)
 nearer (places.List (lists.Item kind n m k)) q field e = omega (arith, same_weight e, weight-next_item kind m k)

@@ -4,7 +4,7 @@ use Rattle.krl_core.proofs.Common.{append-nil, append_assoc, append_cancel_left,
 use Rattle.krl_core.proofs.Common.{authority_fields, Bitmap, Certificates, Extension, Header}
 use Rattle.krl_core.proofs.Common.{header_fields, header_of, Ids, Keys, KrlFault, leads_more}
 use Rattle.krl_core.proofs.Common.{LeadsRow, length, length-append, length-number, length-numbers}
-use Rattle.krl_core.proofs.Common.{length-string, List, number, number_again4, number_again8}
+use Rattle.krl_core.proofs.Common.{length-string, List, number, number_of-number}
 use Rattle.krl_core.proofs.Common.{number_of, numbers_text, ok_is, Range, refl, Serials, Sha1s}
 use Rattle.krl_core.proofs.Common.{Sha256s, Signature, signature_fields, slice_index_or}
 use Rattle.krl_core.proofs.Common.{SpelledSection, Spells, SpellsBitmap, SpellsCertificates}
@@ -23,14 +23,14 @@ use Rattle.krl_core.proofs.Fronts.{append_same}
 same_number8 : (m n : ℕ) (x y : List ℕ) → m < 2 ^ 64 → n < 2 ^ 64 → number 8 m ++ x ≡ number 8 n ++ y → (m ≡ n) × (x ≡ y)
 same_number8 m n x y fits fits' e =
     let s = append_same (number 8 m) (number 8 n) x y (length-number 8 m ∙ sym (length-number 8 n)) e in
-    (sym (number_again8 m fits) ∙ ap number_of s.0 ∙ number_again8 n fits', s.1)
+    (sym (number_of-number 8 m fits) ∙ ap number_of s.0 ∙ number_of-number 8 n fits', s.1)
 
 same_string : (s t x y : List ℕ) → length s < 2 ^ 32 → length t < 2 ^ 32 → string s ++ x ≡ string t ++ y → (s ≡ t) × (x ≡ y)
 unfolding string
 same_string s t x y fits fits' e =
     let whole : number 4 (length s) ++ (s ++ x) ≡ number 4 (length t) ++ (t ++ y) = sym (append_assoc (number 4 (length s)) s x) ∙ e ∙ append_assoc (number 4 (length t)) t y in
     let n = append_same (number 4 (length s)) (number 4 (length t)) (s ++ x) (t ++ y) (length-number 4 (length s) ∙ sym (length-number 4 (length t))) whole in
-    let len : length s ≡ length t = sym (number_again4 (length s) fits) ∙ ap number_of n.0 ∙ number_again4 (length t) fits' in
+    let len : length s ≡ length t = sym (number_of-number 4 (length s) fits) ∙ ap number_of n.0 ∙ number_of-number 4 (length t) fits' in
     append_same s t x y len n.1
 
 same_last : (s t : List ℕ) → length s < 2 ^ 32 → length t < 2 ^ 32 → string s ≡ string t → s ≡ t
@@ -110,7 +110,7 @@ same_content (Range min max) (Range min' max') content fits e h k =
     let below : min < 2 ^ 64 = omega (arith, h.1, h.2) in
     let below' : min' < 2 ^ 64 = omega (arith, k.1, k.2) in
     let s = same_number8 min min' (number 8 max) (number 8 max') below below' (sym h.0 ∙ k.0) in
-    ap (λ (n : ℕ). Range n max) s.0 ∙ ap (λ (n : ℕ). Range min' n) (sym (number_again8 max h.2) ∙ ap number_of s.1 ∙ number_again8 max' k.2)
+    ap (λ (n : ℕ). Range n max) s.0 ∙ ap (λ (n : ℕ). Range min' n) (sym (number_of-number 8 max h.2) ∙ ap number_of s.1 ∙ number_of-number 8 max' k.2)
 same_content (Bitmap offset value) (Bitmap offset' value') content fits e h k = same_bitmap content offset value offset' value' fits h k
 same_content (Ids texts) (Ids others) content fits e h k = ap Ids (same_strings texts others (omega (arith, ap length h)) (sym h ∙ k))
 same_content SubsectionExtension SubsectionExtension content fits e h k = refl

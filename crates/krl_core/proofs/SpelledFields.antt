@@ -10,7 +10,7 @@ use Rattle.krl_core.proofs.Common.{ItemKind, judge, KrlFault, le-leb, leading_ze
 use Rattle.krl_core.proofs.Common.{leads_more, length, length-append, length-number}
 use Rattle.krl_core.proofs.Common.{length-numbers, length-string, length_within, List, lt-leb}
 use Rattle.krl_core.proofs.Common.{ne_eqb, next_bits, next_item, next_serial, next_subsection}
-use Rattle.krl_core.proofs.Common.{number, number_again8, number_of}
+use Rattle.krl_core.proofs.Common.{number, number_of-number, number_of}
 use Rattle.krl_core.proofs.Common.{number_of-one, numbers_text, Ok, passes_end, Place, Range, refl}
 use Rattle.krl_core.proofs.Common.{Result, Serials, SpellsEach, SpellsSubsection}
 use Rattle.krl_core.proofs.Common.{string, strings, Subsection, SubsectionExtension, subst, suc}
@@ -28,7 +28,6 @@ use Rattle.krl_core.specs.declared.place.certificates.CertificatesPlace.TheVaria
 use Rattle.krl_core.specs.declared.place.serials.SerialsPlace.TheVariants as serials
 use Rattle.krl_core.specs.declared.place.bitmap.BitmapPlace.TheVariants as bitmaps
 use Rattle.krl_core.specs.declared.place.field.Field.TheVariants as fields
-use Rattle.krl_core.specs.declared.place.field.Table.TheVariants as tables
 use Rattle.serial_set.proofs.Bits.{highest_bit as top_bit}
 
 -- ---- the items of a list
@@ -150,8 +149,8 @@ subsection_goes left (Range min max) text rest h le fits =
     let n = length h.content in
     let all : n ≡ 16 = ap length h.content_is.0 ∙ omega (arith, length-append (number 8 min) (number 8 max), length-number 8 min, length-number 8 max) in
     let b = left - length text in
-    let low : number_of (number 8 min) ≡ min = number_again8 min (omega (arith, h.content_is.1, h.content_is.2)) in
-    let high : number_of (number 8 max) ≡ max = number_again8 max h.content_is.2 in
+    let low : number_of (number 8 min) ≡ min = number_of-number 8 min (omega (arith, h.content_is.1, h.content_is.2)) in
+    let high : number_of (number 8 max) ≡ max = number_of-number 8 max h.content_is.2 in
     part_goes left 0x21 _ (places.Serials (serials.RangeMin b)) text h.content rest (λ size after. judge (size == 16) faults.Length (places.Serials (serials.RangeMin after))) h.spelled le h.fits refl refl
     (judge_is _ faults.Length (places.Serials (serials.RangeMin b)) (eq-eqb n 16 all))
     (goes_from (ap (λ (x : List ℕ). x ++ rest) h.content_is.0 ∙ append_assoc (number 8 min) (number 8 max) rest)
@@ -171,7 +170,7 @@ subsection_goes left (Bitmap offset value) text rest h le fits =
     let within' : (k : ℕ) → bit_at (number_of bits) k ≡ 1 → offset + k < 2 ^ 64 = λ k set. m.within k (subst (λ (v : ℕ). bit_at v k ≡ 1) (sym m.value_is) set) in
     part_goes left 0x22 _ (places.Bitmap (bitmaps.Offset n b)) text h.content rest (λ size after. Ok (places.Bitmap (bitmaps.Offset size after))) h.spelled le h.fits refl refl refl
     (goes_from (ap (λ (x : List ℕ). x ++ rest) m.spelled ∙ append_assoc (number 8 offset) (string bits) rest)
-    (goes_then (goes_one (number 8 offset) eight (length-number 8 offset) (ap (λ (k : ℕ). Ok (places.Bitmap (bitmaps.Size k (n - 8) b))) (number_again8 offset m.offset_fits)))
+    (goes_then (goes_one (number 8 offset) eight (length-number 8 offset) (ap (λ (k : ℕ). Ok (places.Bitmap (bitmaps.Size k (n - 8) b))) (number_of-number 8 offset m.offset_fits)))
     (content_goes bits four refl (omega (arith, all, h.fits))
     (λ field e. judge_is _ faults.Length (next_bits offset (n - 8 - 4) (n - 8 - 4) b) (eq-eqb (number_of field) (n - 8 - 4) (e ∙ sym fewer)) ∙ ap (λ (k : ℕ). Ok (next_bits offset k k b)) fewer)
     (bits_go bits offset (length bits) b rest bits_bytes (omega arith) (λ e. m.positive) within'))))
@@ -184,7 +183,7 @@ subsection_goes left SubsectionExtension text rest h le fits =
     let n = length h.content in
     let b = left - length text in
     part_goes left 0x39 _ (places.Field fields.ExtensionName n b) text h.content rest (λ size after. Ok (places.Field fields.ExtensionName size after)) h.spelled le h.fits refl refl refl
-    (fields_go tables.Extension fields.ExtensionName n b h.content_is.0 (h.content ++ rest) rest (refl, (refl, (refl, tt))) (leads_more extension_fields [] h.content h.content_is.0 [] rest h.content_is.1) (length-append h.content rest))
+    (fields_go fields.ExtensionName n b h.content_is.0 (h.content ++ rest) rest (leads_more extension_fields [] h.content h.content_is.0 [] rest h.content_is.1) (length-append h.content rest))
 
 pub subsections_go : (subs : List Subsection) (body rest : List ℕ) (total : ℕ) → SpellsEach SpellsSubsection body subs → total ≡ length body → IsBytes body
     → Goes (next_subsection total) (body ++ rest) (places.SectionType false) rest

@@ -21,7 +21,6 @@ use Rattle.krl_types.specs.declared.krl_fault.KrlFault.TheVariants as faults
 use Rattle.krl_core.specs.declared.place.list.ItemKind.TheVariants as kinds
 use Rattle.krl_core.specs.declared.place.Place.TheVariants as places
 use Rattle.krl_core.specs.declared.place.field.Field.TheVariants as fields
-use Rattle.krl_core.specs.declared.place.field.Table.TheVariants as tables
 use Rattle.krl_core.specs.declared.place.list.ListPlace.TheVariants as lists
 use Rattle.krl_core.specs.declared.place.certificates.CertificatesPlace.TheVariants as certificates
 use Rattle.krl_core.specs.declared.place.extension.ExtensionPlace.TheVariants as extensions
@@ -85,11 +84,11 @@ section_goes (Sha1s hashes) false text rest h last fits = items_section_goes kin
 section_goes (Sha256s hashes) false text rest h last fits = items_section_goes kinds.Sha256 5 hashes h.content rest h.spelled h.fits h.content_is.0 h.content_is.1 refl
 section_goes Extension false text rest h last fits =
     typed_goes 255 (places.Extension extensions.SectionLength) (λ size. places.Field fields.ExtensionName size 0) h.content rest h.spelled h.fits refl refl
-    (fields_go tables.Extension fields.ExtensionName (length h.content) 0 h.content_is.0 (h.content ++ rest) rest (refl, (refl, (refl, tt))) (leads_more extension_fields [] h.content h.content_is.0 [] rest h.content_is.1) (length-append h.content rest))
+    (fields_go fields.ExtensionName (length h.content) 0 h.content_is.0 (h.content ++ rest) rest (leads_more extension_fields [] h.content h.content_is.0 [] rest h.content_is.1) (length-append h.content rest))
 section_goes Signature signed text rest (content, spelled, (values, leads)) last fits =
     goes_from (ap (λ (x : List ℕ). x ++ rest) spelled)
     (goes_then (goes_one (4 ∷ []) tt refl (signature_type signed))
-    (fields_go tables.Signature fields.SignatureKey 0 0 values (content ++ rest) rest (refl, (refl, tt)) (leads_more signature_fields [] content values [] rest leads) tt))
+    (fields_go fields.SignatureKey 0 0 values (content ++ rest) rest (leads_more signature_fields [] content values [] rest leads) tt))
 section_goes _ true text rest h last fits = absurd last.0
 
 last_first : (signed : Bool) (section : SpelledSection) (sections : List SpelledSection) → LastFor signed (section ∷ sections) → LastFor signed (section ∷ []) × LastFor (signed_after section) sections
@@ -113,7 +112,7 @@ pub spelled_unfaulted : (text : List ℕ) (header : Header) (sections : List Spe
 spelled_unfaulted text header sections fits h le =
     let front = leads_front header_fields [] text h.values h.body h.fields in
     let rest = sections_go sections false h.body h.sections_are h.signatures_last (IsBytes-back front.0 h.body (subst IsBytes front.1 fits)) in
-    let walk = goes_then (fields_go tables.Header fields.Magic 0 0 h.values text h.body (refl, (refl, (refl, (refl, (refl, (refl, (refl, tt))))))) h.fields tt) rest.1 in
+    let walk = goes_then (fields_go fields.Magic 0 0 h.values text h.body h.fields tt) rest.1 in
     let off : ltb limit (length text) ≡ false = le-ltb limit (length text) le in
     first_fault_is text None (reported_at start refl (goes_from (take_all limit text le) walk) (ended (refl, refl) off refl))
 

@@ -7,7 +7,7 @@ use Rattle.krl_core.proofs.Common.{IsBytes, IsSignature, item_entry, ItemKind, K
 use Rattle.krl_core.proofs.Common.{leads_front, leads_more, length, length-append}
 use Rattle.krl_core.proofs.Common.{length-number, length-string, List, ltb, ltb-false, map}
 use Rattle.krl_core.proofs.Common.{NamesSame, next_item, next_serial, next_subsection, None, Number}
-use Rattle.krl_core.proofs.Common.{number, number_back4, number_back8, number_of, Ok, passes, Place}
+use Rattle.krl_core.proofs.Common.{number, number-number_of, number_of, Ok, passes, Place}
 use Rattle.krl_core.proofs.Common.{refl, Result, same_append, same_is, same_refl, same_then}
 use Rattle.krl_core.proofs.Common.{section_entries, SerialsEntry, Signature, signature_fields}
 use Rattle.krl_core.proofs.Common.{SignaturesLast, slice_index_or, SpelledSection, SpellsEach}
@@ -33,12 +33,12 @@ fits_within left size next q e =
 
 pub number_front : {Then : ℕ → Rest} {more : List Entry} (field tail : List ℕ) → IsBytes field → length field ≡ 8 → Then (number_of field) tail more → FromNumber Then (field ++ tail) more
 number_front field tail fits size h =
-    let n = number_back8 field size fits in
+    let n = number-number_of 8 field size fits in
     record { value = number_of field; rest = tail; parts = ap (λ (x : List ℕ). x ++ tail) (sym n.0); fits = n.1; then_is = h }
 
 pub length_front : {Then : ℕ → Rest} {more : List Entry} (field tail : List ℕ) → IsBytes field → length field ≡ 4 → Then (number_of field) tail more → FromLength Then (field ++ tail) more
 length_front field tail fits size h =
-    let n = number_back4 field size fits in
+    let n = number-number_of 4 field size fits in
     record { size = number_of field; rest = tail; parts = ap (λ (x : List ℕ). x ++ tail) (sym n.0); fits = n.1; then_is = h }
 
 pub content_front : {size : ℕ} {Then : List ℕ → Rest} {more : List Entry} (field tail : List ℕ) → length field ≡ size → Then field tail more → FromContent size Then (field ++ tail) more
@@ -55,7 +55,7 @@ whole_string size content rest after bytes e f len =
 
 pub string_parts : (field tail content rest : List ℕ) → IsBytes field → length field ≡ 4 → length content ≡ number_of field → tail ≡ content ++ rest → field ++ tail ≡ string content ++ rest
 string_parts field tail content rest fits size len parts =
-    whole_string (number_of field) content rest tail (field ++ tail) (ap (λ (x : List ℕ). x ++ tail) (sym (number_back4 field size fits).0)) parts len
+    whole_string (number_of field) content rest tail (field ++ tail) (ap (λ (x : List ℕ). x ++ tail) (sym (number-number_of 4 field size fits).0)) parts len
 
 -- ---- the rows of a table
 
@@ -82,7 +82,7 @@ begins_number field tail back = record { is_part = (refl, back.1); spelled = ap 
 
 pub begins_text : {Then : List ℕ → Rest} {more : List Entry} (field tail : List ℕ) → IsBytes field → length field ≡ 4 → (h : FromContent (number_of field) Then tail more) → BeginsWithPart Text (field ++ tail) h.content h.rest
 begins_text field tail fits whole h =
-    record { is_part = omega (arith, h.size_is, (number_back4 field whole fits).1); spelled = string_parts field tail h.content h.rest fits whole h.size_is h.parts }
+    record { is_part = omega (arith, h.size_is, (number-number_of 4 field whole fits).1); spelled = string_parts field tail h.content h.rest fits whole h.size_is h.parts }
 
 pub text_in : (left inner : ℕ) {steps : List (Step KrlFault)} {Then : List (List ℕ) → ℕ → Rest} {more : List Entry} (field tail : List ℕ) → IsBytes field → length field ≡ 4
     → FromContent (number_of field) (λ text. InRoom inner steps (λ values. Then (text ∷ values))) tail more → left ≡ 4 + number_of field + inner → InRoom left (step Text passes ∷ steps) Then (field ++ tail) more
@@ -113,7 +113,7 @@ string_more {entry = entry} field tail after fits size total h good =
 pub serial_more : {K : Type 0} {a : List ℕ} {left after : ℕ} {more : List Entry} (field tail : List ℕ) → IsBytes field → length field ≡ 8 → 8 ≤ left
     → SerialItems K a (left - 8) after tail more → SerialItems K a left after (field ++ tail) (SerialsEntry a (number_of field ∷ []) ∷ more)
 serial_more {a = a} field tail fits size room k =
-    let n = number_back8 field size fits in record {
+    let n = number-number_of 8 field size fits in record {
       items = number_of field ∷ k.items;
       rest = k.rest;
       others = k.others;

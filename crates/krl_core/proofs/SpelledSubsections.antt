@@ -4,7 +4,7 @@ use Rattle.krl_core.proofs.Common.{[], ◌*◌, ◌++◌, ◌+◌, ◌-◌, ◌<
 use Rattle.krl_core.proofs.Common.{append_assoc, AreSerials, arith, base_of, bit_at-zero}
 use Rattle.krl_core.proofs.Common.{BitmapEntry, contains_one, Entry, EntryNames, false, flat_map}
 use Rattle.krl_core.proofs.Common.{Header, inl, inr, IsBytes, length, length-append, length-string}
-use Rattle.krl_core.proofs.Common.{List, map, mapped_name, NamesSame, next_bits, number_back4}
+use Rattle.krl_core.proofs.Common.{List, map, mapped_name, NamesSame, next_bits, number-number_of}
 use Rattle.krl_core.proofs.Common.{number_of, passes_end, refl, same_append, same_is, same_refl}
 use Rattle.krl_core.proofs.Common.{same_serials, same_then, SerialOf, SerialsEntry}
 use Rattle.krl_core.proofs.Common.{SpellsSubsection, string, Subsection, subsection_entries}
@@ -49,7 +49,7 @@ pub part_front : {K : Type 0} {a : List ℕ} {type_byte left : ℕ} {rest : List
     → number_of field ≤ left - 4 → subsection_type sub ≡ type_byte → tail ≡ content ++ rest → length content ≡ number_of field → SubsectionContent content sub → NamesSame more (subsection_entries a sub ++ others)
     → FromSubsections K a (left - 4 - number_of field) rest others → FromPart K a type_byte left (field ++ tail) more
 part_front {K} {a} {left = left} {rest = rest} {others = others} sub field tail content fits size room enough type_is parts len content_is named k =
-    let n = number_back4 field size fits in
+    let n = number-number_of 4 field size fits in
     record {
       subsection = sub;
       content = content;

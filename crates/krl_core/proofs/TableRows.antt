@@ -1,42 +1,18 @@
 -- The fields of a table: what their rows share, and a field in front of the rest of its table.
-use Rattle.krl_core.proofs.Common.{[], ◌++◌, ◌+◌, ◌-◌, ◌<◌, ◌^◌, ◌∙◌, ◌∷◌, ◌≡◌, ◌≤◌, ap}
-use Rattle.krl_core.proofs.Common.{append-nil, arith, BeginsWithPart, drop, Entry, eqb, eqb-true}
-use Rattle.krl_core.proofs.Common.{Field, fields_after, HasRoom, Header, header_with}
-use Rattle.krl_core.proofs.Common.{IfSome, IsBytes, le-ltb, length, length-append, length-number}
-use Rattle.krl_core.proofs.Common.{List, None, Number, number, number_of, Ok, ok_is, Option, passed_ok}
-use Rattle.krl_core.proofs.Common.{Place, refl, row_of, Some, subst, sym, Table, Text, ℕ}
-use Rattle.ssh_wire.specs.Reading.{number_at}
+use Rattle.krl_core.proofs.Common.{[], ◌++◌, ◌+◌, ◌-◌, ◌∙◌, ◌∷◌, ◌≡◌, ◌≤◌, ap, arith, BeginsWithPart}
+use Rattle.krl_core.proofs.Common.{Entry, eqb, eqb-true, Field, fields_after, HasRoom, Header}
+use Rattle.krl_core.proofs.Common.{header_with, IfSome, IsBytes, length, length-append, List, None}
+use Rattle.krl_core.proofs.Common.{Number, number-number_of, number_of, Ok, Option, passed_ok, Place}
+use Rattle.krl_core.proofs.Common.{refl, row_of, Some, subst, sym, Table, Text, unless_ok, ℕ}
 use Rattle.ssh_wire.specs.Rows.{Magnitude, Part}
-use Rattle.ssh_wire.proofs.Fields.{number_again, number_takes}
-use Rattle.krl_core.specs.Place.{header_with_number, length_judged, part_expected, place_after, room_of}
-use Rattle.krl_core.proofs.Fronts.{append_same}
-use Rattle.krl_core.proofs.Judgements.{done, unless_ok}
+use Rattle.krl_core.specs.Place.{header_with_number, length_judged, part_expected, place_after, place_in, room_of}
+use Rattle.krl_core.proofs.Judgements.{done}
 use Rattle.krl_core.proofs.RestSpellings.{Completes, FromField, FromTable, room_in, value_in}
 use Rattle.krl_core.proofs.SpelledSections.{begins_number, begins_text, fits_within, row_in, row_more, row_none, subsections_from}
 use Rattle.krl_types.specs.declared.krl_fault.KrlFault.TheVariants as faults
 use Rattle.krl_core.specs.declared.place.Place.TheVariants as places
 use Rattle.krl_core.specs.declared.place.field.Field.TheVariants as fields
 use Rattle.krl_core.specs.declared.place.field.Table.TheVariants as tables
-
--- ---- numbers
-
-read_all : (bytes : List ℕ) → number_at (length bytes) bytes ≡ Ok (number_of bytes, drop (length bytes) bytes)
-unfolding number_at number_of
-read_all bytes = rw (le-ltb (length bytes) (length bytes) (omega arith)) refl
-
-number_back : (size : ℕ) (field : List ℕ) → length field ≡ size → IsBytes field → (number size (number_of field) ≡ field) × (number_of field < 256 ^ size)
-number_back size field whole fits =
-    let n = length field in
-    let t = number_takes n field (number_of field) (drop n field) fits (read_all field) in
-    let same = append_same field (number n (number_of field)) [] (drop n field) (sym (length-number n (number_of field))) (append-nil field ∙ t.0.parts) in
-    subst (λ (k : ℕ). (number k (number_of field) ≡ field) × (number_of field < 256 ^ k)) whole (sym same.0, t.1)
-
-pub number_over : (size n : ℕ) → n < 256 ^ size → number_of (number size n) ≡ n
-number_over size n small =
-    let bytes = number size n in
-    let read : number_at (length bytes) bytes ≡ Ok (n, []) =
-    ap (λ (k : ℕ). number_at k bytes) (length-number size n) ∙ ap (number_at size) (sym (append-nil bytes)) ∙ number_again size n [] small in
-    ap (λ (x : ℕ × List ℕ). x.0) (ok_is (number_of bytes, drop (length bytes) bytes) (n, []) (number_at (length bytes) bytes) (read_all bytes) read)
 
 -- ---- what all rows share
 
@@ -46,21 +22,40 @@ judged_alone fields.FormatVersion before value = refl
 judged_alone _ before value = refl
 
 pub texts_pass : (field : Field) → (row_of field).step.part ≡ Text → (before : List (List ℕ)) (value : List ℕ) → (row_of field).step.judged before value ≡ None
-texts_pass fields.Magic e before value = absurd (cc)
-texts_pass fields.FormatVersion e before value = absurd (cc)
-texts_pass fields.Critical e before value = absurd (cc)
-texts_pass _ e before value = refl
+texts_pass fields.FormatVersion e before value = cc
+texts_pass _ e before value = cc
 
 -- a number is never the last field
 numbers_lead : (field : Field) (size left : ℕ) → (row_of field).step.part ≡ Number size → room_in (row_of field).next left ≡ left
-numbers_lead fields.Comment size left e = absurd (cc)
-numbers_lead fields.SignatureBytes size left e = absurd (cc)
-numbers_lead fields.ExtensionContents size left e = absurd (cc)
-numbers_lead _ size left e = refl
+numbers_lead fields.FormatVersion size left e = cc
+numbers_lead _ size left e = cc
 
 pub no_magnitude : (field : Field) → (row_of field).step.part ≡ Magnitude → ⊥
 no_magnitude fields.FormatVersion e = absurd (cc)
 no_magnitude _ e = absurd (cc)
+
+-- the fields from one on, if there is one
+abbrev pub fields_at : Option Field → List Field
+fields_at None = []
+fields_at (Some field) = field ∷ fields_after field
+
+pub after_is : (field : Field) → fields_after field ≡ fields_at (row_of field).next
+after_is fields.FormatVersion = refl
+after_is _ = refl
+
+-- the table of a field, or this one
+abbrev pub table_at : Table → Option Field → Table
+table_at table None = table
+table_at table (Some field) = (row_of field).table
+
+-- the next field is of the same table
+pub same_table : (field : Field) → table_at (row_of field).table (row_of field).next ≡ (row_of field).table
+same_table fields.FormatVersion = refl
+same_table _ = refl
+
+value_is : (field : Field) (value : List ℕ) (h : Header) → header_with field value h ≡ value_in (row_of field).table field value h
+value_is fields.FormatVersion value h = refl
+value_is _ value h = refl
 
 -- a condition on the sizes of a table that is inside a part
 abbrev pub InPart : Table → Type 0 → Type 0
@@ -89,12 +84,20 @@ in_both tables.Signature f h k = tt
 
 -- ---- the rest of a table
 
+rest_at : (table : Table) (next : Option Field) (last h : Header) (a bytes : List ℕ) (more : List Entry) (left after : ℕ) → table_at table next ≡ table → Completes last h a (place_in table next left after) bytes more
+    → FromTable table last h a (fields_at next) (room_in next left) after bytes more
+rest_at tables.Extension None last h a bytes more left after same k = row_none (0, omega arith, (refl, subsections_from after k))
+rest_at tables.Header None last h a bytes more left after same k = row_none k
+rest_at tables.Signature None last h a bytes more left after same k = row_none k
+rest_at table (Some field) last h a bytes more left after same k = subst (λ (t : Table). FromTable t last h a (fields_at (Some field)) left after bytes more) same k
+
 pub rest_of_table : (field : Field) (last h : Header) (a value bytes : List ℕ) (more : List Entry) (left after : ℕ) → Completes last (header_with field value h) a (place_after field left after) bytes more
     → FromTable (row_of field).table last (value_in (row_of field).table field value h) a (fields_after field) (room_in (row_of field).next left) after bytes more
-rest_of_table fields.Comment last h a value bytes more left after k = row_none k
-rest_of_table fields.SignatureBytes last h a value bytes more left after k = row_none k
-rest_of_table fields.ExtensionContents last h a value bytes more left after k = row_none (0, omega arith, (refl, subsections_from after k))
-rest_of_table _ last h a value bytes more left after k = k
+rest_of_table field last h a value bytes more left after k =
+    let table = (row_of field).table in
+    let next = (row_of field).next in
+    let found = subst (λ (x : Header). Completes last x a (place_in table next left after) bytes more) (value_is field value h) k in
+    rw (after_is field) (rest_at table next last (value_in table field value h) a bytes more left after (same_table field) found)
 
 table_more : (table : Table) (field : Field) (others : List Field) (last h : Header) (a : List ℕ) {bytes value tail : List ℕ} (more : List Entry) (left inner after : ℕ) → BeginsWithPart (row_of field).step.part bytes value tail
     → ((before : List (List ℕ)) → (row_of field).step.judged before value ≡ None) → FromTable table last (value_in table field value h) a others inner after tail more → InPart table (length bytes + inner ≡ left + length tail)
@@ -121,7 +124,7 @@ part_front last h a f (Number size) left after q field tail more is fits room wh
     let value : List ℕ = number_of field ∷ [] in
     let w = unless_ok ((row_of f).step.judged [] value) (place_after f (left - size) after) q judged in
     let rest = rest_of_table f last h a value tail more (left - size) after (k _ (ap done w.1)) in
-    let begins = subst (λ (part : Part). BeginsWithPart part (field ++ tail) value tail) (sym is) (begins_number field tail (number_back size field whole fits)) in
+    let begins = subst (λ (part : Part). BeginsWithPart part (field ++ tail) value tail) (sym is) (begins_number field tail (number-number_of size field whole fits)) in
     table_more (row_of f).table f (fields_after f) last h a more left (room_in (row_of f).next (left - size)) after begins (λ before. judged_alone f before value ∙ w.0) rest
     (in_part (row_of f).table (λ room. omega (arith, room, whole, length-append field tail, numbers_lead f size (left - size) is)) (room_part (row_of f).table left _ room))
 part_front last h a f Text left after q field tail more is fits room whole judged k =

@@ -1,16 +1,16 @@
 -- A walk goes through a field, and through the fields of a table.
 use Rattle.krl_core.proofs.Common.{[], ◌++◌, ◌+◌, ◌-◌, ◌<◌, ◌^◌, ◌∙◌, ◌∷◌, ◌≡◌, ◌≤◌, ap, append_assoc}
 use Rattle.krl_core.proofs.Common.{arith, BeginsWithPart, Bool, cond, eq-eqb, Err, Expected, expected}
-use Rattle.krl_core.proofs.Common.{false, Field, fields_from, HasRoom, judge, KrlFault, le-ltb}
+use Rattle.krl_core.proofs.Common.{false, Field, HasRoom, judge, KrlFault, le-ltb}
 use Rattle.krl_core.proofs.Common.{leads_front, LeadsRow, length, length-append, length-number}
-use Rattle.krl_core.proofs.Common.{length-string, List, ltb, None, Number, number, number_again4}
+use Rattle.krl_core.proofs.Common.{length-string, List, ltb, None, Number, number, number_of-number}
 use Rattle.krl_core.proofs.Common.{number_of, Ok, Option, Place, refl, Result, row_of, slice_index, Some}
 use Rattle.krl_core.proofs.Common.{steps_of, string, subst, suc, sym, Table, Text, true, within, zero, ℕ}
 use Rattle.ssh_wire.specs.Rows.{Magnitude, Part, unless}
 use Rattle.krl_core.specs.Field.{table_of}
 use Rattle.krl_core.specs.Place.{length_judged, part_expected, place_after, place_in, table_end}
 use Rattle.krl_core.proofs.PlaceRows.{Goes, goes_none, goes_one, goes_then, goes_from}
-use Rattle.krl_core.proofs.TableRows.{in_part, InPart, judged_alone, no_magnitude, number_over, part_room}
+use Rattle.krl_core.proofs.TableRows.{after_is, fields_at, in_part, InPart, judged_alone, no_magnitude, part_room, same_table, table_at}
 use Rattle.krl_types.specs.declared.krl_fault.KrlFault.TheVariants as faults
 use Rattle.krl_core.specs.declared.place.Place.TheVariants as places
 use Rattle.krl_core.specs.declared.place.field.Table.TheVariants as tables
@@ -29,7 +29,7 @@ unfolding string
 content_goes {rest = rest} content room size fits judged w =
     let n : List ℕ = number 4 (length content) in
     goes_from (append_assoc n content rest)
-    (goes_then (goes_one n room (length-number 4 (length content) ∙ sym size) (judged n (number_again4 (length content) fits))) w)
+    (goes_then (goes_one n room (length-number 4 (length content) ∙ sym size) (judged n (number_of-number 4 (length content) fits))) w)
 
 -- a text: its length, and its content
 pub text_goes : {p q r : Place} {bytes value left : List ℕ} → BeginsWithPart Text bytes value left → HasRoom (expected p) → (expected p).size ≡ 4
@@ -48,12 +48,6 @@ pub judge_is : (b : Bool) (why : KrlFault) (p : Place) → b ≡ true → judge 
 judge_is b why p e = ap (λ (x : Bool). judge x why p) e
 
 -- ---- a table
-
--- the fields from one on are of this table, and not more than `most`
-abbrev pub IsTable : ℕ → Table → Option Field → Type 0
-IsTable most table None = Unit {0}
-IsTable zero table (Some field) = ⊥
-IsTable (suc most) table (Some field) = ((row_of field).table ≡ table) × IsTable most table (row_of field).next
 
 -- what is left of the part after a text
 abbrev inner : Table → Option Field → (left size : ℕ) → ℕ
@@ -80,10 +74,10 @@ abbrev TailFits : Option Field → (tail rest : List ℕ) → Type 0
 TailFits None tail rest = length tail ≡ length rest
 TailFits (Some next) tail rest = length rest ≤ length tail
 
-tail_fits : (most : ℕ) (next : Option Field) (before values : List (List ℕ)) (tail rest : List ℕ) → LeadsRow (steps_of (fields_from most next)) before tail values rest → TailFits next tail rest
-tail_fits most None before values tail rest leads = ap length leads.1
-tail_fits most (Some next) before values tail rest leads =
-    let f = leads_front (steps_of (fields_from most (Some next))) before tail values rest leads in omega (arith, ap length f.1, length-append f.0 rest)
+tail_fits : (next : Option Field) (before values : List (List ℕ)) (tail rest : List ℕ) → LeadsRow (steps_of (fields_at next)) before tail values rest → TailFits next tail rest
+tail_fits None before values tail rest leads = ap length leads.1
+tail_fits (Some next) before values tail rest leads =
+    let f = leads_front (steps_of (fields_at (Some next))) before tail values rest leads in omega (arith, ap length f.1, length-append f.0 rest)
 
 tail_le : (next : Option Field) (tail rest : List ℕ) → TailFits next tail rest → length rest ≤ length tail
 tail_le None tail rest fits = omega (arith, fits)
@@ -110,7 +104,7 @@ row_goes f (Number size) left after before bytes value tail rest is begins passe
     let b = subst (λ (part : Part). BeginsWithPart part bytes value tail) is begins in
     let n : ℕ = slice_index value 0 in
     let passes : (row_of f).step.judged [] (number_of (number size n) ∷ []) ≡ None =
-    ap (λ (m : ℕ). (row_of f).step.judged [] (m ∷ [])) (number_over size n b.is_part.1) ∙ ap (λ (v : List ℕ). (row_of f).step.judged [] v) (sym b.is_part.0) ∙ sym (judged_alone f before value) ∙ passed in
+    ap (λ (m : ℕ). (row_of f).step.judged [] (m ∷ [])) (number_of-number size n b.is_part.1) ∙ ap (λ (v : List ℕ). (row_of f).step.judged [] v) (sym b.is_part.0) ∙ sym (judged_alone f before value) ∙ passed in
     let parts : length bytes ≡ size + length tail = ap length b.spelled ∙ omega (arith, length-append (number size n) tail, length-number size n) in
     let le = tail_le (row_of f).next tail rest fits in
     goes_from b.spelled
@@ -131,20 +125,23 @@ row_goes f Text left after before bytes value tail rest is begins passed fits fi
     (walk (inner table next left n) (inner_fits table next left n (length bytes) tail rest fits parts filled))
 row_goes f Magnitude left after before bytes value tail rest is begins passed fits filled walk = absurd (no_magnitude f is)
 
-pub table_goes : (most : ℕ) (table : Table) (at : Option Field) (left after : ℕ) (before values : List (List ℕ)) (bytes rest : List ℕ) → IsTable most table at → LeadsRow (steps_of (fields_from most at)) before bytes values rest
-    → InPart table (length bytes ≡ left + length rest) → Goes (place_in table at left after) bytes (table_end table after) rest
-table_goes most table None left after before values bytes rest is leads filled = goes_from leads.1 goes_none
-table_goes zero table (Some f) left after before values bytes rest is leads filled = absurd is
-table_goes (suc most) table (Some f) left after before values bytes rest is (value, tail, begins, passed, later) filled =
+-- the fields of a table from one on, of which there are fewer than `most`
+table_goes : (most : ℕ) (table : Table) (at : Option Field) (left after : ℕ) (before values : List (List ℕ)) (bytes rest : List ℕ) → length (fields_at at) < most → table_at table at ≡ table
+    → LeadsRow (steps_of (fields_at at)) before bytes values rest → InPart table (length bytes ≡ left + length rest) → Goes (place_in table at left after) bytes (table_end table after) rest
+table_goes most table None left after before values bytes rest lt same leads filled = goes_from leads.1 goes_none
+table_goes zero table (Some f) left after before values bytes rest lt same leads filled = absurd (omega (arith, lt))
+table_goes (suc most) table (Some f) left after before values bytes rest lt same (value, tail, begins, passed, later) filled =
     let next = (row_of f).next in
-    let walk = λ (left : ℕ) (filled : InPart (row_of f).table (length tail ≡ left + length rest)).
-    subst (λ (t : Table). Goes (place_in t next left after) tail (table_end t after) rest) (sym is.0)
-    (table_goes most table next left after (before ++ value ∷ []) values tail rest is.1 later (subst (λ (t : Table). InPart t (length tail ≡ left + length rest)) is.0 filled)) in
-    subst (λ (t : Table). Goes (places.Field f left after) bytes (table_end t after) rest) is.0
-    (row_goes f (row_of f).step.part left after before bytes value tail rest refl begins passed (tail_fits most next (before ++ value ∷ []) values tail rest later)
-    (subst (λ (t : Table). InPart t (length bytes ≡ left + length rest)) (sym is.0) filled) walk)
+    let next_values : List (List ℕ) = before ++ value ∷ [] in
+    let others = rw (after_is f) at later in
+    let fewer : length (fields_at next) < most = omega (arith, lt, ap length (after_is f)) in
+    let walk = λ (left : ℕ) (filled : InPart (row_of f).table (length tail ≡ left + length rest)). table_goes most (row_of f).table next left after next_values values tail rest fewer (same_table f) others filled in
+    subst (λ (t : Table). Goes (places.Field f left after) bytes (table_end t after) rest) same
+    (row_goes f (row_of f).step.part left after before bytes value tail rest refl begins passed (tail_fits next next_values values tail rest others)
+    (subst (λ (t : Table). InPart t (length bytes ≡ left + length rest)) (sym same) filled) walk)
 
 -- a whole table, whose values are any
-pub fields_go : (table : Table) (first : Field) (left after : ℕ) (values : List (List ℕ)) (bytes rest : List ℕ) → IsTable 8 table (Some first) → LeadsRow (table_of first) [] bytes values rest → InPart table (length bytes ≡ left + length rest)
-    → Goes (places.Field first left after) bytes (table_end table after) rest
-fields_go table first left after values bytes rest is leads filled = table_goes 8 table (Some first) left after [] values bytes rest is leads filled
+pub fields_go : (first : Field) (left after : ℕ) (values : List (List ℕ)) (bytes rest : List ℕ) → LeadsRow (table_of first) [] bytes values rest → InPart (row_of first).table (length bytes ≡ left + length rest)
+    → Goes (places.Field first left after) bytes (table_end (row_of first).table after) rest
+fields_go first left after values bytes rest leads filled =
+    table_goes (suc (length (fields_at (Some first)))) (row_of first).table (Some first) left after [] values bytes rest (omega arith) refl leads filled

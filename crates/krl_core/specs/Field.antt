@@ -7,6 +7,8 @@ use Rattle.krl_types.specs.declared.krl_fault.KrlFault.TheVariants as faults
 use Rattle.krl_core.specs.declared.header.Header.{Header}
 use Rattle.krl_core.specs.declared.place.field.Field.{Field}
 use Rattle.krl_core.specs.declared.place.field.Field.TheVariants as fields
+use Rattle.krl_core.specs.declared.place.field.FieldPart.{FieldPart}
+use Rattle.krl_core.specs.declared.place.field.FieldPart.TheVariants as parts
 use Rattle.krl_core.specs.declared.place.field.Table.{Table}
 use Rattle.krl_core.specs.declared.place.field.Table.TheVariants as tables
 
@@ -59,6 +61,11 @@ fields_from (suc most) (Some field) = field ∷ fields_from most (row_of field).
 -- The fields of a table after one of them. No table has more.
 abbrev pub fields_after : Field → List Field
 fields_after field = fields_from 7 (row_of field).next
+
+-- what the code's part is as a part of a table
+abbrev pub part_of : FieldPart → Part
+part_of (parts.Number size) = Number size
+part_of parts.Text = Text
 
 abbrev pub steps_of : List Field → List (Step KrlFault)
 steps_of fields = map (λ field. (row_of field).step) fields

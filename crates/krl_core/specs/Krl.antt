@@ -158,7 +158,7 @@ SignaturesLast [] = Unit {0}
 SignaturesLast (Signature ∷ sections) = AllByRecursion IsSignature sections
 SignaturesLast (section ∷ sections) = SignaturesLast sections
 
--- The text is the fields of the header and then the sections, one after the other. The flags and the
+-- The text is the fields of the header and then the sections, one after another. The flags and the
 -- reserved string may have any value.
 pub record Spells (text : List ℕ) (header : Header) (sections : List SpelledSection) : Type 0 where
   pub values : List (List ℕ)

@@ -12,7 +12,8 @@ use Rattle.krl_types.specs.declared.krl_fault.KrlFault.TheVariants.{EndsEarly, L
 use Rattle.krl_types.specs.declared.krl_fault.KrlFault.TheVariants.{NoMemory}
 use Rattle.krl_core.specs.declared.place.Place.{Place}
 use Rattle.krl_core.specs.declared.place.Place.TheVariants as places
-use Rattle.krl_core.specs.declared.place.field.Field.TheVariants as fields
+use Rattle.krl_core.specs.declared.place.field.Table.{Table}
+use Rattle.krl_core.specs.declared.place.field.Table.TheVariants as tables
 use Rattle.krl_core.specs.declared.header.Header.{Header}
 use Rattle.krl_entries.specs.Revocations.{Revocations, Means, held, stored}
 use Rattle.krl_core.specs.Entries.{entries_of}
@@ -21,6 +22,7 @@ use Rattle.krl_core.specs.Front.{State, start, Leads, Passes, HasRoom, IsFirstFa
 use Rattle.krl_core.specs.FieldStore.{InStep, StoresEntries, FieldStore, StoresInScope}
 use Rattle.krl_core.specs.FieldStore.{StoresAtMost}
 use Rattle.krl_core.specs.FieldStore.{held_with_open, stored_header}
+use Rattle.krl_core.specs.Field.{row_of}
 use Rattle.krl_core.specs.Place.{can_end, expected}
 use Rattle.krl_entries.specs.Entry.{Entry}
 use Rattle.krl_entries.specs.Scope.{MeansInScope, Scope, IsInScope, all}
@@ -98,15 +100,14 @@ abbrev pub ReportsFailure : {A : Type 0} → Result A KrlFault → Bool → Type
 ReportsFailure (Ok a) failed = failed ≡ false
 ReportsFailure (Err fault) failed = fault ≡ Read ↔ failed ≡ true
 
--- The first fields of a list, which have 40 bytes together. The size of none of them depends on a
--- length.
+abbrev pub is_header : Table → Bool
+is_header tables.Header = true
+is_header _ = false
+
+-- A number of the header, or the length of one of its strings. Those before the first content of a
+-- string have 40 bytes together.
 abbrev pub is_fixed : Place → Bool
-is_fixed (places.Field fields.Magic left after) = true
-is_fixed (places.Field fields.FormatVersion left after) = true
-is_fixed (places.Field fields.Version left after) = true
-is_fixed (places.Field fields.Date left after) = true
-is_fixed (places.Field fields.Flags left after) = true
-is_fixed (places.Field fields.Reserved left after) = true
+is_fixed (places.Field field left after) = is_header (row_of field).table
 is_fixed _ = false
 
 -- The text begins with these first fields, each of which passes its judgement, and may have more

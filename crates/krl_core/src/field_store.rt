@@ -110,18 +110,12 @@ impl<T: Store> FieldStore<T> {
         ensures grows { GrowsAtMost (length field.now) self.old self.new }
     {
         match place {
-            Place::Field {
-                field: Field::Version,
-                ..
-            } => {
-                self.version = u64_of(field);
-                Ok(())
-            }
-            Place::Field {
-                field: Field::Date,
-                ..
-            } => {
-                self.date = u64_of(field);
+            Place::Field { field: at, .. } => {
+                match at {
+                    Field::Version => self.version = u64_of(field),
+                    Field::Date => self.date = u64_of(field),
+                    _ => {}
+                }
                 Ok(())
             }
             Place::Content {

@@ -15,7 +15,7 @@ pub use header::{Header, MAGIC, MAGIC_NUMBER};
 pub use krl_entries::{Authorities, Listed, Revocations, Store, Texts};
 pub use krl_types::KrlFault;
 pub use place::{
-    BitmapPlace, CertificatesPlace, ExtensionPlace, Field, ItemKind, ListPlace, Place,
+    BitmapPlace, CertificatesPlace, ExtensionPlace, Field, FieldPart, ItemKind, ListPlace, Place,
     SerialsPlace, Table,
 };
 pub use read::read_krl;

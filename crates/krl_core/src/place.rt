@@ -18,7 +18,7 @@ use crate::judging::{first_field, section_of_type};
 pub use bitmap::BitmapPlace;
 pub use certificates::CertificatesPlace;
 pub use extension::ExtensionPlace;
-pub use field::{Field, Table};
+pub use field::{Field, FieldPart, Table};
 use krl_entries::byte_of;
 use krl_types::KrlFault;
 pub use list::{ItemKind, ListPlace};
@@ -111,20 +111,12 @@ impl Place {
         }
     }
 
-    // Whether the field is one of the first, whose sizes depend on no length.
+    // Whether the field is a number of the header, or the length of one of its strings.
     pub(crate) fn is_fixed(self) -> bool
         ensures { result ≡ is_fixed self }
     {
         match self {
-            Place::Field { field, .. } => match field {
-                Field::Magic
-                | Field::FormatVersion
-                | Field::Version
-                | Field::Date
-                | Field::Flags
-                | Field::Reserved => true,
-                _ => false,
-            },
+            Place::Field { field, .. } => field.is_in_header(),
             _ => false,
         }
     }

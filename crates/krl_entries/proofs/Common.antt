@@ -1,12 +1,12 @@
 -- The names that most proofs of this crate cite, passed on from one place. Declares nothing.
-pub use Rattle.std.proofs.Common.{[], ⊎_elim, ◌&&◌, ◌*◌, ◌++◌, ◌+◌, ◌-◌, ◌<◌, ◌==◌, ◌^◌, ◌||◌, ◌↔◌}
+pub use Rattle.std.proofs.Common.{[], ⊎_elim, ◌&&◌, ◌*◌, ◌++◌, ◌+◌, ◌-◌, ◌<◌, ◌==◌, ◌||◌, ◌↔◌}
 pub use Rattle.std.proofs.Common.{◌∙◌, ◌∷◌, ◌≡◌, ◌≤◌, ◌⊎◌, All, ap, append_assoc, arith, Bool, Bor}
 pub use Rattle.std.proofs.Common.{BTreeSet, bytes_eq, cond, Contains, drop, Err, false, flat_map}
 pub use Rattle.std.proofs.Common.{get_or, HoldsAt, IfOk, inl, inr, insert, is_eq, is_lt, IsSortedBy}
 pub use Rattle.std.proofs.Common.{IsTrue, length, length-append, List, map, map-id, MatchOption}
 pub use Rattle.std.proofs.Common.{MatchResult, nat_le, nat_lt, None, Ok, OnErr, OnOk, Option}
 pub use Rattle.std.proofs.Common.{option_copied, refl, Result, rules, Some, subst, suc, sum_by, sym}
-pub use Rattle.std.proofs.Common.{take, take-append-drop, take-take, vec_len, w32, w64, zero, ℕ}
+pub use Rattle.std.proofs.Common.{take, take-append-drop, take-take, vec_len, zero, ℕ}
 pub use Rattle.krl_entries.specs.AuthorityEntries.{apart_of, name_of, named_sections, section_of}
 pub use Rattle.krl_entries.specs.AuthorityEntries.{sections_of}
 pub use Rattle.krl_entries.specs.Canonical.{entries_in, section_entries}
@@ -43,8 +43,7 @@ pub use Rattle.serial_set.specs.Span.{AreSerials, Covers, has, IsRuns}
 pub use Rattle.serial_set.specs.declared.span.Span.{Span}
 pub use Rattle.sha1.specs.Sha1.{sha1}
 pub use Rattle.sha2.specs.Sha256.{sha256}
-pub use Rattle.ssh_wire.specs.Wire.{IsBytes}
-unfoldable pub use Rattle.ssh_wire.specs.Wire.{number, number_of}
+unfoldable pub use Rattle.ssh_wire.specs.Wire.{number_of}
 pub use Rattle.std.proofs.Math.Logic.{⊎_map, ⊎_swap}
 pub use Rattle.std.proofs.lemmas.Bool.{cases_lt, false≢true}
 pub use Rattle.std.proofs.lemmas.Cmp.{nat_list_cmp_total, tied_itself}
@@ -56,7 +55,7 @@ pub use Rattle.std.proofs.lemmas.Map.Lookups.{exact_bytes}
 pub use Rattle.std.proofs.lemmas.Result.{IfOk-weaker, on_ok_weaker}
 pub use Rattle.std.specs.BTreeMap.{insert_entry, is_at}
 pub use Rattle.std.specs.BTreeSet.{contains, insert_key, IsFromIterResult}
-pub use Rattle.std.specs.Int.{bit_at, from_be_bytes}
+pub use Rattle.std.specs.Int.{bit_at}
 pub use Rattle.std.specs.List.{AllByRecursion, AllWithin, AllZip, list_any}
 pub use Rattle.std.specs.List.Sorted.{IsBinarySearchResult, IsSearchInRange}
 unfoldable pub use Rattle.std.specs.List.Sorted.{IsStrictlySortedBy}

@@ -1,11 +1,10 @@
 -- The names that most proofs of this crate cite, passed on from one place. Declares nothing.
 pub use Rattle.std.proofs.Common.{[], ◌*◌, ◌++◌, ◌+◌, ◌-◌, ◌/◌, ◌<◌, ◌^◌, ◌↔◌, ◌∙◌, ◌∷◌, ◌≡◌, ◌≤◌}
 pub use Rattle.std.proofs.Common.{All, ap, append-nil, append_assoc, arith, Contains, drop, Err}
-pub use Rattle.std.proofs.Common.{flat_map, inl, inr, length, length-append, List, map, None, Ok}
+pub use Rattle.std.proofs.Common.{flat_map, inl, inr, length, length-append, List, map, Ok}
 pub use Rattle.std.proofs.Common.{refl, Result, subst, suc, sum_by, sym, take, zero, ℕ}
 pub use Rattle.krl_core.specs.Entries.{entries_of, subsection_entries}
 pub use Rattle.krl_core.specs.Front.{limit}
-pub use Rattle.krl_core.specs.Field.{magic_number}
 pub use Rattle.krl_core.specs.Krl.{Certificates, Ids, IsPositive, Keys, Sha1s}
 pub use Rattle.krl_core.specs.Krl.{Sha256s, SignaturesLast, SpelledSection, Spells, SpellsBitmap}
 pub use Rattle.krl_core.specs.Krl.{SpellsEach, SpellsHashes, SpellsSection, SpellsSubsection}
@@ -28,7 +27,7 @@ pub use Rattle.krl_writer.specs.KrlText.{listed_as, listed_text, plan_subsection
 pub use Rattle.krl_writer.specs.KrlText.{header_text, sections_text, text_of, texts_text}
 pub use Rattle.krl_writer.specs.declared.text_fault.TextFault.{TextFault}
 pub use Rattle.krl_writer.specs.declared.text_fault.TextFault.TheVariants.{NoMemory, TooLong}
-pub use Rattle.ssh_wire.proofs.Fields.{length-number, length-string}
+pub use Rattle.ssh_wire.proofs.Fields.{length-string}
 pub use Rattle.ssh_wire.specs.Wire.{number, string, strings}
 pub use Rattle.std.proofs.lemmas.Grind.{common_steps, flat_map-append}
 pub use Rattle.std.proofs.lemmas.List.Elements.{All-contains_itself, All-tail, All-weaker}

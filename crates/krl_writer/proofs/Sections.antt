@@ -1,20 +1,19 @@
 -- The sections of a written list are spelled, one after another.
-use Rattle.krl_writer.proofs.Common.{[], ◌++◌, ◌+◌, ◌<◌, ◌^◌, ◌∙◌, ◌∷◌, ◌≡◌, ◌≤◌, All, All-tail, ap}
-use Rattle.krl_writer.proofs.Common.{append-nil, append_assoc, arith, authorities_text}
+use Rattle.krl_writer.proofs.Common.{[], ◌++◌, ◌+◌, ◌<◌, ◌^◌, ◌∷◌, ◌≡◌, ◌≤◌, All, All-tail}
+use Rattle.krl_writer.proofs.Common.{arith, authorities_text}
 use Rattle.krl_writer.proofs.Common.{authority_content, authority_sections, authority_text}
 use Rattle.krl_writer.proofs.Common.{Certificates, EachPlan, Group, Header, header_text, Ids}
 use Rattle.krl_writer.proofs.Common.{IsListed, IsOrderly, IsPlan, Keys, length, length-append}
-use Rattle.krl_writer.proofs.Common.{length-number, length-string, limit, List, listed_as}
-use Rattle.krl_writer.proofs.Common.{listed_text, magic_number, None, number, plan_subsections}
+use Rattle.krl_writer.proofs.Common.{length-string, limit, List, listed_as}
+use Rattle.krl_writer.proofs.Common.{listed_text, plan_subsections}
 use Rattle.krl_writer.proofs.Common.{plan_text, recursion_from_All, refl, Revocations, Section, sections_of}
 use Rattle.krl_writer.proofs.Common.{sections_text, Sha1s, Sha256s, SignaturesLast, SpelledSection}
 use Rattle.krl_writer.proofs.Common.{Spells, SpellsEach, SpellsHashes, SpellsSection}
-use Rattle.krl_writer.proofs.Common.{SpellsSubsection, string, strings, subst, sym, text_of, ℕ}
+use Rattle.krl_writer.proofs.Common.{SpellsSubsection, string, strings, text_of, ℕ}
 use Rattle.krl_core.specs.Krl.{header_fields}
 use Rattle.krl_writer.specs.KrlText.{header_values}
-use Rattle.ssh_wire.specs.Rows.{IsPart, Leads, row_text, Step}
-use Rattle.ssh_wire.proofs.RowLaws.{leads_more}
-use Rattle.krl_types.specs.declared.krl_fault.KrlFault.{KrlFault}
+use Rattle.ssh_wire.specs.Rows.{row_text}
+use Rattle.ssh_wire.proofs.RowLaws.{leads_more, length-row, row_led}
 use Rattle.krl_writer.proofs.Spelling.{each_append, listed_spelled, plan_spelled}
 
 -- ---- an authority
@@ -100,41 +99,8 @@ unsigned (plan ∷ plans) (first ∷ listed) rest h = unsigned plans listed rest
 
 -- ---- the whole text
 
--- each value is one of its row and passes
-abbrev ArePassed : List (Step KrlFault) → List (List ℕ) → List (List ℕ) → Type 0
-ArePassed [] before values = values ≡ []
-ArePassed (s ∷ steps) before [] = ⊥
-ArePassed (s ∷ steps) before (value ∷ values) = IsPart s.part value × (s.judged before value ≡ None) × ArePassed steps (before ++ value ∷ []) values
-
-row_led : (steps : List (Step KrlFault)) (before values : List (List ℕ)) → ArePassed steps before values → Leads steps before (row_text steps values) (before ++ values) []
-row_led [] before values none = (sym (append-nil before) ∙ ap (λ (others : List (List ℕ)). before ++ others) (sym none), refl)
-row_led (s ∷ steps) before [] none = absurd none
-row_led (s ∷ steps) before (value ∷ values) (is, passed, later) =
-    (value, row_text steps values, record { is_part = is; spelled = refl }, passed, rw (sym (append_assoc before (value ∷ []) values)) (row_led steps (before ++ value ∷ []) values later))
-
 pub length-header : (header : Header) → length (header_text header) ≡ 44 + length header.comment
-length-header header =
-    let end : List ℕ = string [] ++ (string header.comment ++ []) in
-    let flags : List ℕ = number 8 0 ++ end in
-    let date : List ℕ = number 8 header.date ++ flags in
-    let version : List ℕ = number 8 header.version ++ date in
-    omega (
-      arith,
-      length-append (number 8 magic_number) (number 4 1 ++ version),
-      length-append (number 4 1) version,
-      length-append (number 8 header.version) date,
-      length-append (number 8 header.date) flags,
-      length-append (number 8 0) end,
-      length-append (string []) (string header.comment ++ []),
-      length-append (string header.comment) [],
-      length-string [],
-      length-string header.comment,
-      length-number 8 magic_number,
-      length-number 4 1,
-      length-number 8 header.version,
-      length-number 8 header.date,
-      length-number 8 0,
-    )
+length-header header = omega (arith, length-row header_fields (header_values header))
 
 pub text_spelled : (header : Header) (plans : List (List Group)) (r : Revocations) → header.version < 2 ^ 64 → header.date < 2 ^ 64 → IsOrderly r
     → EachPlan IsPlan plans r.sections → length (text_of header plans r) ≤ limit → Spells (text_of header plans r) header (sections_of plans r)
@@ -153,7 +119,7 @@ text_spelled header plans r version date orderly each short =
       values = values;
       body = body;
       fields = leads_more header_fields [] fields values [] body
-          (row_led header_fields [] values ((refl, omega arith), refl, ((refl, omega arith), refl, ((refl, version), refl, ((refl, date), refl, ((refl, omega arith), refl, (omega arith, refl, (omega arith, refl, refl))))))));
+          (row_led header_fields [] values (search (arith, version, date, comment, short)));
       header_is = refl;
       sections_are =
           each_append SpellsSection (authorities_text plans r.sections) (listed_text 2 r.keys ++ hashes) (authority_sections plans r.sections) (listed_as Keys r.keys ++ (listed_as Sha1s r.sha1s ++ listed_as Sha256s r.sha256s))

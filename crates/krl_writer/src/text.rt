@@ -48,6 +48,7 @@ fn is_surely_too_long<S: Spans>(revocations: &Revocations<S>) -> bool
 }
 
 // Appends the header of a list. Its flags are 0 and its reserved string is empty.
+#[tactic(auto, using(crate::proofs::Limits::put_more))]
 fn add_header(out: &mut Vec<u8>, header: &Header) -> Result<(), TextFault>
     ensures { AddsAtMost result out.old.items out.new.items (header_text header.now) }
 {

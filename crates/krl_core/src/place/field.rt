@@ -1,9 +1,12 @@
 //! The fields of the tables in a list, and the place after each.
 
-ghost use Rattle.std.specs.Prelude.{◌≡◌, ◌≤◌, IfSome, length};
-ghost use Rattle.krl_core.specs.Field.{row_of};
+ghost use Rattle.std.specs.Prelude.{◌≡◌, ◌≤◌, ◌∷◌, [], IfSome, length};
+ghost use Rattle.ssh_wire.specs.Wire.{number_of};
+ghost use Rattle.krl_core.specs.Field.{part_of, row_of};
 ghost use Rattle.krl_core.specs.Front.{HasRoom};
-ghost use Rattle.krl_core.specs.Place.{length_judged, part_size, place_after, room_of, row_expected};
+ghost use Rattle.krl_core.specs.Place.{length_judged, part_size, place_after, room_of};
+ghost use Rattle.krl_core.specs.Place.{row_expected};
+ghost use Rattle.krl_core.specs.Reading.{is_header};
 
 use crate::header::MAGIC_NUMBER;
 use crate::judging::{judge, next_subsection, rest, within};
@@ -36,28 +39,59 @@ pub enum Field {
     ExtensionContents,
 }
 
-impl Field {
-    // The row of the field: its table, the size in bytes of the number or of the string's length,
-    // and the next field of the table.
+/// A field is a number of this many bytes, or a string.
+#[derive(Clone, Copy)]
+pub enum FieldPart {
+    Number(u32),
+    Text,
+}
+
+impl FieldPart {
+    // The size in bytes of the number, or of the string's length.
     #[inline(always)]
-    fn row(self) -> (Table, u32, Option<Field>)
-        ensures table { result.0 ≡ (row_of self).table }
-        ensures size { result.1 ≡ part_size (row_of self).step.part }
-        ensures next { result.2 ≡ (row_of self).next }
+    fn size(self) -> u32
+        ensures { result ≡ part_size (part_of self) }
     {
         match self {
-            Field::Magic => (Table::Header, 8, Some(Field::FormatVersion)),
-            Field::FormatVersion => (Table::Header, 4, Some(Field::Version)),
-            Field::Version => (Table::Header, 8, Some(Field::Date)),
-            Field::Date => (Table::Header, 8, Some(Field::Flags)),
-            Field::Flags => (Table::Header, 8, Some(Field::Reserved)),
-            Field::Reserved => (Table::Header, 4, Some(Field::Comment)),
-            Field::Comment => (Table::Header, 4, None),
-            Field::SignatureKey => (Table::Signature, 4, Some(Field::SignatureBytes)),
-            Field::SignatureBytes => (Table::Signature, 4, None),
-            Field::ExtensionName => (Table::Extension, 4, Some(Field::Critical)),
-            Field::Critical => (Table::Extension, 1, Some(Field::ExtensionContents)),
-            Field::ExtensionContents => (Table::Extension, 4, None),
+            FieldPart::Number(size) => size,
+            FieldPart::Text => 4,
+        }
+    }
+}
+
+impl Field {
+    /// The row of the field: its table, its part, and the next field of the table.
+    #[inline(always)]
+    pub fn row(self) -> (Table, FieldPart, Option<Field>)
+        ensures table { result.0 ≡ (row_of self).table }
+        ensures part { part_of result.1 ≡ (row_of self).step.part }
+        ensures next { result.2 ≡ (row_of self).next }
+    {
+        use FieldPart::{Number, Text};
+        use Table::{Extension, Header, Signature};
+        match self {
+            Field::Magic => (Header, Number(8), Some(Field::FormatVersion)),
+            Field::FormatVersion => (Header, Number(4), Some(Field::Version)),
+            Field::Version => (Header, Number(8), Some(Field::Date)),
+            Field::Date => (Header, Number(8), Some(Field::Flags)),
+            Field::Flags => (Header, Number(8), Some(Field::Reserved)),
+            Field::Reserved => (Header, Text, Some(Field::Comment)),
+            Field::Comment => (Header, Text, None),
+            Field::SignatureKey => (Signature, Text, Some(Field::SignatureBytes)),
+            Field::SignatureBytes => (Signature, Text, None),
+            Field::ExtensionName => (Extension, Text, Some(Field::Critical)),
+            Field::Critical => (Extension, Number(1), Some(Field::ExtensionContents)),
+            Field::ExtensionContents => (Extension, Text, None),
+        }
+    }
+
+    // Whether the field is one of the header.
+    pub(super) fn is_in_header(self) -> bool
+        ensures { result ≡ is_header (row_of self).table }
+    {
+        match self.row().0 {
+            Table::Header => true,
+            _ => false,
         }
     }
 
@@ -67,10 +101,10 @@ impl Field {
         ensures size { result.0 ≡ part_size (row_of self).step.part }
         ensures room { result.1 ≡ room_of (row_of self).table left }
     {
-        let (table, size, _) = self.row();
+        let (table, part, _) = self.row();
         match table {
-            Table::Extension => (size, Some(left)),
-            _ => (size, None),
+            Table::Extension => (part.size(), Some(left)),
+            _ => (part.size(), None),
         }
     }
 
@@ -97,32 +131,26 @@ impl Field {
         requires room { HasRoom (row_expected self left after) }
         ensures { result ≡ (row_expected self left after).judged field.now }
     {
+        match self.row().1 {
+            FieldPart::Number(size) => match self.fault(field) {
+                None => Ok(self.place_after(left.saturating_sub(size), after)),
+                Some(fault) => Err(fault),
+            },
+            FieldPart::Text => self.after_length(left, after, u32_of(field)),
+        }
+    }
+
+    // The fault of a number, if it has one.
+    #[inline(always)]
+    fn fault(self, number: &[u8]) -> Option<KrlFault>
+        requires { length number.now ≡ part_size (row_of self).step.part }
+        ensures { result ≡ (row_of self).step.judged [] (number_of number.now ∷ []) }
+    {
         match self {
-            Field::Magic => {
-                if u64_of(field) == MAGIC_NUMBER {
-                    Ok(self.place_after(left.saturating_sub(8), after))
-                } else {
-                    Err(KrlFault::Magic)
-                }
-            }
-            Field::FormatVersion => {
-                if u32_of(field) == 1 {
-                    Ok(self.place_after(left.saturating_sub(4), after))
-                } else {
-                    Err(KrlFault::FormatVersion)
-                }
-            }
-            Field::Version | Field::Date | Field::Flags => {
-                Ok(self.place_after(left.saturating_sub(8), after))
-            }
-            Field::Critical => {
-                if byte_of(field) == 0 {
-                    Ok(self.place_after(left.saturating_sub(1), after))
-                } else {
-                    Err(KrlFault::CriticalExtension)
-                }
-            }
-            _ => self.after_length(left, after, u32_of(field)),
+            Field::Magic if u64_of(number) != MAGIC_NUMBER => Some(KrlFault::Magic),
+            Field::FormatVersion if u32_of(number) != 1 => Some(KrlFault::FormatVersion),
+            Field::Critical if byte_of(number) != 0 => Some(KrlFault::CriticalExtension),
+            _ => None,
         }
     }
 
@@ -130,7 +158,8 @@ impl Field {
     #[inline(always)]
     fn after_length(self, left: u32, after: u32, size: u32) -> Result<Place, KrlFault>
         requires { IfSome (room_of (row_of self).table left) (λ room. 4 ≤ room) }
-        ensures { result ≡ length_judged self (row_of self).table (row_of self).next left after size }
+        ensures { result
+            ≡ length_judged self (row_of self).table (row_of self).next left after size }
     {
         let (table, _, next) = self.row();
         let (field, inner) = (self, rest(left, size));

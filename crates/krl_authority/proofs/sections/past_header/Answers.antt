@@ -1,26 +1,28 @@
--- The fixed fields and two strings are before the sections.
-use Rattle.std.proofs.Common.{◌++◌, ◌∙◌, arith}
-use Rattle.ssh_wire.specs.Wire.{string}
-use Rattle.krl_authority.proofs.Spelled.{left_at}
+-- One field of the header after another is skipped.
+use Rattle.std.proofs.Common.{[], ◌∙◌, subst, sym}
+use Rattle.std.proofs.lemmas.Bool.{false≢true}
+use Rattle.ssh_wire.specs.Rows.{BeginsWithPart}
+use Rattle.krl_authority.proofs.Spelled.{Leaves, leaves_field, leaves_next}
 use Rattle.krl_authority.proofs.sections.past_header.Goals as goal
 
-pub returns-then-list-lt-FIXED : goal.returns-then-list-lt-FIXED
-returns-then-list-lt-FIXED c = λ header sections spells.
-    omega (arith, (left_at c.args.list.now header sections spells).0, c.if-list-lt-FIXED.true)
+pub loop-at-init : goal.loop-at-init
+loop-at-init c = λ header sections spells.
+    rw c.new-left.ensures ([], spells.values, spells.fields)
 
-pub returns-in_default : goal.returns-in_default
-returns-in_default c = λ header sections spells.
-    let left = left_at c.args.list.now header sections spells in
-    c.in_default.ensures.text left.1 (string left.2 ++ spells.body) (c.new-left.ensures ∙ left.3) left.4
+pub returns-then-not-skips_part : goal.returns-then-not-skips_part
+returns-then-not-skips_part c = λ header sections spells.
+    let leaves = subst (λ at. Leaves at c.loop-at.left spells.body) c.in-Some.is (c.loop-at.invariant header sections spells) in
+    let front = leaves_field c.in-Some.field c.loop-at.left spells.body leaves in
+    let begins = subst (λ part. BeginsWithPart part c.loop-at.left front.0 front.1) (sym c.row-part.ensures.part) front.2 in
+    false≢true (sym c.if-not-skips_part.true ∙ (c.skips_part.ensures front.0 front.1 begins).0)
 
-pub returns-in_default-take_string : goal.returns-in_default-take_string
-returns-in_default-take_string c = λ header sections spells.
-    let left = left_at c.args.list.now header sections spells in
-    let first = c.in-Some.ensures.text left.1 (string left.2 ++ spells.body) (c.new-left.ensures ∙ left.3) left.4 in
-    c.in_default-take_string.ensures.text left.2 spells.body first.1 left.5
+pub loop-at-preserved : goal.loop-at-preserved
+loop-at-preserved c = λ header sections spells.
+    let leaves = subst (λ at. Leaves at c.loop-at.left spells.body) c.in-Some.is (c.loop-at.invariant header sections spells) in
+    rw c.row-part.ensures.next (leaves_next c.in-Some.field c.loop-at.left c.skips_part.new.left spells.body leaves
+    (λ value rest begins. (c.skips_part.ensures value rest (subst (λ part. BeginsWithPart part c.loop-at.left value rest) (sym c.row-part.ensures.part) begins)).1))
 
 pub returns : goal.returns
 returns c = λ header sections spells.
-    let left = left_at c.args.list.now header sections spells in
-    let first = c.in-Some.ensures.text left.1 (string left.2 ++ spells.body) (c.new-left.ensures ∙ left.3) left.4 in
-    c.rest.ensures ∙ (c.in-Some-take_string.ensures.text left.2 spells.body first.1 left.5).1
+    let leaves = subst (λ at. Leaves at c.loop-at.left spells.body) c.in_default.is (c.loop-at.invariant header sections spells) in
+    c.rest.ensures ∙ leaves.2.1
