@@ -124,7 +124,7 @@ impl<S: Spans, R: Source + Drop> Walk<Revocations<S>, R> {
         ensures reads { IfOk result (λ walk. (text : List ℕ) (fields : List (List ℕ))
             → HasRead text fields self → HasRead text fields walk) }
         ensures scope { IfOk result (λ walk. walk.stored.scope ≡ T.scope store) }
-        ensures fault { IfOk result (λ walk. walk.fault ≡ self.fault) }
+        ensures same { IfOk result (λ walk. walk ≡ record self { stored = walk.stored }) }
         ensures bounds { IfOk result (λ walk. IsBounded walk.pull walk.stored) }
         ensures refused { IfErr result (λ reader. (text : List ℕ) (fields : List (List ℕ))
             → HasRead text fields self
