@@ -119,7 +119,8 @@ keep: f: 1 of 1 keys are revoked, 0 lines are not read\n",
     ),
     (
         Asked::Keys(Role::Keep, "id", Ok(CONTAINER)),
-        b"id:1: revoked: ssh-ed25519 SHA256:+DiY3wvvV6TuJJhbpZisF/zLDA0zPMSvHdkr4UvCOqU by its key: a
+        b"id:1: revoked: ssh-ed25519 SHA256:+DiY3wvvV6TuJJhbpZisF/zLDA0zPMSvHdkr4UvCOqU \
+by its key: a
 keep: id: 1 of 1 keys are revoked, 0 lines are not read\n",
         1,
     ),

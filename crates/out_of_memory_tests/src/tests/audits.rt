@@ -14,7 +14,8 @@ use test_fixtures::{CERT_LINE, CONTAINER, GITHUB, GITHUB_LINE, joined};
 // The text that is printed for the lines of `audited`.
 const SAID: &[u8] = b"f:1: unread: no key type stands there
 f:2: revoked: ssh-ed25519 SHA256:+DiY3wvvV6TuJJhbpZisF/zLDA0zPMSvHdkr4UvCOqU by its key: a
-f:3: revoked: ssh-ed25519-cert-v01@openssh.com SHA256:+DiY3wvvV6TuJJhbpZisF/zLDA0zPMSvHdkr4UvCOqU by its key
+f:3: revoked: ssh-ed25519-cert-v01@openssh.com \
+SHA256:+DiY3wvvV6TuJJhbpZisF/zLDA0zPMSvHdkr4UvCOqU by its key
 id:1: revoked: ssh-ed25519 SHA256:+DiY3wvvV6TuJJhbpZisF/zLDA0zPMSvHdkr4UvCOqU by its key: a
 ";
 
