@@ -4,7 +4,7 @@ import os
 
 import lists
 import specs
-from measure import AUDIT, OURS, build_audit, least, least_in_turn, own
+from measure import AUDIT, OURS, build_audit, least, least_in_turn, own, plain_rust
 
 FILES, KEYS = 10_000, 34_000
 LIST = 4 << 20
@@ -34,6 +34,7 @@ def auditing():
     """An audit reads the list once, and so does what prints it; a question about all keys reads it
     once more."""
     build_audit()
+    walk = plain_rust("walk")
     print("%-48s %6s %15s" % ("krl audit", "ratio", "seconds, MiB"))
     names = tree("tree")
     for shape in ("random serials", "explicit keys", "many authorities"):
@@ -43,15 +44,17 @@ def auditing():
             for name in names:
                 with open(name) as part:
                     out.write(part.read())
-        printed, asked, audited = least_in_turn(
+        printed, asked, audited, walked = least_in_turn(
             [
                 [OURS, "-Q", "-l", "-f", "list.krl"],
                 [OURS, "-Q", "-f", "list.krl", "all.pub"],
                 [AUDIT, "audit", "-f", "list.krl", "tree"],
+                [walk, "tree"],
             ]
         )
         both = printed[0] + asked[0], printed[1]
         ratio("%d files, %d keys, 4 MiB of %s" % (FILES, KEYS, shape), audited, both)
+        ratio("    the same files, read by plain Rust", walked, both)
         print(
             "%-48s %6.1f MiB more than -Q -l" % ("", (audited[1] - printed[1]) / 1024), flush=True
         )

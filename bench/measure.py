@@ -28,11 +28,12 @@ def build_audit():
         subprocess.run([os.path.join(TOP, "krl"), "-h"], stdout=subprocess.DEVNULL, check=True)
 
 
-def plain_rust():
-    """The plain reader of lists, compiled in the current folder."""
-    plain = os.path.join(os.getcwd(), "plain")
+def plain_rust(name="main"):
+    """A program of bench/plain, compiled in the current folder. `main` is the plain reader of
+    lists."""
+    plain = os.path.join(os.getcwd(), "plain_" + name)
     subprocess.run(
-        ["rustc", "-O", "-o", plain, os.path.join(TOP, "bench", "plain", "main.rs")], check=True
+        ["rustc", "-O", "-o", plain, os.path.join(TOP, "bench", "plain", name + ".rs")], check=True
     )
     return plain
 
