@@ -42,6 +42,8 @@ judge 'each link of a page leads to a file and a heading' \
   "$(asks 0 python3 -B "$tests/lib/pages/links.py" "$top")"
 judge 'the names that THEOREMS.md cites stand in the crates' \
   "$(asks 0 python3 -B "$tests/lib/pages/cited.py" "$top")"
+judge 'the files and names that the pages of the crates speak of are there' \
+  "$(asks 0 python3 -B "$tests/lib/pages/modules.py" "$top")"
 judge 'the page of the tests has a line for each part' \
   "$(asks 1 diff <(sed -n 's/^| `\([a-z_]*\)` .*/\1/p' "$tests/README.md" | sort) \
     <(printf '%s\n' "${!parts[@]}" | sort))"
