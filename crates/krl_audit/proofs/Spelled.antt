@@ -11,7 +11,7 @@ use Rattle.key_text.specs.LineReading.{KeyLine, after_word, line_at}
 use Rattle.key_text.specs.Marker.{marked_line_at, marker_of, unmarked}
 use Rattle.key_text.specs.declared.line_fault.LineFault.{LineFault}
 use Rattle.key_text.specs.declared.marker.Marker.{Marker}
-use Rattle.krl_entries.specs.Entry.{Entry}
+use Rattle.krl_types.specs.Entry.{Entry}
 use Rattle.krl_entries.specs.Reasons.{is_revoked, reasons_of}
 use Rattle.krl_entries.specs.Revoked.{Revoked}
 use Rattle.krl_entries.proofs.ReasonTests.{any_is_revoked}

@@ -7,7 +7,7 @@ ghost use Rattle.key_listing.specs.Carries.{Carries, Reaches};
 ghost use Rattle.key_listing.specs.Run.{Item, said_of};
 ghost use Rattle.json_lines.specs.Field.{json_line};
 ghost use Rattle.krl_types.specs.Subject.{Subject as SubjectOf};
-ghost use Rattle.krl_entries.specs.Entry.{Entry};
+ghost use Rattle.krl_types.specs.Entry.{Entry};
 ghost use Rattle.krl_entries.specs.Reasons.{reasons_of};
 ghost use Rattle.krl_entries.specs.Revocations.{Means};
 ghost use Rattle.krl_entries.specs.declared.reasons.Reasons.{Reasons as ReasonsOf};

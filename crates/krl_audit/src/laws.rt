@@ -10,7 +10,7 @@ ghost use Rattle.key_text.specs.Marker.{IsMarkedLine, marker_of, unmarked};
 ghost use Rattle.key_text.specs.declared.line_fault.LineFault.{LineFault};
 ghost use Rattle.key_text.specs.declared.marker.Marker.{Marker as MarkerOf};
 ghost use Rattle.krl_types.specs.Subject.{Subject};
-ghost use Rattle.krl_entries.specs.Entry.{Entry};
+ghost use Rattle.krl_types.specs.Entry.{Entry};
 ghost use Rattle.krl_entries.specs.Reasons.{reasons_of};
 ghost use Rattle.krl_entries.specs.Revoked.{Revoked};
 ghost use Rattle.krl_entries.specs.declared.reasons.Reasons.{Reasons};

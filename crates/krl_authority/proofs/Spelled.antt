@@ -6,11 +6,11 @@ use Rattle.std.specs.Prelude.{IsTrue, ◌↔◌, Option, Some, Result, Ok, Err, 
 use Rattle.ssh_wire.specs.Rows.{BeginsWithPart, Leads, Text}
 use Rattle.ssh_wire.specs.declared.fault.WireFault.{WireFault}
 use Rattle.ssh_wire.specs.Wire.{string}
-use Rattle.krl_core.specs.Field.{row_of, steps_of}
-use Rattle.krl_core.specs.Krl.{Certificates, Signature, SpelledSection, SpellsContent, SpellsEach, SpellsSection, authority_fields}
-use Rattle.krl_core.specs.declared.place.field.Field.{Field}
-use Rattle.krl_core.proofs.OneSpelling.{section_type}
-use Rattle.krl_core.proofs.TableRows.{after_is, fields_at}
+use Rattle.krl_format.specs.Field.{row_of, steps_of}
+use Rattle.krl_format.specs.Krl.{Certificates, Signature, SpelledSection, SpellsContent, SpellsEach, SpellsSection, authority_fields}
+use Rattle.krl_format.specs.declared.place.field.Field.{Field}
+use Rattle.krl_format.proofs.OneSpelling.{section_type}
+use Rattle.krl_format.proofs.TableRows.{after_is, fields_at}
 use Rattle.krl_authority.specs.Authority.{AuthoritiesAreKeys, IsJudged, IsKeyOrAll}
 
 -- ---- what was read

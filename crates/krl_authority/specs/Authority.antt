@@ -2,7 +2,7 @@
 use Rattle.std.specs.Prelude.{◌≡◌, ◌⊎◌, ◌↔◌, ℕ, Bool, IsTrue, List, [], ⊤}
 use Rattle.std.specs.List.{AllByRecursion}
 use Rattle.ssh_key.specs.Key.{IsKey, PublicKey}
-use Rattle.krl_core.specs.Krl.{Certificates, SpelledSection}
+use Rattle.krl_format.specs.Krl.{Certificates, SpelledSection}
 
 -- Empty, which means all authorities, or the blob of a key, which has one spelling.
 abbrev pub IsKeyOrAll : List ℕ → Type 0

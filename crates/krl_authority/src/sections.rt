@@ -4,12 +4,12 @@ ghost use Rattle.std.specs.Prelude.{◌≡◌, ◌↔◌, ◌<◌, ◌≤◌, �
 ghost use Rattle.std.specs.Prelude.{length};
 ghost use Rattle.ssh_wire.specs.Rows.{BeginsWithPart};
 ghost use Rattle.ssh_wire.specs.Wire.{string};
-ghost use Rattle.krl_core.specs.Field.{part_of};
-ghost use Rattle.krl_core.specs.Krl.{SpelledSection, Spells, SpellsSection};
-ghost use Rattle.krl_core.specs.declared.header.Header.{Header as HeaderOf};
+ghost use Rattle.krl_format.specs.Field.{part_of};
+ghost use Rattle.krl_format.specs.Krl.{SpelledSection, Spells, SpellsSection};
+ghost use Rattle.krl_format.specs.declared.header.Header.{Header as HeaderOf};
 ghost use Rattle.krl_authority.specs.Authority.{AuthoritiesAreKeys, IsJudged, IsKeyOrAll};
 
-use krl_core::{Field, FieldPart};
+use krl_format::{Field, FieldPart};
 use ssh_key::laws::read_where_spelled;
 use ssh_key::read_key;
 use ssh_wire::Cursor;

@@ -8,18 +8,19 @@ use Rattle.krl_c.proofs.Common.{other_authority, ran_out, refl, refusal_number, 
 use Rattle.krl_c.proofs.Common.{subject_number, SubjectFault, to_z, to_z-of_z, w32, ℕ, ℤ}
 use Rattle.key_text.specs.KeyLine.{IsKeyLine}
 use Rattle.krl_types.specs.declared.krl_fault.KrlFault.{KrlFault}
-use Rattle.krl_core.specs.declared.header.Header.{Header}
+use Rattle.krl_format.specs.declared.header.Header.{Header}
 use Rattle.krl_entries.specs.Revocations.{Revocations}
-use Rattle.krl_core.specs.Front.{IsFirstFault}
-use Rattle.krl_core.specs.Reading.{IsListAs, failed_read, first}
+use Rattle.krl_format.specs.Front.{IsFirstFault}
+use Rattle.krl_core.specs.Reading.{IsListAs}
+use Rattle.krl_format.specs.Faults.{failed_read, first}
 use Rattle.krl_authority.specs.Authority.{AuthoritiesAreKeys}
 use Rattle.krl_c.specs.declared.refusal.Refusal.{Refusal}
 use Rattle.ssh_cert.specs.declared.subject_fault.SubjectFault.TheVariants as subjects
 use Rattle.key_text.specs.LineFaults.{IsReportedFault as IsReportedLineFault}
 use Rattle.key_text.specs.declared.line_fault.LineFault.TheVariants as lines
 use Rattle.krl_types.specs.declared.krl_fault.KrlFault.TheVariants as lists
-use Rattle.krl_core.specs.Reading.{Says as ListSays}
-use Rattle.krl_core.specs.Reading.{ran_out as runs_out}
+use Rattle.krl_format.specs.Faults.{Says as ListSays}
+use Rattle.krl_format.specs.Faults.{ran_out as runs_out}
 use Rattle.krl_c.specs.declared.refusal.Refusal.TheVariants as refusals
 
 -- an answer does not change when it is passed to C

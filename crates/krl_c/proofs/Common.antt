@@ -12,8 +12,8 @@ pub use Rattle.krl_c.specs.Answer.{no_list, of_key, other_authority, ran_out, sa
 pub use Rattle.krl_c.specs.Number.{line_number, list_number, no_memory, plain_number}
 pub use Rattle.krl_c.specs.Number.{refusal_number, subject_number}
 pub use Rattle.krl_c.specs.Stored.{AnswersStored, loaded, not_loaded_for, unloaded}
-pub use Rattle.krl_core.specs.Entries.{entries_of}
-pub use Rattle.krl_entries.specs.Entry.{Entry}
+pub use Rattle.krl_format.specs.Entries.{entries_of}
+pub use Rattle.krl_types.specs.Entry.{Entry}
 pub use Rattle.ssh_cert.specs.SubjectReading.{IsReportedFault, IsSubject, IsSubjectFault}
 pub use Rattle.ssh_cert.specs.SubjectReading.{subject_of}
 pub use Rattle.ssh_cert.specs.declared.subject_fault.SubjectFault.{SubjectFault}

@@ -7,11 +7,11 @@ use Rattle.key_text.specs.declared.line_fault.LineFault.{LineFault}
 use Rattle.ssh_cert.specs.SubjectReading.{IsSubject, IsSubjectFault}
 use Rattle.ssh_cert.specs.declared.subject_fault.SubjectFault.{SubjectFault}
 use Rattle.krl_types.specs.declared.krl_fault.KrlFault.{KrlFault}
-use Rattle.krl_core.specs.declared.header.Header.{Header}
-use Rattle.krl_entries.specs.Entry.{Entry}
-use Rattle.krl_core.specs.Entries.{entries_of}
-use Rattle.krl_core.specs.Front.{IsFirstFault, limit}
-use Rattle.krl_core.specs.Krl.{SpelledSection, Spells}
+use Rattle.krl_format.specs.declared.header.Header.{Header}
+use Rattle.krl_types.specs.Entry.{Entry}
+use Rattle.krl_format.specs.Entries.{entries_of}
+use Rattle.krl_format.specs.Front.{IsFirstFault, limit}
+use Rattle.krl_format.specs.Krl.{SpelledSection, Spells}
 use Rattle.krl_entries.specs.Revoked.{Revoked}
 use Rattle.krl_authority.specs.Authority.{AuthoritiesAreKeys}
 use Rattle.krl_types.specs.declared.krl_fault.KrlFault.TheVariants.{NoMemory}

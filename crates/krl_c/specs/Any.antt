@@ -1,7 +1,7 @@
 -- The answer of a list that may be a plain list of keys.
 use Rattle.std.specs.Prelude.{◌≡◌, ◌≤◌, ℕ, ℤ, nat_eq, Bool, true, false, List, length}
 use Rattle.std.specs.List.{starts_with}
-use Rattle.krl_core.specs.Krl.{magic}
+use Rattle.krl_format.specs.Krl.{magic}
 use Rattle.plain_list.specs.List.{AreRead, HasFault, entries_of, limit, lines_of}
 use Rattle.plain_list.specs.declared.fault.PlainFault.{PlainFault}
 use Rattle.krl_c.specs.Answer.{Answers, AnswersBlob}

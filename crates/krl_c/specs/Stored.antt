@@ -1,7 +1,7 @@
 -- The stored list, by the entries that it means.
 use Rattle.std.specs.Prelude.{◌≡◌, ℕ, ℤ, Bool, true, false, List}
 use Rattle.krl_entries.specs.Revocations.{Revocations, Means, nothing}
-use Rattle.krl_entries.specs.Entry.{Entry}
+use Rattle.krl_types.specs.Entry.{Entry}
 use Rattle.krl_core.specs.Reading.{HoldsAll}
 use Rattle.krl_c.specs.Answer.{IsCompared, IsRefusal}
 use Rattle.krl_c.specs.Number.{fine, not_loaded, refusal_number}

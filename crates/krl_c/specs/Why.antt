@@ -5,7 +5,7 @@ use Rattle.std.specs.Int.{bit_at}
 use Rattle.ssh_cert.specs.SubjectReading.{IsSubject, IsSubjectFault}
 use Rattle.ssh_cert.specs.declared.subject_fault.SubjectFault.{SubjectFault}
 use Rattle.krl_types.specs.Subject.{Subject}
-use Rattle.krl_entries.specs.Entry.{Entry}
+use Rattle.krl_types.specs.Entry.{Entry}
 use Rattle.krl_entries.specs.Reasons.{IsReason}
 use Rattle.krl_entries.specs.declared.reasons.Reason.{Reason}
 use Rattle.krl_entries.specs.declared.reasons.Reason.TheVariants as reasons

@@ -2,8 +2,8 @@
 
 ghost use Rattle.std.specs.Prelude.{◌≡◌, ◌⊎◌, ◌↔◌, List, IfOk, IfErr, IsTrue, OnOk};
 ghost use Rattle.krl_types.specs.declared.krl_fault.KrlFault.TheVariants.{NoMemory};
-ghost use Rattle.krl_entries.specs.Entry.{Entry};
-ghost use Rattle.krl_core.specs.Front.{IsFirstFault};
+ghost use Rattle.krl_types.specs.Entry.{Entry};
+ghost use Rattle.krl_format.specs.Front.{IsFirstFault};
 ghost use Rattle.krl_queries.specs.Questions.{Asks, asked_in};
 ghost use Rattle.krl_entries.specs.Revoked.{Revoked};
 ghost use Rattle.krl_entries.specs.Scope.{MeansInScope};

@@ -20,7 +20,7 @@ ghost use Rattle.krl_c.specs.Number.{line_number, list_number, no_memory, subjec
 ghost use Rattle.krl_c.specs.Words.{words};
 
 use key_text::laws::{line_read_where_spelled, line_refused_by_first_fault};
-use krl_core::laws::{no_fault_where_spelled, one_first_fault, one_spelling};
+use krl_format::laws::{no_fault_where_spelled, one_first_fault, one_spelling};
 use ssh_cert::laws::{asked_where_spelled, not_asked_by_first_fault};
 
 /// A list has one row of entries or one first fault.

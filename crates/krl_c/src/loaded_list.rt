@@ -2,7 +2,7 @@
 
 ghost use Rattle.std.specs.Prelude.{List, IfOk, IfErr};
 ghost use Rattle.krl_entries.specs.Revocations.{Means};
-ghost use Rattle.krl_entries.specs.Entry.{Entry};
+ghost use Rattle.krl_types.specs.Entry.{Entry};
 ghost use Rattle.krl_core.specs.Reading.{HoldsAll};
 ghost use Rattle.krl_c.specs.Answer.{AnswersBlob, AnswersLine, IsCompared, IsRefusal};
 

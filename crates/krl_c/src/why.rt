@@ -1,7 +1,7 @@
 //! The reasons why a list revokes a blob, as the bits of a number.
 
 ghost use Rattle.std.specs.Prelude.{◌≡◌, ◌+◌, ◌*◌, ◌<◌, ◌≤◌, ◌^◌, ◌↔◌, List, IfOk, IfErr, IsTrue};
-ghost use Rattle.krl_entries.specs.Entry.{Entry};
+ghost use Rattle.krl_types.specs.Entry.{Entry};
 ghost use Rattle.krl_entries.specs.Reasons.{IsReason, has_reason};
 ghost use Rattle.krl_entries.specs.declared.reasons.Reason.{Reason as ReasonOf};
 ghost use Rattle.krl_c.specs.Answer.{IsCompared, IsRefusal};

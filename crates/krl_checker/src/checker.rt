@@ -4,8 +4,8 @@ ghost use Rattle.std.specs.Prelude.{◌≡◌, ◌∷◌, [], ◌||◌, nat_lt, 
 ghost use Rattle.std.specs.Prelude.{is_err, is_some};
 ghost use Rattle.key_listing.specs.Carries.{Carries, Reaches};
 ghost use Rattle.key_listing.specs.Run.{Item, said_of};
-ghost use Rattle.krl_core.specs.Front.{start};
-ghost use Rattle.krl_entries.specs.Entry.{Entry};
+ghost use Rattle.krl_format.specs.Front.{start};
+ghost use Rattle.krl_types.specs.Entry.{Entry};
 ghost use Rattle.krl_entries.specs.Reasons.{reasons_of};
 ghost use Rattle.krl_entries.specs.Revocations.{Means};
 ghost use Rattle.krl_audit.specs.Audit.{content_of};

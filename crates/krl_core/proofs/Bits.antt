@@ -1,31 +1,29 @@
 -- The entries of a byte of a bitmap.
 use Rattle.krl_core.proofs.Common.{[], ◌*◌, ◌++◌, ◌+◌, ◌-◌, ◌<◌, ◌^◌, ◌↔◌, ◌∙◌, ◌∷◌, ◌≡◌, ◌≤◌, Adds}
 use Rattle.krl_core.proofs.Common.{AddsEntries, all_append, ap, append-nil, append_assoc, arith}
-use Rattle.krl_core.proofs.Common.{base_of, bit_at, bit_at-zero, BitmapEntry, BitNames, BitRuns}
-use Rattle.krl_core.proofs.Common.{bits_judged, Bool, Closes, cond, Entry, eq-eqb, eqb, Err, false}
+use Rattle.krl_core.proofs.Common.{base_of, BitmapEntry, BitNames, BitRuns}
+use Rattle.krl_core.proofs.Common.{bits_judged, Bool, Closes, Entry, eq-eqb, eqb, false}
 use Rattle.krl_core.proofs.Common.{Feeds, FieldStore, GrowsAtMost, HasFault, held, held_with_open}
-use Rattle.krl_core.proofs.Common.{highest_bit, iff_both, iff_none, iff_or, iff_swap, InStep}
-use Rattle.krl_core.proofs.Common.{IsSerials, judge, leading_zeros, leb, leb-false, length}
+use Rattle.krl_core.proofs.Common.{iff_both, iff_none, iff_or, iff_swap, InStep}
+use Rattle.krl_core.proofs.Common.{IsSerials, length}
 use Rattle.krl_core.proofs.Common.{length-append, length-reverse, List, lowest, ltb, ltb-true}
 use Rattle.krl_core.proofs.Common.{MeansInScope, NamesSame, ne_eqb, next_bits, next_subsection}
-use Rattle.krl_core.proofs.Common.{None, not, number_of, Ok, one_more, open_run, Option}
+use Rattle.krl_core.proofs.Common.{None, number_of, Ok, one_more, open_run, Option}
 use Rattle.krl_core.proofs.Common.{option_to_list, passes_end, Place, refl, reverse, reverse-append}
 use Rattle.krl_core.proofs.Common.{Revocations, run_entries, same_append, same_is, same_refl}
 use Rattle.krl_core.proofs.Common.{same_serials, same_swap, same_then, Scope, SerialOf, ShowsFault}
 use Rattle.krl_core.proofs.Common.{some_append, Span, StoresBits, StoresEntries, StoresField}
-use Rattle.krl_core.proofs.Common.{StoresNoMore, subst, suc, sym, true, w8, zero, ℕ}
-use Rattle.krl_core.proofs.Common.{cases_Bool, eqb-true, inl, inr, KrlFault, lt-ltb, Result}
+use Rattle.krl_core.proofs.Common.{StoresNoMore, subst, suc, sym, true, zero, ℕ}
 use Rattle.serial_set.specs.declared.bit_fault.BitFault.{BitFault}
 use Rattle.serial_set.specs.declared.bit_fault.BitFault.TheVariants.{Negative, Wraps}
 use Rattle.serial_set.specs.Span.{Covers}
 use Rattle.serial_set.proofs.RisingLists.{covers_append}
 use Rattle.krl_entries.proofs.Runs.{run_entries-name, run_entries-serials}
 use Rattle.krl_core.proofs.StoredEntries.{grows_one, open_entries, stored_same, stored_then}
-use Rattle.krl_types.specs.declared.krl_fault.KrlFault.TheVariants as faults
-use Rattle.krl_core.specs.declared.place.Place.TheVariants as places
-use Rattle.krl_core.specs.declared.place.bitmap.BitmapPlace.TheVariants as bitmaps
-use Rattle.serial_set.proofs.Bits.{highest_bit as top_bit}
+use Rattle.krl_format.specs.declared.place.Place.TheVariants as places
+use Rattle.krl_format.specs.declared.place.bitmap.BitmapPlace.TheVariants as bitmaps
 use Rattle.std.proofs.Math.Logic.Iff as Iff
+use Rattle.krl_format.proofs.PassingBits.{judged_parts, not_past_at}
 
 -- ---- runs by the numbers in them
 
@@ -144,35 +142,6 @@ fed_grows old mid new last byte finished fed rest more stored less after =
     grows_one old last 4 small (omega arith) (stored_then old mid last (stored_same old mid contents (ap (λ (k : FieldStore). k.authority) rest) (ap (λ (k : FieldStore). k.scope) rest)) all)
 
 -- ---- a byte that passes its judgement shows no fault
-
-pub not_past_at : (base byte : ℕ) → byte < 256 → passes_end base byte ≡ false → (k : ℕ) → bit_at byte k ≡ 1 → base + k < 2 ^ 64
-not_past_at base zero h passes k bit = let z = bit_at-zero k in absurd (omega (arith, z, bit))
-not_past_at base (suc b) h passes k bit =
-    let byte = suc b in
-    let low : leb 18446744073709551616 (base + highest_bit byte) ≡ false = rw (ne_eqb byte 0 (λ e. absurd (omega arith))) at passes in
-    let lt : base + highest_bit byte < 18446744073709551616 = leb-false 18446744073709551616 (base + highest_bit byte) low in
-    let most = (top_bit byte (leading_zeros w8 byte) (omega arith) h refl).1 k bit in
-    omega (arith, most, lt)
-
-pub judged_parts : (first sign_free past : Bool) (next place : Place)
-    → cond first (cond sign_free (judge (not past) faults.BitmapWraps place) (Err faults.BitmapNegative)) (judge (not past) faults.BitmapWraps place) ≡ Ok next
-    → (first ≡ true → sign_free ≡ true) × (past ≡ false) × (place ≡ next)
-judged_parts true true true next place e = absurd (cc)
-judged_parts true true false next place e = (λ _. refl, refl, cc)
-judged_parts true false past next place e = absurd (cc)
-judged_parts false t true next place e = absurd (cc)
-judged_parts false t false next place e = (λ f. absurd (cc), refl, cc)
-
-pub bits_pass : (offset size left after byte : ℕ) → (left ≡ size → byte < 128) → passes_end (base_of offset left) byte ≡ false
-    → bits_judged offset size left after byte ≡ Ok (next_bits offset size (left - 1) after)
-bits_pass offset size left after byte sign passes =
-    let W : Result Place KrlFault = judge (not (passes_end (base_of offset left) byte)) faults.BitmapWraps (next_bits offset size (left - 1) after) in
-    let w : W ≡ Ok (next_bits offset size (left - 1) after) = ap (λ (b : Bool). judge (not b) faults.BitmapWraps (next_bits offset size (left - 1) after)) passes in
-    let tested = λ (b : Bool). cond b (cond (ltb byte 128) W (Err faults.BitmapNegative)) W in
-    elim (cases_Bool (eqb left size)) [
-      | inl e ↦ ap tested e ∙ ap (λ (b : Bool). cond b W (Err faults.BitmapNegative)) (lt-ltb byte 128 (sign (eqb-true left size e))) ∙ w
-      | inr e ↦ ap tested e ∙ w
-    ]
 
 pub good_bits : (p : BitRuns) (offset size left after byte : ℕ) (next : Place) → byte < 256
     → p ≡ record { offset = offset; len = size; bytes_left = left; pending = p.pending; fault = None }

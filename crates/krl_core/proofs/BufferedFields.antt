@@ -12,10 +12,10 @@ use Rattle.krl_core.proofs.Common.{ReadsWhole, refl, Result, start, state_after}
 use Rattle.krl_core.proofs.Common.{StoresAtMost, StoresEntries, StoresField, subst, suc, sym, take}
 use Rattle.krl_core.proofs.Common.{take-add, take_rest, Takes, true, Walk, working, zero, ℕ}
 use Rattle.krl_core.proofs.Common.{LooksFor, ReadsOneMore}
-use Rattle.krl_core.proofs.LongestFronts.{nearer, weight}
+use Rattle.krl_format.proofs.LongestFronts.{nearer, weight}
 use Rattle.krl_core.proofs.StoredEntries.{grows_then, header_stored}
 use Rattle.krl_core.proofs.Steps.{bounded_more, consumes_some, looked}
-use Rattle.krl_core.proofs.Walks.{Leads-push}
+use Rattle.krl_format.proofs.Walks.{Leads-push}
 
 -- ---- rows of fields
 

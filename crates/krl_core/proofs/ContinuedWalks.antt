@@ -11,11 +11,11 @@ use Rattle.krl_core.proofs.Common.{Walk, ℕ}
 use Rattle.krl_entries.proofs.OneMeaning.{one_meaning}
 use Rattle.krl_entries.proofs.OwnEntries.{means_itself}
 use Rattle.krl_entries.proofs.SameMeaning.{nothing_meant, same_meaning, same_naming}
-use Rattle.krl_entries.proofs.Elements.{some_left}
+use Rattle.krl_types.proofs.Elements.{some_left}
 use Rattle.krl_entries.specs.Revocations.{nothing}
 use Rattle.krl_entries.specs.Scope.{stored_comment}
 use Rattle.std.specs.Prelude.{◌≢◌}
-use Rattle.krl_core.specs.declared.place.Place.TheVariants as places
+use Rattle.krl_format.specs.declared.place.Place.TheVariants as places
 use Rattle.krl_types.specs.declared.krl_fault.KrlFault.TheVariants as faults
 
 -- the entries that were stored stay stored, with the open run

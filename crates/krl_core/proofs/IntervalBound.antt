@@ -20,11 +20,11 @@ use Rattle.krl_entries.proofs.Intervals.{length-intervals, most}
 use Rattle.krl_entries.proofs.OneMeaning.{section_authority, held_first, not_before_itself}
 use Rattle.krl_entries.proofs.OneMeaning.{above_named}
 use Rattle.std.proofs.Math.Logic.Iff as Iff
-use Rattle.krl_core.specs.declared.place.list.ItemKind.TheVariants as kinds
-use Rattle.krl_core.specs.declared.place.Place.TheVariants as places
-use Rattle.krl_core.specs.declared.place.list.ListPlace.TheVariants as lists
-use Rattle.krl_core.specs.declared.place.serials.SerialsPlace.TheVariants as serials
-use Rattle.krl_core.specs.declared.place.bitmap.BitmapPlace.TheVariants as bitmaps
+use Rattle.krl_format.specs.declared.place.list.ItemKind.TheVariants as kinds
+use Rattle.krl_format.specs.declared.place.Place.TheVariants as places
+use Rattle.krl_format.specs.declared.place.list.ListPlace.TheVariants as lists
+use Rattle.krl_format.specs.declared.place.serials.SerialsPlace.TheVariants as serials
+use Rattle.krl_format.specs.declared.place.bitmap.BitmapPlace.TheVariants as bitmaps
 
 -- ---- the intervals of entries under one authority
 

@@ -1,9 +1,4 @@
 mod Common
-pub mod Judgements
-pub mod Fronts
-pub mod FixedFields
-pub mod Walks
-pub mod LongestFronts
 pub mod StoredEntries
 pub mod Bits
 pub mod Steps
@@ -13,20 +8,8 @@ pub mod GainedEntries
 pub mod ContinuedWalks
 pub mod WholeLists
 pub mod Progress
-pub mod Bitmaps
-pub mod RestSpellings
-pub mod SpelledSections
-pub mod SpelledSubsections
-pub mod TableRows
-pub mod Fields
 pub mod Lists
-pub mod PlaceRows
-pub mod TableWalks
-pub mod SpelledFields
-pub mod SpelledLists
-pub mod TruncatedLists
 pub mod SkippedBits
 pub mod SerialFields
-pub mod OneSpelling
 pub mod IntervalBound
 pub mod OutOfScopeFields

@@ -9,9 +9,9 @@ use Rattle.krl_core.proofs.Common.{take_fewer, ℕ}
 use Rattle.krl_core.proofs.SerialFields.{buffered_serials}
 use Rattle.krl_core.proofs.StoredEntries.{stored_same}
 use Rattle.krl_core.proofs.SkippedBits.{buffered_bits, stays_grow}
-use Rattle.krl_core.specs.declared.place.Place.TheVariants as places
-use Rattle.krl_core.specs.declared.place.bitmap.BitmapPlace.TheVariants as bitmaps
-use Rattle.krl_core.specs.declared.place.serials.SerialsPlace.TheVariants as serials
+use Rattle.krl_format.specs.declared.place.Place.TheVariants as places
+use Rattle.krl_format.specs.declared.place.bitmap.BitmapPlace.TheVariants as bitmaps
+use Rattle.krl_format.specs.declared.place.serials.SerialsPlace.TheVariants as serials
 
 pub serials_buffered : (bytes : List ℕ) (count : ℕ) (place next : Place) (stored : FieldStore) (left after : ℕ) → place ≡ places.Serials (serials.Serial left after) → next ≡ next_serial (left - count) after
     → count ≤ length bytes → count ≤ left → count % 8 ≡ 0 → (count ≡ 0 → ⊥) → IsBytes bytes → InStep place stored.bitmap → AreOutOfScope stored.scope stored.authority bytes count

@@ -4,7 +4,7 @@ use Rattle.krl_core.proofs.Common.{false, Follows, IfOk, inl, inr, IsTrue, KrlFa
 use Rattle.krl_core.proofs.Common.{limit, Ok, ReadsMore, ReadsOneMore, refl, Result, Walk}
 use Rattle.krl_core.proofs.Common.{None, Option, Some}
 use Rattle.std.specs.Prelude.{is_some}
-use Rattle.krl_core.proofs.LongestFronts.{weight, weight_below}
+use Rattle.krl_format.proofs.LongestFronts.{weight, weight_below}
 use Rattle.krl_core.proofs.WholeLists.{step_nearer}
 
 pub one_or_more : (old new : Walk) → ReadsOneMore old new → ReadsMore old new

@@ -11,9 +11,9 @@ use Rattle.krl_core.proofs.Common.{sym, take, take-add, zero, ℕ}
 use Rattle.krl_core.proofs.Bits.{shut_in_step}
 use Rattle.krl_core.proofs.StoredEntries.{header_stays}
 use Rattle.krl_core.proofs.SkippedBits.{skipped_stored}
-use Rattle.krl_core.proofs.Walks.{Leads-append, leads_after, leads_none, LeadsTo}
-use Rattle.krl_core.specs.declared.place.Place.TheVariants as places
-use Rattle.krl_core.specs.declared.place.serials.SerialsPlace.TheVariants as serials
+use Rattle.krl_format.proofs.Walks.{Leads-append, leads_after, leads_none, LeadsTo}
+use Rattle.krl_format.specs.declared.place.Place.TheVariants as places
+use Rattle.krl_format.specs.declared.place.serials.SerialsPlace.TheVariants as serials
 
 -- the first serial numbers, as fields
 eights : ℕ → List ℕ → List (List ℕ)

@@ -17,11 +17,12 @@ use Rattle.krl_core.proofs.Common.{true, zero, ℕ}
 use Rattle.std.proofs.lemmas.Bool.Decides.{nat_tests}
 use Rattle.serial_set.proofs.Bits.{bit_below}
 use Rattle.krl_entries.proofs.AddedMeaning.{nothing_more_within}
-use Rattle.krl_core.proofs.Bits.{bits_pass, shut_in_step}
+use Rattle.krl_format.proofs.PassingBits.{bits_pass}
+use Rattle.krl_core.proofs.Bits.{shut_in_step}
 use Rattle.krl_core.proofs.StoredEntries.{closes_run, header_stays, stored_wider}
-use Rattle.krl_core.proofs.Walks.{Leads-append, leads_after, leads_none, LeadsTo}
-use Rattle.krl_core.specs.declared.place.Place.TheVariants as places
-use Rattle.krl_core.specs.declared.place.bitmap.BitmapPlace.TheVariants as bitmaps
+use Rattle.krl_format.proofs.Walks.{Leads-append, leads_after, leads_none, LeadsTo}
+use Rattle.krl_format.specs.declared.place.Place.TheVariants as places
+use Rattle.krl_format.specs.declared.place.bitmap.BitmapPlace.TheVariants as bitmaps
 
 -- each byte as a field
 abbrev singles : List ℕ → List (List ℕ)

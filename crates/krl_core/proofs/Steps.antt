@@ -17,8 +17,8 @@ use Rattle.std.proofs.Math.Seq.{take-append_seam}
 use Rattle.ssh_wire.specs.declared.pull_fault.PullFault.{PullFault}
 use Rattle.ssh_wire.proofs.TruncatedFields.{take-after}
 use Rattle.krl_types.specs.KrlFault.{reported_as}
-use Rattle.krl_core.proofs.Fronts.{first_fault_is, end_size, end_room}
-use Rattle.krl_core.proofs.LongestFronts.{end_or_early}
+use Rattle.krl_format.proofs.Fronts.{first_fault_is, end_size, end_room}
+use Rattle.krl_format.proofs.LongestFronts.{end_or_early}
 use Rattle.ssh_wire.specs.declared.pull_fault.PullFault.TheVariants as pulls
 use Rattle.krl_types.specs.declared.krl_fault.KrlFault.TheVariants as faults
 use Rattle.krl_core.specs.Reading.{no_room as room_missed}

@@ -11,8 +11,8 @@ use Rattle.krl_core.proofs.Common.{start, stored_header, stored_header_after, St
 use Rattle.krl_core.proofs.Common.{StoresEntries, StoresField, StoresNoMore, subst, sym, take}
 use Rattle.krl_core.proofs.Common.{take-add, ℕ}
 use Rattle.krl_entries.proofs.Runs.{run_entries-append}
-use Rattle.krl_core.specs.declared.place.Place.TheVariants as places
-use Rattle.krl_core.specs.declared.place.field.Field.TheVariants as fields
+use Rattle.krl_format.specs.declared.place.Place.TheVariants as places
+use Rattle.krl_format.specs.declared.place.field.Field.TheVariants as fields
 
 abbrev pub open_entries : FieldStore → List Entry
 open_entries stored = run_entries stored.authority (open_run stored)

@@ -9,9 +9,9 @@ use Rattle.krl_core.proofs.Common.{Place, Pull, ReadsMore, refl, Revocations, ru
 use Rattle.krl_core.proofs.Common.{same_within, Some, Span, subst, sym, take, take_all, true, Walk}
 use Rattle.krl_core.proofs.Common.{ℕ}
 use Rattle.std.specs.Io.KnownBytes.{IsAtEnd}
-use Rattle.krl_core.specs.declared.place.Place.TheVariants.{SectionType}
-use Rattle.krl_core.proofs.LongestFronts.{weight, nearer}
-use Rattle.krl_core.proofs.Fronts.{first_fault_is}
+use Rattle.krl_format.specs.declared.place.Place.TheVariants.{SectionType}
+use Rattle.krl_format.proofs.LongestFronts.{weight, nearer}
+use Rattle.krl_format.proofs.Fronts.{first_fault_is}
 use Rattle.krl_entries.specs.Scope.{all as every_name}
 
 -- some more fields were read, without a fault

@@ -5,11 +5,11 @@ use Rattle.std.specs.Prelude.{IfOk, OnOk, Option, Some, None}
 use Rattle.std.specs.List.{concat}
 use Rattle.std.specs.declared.alloc.AllocError.{AllocError}
 use Rattle.ssh_wire.specs.Wire.{IsBytes, number_of}
-use Rattle.krl_core.specs.declared.place.Place.{Place}
-use Rattle.krl_core.specs.Front.{Leads, Passes, State, start}
+use Rattle.krl_format.specs.declared.place.Place.{Place}
+use Rattle.krl_format.specs.Front.{Leads, Passes, State, start}
 use Rattle.krl_core.specs.FieldStore.{GrowsAtMost, InStep, StoresEntries, FieldStore, StoresField}
 use Rattle.krl_core.specs.FieldStore.{stored_header}
-use Rattle.krl_entries.specs.Naming.{SerialOf}
+use Rattle.krl_types.specs.Naming.{SerialOf}
 use Rattle.krl_entries.specs.Scope.{InScope}
 
 -- These fields lead from a list's first byte to a place, and the field store stored what they name.

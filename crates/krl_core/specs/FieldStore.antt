@@ -5,16 +5,16 @@ use Rattle.std.specs.Option.{option_to_list}
 use Rattle.serial_set.specs.declared.span.Span.{Span}
 use Rattle.serial_set.specs.declared.bit_fault.BitFault.{BitFault}
 use Rattle.serial_set.specs.BitRuns.{BitRuns, HasFault}
-use Rattle.krl_core.specs.declared.header.Header.{Header}
-use Rattle.krl_core.specs.declared.place.Place.{Place}
-use Rattle.krl_core.specs.declared.place.Place.TheVariants as places
-use Rattle.krl_core.specs.declared.place.bitmap.BitmapPlace.TheVariants as bitmaps
-use Rattle.krl_core.specs.declared.place.field.Field.TheVariants as fields
+use Rattle.krl_format.specs.declared.header.Header.{Header}
+use Rattle.krl_format.specs.declared.place.Place.{Place}
+use Rattle.krl_format.specs.declared.place.Place.TheVariants as places
+use Rattle.krl_format.specs.declared.place.bitmap.BitmapPlace.TheVariants as bitmaps
+use Rattle.krl_format.specs.declared.place.field.Field.TheVariants as fields
 use Rattle.krl_entries.specs.Changes.{run_entries}
 use Rattle.krl_entries.specs.Revocations.{Revocations, IsStoredAtMost, held}
-use Rattle.krl_entries.specs.Entry.{Entry, BitmapEntry}
-use Rattle.krl_entries.specs.Naming.{NamesSame}
-use Rattle.krl_core.specs.Place.{names, authority_after, header_after, base_of}
+use Rattle.krl_types.specs.Entry.{Entry, BitmapEntry}
+use Rattle.krl_types.specs.Naming.{NamesSame}
+use Rattle.krl_format.specs.Place.{names, authority_after, header_after, base_of}
 use Rattle.krl_entries.specs.Scope.{MeansInScope, Scope, IsInScope, stored_comment}
 
 -- The stored parts of the header, the authority in force, the stored entries, the scope that they

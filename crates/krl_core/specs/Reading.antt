@@ -8,24 +8,20 @@ use Rattle.byte_streams.specs.Pull.{Pull, Refuses, left_of}
 use Rattle.ssh_wire.specs.declared.pull_fault.PullFault.{PullFault}
 use Rattle.krl_types.specs.KrlFault.{reported_as}
 use Rattle.krl_types.specs.declared.krl_fault.KrlFault.{KrlFault}
-use Rattle.krl_types.specs.declared.krl_fault.KrlFault.TheVariants.{EndsEarly, Length, Read}
-use Rattle.krl_types.specs.declared.krl_fault.KrlFault.TheVariants.{NoMemory}
-use Rattle.krl_core.specs.declared.place.Place.{Place}
-use Rattle.krl_core.specs.declared.place.Place.TheVariants as places
-use Rattle.krl_core.specs.declared.place.field.Table.{Table}
-use Rattle.krl_core.specs.declared.place.field.Table.TheVariants as tables
-use Rattle.krl_core.specs.declared.header.Header.{Header}
+use Rattle.krl_types.specs.declared.krl_fault.KrlFault.TheVariants.{Length, Read}
+use Rattle.krl_format.specs.declared.place.Place.{Place}
+use Rattle.krl_format.specs.declared.header.Header.{Header}
 use Rattle.krl_entries.specs.Revocations.{Revocations, Means, held, stored}
-use Rattle.krl_core.specs.Entries.{entries_of}
-use Rattle.krl_core.specs.Krl.{SpelledSection, Spells}
-use Rattle.krl_core.specs.Front.{State, start, Leads, Passes, HasRoom, IsFirstFault, limit}
+use Rattle.krl_format.specs.Entries.{entries_of}
+use Rattle.krl_format.specs.Krl.{SpelledSection, Spells}
+use Rattle.krl_format.specs.Front.{State, start, Leads, Passes, HasRoom, limit}
 use Rattle.krl_core.specs.FieldStore.{InStep, StoresEntries, FieldStore, StoresInScope}
 use Rattle.krl_core.specs.FieldStore.{StoresAtMost}
 use Rattle.krl_core.specs.FieldStore.{held_with_open, stored_header}
-use Rattle.krl_core.specs.Field.{row_of}
-use Rattle.krl_core.specs.Place.{can_end, expected}
-use Rattle.krl_entries.specs.Entry.{Entry}
+use Rattle.krl_format.specs.Place.{can_end, expected}
+use Rattle.krl_types.specs.Entry.{Entry}
 use Rattle.krl_entries.specs.Scope.{MeansInScope, Scope, IsInScope, all}
+use Rattle.krl_format.specs.Faults.{Says}
 
 -- A walk: the reader, the place where the next field is expected, the field store, whether the end
 -- of the list was found, and the fault, if any.
@@ -85,48 +81,10 @@ pub record Ends (old new : Walk) : Type 0 where
       → HasRead text fields new × (text ≡ concat fields)
   pub scope_is : new.stored.scope ≡ old.stored.scope
 
--- The reader failed after it gave the first bytes of the text, and has the later bytes left. The
--- bytes that it gave have no fault, or end early.
-pub record FailsAfter (text : List ℕ) (failed : Bool) (left : Option (List ℕ)) : Type 0 where
-  pub given : List ℕ
-  pub later : List ℕ
-  pub parts : text ≡ given ++ later
-  pub left_is : left ≡ Some later
-  pub failed_is : failed ≡ true
-  pub reported : IsFirstFault given None ⊎ IsFirstFault given (Some EndsEarly)
-
 -- The result is `Read` exactly if the reader failed.
 abbrev pub ReportsFailure : {A : Type 0} → Result A KrlFault → Bool → Type 0
 ReportsFailure (Ok a) failed = failed ≡ false
 ReportsFailure (Err fault) failed = fault ≡ Read ↔ failed ≡ true
-
-abbrev pub is_header : Table → Bool
-is_header tables.Header = true
-is_header _ = false
-
--- A number of the header, or the length of one of its strings. Those before the first content of a
--- string have 40 bytes together.
-abbrev pub is_fixed : Place → Bool
-is_fixed (places.Field field left after) = is_header (row_of field).table
-is_fixed _ = false
-
--- The text begins with these first fields, each of which passes its judgement, and may have more
--- fields.
-pub record HasFixedFields (text : List ℕ) : Type 0 where
-  pub fields : List (List ℕ)
-  pub state : State
-  pub rest : List ℕ
-  pub leads : Leads start fields state
-  pub parts : text ≡ concat fields ++ rest
-  pub past : is_fixed state.place ≡ false
-
--- A fault says this about a text, if it is known whether the reader failed and which bytes it has
--- left. An allocation fails only after the first fields.
-pub data Says (fault : KrlFault) (text : List ℕ) (failed : Bool) (left : Option (List ℕ))
-    : Type 0 where
-  ran_out : fault ≡ NoMemory → HasFixedFields text → failed ≡ false → Says fault text failed left
-  failed_read : fault ≡ Read → FailsAfter text failed left → Says fault text failed left
-  first : IsFirstFault text (Some fault) → failed ≡ false → Says fault text failed left
 
 -- The fault says this about the text, no matter which of its fields were read before.
 abbrev pub Refused : KrlFault → Walk → Pull → Type 0

@@ -6,9 +6,10 @@ ghost use Rattle.krl_entries.specs.Scope.{AreOutOfScope};
 ghost use Rattle.krl_core.specs.FieldStore.{InStep};
 
 use crate::field_store::FieldStore;
-use crate::judging::{next_bits, next_serial};
-use crate::place::{BitmapPlace, CertificatesPlace, ListPlace, Place, SerialsPlace};
 use krl_entries::Store;
+use krl_format::{
+    BitmapPlace, CertificatesPlace, ListPlace, Place, SerialsPlace, next_bits, next_serial,
+};
 use std::alloc::AllocError;
 
 // At most this many bytes of serial numbers or of a bitmap are skipped together.

@@ -2,16 +2,16 @@
 
 ghost use Rattle.std.specs.Prelude.{◌≡◌, ◌≢◌, [], All, IfOk, List, None, OnErr, OnOk, length, map};
 ghost use Rattle.krl_core.specs.FieldStore.{Gains, StoresEntries, StoresInScope, stored_header};
-ghost use Rattle.krl_core.specs.Place.{item_entry, item_size};
+ghost use Rattle.krl_format.specs.Place.{item_entry, item_size};
 ghost use Rattle.krl_entries.specs.Canonical.{entries_in, section_entries};
 ghost use Rattle.krl_entries.specs.Changes.{run_entries};
-ghost use Rattle.krl_entries.specs.Entry.{Entry};
+ghost use Rattle.krl_types.specs.Entry.{Entry};
 ghost use Rattle.krl_entries.specs.Revocations.{nothing};
 ghost use Rattle.krl_entries.specs.Scope.{all};
 
 use crate::field_store::FieldStore;
-use crate::place::ItemKind;
 use krl_entries::{Listed, Revocations, Store, Texts};
+use krl_format::ItemKind;
 use serial_set::Spans;
 use std::alloc::{AllocError, Global};
 

@@ -5,25 +5,25 @@ ghost use Rattle.std.specs.Prelude.{All, OnOk, false, length};
 ghost use Rattle.serial_set.specs.BitRuns.{IsInterval};
 ghost use Rattle.serial_set.specs.Near.{AreNear};
 ghost use Rattle.krl_entries.specs.Revocations.{nothing};
-ghost use Rattle.krl_entries.specs.Entry.{Entry, SerialsEntry, RangeEntry};
-ghost use Rattle.krl_entries.specs.Naming.{SerialOf};
+ghost use Rattle.krl_types.specs.Entry.{Entry, SerialsEntry, RangeEntry};
+ghost use Rattle.krl_types.specs.Naming.{SerialOf};
 ghost use Rattle.krl_entries.specs.Scope.{AreOutOfScope, InScope, all};
 ghost use Rattle.krl_entries.specs.Scope.{stored_comment};
-ghost use Rattle.krl_core.specs.Front.{Passes, start};
+ghost use Rattle.krl_format.specs.Front.{Passes, start};
 ghost use Rattle.krl_core.specs.FieldStore.{Adds, Closes, GrowsAtMost, InStep, StoresEntries};
 ghost use Rattle.krl_core.specs.FieldStore.{StoresAtMost};
 ghost use Rattle.krl_core.specs.FieldStore.{StoresBits, StoresField, ChangesOnlyEntries};
 ghost use Rattle.krl_core.specs.FieldStore.{StoresInScope, Skips, StoresNoMore, TakesByte};
 ghost use Rattle.krl_entries.specs.Changes.{run_entries};
 ghost use Rattle.krl_core.specs.FieldStore.{held_with_open, stored_header};
-ghost use Rattle.krl_core.specs.Place.{item_entry, item_size};
-ghost use Rattle.krl_core.specs.Reading.{is_fixed};
+ghost use Rattle.krl_format.specs.Place.{item_entry, item_size};
+ghost use Rattle.krl_format.specs.FixedFields.{is_fixed};
 
-use crate::header::Header;
-use crate::place::{
-    BitmapPlace, CertificatesPlace, Field, ItemKind, ListPlace, Place, SerialsPlace,
+use krl_entries::{Revocations, Store};
+use krl_format::{
+    BitmapPlace, CertificatesPlace, Field, Header, ItemKind, ListPlace, Place, SerialsPlace,
 };
-use krl_entries::{Revocations, Store, byte_of, u64_of};
+use krl_types::{byte_of, u64_of};
 use serial_set::{BitRuns, Span, Spans, count_near};
 use ssh_wire::Bytes;
 use std::alloc::{AllocError, Global};

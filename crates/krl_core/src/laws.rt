@@ -2,8 +2,4 @@
 
 mod lists;
 
-pub use lists::{
-    a_cut_ends_early, each_text_is_judged, first_fields_have_forty_bytes, four_intervals_a_byte,
-    no_fault_where_spelled, one_first_fault, one_front_begins_the_other, one_number_of_a_bitmap,
-    one_spelling,
-};
+pub use lists::four_intervals_a_byte;

@@ -7,31 +7,29 @@ ghost use Rattle.byte_streams.specs.Pull.{Refuses, Takes};
 ghost use Rattle.ssh_wire.specs.declared.pull_fault.PullFault.TheVariants as pulls;
 ghost use Rattle.krl_types.specs.declared.krl_fault.KrlFault.TheVariants.{NoMemory, Read};
 ghost use Rattle.krl_entries.specs.Revocations.{IsOrderly, held, nothing, stored};
-ghost use Rattle.krl_core.specs.Front.{HasRoom, Passes, limit};
+ghost use Rattle.krl_format.specs.Front.{HasRoom, Passes, limit};
 ghost use Rattle.krl_core.specs.FieldStore.{GrowsAtMost, InStep, StoresField, StoresAtMost};
 ghost use Rattle.krl_core.specs.FieldStore.{held_with_open};
-ghost use Rattle.krl_core.specs.Place.{can_end, expected};
+ghost use Rattle.krl_format.specs.Place.{can_end, expected};
 ghost use Rattle.krl_core.specs.Reading.{Advances, Ends, Follows, HasRead, HoldsInScope, IsBounded};
 ghost use Rattle.krl_core.specs.Reading.{IsReached};
 ghost use Rattle.krl_core.specs.Reading.{ReadsMore};
 ghost use Rattle.krl_core.specs.Reading.{IsList, IsWhole, IsWholeAs, IsWithinLimit, LooksFor};
 ghost use Rattle.krl_core.specs.Reading.{Missed, OfHeader, ReadsOneMore, Refused};
-ghost use Rattle.krl_core.specs.Reading.{ReportsFailure, Says, is_fixed, working};
+ghost use Rattle.krl_core.specs.Reading.{ReportsFailure, working};
+ghost use Rattle.krl_format.specs.Faults.{Says};
+ghost use Rattle.krl_format.specs.FixedFields.{is_fixed};
 ghost use Rattle.krl_entries.specs.Scope.{all};
 
 use crate::buffered::read_buffered;
 use crate::field_store::FieldStore;
-use crate::header::Header;
-use crate::place::Place;
 use byte_streams::{Pull, Source};
 use krl_entries::{Revocations, Store};
+use krl_format::{Header, LIMIT, Place};
 use krl_types::KrlFault;
 use serial_set::Spans;
 use std::alloc::{AllocError, Global};
 use std::marker::Model;
-
-/// At most this many bytes of a list are read.
-pub const LIMIT: u64 = 67_108_864;
 
 // A field of at most this many bytes needs no allocation: numbers, lengths and hashes.
 const SMALL: usize = 32;

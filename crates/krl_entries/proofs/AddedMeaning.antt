@@ -2,9 +2,9 @@
 use Rattle.krl_entries.proofs.Common.{◌↔◌, ◌⊎◌, entries_in, Entry, HoldsName, InScope, IsOrderly}
 use Rattle.krl_entries.proofs.Common.{List, MeansMore, MeansMoreInScope, Name, Revocations, Scope}
 use Rattle.krl_entries.proofs.Common.{SomeNames}
-use Rattle.krl_entries.proofs.Equivalences.{iff_or}
+use Rattle.krl_types.proofs.Equivalences.{iff_or}
 use Rattle.krl_entries.proofs.OwnEntries.{means_itself}
-use Rattle.krl_entries.proofs.SameNames.{some_append, some_first}
+use Rattle.krl_types.proofs.SameNames.{some_append, some_first}
 use Rattle.std.proofs.Math.Logic.Iff as Iff
 
 -- the new revocations are in order, and add exactly the names of the entries

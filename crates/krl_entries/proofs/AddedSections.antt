@@ -8,7 +8,7 @@ use Rattle.krl_entries.proofs.Common.{TakesId, TakesSerials, ℕ}
 use Rattle.serial_set.specs.BitRuns.{IsInterval}
 use Rattle.krl_entries.proofs.RisingLists.{inserts_rise}
 use Rattle.krl_entries.proofs.SectionChanges.{changes_rise}
-use Rattle.krl_entries.proofs.Equivalences.{contains_middle, iff_or, iff_swap}
+use Rattle.krl_types.proofs.Equivalences.{contains_middle, iff_or, iff_swap}
 use Rattle.std.proofs.Math.Logic.Iff as Iff
 
 -- ---- inserted byte strings

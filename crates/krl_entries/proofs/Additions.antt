@@ -7,7 +7,7 @@ use Rattle.krl_entries.proofs.AddedSections.{InOrder, adds_rise, adds_listed, ta
 use Rattle.krl_entries.proofs.AddedSections.{takes_id_listed}
 use Rattle.krl_entries.proofs.SomeSections.{HeldIn, no_section, some_adds}
 use Rattle.krl_entries.proofs.Entries.{addition_step}
-use Rattle.krl_entries.proofs.Equivalences.{iff_none}
+use Rattle.krl_types.proofs.Equivalences.{iff_none}
 use Rattle.krl_entries.proofs.SameMeaning.{means_all}
 
 -- ---- order

@@ -7,7 +7,7 @@ use Rattle.krl_entries.proofs.Members.{absent_parts}
 use Rattle.krl_entries.proofs.SectionChanges.{takes_authority}
 use Rattle.krl_entries.proofs.AddedSections.{put_size}
 use Rattle.krl_entries.proofs.SomeSections.{some_middle, sum_adds, sum_middle}
-use Rattle.krl_entries.proofs.Elements.{contains_here, contains_later}
+use Rattle.krl_types.proofs.Elements.{contains_here, contains_later}
 
 -- if an addition keeps a number of each section, it keeps the sum of these numbers
 sum_stays : (addition : Addition) (b : List ℕ) (old new : List Section) (f : Section → ℕ) → ((from to : Section) → TakesAddition addition from to → f to ≡ f from) → f (empty_section b) ≡ 0 → AddsTo addition b old new → sum_by f new ≡ sum_by f old

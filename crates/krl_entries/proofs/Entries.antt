@@ -6,9 +6,9 @@ use Rattle.krl_entries.proofs.Common.{SerialOf, Serials, SomeNames, Span, subst,
 use Rattle.krl_entries.proofs.Common.{ℕ}
 use Rattle.krl_entries.proofs.AddedSections.{put_held}
 use Rattle.krl_entries.proofs.Runs.{run_entries-name}
-use Rattle.krl_entries.proofs.Equivalences.{iff_none, iff_or}
+use Rattle.krl_types.proofs.Equivalences.{iff_none, iff_or}
 use Rattle.krl_entries.proofs.SomeSections.{HeldIn, Step}
-use Rattle.krl_entries.proofs.Elements.{contains_none}
+use Rattle.krl_types.proofs.Elements.{contains_none}
 use Rattle.std.proofs.Math.Logic.Iff as Iff
 
 -- a part of a section that an addition does not change is held as before

@@ -7,8 +7,8 @@ use Rattle.krl_entries.proofs.Common.{Span, subst, suc, sym, zero, ℕ}
 use Rattle.std.proofs.lemmas.Nat.Bits.{bit_at-lt}
 use Rattle.serial_set.specs.BitRuns.{BitNames}
 use Rattle.serial_set.proofs.Bits.{bit_below}
-use Rattle.krl_entries.proofs.Equivalences.{contains_cons, iff_both, iff_or}
-use Rattle.krl_entries.proofs.Elements.{contains_none}
+use Rattle.krl_types.proofs.Equivalences.{contains_cons, iff_both, iff_or}
+use Rattle.krl_types.proofs.Elements.{contains_none}
 use Rattle.std.proofs.Math.Logic.Iff as Iff
 
 -- ---- consecutive numbers

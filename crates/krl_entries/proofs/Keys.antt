@@ -4,7 +4,7 @@ use Rattle.krl_entries.proofs.Common.{HoldsName, inl, inr, IsOrderly, KeyEntry, 
 use Rattle.krl_entries.proofs.Common.{Means, Name, Puts, revocations_of, Section, Sha1Entry, Sha1Of}
 use Rattle.krl_entries.proofs.Common.{Sha256Entry, Sha256Of, subst, sym, ℕ}
 use Rattle.krl_entries.proofs.AddedSections.{all_middle, put_held, put_rises}
-use Rattle.krl_entries.proofs.Equivalences.{iff_none}
+use Rattle.krl_types.proofs.Equivalences.{iff_none}
 use Rattle.krl_entries.proofs.SameMeaning.{means_more}
 
 -- if all byte strings and a new one have a property, all have it after the insertion

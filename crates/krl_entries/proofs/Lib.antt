@@ -1,8 +1,5 @@
 mod Common
 pub mod Elements
-pub mod Numbers
-pub mod Equivalences
-pub mod SameNames
 pub mod Runs
 pub mod AddedSections
 pub mod Additions

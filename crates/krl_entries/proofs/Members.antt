@@ -2,7 +2,7 @@
 use Rattle.krl_entries.proofs.Common.{[], ⊎_elim, ◌++◌, ◌∷◌, AllAbove, AllBelow, Contains}
 use Rattle.krl_entries.proofs.Common.{Contains-append_cases, List, map, map-append, subst, sym, ℕ}
 use Rattle.krl_entries.proofs.RisingLists.{less_apart}
-use Rattle.krl_entries.proofs.Elements.{contains_cases, contains_none}
+use Rattle.krl_types.proofs.Elements.{contains_cases, contains_none}
 
 module _ {X : Type 0} (key : X → List ℕ) where
   pub absent_below : (bytes : List ℕ) (xs : List X) → AllBelow key bytes xs → Contains (map key xs) bytes → ⊥

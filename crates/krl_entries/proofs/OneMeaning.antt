@@ -9,8 +9,9 @@ use Rattle.krl_entries.proofs.Common.{SomeSection, Span, subst, sym, ℕ}
 use Rattle.serial_set.proofs.LeastLists.{runs_unique}
 use Rattle.krl_entries.proofs.SomeSections.{HeldIn, no_section}
 use Rattle.krl_entries.proofs.RisingLists.{AllAbove-earlier, before_trans, less_apart}
-use Rattle.krl_entries.proofs.Elements.{contains_cases, contains_here, contains_later}
-use Rattle.krl_entries.proofs.Elements.{contains_none, some_serial, some_text, some_weaker}
+use Rattle.krl_types.proofs.Elements.{contains_cases, contains_here, contains_later}
+use Rattle.krl_types.proofs.Elements.{contains_none}
+use Rattle.krl_entries.proofs.Elements.{some_serial, some_text, some_weaker}
 use Rattle.std.proofs.Math.Logic.Iff as Iff
 
 -- ---- the order of two byte strings

@@ -16,8 +16,8 @@ use Rattle.krl_entries.proofs.OneMeaning.{same_texts}
 use Rattle.krl_entries.proofs.RisingLists.{inserts_map, inserts_rise, turned}
 use Rattle.krl_entries.proofs.Sets.{by_read, read_has, read_sorted, rises_sorted}
 use Rattle.krl_entries.proofs.Members.{absent_parts}
-use Rattle.krl_entries.proofs.Elements.{contains_cases, contains_here, contains_later}
-use Rattle.krl_entries.proofs.Elements.{contains_none}
+use Rattle.krl_types.proofs.Elements.{contains_cases, contains_here, contains_later}
+use Rattle.krl_types.proofs.Elements.{contains_none}
 use Rattle.std.proofs.Math.Logic.Iff as Iff
 
 -- ---- the place of a byte string

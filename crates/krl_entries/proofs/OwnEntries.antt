@@ -6,11 +6,11 @@ use Rattle.krl_entries.proofs.Common.{KeyOf, List, map, Means, Name, RangeEntry,
 use Rattle.krl_entries.proofs.Common.{run_entries, Section, section_entries, SerialOf, Sha1Entry}
 use Rattle.krl_entries.proofs.Common.{Sha1Of, Sha256Entry, Sha256Of, SomeNames, SomeSection, ℕ}
 use Rattle.krl_entries.proofs.Runs.{run_entries-name}
-use Rattle.krl_entries.proofs.Equivalences.{contains_cons, iff_or}
+use Rattle.krl_types.proofs.Equivalences.{contains_cons, iff_or}
 use Rattle.krl_entries.proofs.Entries.{runs_name_none}
-use Rattle.krl_entries.proofs.SameNames.{mapped_name, some_append, some_first, some_last}
+use Rattle.krl_types.proofs.SameNames.{mapped_name, some_append, some_first, some_last}
 use Rattle.krl_entries.proofs.SomeSections.{HeldIn, no_section}
-use Rattle.krl_entries.proofs.Elements.{contains_none, some_cases}
+use Rattle.krl_types.proofs.Elements.{contains_none, some_cases}
 use Rattle.std.proofs.Math.Logic.Iff as Iff
 
 -- ---- texts of one kind

@@ -16,8 +16,8 @@ use Rattle.std.proofs.lemmas.Bool.Decides.{nat_tests}
 use Rattle.std.proofs.lemmas.Slice.Eq.{bytes_eq-Decides}
 use Rattle.krl_types.specs.Subject.{CertNames, Subject}
 use Rattle.krl_entries.specs.Revoked.{Revoked}
-use Rattle.krl_entries.proofs.Equivalences.{contains_cons}
-use Rattle.krl_entries.proofs.Elements.{contains_none}
+use Rattle.krl_types.proofs.Equivalences.{contains_cons}
+use Rattle.krl_types.proofs.Elements.{contains_none}
 use Rattle.std.proofs.Math.Logic.Iff as Iff
 
 -- ---- the names of entries

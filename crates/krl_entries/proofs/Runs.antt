@@ -2,8 +2,8 @@
 use Rattle.krl_entries.proofs.Common.{[], ◌++◌, ◌<◌, ◌↔◌, ◌∷◌, ◌≡◌, ◌≤◌, ap, Covers, Entry}
 use Rattle.krl_entries.proofs.Common.{EntryNames, List, RangeEntry, refl, run_entries, SerialOf}
 use Rattle.krl_entries.proofs.Common.{SomeNames, Span, ℕ}
-use Rattle.krl_entries.proofs.Equivalences.{iff_both, iff_or}
-use Rattle.krl_entries.proofs.SameNames.{AreSerials}
+use Rattle.krl_types.proofs.Equivalences.{iff_both, iff_or}
+use Rattle.krl_types.proofs.SameNames.{AreSerials}
 use Rattle.std.proofs.Math.Logic.Iff as Iff
 
 -- the entries of runs name the numbers in them

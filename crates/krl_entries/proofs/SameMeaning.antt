@@ -2,9 +2,9 @@
 use Rattle.krl_entries.proofs.Common.{[], ◌++◌, ◌↔◌, ◌∷◌, ◌⊎◌, Entry, EntryNames, HoldsName, IdOf}
 use Rattle.krl_entries.proofs.Common.{IsOrderly, KeyOf, List, Means, Name, NamesSame, nothing}
 use Rattle.krl_entries.proofs.Common.{Revocations, rules, SerialOf, Sha1Of, Sha256Of, SomeNames}
-use Rattle.krl_entries.proofs.Equivalences.{iff_none, iff_or}
-use Rattle.krl_entries.proofs.SameNames.{some_append}
-use Rattle.krl_entries.proofs.Elements.{contains_none}
+use Rattle.krl_types.proofs.Equivalences.{iff_none, iff_or}
+use Rattle.krl_types.proofs.SameNames.{some_append}
+use Rattle.krl_types.proofs.Elements.{contains_none}
 use Rattle.std.proofs.Math.Logic.Iff as Iff
 
 pub same_meaning : (r : Revocations) (entries others : List Entry) → Means r entries → NamesSame entries others → Means r others

@@ -1,7 +1,7 @@
 -- The meaning of revocations within a scope.
 use Rattle.krl_entries.proofs.Common.{[], all, Entry, List, Means, MeansInScope, NamesSame, None}
 use Rattle.krl_entries.proofs.Common.{nothing, Revocations, Scope, Some}
-use Rattle.krl_entries.proofs.Elements.{contains_none}
+use Rattle.krl_types.proofs.Elements.{contains_none}
 use Rattle.krl_entries.proofs.SameMeaning.{nothing_meant}
 use Rattle.krl_entries.specs.Scope.{IsInScope}
 use Rattle.std.proofs.Math.Logic.Iff as Iff

@@ -5,7 +5,8 @@ use Rattle.krl_entries.proofs.Common.{HoldsSerial, inl, inr, IsUnder, List, Sect
 use Rattle.krl_entries.proofs.Common.{Stands, subst, sym, ℕ}
 use Rattle.krl_entries.proofs.RisingLists.{less_apart}
 use Rattle.krl_entries.proofs.SomeSections.{some_middle}
-use Rattle.krl_entries.proofs.Elements.{contains_none, some_weaker}
+use Rattle.krl_types.proofs.Elements.{contains_none}
+use Rattle.krl_entries.proofs.Elements.{some_weaker}
 
 abbrev key : Section → List ℕ
 key section = section.authority

@@ -5,9 +5,9 @@ use Rattle.krl_entries.proofs.Common.{Greater, inl, inr, insert_key, is_at, is_e
 use Rattle.krl_entries.proofs.Common.{IsStrictlySortedBy, IsTrue, Less, List, list_any, map}
 use Rattle.krl_entries.proofs.Common.{match_ordering, Ordering, Puts, refl, Rises, subst, sym, ℕ}
 use Rattle.std.proofs.lemmas.Bool.Decides.{Decides-or}
-use Rattle.krl_entries.proofs.Equivalences.{contains_cons}
+use Rattle.krl_types.proofs.Equivalences.{contains_cons}
 use Rattle.krl_entries.proofs.RisingLists.{back_above, front_below, tied}
-use Rattle.krl_entries.proofs.Elements.{contains_here, contains_later, contains_none}
+use Rattle.krl_types.proofs.Elements.{contains_here, contains_later, contains_none}
 use Rattle.std.proofs.Math.Logic.Iff as Iff
 
 pub rises_sorted : (ks : List (List ℕ)) → IsStrictlySortedBy bytes_cmp ks → Rises ks

@@ -3,7 +3,7 @@ use Rattle.krl_entries.proofs.Common.{[], ◌++◌, ◌+◌, ◌↔◌, ◌∷�
 use Rattle.krl_entries.proofs.Common.{arith, Contains, Covers, empty_section, IdOf, inl, inr, List}
 use Rattle.krl_entries.proofs.Common.{Name, refl, Section, SerialOf, SomeSection, subst, sum_by}
 use Rattle.krl_entries.proofs.Common.{sum_by-append, sum_by-cons, sym, TakesAddition, ℕ}
-use Rattle.krl_entries.proofs.Equivalences.{iff_across, iff_front, iff_none, iff_or, iff_swap}
+use Rattle.krl_types.proofs.Equivalences.{iff_across, iff_front, iff_none, iff_or, iff_swap}
 use Rattle.std.proofs.Math.Logic.Iff as Iff
 
 -- ---- some section

@@ -3,7 +3,7 @@ use Rattle.std.specs.Prelude.{List, ◌++◌, map}
 use Rattle.std.specs.List.{flat_map}
 use Rattle.krl_entries.specs.Changes.{run_entries}
 use Rattle.krl_entries.specs.Revocations.{Revocations, Section}
-use Rattle.krl_entries.specs.Entry.{Entry, IdEntry, KeyEntry, Sha1Entry, Sha256Entry}
+use Rattle.krl_types.specs.Entry.{Entry, IdEntry, KeyEntry, Sha1Entry, Sha256Entry}
 
 -- an entry for each span and each key ID of a section
 abbrev pub section_entries : Section → List Entry

@@ -8,7 +8,7 @@ use Rattle.serial_set.specs.Span.{AreSerials}
 use Rattle.krl_entries.specs.declared.addition.Addition.{Addition}
 use Rattle.krl_entries.specs.declared.addition.Addition.TheVariants.{Serials, Id}
 use Rattle.krl_entries.specs.Revocations.{Revocations, Means, Section, section_with}
-use Rattle.krl_entries.specs.Entry.{Entry, IdEntry, RangeEntry}
+use Rattle.krl_types.specs.Entry.{Entry, IdEntry, RangeEntry}
 use Rattle.krl_entries.specs.Inserting.{Inserts}
 
 -- the list already contains the bytes and stays the same, or the bytes are inserted

@@ -1,9 +1,7 @@
 pub mod Changes
 pub mod Revocations
-pub mod Entry
 pub mod Ids
 pub mod Inserting
-pub mod Naming
 pub mod Revoked
 pub mod Scope
 pub mod Rising

@@ -8,8 +8,8 @@ use Rattle.krl_entries.specs.declared.reasons.NameReasons.{NameReasons}
 use Rattle.krl_entries.specs.declared.reasons.Reason.{Reason}
 use Rattle.krl_entries.specs.declared.reasons.Reason.TheVariants as reasons
 use Rattle.krl_entries.specs.declared.reasons.Reasons.{Reasons}
-use Rattle.krl_entries.specs.Entry.{Entry}
-use Rattle.krl_entries.specs.Naming.{IdOf, KeyOf, Name, SerialOf, Sha1Of, Sha256Of, SomeNames}
+use Rattle.krl_types.specs.Entry.{Entry}
+use Rattle.krl_types.specs.Naming.{IdOf, KeyOf, Name, SerialOf, Sha1Of, Sha256Of, SomeNames}
 use Rattle.krl_entries.specs.Revocations.{Revocations}
 use Rattle.krl_entries.specs.Tested.{holds_name, some_names}
 

@@ -5,8 +5,8 @@ use Rattle.sha1.specs.Sha1.{sha1}
 use Rattle.sha2.specs.Sha256.{sha256}
 use Rattle.ssh_wire.specs.Wire.{number_of}
 use Rattle.krl_entries.specs.Revocations.{Revocations, HoldsId, HoldsName, HoldsSerial, IsOrderly}
-use Rattle.krl_entries.specs.Entry.{Entry}
-use Rattle.krl_entries.specs.Naming.{IdOf, KeyOf, Name, SerialOf, Sha1Of, Sha256Of, SomeNames}
+use Rattle.krl_types.specs.Entry.{Entry}
+use Rattle.krl_types.specs.Naming.{IdOf, KeyOf, Name, SerialOf, Sha1Of, Sha256Of, SomeNames}
 
 -- the name is one of the topics, or the hash of a key that is one
 abbrev pub IsTopic : (topics : Revocations) → Name → Type 0

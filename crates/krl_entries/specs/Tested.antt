@@ -4,9 +4,9 @@ use Rattle.std.specs.Int.{bit_at}
 use Rattle.std.specs.List.{list_any}
 use Rattle.std.specs.Str.{bytes_eq}
 use Rattle.serial_set.specs.Span.{has}
-use Rattle.krl_entries.specs.Entry.{Entry, SerialsEntry, RangeEntry, BitmapEntry, IdEntry, KeyEntry}
-use Rattle.krl_entries.specs.Entry.{Sha1Entry, Sha256Entry}
-use Rattle.krl_entries.specs.Naming.{IdOf, KeyOf, Name, SerialOf, Sha1Of, Sha256Of}
+use Rattle.krl_types.specs.Entry.{Entry, SerialsEntry, RangeEntry, BitmapEntry, IdEntry, KeyEntry}
+use Rattle.krl_types.specs.Entry.{Sha1Entry, Sha256Entry}
+use Rattle.krl_types.specs.Naming.{IdOf, KeyOf, Name, SerialOf, Sha1Of, Sha256Of}
 use Rattle.krl_entries.specs.Revocations.{Revocations}
 
 -- the entry names it

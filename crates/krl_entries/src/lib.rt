@@ -5,7 +5,6 @@ mod addition;
 mod asking;
 mod authority_entries;
 mod entries_by_authority;
-mod field;
 mod gathered;
 mod getters;
 mod ids;
@@ -16,7 +15,6 @@ mod revocations;
 mod store;
 mod texts;
 
-pub use field::{byte_of, u32_of, u64_of};
 pub use gathered::Gathered;
 pub use listed::{Authorities, Listed};
 pub use reasons::{KeyReasons, NameReasons, Reason, Reasons};

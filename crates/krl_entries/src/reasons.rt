@@ -1,7 +1,7 @@
 //! Whether a key or a certificate is revoked, and why.
 
 ghost use Rattle.std.specs.Prelude.{◌≡◌, ◌↔◌, IsTrue, List};
-ghost use Rattle.krl_entries.specs.Entry.{Entry};
+ghost use Rattle.krl_types.specs.Entry.{Entry};
 ghost use Rattle.krl_entries.specs.Reasons.{IsReason, any_reason, cert_reasons, has_reason};
 ghost use Rattle.krl_entries.specs.Reasons.{held_reasons, id_reasons, key_reasons, revokes};
 ghost use Rattle.krl_entries.specs.Reasons.{serial_reasons};

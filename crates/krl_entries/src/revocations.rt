@@ -5,7 +5,7 @@ ghost use Rattle.krl_entries.specs.Changes.{HoldsMore, IsOneChange, MeansMore, a
 ghost use Rattle.krl_entries.specs.Changes.{bytes_in};
 ghost use Rattle.krl_entries.specs.Gathered.{HasPlace, TakesOut, whole};
 ghost use Rattle.krl_entries.specs.Revocations.{IsNamed, IsOrderly, Means, nothing, held, stored};
-ghost use Rattle.krl_entries.specs.Entry.{RangeEntry, IdEntry, KeyEntry, Sha1Entry, Sha256Entry};
+ghost use Rattle.krl_types.specs.Entry.{RangeEntry, IdEntry, KeyEntry, Sha1Entry, Sha256Entry};
 
 use crate::addition::Addition;
 use crate::authority_entries::Apart;

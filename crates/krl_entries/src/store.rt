@@ -6,8 +6,8 @@ ghost use Rattle.serial_set.specs.BitRuns.{IsInterval};
 ghost use Rattle.serial_set.specs.Near.{AreNear};
 ghost use Rattle.krl_entries.specs.Changes.{run_entries};
 ghost use Rattle.krl_entries.specs.Revocations.{IsStoredAtMost, held};
-ghost use Rattle.krl_entries.specs.Entry.{IdEntry, KeyEntry, Sha1Entry, Sha256Entry};
-ghost use Rattle.krl_entries.specs.Naming.{SerialOf};
+ghost use Rattle.krl_types.specs.Entry.{IdEntry, KeyEntry, Sha1Entry, Sha256Entry};
+ghost use Rattle.krl_types.specs.Naming.{SerialOf};
 ghost use Rattle.krl_entries.specs.Scope.{AreOutOfScope, InScope, MeansMoreInScope, IsInScope};
 ghost use Rattle.krl_entries.specs.Scope.{stored_comment};
 

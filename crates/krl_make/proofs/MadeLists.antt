@@ -16,12 +16,12 @@ use Rattle.key_text.specs.declared.private_fault.PrivateFault.{PrivateFault}
 use Rattle.krl_writer.proofs.ReadBack.{written_spelled}
 use Rattle.krl_entries.proofs.RevokedTests.{revokes_meant}
 use Rattle.krl_entries.specs.Revocations.{Revocations, Means, held}
-use Rattle.krl_core.specs.Entries.{entries_of}
-use Rattle.krl_entries.specs.Entry.{Entry}
-use Rattle.krl_core.specs.Front.{IsFirstFault, limit}
+use Rattle.krl_format.specs.Entries.{entries_of}
+use Rattle.krl_types.specs.Entry.{Entry}
+use Rattle.krl_format.specs.Front.{IsFirstFault, limit}
 use Rattle.krl_writer.specs.KrlText.{IsKrlText}
 use Rattle.krl_core.specs.Reading.{IsList}
-use Rattle.krl_core.specs.declared.header.Header.{Header}
+use Rattle.krl_format.specs.declared.header.Header.{Header}
 use Rattle.krl_types.specs.declared.krl_fault.KrlFault.{KrlFault}
 use Rattle.krl_make.specs.declared.base.Base.{Base}
 use Rattle.krl_make.specs.Making.{Added, HasNumbers, IsCurrentName, IsCurrentFile, authority_file, lines, new_list, old_list, IsOldList, HoldsMore, IsRunFault, Made, Makes, NamesSame, Returns, WritesList, WritesMade, WritesMore, after_old, base_of, cause_run_fault, file_entries, file_key, file_run_fault, files_entries, first_blob, first_key_of, header_of, made_of, make_run_of, named_blob, key_blob, text_entries, then_entries, version_of, paid}

@@ -5,14 +5,14 @@ use Rattle.std.specs.Prelude.{Result, Ok, Err}
 use Rattle.std.specs.Option.{ok_or}
 use Rattle.ssh_wire.specs.Reading.{◌>>=◌, in_fault}
 use Rattle.krl_entries.specs.Revocations.{Revocations, Means, held, nothing}
-use Rattle.krl_core.specs.Entries.{entries_of}
-use Rattle.krl_entries.specs.Entry.{Entry}
-use Rattle.krl_core.specs.Front.{IsFirstFault, limit}
-use Rattle.krl_core.specs.Krl.{SpelledSection, Spells}
+use Rattle.krl_format.specs.Entries.{entries_of}
+use Rattle.krl_types.specs.Entry.{Entry}
+use Rattle.krl_format.specs.Front.{IsFirstFault, limit}
+use Rattle.krl_format.specs.Krl.{SpelledSection, Spells}
 use Rattle.krl_writer.specs.KrlText.{IsKrlText}
 use Rattle.krl_core.specs.Reading.{IsList, IsResultOf}
 use Rattle.krl_entries.specs.Revoked.{Revoked}
-use Rattle.krl_core.specs.declared.header.Header.{Header}
+use Rattle.krl_format.specs.declared.header.Header.{Header}
 use Rattle.krl_types.specs.declared.krl_fault.KrlFault.{KrlFault}
 use Rattle.krl_types.specs.declared.krl_fault.KrlFault.TheVariants as faults
 use Rattle.krl_types.specs.Subject.{Subject}

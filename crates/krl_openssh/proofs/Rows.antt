@@ -5,12 +5,12 @@ use Rattle.std.specs.List.{concat}
 use Rattle.std.proofs.lemmas.Bool.{ltb-false}
 use Rattle.std.proofs.lemmas.List.{append-nil, length-take-le, take-append-drop, take_all, take_rest}
 use Rattle.krl_types.specs.declared.krl_fault.KrlFault.{KrlFault}
-use Rattle.krl_core.specs.declared.place.Place.{Place}
-use Rattle.krl_core.specs.Front.{IsEnd, IsFirstFault, IsFront, Leads, Passes, Reported, State, ended, ends_early, limit, no_room, refused, start, state_after, too_long}
-use Rattle.krl_core.specs.Place.{can_end, expected}
-use Rattle.krl_core.proofs.LongestFronts.{nearer, weight}
-use Rattle.krl_core.proofs.Fronts.{append_same, end_size}
-use Rattle.krl_core.proofs.Judgements.{same_place}
+use Rattle.krl_format.specs.declared.place.Place.{Place}
+use Rattle.krl_format.specs.Front.{IsEnd, IsFirstFault, IsFront, Leads, Passes, Reported, State, ended, ends_early, limit, no_room, refused, start, state_after, too_long}
+use Rattle.krl_format.specs.Place.{can_end, expected}
+use Rattle.krl_format.proofs.LongestFronts.{nearer, weight}
+use Rattle.krl_format.proofs.Fronts.{append_same, end_size}
+use Rattle.krl_format.proofs.Judgements.{same_place}
 use Rattle.krl_openssh.specs.Difference.{difference_at, first_difference, or_later, place_or}
 use Rattle.krl_openssh.specs.Fields.{AreWhole, HasFields}
 use Rattle.krl_openssh.specs.declared.difference.Difference.{Difference}

@@ -10,17 +10,17 @@ use Rattle.ssh_key.specs.declared.fault.KeyFault.{KeyFault}
 use Rattle.ssh_key.specs.declared.kind.Kind.{Kind}
 use Rattle.ssh_key.specs.declared.kind.Kind.TheVariants as keys
 use Rattle.krl_types.specs.declared.krl_fault.KrlFault.{KrlFault}
-use Rattle.krl_core.specs.Place.{expected}
-use Rattle.krl_core.specs.declared.place.Place.{Place}
-use Rattle.krl_core.specs.declared.place.Place.TheVariants as places
-use Rattle.krl_core.specs.declared.place.bitmap.BitmapPlace.TheVariants as bitmaps
-use Rattle.krl_core.specs.declared.place.certificates.CertificatesPlace.{CertificatesPlace}
-use Rattle.krl_core.specs.declared.place.certificates.CertificatesPlace.TheVariants as certificates
-use Rattle.krl_core.specs.declared.place.field.Field.TheVariants as fields
-use Rattle.krl_core.specs.declared.place.list.ItemKind.TheVariants as kinds
-use Rattle.krl_core.specs.declared.place.list.ListPlace.TheVariants as lists
-use Rattle.krl_core.specs.declared.place.serials.SerialsPlace.{SerialsPlace}
-use Rattle.krl_core.specs.declared.place.serials.SerialsPlace.TheVariants as serials
+use Rattle.krl_format.specs.Place.{expected}
+use Rattle.krl_format.specs.declared.place.Place.{Place}
+use Rattle.krl_format.specs.declared.place.Place.TheVariants as places
+use Rattle.krl_format.specs.declared.place.bitmap.BitmapPlace.TheVariants as bitmaps
+use Rattle.krl_format.specs.declared.place.certificates.CertificatesPlace.{CertificatesPlace}
+use Rattle.krl_format.specs.declared.place.certificates.CertificatesPlace.TheVariants as certificates
+use Rattle.krl_format.specs.declared.place.field.Field.TheVariants as fields
+use Rattle.krl_format.specs.declared.place.list.ItemKind.TheVariants as kinds
+use Rattle.krl_format.specs.declared.place.list.ListPlace.TheVariants as lists
+use Rattle.krl_format.specs.declared.place.serials.SerialsPlace.{SerialsPlace}
+use Rattle.krl_format.specs.declared.place.serials.SerialsPlace.TheVariants as serials
 use Rattle.krl_openssh.specs.declared.difference.Difference.{Difference}
 use Rattle.krl_openssh.specs.declared.difference.Difference.TheVariants as differences
 

@@ -1,9 +1,9 @@
 -- The fields of a whole list.
 use Rattle.std.specs.Prelude.{◌≡◌, ℕ, true, List, [], ◌∷◌}
 use Rattle.std.specs.List.{concat}
-use Rattle.krl_core.specs.Front.{Passes, start}
-use Rattle.krl_core.specs.Place.{can_end}
-use Rattle.krl_core.specs.declared.place.Place.{Place}
+use Rattle.krl_format.specs.Front.{Passes, start}
+use Rattle.krl_format.specs.Place.{can_end}
+use Rattle.krl_format.specs.declared.place.Place.{Place}
 
 -- From a place, each field passes and leads to the next place, up to a place where the list may
 -- end.

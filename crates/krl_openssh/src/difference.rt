@@ -1,15 +1,15 @@
 //! The fields of a list for which OpenSSH refuses it, or reads other names.
 
 ghost use Rattle.std.specs.Prelude.{◌≡◌, length};
-ghost use Rattle.krl_core.specs.Place.{certificates_expected, expected, serials_expected};
+ghost use Rattle.krl_format.specs.Place.{certificates_expected, expected, serials_expected};
 ghost use Rattle.krl_openssh.specs.Difference.{authority_difference, bits_difference};
 ghost use Rattle.krl_openssh.specs.Difference.{certificates_difference, comment_difference};
 ghost use Rattle.krl_openssh.specs.Difference.{difference_at, difference_words, found_if, has_zero};
 ghost use Rattle.krl_openssh.specs.Difference.{is_long, names_zero, section_difference};
 ghost use Rattle.krl_openssh.specs.Difference.{serials_difference, size_fits};
 
-use krl_core::{BitmapPlace, CertificatesPlace, Field, ItemKind, ListPlace, Place, SerialsPlace};
-use krl_entries::{byte_of, u64_of};
+use krl_format::{BitmapPlace, CertificatesPlace, Field, ItemKind, ListPlace, Place, SerialsPlace};
+use krl_types::{byte_of, u64_of};
 use ssh_key::{Kind, read_key};
 
 /// Why OpenSSH refuses a list, or reads other names from it.

@@ -1,12 +1,12 @@
 //! The first difference among the fields of a list.
 
 ghost use Rattle.std.specs.Prelude.{◌≡◌, ◌↔◌, List, ℕ, IsTrue};
-ghost use Rattle.krl_core.specs.Front.{IsEnd, start};
+ghost use Rattle.krl_format.specs.Front.{IsEnd, start};
 ghost use Rattle.krl_openssh.specs.Difference.{first_difference};
 ghost use Rattle.krl_openssh.specs.Fields.{HasFields};
 
 use crate::difference::{Difference, difference_at};
-use krl_core::Place;
+use krl_format::Place;
 
 /// Returns the first field for which OpenSSH refuses a list or reads other names from it, and why.
 /// Returns none if OpenSSH also reads the list, and reads the same names. The list must be one that

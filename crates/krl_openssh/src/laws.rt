@@ -1,7 +1,7 @@
 //! Laws of the fields of lists. Each function does nothing: its contract is the law.
 
 ghost use Rattle.std.specs.Prelude.{◌≡◌, List, ℕ, None};
-ghost use Rattle.krl_core.specs.Front.{IsFirstFault};
+ghost use Rattle.krl_format.specs.Front.{IsFirstFault};
 ghost use Rattle.krl_openssh.specs.Fields.{HasFields};
 
 /// A list that is read without a fault has one row of fields.

@@ -7,9 +7,9 @@ use Rattle.krl_queries.proofs.Common.{MeansMoreInScope, Name, Ok, OnErr, OnOk, R
 use Rattle.krl_queries.proofs.Common.{Result, Revocations, run_entries, Scope, SerialOf, Some}
 use Rattle.krl_queries.proofs.Common.{SomeNames, Span, subst, suc, sym, take, zero, ℕ}
 use Rattle.krl_entries.proofs.Runs.{run_entries-append}
-use Rattle.krl_entries.proofs.Equivalences.{iff_or}
+use Rattle.krl_types.proofs.Equivalences.{iff_or}
 use Rattle.krl_entries.proofs.AddedMeaning.{means_more_within}
-use Rattle.krl_entries.proofs.SameNames.{some_append}
+use Rattle.krl_types.proofs.SameNames.{some_append}
 use Rattle.krl_queries.proofs.TopicAdditions.{IsAbout, within_with}
 use Rattle.std.proofs.Math.Logic.Iff as Iff
 

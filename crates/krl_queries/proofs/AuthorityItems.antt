@@ -4,11 +4,11 @@ use Rattle.krl_queries.proofs.Common.{ap₂, arith, Contains, flat_map, IsListed
 use Rattle.krl_queries.proofs.Common.{RisesBy, Section, SomeSection, sum_by, sum_by-append}
 use Rattle.krl_queries.proofs.Common.{sum_by-cons, ℕ}
 use Rattle.std.proofs.lemmas.List.Folds.{fold-map}
-use Rattle.krl_entries.proofs.Equivalences.{contains_append, contains_cons, iff_both, iff_or}
+use Rattle.krl_types.proofs.Equivalences.{contains_append, contains_cons, iff_both, iff_or}
 use Rattle.krl_queries.proofs.DistinctLists.{Once, once_append}
 use Rattle.krl_entries.proofs.OneMeaning.{above_held, section_authority}
 use Rattle.krl_entries.proofs.RisingLists.{less_apart}
-use Rattle.krl_entries.proofs.Elements.{contains_none}
+use Rattle.krl_types.proofs.Elements.{contains_none}
 use Rattle.std.proofs.Math.Logic.Iff as Iff
 
 module _ {Y : Type 0} where

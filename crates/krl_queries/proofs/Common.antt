@@ -7,10 +7,10 @@ pub use Rattle.std.proofs.Common.{Ok, OnErr, OnOk, Option, refl, Result, Some, s
 pub use Rattle.std.proofs.Common.{sum_by, sym, take, take_all, zero, ℕ}
 pub use Rattle.krl_entries.specs.Canonical.{entries_in}
 pub use Rattle.krl_entries.specs.Changes.{MeansMore, Puts, run_entries}
-pub use Rattle.krl_entries.specs.Entry.{BitmapEntry, Entry, IdEntry, KeyEntry, RangeEntry}
-pub use Rattle.krl_entries.specs.Entry.{SerialsEntry, Sha1Entry, Sha256Entry}
-pub use Rattle.krl_entries.specs.Naming.{EntryNames, IdOf, KeyOf, Name, SerialOf, Sha1Of, Sha256Of}
-pub use Rattle.krl_entries.specs.Naming.{SomeNames}
+pub use Rattle.krl_types.specs.Entry.{BitmapEntry, Entry, IdEntry, KeyEntry, RangeEntry}
+pub use Rattle.krl_types.specs.Entry.{SerialsEntry, Sha1Entry, Sha256Entry}
+pub use Rattle.krl_types.specs.Naming.{EntryNames, IdOf, KeyOf, Name, SerialOf, Sha1Of, Sha256Of}
+pub use Rattle.krl_types.specs.Naming.{SomeNames}
 pub use Rattle.krl_queries.specs.Questions.{Asked, asked_in, Asks, AsksMore}
 pub use Rattle.krl_queries.specs.Questions.{HasCert, HashesOf, HasUnder, IsFirst, IsSmall}
 pub use Rattle.krl_queries.specs.Questions.{serials_in, span_size}

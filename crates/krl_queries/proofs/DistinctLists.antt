@@ -5,10 +5,10 @@ use Rattle.krl_queries.proofs.Common.{Contains-append_cases, inl, inr, length, L
 use Rattle.krl_queries.proofs.Common.{refl, Rises, RisesBy, subst, sum_by, sum_by-append}
 use Rattle.krl_queries.proofs.Common.{sum_by-cons, sym, ℕ}
 use Rattle.std.specs.Prelude.{⊤}
-use Rattle.krl_entries.proofs.Equivalences.{contains_middle}
+use Rattle.krl_types.proofs.Equivalences.{contains_middle}
 use Rattle.krl_entries.proofs.Members.{absent_above}
-use Rattle.krl_entries.proofs.Elements.{contains_cases, contains_here, contains_later}
-use Rattle.krl_entries.proofs.Elements.{contains_none}
+use Rattle.krl_types.proofs.Elements.{contains_cases, contains_here, contains_later}
+use Rattle.krl_types.proofs.Elements.{contains_none}
 
 -- each element occurs once
 abbrev pub Once : {X : Type 0} → List X → Type 0

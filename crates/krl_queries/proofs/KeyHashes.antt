@@ -4,8 +4,8 @@ use Rattle.krl_queries.proofs.Common.{HashesOf, inl, inr, is_at, IsTrue, List, l
 use Rattle.krl_queries.proofs.Common.{subst, sym, ℕ}
 use Rattle.krl_entries.proofs.AddedSections.{put_held}
 use Rattle.krl_entries.proofs.Sets.{set_has}
-use Rattle.krl_entries.proofs.Elements.{contains_cases, contains_here, contains_later}
-use Rattle.krl_entries.proofs.Elements.{contains_none}
+use Rattle.krl_types.proofs.Elements.{contains_cases, contains_here, contains_later}
+use Rattle.krl_types.proofs.Elements.{contains_none}
 use Rattle.std.proofs.Math.Logic.Iff as Iff
 
 -- each key is hashed or left, and each hash is one of a key

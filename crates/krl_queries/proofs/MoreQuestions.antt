@@ -5,7 +5,7 @@ use Rattle.krl_queries.proofs.Common.{HoldsName, IdEntry, IdOf, inl, inr, IsOrde
 use Rattle.krl_queries.proofs.Common.{MeansMore, Name, Ok, OnErr, OnOk, RangeEntry, Result}
 use Rattle.krl_queries.proofs.Common.{Revocations, SerialOf}
 use Rattle.krl_queries.proofs.Common.{serials_in, Sha1Of, Sha256Of, sym, ℕ}
-use Rattle.krl_entries.proofs.Equivalences.{iff_none, iff_or}
+use Rattle.krl_types.proofs.Equivalences.{iff_none, iff_or}
 use Rattle.krl_entries.proofs.AddedMeaning.{means_more_names}
 use Rattle.krl_queries.proofs.SerialCounts.{serials_grow, serials_stay}
 use Rattle.std.proofs.Math.Logic.Iff as Iff

@@ -7,7 +7,7 @@ use Rattle.krl_queries.proofs.Common.{RunsFrom, Section, SomeSection, Span, sum_
 use Rattle.krl_queries.proofs.DistinctLists.{Once, sum_ones}
 use Rattle.krl_entries.proofs.OneMeaning.{held_first, section_authority}
 use Rattle.krl_queries.proofs.AuthorityItems.{in_under, once_under, some_listed, sum_under, under}
-use Rattle.krl_entries.proofs.Elements.{contains_cases, contains_none}
+use Rattle.krl_types.proofs.Elements.{contains_cases, contains_none}
 
 -- ---- the numbers with which spans begin
 

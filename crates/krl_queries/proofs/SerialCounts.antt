@@ -1,7 +1,7 @@
 -- How many serial numbers are held after a change.
 use Rattle.krl_queries.proofs.Common.{◌+◌, ◌∷◌, ◌≡◌, ◌≤◌, ◌⊎◌, ap₂, arith, HoldsSerial, inl, inr}
 use Rattle.krl_queries.proofs.Common.{IsOrderly, List, Revocations, serials_in, sum_by-cons, sym, ℕ}
-use Rattle.krl_entries.proofs.Equivalences.{contains_cons}
+use Rattle.krl_types.proofs.Equivalences.{contains_cons}
 use Rattle.krl_queries.proofs.DistinctLists.{sum_within}
 use Rattle.krl_queries.proofs.Serials.{count_serials, in_serials, once_serials, serials_of}
 

@@ -6,10 +6,10 @@ use Rattle.krl_queries.proofs.Common.{RunsFrom, Section, serials_in, Span, span_
 use Rattle.krl_queries.proofs.Common.{zero, ℕ}
 use Rattle.std.proofs.lemmas.List.Concat.{length-flat_map}
 use Rattle.std.proofs.lemmas.List.FromFn.{get_or-range_with_len, length-range_with_len}
-use Rattle.krl_entries.proofs.Equivalences.{contains_append, iff_or}
+use Rattle.krl_types.proofs.Equivalences.{contains_append, iff_or}
 use Rattle.krl_queries.proofs.DistinctLists.{Once, once_append, sum_ones}
 use Rattle.krl_queries.proofs.AuthorityItems.{in_under, once_under, some_listed, sum_under, under}
-use Rattle.krl_entries.proofs.Elements.{contains_none}
+use Rattle.krl_types.proofs.Elements.{contains_none}
 use Rattle.std.proofs.Math.Logic.Iff as Iff
 
 -- ---- consecutive numbers

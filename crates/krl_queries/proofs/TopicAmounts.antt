@@ -8,13 +8,14 @@ use Rattle.krl_queries.proofs.Common.{section_size, serials_in, sha1, sha256, si
 use Rattle.krl_queries.proofs.Common.{stored, subst, sum_by, sum_by-cons, sum_by-le, ℕ}
 use Rattle.std.proofs.lemmas.List.Folds.{fold-map}
 use Rattle.krl_entries.proofs.Amounts.{some_contains}
-use Rattle.krl_entries.proofs.Equivalences.{contains_cons}
+use Rattle.krl_types.proofs.Equivalences.{contains_cons}
 use Rattle.krl_queries.proofs.DistinctLists.{Once, once_rising, once_texts, sum_ones, sum_within}
 use Rattle.krl_entries.proofs.OneMeaning.{section_authority}
 use Rattle.krl_queries.proofs.Serials.{count_serials, in_serials, serials_of}
 use Rattle.krl_queries.proofs.RunStarts.{count_starts, in_starts, once_starts_of, starts, starts_of}
 use Rattle.krl_queries.proofs.AuthorityItems.{in_under, once_under, sum_under, under}
-use Rattle.krl_entries.proofs.Elements.{contains_cases, contains_none, some_text, some_weaker}
+use Rattle.krl_types.proofs.Elements.{contains_cases, contains_none}
+use Rattle.krl_entries.proofs.Elements.{some_text, some_weaker}
 
 -- each run begins with a serial number that is asked about
 held_small : (topics found : Revocations) → IsOrderly topics → HoldsOnlyTopics topics found → held found ≤ serials_in topics.sections

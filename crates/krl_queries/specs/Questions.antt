@@ -5,7 +5,7 @@ use Rattle.serial_set.specs.declared.span.Span.{Span}
 use Rattle.krl_types.specs.Subject.{CertNames, Subject}
 use Rattle.krl_entries.specs.Revocations.{Revocations, Section, HoldsId, HoldsSerial}
 use Rattle.krl_entries.specs.Revocations.{held, stored}
-use Rattle.krl_entries.specs.Naming.{Name}
+use Rattle.krl_types.specs.Naming.{Name}
 use Rattle.krl_entries.specs.Scope.{IsTopic, Scope}
 
 -- the topics, which are asked about, and what was found of them

@@ -3,7 +3,7 @@
 ghost use Rattle.std.specs.Prelude.{◌≡◌, ◌+◌, ◌≤◌, ◌∷◌, [], ℕ, OnOk, ⊤};
 ghost use Rattle.serial_set.specs.BitRuns.{IsInterval};
 ghost use Rattle.krl_entries.specs.Revocations.{IsStoredAtMost, held};
-ghost use Rattle.krl_entries.specs.Entry.{RangeEntry};
+ghost use Rattle.krl_types.specs.Entry.{RangeEntry};
 ghost use Rattle.krl_queries.specs.Questions.{asked_in};
 ghost use Rattle.krl_entries.specs.Scope.{HoldsOnlyTopics, MeansMoreInScope};
 

@@ -2,7 +2,7 @@
 
 ghost use Rattle.std.specs.Prelude.{◌≡◌, List, Some};
 ghost use Rattle.krl_types.specs.Subject.{Subject};
-ghost use Rattle.krl_entries.specs.Entry.{Entry};
+ghost use Rattle.krl_types.specs.Entry.{Entry};
 ghost use Rattle.krl_entries.specs.Reasons.{held_reasons, is_revoked, reasons_of, revokes};
 ghost use Rattle.krl_entries.specs.Revocations.{IsOrderly, Revocations};
 ghost use Rattle.krl_entries.specs.Scope.{HoldsOnlyTopics, MeansInScope};

@@ -1,7 +1,7 @@
 //! Questions about a list that is streamed.
 
 ghost use Rattle.std.specs.Prelude.{◌≡◌, ◌↔◌, ◌+◌, ◌≤◌, IsTrue, List, OnOk, Some, length};
-ghost use Rattle.krl_entries.specs.Entry.{Entry};
+ghost use Rattle.krl_types.specs.Entry.{Entry};
 ghost use Rattle.krl_entries.specs.Reasons.{IsReason, has_reason, held_reasons, revokes};
 ghost use Rattle.krl_entries.specs.Revocations.{IsOrderly, nothing, stored};
 ghost use Rattle.krl_entries.specs.Revoked.{Revoked};

@@ -6,7 +6,8 @@ ghost use Rattle.krl_entries.specs.Revocations.{HoldsSerial};
 ghost use Rattle.krl_entries.specs.Scope.{NoneHolds};
 ghost use Rattle.krl_queries.specs.Questions.{IsFirst};
 
-use krl_entries::{Revocations, u64_of};
+use krl_entries::Revocations;
+use krl_types::u64_of;
 use serial_set::Spans;
 
 // Whether some serial number from `lo` to `hi` may be a topic under exactly this authority.

@@ -14,8 +14,8 @@ pub use Rattle.key_listing.specs.Run.{before, file_key_item, is_answered, Item, 
 pub use Rattle.key_listing.specs.Run.{outcome_of, Passed, RunOutcome, said, said_of, Stopped}
 pub use Rattle.key_listing.specs.Run.{subject_item, unanswered_of}
 unfoldable pub use Rattle.key_listing.specs.Run.{file_items, files_items}
-pub use Rattle.krl_core.specs.Entries.{entries_of}
-pub use Rattle.krl_core.specs.declared.header.Header.{Header}
+pub use Rattle.krl_format.specs.Entries.{entries_of}
+pub use Rattle.krl_format.specs.declared.header.Header.{Header}
 pub use Rattle.krl_queries.specs.Questions.{Asks, AsksMore, HasCert, names_size}
 pub use Rattle.krl_queries.specs.Questions.{serials_in, subject_size}
 pub use Rattle.krl_entries.specs.Reasons.{is_revoked, revokes}

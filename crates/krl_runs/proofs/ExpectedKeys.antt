@@ -9,7 +9,7 @@ use Rattle.std.proofs.lemmas.List.{get_or_default}
 use Rattle.ssh_cert.specs.SubjectReading.{subject_of}
 use Rattle.ssh_cert.specs.declared.subject_fault.SubjectFault.{SubjectFault}
 use Rattle.key_files.specs.declared.cause.Cause.{Cause}
-use Rattle.krl_entries.specs.Naming.{KeyOf}
+use Rattle.krl_types.specs.Naming.{KeyOf}
 use Rattle.krl_queries.proofs.MoreQuestions.{under_stays}
 use Rattle.key_files.specs.declared.cause.Cause.TheVariants as causes
 

@@ -1,8 +1,9 @@
 -- A text has one reading if its known contents are unique and exclude a fault.
 use Rattle.std.proofs.Common.{◌≡◌, ◌⊎◌, ℕ, false, List, Result, Ok, Err, Option, Some, None, ap}
 use Rattle.std.proofs.Common.{inl, inr}
-use Rattle.krl_core.specs.Front.{IsFirstFault}
-use Rattle.krl_core.specs.Reading.{IsReadAs, Says, ran_out, failed_read, first}
+use Rattle.krl_format.specs.Front.{IsFirstFault}
+use Rattle.krl_core.specs.Reading.{IsReadAs}
+use Rattle.krl_format.specs.Faults.{Says, ran_out, failed_read, first}
 use Rattle.krl_types.specs.declared.krl_fault.KrlFault.{KrlFault}
 use Rattle.krl_types.specs.declared.krl_fault.KrlFault.TheVariants.{NoMemory}
 

@@ -11,11 +11,12 @@ use Rattle.std.specs.List.{concat}
 use Rattle.std.proofs.lemmas.Bool.{false≢true}
 use Rattle.krl_entries.proofs.RevokedTests.{revokes_meant}
 use Rattle.krl_entries.specs.Canonical.{entries_in}
-use Rattle.krl_entries.specs.Entry.{Entry}
+use Rattle.krl_types.specs.Entry.{Entry}
 use Rattle.krl_entries.proofs.OwnEntries.{means_itself}
 use Rattle.krl_entries.proofs.ScopedMeaning.{means_within}
-use Rattle.krl_core.specs.Front.{IsFirstFault}
-use Rattle.krl_core.specs.Reading.{HoldsInScope, IsList, IsListAs, IsResultOf, OfHeader, Says}
+use Rattle.krl_format.specs.Front.{IsFirstFault}
+use Rattle.krl_core.specs.Reading.{HoldsInScope, IsList, IsListAs, IsResultOf, OfHeader}
+use Rattle.krl_format.specs.Faults.{Says}
 use Rattle.krl_entries.proofs.ReasonTests.{meant_tested}
 use Rattle.krl_queries.proofs.FoundReasons.{found_tested}
 use Rattle.krl_types.specs.declared.krl_fault.KrlFault.{KrlFault}

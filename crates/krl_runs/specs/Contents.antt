@@ -11,7 +11,7 @@ use Rattle.key_text.specs.Fingerprints.{fingerprint_text, unpadded}
 use Rattle.ssh_cert.specs.Escape.{escaped}
 use Rattle.cert_listing.specs.Time.{instant_text}
 use Rattle.krl_entries.specs.Revocations.{Revocations, Section}
-use Rattle.krl_core.specs.declared.header.Header.{Header}
+use Rattle.krl_format.specs.declared.header.Header.{Header}
 use Rattle.krl_runs.specs.declared.contents.fact.Fact.{Fact}
 use Rattle.krl_runs.specs.declared.contents.fact.Fact.TheVariants.{Id, Key, Sha1, Hash}
 use Rattle.key_listing.specs.Run.{Item}

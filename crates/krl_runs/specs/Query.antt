@@ -2,13 +2,13 @@
 use Rattle.std.specs.Prelude.{◌≡◌, ◌↔◌, ◌≤◌, length, ℕ, ⊤, Bool, true, false, List, [], ◌∷◌, ◌++◌}
 use Rattle.std.specs.Prelude.{Option, None, Some, Result, Ok, Err, IsTrue, codes}
 use Rattle.krl_entries.specs.Revocations.{Revocations}
-use Rattle.krl_core.specs.Entries.{entries_of}
-use Rattle.krl_core.specs.Front.{IsFirstFault, limit}
-use Rattle.krl_core.specs.Krl.{SpelledSection, Spells}
+use Rattle.krl_format.specs.Entries.{entries_of}
+use Rattle.krl_format.specs.Front.{IsFirstFault, limit}
+use Rattle.krl_format.specs.Krl.{SpelledSection, Spells}
 use Rattle.krl_queries.specs.Questions.{Asks}
-use Rattle.krl_entries.specs.Entry.{Entry}
+use Rattle.krl_types.specs.Entry.{Entry}
 use Rattle.krl_entries.specs.Reasons.{is_revoked, revokes}
-use Rattle.krl_core.specs.declared.header.Header.{Header}
+use Rattle.krl_format.specs.declared.header.Header.{Header}
 use Rattle.ssh_key.specs.Key.{PublicKey}
 use Rattle.krl_core.specs.Reading.{IsList, IsReadAs, IsResultOf}
 use Rattle.krl_entries.specs.Revoked.{Revoked}

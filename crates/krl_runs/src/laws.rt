@@ -1,7 +1,7 @@
 //! Laws of the lines that runs print. Each function does nothing: its contract is the law.
 
 ghost use Rattle.std.specs.Prelude.{◌≡◌, ◌⊎◌, ℕ, false, List, Result, Ok, Err, Option};
-ghost use Rattle.krl_entries.specs.Entry.{Entry};
+ghost use Rattle.krl_types.specs.Entry.{Entry};
 ghost use Rattle.krl_entries.specs.Reasons.{is_revoked};
 ghost use Rattle.krl_types.specs.declared.krl_fault.KrlFault.{KrlFault};
 ghost use Rattle.krl_types.specs.declared.krl_fault.KrlFault.TheVariants.{NoMemory};
@@ -12,8 +12,8 @@ ghost use Rattle.krl_runs.specs.Query.{query_run_of};
 ghost use Rattle.key_files.specs.Keys.{Named};
 ghost use Rattle.key_listing.specs.Run.{before, files_items, outcome_of};
 
-use krl_core::laws::{one_first_fault, one_spelling};
 use krl_entries::laws::entries_decide_what_is_held;
+use krl_format::laws::{one_first_fault, one_spelling};
 
 /// If a list's contents are requested, their text comes before all lines about files; otherwise
 /// nothing is printed about the list.

@@ -3,7 +3,7 @@
 ghost use Rattle.std.specs.Prelude.{◌≡◌, ◌*◌, ◌≤◌, ℕ, IfSome, List, None, Option, Result, false};
 ghost use Rattle.key_files.specs.Keys.{Named as NamedOf};
 ghost use Rattle.key_files.specs.Sizes.{files_size};
-ghost use Rattle.krl_entries.specs.Entry.{Entry as EntryOf};
+ghost use Rattle.krl_types.specs.Entry.{Entry as EntryOf};
 ghost use Rattle.krl_queries.specs.Questions.{Asks};
 ghost use Rattle.krl_entries.specs.Revocations.{IsOrderly, nothing};
 ghost use Rattle.krl_core.specs.Reading.{HasReadOf, IsResultOf};

@@ -3,7 +3,7 @@ use Rattle.std.proofs.Common.{◌≡◌, ℕ, ◌+◌, ◌≤◌, List, [], ◌�
 use Rattle.std.proofs.lemmas.List.{length-append, append-nil}
 use Rattle.std.specs.List.{slice_split}
 use Rattle.krl_entries.specs.Revocations.{Revocations, held}
-use Rattle.krl_entries.specs.Entry.{Entry}
+use Rattle.krl_types.specs.Entry.{Entry}
 use Rattle.krl_entries.specs.Changes.{MeansMore}
 use Rattle.krl_spec.specs.Adding.{AddsLine, Reports}
 use Rattle.krl_spec.specs.Entries.{line_entry}

@@ -6,7 +6,7 @@ use Rattle.sha2.specs.Sha256.{sha256}
 use Rattle.ssh_wire.specs.Reading.{◌>>=◌, in_fault}
 use Rattle.key_text.specs.FingerprintReading.{fingerprint_at}
 use Rattle.krl_types.specs.Subject.{CertNames}
-use Rattle.krl_entries.specs.Entry.{Entry, RangeEntry, IdEntry, KeyEntry, Sha1Entry, Sha256Entry}
+use Rattle.krl_types.specs.Entry.{Entry, RangeEntry, IdEntry, KeyEntry, Sha1Entry, Sha256Entry}
 use Rattle.krl_spec.specs.Number.{serials_of_text}
 use Rattle.krl_spec.specs.Blanks.{bare_line}
 use Rattle.krl_spec.specs.Directive.{Order, order_in}

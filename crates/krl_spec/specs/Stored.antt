@@ -2,8 +2,8 @@
 use Rattle.std.specs.Prelude.{◌≡◌, ℕ, ◌+◌, ◌≤◌, ◌⊎◌, List, length, Option}
 use Rattle.krl_entries.specs.Revocations.{Revocations, IsStoredAtMost}
 use Rattle.krl_spec.specs.Under.{bytes_under}
-use Rattle.krl_entries.specs.Entry.{Entry, RangeEntry, IdEntry, KeyEntry, Sha1Entry}
-use Rattle.krl_entries.specs.Entry.{Sha256Entry}
+use Rattle.krl_types.specs.Entry.{Entry, RangeEntry, IdEntry, KeyEntry, Sha1Entry}
+use Rattle.krl_types.specs.Entry.{Sha256Entry}
 
 -- At most `size` more bytes are stored, with the current authority counted once.
 abbrev pub GrowsUnder : List ℕ → ℕ → Revocations → Revocations → Type 0

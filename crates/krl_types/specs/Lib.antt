@@ -1,2 +1,4 @@
 pub mod KrlFault
 pub mod Subject
+pub mod Entry
+pub mod Naming

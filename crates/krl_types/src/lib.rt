@@ -1,9 +1,11 @@
-//! The subject of a query of a revocation list, and why a list cannot be read (ssh-keygen(1), KEY
-//! REVOCATION LISTS; PROTOCOL.krl).
+//! The subject of a query of a revocation list, the entries of lists and what they name, and why a
+//! list cannot be read (ssh-keygen(1), KEY REVOCATION LISTS; PROTOCOL.krl).
 #![tactic(auto)]
 
+mod field;
 mod krl_fault;
 mod subject;
 
+pub use field::{byte_of, u32_of, u64_of};
 pub use krl_fault::KrlFault;
 pub use subject::{CertNames, Subject};

@@ -3,15 +3,15 @@ pub use Rattle.std.proofs.Common.{[], ◌*◌, ◌++◌, ◌+◌, ◌-◌, ◌/�
 pub use Rattle.std.proofs.Common.{All, ap, append-nil, append_assoc, arith, Contains, drop, Err}
 pub use Rattle.std.proofs.Common.{flat_map, inl, inr, length, length-append, List, map, Ok}
 pub use Rattle.std.proofs.Common.{refl, Result, subst, suc, sum_by, sym, take, zero, ℕ}
-pub use Rattle.krl_core.specs.Entries.{entries_of, subsection_entries}
-pub use Rattle.krl_core.specs.Front.{limit}
-pub use Rattle.krl_core.specs.Krl.{Certificates, Ids, IsPositive, Keys, Sha1s}
-pub use Rattle.krl_core.specs.Krl.{Sha256s, SignaturesLast, SpelledSection, Spells, SpellsBitmap}
-pub use Rattle.krl_core.specs.Krl.{SpellsEach, SpellsHashes, SpellsSection, SpellsSubsection}
-pub use Rattle.krl_core.specs.declared.header.Header.{Header}
-pub use Rattle.krl_entries.proofs.Elements.{all_append, contains_none, some_cases}
-pub use Rattle.krl_entries.proofs.Equivalences.{contains_append, contains_cons, iff_both, iff_none}
-pub use Rattle.krl_entries.proofs.Equivalences.{iff_or}
+pub use Rattle.krl_format.specs.Entries.{entries_of, subsection_entries}
+pub use Rattle.krl_format.specs.Front.{limit}
+pub use Rattle.krl_format.specs.Krl.{Certificates, Ids, IsPositive, Keys, Sha1s}
+pub use Rattle.krl_format.specs.Krl.{Sha256s, SignaturesLast, SpelledSection, Spells, SpellsBitmap}
+pub use Rattle.krl_format.specs.Krl.{SpellsEach, SpellsHashes, SpellsSection, SpellsSubsection}
+pub use Rattle.krl_format.specs.declared.header.Header.{Header}
+pub use Rattle.krl_types.proofs.Elements.{all_append, contains_none, some_cases}
+pub use Rattle.krl_types.proofs.Equivalences.{contains_append, contains_cons, iff_both, iff_none}
+pub use Rattle.krl_types.proofs.Equivalences.{iff_or}
 pub use Rattle.krl_entries.specs.Revocations.{held, HoldsName, IsListed, IsOrderly, Means}
 pub use Rattle.krl_entries.specs.Revocations.{Revocations, Section, section_with, SomeSection}
 pub use Rattle.krl_plan.proofs.ListTexts.{length-begun, string_ended}

@@ -7,8 +7,8 @@ use Rattle.krl_writer.proofs.Common.{subst, take, ℕ}
 use Rattle.serial_set.specs.declared.span.Span.{Span}
 use Rattle.serial_set.specs.Span.{AreSerials, IsRuns}
 use Rattle.krl_plan.specs.declared.group.Sort.{Sort}
-use Rattle.krl_entries.specs.Naming.{SerialOf, SomeNames}
-use Rattle.krl_entries.proofs.SameNames.{IsSerials, some_append}
+use Rattle.krl_types.specs.Naming.{SerialOf, SomeNames}
+use Rattle.krl_types.proofs.SameNames.{IsSerials, some_append}
 use Rattle.krl_plan.proofs.RunSerials.{AreSerials-drop, AreSerials-take, bits_name, names_parts}
 use Rattle.krl_plan.proofs.RunSerials.{names_within}
 use Rattle.krl_plan.proofs.ChosenGroups.{IsRuns-drop, RunsFrom-take}
@@ -16,7 +16,7 @@ use Rattle.krl_writer.proofs.Spelling.{serials_name}
 use Rattle.serial_set.specs.Span.{Covers as Names}
 use Rattle.krl_plan.specs.declared.group.Sort.TheVariants as sorts
 use Rattle.std.proofs.Math.Logic.Iff as Iff
-use Rattle.krl_entries.proofs.SameNames.{AreSerials as AreSerialEntries}
+use Rattle.krl_types.proofs.SameNames.{AreSerials as AreSerialEntries}
 
 -- ---- a group
 

@@ -3,10 +3,9 @@ use Rattle.krl_writer.proofs.Common.{[], ◌<◌, ◌^◌, ◌∷◌, ◌≡◌,
 use Rattle.krl_writer.proofs.Common.{Header, IsKrlText, IsLeastPlan, IsOrderly, IsPlan, length}
 use Rattle.krl_writer.proofs.Common.{limit, List, Means, Revocations, Section, sections_of}
 use Rattle.krl_writer.proofs.Common.{SpelledSection, Spells, subst, sym, ℕ}
-use Rattle.krl_core.specs.Reading.{IsList}
 use Rattle.krl_writer.proofs.WrittenNames.{sections_mean}
 use Rattle.krl_entries.proofs.OneMeaning.{one_meaning}
-use Rattle.krl_core.proofs.OneSpelling.{spelled_once}
+use Rattle.krl_format.proofs.OneSpelling.{spelled_once}
 use Rattle.krl_writer.proofs.Sections.{text_spelled}
 
 -- each least plan is a plan
@@ -34,8 +33,8 @@ written_spelled header r text is short version date orderly =
       means = sections_mean is.plans r orderly each;
     }
 
-pub read_back : (header read : Header) (r held : Revocations) (text : List ℕ) → SpelledOf header r text → IsList text read held → (read ≡ header) × (held ≡ r)
-read_back header read r held text w h =
-    let one = spelled_once text read header h.sections w.sections h.spelled w.spelled in
-    let means : Means held (entries_of w.sections) = subst (λ (sections : List SpelledSection). Means held (entries_of sections)) one.1 h.holds.means in
+pub read_back : (header read : Header) (r held : Revocations) (text : List ℕ) → SpelledOf header r text → (sections : List SpelledSection) → Spells text read sections → Means held (entries_of sections) → (read ≡ header) × (held ≡ r)
+read_back header read r held text w sections spelled held_means =
+    let one = spelled_once text read header sections w.sections spelled w.spelled in
+    let means : Means held (entries_of w.sections) = subst (λ (all : List SpelledSection). Means held (entries_of all)) one.1 held_means in
     (one.0, one_meaning held r (entries_of w.sections) means w.means)

@@ -10,7 +10,7 @@ use Rattle.krl_writer.proofs.Common.{plan_text, recursion_from_All, refl, Revoca
 use Rattle.krl_writer.proofs.Common.{sections_text, Sha1s, Sha256s, SignaturesLast, SpelledSection}
 use Rattle.krl_writer.proofs.Common.{Spells, SpellsEach, SpellsHashes, SpellsSection}
 use Rattle.krl_writer.proofs.Common.{SpellsSubsection, string, strings, text_of, ℕ}
-use Rattle.krl_core.specs.Krl.{header_fields}
+use Rattle.krl_format.specs.Krl.{header_fields}
 use Rattle.krl_writer.specs.KrlText.{header_values}
 use Rattle.ssh_wire.specs.Rows.{row_text}
 use Rattle.ssh_wire.proofs.RowLaws.{leads_more, length-row, row_led}

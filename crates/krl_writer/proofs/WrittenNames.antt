@@ -6,12 +6,12 @@ use Rattle.krl_writer.proofs.Common.{iff_or, inl, inr, IsListed, IsOrderly, IsPl
 use Rattle.krl_writer.proofs.Common.{map, Means, plan_subsections, refl, Revocations, Section}
 use Rattle.krl_writer.proofs.Common.{sections_of, some_cases, SomeSection, subsection_entries}
 use Rattle.krl_writer.proofs.Common.{subst, sym, ℕ}
-use Rattle.krl_entries.specs.Entry.{Entry, IdEntry, KeyEntry, Sha1Entry, Sha256Entry}
-use Rattle.krl_entries.specs.Naming.{EntryNames, IdOf, KeyOf, Name, SerialOf, Sha1Of, Sha256Of}
-use Rattle.krl_entries.specs.Naming.{SomeNames}
+use Rattle.krl_types.specs.Entry.{Entry, IdEntry, KeyEntry, Sha1Entry, Sha256Entry}
+use Rattle.krl_types.specs.Naming.{EntryNames, IdOf, KeyOf, Name, SerialOf, Sha1Of, Sha256Of}
+use Rattle.krl_types.specs.Naming.{SomeNames}
 use Rattle.krl_writer.proofs.Meaning.{plan_names, plan_serials}
-use Rattle.krl_entries.proofs.SameNames.{mapped_name, same_is, serials_only, some_append}
-use Rattle.krl_entries.proofs.SameNames.{some_first, some_last}
+use Rattle.krl_types.proofs.SameNames.{mapped_name, same_is, serials_only, some_append}
+use Rattle.krl_types.proofs.SameNames.{some_first, some_last}
 use Rattle.krl_entries.proofs.SomeSections.{HeldIn, no_section}
 use Rattle.std.proofs.Math.Logic.Iff as Iff
 

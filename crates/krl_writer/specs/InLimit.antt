@@ -2,7 +2,7 @@
 use Rattle.std.specs.Prelude.{◌≡◌, ℕ, ◌<◌, ◌≤◌, Bool, true, false, List, ◌++◌, length, take}
 use Rattle.std.specs.Prelude.{Option, Result, Ok, Err, ⊤}
 use Rattle.std.specs.Io.KnownBytes.{Appends}
-use Rattle.krl_core.specs.Front.{limit}
+use Rattle.krl_format.specs.Front.{limit}
 use Rattle.krl_writer.specs.declared.text.WriteFault.{WriteFault}
 use Rattle.krl_writer.specs.declared.text.WriteFault.TheVariants.{Write}
 use Rattle.krl_writer.specs.declared.text.WriteFault.TheVariants.{NoMemory as NoMemory'}
@@ -10,7 +10,7 @@ use Rattle.krl_writer.specs.declared.text.WriteFault.TheVariants.{TooLong as Too
 use Rattle.krl_writer.specs.declared.text_fault.TextFault.{TextFault}
 use Rattle.krl_writer.specs.declared.text_fault.TextFault.TheVariants.{NoMemory, TooLong}
 use Rattle.krl_plan.specs.declared.group.Group.{Group}
-use Rattle.krl_core.specs.declared.header.Header.{Header}
+use Rattle.krl_format.specs.declared.header.Header.{Header}
 use Rattle.krl_entries.specs.Revocations.{Revocations, Section}
 use Rattle.krl_writer.specs.KrlText.{EachPlan, IsKrlText, authorities_text, authority_text}
 use Rattle.krl_plan.specs.Plan.{IsLeastPlan}

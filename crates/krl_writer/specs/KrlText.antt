@@ -3,14 +3,14 @@ use Rattle.std.specs.Prelude.{◌≡◌, ℕ, ◌+◌, ◌*◌, List, [], ◌∷
 use Rattle.serial_set.specs.declared.span.Span.{Span}
 use Rattle.ssh_wire.specs.Rows.{row_text}
 use Rattle.ssh_wire.specs.Wire.{string, strings}
-use Rattle.krl_core.specs.declared.header.Header.{Header}
+use Rattle.krl_format.specs.declared.header.Header.{Header}
 use Rattle.krl_plan.specs.declared.group.Sort.{Sort}
 use Rattle.krl_plan.specs.declared.group.Sort.TheVariants as sorts
 use Rattle.krl_plan.specs.declared.group.Group.{Group}
 use Rattle.krl_entries.specs.Revocations.{Revocations, Section}
-use Rattle.krl_core.specs.Krl.{SpelledSection, Certificates, Keys, Sha1s, Sha256s, Subsection}
-use Rattle.krl_core.specs.Field.{magic_number}
-use Rattle.krl_core.specs.Krl.{Serials, Range, Bitmap, Ids, header_fields}
+use Rattle.krl_format.specs.Krl.{SpelledSection, Certificates, Keys, Sha1s, Sha256s, Subsection}
+use Rattle.krl_format.specs.Field.{magic_number}
+use Rattle.krl_format.specs.Krl.{Serials, Range, Bitmap, Ids, header_fields}
 use Rattle.krl_plan.specs.Plan.{IsLeastPlan, reach}
 use Rattle.krl_plan.specs.Written.{bitmap_size, bits_of, first_of, plan_text, serials_of}
 

@@ -1,6 +1,6 @@
 -- The length of a written list in bytes.
 use Rattle.std.specs.Prelude.{ℕ, ◌+◌, ◌*◌, List, [], ◌∷◌, length}
-use Rattle.krl_core.specs.declared.header.Header.{Header}
+use Rattle.krl_format.specs.declared.header.Header.{Header}
 use Rattle.krl_plan.specs.declared.group.Group.{Group}
 use Rattle.krl_entries.specs.Revocations.{Revocations, Section}
 use Rattle.krl_plan.specs.Plan.{cost}

@@ -1,12 +1,12 @@
 //! The sections of all certificate authorities.
 
 ghost use Rattle.std.specs.Prelude.{◌≤◌, length};
-ghost use Rattle.krl_core.specs.Front.{limit};
+ghost use Rattle.krl_format.specs.Front.{limit};
 ghost use Rattle.krl_writer.specs.InLimit.{AddsAuthorities, AddsAuthority};
 
 use crate::strings::{LIMIT, add_listed, add_string};
 use crate::text_fault::TextFault;
-use krl_core::{Authorities, Texts};
+use krl_entries::{Authorities, Texts};
 use krl_plan::{begin_string, end_string, put_least_plan};
 use serial_set::Spans;
 use ssh_wire::put_string;

@@ -3,17 +3,17 @@
 ghost use Rattle.std.specs.Prelude.{◌≡◌, ◌≤◌, ◌<◌, ◌^◌, ◌⊎◌, ℕ, Bool, true, List, Option, None};
 ghost use Rattle.std.specs.Prelude.{length};
 ghost use Rattle.ssh_wire.specs.Wire.{IsBytes};
-ghost use Rattle.krl_core.specs.Front.{IsFirstFault, limit};
+ghost use Rattle.krl_format.specs.Front.{IsFirstFault, limit};
 ghost use Rattle.krl_plan.specs.declared.group.Group.{Group};
 ghost use Rattle.krl_entries.specs.Revocations.{Revocations, IsOrderly, Means};
-ghost use Rattle.krl_core.specs.declared.header.Header.{Header};
-ghost use Rattle.krl_core.specs.Krl.{SpelledSection, Spells};
+ghost use Rattle.krl_format.specs.declared.header.Header.{Header};
+ghost use Rattle.krl_format.specs.Krl.{SpelledSection, Spells};
 ghost use Rattle.krl_writer.specs.KrlText.{EachPlan, IsKrlText, sections_of, text_of};
 ghost use Rattle.krl_plan.specs.Plan.{IsPlan};
 ghost use Rattle.krl_types.specs.declared.krl_fault.KrlFault.{KrlFault};
 ghost use Rattle.krl_types.specs.declared.krl_fault.KrlFault.TheVariants.{NoMemory, Read};
-ghost use Rattle.krl_core.specs.Entries.{entries_of};
-ghost use Rattle.krl_core.specs.Reading.{IsList, Says};
+ghost use Rattle.krl_format.specs.Entries.{entries_of};
+ghost use Rattle.krl_format.specs.Faults.{Says};
 ghost use Rattle.krl_writer.specs.Size.{text_size};
 
 /// The text of a list within the limit is spelled as a list, whatever the plans for its serials.
@@ -45,7 +45,8 @@ pub fn written_list_is_read_back()
     ensures { (header read : Header) (r held : Revocations) (text : List ℕ)
         → IsKrlText header r text
         → length text ≤ limit → header.version < 2 ^ 64 → header.date < 2 ^ 64 → IsOrderly r
-        → IsList text read held → (read ≡ header) × (held ≡ r) }
+        → (sections : List SpelledSection) → Spells text read sections
+        → Means held (entries_of sections) → (read ≡ header) × (held ≡ r) }
 {}
 
 /// A written list has no fault. If it cannot be read, the fault is that an allocation or the reader

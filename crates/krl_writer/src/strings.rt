@@ -2,17 +2,17 @@
 
 ghost use Rattle.std.specs.Prelude.{◌≤◌, length};
 ghost use Rattle.ssh_wire.specs.Wire.{string, strings};
-ghost use Rattle.krl_core.specs.Front.{limit};
+ghost use Rattle.krl_format.specs.Front.{limit};
 ghost use Rattle.krl_writer.specs.KrlText.{listed_text};
 ghost use Rattle.krl_writer.specs.InLimit.{AddsAtMost};
 
 use crate::text_fault::TextFault;
-use krl_core::Texts;
+use krl_entries::Texts;
 use krl_plan::{begin_string, end_string};
 use ssh_wire::put_string;
 
 // The maximum length of a list in bytes.
-pub(crate) const LIMIT: usize = krl_core::LIMIT as usize;
+pub(crate) const LIMIT: usize = krl_format::LIMIT as usize;
 
 // Appends a string.
 pub(crate) fn add_string(out: &mut Vec<u8>, text: &[u8]) -> Result<(), TextFault>

@@ -1,7 +1,7 @@
 //! The text of the stored revocations, and writing it.
 
 ghost use Rattle.std.specs.Prelude.{◌≡◌, ◌*◌, ◌<◌, ◌≤◌, [], IsTrue, false, length};
-ghost use Rattle.krl_core.specs.Front.{limit};
+ghost use Rattle.krl_format.specs.Front.{limit};
 ghost use Rattle.krl_entries.specs.Revocations.{held};
 ghost use Rattle.krl_writer.specs.KrlText.{header_text, texts_text};
 ghost use Rattle.krl_writer.specs.InLimit.{AddsAtMost, IsWritten, Writes, write_fault_number};
@@ -10,7 +10,8 @@ use crate::authorities::add_authorities;
 use crate::strings::{add_listed, add_string};
 use crate::text_fault::TextFault;
 use byte_streams::{Sink, send};
-use krl_core::{Header, LIMIT, MAGIC_NUMBER, Revocations};
+use krl_entries::Revocations;
+use krl_format::{Header, LIMIT, MAGIC_NUMBER};
 use serial_set::Spans;
 use ssh_wire::{put_string, put_u32, put_u64};
 use std::alloc::Global;

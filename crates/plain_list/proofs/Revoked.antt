@@ -3,10 +3,11 @@ use Rattle.std.proofs.Common.{◌≡◌, ◌↔◌, ℕ, List, [], ◌∷◌, Al
 use Rattle.std.proofs.lemmas.List.Elements.{All-head, All-tail}
 use Rattle.ssh_wire.specs.Wire.{IsBytes}
 use Rattle.krl_types.specs.Subject.{CertNames, Subject}
-use Rattle.krl_entries.specs.Naming.{IdOf, KeyNamed, KeyOf, Name, SerialOf, Sha1Of, Sha256Of, SomeNames}
+use Rattle.krl_types.specs.Naming.{IdOf, KeyOf, Name, SerialOf, Sha1Of, Sha256Of, SomeNames}
+use Rattle.krl_entries.specs.Revoked.{KeyNamed}
 use Rattle.krl_entries.specs.Reasons.{OfCert}
 use Rattle.krl_entries.specs.Revoked.{CertRevoked, Revoked}
-use Rattle.krl_entries.proofs.Elements.{some_cases, some_left, some_right}
+use Rattle.krl_types.proofs.Elements.{some_cases, some_left, some_right}
 use Rattle.plain_list.specs.Key.{line_key}
 use Rattle.plain_list.specs.List.{entries_of, key_entries, line_entries}
 use Rattle.plain_list.specs.Spelled.{IsListed, IsOnLine, Revokes}

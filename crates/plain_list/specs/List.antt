@@ -4,7 +4,7 @@ use Rattle.std.specs.Prelude.{None, Result, Ok, Err}
 use Rattle.std.specs.List.{flat_map, slice_split}
 use Rattle.std.specs.Result.{IsOk}
 use Rattle.key_text.specs.Lines.{is_newline}
-use Rattle.krl_entries.specs.Entry.{Entry, KeyEntry}
+use Rattle.krl_types.specs.Entry.{Entry, KeyEntry}
 use Rattle.plain_list.specs.Key.{line_key}
 use Rattle.plain_list.specs.declared.fault.LineCause.{LineCause}
 use Rattle.plain_list.specs.declared.fault.PlainFault.{PlainFault}

@@ -1,68 +1,10 @@
-//! Laws of spellings, first faults and the entries of fields. Each function does nothing: its
-//! contract is the law.
+//! A law of the entries of fields. The function does nothing: its contract is the law.
 
-ghost use Rattle.std.specs.Prelude.{◌≡◌, ◌≤◌, ◌*◌, ◌⊎◌, ◌++◌, ℕ, List, None, Some, Option, length};
-ghost use Rattle.krl_types.specs.declared.krl_fault.KrlFault.TheVariants.{EndsEarly};
-ghost use Rattle.serial_set.specs.BitRuns.{big_endian};
-ghost use Rattle.ssh_wire.specs.Wire.{IsBytes, number_of};
-ghost use Rattle.krl_core.specs.declared.header.Header.{Header};
+ghost use Rattle.std.specs.Prelude.{◌≤◌, ◌*◌, ℕ, List, length};
+ghost use Rattle.ssh_wire.specs.Wire.{IsBytes};
 ghost use Rattle.std.specs.List.{concat};
 ghost use Rattle.krl_entries.specs.Revocations.{Revocations, Means, held};
-ghost use Rattle.krl_core.specs.Krl.{SpelledSection, Spells};
-ghost use Rattle.krl_types.specs.declared.krl_fault.KrlFault.{KrlFault};
-ghost use Rattle.krl_core.specs.Front.{State, IsFirstFault, IsFront, limit};
-ghost use Rattle.krl_core.specs.Reading.{HasFixedFields};
-
-/// If a text has two fronts, one is the beginning of the other.
-pub fn one_front_begins_the_other()
-    ensures { (text : List ℕ) (one other : List (List ℕ)) (state state' : State)
-        (rest rest' : List ℕ)
-        → IsFront text one state rest → IsFront text other state' rest'
-        → ((more : List (List ℕ)) × (other ≡ one ++ more))
-        ⊎ ((more : List (List ℕ)) × (one ≡ other ++ more)) }
-{}
-
-/// A text has at most one first fault.
-pub fn one_first_fault()
-    ensures { (text : List ℕ) (fault fault' : Option KrlFault)
-        → IsFirstFault text fault → IsFirstFault text fault' → fault ≡ fault' }
-{}
-
-/// A text that begins with the first six fields of a list has their 40 bytes.
-pub fn first_fields_have_forty_bytes()
-    ensures { (text : List ℕ) → HasFixedFields text → 40 ≤ length text }
-{}
-
-/// Each text has a first fault, or is reported to have none.
-pub fn each_text_is_judged()
-    ensures { (text : List ℕ) → (fault : Option KrlFault) × IsFirstFault text fault }
-{}
-
-/// A text of bytes has no fault exactly if a header and sections spell it within the limit.
-pub fn no_fault_where_spelled()
-    ensures spelled { (text : List ℕ) (header : Header) (sections : List SpelledSection)
-        → IsBytes text → Spells text header sections → length text ≤ limit
-        → IsFirstFault text None }
-    ensures unfaulted { (text : List ℕ) → IsBytes text → IsFirstFault text None
-        → (length text ≤ limit)
-        × ((header : Header) × ((sections : List SpelledSection) × Spells text header sections)) }
-{}
-
-/// A prefix of a spelled list within the limit is spelled too, so that it has no fault, or it ends
-/// early.
-pub fn a_cut_ends_early()
-    ensures { (text prefix more : List ℕ) (header : Header) (sections : List SpelledSection)
-        → IsBytes text → Spells text header sections → length text ≤ limit
-        → text ≡ prefix ++ more
-        → IsFirstFault prefix None ⊎ IsFirstFault prefix (Some EndsEarly) }
-{}
-
-/// A text is the spelling of at most one header and one list of sections.
-pub fn one_spelling()
-    ensures { (text : List ℕ) (header other : Header) (sections others : List SpelledSection)
-        → Spells text header sections → Spells text other others
-        → (header ≡ other) × (sections ≡ others) }
-{}
+ghost use Rattle.krl_format.specs.Front.{State, IsFront};
 
 /// The entries of the fields of a front have at most four intervals of serial numbers for each byte
 /// of the front, summed over the authorities. If a bitmap is read in part, the bits that were read
@@ -72,10 +14,4 @@ pub fn four_intervals_a_byte()
         (r : Revocations)
         → IsBytes text → IsFront text fields state rest → Means r state.entries
         → held r ≤ 4 * length (concat fields) }
-{}
-
-/// The bytes of a bitmap have the same number by the definition of `serial_set` as by that of the
-/// wire format.
-pub fn one_number_of_a_bitmap()
-    ensures { (bytes : List ℕ) → big_endian bytes ≡ number_of bytes }
 {}

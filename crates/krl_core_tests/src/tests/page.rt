@@ -1,9 +1,10 @@
-//! The callers of the pages of `krl_entries`, `krl_core`, `krl_queries`, `krl_types`,
+//! The callers of the pages of `krl_entries`, `krl_format`, `krl_core`, `krl_queries`, `krl_types`,
 //! `krl_authority` and `krl_writer`.
 
 use byte_streams::FromRead;
 use krl_authority::authorities_are_keys;
 use krl_core::{Header, Revocations, Walk, read_krl};
+use krl_format::Place;
 use krl_queries::Questions;
 use krl_types::KrlFault;
 use krl_writer::{TextFault, krl_text};
@@ -62,6 +63,18 @@ fn is_revoked_in(alloc: Global, list: &[u8], asked: &Subject) -> Result<bool, Kr
     let (read, _reader) = Walk::over(alloc, questions, FromRead::new(list)).read_on();
     let (_header, questions) = read?;
     Ok(questions.answer(asked))
+}
+
+/// Whether bytes begin as a list does: with the magic.
+fn begins_as_list(bytes: &[u8]) -> bool {
+    Place::start().passes(bytes).is_some()
+}
+
+#[test]
+fn a_list_begins_with_the_magic(rt: HostRuntime) {
+    assert!(rt; begins_as_list(&HEADER));
+    assert!(rt; !begins_as_list(&HEADER[1..]));
+    assert!(rt; !begins_as_list(&HEADER[..7]));
 }
 
 /// Whether a list may be good all the same: its reader failed, or memory ran out.

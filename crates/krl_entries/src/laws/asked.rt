@@ -3,7 +3,7 @@
 ghost use Rattle.std.specs.Prelude.{◌≡◌, ◌↔◌, IsTrue, List};
 ghost use Rattle.krl_types.specs.Subject.{Subject};
 ghost use Rattle.krl_entries.specs.Revocations.{Revocations, Means};
-ghost use Rattle.krl_entries.specs.Entry.{Entry};
+ghost use Rattle.krl_types.specs.Entry.{Entry};
 ghost use Rattle.krl_entries.specs.Reasons.{IsReason, any_reason, has_reason, is_revoked};
 ghost use Rattle.krl_entries.specs.Reasons.{reasons_of, revokes};
 ghost use Rattle.krl_entries.specs.Revoked.{Revoked};

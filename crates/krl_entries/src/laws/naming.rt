@@ -2,8 +2,8 @@
 
 ghost use Rattle.std.specs.Prelude.{◌≡◌, List};
 ghost use Rattle.krl_entries.specs.Revocations.{Revocations, Means};
-ghost use Rattle.krl_entries.specs.Entry.{Entry};
-ghost use Rattle.krl_entries.specs.Naming.{NamesSame};
+ghost use Rattle.krl_types.specs.Entry.{Entry};
+ghost use Rattle.krl_types.specs.Naming.{NamesSame};
 
 /// Revocations mean any other list of entries that names the same.
 pub fn naming_decides_meaning()

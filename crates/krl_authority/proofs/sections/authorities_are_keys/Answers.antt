@@ -1,7 +1,7 @@
 -- One section after another.
 use Rattle.std.proofs.Common.{refl, sym, subst, ◌∙◌}
 use Rattle.std.proofs.lemmas.Bool.{false≢true}
-use Rattle.krl_core.specs.Krl.{SpellsEach, SpellsSection}
+use Rattle.krl_format.specs.Krl.{SpellsEach, SpellsSection}
 use Rattle.krl_authority.proofs.Spelled.{ends, goes_on, refuses}
 use Rattle.krl_authority.proofs.sections.authorities_are_keys.Goals as goal
 

@@ -1,6 +1,6 @@
 use Rattle.std.proofs.Common.{List, length}
-use Rattle.krl_core.specs.Krl.{SpelledSection, Spells}
-use Rattle.krl_core.specs.declared.header.Header.{Header}
+use Rattle.krl_format.specs.Krl.{SpelledSection, Spells}
+use Rattle.krl_format.specs.declared.header.Header.{Header}
 use Rattle.krl_authority.proofs.Spelled.{Remains}
 use Rattle.krl_authority.proofs.sections.authorities_are_keys.Given as goal
 

@@ -1,7 +1,7 @@
 use Rattle.std.proofs.Common.{List, length}
-use Rattle.krl_core.specs.Krl.{SpelledSection, Spells}
-use Rattle.krl_core.specs.declared.header.Header.{Header}
-use Rattle.krl_core.proofs.TableRows.{fields_at}
+use Rattle.krl_format.specs.Krl.{SpelledSection, Spells}
+use Rattle.krl_format.specs.declared.header.Header.{Header}
+use Rattle.krl_format.proofs.TableRows.{fields_at}
 use Rattle.krl_authority.proofs.Spelled.{Leaves}
 use Rattle.krl_authority.proofs.sections.past_header.Given as goal
 

@@ -4,7 +4,7 @@ use Rattle.std.specs.Prelude.{slice_index}
 use Rattle.ssh_wire.specs.Rows.{BeginsWithPart}
 use Rattle.ssh_wire.specs.Wire.{number}
 use Rattle.ssh_wire.proofs.Fields.{length-number}
-use Rattle.krl_core.specs.Field.{part_of}
+use Rattle.krl_format.specs.Field.{part_of}
 use Rattle.krl_authority.proofs.sections.skips_part.Goals as goal
 
 pub returns-in-Number : goal.returns-in-Number

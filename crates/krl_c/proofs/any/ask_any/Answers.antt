@@ -1,7 +1,7 @@
 -- The list has the magic, or it is a plain list.
 use Rattle.std.proofs.Common.{◌≡◌, rules, sym, nat_eq, true, false, w32, SFits}
 use Rattle.std.specs.List.{starts_with}
-use Rattle.krl_core.specs.Krl.{magic}
+use Rattle.krl_format.specs.Krl.{magic}
 use Rattle.krl_c.proofs.AnswerMeaning.{same}
 use Rattle.krl_c.proofs.any.ask_any.Goals as goal
 

@@ -1,7 +1,7 @@
 -- A list that is a plain list has one reading of its lines.
 use Rattle.krl_c.proofs.Common.{nat_eq, subject_of}
 use Rattle.std.specs.List.{starts_with}
-use Rattle.krl_core.specs.Krl.{magic}
+use Rattle.krl_format.specs.Krl.{magic}
 use Rattle.krl_c.proofs.OneAnswer.{blob_once}
 use Rattle.krl_c.proofs.OnePlainAnswer.{any_once}
 use Rattle.krl_c.proofs.laws.one_answer_of_any_list.Goals as goal

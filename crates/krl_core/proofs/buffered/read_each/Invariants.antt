@@ -1,5 +1,5 @@
 use Rattle.krl_core.proofs.Common.{◌*◌, ◌+◌, ◌-◌, length, Ok, ReadsSome}
-use Rattle.krl_core.proofs.LongestFronts.{weight}
+use Rattle.krl_format.proofs.LongestFronts.{weight}
 use Rattle.krl_core.proofs.buffered.read_each.Given as goal
 
 -- the fields so far were read

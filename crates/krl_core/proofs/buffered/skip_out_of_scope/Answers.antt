@@ -1,10 +1,10 @@
 use Rattle.std.proofs.Common.{◌≡◌, ◌∙◌, ap, arith}
-use Rattle.krl_core.specs.declared.place.bitmap.BitmapPlace.{BitmapPlace}
-use Rattle.krl_core.specs.declared.place.serials.SerialsPlace.{SerialsPlace}
+use Rattle.krl_format.specs.declared.place.bitmap.BitmapPlace.{BitmapPlace}
+use Rattle.krl_format.specs.declared.place.serials.SerialsPlace.{SerialsPlace}
 use Rattle.krl_core.proofs.OutOfScopeFields.{bits_buffered, serials_buffered}
-use Rattle.krl_core.specs.declared.place.Place.TheVariants as places
-use Rattle.krl_core.specs.declared.place.bitmap.BitmapPlace.TheVariants as bitmaps
-use Rattle.krl_core.specs.declared.place.serials.SerialsPlace.TheVariants as serials
+use Rattle.krl_format.specs.declared.place.Place.TheVariants as places
+use Rattle.krl_format.specs.declared.place.bitmap.BitmapPlace.TheVariants as bitmaps
+use Rattle.krl_format.specs.declared.place.serials.SerialsPlace.TheVariants as serials
 use Rattle.krl_core.proofs.buffered.skip_out_of_scope.Goals as goal
 
 pub returns-else-count-eq0 : goal.returns-else-count-eq0

@@ -2,7 +2,7 @@
 use Rattle.std.proofs.Common.{[], refl}
 use Rattle.krl_core.proofs.Lists.{list_of_all}
 use Rattle.krl_core.proofs.WholeLists.{of_all}
-use Rattle.krl_core.proofs.SpelledLists.{only_ran_out}
+use Rattle.krl_format.proofs.SpelledLists.{only_ran_out}
 use Rattle.krl_core.proofs.read.read_krl.Goals as goal
 
 pub returns-in-Ok-clause-found : goal.returns-in-Ok-clause-found

@@ -1,5 +1,5 @@
 use Rattle.krl_core.proofs.Common.{err_from_is_err_and, false≢true, working}
-use Rattle.krl_core.proofs.FixedFields.{late_where_large}
+use Rattle.krl_format.proofs.FixedFields.{late_where_large}
 use Rattle.krl_core.proofs.BufferedFields.{one_more}
 use Rattle.krl_core.proofs.Steps.{end_refused, missed_says, refused_says, bounded_more}
 use Rattle.krl_core.proofs.reading.read_field.Goals as goal

@@ -1,6 +1,6 @@
 -- Some fields are left, and the first difference is in them.
 use Rattle.std.proofs.Common.{◌+◌, ◌*◌, ℕ, List, length}
-use Rattle.krl_core.proofs.LongestFronts.{weight}
+use Rattle.krl_format.proofs.LongestFronts.{weight}
 use Rattle.krl_openssh.specs.Fields.{HasFields}
 use Rattle.krl_openssh.proofs.Rows.{Remains}
 use Rattle.krl_openssh.proofs.first.first_difference.Given as goal

@@ -1,6 +1,6 @@
 -- A text has one list of entries, because it has one spelling and one first fault.
 use Rattle.krl_runs.proofs.Common.{◌∙◌, ◌≡◌, ap, entries_of, HasEntries, List, sym, ℕ}
-use Rattle.krl_entries.specs.Entry.{Entry}
+use Rattle.krl_types.specs.Entry.{Entry}
 use Rattle.krl_runs.proofs.OneReading.{one_way}
 use Rattle.krl_runs.proofs.laws.one_asked_reading.Goals as goal
 

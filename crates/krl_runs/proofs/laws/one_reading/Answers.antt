@@ -1,7 +1,7 @@
 -- A text has one reading, because it has one spelling and one first fault.
 use Rattle.krl_runs.proofs.Common.{◌∙◌, ◌≡◌, ap, entries_of, Header, IsHeld, Known, List, Means}
 use Rattle.krl_runs.proofs.Common.{Revocations, subst, sym, ℕ}
-use Rattle.krl_core.specs.Krl.{SpelledSection}
+use Rattle.krl_format.specs.Krl.{SpelledSection}
 use Rattle.krl_runs.proofs.OneReading.{one_way}
 use Rattle.krl_runs.proofs.laws.one_reading.Goals as goal
 

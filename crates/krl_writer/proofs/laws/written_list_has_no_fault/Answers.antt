@@ -1,5 +1,5 @@
 use Rattle.krl_writer.proofs.ReadBack.{written_spelled}
-use Rattle.krl_core.proofs.SpelledLists.{only_broken_off, spelled_unfaulted}
+use Rattle.krl_format.proofs.SpelledLists.{only_broken_off, spelled_unfaulted}
 use Rattle.krl_writer.proofs.laws.written_list_has_no_fault.Goals as goal
 
 pub returns-clause-unfaulted : goal.returns-clause-unfaulted

@@ -4,7 +4,7 @@ use Rattle.krl_core.proofs.Common.{refl}
 use Rattle.std.proofs.lemmas.List.Concat.{flat_map-append}
 use Rattle.std.proofs.lemmas.Result.{on_err_weaker}
 use Rattle.krl_entries.specs.Canonical.{section_entries}
-use Rattle.krl_entries.specs.Entry.{KeyEntry, Sha1Entry, Sha256Entry}
+use Rattle.krl_types.specs.Entry.{KeyEntry, Sha1Entry, Sha256Entry}
 use Rattle.krl_core.proofs.GainedEntries.{err_says, gained_all, gained_more, gained_none}
 use Rattle.krl_core.proofs.GainedEntries.{gained_some, gains_then}
 use Rattle.krl_core.proofs.field_store.FieldStore.add_all.Goals as goal

@@ -1,10 +1,10 @@
 use Rattle.krl_core.proofs.Common.{◌∙◌, ◌≡◌, ap, arith, InStep, length, on_ok_weaker, Place, subst}
-use Rattle.krl_core.specs.declared.place.bitmap.BitmapPlace.{BitmapPlace}
+use Rattle.krl_format.specs.declared.place.bitmap.BitmapPlace.{BitmapPlace}
 use Rattle.krl_core.proofs.Bits.{good_bits, stores_bits}
 use Rattle.krl_core.proofs.StoredEntries.{grows_more, grows_one}
-use Rattle.krl_core.specs.declared.place.Place.TheVariants as places
-use Rattle.krl_core.specs.declared.place.bitmap.BitmapPlace.TheVariants as bitmaps
-use Rattle.krl_core.specs.declared.place.serials.SerialsPlace.TheVariants as serials
+use Rattle.krl_format.specs.declared.place.Place.TheVariants as places
+use Rattle.krl_format.specs.declared.place.bitmap.BitmapPlace.TheVariants as bitmaps
+use Rattle.krl_format.specs.declared.place.serials.SerialsPlace.TheVariants as serials
 use Rattle.krl_core.proofs.field_store.FieldStore.store_field.Goals as goal
 
 pub returns-in-Content-Comment-default-default-default-clause-grows : goal.returns-in-Content-Comment-default-default-default-clause-grows

@@ -1,5 +1,0 @@
-use Rattle.krl_core.proofs.FixedFields.{fixed_room}
-use Rattle.krl_core.proofs.laws.lists.first_fields_have_forty_bytes.Goals as goal
-
-pub returns : goal.returns
-returns c = fixed_room

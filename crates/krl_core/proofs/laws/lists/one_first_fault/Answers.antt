@@ -1,5 +1,0 @@
-use Rattle.krl_core.proofs.Fronts.{one_reported}
-use Rattle.krl_core.proofs.laws.lists.one_first_fault.Goals as goal
-
-pub returns : goal.returns
-returns c = one_reported

@@ -1,7 +1,0 @@
-use Rattle.krl_entries.proofs.Common.{◌∙◌, ap, number_of, sym, ℕ}
-use Rattle.byteorder.specs.Endian.{big_number}
-use Rattle.krl_entries.proofs.field.u64_of.Goals as goal
-
-pub returns : goal.returns
-unfolding number_of
-returns c = c.read_u64.ensures ∙ ap (λ (n : ℕ). big_number n c.args.field.now) (sym c.requires)

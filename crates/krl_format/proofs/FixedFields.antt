@@ -1,0 +1,83 @@
+-- The first fields of a list, whose sizes depend on no length.
+use Rattle.krl_format.proofs.Common.{[], ◌+◌, ◌-◌, ◌<◌, ◌∷◌, ◌≡◌, ◌≤◌, ap, arith, concat, expected}
+use Rattle.krl_format.proofs.Common.{false, Field, fields_after, HasFixedFields, is_fixed, Leads}
+use Rattle.krl_format.proofs.Common.{length, length-append, List, None, Number, number_of, Ok, Option}
+use Rattle.krl_format.proofs.Common.{Passes, Place, refl, row_of, Some, start, State, state_after}
+use Rattle.krl_format.proofs.Common.{subst, Table, unless_ok, ℕ}
+use Rattle.ssh_wire.specs.Rows.{Part}
+use Rattle.krl_format.specs.Place.{part_judged, part_size, place_after, place_in}
+use Rattle.krl_format.specs.FixedFields.{is_header}
+use Rattle.krl_format.proofs.TableRows.{after_is, fields_at, same_table, table_at}
+use Rattle.krl_format.specs.declared.place.field.Table.TheVariants as tables
+use Rattle.krl_format.specs.declared.place.Place.TheVariants as places
+use Rattle.krl_format.specs.declared.place.field.Field.TheVariants as fields
+
+-- a large field is not one of the first
+pub late_where_large : (p : Place) → 32 < (expected p).size → is_fixed p ≡ false
+late_where_large (places.Field fields.FormatVersion left after) large = absurd (omega arith)
+late_where_large (places.Field field left after) large = absurd (omega arith)
+late_where_large _ large = refl
+
+-- how many bytes the numbers have at the front of a table, with the length of the first string
+abbrev fixed_size : Part → ℕ → ℕ
+fixed_size (Number size) more = size + more
+fixed_size part more = 4
+
+abbrev fixed_sizes : List Field → ℕ
+fixed_sizes [] = 0
+fixed_sizes (field ∷ fields) = fixed_size (row_of field).step.part (fixed_sizes fields)
+
+abbrev in_header : Table → ℕ → ℕ
+in_header tables.Header size = size
+in_header _ size = 0
+
+-- how many bytes the first fields have from a place on
+abbrev pub fixed_left : Place → ℕ
+fixed_left (places.Field field left after) = in_header (row_of field).table (fixed_sizes (fields_at (Some field)))
+fixed_left _ = 0
+
+none_in : (table : Table) (size : ℕ) → is_header table ≡ false → in_header table size ≡ 0
+none_in tables.Header size past = absurd (cc)
+none_in _ size past = refl
+
+none_left : (p : Place) → is_fixed p ≡ false → fixed_left p ≡ 0
+none_left (places.Field field left after) past = none_in (row_of field).table _ past
+none_left _ past = refl
+
+in_header_within : (table : Table) (size : ℕ) → in_header table size ≤ size
+in_header_within tables.Header size = omega arith
+in_header_within _ size = omega arith
+
+in_header_at_most : (table : Table) (size more : ℕ) → in_header table (size + more) ≤ size + in_header table more
+in_header_at_most tables.Header size more = omega arith
+in_header_at_most _ size more = omega arith
+
+left_at : (table : Table) (next : Option Field) (left after : ℕ) → table_at table next ≡ table → in_header table (fixed_sizes (fields_at next)) ≤ fixed_left (place_in table next left after)
+left_at tables.Header None left after same = omega arith
+left_at _ None left after same = omega arith
+left_at table (Some field) left after same =
+    subst (λ (t : Table). in_header t (fixed_sizes (fields_at (Some field))) ≤ fixed_left (places.Field field left after)) same (omega arith)
+
+part_left : (f : Field) (part : Part) (left after : ℕ) (next : Place) (field : List ℕ) → length field ≡ part_size part → part_judged f part left after field ≡ Ok next
+    → in_header (row_of f).table (fixed_size part (fixed_sizes (fields_after f))) ≤ length field + fixed_left next
+part_left f (Number size) left after next field whole judged =
+    let table = (row_of f).table in
+    let w = unless_ok ((row_of f).step.judged [] (number_of field ∷ [])) (place_after f (left - size) after) next judged in
+    let others = rw (← after_is f, w.1) at (left_at table (row_of f).next (left - size) after (same_table f)) in
+    omega (arith, whole, in_header_at_most table size (fixed_sizes (fields_after f)), others)
+part_left f part left after next field whole judged = omega (arith, whole, in_header_within (row_of f).table 4)
+
+field_left : (p next : Place) (field : List ℕ) → Passes p field next → fixed_left p ≤ length field + fixed_left next
+field_left (places.Field f left after) next field passes = part_left f (row_of f).step.part left after next field passes.whole passes.judged
+field_left _ next field passes = omega arith
+
+fields_left : (from last : State) (fields : List (List ℕ)) → Leads from fields last → is_fixed last.place ≡ false → fixed_left from.place ≤ length (concat fields)
+fields_left from last [] leads past =
+    omega (arith, ap (λ (state : State). fixed_left state.place) leads, none_left last.place past)
+fields_left from last (field ∷ fields) leads past =
+    omega (arith, field_left from.place leads.0 field leads.1.0, fields_left (state_after from field leads.0) last fields leads.1.1 past, length-append field (concat fields))
+
+-- The first fields have 40 bytes together.
+pub fixed_room : (text : List ℕ) → HasFixedFields text → 40 ≤ length text
+fixed_room text has =
+    omega (arith, fields_left start has.state has.fields has.leads has.past, ap length has.parts, length-append (concat has.fields) has.rest)

@@ -1,0 +1,176 @@
+//! The place after a field of a list, or why the field is refused.
+
+ghost use Rattle.std.specs.Prelude.{◌≡◌, ◌-◌, ◌<◌, ◌≤◌};
+ghost use Rattle.krl_format.specs.Place.{judge as judged_by, within as within_of, base_of};
+ghost use Rattle.krl_format.specs.Place.{bits_judged as bits_judged_of, passes_end as passes_end_of};
+ghost use Rattle.krl_format.specs.Place.{next_bits as bits_after};
+ghost use Rattle.krl_format.specs.Place.{next_item as item_after, next_serial as serial_after};
+ghost use Rattle.krl_format.specs.Place.{next_subsection as subsection_after};
+ghost use Rattle.krl_format.specs.Place.{section_of_type as section_of};
+ghost use Rattle.krl_format.specs.Place.{subsection_of_type as subsection_of};
+ghost use Rattle.krl_format.specs.declared.place.Place.TheVariants as places;
+
+use crate::place::{
+    BitmapPlace, CertificatesPlace, ExtensionPlace, Field, ItemKind, ListPlace, Place, SerialsPlace,
+};
+use krl_types::KrlFault;
+
+// The place of the first field of a table that is not inside a part.
+pub(crate) fn first_field(field: Field) -> Place
+    ensures { result ≡ places.Field field 0 0 }
+{
+    Place::Field {
+        field,
+        left: 0,
+        after: 0,
+    }
+}
+
+// The next place if a field is good, and otherwise the fault.
+pub(crate) fn judge(good: bool, fault: KrlFault, next: Place) -> Result<Place, KrlFault>
+    ensures { result ≡ judged_by good fault next }
+{
+    if good { Ok(next) } else { Err(fault) }
+}
+
+// The place after a length, unless it counts more bytes than are left after it.
+pub(crate) fn within(left: u32, size: u32, next: Result<Place, KrlFault>) -> Result<Place, KrlFault>
+    requires { 4 ≤ left }
+    ensures { result ≡ within_of left (λ _. next) size }
+{
+    if size > left - 4 {
+        Err(KrlFault::Length)
+    } else {
+        next
+    }
+}
+
+// The number of bytes that are left after a length and the bytes that it counts.
+pub(crate) fn rest(left: u32, size: u32) -> u32
+    ensures { result ≡ left - 4 - size }
+{
+    left.saturating_sub(4).saturating_sub(size)
+}
+
+// The place of the next subsection, or of the next section if no bytes are left.
+pub(crate) fn next_subsection(left: u32) -> Place
+    ensures { result ≡ subsection_after left }
+{
+    if left == 0 {
+        Place::SectionType { signed: false }
+    } else {
+        Place::Certificates(CertificatesPlace::SubsectionType { left })
+    }
+}
+
+// The place of the next item of a list, or the place after the list if no bytes are left.
+pub(crate) fn next_item(kind: ItemKind, left: u32, after: u32) -> Place
+    ensures { result ≡ item_after kind left after }
+{
+    if left == 0 {
+        next_subsection(after)
+    } else {
+        Place::List(ListPlace::ItemLength { kind, left, after })
+    }
+}
+
+/// The place of the next serial number, or the place after the subsection if no bytes are left.
+pub fn next_serial(left: u32, after: u32) -> Place
+    ensures { result ≡ serial_after left after }
+{
+    if left == 0 {
+        next_subsection(after)
+    } else {
+        Place::Serials(SerialsPlace::Serial { left, after })
+    }
+}
+
+/// The place of the next byte of a bitmap, or the place after the subsection if none is left.
+pub fn next_bits(offset: u64, size: u32, left: u32, after: u32) -> Place
+    ensures { result ≡ bits_after offset size left after }
+{
+    if left == 0 {
+        next_subsection(after)
+    } else {
+        Place::Bitmap(BitmapPlace::Byte {
+            offset,
+            size,
+            left,
+            after,
+        })
+    }
+}
+
+// The first place in the content of a section of this type.
+pub(crate) fn section_of_type(signed: bool, type_byte: u8) -> Result<Place, KrlFault>
+    ensures { result ≡ section_of signed type_byte }
+{
+    if signed {
+        return match type_byte {
+            4 => Ok(first_field(Field::SignatureKey)),
+            _ => Err(KrlFault::AfterSignature),
+        };
+    }
+    match type_byte {
+        1 => Ok(Place::Certificates(CertificatesPlace::SectionLength)),
+        2 => Ok(Place::List(ListPlace::SectionLength {
+            kind: ItemKind::Key,
+        })),
+        3 => Ok(Place::List(ListPlace::SectionLength {
+            kind: ItemKind::Sha1,
+        })),
+        4 => Ok(first_field(Field::SignatureKey)),
+        5 => Ok(Place::List(ListPlace::SectionLength {
+            kind: ItemKind::Sha256,
+        })),
+        255 => Ok(Place::Extension(ExtensionPlace::SectionLength)),
+        _ => Err(KrlFault::UnknownSection),
+    }
+}
+
+// The first place in the content of a subsection of this type.
+pub(crate) fn subsection_of_type(left: u32, type_byte: u8) -> Result<Place, KrlFault>
+    ensures { result ≡ subsection_of left type_byte }
+{
+    match type_byte {
+        0x20 => Ok(Place::Serials(SerialsPlace::SerialsLength { left })),
+        0x21 => Ok(Place::Serials(SerialsPlace::RangeLength { left })),
+        0x22 => Ok(Place::Bitmap(BitmapPlace::Length { left })),
+        0x23 => Ok(Place::List(ListPlace::IdsLength { left })),
+        0x39 => Ok(Place::Extension(ExtensionPlace::SubsectionLength { left })),
+        _ => Err(KrlFault::UnknownCertSection),
+    }
+}
+
+// Judges a byte of a bitmap. The bitmap has `left` of its `size` bytes left, with this one.
+#[inline(always)]
+pub(crate) fn bits_judged(
+    offset: u64,
+    size: u32,
+    left: u32,
+    after: u32,
+    byte: u8,
+) -> Result<Place, KrlFault>
+    ensures { result ≡ bits_judged_of offset size left after byte }
+{
+    if left == size && byte >= 128 {
+        return Err(KrlFault::BitmapNegative);
+    }
+    if passes_end(offset, left, byte) {
+        return Err(KrlFault::BitmapWraps);
+    }
+    Ok(next_bits(offset, size, left.saturating_sub(1), after))
+}
+
+// Whether a set bit of the byte is the bit of a number past 2^64-1. The byte is the first of the
+// last `left` bytes of a bitmap.
+#[inline(always)]
+pub(crate) fn passes_end(offset: u64, left: u32, byte: u8) -> bool
+    ensures { result ≡ passes_end_of (base_of offset left) byte }
+{
+    if byte == 0 {
+        return false;
+    }
+    let highest = 8 * u64::from(left.saturating_sub(1)) + u64::from(7 - byte.leading_zeros());
+    highest > u64::MAX - offset
+}

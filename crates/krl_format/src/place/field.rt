@@ -1,0 +1,194 @@
+//! The fields of the tables in a list, and the place after each.
+
+ghost use Rattle.std.specs.Prelude.{◌≡◌, ◌≤◌, ◌∷◌, [], IfSome, length};
+ghost use Rattle.ssh_wire.specs.Wire.{number_of};
+ghost use Rattle.krl_format.specs.Field.{part_of, row_of};
+ghost use Rattle.krl_format.specs.Front.{HasRoom};
+ghost use Rattle.krl_format.specs.Place.{length_judged, part_size, place_after, room_of};
+ghost use Rattle.krl_format.specs.Place.{row_expected};
+ghost use Rattle.krl_format.specs.FixedFields.{is_header};
+
+use crate::header::MAGIC_NUMBER;
+use crate::judging::{judge, next_subsection, rest, within};
+use crate::place::Place;
+use krl_types::{KrlFault, byte_of, u32_of, u64_of};
+
+/// A table of fields. Only an extension is inside a part that has a length.
+#[derive(Clone, Copy)]
+pub enum Table {
+    Header,
+    Signature,
+    Extension,
+}
+
+/// A field of a table.
+#[derive(Clone, Copy)]
+pub enum Field {
+    Magic,
+    FormatVersion,
+    Version,
+    Date,
+    Flags,
+    Reserved,
+    Comment,
+    SignatureKey,
+    SignatureBytes,
+    ExtensionName,
+    Critical,
+    ExtensionContents,
+}
+
+/// A field is a number of this many bytes, or a string.
+#[derive(Clone, Copy)]
+pub enum FieldPart {
+    Number(u32),
+    Text,
+}
+
+impl FieldPart {
+    // The size in bytes of the number, or of the string's length.
+    #[inline(always)]
+    fn size(self) -> u32
+        ensures { result ≡ part_size (part_of self) }
+    {
+        match self {
+            FieldPart::Number(size) => size,
+            FieldPart::Text => 4,
+        }
+    }
+}
+
+impl Field {
+    /// The row of the field: its table, its part, and the next field of the table.
+    #[inline(always)]
+    pub fn row(self) -> (Table, FieldPart, Option<Field>)
+        ensures table { result.0 ≡ (row_of self).table }
+        ensures part { part_of result.1 ≡ (row_of self).step.part }
+        ensures next { result.2 ≡ (row_of self).next }
+    {
+        use FieldPart::{Number, Text};
+        use Table::{Extension, Header, Signature};
+        match self {
+            Field::Magic => (Header, Number(8), Some(Field::FormatVersion)),
+            Field::FormatVersion => (Header, Number(4), Some(Field::Version)),
+            Field::Version => (Header, Number(8), Some(Field::Date)),
+            Field::Date => (Header, Number(8), Some(Field::Flags)),
+            Field::Flags => (Header, Number(8), Some(Field::Reserved)),
+            Field::Reserved => (Header, Text, Some(Field::Comment)),
+            Field::Comment => (Header, Text, None),
+            Field::SignatureKey => (Signature, Text, Some(Field::SignatureBytes)),
+            Field::SignatureBytes => (Signature, Text, None),
+            Field::ExtensionName => (Extension, Text, Some(Field::Critical)),
+            Field::Critical => (Extension, Number(1), Some(Field::ExtensionContents)),
+            Field::ExtensionContents => (Extension, Text, None),
+        }
+    }
+
+    // Whether the field is one of the header.
+    pub(super) fn is_in_header(self) -> bool
+        ensures { result ≡ is_header (row_of self).table }
+    {
+        match self.row().0 {
+            Table::Header => true,
+            _ => false,
+        }
+    }
+
+    // Returns the size of the expected number or length, and the bytes that are left for it.
+    #[inline(always)]
+    pub(super) fn size_and_room(self, left: u32) -> (u32, Option<u32>)
+        ensures size { result.0 ≡ part_size (row_of self).step.part }
+        ensures room { result.1 ≡ room_of (row_of self).table left }
+    {
+        let (table, part, _) = self.row();
+        match table {
+            Table::Extension => (part.size(), Some(left)),
+            _ => (part.size(), None),
+        }
+    }
+
+    // The place after the field.
+    #[inline(always)]
+    pub(super) fn place_after(self, left: u32, after: u32) -> Place
+        ensures { result ≡ place_after self left after }
+    {
+        let (table, _, next) = self.row();
+        if let Some(field) = next {
+            return Place::Field { field, left, after };
+        }
+        match table {
+            Table::Header => Place::SectionType { signed: false },
+            Table::Signature => Place::SectionType { signed: true },
+            Table::Extension => next_subsection(after),
+        }
+    }
+
+    // Judges a number, or the length of a string.
+    #[inline(always)]
+    pub(super) fn after(self, left: u32, after: u32, field: &[u8]) -> Result<Place, KrlFault>
+        requires whole { length field.now ≡ (row_expected self left after).size }
+        requires room { HasRoom (row_expected self left after) }
+        ensures { result ≡ (row_expected self left after).judged field.now }
+    {
+        match self.row().1 {
+            FieldPart::Number(size) => match self.fault(field) {
+                None => Ok(self.place_after(left.saturating_sub(size), after)),
+                Some(fault) => Err(fault),
+            },
+            FieldPart::Text => self.after_length(left, after, u32_of(field)),
+        }
+    }
+
+    // The fault of a number, if it has one.
+    #[inline(always)]
+    fn fault(self, number: &[u8]) -> Option<KrlFault>
+        requires { length number.now ≡ part_size (row_of self).step.part }
+        ensures { result ≡ (row_of self).step.judged [] (number_of number.now ∷ []) }
+    {
+        match self {
+            Field::Magic if u64_of(number) != MAGIC_NUMBER => Some(KrlFault::Magic),
+            Field::FormatVersion if u32_of(number) != 1 => Some(KrlFault::FormatVersion),
+            Field::Critical if byte_of(number) != 0 => Some(KrlFault::CriticalExtension),
+            _ => None,
+        }
+    }
+
+    // Judges the length of a string. The last string of an extension fills it.
+    #[inline(always)]
+    fn after_length(self, left: u32, after: u32, size: u32) -> Result<Place, KrlFault>
+        requires { IfSome (room_of (row_of self).table left) (λ room. 4 ≤ room) }
+        ensures { result
+            ≡ length_judged self (row_of self).table (row_of self).next left after size }
+    {
+        let (table, _, next) = self.row();
+        let (field, inner) = (self, rest(left, size));
+        match (table, next) {
+            (Table::Extension, Some(_)) => within(
+                left,
+                size,
+                Ok(Place::Content {
+                    field,
+                    size,
+                    left: inner,
+                    after,
+                }),
+            ),
+            (Table::Extension, None) => judge(
+                size == left - 4,
+                KrlFault::Length,
+                Place::Content {
+                    field,
+                    size,
+                    left: 0,
+                    after,
+                },
+            ),
+            _ => Ok(Place::Content {
+                field,
+                size,
+                left,
+                after,
+            }),
+        }
+    }
+}

@@ -1,0 +1,7 @@
+use Rattle.krl_types.proofs.Common.{◌∙◌, ap, number_of, sym, ℕ}
+use Rattle.byteorder.specs.Endian.{big_number}
+use Rattle.krl_types.proofs.field.u32_of.Goals as goal
+
+pub returns : goal.returns
+unfolding number_of
+returns c = c.read_u32.ensures ∙ ap (λ (n : ℕ). big_number n c.args.field.now) (sym c.requires)
