@@ -4,19 +4,17 @@
 ghost use Rattle.std.specs.Prelude.{◌≡◌, ◌++◌, OnOk, replicate};
 ghost use Rattle.audit_tree.specs.Progress.{progress_text, wipe_text};
 
-use crate::summary::{Summary, push_inputs, push_unread};
-use key_listing::push_number;
+use crate::summary::{Summary, push_inputs};
+use line_pieces::put;
 use std::alloc::AllocError;
 
 /// Appends what shows how far an audit is, from the start of the line.
 pub fn push_progress(summary: &Summary, text: &mut Vec<u8>) -> Result<(), AllocError>
     ensures { OnOk result (text.new.items ≡ text.old.items ++ progress_text summary.now) }
 {
-    text.push(b'\r')?;
+    put!(text; b"\r")?;
     push_inputs(summary, text)?;
-    push_number(summary.counts.revoked, text)?;
-    text.extend_from_slice(b" revoked, ")?;
-    push_unread(summary, text)
+    put!(text; summary.counts.revoked, b" revoked, ", summary.counts.unread, b" unread")
 }
 
 /// Appends what wipes a line of this many characters.

@@ -1,11 +1,11 @@
 //! Where and why a run stopped, and the line that reports it.
 
-ghost use Rattle.std.specs.Prelude.{◌≡◌, ◌++◌, IfOk, OnOk};
+ghost use Rattle.std.specs.Prelude.{◌≡◌, IfOk};
 ghost use Rattle.key_files.specs.Keys.{run_fault_at};
 ghost use Rattle.key_files.specs.RunFault.{fault_text, line_part, run_fault_of};
 
 use crate::cause::Cause;
-use ssh_cert::push_escaped;
+use line_pieces::{Escaped, Printed, Words, put};
 use std::alloc::{AllocError, Global};
 use std::marker::Model;
 
@@ -56,28 +56,30 @@ impl<'a> RunFault<'a> {
     }
 }
 
+// The number of the line, if there is one.
+#[derive(Clone, Copy)]
+struct LinePart(Option<u64>);
+
+impl Printed for LinePart {
+    ghost text = { λ part. line_part part.0 };
+
+    fn push_to(&self, out: &mut Vec<u8>) -> Result<(), AllocError> {
+        match self.0 {
+            None => Ok(()),
+            Some(number) => put!(out; b"line ", number, b": "),
+        }
+    }
+}
+
 /// The line for standard error, without its line feed: the program, the name with its control bytes
 /// escaped, the line of the file, and the fault. Fails only if an allocation fails.
 #[tactic(auto, unfolding(crate::specs::RunFault::fault_text))]
-pub fn fault_text(alloc: Global, fault: &RunFault) -> Result<Vec<u8>, AllocError>
-    ensures { IfOk result (λ text. text.items ≡ fault_text fault.now) }
+pub fn fault_text(alloc: Global, program: &[u8], fault: &RunFault) -> Result<Vec<u8>, AllocError>
+    ensures { IfOk result (λ text. text.items ≡ fault_text program.now fault.now) }
 {
-    let mut text = Vec::from_slice(alloc, b"ssh-keygen: ")?;
-    push_escaped(&mut text, fault.name.as_bytes())?;
-    text.extend_from_slice(b": ")?;
-    push_line(alloc, &mut text, fault.line)?;
     let cause = fault.cause.to_string(alloc)?;
-    text.extend_from_slice(cause.as_bytes())?;
+    let mut text = Vec::new(alloc);
+    put!(&mut text; Words(program), b": ", Escaped(fault.name.as_bytes()), b": ",
+        LinePart(fault.line), Words(cause.as_bytes()))?;
     Ok(text)
-}
-
-// Appends the number of the line, if there is one.
-fn push_line(alloc: Global, text: &mut Vec<u8>, line: Option<u64>) -> Result<(), AllocError>
-    ensures { OnOk result (text.new.items ≡ text.old.items ++ line_part line) }
-{
-    if let Some(number) = line {
-        let part = format!(in alloc; "line {number}: ")?;
-        text.extend_from_slice(part.as_bytes())?;
-    }
-    Ok(())
 }

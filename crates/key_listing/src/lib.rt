@@ -8,7 +8,6 @@ mod done;
 mod iteration;
 pub mod laws;
 mod listing;
-mod number;
 mod printer;
 mod run;
 
@@ -17,6 +16,5 @@ pub use answers::Answers;
 pub use done::{Done, FAILED};
 pub use iteration::print_files;
 pub use listing::{ListMode, list_run};
-pub use number::push_number;
 pub use printer::Printer;
 pub use run::Run;

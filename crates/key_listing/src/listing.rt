@@ -1,26 +1,26 @@
 //! Listing the keys or the certificates of a file (ssh-keygen(1), options -l and -L).
 
-ghost use Rattle.std.specs.Prelude.{◌≡◌, ◌++◌, IfOk, OnOk, Some, false, ⊤};
+ghost use Rattle.std.specs.Prelude.{◌≡◌, ◌++◌, IfOk, Some, false, ⊤};
 ghost use Rattle.ssh_cert.specs.AnyKey.{asked_of, certificate_in, plain_of};
 ghost use Rattle.ssh_key.specs.Kind.{short_name_of};
 ghost use Rattle.key_listing.specs.Done.{Ends};
 ghost use Rattle.key_listing.specs.Listing.{certificate_answer, certificate_mark, certificate_text};
-ghost use Rattle.key_listing.specs.Listing.{comment_or_none, description, kind_part, list_line};
-ghost use Rattle.key_listing.specs.Listing.{list_run_of, listing, location_part};
+ghost use Rattle.key_listing.specs.Listing.{comment_or_none, description, list_line};
+ghost use Rattle.key_listing.specs.Listing.{list_run_of, listing};
 
 use crate::answer::Answer;
 use crate::answers::Answers;
 use crate::done::Done;
 use crate::iteration::print_file;
-use crate::number::push_number;
 use crate::printer::Printer;
 use crate::run::Run;
 use byte_streams::Sink;
 use cert_listing::list_cert;
 use key_files::{FileFault, FileKey, Named};
 use key_text::{Hash, fingerprint};
-use ssh_cert::{AnyKey, Cert, push_escaped};
-use ssh_key::{PublicKey, plain_blob};
+use line_pieces::{Escaped, Printed, Words, pieces, put};
+use ssh_cert::{AnyKey, Cert};
+use ssh_key::plain_blob;
 use ssh_wire::Bytes;
 use std::alloc::{AllocError, Global};
 
@@ -122,20 +122,9 @@ impl Listing {
     {
         let listing = list_cert(alloc, cert, self.hash, self.moment)?;
         let mut text = Vec::new(alloc);
-        push_location(&mut text, name, number)?;
-        text.extend_from_slice(listing.as_slice())?;
+        put!(&mut text; pieces!(Escaped(name.as_bytes()), b":", number, b":\n"), Words(&listing))?;
         Ok(Bytes::from_vec(text))
     }
-}
-
-// Appends the name of a file and the number of a line, each with a colon, and a line feed.
-fn push_location(text: &mut Vec<u8>, name: &str, number: u64) -> Result<(), AllocError>
-    ensures { OnOk result (text.new.items ≡ text.old.items ++ location_part name.now number) }
-{
-    push_escaped(text, name.as_bytes())?;
-    text.push(b':')?;
-    push_number(number, text)?;
-    text.extend_from_slice(b":\n")
 }
 
 // The suffix of the kind for a certificate.
@@ -148,6 +137,22 @@ fn certificate_mark(any: &AnyKey) -> &'static [u8]
     }
 }
 
+// A comment, or that there is none.
+#[derive(Clone, Copy)]
+struct Comment<'a>(&'a [u8]);
+
+impl<'a> Printed for Comment<'a> {
+    ghost text = { λ comment. comment_or_none comment.0.now };
+
+    fn push_to(&self, out: &mut Vec<u8>) -> Result<(), AllocError> {
+        if self.0.is_empty() {
+            put!(out; b"no comment")
+        } else {
+            put!(out; Escaped(self.0))
+        }
+    }
+}
+
 // The line of a key, with its line feed: its size in bits, fingerprint, comment and kind.
 fn list_line(alloc: Global, any: &AnyKey, print: &[u8], comment: &[u8]) -> Result<Bytes, AllocError>
     ensures { IfOk result (λ text.
@@ -155,36 +160,11 @@ fn list_line(alloc: Global, any: &AnyKey, print: &[u8], comment: &[u8]) -> Resul
         (short_name_of (plain_of any.now).kind ++ certificate_mark (asked_of any.now).cert)) }
 {
     let key = any.plain();
+    let kind = key.short_name().as_bytes();
     let mut text = Vec::new(alloc);
-    push_number(u64::from(key.bits()), &mut text)?;
-    text.push(b' ')?;
-    text.extend_from_slice(print)?;
-    text.push(b' ')?;
-    push_comment(&mut text, comment)?;
-    push_kind(&mut text, key, certificate_mark(any))?;
+    put!(&mut text; u64::from(key.bits()), b" ", Words(print), b" ", Comment(comment), b" (",
+        pieces!(Words(kind), Words(certificate_mark(any))), b")\n")?;
     Ok(Bytes::from_vec(text))
-}
-
-// Appends the kind of a key and a mark, in parentheses, and a line feed.
-fn push_kind(text: &mut Vec<u8>, key: &PublicKey, mark: &[u8]) -> Result<(), AllocError>
-    ensures { OnOk result (text.new.items ≡ text.old.items
-        ++ kind_part (short_name_of key.now.kind ++ mark.now)) }
-{
-    text.extend_from_slice(b" (")?;
-    text.extend_from_slice(key.short_name().as_bytes())?;
-    text.extend_from_slice(mark)?;
-    text.extend_from_slice(b")\n")
-}
-
-// Appends a comment, escaped, or that there is none.
-fn push_comment(text: &mut Vec<u8>, comment: &[u8]) -> Result<(), AllocError>
-    ensures { OnOk result (text.new.items ≡ text.old.items ++ comment_or_none comment.now) }
-{
-    if comment.is_empty() {
-        text.extend_from_slice(b"no comment")
-    } else {
-        push_escaped(text, comment)
-    }
 }
 
 /// Lists each key or each certificate of a file on a writer that has not failed before, with

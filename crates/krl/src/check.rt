@@ -6,11 +6,11 @@ use crate::list::{List, read_list};
 use crate::loading::{open, read};
 use byte_streams::{FromRead, ToWrite};
 use key_files::{Cause, RunFault};
-use key_listing::{Printer, Run, push_number};
+use key_listing::{Printer, Run};
 use krl_arguments::Check;
 use krl_audit::{Form, Shown};
 use krl_checker::{Checker, PlainRefusal, Role};
-use std::alloc::AllocError;
+use line_pieces::put;
 use std::io::Stdout;
 
 /// Checks what the task names. Answers the exit status.
@@ -42,16 +42,9 @@ fn print_version(rt: &HostRuntime, name: &str, version: Option<u64>) -> u8 {
         printer: Printer::new(&mut buffer, &mut out),
         line: Vec::new(rt.alloc()),
     };
-    let made = push_line(version, &mut run.line);
+    let made = put!(&mut run.line; version, b"\n");
     let stop = run.say_line(name, made).err();
     end(rt, &run.printer.finish(stop))
-}
-
-// Appends a number and a line feed.
-fn push_line(number: u64, line: &mut Vec<u8>) -> Result<(), AllocError> {
-    push_number(number, line)?;
-    line.push(b'\n')?;
-    Ok(())
 }
 
 // A list whose version the checked one must not be below.

@@ -4,10 +4,10 @@ ghost use Rattle.std.specs.Prelude.{◌≡◌, ◌⊎◌};
 ghost use Rattle.krl_arguments.specs.Command.{command_fault_status};
 
 use byte_streams::{ToWrite, send};
-use key_files::{Cause, RunFault};
-use key_listing::{Done, FAILED, push_number};
+use key_files::{Cause, RunFault, fault_text};
+use key_listing::{Done, FAILED};
 use krl_arguments::CommandFault;
-use ssh_cert::push_escaped;
+use line_pieces::{Escaped, Words, put};
 use std::alloc::{AllocError, Global};
 
 // The status of a command line that asks for nothing that the program does.
@@ -18,9 +18,10 @@ pub fn end(rt: &HostRuntime, done: &Done) -> u8
     ensures { result ≡ done.now.status }
 {
     if let Some(fault) = &done.fault
-        && let Ok(line) = fault_line(rt.alloc(), fault)
+        && let Ok(line) = fault_text(rt.alloc(), b"krl", fault)
     {
         print_line(rt, line.as_slice());
+        print_line(rt, b"\n");
     }
     done.status
 }
@@ -96,28 +97,9 @@ pub fn print_line(rt: &HostRuntime, line: &[u8]) {
     let _ = send(&mut ToWrite::new(rt.stderr()), line);
 }
 
-// The line that says why a run stopped.
-fn fault_line(alloc: Global, fault: &RunFault) -> Result<Vec<u8>, AllocError> {
-    let mut text = Vec::from_slice(alloc, b"krl: ")?;
-    push_escaped(&mut text, fault.name.as_bytes())?;
-    let cause = fault.cause.to_string(alloc)?;
-    text.extend_from_slice(b": ")?;
-    if let Some(number) = fault.line {
-        text.extend_from_slice(b"line ")?;
-        push_number(number, &mut text)?;
-        text.extend_from_slice(b": ")?;
-    }
-    text.extend_from_slice(cause.as_bytes())?;
-    text.push(b'\n')?;
-    Ok(text)
-}
-
 // The line about a file, in words.
 fn words_line(alloc: Global, name: &str, why: &[u8]) -> Result<Vec<u8>, AllocError> {
-    let mut text = Vec::from_slice(alloc, b"krl: ")?;
-    push_escaped(&mut text, name.as_bytes())?;
-    text.extend_from_slice(b": ")?;
-    text.extend_from_slice(why)?;
-    text.push(b'\n')?;
+    let mut text = Vec::new(alloc);
+    put!(&mut text; b"krl: ", Escaped(name.as_bytes()), b": ", Words(why), b"\n")?;
     Ok(text)
 }

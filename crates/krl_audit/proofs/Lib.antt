@@ -1,4 +1,3 @@
-pub mod Words
 pub mod Judging
 pub mod Telling
 pub mod Surveying

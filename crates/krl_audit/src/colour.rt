@@ -1,58 +1,57 @@
 //! Words in colour, as terminals show them (ECMA-48, SELECT GRAPHIC RENDITION).
 
-ghost use Rattle.std.specs.Prelude.{◌≡◌, ◌++◌, OnOk};
+ghost use Rattle.std.specs.Prelude.{◌≡◌};
 ghost use Rattle.krl_audit.specs.Colour.{unread_word, verdict_word, word_text};
 
+use line_pieces::{Printed, Words, put};
 use std::alloc::AllocError;
 
-const RED: &[u8] = b"31";
-
-const GREEN: &[u8] = b"32";
-
-const YELLOW: &[u8] = b"33";
-
-/// Appends the word for whether a key is revoked.
-pub(crate) fn push_verdict(
-    text: &mut Vec<u8>,
+/// The word of a finding, between colons, in a colour or not.
+#[derive(Clone, Copy)]
+pub(crate) struct Mark {
     coloured: bool,
-    revoked: bool,
-) -> Result<(), AllocError>
-    ensures { OnOk result (text.new.items ≡ text.old.items ++ verdict_word coloured revoked) }
+    colour: &'static [u8],
+    word: &'static [u8],
+}
+
+impl Printed for Mark {
+    ghost text = { λ mark. word_text mark.coloured mark.colour.now mark.word.now };
+
+    #[tactic(auto, unfolding(crate::specs::Colour::painted))]
+    fn push_to(&self, out: &mut Vec<u8>) -> Result<(), AllocError> {
+        if self.coloured {
+            put!(out; b": \x1b[", Words(self.colour), b"m", Words(self.word), b"\x1b[0m: ")
+        } else {
+            put!(out; b": ", Words(self.word), b": ")
+        }
+    }
+}
+
+/// The word for whether a key is revoked.
+pub(crate) fn verdict_mark(coloured: bool, revoked: bool) -> Mark
+    ensures { word_text result.coloured result.colour.now result.word.now
+        ≡ verdict_word coloured revoked }
 {
-    if revoked {
-        push_word(text, coloured, RED, b"revoked")
+    let (colour, word) = if revoked {
+        (b"31".as_slice(), b"revoked".as_slice())
     } else {
-        push_word(text, coloured, GREEN, b"ok")
+        (b"32".as_slice(), b"ok".as_slice())
+    };
+    Mark {
+        coloured,
+        colour,
+        word,
     }
 }
 
-/// Appends the word for a line or file that is not read.
-pub(crate) fn push_unread(text: &mut Vec<u8>, coloured: bool) -> Result<(), AllocError>
-    ensures { OnOk result (text.new.items ≡ text.old.items ++ unread_word coloured) }
+/// The word for a line or file that is not read.
+pub(crate) fn unread_mark(coloured: bool) -> Mark
+    ensures { word_text result.coloured result.colour.now result.word.now
+        ≡ unread_word coloured }
 {
-    push_word(text, coloured, YELLOW, b"unread")
-}
-
-// Appends a word between colons, in a colour or not.
-#[tactic(auto, unfolding(crate::specs::Colour::painted))]
-fn push_word(
-    text: &mut Vec<u8>,
-    coloured: bool,
-    colour: &[u8],
-    word: &[u8],
-) -> Result<(), AllocError>
-    ensures { OnOk result (text.new.items
-        ≡ text.old.items ++ word_text coloured colour.now word.now) }
-{
-    text.extend_from_slice(b": ")?;
-    if coloured {
-        text.extend_from_slice(b"\x1b[")?;
-        text.extend_from_slice(colour)?;
-        text.push(b'm')?;
+    Mark {
+        coloured,
+        colour: b"33",
+        word: b"unread",
     }
-    text.extend_from_slice(word)?;
-    if coloured {
-        text.extend_from_slice(b"\x1b[0m")?;
-    }
-    text.extend_from_slice(b": ")
 }

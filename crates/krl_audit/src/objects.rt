@@ -15,12 +15,13 @@ use crate::front::has_hosts;
 use crate::outcome::Found;
 use crate::reason_values::put_reasons;
 use crate::text::{Location, Verdict, type_of};
-use crate::why::{Why, push_why};
+use crate::why::{Told, Why};
 use json::Token;
 use json_lines::{LineWriter, put_digits, put_number, put_text, put_word};
 use key_text::{Hash, Marker, fingerprint};
 use krl_entries::Reasons;
 use krl_types::{CertNames, Subject};
+use line_pieces::put;
 use std::alloc::{AllocError, Global};
 
 /// Makes the line of a key.
@@ -80,7 +81,7 @@ fn put_why(alloc: Global, out: &mut LineWriter, why: Why) -> Result<(), AllocErr
 {
     let fault = fault_text(alloc, why)?;
     let mut words = Vec::new(alloc);
-    push_why(alloc, &mut words, why)?;
+    put!(&mut words; Told { alloc, why })?;
     put_word(out, "status", "unread")?;
     put_word(out, "fault", fault.as_str())?;
     put_text(alloc, out, "why", &words)?;

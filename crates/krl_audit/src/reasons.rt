@@ -1,37 +1,45 @@
 //! The words for the reasons why a key is revoked.
 
-ghost use Rattle.std.specs.Prelude.{◌≡◌, ◌++◌, OnOk};
-ghost use Rattle.krl_audit.specs.Text.{authority_parts, cert_parts, id_words, key_parts};
-ghost use Rattle.krl_audit.specs.Text.{name_parts, of_all, of_authority, reason_parts};
-ghost use Rattle.krl_audit.specs.Text.{reasons_text, serial_words, word_if};
+ghost use Rattle.std.specs.Prelude.{◌≡◌, ◌++◌, OnOk, drop};
+ghost use Rattle.krl_audit.specs.Text.{cert_parts, key_parts, name_parts, reason_parts};
+ghost use Rattle.krl_audit.specs.Text.{word_if};
 
-use crate::visible::push_visible;
-use key_listing::push_number;
+use crate::visible::Visible;
 use key_text::{Hash, fingerprint};
 use krl_entries::{KeyReasons, NameReasons, Reasons};
 use krl_types::{CertNames, Subject};
+use line_pieces::{Printed, Words, pieces, put};
 use std::alloc::{AllocError, Global};
 
-/// Appends all reasons, with commas between them. Appends nothing if there is none.
-pub(crate) fn push_reasons(
-    alloc: Global,
-    text: &mut Vec<u8>,
-    subject: &Subject<'_>,
-    reasons: Reasons,
-) -> Result<(), AllocError>
-    ensures { OnOk result (text.new.items
-        ≡ text.old.items ++ reasons_text subject.now reasons) }
-{
-    let mut parts = Vec::new(alloc);
-    push_parts(alloc, &mut parts, subject, reasons)?;
-    match parts.as_slice() {
-        [] => Ok(()),
-        [_, rest @ ..] => text.extend_from_slice(rest),
+// Words, if their reason holds.
+#[derive(Clone, Copy)]
+struct If<T>(bool, T);
+
+impl<T: Printed> Printed for If<T> {
+    ghost text = { λ words. word_if words.0 (T.text words.1) };
+
+    #[tactic(auto, unfolding(crate::specs::Text::word_if))]
+    fn push_to(&self, out: &mut Vec<u8>) -> Result<(), AllocError> {
+        if self.0 { self.1.push_to(out) } else { Ok(()) }
     }
 }
 
-// Appends each reason after a comma.
-fn push_parts(
+// Words under the authority of this fingerprint, and under all, if their reasons hold.
+#[derive(Clone, Copy)]
+struct Named<'a, T>(T, &'a [u8], NameReasons);
+
+impl<'a, T: Printed + Copy> Printed for Named<'a, T> {
+    ghost text = { λ named. name_parts (T.text named.0) named.1.now named.2 };
+
+    fn push_to(&self, out: &mut Vec<u8>) -> Result<(), AllocError> {
+        let words = self.0;
+        put!(out; If(self.2.own, pieces!(words, b" of CA ", Words(self.1))),
+            If(self.2.all, pieces!(words, b" of all CAs")))
+    }
+}
+
+/// Appends all reasons, with a comma before each.
+pub(crate) fn push_parts(
     alloc: Global,
     text: &mut Vec<u8>,
     subject: &Subject<'_>,
@@ -47,27 +55,25 @@ fn push_parts(
     }
 }
 
-// The reasons that name the key.
+// Appends the reasons that name the key.
 fn push_key_parts(text: &mut Vec<u8>, key: KeyReasons) -> Result<(), AllocError>
     ensures { OnOk result (text.new.items ≡ text.old.items ++ key_parts key) }
 {
-    push_if(text, b", by its key", key.blob)?;
-    push_if(text, b", by its SHA-1", key.sha1)?;
-    push_if(text, b", by its SHA-256", key.sha256)?;
-    Ok(())
+    put!(text; If(key.blob, Words(b", by its key")), If(key.sha1, Words(b", by its SHA-1")),
+        If(key.sha256, Words(b", by its SHA-256")))
 }
 
-// The reasons that name the key of the authority.
-fn push_authority_parts(text: &mut Vec<u8>, key: KeyReasons) -> Result<(), AllocError>
-    ensures { OnOk result (text.new.items ≡ text.old.items ++ authority_parts key) }
+/// The reasons without the comma before the first one.
+pub(crate) fn after_first(parts: &[u8]) -> &[u8]
+    ensures { result.now ≡ drop 1 parts.now }
 {
-    push_if(text, b", by the key of its CA", key.blob)?;
-    push_if(text, b", by the SHA-1 of its CA", key.sha1)?;
-    push_if(text, b", by the SHA-256 of its CA", key.sha256)?;
-    Ok(())
+    match parts {
+        [] => &[],
+        [_, rest @ ..] => rest,
+    }
 }
 
-// The reasons of a certificate.
+// Appends the reasons of a certificate.
 fn push_cert_parts(
     alloc: Global,
     text: &mut Vec<u8>,
@@ -77,83 +83,11 @@ fn push_cert_parts(
     ensures { OnOk result (text.new.items ≡ text.old.items ++ cert_parts cert.now reasons) }
 {
     let print = fingerprint(alloc, Hash::Sha256, cert.authority)?;
-    let mut serial = Vec::new(alloc);
-    push_serial(&mut serial, cert.serial)?;
-    let mut id = Vec::new(alloc);
-    push_id(&mut id, cert.key_id)?;
-    push_authority_parts(text, reasons.authority)?;
-    push_names(text, &serial, &print, reasons.serial)?;
-    push_names(text, &id, &print, reasons.key_id)?;
-    Ok(())
-}
-
-// The words for a serial number.
-fn push_serial(text: &mut Vec<u8>, serial: u64) -> Result<(), AllocError>
-    ensures { OnOk result (text.new.items ≡ text.old.items ++ serial_words serial) }
-{
-    text.extend_from_slice(b", by serial ")?;
-    push_number(serial, text)?;
-    Ok(())
-}
-
-// The words for a key ID.
-fn push_id(text: &mut Vec<u8>, id: &[u8]) -> Result<(), AllocError>
-    ensures { OnOk result (text.new.items ≡ text.old.items ++ id_words id.now) }
-{
-    text.extend_from_slice(b", by key ID \"")?;
-    push_visible(text, id, true)?;
-    text.push(b'"')?;
-    Ok(())
-}
-
-// Appends words under the authority of this fingerprint, and under all.
-fn push_names(
-    text: &mut Vec<u8>,
-    words: &[u8],
-    print: &[u8],
-    reasons: NameReasons,
-) -> Result<(), AllocError>
-    ensures { OnOk result (text.new.items
-        ≡ text.old.items ++ name_parts words.now print.now reasons) }
-{
-    push_own(text, words, print, reasons.own)?;
-    push_all(text, words, reasons.all)?;
-    Ok(())
-}
-
-// Appends words under the authority of this fingerprint, if their reason holds.
-#[tactic(auto, unfolding(crate::specs::Text::word_if))]
-fn push_own(text: &mut Vec<u8>, words: &[u8], print: &[u8], said: bool) -> Result<(), AllocError>
-    ensures { OnOk result (text.new.items
-        ≡ text.old.items ++ word_if said (of_authority words.now print.now)) }
-{
-    if said {
-        text.extend_from_slice(words)?;
-        text.extend_from_slice(b" of CA ")?;
-        text.extend_from_slice(print)?;
-    }
-    Ok(())
-}
-
-// Appends words under all authorities, if their reason holds.
-#[tactic(auto, unfolding(crate::specs::Text::word_if))]
-fn push_all(text: &mut Vec<u8>, words: &[u8], said: bool) -> Result<(), AllocError>
-    ensures { OnOk result (text.new.items ≡ text.old.items ++ word_if said (of_all words.now)) }
-{
-    if said {
-        text.extend_from_slice(words)?;
-        text.extend_from_slice(b" of all CAs")?;
-    }
-    Ok(())
-}
-
-// Appends words, if their reason holds.
-#[tactic(auto, unfolding(crate::specs::Text::word_if))]
-fn push_if(text: &mut Vec<u8>, words: &[u8], said: bool) -> Result<(), AllocError>
-    ensures { OnOk result (text.new.items ≡ text.old.items ++ word_if said words.now) }
-{
-    if said {
-        text.extend_from_slice(words)?;
-    }
-    Ok(())
+    let key = reasons.authority;
+    put!(text;
+        pieces!(If(key.blob, Words(b", by the key of its CA")),
+            If(key.sha1, Words(b", by the SHA-1 of its CA")),
+            If(key.sha256, Words(b", by the SHA-256 of its CA"))),
+        Named(pieces!(b", by serial ", cert.serial), &print, reasons.serial),
+        Named(pieces!(b", by key ID \"", Visible(cert.key_id, true), b"\""), &print, reasons.key_id))
 }

@@ -1,18 +1,18 @@
 //! The lines of findings.
 
-ghost use Rattle.std.specs.Prelude.{◌≡◌, ◌++◌, OnOk};
-ghost use Rattle.krl_audit.specs.Text.{comment_words, key_line, key_words, location_text, type_of};
+ghost use Rattle.std.specs.Prelude.{◌≡◌, OnOk};
+ghost use Rattle.krl_audit.specs.Text.{comment_words, key_line, location_text, type_of};
 ghost use Rattle.krl_audit.specs.Text.{unread_line};
 
-use crate::colour::{push_unread, push_verdict};
+use crate::colour::{unread_mark, verdict_mark};
 use crate::outcome::Found;
-use crate::reasons::push_reasons;
-use crate::visible::push_visible;
-use crate::why::{Why, push_why};
-use key_listing::push_number;
+use crate::reasons::{after_first, push_parts};
+use crate::visible::Visible;
+use crate::why::{Told, Why};
 use key_text::{Hash, fingerprint};
 use krl_entries::Reasons;
 use krl_types::Subject;
+use line_pieces::{Printed, Words, pieces, put};
 use ssh_wire::Cursor;
 use std::alloc::{AllocError, Global};
 
@@ -32,6 +32,33 @@ pub(crate) struct Verdict<'a> {
     pub(crate) reasons: Reasons,
 }
 
+impl<'a> Printed for Location<'a> {
+    ghost text = { λ location. location_text location.name.now location.number };
+
+    fn push_to(&self, out: &mut Vec<u8>) -> Result<(), AllocError> {
+        put!(out; Visible(self.name.as_bytes(), false))?;
+        if self.number > 0 {
+            put!(out; b":", self.number)?;
+        }
+        Ok(())
+    }
+}
+
+// A comment, if there is one.
+#[derive(Clone, Copy)]
+struct Comment<'a>(&'a [u8]);
+
+impl<'a> Printed for Comment<'a> {
+    ghost text = { λ comment. comment_words comment.0.now };
+
+    fn push_to(&self, out: &mut Vec<u8>) -> Result<(), AllocError> {
+        if self.0.is_empty() {
+            return Ok(());
+        }
+        put!(out; b": ", Visible(self.0, false))
+    }
+}
+
 /// Makes the line for a line or file that is not read, with its line feed, in colour or not.
 pub(crate) fn write_unread(
     alloc: Global,
@@ -44,11 +71,7 @@ pub(crate) fn write_unread(
         ≡ unread_line coloured location.entry.name.now location.entry.number why) }
 {
     line.clear();
-    push_location(line, location)?;
-    push_unread(line, coloured)?;
-    push_why(alloc, line, why)?;
-    line.push(b'\n')?;
-    Ok(())
+    put!(line; location, unread_mark(coloured), Told { alloc, why }, b"\n")
 }
 
 /// Makes the line of a key, with its line feed, in colour or not.
@@ -63,42 +86,15 @@ pub(crate) fn write_key(
         location.entry.number verdict.now.found.now.blob verdict.now.found.now.comment.now
         verdict.now.subject.now verdict.now.reasons) }
 {
-    line.clear();
-    push_location(line, location)?;
-    push_verdict(line, coloured, verdict.reasons.any())?;
-    push_key(alloc, line, verdict.found.blob.as_slice(), verdict.subject)?;
-    push_reasons(alloc, line, verdict.subject, verdict.reasons)?;
-    push_comment(line, verdict.found.comment)?;
-    line.push(b'\n')?;
-    Ok(())
-}
-
-// Appends the name of a file, and the number of a line of it.
-fn push_location(text: &mut Vec<u8>, location: Location<'_>) -> Result<(), AllocError>
-    ensures { OnOk result (text.new.items
-        ≡ text.old.items ++ location_text location.entry.name.now location.entry.number) }
-{
-    push_visible(text, location.name.as_bytes(), false)?;
-    if location.number > 0 {
-        text.push(b':')?;
-        push_number(location.number, text)?;
-    }
-    Ok(())
-}
-
-// Appends the type of a key and the fingerprint of its plain key.
-fn push_key(
-    alloc: Global,
-    text: &mut Vec<u8>,
-    blob: &[u8],
-    subject: &Subject<'_>,
-) -> Result<(), AllocError>
-    ensures { OnOk result (text.new.items ≡ text.old.items ++ key_words blob.now subject.now) }
-{
+    let subject = verdict.subject;
     let print = fingerprint(alloc, Hash::Sha256, subject.plain.as_slice())?;
-    text.extend_from_slice(type_of(blob))?;
-    text.push(b' ')?;
-    text.extend_from_slice(&print)
+    let mut parts = Vec::new(alloc);
+    push_parts(alloc, &mut parts, subject, verdict.reasons)?;
+    let key_type = type_of(verdict.found.blob.as_slice());
+    line.clear();
+    put!(line; location, verdict_mark(coloured, verdict.reasons.any()),
+        pieces!(Words(key_type), b" ", Words(&print)), Words(after_first(&parts)),
+        Comment(verdict.found.comment), b"\n")
 }
 
 /// The name of the type of a key, which is its first string.
@@ -110,15 +106,4 @@ pub(crate) fn type_of(blob: &[u8]) -> &[u8]
         Ok(name) => name,
         Err(_) => &[],
     }
-}
-
-// Appends a comment, if there is one.
-fn push_comment(text: &mut Vec<u8>, comment: &[u8]) -> Result<(), AllocError>
-    ensures { OnOk result (text.new.items ≡ text.old.items ++ comment_words comment.now) }
-{
-    if !comment.is_empty() {
-        text.extend_from_slice(b": ")?;
-        push_visible(text, comment, false)?;
-    }
-    Ok(())
 }

@@ -6,16 +6,29 @@ ghost use Rattle.std.specs.Str.{chars};
 ghost use Rattle.krl_audit.specs.Visible.{numbered, visible, visible_byte, visible_bytes};
 ghost use Rattle.krl_audit.specs.Visible.{visible_char};
 
+use line_pieces::Printed;
 use std::alloc::{AllocError, Global};
 use std::str;
 
 const DIGITS: &[u8; 16] = b"0123456789abcdef";
 
-/// Appends a text with each control character as `\x` and two hexadecimal digits, also those from
-/// 0x80 to 0x9f, which some terminals obey. In a text that is not UTF-8 each byte from 0x80 on is
-/// shown in the same way. Between quotes a quote and a backslash have a backslash before them.
+/// A text that anyone may have written, and whether it stands between quotes.
+#[derive(Clone, Copy)]
+pub(crate) struct Visible<'a>(pub(crate) &'a [u8], pub(crate) bool);
+
+impl<'a> Printed for Visible<'a> {
+    ghost text = { λ text. visible text.1 text.0.now };
+
+    fn push_to(&self, out: &mut Vec<u8>) -> Result<(), AllocError> {
+        push_visible(out, self.0, self.1)
+    }
+}
+
+// Appends a text with each control character as `\x` and two hexadecimal digits, also those from
+// 0x80 to 0x9f, which some terminals obey. In a text that is not UTF-8 each byte from 0x80 on is
+// shown in the same way. Between quotes a quote and a backslash have a backslash before them.
 #[tactic(auto, unfolding(crate::specs::Visible::visible))]
-pub(crate) fn push_visible(out: &mut Vec<u8>, text: &[u8], quoted: bool) -> Result<(), AllocError>
+fn push_visible(out: &mut Vec<u8>, text: &[u8], quoted: bool) -> Result<(), AllocError>
     ensures { OnOk result (out.new.items ≡ out.old.items ++ visible quoted text.now) }
 {
     match str::from_utf8(text) {

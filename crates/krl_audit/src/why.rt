@@ -1,11 +1,10 @@
 //! Why a line or a file is not read.
 
-ghost use Rattle.std.specs.Prelude.{◌≡◌, ◌++◌, OnOk};
+ghost use Rattle.std.specs.Prelude.{◌≡◌};
 ghost use Rattle.krl_audit.specs.Why.{line_why, refusal_why, why_text};
-ghost use Rattle.krl_audit.specs.declared.why.Why.TheVariants.{NoKeys, Private, Subject};
 
-use key_listing::push_number;
 use key_text::{LineFault, PrivateFault};
+use line_pieces::{Printed, Words, put};
 use ssh_cert::SubjectFault;
 use std::alloc::{AllocError, Global};
 
@@ -43,16 +42,30 @@ pub enum Why {
     NoKeys(u64),
 }
 
-/// Appends the words for people.
-pub(crate) fn push_why(alloc: Global, text: &mut Vec<u8>, why: Why) -> Result<(), AllocError>
-    ensures { OnOk result (text.new.items ≡ text.old.items ++ why_text why) }
-{
-    match why {
-        Why::Line(fault) => text.extend_from_slice(line_why(fault)),
-        Why::Subject(fault) => push_subject(alloc, text, fault),
-        Why::Private(fault) => push_private(alloc, text, fault),
-        Why::File(refusal) => text.extend_from_slice(refusal_why(refusal)),
-        Why::NoKeys(lines) => push_no_keys(text, lines),
+/// Why a line or a file is not read, in words for people.
+#[derive(Clone, Copy)]
+pub(crate) struct Told {
+    pub(crate) alloc: Global,
+    pub(crate) why: Why,
+}
+
+impl Printed for Told {
+    ghost text = { λ told. why_text told.why };
+
+    fn push_to(&self, out: &mut Vec<u8>) -> Result<(), AllocError> {
+        match self.why {
+            Why::Line(fault) => put!(out; Words(line_why(fault))),
+            Why::Subject(fault) => {
+                let said = fault.to_string(self.alloc)?;
+                put!(out; b"the key is cut or misspelt: ", Words(said.as_bytes()))
+            }
+            Why::Private(fault) => {
+                let said = fault.to_string(self.alloc)?;
+                put!(out; b"the private key file is cut or misspelt: ", Words(said.as_bytes()))
+            }
+            Why::File(refusal) => put!(out; Words(refusal_why(refusal))),
+            Why::NoKeys(lines) => put!(out; b"none of its ", lines, b" lines is a key"),
+        }
     }
 }
 
@@ -81,32 +94,4 @@ fn refusal_why(refusal: Refusal) -> &'static [u8]
         Refusal::Read => b"it cannot be read to its end",
         Refusal::TooLong => b"it has more than 16 MiB",
     }
-}
-
-// The words for a blob that is not a key.
-fn push_subject(alloc: Global, text: &mut Vec<u8>, fault: SubjectFault) -> Result<(), AllocError>
-    ensures { OnOk result (text.new.items ≡ text.old.items ++ why_text (Subject fault)) }
-{
-    let said = fault.to_string(alloc)?;
-    text.extend_from_slice(b"the key is cut or misspelt: ")?;
-    text.extend_from_slice(said.as_bytes())
-}
-
-// The words for a private key file.
-fn push_private(alloc: Global, text: &mut Vec<u8>, fault: PrivateFault) -> Result<(), AllocError>
-    ensures { OnOk result (text.new.items ≡ text.old.items ++ why_text (Private fault)) }
-{
-    let said = fault.to_string(alloc)?;
-    text.extend_from_slice(b"the private key file is cut or misspelt: ")?;
-    text.extend_from_slice(said.as_bytes())
-}
-
-// The words for a file in which no line is a key.
-fn push_no_keys(text: &mut Vec<u8>, lines: u64) -> Result<(), AllocError>
-    ensures { OnOk result (text.new.items ≡ text.old.items ++ why_text (NoKeys lines)) }
-{
-    text.extend_from_slice(b"none of its ")?;
-    push_number(lines, text)?;
-    text.extend_from_slice(b" lines is a key")?;
-    Ok(())
 }

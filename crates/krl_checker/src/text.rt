@@ -5,10 +5,9 @@ ghost use Rattle.krl_checker.specs.Text.{difference_line, file_line, plain_line,
 
 use crate::plain::PlainRefusal;
 use crate::role::Role;
-use key_listing::push_number;
 use krl_audit::Counts;
 use krl_openssh::Difference;
-use ssh_cert::push_escaped;
+use line_pieces::{Escaped, Words, put};
 use std::alloc::AllocError;
 
 /// Makes the line for a list that OpenSSH does not read, or from which it reads other names.
@@ -19,13 +18,9 @@ pub(crate) fn write_difference(
 ) -> Result<(), AllocError>
     ensures { OnOk result (line.new.items ≡ difference_line name.now difference) }
 {
+    let why = difference.words().as_bytes();
     line.clear();
-    line.extend_from_slice(b"openssh: ")?;
-    push_escaped(line, name.as_bytes())?;
-    line.extend_from_slice(b": ")?;
-    line.extend_from_slice(difference.words().as_bytes())?;
-    line.push(b'\n')?;
-    Ok(())
+    put!(line; b"openssh: ", Escaped(name.as_bytes()), b": ", Words(why), b"\n")
 }
 
 /// Makes the line for a list whose version is lower than that of another.
@@ -38,14 +33,7 @@ pub(crate) fn write_version(
     ensures { OnOk result (line.new.items ≡ version_line name.now version other) }
 {
     line.clear();
-    line.extend_from_slice(b"version: ")?;
-    push_escaped(line, name.as_bytes())?;
-    line.extend_from_slice(b": ")?;
-    push_number(version, line)?;
-    line.extend_from_slice(b" is below ")?;
-    push_number(other, line)?;
-    line.push(b'\n')?;
-    Ok(())
+    put!(line; b"version: ", Escaped(name.as_bytes()), b": ", version, b" is below ", other, b"\n")
 }
 
 /// Makes the line for a plain list.
@@ -57,12 +45,7 @@ pub(crate) fn write_plain(
     ensures { OnOk result (line.new.items ≡ plain_line name.now why) }
 {
     line.clear();
-    line.extend_from_slice(why.word())?;
-    push_escaped(line, name.as_bytes())?;
-    line.extend_from_slice(b": ")?;
-    line.extend_from_slice(why.why())?;
-    line.push(b'\n')?;
-    Ok(())
+    put!(line; Words(why.word()), Escaped(name.as_bytes()), b": ", Words(why.why()), b"\n")
 }
 
 /// Makes the line for a file whose keys do not meet the condition, or are not all read.
@@ -75,14 +58,6 @@ pub(crate) fn write_file(
     ensures { OnOk result (line.new.items ≡ file_line role name.now counts) }
 {
     line.clear();
-    line.extend_from_slice(role.word())?;
-    push_escaped(line, name.as_bytes())?;
-    line.extend_from_slice(b": ")?;
-    push_number(counts.revoked, line)?;
-    line.extend_from_slice(b" of ")?;
-    push_number(counts.keys, line)?;
-    line.extend_from_slice(b" keys are revoked, ")?;
-    push_number(counts.unread, line)?;
-    line.extend_from_slice(b" lines are not read\n")?;
-    Ok(())
+    put!(line; Words(role.word()), Escaped(name.as_bytes()), b": ", counts.revoked, b" of ",
+        counts.keys, b" keys are revoked, ", counts.unread, b" lines are not read\n")
 }

@@ -5,7 +5,7 @@ use key_files::{RunFault, fault_text};
 
 /// Prints on standard error why a run stopped. If the line cannot be allocated, nothing is printed.
 pub fn report(rt: &HostRuntime, fault: &RunFault) {
-    if let Ok(line) = fault_text(rt.alloc(), fault) {
+    if let Ok(line) = fault_text(rt.alloc(), b"ssh-keygen", fault) {
         print_line(rt, line.as_slice());
     }
 }

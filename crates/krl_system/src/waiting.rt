@@ -4,7 +4,7 @@ ghost use Rattle.std.specs.Prelude.{◌≡◌, ◌≤◌, ◌↔◌, IsErr};
 
 use byte_streams::{ToWrite, send};
 use key_files::{Cause, FileFault};
-use ssh_cert::push_escaped;
+use line_pieces::{Escaped, put};
 use std::alloc::{AllocError, Global};
 use std::thread::sleep;
 use std::time::Duration;
@@ -58,8 +58,7 @@ fn announce(rt: &HostRuntime, name: &str) {
 
 // The line that is printed.
 fn waiting_text(alloc: Global, name: &str) -> Result<Vec<u8>, AllocError> {
-    let mut text = Vec::from_slice(alloc, b"ssh-keygen: waiting for another update of ")?;
-    push_escaped(&mut text, name.as_bytes())?;
-    text.extend_from_slice(b"\n")?;
+    let mut text = Vec::new(alloc);
+    put!(&mut text; b"ssh-keygen: waiting for another update of ", Escaped(name.as_bytes()), b"\n")?;
     Ok(text)
 }

@@ -111,7 +111,7 @@ fn lines(rt: HostRuntime) {
             line: *line,
             cause: *cause,
         };
-        let text = fault_text(rt.alloc(), &fault).expect(&rt, "there is memory");
+        let text = fault_text(rt.alloc(), b"ssh-keygen", &fault).expect(&rt, "there is memory");
         let reported = text.strip_prefix(b"ssh-keygen: ").unwrap_or(b"no name");
         same(&rt, i, reported, want.as_bytes());
     }
@@ -125,7 +125,7 @@ fn a_long_name(rt: HostRuntime) {
         name.push_str("a\x7f").expect(&rt, "there is memory");
     }
     let fault = RunFault::whole(name.as_str(), Cause::NoMemory);
-    let text = fault_text(rt.alloc(), &fault).expect(&rt, "there is memory");
+    let text = fault_text(rt.alloc(), b"ssh-keygen", &fault).expect(&rt, "there is memory");
     assert!(rt; text.len() == 12 + 10_000 * 5 + 2 + 14);
     assert!(rt; text.as_slice().ends_with(b"a\\x7f: run 1 NoMemory"));
 }

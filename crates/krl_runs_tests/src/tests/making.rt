@@ -32,7 +32,7 @@ fn made(
     let (made, _) = make_run(alloc, old, authority, version, files.as_slice(), 0);
     match made {
         Ok(list) => list,
-        Err(fault) => fault_text(alloc, &fault).expect(rt, "there is memory"),
+        Err(fault) => fault_text(alloc, b"ssh-keygen", &fault).expect(rt, "there is memory"),
     }
 }
 

@@ -94,7 +94,7 @@ pub fn all_named<'a>(rt: &impl Abort, alloc: Global, files: &[File<'a>]) -> Vec<
 /// The output and the end of a run.
 pub fn reported(rt: &impl Abort, alloc: Global, text: Vec<u8>, done: &Done) -> Ran {
     let fault = match &done.fault {
-        Some(fault) => fault_text(alloc, fault).expect(rt, "there is memory"),
+        Some(fault) => fault_text(alloc, b"ssh-keygen", fault).expect(rt, "there is memory"),
         None => Vec::new(alloc),
     };
     Ran {

@@ -33,7 +33,11 @@ fn a_file_that_is_loaded(rt: HostRuntime) {
 fn the_line_of_a_fault(rt: HostRuntime) {
     let cause = Cause::Spec(SpecCause::Key(KeyCause::Line(LineFault::NoKey)));
     let fault = RunFault::at_line("s\x1b", 1, cause);
-    if let Some(text) = answered(&rt, fault_text(rt.alloc(), &fault), AllocError) {
+    if let Some(text) = answered(
+        &rt,
+        fault_text(rt.alloc(), b"ssh-keygen", &fault),
+        AllocError,
+    ) {
         assert!(rt;
             text.as_slice() == b"ssh-keygen: s\\x1b: line 1: spec 6 Key, line 1 NoKey".as_slice()
         );

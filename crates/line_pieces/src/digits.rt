@@ -2,6 +2,7 @@
 
 ghost use Rattle.std.specs.Prelude.{◌≡◌, ◌++◌, OnOk, decimal};
 
+use crate::printed::Printed;
 use itoa::Buffer;
 use std::alloc::AllocError;
 
@@ -11,4 +12,12 @@ pub fn push_number(number: u64, line: &mut Vec<u8>) -> Result<(), AllocError>
 {
     let mut digits = Buffer::new();
     line.extend_from_slice(digits.format(number).as_bytes())
+}
+
+impl Printed for u64 {
+    ghost text = { λ number. decimal number };
+
+    fn push_to(&self, out: &mut Vec<u8>) -> Result<(), AllocError> {
+        push_number(*self, out)
+    }
 }
