@@ -119,6 +119,38 @@ made 'make uninstall of an older version' 0 uninstall
 holds 'the file that its user changed' ./usr/local/share/krl-keygen/changed
 rm -r "$root"
 
+# A note that another planted: a link, which would be followed, and then one with names that lead
+# elsewhere, or that a shell might take for more than names.
+echo another >victim
+mkdir -p "$root/usr/local/share/krl-keygen" outside
+ln -s "$PWD/victim" "$root/usr/local/share/krl-keygen/krl-keygen.sha256"
+made 'make install where the note is a link' 0 install
+judge 'what that link leads to is left' "$(differs content another "$(cat victim)")"
+judge 'a note is in place of the link' "$([ -f "$note" ] && [ ! -L "$note" ] || ls -l "$note")"
+echo another >outside/file
+echo another >"$root/usr/file"
+ln -s "$PWD/outside" "$root/usr/local/out"
+mkfifo "$root/usr/local/fifo"
+for file in ../file ./share/../../file ./out/file "$PWD/outside/file" "./no|w $PWD/written" \
+  ./fifo; do
+  sum=$(echo another | sha256sum)
+  echo "${sum% *} $file"
+done >>"$note"
+cp "$note" note
+made 'make install over a note that leads elsewhere' 0 install
+cp note "$note"
+made 'make uninstall by a note that leads elsewhere' 0 uninstall
+holds 'what is elsewhere below the folder is left' ./usr/file
+judge 'what is outside is left' "$(asks 0 cat outside/file | grep -vx another)"
+judge 'no name is a command' "$(ls written* 2>/dev/null)"
+rm -r "$root"
+mkdir "$root" && chmod 755 "$root"
+echo another >"$root/note"
+mkdir -p "$root/usr/local/share/krl-keygen"
+ln -s "$root/note" "$root/usr/local/share/krl-keygen/krl-keygen.sha256"
+made 'make uninstall where the note is a link' 2 uninstall
+rm -r "$root"
+
 # A library with the calls of krl.h, each of which answers 7, and one of the C library.
 for it in 'cc gcc' 'pkg-config pkg-config'; do
   need $it || judge "${it% *} is there" "  install ${it#* }"
