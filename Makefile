@@ -7,8 +7,8 @@ NAME = krl-keygen
 # How many seconds make fuzz runs.
 SECONDS = 60
 
-.PHONY: build test test_library fault_injection fuzz bench install uninstall deb library \
-  install-library uninstall-library
+.PHONY: build test test_library fault_injection fuzz bench install uninstall deb deb-programs \
+  library install-library uninstall-library
 
 # Proves and builds the programs.
 build:
@@ -57,7 +57,16 @@ install-library: library
 uninstall-library:
 	packaging/uninstall_library '$(DESTDIR)' '$(PREFIX)'
 
-# Debian packages: krl-keygen, which stands beside OpenSSH's ssh-keygen, libkrl1 and libkrl-dev.
-deb: build library
+# Debian packages: krl-keygen, which stands beside OpenSSH's ssh-keygen, libkrl1 and libkrl-dev. The
+# programs that make packages are looked for before anything is proved.
+deb:
+	packaging/tools library
+	$(MAKE) build library
 	packaging/deb
 	packaging/library_debs
+
+# The package krl-keygen alone.
+deb-programs:
+	packaging/tools
+	$(MAKE) build
+	packaging/deb

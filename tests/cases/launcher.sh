@@ -348,10 +348,34 @@ judge 'library/build: it says that it waits' "$(differs 'first line' \
 
 # make build, make library and make deb say the same.
 cp "$top/Makefile" away/
-judge 'make deb builds both programs and the library first' \
-  "$(differs commands './ssh-keygen -h >/dev/null
+judge 'make deb builds both programs and the library' \
+  "$(differs commands 'packaging/tools library
+./ssh-keygen -h >/dev/null
 ./krl -h >/dev/null
-library/build' "$(command make -s -n -C away deb | grep -v '^packaging/')")"
+library/build
+packaging/deb
+packaging/library_debs' "$(command make -s -n -C away deb | grep -v '^make ')")"
+judge 'make deb-programs builds the programs alone' \
+  "$(differs commands 'packaging/tools
+./ssh-keygen -h >/dev/null
+./krl -h >/dev/null
+packaging/deb' "$(command make -s -n -C away deb-programs | grep -v '^make ')")"
+# A PATH without one of the tools.
+cp "$top/packaging/tools" away/packaging/
+mkdir few && ln -s /usr/bin/* kit/bin/rt few/ && rm -f few/dpkg-shlibdeps few/objcopy
+rm -rf away/built "$store"
+for it in 'deb dpkg-shlibdeps dpkg-dev' 'deb objcopy binutils' \
+  'deb-programs dpkg-shlibdeps dpkg-dev'; do
+  read -r target tool package <<<"$it"
+  : >calls
+  PATH=$scratch/here/few "${one[@]}" make -s -C away "$target" >said 2>"$scratch/error"
+  judge "make $target without $tool" "$(
+    differs 'exit status' 2 $?
+    differs 'what is proved' '' "$(proved)"
+    grep -qx "packaging/tools: $tool is missing: install it, by apt-get install $package" \
+      "$scratch/error" || cat "$scratch/error"
+  )"
+done
 # make_of TARGET..: makes these.
 make_of() {
   PATH=$scratch/here/kit/bin:/usr/bin:/bin "${one[@]}" make -s -C away "$@" >said 2>"$scratch/error"
