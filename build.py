@@ -90,18 +90,26 @@ def load_kit():
 
 def make_store():
     """Returns the folder that keeps what is proved: in the user's cache, or one of this user's
-    temporary folders."""
+    temporary folders. Whoever may write there decides what counts as proved."""
     cache = os.environ.get("XDG_CACHE_HOME") or os.path.expanduser("~/.cache")
     for folder in (f"{cache}/krl-keygen", f"{tempfile.gettempdir()}/krl-keygen-{os.geteuid()}"):
         with contextlib.suppress(OSError):
             os.makedirs(folder, 0o700, exist_ok=True)
             found = os.lstat(folder)
-            if (
-                stat.S_ISDIR(found.st_mode)
-                and found.st_uid == os.geteuid()
-                and os.access(folder, os.W_OK | os.X_OK)
-            ):
+            if not stat.S_ISDIR(found.st_mode):
+                why = "is a link"
+            elif found.st_uid != os.geteuid():
+                why = f"belongs to user {found.st_uid}"
+            elif found.st_mode & (stat.S_IWGRP | stat.S_IWOTH):
+                why = "may be written by other users"
+            elif os.access(folder, os.W_OK | os.X_OK):
                 return os.path.abspath(folder)
+            else:
+                continue
+            refuse(
+                f"{folder} {why}, so what is in it may not be proved",
+                "remove it, or name another folder in XDG_CACHE_HOME",
+            )
     return refuse(f"nothing can be kept in {cache}: name another folder in XDG_CACHE_HOME")
 
 
@@ -158,6 +166,7 @@ class Task:
         self.crate, self.name, self.below = crate, crate.name, below
         self.made = self.place = self.process = self.lock = None
         self.was_killed = self.is_waiting = False
+        self.began = 0
         lines = sum(read(it).count(b"\n") for it in self.files() if it.endswith(".rt"))
         # About how many seconds the proofs of the crate take. The code of all libraries is compiled
         # with the program's.
@@ -206,7 +215,7 @@ class Task:
 
 class Build:
     def __init__(self, top, store):
-        self.store, self.lanes = store, None
+        self.store, self.lanes, self.pace = store, None, None
         self.kit, self.rtlib = load_kit()
         tools = [os.stat(f"{self.kit}/bin/{it}") for it in TOOLS]
         named = [
@@ -258,6 +267,7 @@ class Build:
         if self.lanes is None:
             self.lanes = count_lanes()
             say(f"proving and building, this once: {len(self.tasks)} crates")
+            self.left = [it for it in self.tasks if not it.made]
         busy = [it for it in self.tasks if it.process]
         idle = self.lanes - sum(it.jobs for it in busy)
         share = sum(it.seconds for it in self.tasks if not it.made) / self.lanes
@@ -288,8 +298,8 @@ class Build:
         if it.look(self.store, self.kit_sum):
             self.release(it)
             return False
-        proved = sum(at.made is not None for at in self.tasks)
-        say(f"proving {it.name}: {proved} of {len(self.tasks)} are proved")
+        say(f"proving {it.name}{self.how_far()}")
+        it.began = time.time()
         self.release_place(it)
         os.mkdir(f"{it.place}.new")
         with words_of_kit():
@@ -303,6 +313,35 @@ class Build:
             }
             it.process = subprocess.Popen(words, **how)
         return True
+
+    def how_far(self):
+        """Returns how many seconds of the whole build are behind, once a crate has shown how quick
+        this machine is."""
+        if not self.pace:
+            return ""
+        whole = sum(it.seconds for it in self.left)
+        behind = sum(it.seconds for it in self.left if it.made)
+        seconds = self.pace * self.lasting()
+        return f": {seconds * behind / whole:.0f} of about {seconds:.0f} seconds"
+
+    def lasting(self):
+        """Returns how long the build lasts at a pace of 1: each processor takes the crate that is
+        ready and whose chain is the longest."""
+        ends = {it: 0 for it in self.tasks if it not in self.left}
+        free, waiting = [0] * self.lanes, list(self.left)
+        while waiting:
+            begins, it = min(
+                (
+                    (max([min(free), *(ends[at] for at in it.below)]), it)
+                    for it in waiting
+                    if all(at in ends for at in it.below)
+                ),
+                key=lambda found: (found[0], -self.chain[found[1]]),
+            )
+            ends[it] = begins + it.seconds
+            free[free.index(min(free))] = ends[it]
+            waiting.remove(it)
+        return max(ends.values())
 
     def words(self, it):
         made = f"{it.place}.new/{it.output()}"
@@ -321,6 +360,7 @@ class Build:
         if status == 0 and it.state() == it.read_at:
             os.rename(f"{it.place}.new", it.place)
             it.take()
+            self.set_pace(it)
         self.release_place(it)
         self.release(it)
         if not it.made:
@@ -333,6 +373,14 @@ class Build:
             it.was_killed = True
         elif status:
             self.give_up(it, status)
+
+    def set_pace(self, it):
+        """The first crate that this build proves shows how quick this machine is."""
+        if self.pace or it is self.last:
+            return
+        self.pace = (time.time() - it.began) / it.seconds
+        minutes = self.pace * self.lasting() / 60
+        say(f"on this machine that takes about {max(1, round(minutes))} minutes, by {it.name}")
 
     def link(self, it, program):
         words = [f"{self.kit}/bin/rattle-link", "--target", "x86_64-unknown-linux-gnu"]

@@ -60,6 +60,11 @@ proved() {
   awk '/ends$/ { printf "%s ", $1 }' calls
   : >calls
 }
+# unnumbered FILE: what the file says, without how many seconds and minutes.
+unnumbered() {
+  sed -e 's/: [0-9]* of about [0-9]* seconds$/: N of M seconds/' \
+    -e 's/about [0-9]* minutes/about N minutes/' "$1"
+}
 # build NAME STATUS OUTPUT ERROR PROVED WORD..
 build() {
   local name=$1 status=$2 output=$3 error=$4 crates=$5
@@ -68,23 +73,28 @@ build() {
   judge "$name" "$(
     differs 'exit status' "$status" $?
     [ "$output" = any ] || differs 'standard output' "$output" "$(cat said)"
-    [ "$error" = any ] || differs 'standard error' "$error" "$(cat "$scratch/error")"
+    [ "$error" = any ] || differs 'standard error' "$error" "$(unnumbered "$scratch/error")"
     differs 'what is proved' "$crates" "$(proved)"
   )"
 }
 every='low side upper aside krl_tool '
 : >calls
-all=$(said_by 'proving and building, this once: 5 crates' 'proving low: 0 of 5 are proved' \
-  'proving side: 1 of 5 are proved' 'proving upper: 2 of 5 are proved' \
-  'proving aside: 3 of 5 are proved' \
-  'proving krl_tool: 4 of 5 are proved')
+all=$(said_by 'proving and building, this once: 5 crates' 'proving low' \
+  'on this machine that takes about N minutes, by low' 'proving side: N of M seconds' \
+  'proving upper: N of M seconds' 'proving aside: N of M seconds' 'proving krl_tool: N of M seconds')
 
 (use "${one[@]}") >said 2>"$scratch/error"
 judge 'the first use builds' "$(
   differs 'exit status' 0 $?
   differs 'standard output' "$(made_of 6 4)" "$(cat said)"
-  differs 'standard error' "$all" "$(cat "$scratch/error")"
+  differs 'standard error' "$all" "$(unnumbered "$scratch/error")"
 )"
+# The program takes most of the time, so four of five crates are a small part of it.
+judge 'how far it is goes by seconds' "$(asks 0 awk '/ of about / {
+    if ($3 + 0 < last) print "  it goes back: " $0
+    last = $3 + 0
+  }
+  /krl_tool/ && ($3 == 0 || $3 * 10 > $6) { print "  it is not: " $0 }' "$scratch/error")"
 judge 'one crate after the other' "$(asks 0 awk '
   /begins/ && at { print "  " $1 " begins within " at }
   { at = /begins/ ? $1 : "" }' calls)"
@@ -96,7 +106,7 @@ judge 'the first use of krl proves what is left' "$(
   differs 'exit status' 0 $?
   differs 'standard output' 'made of krl:1,2 low:1,2,3,4,5,6' "$(cat said)"
   differs 'standard error' \
-    "$(said_by 'proving and building, this once: 2 crates' 'proving krl: 1 of 2 are proved' |
+    "$(said_by 'proving and building, this once: 2 crates' 'proving krl' |
     sed 's/^ssh-keygen/krl/')" "$(cat "$scratch/error")"
   differs 'what is proved' 'krl ' "$(proved)"
 )"
@@ -129,7 +139,7 @@ sleep 0.1 && echo '// a remark' >>away/crates/low/src/lib.rt
 build 'what a library is made of changes, and the library does not' 0 "$(made_of 6 4)" any 'low '
 sleep 0.1 && touch away/crates/upper/src/wrong && echo 7 >>away/crates/upper/src/lib.rt
 build 'a crate that is not proved' 255 '' "$(said_by 'proving and building, this once: 5 crates' \
-  'proving upper: 3 of 5 are proved')
+  'proving upper')
 not proved
 $(said_by "upper is not proved: all that was said is in $away/built/upper.log")" '' "${one[@]}"
 rm away/crates/upper/src/wrong && seq 6 >away/crates/upper/src/lib.rt
@@ -176,6 +186,16 @@ nothing_left() {
   # A killed process may take a moment to end.
   ! { sleep 0.3 && at_work; } || echo '  a crate is still being proved'
 }
+
+# The first crate lasts 3 seconds here, for 6 of the 661 lines by which the time is reckoned.
+hold low "${one[@]}"
+sleep 3
+go
+whole 'a slow first crate'
+judge 'the time that is said goes by the first crate' "$(
+  minutes=$(sed -n 's/.* takes about \([0-9]*\) minutes, by low$/\1/p' "$scratch/error")
+  [ "${minutes:-0}" -ge 5 ] || cat "$scratch/error"
+)"
 
 anew "${two[@]}"
 wait
@@ -270,6 +290,27 @@ wait
 judge 'no cache in the home folder' "$(differs 'standard output' "$(made_of 6 4)" "$(cat said)"
   differs 'what is proved there' 5 "$(ls -d "krl-keygen-$(id -u)"/*-* | wc -l)")"
 
+# A cache that others may write, so that nothing in it counts as proved.
+# distrusts NAME MODE WHY: a folder of this mode is refused.
+distrusts() {
+  rm -rf away/built
+  chmod "$2" "$store"
+  build "$1" 255 '' "$(said_by "$store $3, so what is in it may not be proved" \
+    'remove it, or name another folder in XDG_CACHE_HOME')" '' "${one[@]}"
+  chmod 700 "$store"
+}
+rm -rf "$store" && mkdir -m 700 "$store"
+distrusts 'a cache that a group may write' 770 'may be written by other users'
+distrusts 'a cache that all may write' 1707 'may be written by other users'
+mv "$store" elsewhere && ln -s "$PWD/elsewhere" "$store"
+distrusts 'a cache that is a link' 700 'is a link'
+rm "$store" && mv elsewhere "$store"
+if [ "$(id -u)" = 0 ]; then
+  chown 65534 "$store"
+  distrusts 'a cache of another user' 700 'belongs to user 65534'
+  chown 0 "$store"
+fi
+
 # Kits that take other words.
 other=$(said_by 'this kit takes other words than build.py knows, so rt builds, which takes longer')
 rm -rf away/built "$store"
@@ -310,8 +351,9 @@ echo 6 >away/crates/low/src/lib.rt
 library 'the first time' 0 6 'low krl_c '
 judge 'library/build: how far it is' \
   "$(differs 'standard error' 'library/build: proving and building, this once: 2 crates
-library/build: proving low: 0 of 2 are proved
-library/build: proving krl_c: 1 of 2 are proved' "$(cat "$scratch/error")")"
+library/build: proving low
+library/build: on this machine that takes about N minutes, by low
+library/build: proving krl_c: N of M seconds' "$(unnumbered "$scratch/error")")"
 library 'nothing changed' 0 6 ''
 sleep 0.1 && echo 7 >away/crates/low/src/lib.rt
 library 'a changed source' 0 7 'low krl_c '
@@ -385,12 +427,12 @@ make_of build library
 judge 'make: how far it is' "$(
   differs 'exit status' 0 $?
   differs 'standard error' 'ssh-keygen: proving and building, this once: 5 crates
-ssh-keygen: proving krl_tool: 4 of 5 are proved
+ssh-keygen: proving krl_tool: N of M seconds
 krl: proving and building, this once: 2 crates
-krl: proving krl: 1 of 2 are proved
+krl: proving krl
 library/build: proving and building, this once: 3 crates
-library/build: proving krl_c: 2 of 3 are proved' \
-  "$(grep -e 'this once' -e 'proving krl' "$scratch/error")"
+library/build: proving krl_c' \
+  "$(unnumbered "$scratch/error" | grep -e 'this once' -e 'proving krl')"
 )"
 for it in build:ssh-keygen library:library/build; do
   sleep 0.1 && touch away/crates.txt
