@@ -55,6 +55,19 @@ makes 'an update asked for twice' "${head}0000000000000003$rest$six" -u -u -z 3 
 makes 'a list of which all but the files is said twice' "${head}0000000000000002$rest$five" \
   -k -s none.pub -s none -z x -z 2 -f other.krl -f made.krl five
 judge 'the first of two lists is not made' "$(ls other.krl 2>/dev/null)"
+# A file between two uses of -s would get the authority of the second one. OpenSSH takes the second
+# -s for a file.
+for words in '-s g.pub five -s none six' '-s none five -s none' '-snone - -us none six' \
+  'six -s none -s g.pub five -z 1 -sg.pub -- six'; do
+  expect "a second -s after a file: $words" 2 '' "$usage" -k -f made.krl $words
+done
+judge 'a second -s after a file makes no list' "$(
+  differs 'the list' "${head}0000000000000002$rest$five" "$(digits made.krl)"
+)"
+makes 'a file before two uses of -s' "${head}0000000000000000$rest$five" \
+  five -s g.pub -s none
+makes 'files called as an option after two hyphens' "${head}0000000000000000$rest$five" \
+  -s g.pub -snone -- five -s five
 makes 'the list that there was' "${head}ffffffffffffffff$rest$six" \
   -u -z 18446744073709551615 -s none six
 expect 'an update past the greatest version' 255 '' \

@@ -3,7 +3,7 @@ use Rattle.std.specs.Prelude.{ℕ, Bool, List, Option, map, option_map}
 use Rattle.krl_job.specs.declared.given.Given.{Given as GivenOf}
 
 -- A parsed command line: which of the options without a value are given, the values of the others,
--- and the files.
+-- the files, and whether a file is named between two uses of -s.
 pub record Given : Type 0 where
   pub list : Bool
   pub certificates : Bool
@@ -15,6 +15,7 @@ pub record Given : Type 0 where
   pub authority : Option (List ℕ)
   pub version : Option (List ℕ)
   pub files : List (List ℕ)
+  pub is_divided : Bool
 
 -- the same, as the program stores it
 abbrev pub given_by : GivenOf → Given
@@ -29,4 +30,5 @@ given_by given = record {
   authority = option_map (λ text. text.now) given.authority;
   version = option_map (λ text. text.now) given.version;
   files = map (λ name. name.now) given.files.items;
+  is_divided = given.is_divided;
 }

@@ -93,11 +93,11 @@ mode_by list certificates make query = None
 abbrev pub is_for_making : Given → Bool
 is_for_making given = given.update || (is_some given.authority || is_some given.version)
 
--- The options go with the mode.
+-- The options go with the mode. A file between two uses of -s belongs to neither authority.
 abbrev pub fits : Mode → Given → Bool
 fits Keys given = not (is_for_making given) && length given.files == 0
 fits Certs given = not (is_for_making given) && length given.files == 0
-fits Make given = not (is_some given.hash)
+fits Make given = not (is_some given.hash) && not given.is_divided
 fits Query given = not (is_for_making given) && not (is_some given.hash)
 
 abbrev pub is_query : Mode → Bool
@@ -126,8 +126,8 @@ job_with given (Some mode) (Some file) (Some hash) (Some version) = Some (record
 })
 job_with given mode file hash version = None
 
--- The job of a command line: none if the options do not go together, -f is missing, or the value of
--- -E or -z is not valid.
+-- The job of a command line: none if the options do not go together, -f is missing, a file is named
+-- between two uses of -s, or the value of -E or -z is not valid.
 unfoldable pub job_of : Given → Option Asked
 job_of given =
     job_with given (mode_of given) given.file (hash_named given.hash) (version_named given.version)

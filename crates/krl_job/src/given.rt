@@ -1,7 +1,7 @@
 //! The options on a parsed command line.
 
 /// A parsed command line: which of the options without a value are given, the values of the others,
-/// and the files.
+/// the files, and whether a file is named between two uses of `-s`.
 #[derive(Drop)]
 pub struct Given<'a> {
     /// Whether `-l` is given.
@@ -24,4 +24,7 @@ pub struct Given<'a> {
     pub version: Option<&'a str>,
     /// The files that follow the options.
     pub files: Vec<&'a str>,
+    /// Whether a file is named between two uses of `-s`. It is not clear then whose serials and key
+    /// IDs the files name.
+    pub is_divided: bool,
 }

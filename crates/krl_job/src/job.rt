@@ -60,8 +60,8 @@ pub struct Job<'a> {
     pub files: Vec<&'a str>,
 }
 
-/// The job of a command line: none if the options do not go together, `-f` is missing, or the value
-/// of `-E` or `-z` is not valid.
+/// The job of a command line: none if the options do not go together, `-f` is missing, a file is
+/// named between two uses of `-s`, or the value of `-E` or `-z` is not valid.
 #[tactic(auto, unfolding(crate::specs::Job::job_of))]
 pub fn job_of<'a>(given: Given<'a>) -> Option<Job<'a>>
     ensures { option_map asked_of result ≡ job_of (given_by given.entry) }
@@ -102,7 +102,7 @@ fn fits(mode: Mode, given: &Given) -> bool
 {
     match mode {
         Mode::Keys | Mode::Certs => !is_for_making(given) && given.files.is_empty(),
-        Mode::Make => given.hash.is_none(),
+        Mode::Make => given.hash.is_none() && !given.is_divided,
         Mode::Query => !is_for_making(given) && given.hash.is_none(),
     }
 }

@@ -1,5 +1,5 @@
 -- The values of the words, by their matches.
-use Rattle.std.proofs.Common.{◌≡◌, ℕ, ◌+◌, ◌<◌, true, false, List, [], ◌∷◌, ◌++◌, length, map, take, get_or, Option, Result, Ok, Err, refl, sym, ap, ap₂, ◌∙◌, codes, inl, inr}
+use Rattle.std.proofs.Common.{◌≡◌, ℕ, Bool, ◌+◌, ◌<◌, true, false, List, [], ◌∷◌, ◌++◌, length, map, take, get_or, Option, Result, Ok, Err, refl, sym, ap, ap₂, ◌∙◌, codes, inl, inr}
 use Rattle.std.specs.Prelude.{unwrap_or, option_map}
 use Rattle.std.specs.Option.{option_map_or}
 use Rattle.std.specs.Str.{bytes_eq}
@@ -25,6 +25,7 @@ use Rattle.krl_words.specs.Command.{AsksFor, IsCommand, ReportsError}
 use Rattle.krl_job.specs.Job.{job_of}
 use Rattle.krl_job.specs.Given.{Given}
 use Rattle.krl_words.specs.Options.{given_in, given_of, is_set, program, rule_by, with_rules}
+use Rattle.krl_words.specs.Order.{is_divided}
 use Rattle.krl_words.specs.declared.options.Argument.{Argument}
 
 -- one more argument
@@ -62,9 +63,10 @@ pub files_by : (f : Found) (id : List ℕ) (values : Option (List (List ℕ))) �
 files_by f id values is = ap (λ (o : Option (List (List ℕ))). unwrap_or o []) (is ∙ raw_values-rows f id)
 
 -- the matches have the same values as the words
-pub held_by : (app : App) (words : List (List ℕ)) (m : ArgMatches) → app ≡ program → HasMatchesOf app words m → given_of (rows_of (found_of m)) ≡ given_in words
+pub held_by : (app : App) (words : List (List ℕ)) (m : ArgMatches) (divided : Bool) → app ≡ program → HasMatchesOf app words m → divided ≡ is_divided words
+    → given_of divided (rows_of (found_of m)) ≡ given_in words
 unfolding given_in
-held_by app words m same has = ap given_of ((rw same at has) program_is_simple).0
+held_by app words m divided same has order = ap₂ given_of order ((rw same at has) program_is_simple).0
 
 pub free_by : (app : App) (words : List (List ℕ)) → app ≡ program → (is_simple_and_free app ≡ true → fault_of app words ≡ []) → fault_of program words ≡ []
 free_by app words same free = (rw same at free) program_is_free

@@ -6,6 +6,7 @@ use Rattle.clap.specs.Lexer.{usize_max}
 use Rattle.clap.specs.Simple.{App, matches_of, new_rule, new_shape, with_rule}
 use Rattle.clap.specs.Walk.{Row, Rule, all_of, first_of}
 use Rattle.krl_job.specs.Given.{Given}
+use Rattle.krl_words.specs.Order.{is_divided}
 use Rattle.clap.specs.declared.builder.action.ArgAction.TheVariants.{Append, Set, SetTrue}
 use Rattle.clap.specs.declared.builder.action.ArgAction.TheVariants.{Version as AskVersion}
 use Rattle.krl_words.specs.declared.options.Argument.{Argument}
@@ -63,7 +64,8 @@ with_rules app [] = app
 with_rules app (rule ∷ rules) = with_rules (with_rule app rule) rules
 
 -- The program without its options. A use of an option overrides an earlier use of the same option:
--- the last of several values counts, and an option without a value counts once.
+-- the last of several values counts, and an option without a value counts once. Only a second -s
+-- after a file that follows the first one is refused (Order.antt).
 abbrev pub bare : App
 bare = record {
   top = record (new_shape (codes "krl-keygen")) {
@@ -80,8 +82,8 @@ program = with_rules bare rules
 abbrev pub is_set : List ℕ → List Row → Bool
 is_set id rows = option_map_or (λ text. bytes_eq text (codes "true")) (first_of id rows) false
 
-abbrev pub given_of : List Row → Given
-given_of rows = record {
+abbrev pub given_of : Bool → List Row → Given
+given_of divided rows = record {
   list = is_set (codes "list") rows;
   certificates = is_set (codes "certificates") rows;
   make = is_set (codes "make") rows;
@@ -92,8 +94,9 @@ given_of rows = record {
   authority = first_of (codes "authority") rows;
   version = first_of (codes "version") rows;
   files = unwrap_or (all_of (codes "files") rows) [];
+  is_divided = divided;
 }
 
 -- the values in these words, the program's name before them
 unfoldable pub given_in : List (List ℕ) → Given
-given_in words = given_of (matches_of program words)
+given_in words = given_of (is_divided words) (matches_of program words)

@@ -9,6 +9,7 @@ ghost use Rattle.krl_words.specs.declared.command.CommandFault.TheVariants.{NoMe
 
 use crate::given::given_in;
 use crate::options::program;
+use crate::order::is_divided;
 use crate::shown::text_for;
 use clap::error::ErrorKind;
 use clap::{ArgMatches, Error};
@@ -54,13 +55,14 @@ impl From<AllocError> for CommandFault {
 
 /// Returns the job that the words ask for, the program's name before them (ssh-keygen(1),
 /// SYNOPSIS). Returns `Words` if they cannot be parsed or ask for help or the version, `Usage` if
-/// the options do not go together or a value is invalid, `NoMemory` if an allocation fails.
+/// the options do not go together, a file is named between two uses of `-s`, or a value is invalid,
+/// `NoMemory` if an allocation fails.
 pub fn command_of<'a, S: AsStr>(alloc: Global, words: &'a [S]) -> Result<Job<'a>, CommandFault>
     ensures { IsCommand (map S.text words.entry.now) result }
 {
     let program = program(alloc)?;
     match program.try_get_matches_from(words) {
-        Ok(matches) => job_in(alloc, &matches),
+        Ok(matches) => job_in(alloc, &matches, is_divided(words)),
         Err(error) => Err(words_fault(alloc, &error, words)),
     }
 }
@@ -82,10 +84,14 @@ fn words_fault<S: AsStr>(alloc: Global, error: &Error, words: &[S]) -> CommandFa
 }
 
 // The job of words that can be parsed.
-fn job_in<'a>(alloc: Global, matches: &ArgMatches<'a>) -> Result<Job<'a>, CommandFault>
-    ensures { AsksFor (given_of (rows_of (found_of matches.now))) result }
+fn job_in<'a>(
+    alloc: Global,
+    matches: &ArgMatches<'a>,
+    is_divided: bool,
+) -> Result<Job<'a>, CommandFault>
+    ensures { AsksFor (given_of is_divided (rows_of (found_of matches.now))) result }
 {
-    let given = given_in(alloc, matches)?;
+    let given = given_in(alloc, matches, is_divided)?;
     match job_of(given) {
         Some(job) => Ok(job),
         None => Err(CommandFault::Usage),

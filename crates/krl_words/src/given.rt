@@ -10,10 +10,14 @@ use clap::ArgMatches;
 use krl_job::Given;
 use std::alloc::{AllocError, Global};
 
-/// The values in these matches.
-pub fn given_in<'a>(alloc: Global, matches: &ArgMatches<'a>) -> Result<Given<'a>, AllocError>
+/// The values in these matches, of words in which a file is named between two uses of `-s`, or not.
+pub fn given_in<'a>(
+    alloc: Global,
+    matches: &ArgMatches<'a>,
+    is_divided: bool,
+) -> Result<Given<'a>, AllocError>
     ensures { IfOk result (λ given.
-        given_by given ≡ given_of (rows_of (found_of matches.now))) }
+        given_by given ≡ given_of is_divided (rows_of (found_of matches.now))) }
 {
     let files = files_in(alloc, matches)?;
     Ok(Given {
@@ -27,6 +31,7 @@ pub fn given_in<'a>(alloc: Global, matches: &ArgMatches<'a>) -> Result<Given<'a>
         authority: matches.get_str("authority"),
         version: matches.get_str("version"),
         files,
+        is_divided,
     })
 }
 

@@ -5,6 +5,7 @@
 mod command;
 mod given;
 mod options;
+mod order;
 mod shown;
 mod usage;
 mod version;

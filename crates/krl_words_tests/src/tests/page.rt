@@ -46,6 +46,7 @@ fn options_have_a_mode(rt: HostRuntime) {
         authority: None,
         version: None,
         files: Vec::new(rt.alloc()),
+        is_divided: false,
     };
     assert!(rt; mode_given(given) == Some(Mode::Keys));
 }

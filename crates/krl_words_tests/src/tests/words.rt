@@ -102,7 +102,7 @@ fn contents_are_asked_for(rt: HostRuntime) -> Result<(), Fail> {
 // Words with `-k`, whether they update, the authority, the version and the files.
 type Making<'a> = (&'a [&'a str], bool, &'a str, Option<u64>, &'a [&'a str]);
 
-const MAKING: [Making<'static>; 5] = [
+const MAKING: [Making<'static>; 8] = [
     (
         &["ssh-keygen", "-kuf", "l", "a", "-"],
         true,
@@ -147,6 +147,28 @@ const MAKING: [Making<'static>; 5] = [
         Some(1),
         &[],
     ),
+    // uses of -s that no file divides
+    (
+        &["ssh-keygen", "x", "-ks", "a", "-f", "l", "-sb", "y"],
+        false,
+        "of b",
+        None,
+        &["x", "y"],
+    ),
+    (
+        &["ssh-keygen", "-k", "-s", "a", "x", "-f", "l", "y"],
+        false,
+        "of a",
+        None,
+        &["x", "y"],
+    ),
+    (
+        &["ssh-keygen", "-k", "-fl", "-s", "a", "--", "x", "-s", "b"],
+        false,
+        "of a",
+        None,
+        &["x", "-s", "b"],
+    ),
 ];
 
 // Whether the authority is the one of these words.
@@ -178,7 +200,7 @@ fn making(rt: HostRuntime) -> Result<(), Fail> {
     Ok(())
 }
 
-const MISUSED: [&[&str]; 10] = [
+const MISUSED: [&[&str]; 13] = [
     &["ssh-keygen"],
     &["ssh-keygen", "-Q"],
     &["ssh-keygen", "-f", "k"],
@@ -189,6 +211,32 @@ const MISUSED: [&[&str]; 10] = [
     &["ssh-keygen", "-Q", "-f", "k", "-u"],
     &["ssh-keygen", "-k", "-f", "k", "-z", "18446744073709551616"],
     &["ssh-keygen", "-k", "-f", "k", "-z", "\u{661}"],
+    // a file between two uses of -s
+    &[
+        "ssh-keygen",
+        "-k",
+        "-f",
+        "l",
+        "-s",
+        "a",
+        "x",
+        "-s",
+        "b",
+        "y",
+    ],
+    &["ssh-keygen", "-kfl", "-sa", "-", "-uz", "1", "-sa"],
+    &[
+        "ssh-keygen",
+        "-s",
+        "none",
+        "-s",
+        "a",
+        "x",
+        "-kf",
+        "l",
+        "-us",
+        "none",
+    ],
 ];
 
 // Whether the fault is a misuse, and says so.
