@@ -5,14 +5,17 @@ _krl() {
   COMPREPLY=()
   if [ "$COMP_CWORD" = 1 ]; then
     offered=$(compgen -W 'audit check --help --version' -- "$word")
+  elif [ "$before" = --max-age ]; then
+    offered=$(compgen -W '90m 24h 7d' -- "$word")
   elif [[ $word != -* || $before == -*f ||
     $before == --@(files0-from|newer-than|keep|canary) ]]; then
     offered=$(compgen -f -- "$word")
     compopt -o filenames 2>/dev/null
   elif [ "${COMP_WORDS[1]}" = check ]; then
-    offered=$(compgen -W '--newer-than --keep --canary --print-version --help --version' -- "$word")
+    offered=$(compgen -W '--newer-than --max-age --keep --canary --allow-empty --print-version
+      --help --version' -- "$word")
   else
-    offered=$(compgen -W '-a -f -q --json --files0-from --help --version' -- "$word")
+    offered=$(compgen -W '-a -f -q --all --json --files0-from --help --version' -- "$word")
   fi
   [ -z "$offered" ] || mapfile -t COMPREPLY <<<"$offered"
   return 0

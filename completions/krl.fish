@@ -13,11 +13,15 @@ complete -c krl -n "$audits" -F
 complete -c krl -n "$audits" -s f -rF -d 'The revocation list'
 complete -c krl -n "$audits" -s a -d 'Name the keys that are not revoked as well'
 complete -c krl -n "$audits" -s q -d 'Print nothing on standard output'
+complete -c krl -n "$audits" -l all -d 'Read every regular file of a directory'
 complete -c krl -n "$audits" -l json -d 'Print JSON objects'
 complete -c krl -n "$audits" -l files0-from -rF -d 'Read names of files'
 complete -c krl -n "$checks" -F
 complete -c krl -n "$checks" -l newer-than -rF -d 'Refuse a version below that of this list'
+complete -c krl -n "$checks" -l max-age -xa '90m 24h 7d' \
+  -d 'Refuse a list that was made longer ago than this'
 complete -c krl -n "$checks" -l keep -rF -d 'Refuse a list that revokes a key of this file'
 complete -c krl -n "$checks" -l canary -rF \
-  -d 'Refuse a list that does not revoke the key of this file'
+  -d 'Refuse a list that does not revoke each key of this file'
+complete -c krl -n "$checks" -l allow-empty -d 'Take a list that revokes nobody'
 complete -c krl -n "$checks" -l print-version -d 'Print the version of the list alone'

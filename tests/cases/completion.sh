@@ -56,12 +56,14 @@ offers_krl() {
 cd words || exit 1
 offers_krl 'the tasks of krl' --help,--version,audit,check ''
 offers_krl 'the task that was begun' audit a
-offers_krl 'the options of an audit' --files0-from,--help,--json,--version,-a,-f,-q audit -
+offers_krl 'the options of an audit' --all,--files0-from,--help,--json,--version,-a,-f,-q audit -
 offers_krl 'a list' two.krl audit -f t
 offers_krl 'files to audit' "$every" audit -f two.krl ''
 offers_krl 'a file of names' one.pub audit -f two.krl --files0-from o
-offers_krl 'the options of a check' --canary,--help,--keep,--newer-than,--print-version,--version \
-  check -
+offers_krl 'the options of a check' \
+  --allow-empty,--canary,--help,--keep,--max-age,--newer-than,--print-version,--version check -
+offers_krl 'durations' 24h,7d,90m check --max-age ''
+offers_krl 'the duration that was begun' 24h check --max-age 2
 offers_krl 'a file to be kept' one.pub check --keep o
 offers_krl 'a list to check' two.krl check --keep one.pub t
 cd ..

@@ -108,8 +108,8 @@ fn check_all<'t, 'a>(
     for name in &task.keep {
         round.check_file(Role::Keep, *name)?;
     }
-    if let Some(name) = task.canary {
-        round.check_file(Role::Canary, name)?;
+    for name in &task.canary {
+        round.check_file(Role::Canary, *name)?;
     }
     Ok(())
 }

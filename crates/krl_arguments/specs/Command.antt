@@ -1,6 +1,6 @@
 -- Which words ask for which task (krl(1), SYNOPSIS), and the exit statuses of other words.
 use Rattle.std.specs.Prelude.{◌≡◌, ◌≢◌, ◌⊎◌, ℕ, ⊤, Bool, false, List, [], None, Some, Option}
-use Rattle.std.specs.Prelude.{Result, Ok, Err, option_map, string_bytes}
+use Rattle.std.specs.Prelude.{Result, Ok, Err, string_bytes}
 use Rattle.clap.specs.Faults.{fault_of}
 use Rattle.clap.specs.Kinds.{IsAmong}
 use Rattle.clap.specs.Values.{kind_of}
@@ -26,7 +26,7 @@ abbrev pub AsksFor : Option (List ℕ × List Row) → Result TaskOf CommandFaul
 AsksFor found (Ok task) = task_in found ≡ Some (task_by task)
 AsksFor found (Err (Words help text)) =
     (task_in found ≡ None)
-    × ((help ≡ false) × (string_bytes text ≡ text_of_misuse (option_map (λ it. it.0) found)))
+    × ((help ≡ false) × (string_bytes text ≡ text_of_misuse found))
 AsksFor found (Err NoMemory) = ⊤
 
 -- why words cannot be parsed

@@ -1,5 +1,5 @@
 -- The subcommands that the program has, and their options (krl(1), SYNOPSIS).
-use Rattle.std.specs.Prelude.{ℕ, true, List, [], ◌∷◌, Some, codes, map}
+use Rattle.std.specs.Prelude.{ℕ, true, false, List, [], ◌∷◌, Some, codes, map}
 use Rattle.clap.specs.Lexer.{usize_max}
 use Rattle.clap.specs.Simple.{App, Shape, new_app, new_rule, new_shape, with_rule, with_subcommand}
 use Rattle.clap.specs.Walk.{Rule}
@@ -45,23 +45,26 @@ words_rule id = record (new_rule id) {
   value_names = 1;
 }
 
--- krl audit: -f, -a, -q, --json, --files0-from, and the files
+-- krl audit: -f, -a, -q, --all, --json, --files0-from, and the files
 abbrev pub audit_rules : List Rule
 audit_rules =
     needed_rule (codes "list") 102
-    ∷ letter_rule (codes "all") 97
+    ∷ letter_rule (codes "fine") 97
     ∷ letter_rule (codes "quiet") 113
+    ∷ long_rule (codes "all")
     ∷ long_rule (codes "json")
     ∷ value_rule (codes "files0-from")
     ∷ words_rule (codes "files") ∷ []
 
--- krl check: the list, --newer-than, --keep, --canary and --print-version
+-- krl check: the list, --newer-than, --max-age, --keep, --canary, --allow-empty and --print-version
 abbrev pub check_rules : List Rule
 check_rules =
     word_rule (codes "list")
     ∷ value_rule (codes "newer-than")
+    ∷ value_rule (codes "max-age")
     ∷ values_rule (codes "keep")
-    ∷ value_rule (codes "canary")
+    ∷ values_rule (codes "canary")
+    ∷ long_rule (codes "allow-empty")
     ∷ long_rule (codes "print-version") ∷ []
 
 -- the rule of an argument, by its form
@@ -88,8 +91,8 @@ with_all name rules = (with_rules (new_app name) rules).top
 abbrev pub subcommand_by : Subcommand → Shape
 subcommand_by subcommand = with_all subcommand.name.now (map rule_by subcommand.arguments.now)
 
--- The program without its subcommands. A use of an option with one value overrides an earlier use
--- of the same option, and an option without a value counts once.
+-- The program without its subcommands. No use of an option overrides an earlier one: a second use of
+-- an option is a conflict with the first, unless the option may have any number of values.
 abbrev pub bare : App
 bare = record {
   top = record (new_shape (codes "krl")) {
@@ -97,7 +100,7 @@ bare = record {
     propagate_version = true;
     disable_help_subcommand = true;
     subcommand_required = true;
-    args_override_self = true;
+    args_override_self = false;
   };
   subs = [];
 }

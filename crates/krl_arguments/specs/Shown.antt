@@ -1,7 +1,8 @@
 -- The texts for options of a subcommand that do not go together.
-use Rattle.std.specs.Prelude.{ℕ, ◌++◌, if◌then◌else◌, false, List, Option, codes}
-use Rattle.std.specs.Option.{option_map_or}
+use Rattle.std.specs.Prelude.{ℕ, ◌++◌, if◌then◌else◌, List, Option, Some, None, codes}
 use Rattle.std.specs.Str.{bytes_eq}
+use Rattle.clap.specs.Walk.{Row}
+use Rattle.krl_arguments.specs.Task.{has_wrong_age}
 
 -- why they do not, and the form of use
 abbrev pub error_text : List ℕ → List ℕ → List ℕ
@@ -13,15 +14,26 @@ error_text why usage =
 abbrev pub nothing_to_audit : List ℕ
 nothing_to_audit = error_text
     (codes "a file, a directory or --files0-from is needed")
-    (codes "audit -f <krl> [-aq] [--json] [--files0-from <file>] [file|directory]...")
+    (codes "audit -f <krl> [-aq] [--all] [--json] [--files0-from <file>] [file|directory]...")
 
 abbrev pub version_alone : List ℕ
 version_alone = error_text
     (codes "--print-version goes with no other option")
     (codes "check --print-version <krl>")
 
--- the text for the subcommand of this name
-unfoldable pub text_of_misuse : Option (List ℕ) → List ℕ
-text_of_misuse name =
-    if option_map_or (λ text. bytes_eq text (codes "check")) name false
-    then version_alone else nothing_to_audit
+abbrev pub wrong_age : List ℕ
+wrong_age = error_text
+    (codes "--max-age takes a number and one of s, m, h and d, as in 24h")
+    (codes "check --max-age <duration> <krl>")
+
+-- why the options of a subcommand of this name do not go together
+abbrev pub misuse_of : List ℕ → List Row → List ℕ
+misuse_of name rows =
+    if bytes_eq name (codes "check")
+    then (if has_wrong_age rows then wrong_age else version_alone)
+    else nothing_to_audit
+
+-- the text for a subcommand and its values
+unfoldable pub text_of_misuse : Option (List ℕ × List Row) → List ℕ
+text_of_misuse None = nothing_to_audit
+text_of_misuse (Some (name, rows)) = misuse_of name rows

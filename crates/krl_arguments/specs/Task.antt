@@ -1,20 +1,22 @@
 -- The tasks that words ask for (krl(1), SYNOPSIS).
-use Rattle.std.specs.Prelude.{ℕ, ◌&&◌, Bool, false, not, List, [], codes, is_some, map, Option}
+use Rattle.std.specs.Prelude.{ℕ, ◌&&◌, ◌||◌, Bool, false, not, List, [], codes, is_some, map, Option}
 use Rattle.std.specs.Prelude.{Some, None, option_and_then, option_map, unwrap_or, if◌then◌else◌}
 use Rattle.std.specs.Option.{option_map_or}
 use Rattle.std.specs.Str.{bytes_eq}
 use Rattle.clap.specs.Simple.{subcommand_of}
 use Rattle.clap.specs.Walk.{Row, all_of, first_of, is_empty}
+use Rattle.krl_arguments.specs.Duration.{duration_of}
 use Rattle.krl_arguments.specs.Options.{program}
 use Rattle.krl_arguments.specs.declared.task.Audit.{Audit as AuditOf}
 use Rattle.krl_arguments.specs.declared.task.Check.{Check as CheckOf}
 use Rattle.krl_arguments.specs.declared.task.Task.{Task as TaskOf}
 use Rattle.krl_arguments.specs.declared.task.Task.TheVariants as tasks
 
--- an audit: the list, whether -a, -q and --json are given, the file of names, and the files
+-- an audit: the list, whether -a, --all, -q and --json are given, the file of names, and the files
 pub record Audit : Type 0 where
   pub list : List ℕ
   pub all : Bool
+  pub every_file : Bool
   pub quiet : Bool
   pub json : Bool
   pub names_from : Option (List ℕ)
@@ -24,8 +26,10 @@ pub record Audit : Type 0 where
 pub record Check : Type 0 where
   pub list : List ℕ
   pub newer_than : Option (List ℕ)
+  pub max_age : Option ℕ
   pub keep : List (List ℕ)
-  pub canary : Option (List ℕ)
+  pub canary : List (List ℕ)
+  pub allow_empty : Bool
   pub print_version : Bool
 
 pub data Task : Type 0 where
@@ -43,7 +47,8 @@ values_of id rows = unwrap_or (all_of id rows) []
 abbrev pub audit_with : List Row → List ℕ → Audit
 audit_with rows list = record {
   list = list;
-  all = is_set (codes "all") rows;
+  all = is_set (codes "fine") rows;
+  every_file = is_set (codes "all") rows;
   quiet = is_set (codes "quiet") rows;
   json = is_set (codes "json") rows;
   names_from = first_of (codes "files0-from") rows;
@@ -59,28 +64,42 @@ abbrev pub audit_of : List Row → Option Audit
 audit_of rows =
     option_and_then (λ list. if_any (audit_with rows list)) (first_of (codes "list") rows)
 
+-- the seconds of --max-age, if it is given and is a duration
+abbrev pub max_age_of : List Row → Option ℕ
+max_age_of rows = option_and_then duration_of (first_of (codes "max-age") rows)
+
+-- --max-age is given and is no duration
+abbrev pub has_wrong_age : List Row → Bool
+has_wrong_age rows = option_map_or (λ text. not (is_some (duration_of text)))
+    (first_of (codes "max-age") rows) false
+
 abbrev pub check_with : List Row → List ℕ → Check
 check_with rows list = record {
   list = list;
   newer_than = first_of (codes "newer-than") rows;
+  max_age = max_age_of rows;
   keep = values_of (codes "keep") rows;
-  canary = first_of (codes "canary") rows;
+  canary = values_of (codes "canary") rows;
+  allow_empty = is_set (codes "allow-empty") rows;
   print_version = is_set (codes "print-version") rows;
 }
 
 -- there is no condition
 abbrev pub has_only_version : Check → Bool
 has_only_version check =
-    not (is_some check.newer_than) && (is_empty check.keep && not (is_some check.canary))
+    not (is_some check.newer_than) && (not (is_some check.max_age) && (is_empty check.keep
+    && (is_empty check.canary && not check.allow_empty)))
 
--- The check, unless the version is requested together with a condition.
-abbrev pub if_alone : Check → Option Check
-if_alone check =
-    if check.print_version && not (has_only_version check) then None else Some check
+-- The check, unless its age is no duration, or its version is requested together with a condition.
+abbrev pub if_whole : Bool → Check → Option Check
+if_whole has_wrong_age check =
+    if has_wrong_age || (check.print_version && not (has_only_version check)) then None
+    else Some check
 
 abbrev pub check_of : List Row → Option Check
-check_of rows =
-    option_and_then (λ list. if_alone (check_with rows list)) (first_of (codes "list") rows)
+check_of rows = option_and_then
+    (λ list. if_whole (has_wrong_age rows) (check_with rows list))
+    (first_of (codes "list") rows)
 
 -- the task of the subcommand of this name
 abbrev pub named_task : List ℕ → List Row → Option Task
@@ -103,6 +122,7 @@ abbrev pub audit_by : AuditOf → Audit
 audit_by audit = record {
   list = audit.list.now;
   all = audit.all;
+  every_file = audit.every_file;
   quiet = audit.quiet;
   json = audit.json;
   names_from = option_map (λ text. text.now) audit.names_from;
@@ -113,8 +133,10 @@ abbrev pub check_by : CheckOf → Check
 check_by check = record {
   list = check.list.now;
   newer_than = option_map (λ text. text.now) check.newer_than;
+  max_age = check.max_age;
   keep = map (λ name. name.now) check.keep.items;
-  canary = option_map (λ text. text.now) check.canary;
+  canary = map (λ name. name.now) check.canary.items;
+  allow_empty = check.allow_empty;
   print_version = check.print_version;
 }
 

@@ -2,6 +2,7 @@
 #![tactic(auto)]
 
 mod command;
+mod duration;
 mod options;
 mod shown;
 mod task;

@@ -48,14 +48,14 @@ pub enum Form {
     Words(&'static str),
 }
 
-const AUDIT: [Argument; 6] = [
+const AUDIT: [Argument; 7] = [
     Argument {
         id: "list",
         form: Form::Needed('f', "krl"),
         help: "The revocation list",
     },
     Argument {
-        id: "all",
+        id: "fine",
         form: Form::Letter('a'),
         help: "Name the keys that are not revoked as well",
     },
@@ -63,6 +63,11 @@ const AUDIT: [Argument; 6] = [
         id: "quiet",
         form: Form::Letter('q'),
         help: "Print nothing on standard output, and end after the first file with a revoked key",
+    },
+    Argument {
+        id: "all",
+        form: Form::Long,
+        help: "Read every regular file of a directory, whatever its name",
     },
     Argument {
         id: "json",
@@ -81,7 +86,7 @@ const AUDIT: [Argument; 6] = [
     },
 ];
 
-const CHECK: [Argument; 5] = [
+const CHECK: [Argument; 7] = [
     Argument {
         id: "list",
         form: Form::Word("krl"),
@@ -93,14 +98,24 @@ const CHECK: [Argument; 5] = [
         help: "Refuse a version below that of this list",
     },
     Argument {
+        id: "max-age",
+        form: Form::Value("duration"),
+        help: "Refuse a list that was made longer ago than this, as 90m, 24h or 7d",
+    },
+    Argument {
         id: "keep",
         form: Form::Values("file"),
         help: "Refuse a list that revokes a key of this file",
     },
     Argument {
         id: "canary",
-        form: Form::Value("file"),
-        help: "Refuse a list that does not revoke the key of this file",
+        form: Form::Values("file"),
+        help: "Refuse a list that does not revoke each key of this file",
+    },
+    Argument {
+        id: "allow-empty",
+        form: Form::Long,
+        help: "Take a list that revokes nobody",
     },
     Argument {
         id: "print-version",
@@ -123,8 +138,8 @@ pub const CHECKING: Subcommand = Subcommand {
     arguments: &CHECK,
 };
 
-/// The program, for parsing its words. If an option with one value is given more than once, the
-/// last one counts.
+/// The program, for parsing its words. An option is refused if it is given twice, unless it may have
+/// several values.
 pub fn program<'a>(alloc: Global) -> Result<Command<'a>, AllocError>
     ensures { IfOk result (λ command. app_of command ≡ program) }
 {
@@ -133,8 +148,7 @@ pub fn program<'a>(alloc: Global) -> Result<Command<'a>, AllocError>
         .version(VERSION)
         .propagate_version(true)
         .disable_help_subcommand(true)
-        .subcommand_required(true)
-        .args_override_self(true);
+        .subcommand_required(true);
     let audit = subcommand_of(alloc, &AUDITING)?;
     let check = subcommand_of(alloc, &CHECKING)?;
     bare.subcommand(audit)?.subcommand(check)

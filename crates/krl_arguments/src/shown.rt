@@ -1,10 +1,13 @@
 //! The text that is printed for words that are refused.
 
 ghost use Rattle.std.specs.Prelude.{◌≡◌, IfOk, string_bytes};
-ghost use Rattle.clap.specs.Matches.{subcommand_name_of};
-ghost use Rattle.krl_arguments.specs.Shown.{text_of_misuse};
+ghost use Rattle.clap.specs.Matches.{found_of};
+ghost use Rattle.clap.specs.Simple.{subcommand_rows_of};
+ghost use Rattle.clap.specs.Walk.{rows_of};
+ghost use Rattle.krl_arguments.specs.Shown.{misuse_of, text_of_misuse};
 
 use crate::options::program;
+use crate::tasks::has_wrong_age;
 use clap::ArgMatches;
 use clap::error::ErrorKind;
 use krl_words::shown_words;
@@ -16,7 +19,7 @@ const REFUSED: &str = "krl: words that are read once they are escaped\n";
 // The text for options of `krl audit` that do not go together.
 const NOTHING_TO_AUDIT: &str = "error: a file, a directory or --files0-from is needed
 
-Usage: krl audit -f <krl> [-aq] [--json] [--files0-from <file>] [file|directory]...
+Usage: krl audit -f <krl> [-aq] [--all] [--json] [--files0-from <file>] [file|directory]...
 
 For more information, try '--help'.
 ";
@@ -24,6 +27,14 @@ For more information, try '--help'.
 const VERSION_ALONE: &str = "error: --print-version goes with no other option
 
 Usage: krl check --print-version <krl>
+
+For more information, try '--help'.
+";
+
+// The text for a value of `--max-age` that is no duration.
+const WRONG_AGE: &str = "error: --max-age takes a number and one of s, m, h and d, as in 24h
+
+Usage: krl check --max-age <duration> <krl>
 
 For more information, try '--help'.
 ";
@@ -44,11 +55,24 @@ pub fn text_for<S: AsStr>(alloc: Global, words: &[S]) -> Result<String, AllocErr
 #[tactic(auto, unfolding(crate::specs::Shown::text_of_misuse))]
 pub fn text_of_misuse(alloc: Global, matches: &ArgMatches<'_>) -> Result<String, AllocError>
     ensures { IfOk result (λ text.
-        string_bytes text ≡ text_of_misuse (subcommand_name_of matches.now)) }
+        string_bytes text ≡ text_of_misuse (subcommand_rows_of matches.now)) }
 {
-    let text = match matches.subcommand_name() {
-        Some("check") => VERSION_ALONE,
-        _ => NOTHING_TO_AUDIT,
+    let text = match matches.subcommand() {
+        Some((name, found)) => misuse_of(name, found),
+        None => NOTHING_TO_AUDIT,
     };
     String::from_str(alloc, text)
+}
+
+// The text for the options of a subcommand of this name.
+fn misuse_of(name: &str, found: &ArgMatches<'_>) -> &'static str
+    ensures { result.now ≡ misuse_of name.now (rows_of (found_of found.now)) }
+{
+    if name != "check" {
+        NOTHING_TO_AUDIT
+    } else if has_wrong_age(found) {
+        WRONG_AGE
+    } else {
+        VERSION_ALONE
+    }
 }

@@ -16,6 +16,8 @@ pub struct Audit<'a> {
     pub list: &'a str,
     /// True if keys that are not revoked are printed too, by `-a`.
     pub all: bool,
+    /// True if every regular file of a directory is read, by `--all`.
+    pub every_file: bool,
     /// True if nothing is printed on standard output, by `-q`.
     pub quiet: bool,
     /// True if findings are printed as JSON, by `--json`.
@@ -33,10 +35,14 @@ pub struct Check<'a> {
     pub list: &'a str,
     /// The list whose version must not be higher than its own, by `--newer-than`.
     pub newer_than: Option<&'a str>,
+    /// The largest number of seconds since it was made, by `--max-age`.
+    pub max_age: Option<u64>,
     /// The files of keys that it must not revoke, by `--keep`.
     pub keep: Vec<&'a str>,
-    /// The file of the key that it must revoke, by `--canary`.
-    pub canary: Option<&'a str>,
+    /// The files of keys that it must revoke, by `--canary`.
+    pub canary: Vec<&'a str>,
+    /// True if it may revoke nobody, by `--allow-empty`.
+    pub allow_empty: bool,
     /// True if only its version is printed, by `--print-version`.
     pub print_version: bool,
 }

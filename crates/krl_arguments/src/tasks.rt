@@ -5,9 +5,10 @@ ghost use Rattle.clap.specs.Matches.{found_of};
 ghost use Rattle.clap.specs.Simple.{subcommand_rows_of};
 ghost use Rattle.clap.specs.Walk.{all_of, rows_of};
 ghost use Rattle.krl_arguments.specs.Task.{audit_by, audit_of, audit_with, check_by, check_of};
-ghost use Rattle.krl_arguments.specs.Task.{check_with, has_only_version, if_alone, if_any, is_set};
-ghost use Rattle.krl_arguments.specs.Task.{named_task, task_by, task_in};
+ghost use Rattle.krl_arguments.specs.Task.{check_with, has_only_version, has_wrong_age, if_any};
+ghost use Rattle.krl_arguments.specs.Task.{if_whole, is_set, max_age_of, named_task, task_by, task_in};
 
+use crate::duration::duration_of;
 use crate::task::{Audit, Check, Task};
 use clap::ArgMatches;
 use std::alloc::{AllocError, Global};
@@ -64,7 +65,8 @@ fn audit_with<'a>(
     let files = values_in(alloc, found, "files")?;
     Ok(Audit {
         list,
-        all: is_set(found, "all"),
+        all: is_set(found, "fine"),
+        every_file: is_set(found, "all"),
         quiet: is_set(found, "quiet"),
         json: is_set(found, "json"),
         names_from: found.get_str("files0-from"),
@@ -89,7 +91,7 @@ fn check_in<'a>(alloc: Global, found: &ArgMatches<'a>) -> Result<Option<Check<'a
         option_map check_by check ≡ check_of (rows_of (found_of found.now))) }
 {
     match found.get_str("list") {
-        Some(list) => Ok(if_alone(check_with(alloc, found, list)?)),
+        Some(list) => Ok(if_whole(has_wrong_age(found), check_with(alloc, found, list)?)),
         None => Ok(None),
     }
 }
@@ -104,20 +106,43 @@ fn check_with<'a>(
         check_by check ≡ check_with (rows_of (found_of found.now)) list.now) }
 {
     let keep = values_in(alloc, found, "keep")?;
+    let canary = values_in(alloc, found, "canary")?;
     Ok(Check {
         list,
         newer_than: found.get_str("newer-than"),
+        max_age: max_age_of(found),
         keep,
-        canary: found.get_str("canary"),
+        canary,
+        allow_empty: is_set(found, "allow-empty"),
         print_version: is_set(found, "print-version"),
     })
 }
 
-// The check, unless the version is requested together with a condition.
-fn if_alone(check: Check<'_>) -> Option<Check<'_>>
-    ensures { option_map check_by result ≡ if_alone (check_by check.entry) }
+// The seconds of `--max-age`, if it is given and is a duration.
+fn max_age_of(found: &ArgMatches<'_>) -> Option<u64>
+    ensures { result ≡ max_age_of (rows_of (found_of found.now)) }
 {
-    if check.print_version && !has_only_version(&check) {
+    match found.get_str("max-age") {
+        Some(text) => duration_of(text),
+        None => None,
+    }
+}
+
+/// Returns true if `--max-age` is given and is no duration.
+pub fn has_wrong_age(found: &ArgMatches<'_>) -> bool
+    ensures { result ≡ has_wrong_age (rows_of (found_of found.now)) }
+{
+    match found.get_str("max-age") {
+        Some(text) => duration_of(text).is_none(),
+        None => false,
+    }
+}
+
+// The check, unless its age is no duration, or its version is requested together with a condition.
+fn if_whole(has_wrong_age: bool, check: Check<'_>) -> Option<Check<'_>>
+    ensures { option_map check_by result ≡ if_whole has_wrong_age (check_by check.entry) }
+{
+    if has_wrong_age || check.print_version && !has_only_version(&check) {
         None
     } else {
         Some(check)
@@ -128,7 +153,11 @@ fn if_alone(check: Check<'_>) -> Option<Check<'_>>
 fn has_only_version(check: &Check<'_>) -> bool
     ensures { result ≡ has_only_version (check_by check.now) }
 {
-    check.newer_than.is_none() && check.keep.is_empty() && check.canary.is_none()
+    check.newer_than.is_none()
+        && check.max_age.is_none()
+        && check.keep.is_empty()
+        && check.canary.is_empty()
+        && !check.allow_empty
 }
 
 // Returns true if an option without a value is given.

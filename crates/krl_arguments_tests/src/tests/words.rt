@@ -35,9 +35,11 @@ fn audits(rt: HostRuntime) -> Result<(), Fail> {
     assert_eq!(rt; audit.list, "k");
     assert!(rt; audit.all && audit.quiet && audit.json && audit.names_from.is_none());
     assert!(rt; audit.files.as_slice() == ["a", "b", "-a"].as_slice());
-    let words = ["krl", "audit", "--files0-from=-", "-f", "x", "-f", "k"];
+    assert!(rt; !audit.every_file);
+    let words = ["krl", "audit", "--files0-from=-", "--all", "-f", "k"];
     let audit = audit_by(rt.alloc(), &words)?;
     assert_eq!(rt; audit.list, "k");
+    assert!(rt; audit.every_file);
     assert!(rt; audit.names_from == Some("-") && audit.files.is_empty());
     assert!(rt; !audit.all && !audit.quiet && !audit.json);
     Ok(())
@@ -53,22 +55,65 @@ fn checks(rt: HostRuntime) -> Result<(), Fail> {
         "k",
         "--canary=c",
         "--keep=b",
+        "--canary",
+        "d",
+        "--max-age",
+        "24h",
+        "--allow-empty",
         "--newer-than",
         "o",
     ];
     let check = check_by(rt.alloc(), &words)?;
     assert_eq!(rt; check.list, "k");
     assert!(rt; check.keep.as_slice() == ["ca.pub", "b"].as_slice());
-    assert!(rt; check.canary == Some("c") && check.newer_than == Some("o"));
-    assert!(rt; !check.print_version);
+    assert!(rt; check.canary.as_slice() == ["c", "d"].as_slice());
+    assert!(rt; check.newer_than == Some("o") && check.max_age == Some(86_400));
+    assert!(rt; check.allow_empty && !check.print_version);
     let check = check_by(rt.alloc(), &["krl", "check", "k", "--print-version"])?;
-    assert!(rt; check.print_version && check.keep.is_empty());
+    assert!(rt; check.print_version && check.keep.is_empty() && check.max_age.is_none());
+    assert!(rt; !check.allow_empty);
+    Ok(())
+}
+
+#[test]
+fn durations(rt: HostRuntime) -> Result<(), Fail> {
+    let rows: [(&str, u64); 6] = [
+        ("1s", 1),
+        ("90m", 5_400),
+        ("24h", 86_400),
+        ("7d", 604_800),
+        ("007d", 604_800),
+        ("18446744073709551615s", 18_446_744_073_709_551_615),
+    ];
+    for (text, seconds) in rows {
+        let words = ["krl", "check", "k", "--max-age", text];
+        let check = check_by(rt.alloc(), &words)?;
+        assert!(rt; check.max_age == Some(seconds), "{text}");
+    }
+    let refused: [&str; 12] = [
+        "",
+        "h",
+        "24",
+        "0h",
+        "1w",
+        "1 h",
+        "+1h",
+        "1.5h",
+        "1hh",
+        "1h\u{e9}",
+        "18446744073709551616s",
+        "9223372036854775808m",
+    ];
+    for text in refused {
+        let words = ["krl", "check", "k", "--max-age", text];
+        assert!(rt; status_by(rt.alloc(), &words)? == 2, "{text}");
+    }
     Ok(())
 }
 
 #[test]
 fn refusals(rt: HostRuntime) -> Result<(), Fail> {
-    let refused: [&[&str]; 12] = [
+    let refused: [&[&str]; 24] = [
         &["krl"],
         &["krl", "-f", "k", "a"],
         &["krl", "other"],
@@ -81,6 +126,25 @@ fn refusals(rt: HostRuntime) -> Result<(), Fail> {
         &["krl", "check", "k", "--keep"],
         &["krl", "check", "k", "--print-version", "--canary", "c"],
         &["krl", "check", "k", "--print-version", "--keep", "c"],
+        &["krl", "check", "k", "--print-version", "--newer-than", "c"],
+        &["krl", "check", "k", "--print-version", "--max-age", "1h"],
+        &["krl", "check", "k", "--print-version", "--allow-empty"],
+        &["krl", "audit", "-f", "k", "-f", "l", "a"],
+        &["krl", "audit", "-fk", "-fk", "a"],
+        &[
+            "krl",
+            "audit",
+            "-fk",
+            "--files0-from",
+            "a",
+            "--files0-from=b",
+        ],
+        &["krl", "audit", "-fk", "-qq", "a"],
+        &["krl", "audit", "-fk", "--all", "--all", "a"],
+        &["krl", "check", "k", "--newer-than", "a", "--newer-than=b"],
+        &["krl", "check", "k", "--max-age", "1h", "--max-age=2h"],
+        &["krl", "check", "k", "--allow-empty", "--allow-empty"],
+        &["krl", "check", "k", "--print-version", "--print-version"],
     ];
     for (i, words) in refused.iter().enumerate() {
         assert!(rt; status_by(rt.alloc(), words)? == 2, "in row {i}");
@@ -104,14 +168,51 @@ fn helps(rt: HostRuntime) -> Result<(), Fail> {
     Ok(())
 }
 
+// Words that are refused, and the beginning of what is said.
+const SAID: [(&[&str], &str); 6] = [
+    (
+        &["krl", "audit", "-f", "k"],
+        "error: a file, a directory or",
+    ),
+    (
+        &["krl", "check", "k", "--print-version", "--newer-than", "c"],
+        "error: --print-version goes with no other option",
+    ),
+    (
+        &["krl", "check", "k", "--max-age", "1w", "--print-version"],
+        "error: --max-age takes a number and one of s, m, h and d",
+    ),
+    (
+        &["krl", "audit", "-f", "k", "-f", "l", "a"],
+        "error: the argument '-f <krl>' cannot be used multiple times",
+    ),
+    (
+        &[
+            "krl",
+            "check",
+            "k",
+            "--newer-than",
+            "a",
+            "--newer-than",
+            "a",
+        ],
+        "error: the argument '--newer-than <krl>' cannot be used multiple times",
+    ),
+    (
+        &["krl", "check", "k", "--max-age", "1h", "--max-age", "2h"],
+        "error: the argument '--max-age <duration>' cannot be used multiple times",
+    ),
+];
+
 #[test]
 fn what_is_said(rt: HostRuntime) -> Result<(), Fail> {
-    let words: [&str; 4] = ["krl", "audit", "-f", "k"];
-    match task_of(rt.alloc(), &words) {
-        Err(CommandFault::Words { help, text }) => {
-            assert!(rt; !help && text.as_str().starts_with("error: a file, a directory or"));
-            Ok(())
+    for (words, wanted) in SAID {
+        match task_of(rt.alloc(), words) {
+            Err(CommandFault::Words { help, text }) => {
+                assert!(rt; !help && text.as_str().starts_with(wanted), "{wanted}");
+            }
+            _ => return Err(Fail::from("the words are refused")),
         }
-        _ => Err(Fail::from("there is nothing to audit")),
     }
+    Ok(())
 }

@@ -8,4 +8,4 @@ pub returns : goal.returns
 returns c =
     let f = found_of c.args.found.now in
     let names_from = value_by f (codes "files0-from") _ c.get_str.ensures in
-    rw (c.is_set.ensures, c.is_set-2.ensures, c.is_set-3.ensures, names_from, c.in_ok-files.ensures) refl
+    rw (c.is_set.ensures, c.is_set-2.ensures, c.is_set-3.ensures, c.is_set-4.ensures, names_from, c.in_ok-files.ensures) refl

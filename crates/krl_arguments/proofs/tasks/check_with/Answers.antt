@@ -8,5 +8,4 @@ pub returns : goal.returns
 returns c =
     let f = found_of c.args.found.now in
     let newer_than = value_by f (codes "newer-than") _ c.get_str.ensures in
-    let canary = value_by f (codes "canary") _ c.get_str-2.ensures in
-    rw (c.is_set.ensures, newer_than, canary, c.in_ok-keep.ensures) refl
+    rw (c.is_set.ensures, c.is_set-2.ensures, newer_than, c.max_age_of.ensures, c.in_ok-keep.ensures, c.in_ok-canary.ensures) refl
