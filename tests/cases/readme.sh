@@ -69,8 +69,8 @@ refuses() {
   for key in "${@:2}"; do ! enters "$key" || wrong+="  it lets in $key"$'\n'; done
   judge "sshd refuses $1" "$wrong"
 }
-check='krl check revoked.krl &&' named='krl check /etc/ssh/revoked.krl &&'
-both='krl-keygen -Q -f revoked.krl && ssh-keygen' lines='grep -ri revokedkeys'
+check=$'krl check revoked.krl\n' named='krl check /etc/ssh/revoked.krl'
+both=$'krl-keygen -Q -f revoked.krl\n' lines='grep -ri revokedkeys'
 lets_in 'all keys before it has a list' one two
 follows 'where no list is in force, none is named' "$named" 255 '*' again
 judge 'the configuration is as before' "$(asks 0 ls "$room/sshd_config.d")"
@@ -93,13 +93,12 @@ stays 'the list in force stays' "$room/revoked.krl"
 follows 'both programs refuse a truncated list' "$both" 255 \
   'ssh-keygen: revoked.krl: krl 3 EndsEarly' again
 : >revoked.krl
-judge 'an empty file is not put in place' "$(try_recipe "$check" >/dev/null && echo '  it is')"
+judge 'an empty file is not put in place' "$(is_refused "$check")"
 # OpenSSH 9.2 refuses any extension.
 { cat in-force && bytes "ff$(string "$(words name)00$(words contents)")"; } >revoked.krl
 judge 'the program reads a list with an extension' "$("$program" -Q -f revoked.krl 2>&1)"
-judge 'a list that OpenSSH refuses is not put in place' \
-  "$(try_recipe "$check" >/dev/null && echo '  it is')"
-judge 'both programs refuse it together' "$(try_recipe "$both" >/dev/null && echo '  they do not')"
+judge 'a list that OpenSSH refuses is not put in place' "$(is_refused "$check")"
+judge 'both programs refuse it together' "$(is_refused "$both")"
 stays 'the list in force stays, too' "$room/revoked.krl"
 
 # The statements about sshd.
@@ -146,10 +145,13 @@ echo 'serial: 9' >hosts
 follows 'a list under two authorities' "$anew" 0 ''
 cp revoked.krl "$room/revoked.krl"
 lets_in 'the key, and another certificate of it, of a person whose key ID is revoked' user other
-: >users
+# Its last line has no end.
+printf 'serial: 99' >users
 cp "$room/user.pub" alice.pub
 cp "$room/alice.pub" alice-cert.pub
-follows 'a person is locked out' "{ echo 'id: alice'" 0 ''
+follows 'a person is locked out' '[ -z "$(tail -c 1 users)" ]' 0 ''
+judge 'the line before those of this person is as it was' \
+  "$(differs lines $'serial: 99\nid: alice' "$(head -n 2 users)")"
 follows 'the list is made anew' "$anew" 0 '' again
 cp revoked.krl "$room/revoked.krl"
 refuses 'the key, and all certificates of it, of a person who is locked out' user alice other
@@ -190,7 +192,7 @@ stays 'the list stays, with the entries of both' revoked.krl
 # ---- a canary
 
 echo 'serial: 7' >hosts
-printf 'serial: 5\nid: someone\nkey: %s\nsha1: %s\n' "$(cat "$room/one.pub")" \
+printf 'serial: 5\nid: someone\nkey: %s\nsha1: %s' "$(cat "$room/one.pub")" \
   "$(cat "$room/two.pub")" >users
 follows 'a canary' "ssh-keygen -q -t ed25519 -N '' -C canary" 0 ''
 judge 'its private key is gone' "$([ ! -e canary ] || echo '  it is there')"

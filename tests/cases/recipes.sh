@@ -15,7 +15,7 @@ done
 "$program" -k -f revoked.krl -z 10 -s user-ca.pub users
 cp revoked.krl "$room/revoked.krl"
 "$program" -k -u -f revoked.krl -s user-ca.pub - <<<'serial: 6'
-guard='krl check revoked.krl --newer-than' remedy='ssh-keygen -Q -f revoked.krl &&'
+guard='krl check revoked.krl --newer-than' remedy=$'ssh-keygen -Q -f revoked.krl\n'
 cp revoked.krl whole.krl
 follows 'a list is guarded without krl' "$remedy" 0 "user-ca.pub (user-ca): ok
 $room/host.pub (host): ok
@@ -29,7 +29,7 @@ guarded() {
   for it in "$guard" "$remedy"; do
     has_krl || [ "$it" != "$guard" ] || continue
     judge "$1: ${it%% *}" "$(
-      try_recipe "$it" >/dev/null && echo '  it is put in force'
+      is_refused "$it"
       cmp in-force "$room/revoked.krl" 2>&1
     )"
   done
@@ -44,13 +44,13 @@ guarded "a list that revokes the host's own key"
 cp in-force revoked.krl
 "$program" -k -f revoked.krl -z 9 -s user-ca.pub users
 ! has_krl || judge 'an older list is refused' "$(
-  try_recipe "$guard" >/dev/null && echo '  it is put in force'
+  is_refused "$guard"
   cmp in-force "$room/revoked.krl" 2>&1
 )"
 
 # ---- a signed list is fetched
 
-mkdir web && cp "$top"/examples/systemd/* .
+cp "$top"/examples/systemd/* .
 printf '#!/bin/sh\necho "$*" >>%s/systemctl\n' "$room" >tools/systemctl && chmod +x tools/systemctl
 follows 'a key for signing' "ssh-keygen -q -t ed25519 -N '' -C krl" 0 ''
 "$program" -k -f revoked.krl -z 20 -s user-ca.pub users
@@ -67,47 +67,14 @@ if command -v systemd-analyze >/dev/null; then
     "$(asks 0 systemd-analyze verify "$room"/units/krl-pull.*)"
 fi
 
-# pulls NAME STATUS VERSION: what is on the web is fetched, with this status, and then this version
-# is in force.
-pulls() {
-  local status
-  PATH=$PWD/tools:$PATH KRL_SIGNERS=$room/krl_signers "$room/local/sbin/krl-pull" \
-    "file://$PWD/web/revoked.krl" \
-    "$room/revoked.krl" user-ca.pub >output 2>&1
-  status=$?
-  judge "krl-pull: $1" "$(
-    differs status "$2" $status && [ $status = "$2" ] || cat output
-    differs 'the version in force' "$3" \
-      "$(od -An -j 12 -N 8 -t u8 --endian=big "$room/revoked.krl" | tr -d ' ')"
-    differs 'files beside the list' '' "$(ls -A "$room" | grep krl-pull)"
-  )"
-}
-
-# publish VERSION [FILE ..]: a signed list of this version is on the web.
-publish() {
-  "$program" -k -f revoked.krl -z "$1" -s user-ca.pub users "${@:2}" &&
-    try_recipe 'rm -f revoked.krl.sig' &&
-    cp revoked.krl revoked.krl.sig web
-}
 if has_krl && need curl curl; then
-  pulls 'no list on the web' 37 11
-  publish 20
-  pulls 'a newer list' 0 20
-  pulls 'the same list' 0 20
-  publish 19
-  pulls 'an older list' 1 20
-  publish 30 user-ca.pub
-  pulls 'a list that revokes a key to keep' 1 20
-  publish 30
-  "$program" -k -f web/revoked.krl -z 31 -s user-ca.pub users
-  pulls 'a list with the signature of another' 1 20
-  publish 30
-  truncate -s -1 web/revoked.krl
-  pulls 'a truncated list' 1 20
-  publish 30
-  truncate -s 20 "$room/revoked.krl"
-  pulls 'any list, where that in force is damaged' 0 30
-  judge 'all may read it' "$(differs mode 644 "$(stat -c %a "$room/revoked.krl")")"
+  # pull.sh has what it refuses.
+  judge 'the script that was installed fetches the list' "$(
+    rm "$room/revoked.krl"
+    PATH=$PWD/tools:$PATH KRL_SIGNERS=$room/krl_signers KRL_PROTO==file \
+      asks 0 "$room/local/sbin/krl-pull" "file://$PWD/revoked.krl" "$room/revoked.krl" user-ca.pub
+    cmp revoked.krl "$room/revoked.krl" 2>&1
+  )"
 fi
 
 # ---- entries that expire

@@ -34,10 +34,11 @@ manual_recipes() {
   manual_blocks | sed 's/ssh-keygen -/krl-keygen -/g' | recipes_of
 }
 
-# recipe BEGINNING: the recipe that begins so.
+# recipe BEGINNING: the recipe whose first step begins so.
 recipe() {
-  recipes | awk -v beginning="$1" \
-    'BEGIN { RS = "\f\n" } index($0, beginning) == 1 { printf "%s", $0 }'
+  recipes | awk -v beginning="$1" 'BEGIN { RS = "\f\n" }
+    { steps = $0; sub(/^\(\n  set -e\n  /, "", steps) }
+    index(steps, beginning) == 1 { printf "%s", $0 }'
 }
 
 # begin_recipes: makes the folder tools, which has the programs that recipes call. The folder $room
@@ -62,7 +63,7 @@ in_room() {
   words+=(-e "s|/etc/systemd/system|$room/units|g; s|/home|$PWD/home|g")
   words+=(-e "s|~root/|$PWD/of_root/|g; s|/root |$PWD/of_root |g")
   [ -e tools/krl ] ||
-    words+=(-e 's/krl check \([^ ]*\) &&/krl-keygen -Q -f \1 \&\& ssh-keygen -Q -f \1 \&\&/')
+    words+=(-e 's/^\( *\)krl check \([^ ]*\)$/\1krl-keygen -Q -f \2\n\1ssh-keygen -Q -f \2/')
   sed "${words[@]}" <<<"$1"
 }
 
@@ -71,8 +72,17 @@ try_recipe() {
   PATH=$PWD/tools:$PATH bash -c "$(in_room "$(recipe "$1")")" 2>&1
 }
 
-# follows NAME BEGINNING STATUS OUTPUT [again]: the recipe ends with the status and prints this.
-# Where OUTPUT is a star, it may print anything. The first time counts.
+# ends_script BEGINNING: whether a script with set -e ends at the recipe that begins so, which fails.
+ends_script() {
+  rm -f went-on
+  PATH=$PWD/tools:$PATH bash -e -c "$(in_room "$(recipe "$1")")
+: >went-on" >/dev/null 2>&1
+  [ ! -e went-on ]
+}
+
+# follows NAME BEGINNING STATUS OUTPUT [again]: the recipe ends with the status and prints this, and
+# where it fails, a script with set -e ends there. Where OUTPUT is a star, it may print anything. The
+# first time counts.
 follows() {
   local got wanted
   wanted=$4${4:+$'\n'}status\ $3
@@ -81,8 +91,16 @@ follows() {
   judge "$1" "$(
     [ -n "$(recipe "$2")" ] || echo '  there is no such recipe'
     differs 'what it prints' "$wanted" "$got"
+    [ "$3" = 0 ] || ends_script "$2" || echo '  a script with set -e goes on'
   )"
   [ "${5:-}" = again ] || followed=$((followed + 1))
+}
+
+# is_refused BEGINNING: what is wrong where the recipe that begins so does not fail, typed or in a
+# script with set -e.
+is_refused() {
+  ! try_recipe "$1" >/dev/null || echo '  it ends well'
+  ends_script "$1" || echo '  a script with set -e goes on'
 }
 
 # has_krl: whether the program krl is there. A recipe that only it can follow counts where it is
