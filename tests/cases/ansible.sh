@@ -24,16 +24,25 @@ host() {
   printf '%s\n' "Include $ssh/sshd_config.d/*.conf" "HostKey $ssh/ssh_host_ed25519_key" \
     >"$ssh/sshd_config"
   echo "Include $ssh/ssh_config.d/*.conf" >"$ssh/ssh_config"
-  echo "$1 krl_root=$PWD/$1" >>inventory
 }
-for name in first second; do host $name; done
-cat >>inventory <<END_OF_FILE
+
+# How a host is reached, which is a folder where that is not said.
+declare -A reached
+# hosts NAME..: the inventory has these, in this order.
+hosts() {
+  local name
+  for name; do
+    echo "$name krl_root=$PWD/$name ${reached[$name]:-ansible_connection=local}"
+  done >inventory
+  cat >>inventory <<END_OF_FILE
 [all:vars]
-ansible_connection=local
 ansible_python_interpreter=/usr/bin/python3
 krl_source=$PWD/revoked.krl
 krl_canary=$PWD/canary.pub
 END_OF_FILE
+}
+for name in first second later third; do host $name; done
+hosts first second
 
 # version NUMBER [FILE ..]: the list has this version, and revokes the canary and the keys of the
 # files.
@@ -48,8 +57,8 @@ plays() {
   shift
   PATH=$PWD/tools:$PATH HOME=$PWD ANSIBLE_CONFIG=$PWD/ansible.cfg ANSIBLE_NOCOLOR=1 \
     ANSIBLE_PIPELINING=1 \
-    timeout 300 ansible-playbook -i "${inventory:-inventory}" -e '{"krl_serial": [1, "100%"]}' \
-    "$@" "$top/examples/ansible/krl.yml" \
+    timeout 300 ansible-playbook -i inventory \
+    -e '{"krl_serial": ['"${step:-1}"', "100%"]}' "$@" "$top/examples/ansible/krl.yml" \
     >output 2>&1 </dev/null
   differs 'status' "$wanted" $?
 }
@@ -59,14 +68,14 @@ recap() {
   sed -n '/^PLAY RECAP/,$s/^\([a-z]*\) .*'"$1"'=\([0-9]*\).*/\1=\2/p' output | paste -s -d ' '
 }
 
+# version_of HOST: the version of its list.
+version_of() {
+  od -An -j 12 -N 8 -t u8 --endian=big "$1/etc/ssh/revoked.krl" 2>/dev/null | tr -d ' '
+}
+
 # in_force NUMBER..: the versions of the lists of both hosts.
 in_force() {
-  local name got=
-  for name in first second; do
-    got+=" $(od -An -j 12 -N 8 -t u8 --endian=big $name/etc/ssh/revoked.krl \
-      2>/dev/null | tr -d ' ')"
-  done
-  differs 'versions in force' "$*" "${got:1}"
+  differs 'versions in force' "$*" "$(version_of first) $(version_of second)"
 }
 
 # plays_ill NAME TEXT VERSION..: the playbook ends at the first host, with this text, and these
@@ -108,8 +117,11 @@ judge 'a list is put in force' "$(
     grep -q "$name has version 10" output || echo "  the version of $name is not reported"
   done
 )"
-judge 'the same list again changes nothing' \
-  "$(plays 0 && differs 'changed' 'first=0 second=0' "$(recap changed)")"
+judge 'the same list again changes nothing, and sshd reads its configuration again' "$(
+  plays 0 -e "krl_reload='echo reloaded >>$PWD/reloads'"
+  differs 'changed' 'first=0 second=0' "$(recap changed)"
+  differs 'reloads' 2 "$(grep -c '^reloaded$' reloads)"
+)"
 version 20 leaver.pub
 judge 'a check changes nothing' "$(plays 0 --check && in_force 10 10)"
 judge 'a newer list is put in force' "$(plays 0 && in_force 20 20)"
@@ -118,6 +130,10 @@ version 10
 plays_ill 'an older list is refused' 'failed to validate' 20 20
 version 30 user-ca.pub
 plays_ill 'a list that revokes a key to keep is refused' 'user_ca.pub' 20 20
+version 30 first/etc/ssh/ssh_host_ed25519_key.pub
+plays_ill 'a list that revokes the second key to keep is refused' 'ssh_host_ed25519_key.pub' 20 20
+cp canary.pub revoked.krl
+plays_ill 'a plain list is refused' 'a plain list has no version' 20 20
 "$program" -k -f revoked.krl -z 30 leaver.pub >/dev/null
 plays_ill 'a list without the canary is refused' 'canary' 20 20
 version 30
@@ -129,11 +145,31 @@ version 30
 judge 'a damaged list is replaced' "$(plays 0 && in_force 30 30)"
 printf 'Match User nobody\n  RevokedKeys /dev/null\n' >>first/etc/ssh/sshd_config
 plays_ill 'a Match block that switches the list off is found' 'RevokedKeys /dev/null' 30 30
+echo 'NoSuchLine yes' >>first/etc/ssh/sshd_config
+judge 'sshd is not reloaded where its configuration is wrong' "$(
+  rm -f reloads
+  plays 2 -e "krl_reload='echo reloaded >>$PWD/reloads'"
+  differs 'the hosts that were tried' first=1 "$(recap failed)"
+  grep -qF NoSuchLine output || tail -n 20 output
+  [ ! -e reloads ] || echo '  it is reloaded'
+)"
+sed -i '/^HostKey/q' first/etc/ssh/sshd_config
+
+# The first step has two hosts, of which one fails.
+hosts first second later
+mv second/etc/ssh/user_ca.pub ca.pub
+version 31
+judge 'a host that fails ends the run, for the other of its step too' "$(
+  step=2 plays 2
+  differs 'the hosts that were tried' 'first second' "$(recap failed | sed 's/=[01]//g')"
+  differs 'the versions of the next step' '' "$(version_of later)"
+  differs 'the version of the host that fails' 30 "$(version_of second)"
+)"
+mv ca.pub second/etc/ssh/user_ca.pub
 
 # A folder again, behind a real sshd that uses the list of the folder: the playbook logs in anew
 # after a change.
 . "$tests/lib/sshd/serving.sh"
-host third
 made_key login ed25519
 cp "$room/login.pub" "$room/allowed"
 : >third/etc/ssh/revoked.krl
@@ -141,22 +177,46 @@ configure "RevokedKeys $PWD/third/etc/ssh/revoked.krl" "SetEnv PATH=$PWD/tools:$
   'Subsystem sftp internal-sftp'
 sed -i '/^ForceCommand/d' "$room/config.common"
 serve
-{
-  echo "third krl_root=$PWD/third ansible_host=127.0.0.1 ansible_port=$port ansible_user=$user"
-  sed -n '/^\[all:vars/,$p' inventory | grep -v ansible_connection
-  echo "ansible_ssh_private_key_file=$room/login"
-  echo "ansible_remote_tmp=$PWD/remote"
-  echo 'ansible_ssh_common_args=-F none -o StrictHostKeyChecking=no' \
-    '-o UserKnownHostsFile=/dev/null -o IdentityAgent=none'
-} >by_ssh
-inventory=by_ssh
+# If the file lost is there, the connection is lost for one command once the list has changed.
+cat >tools/losing <<END_OF_FILE
+#!/bin/sh
+case \$* in
+  *_command.py*)
+    cmp -s $PWD/revoked.krl $PWD/third/etc/ssh/revoked.krl && rm $PWD/lost 2>/dev/null && exit 255 ;;
+esac
+exec ssh "\$@"
+END_OF_FILE
+chmod +x tools/losing
+reached[third]="ansible_host=127.0.0.1 ansible_port=$port ansible_user=$user \
+  ansible_ssh_private_key_file=$room/login ansible_remote_tmp=$PWD/remote \
+  ansible_ssh_executable=$PWD/tools/losing ansible_pipelining=false \
+  ansible_ssh_common_args='-F none -o StrictHostKeyChecking=no -o UserKnownHostsFile=/dev/null \
+  -o IdentityAgent=none'"
+reached[down]='ansible_host=127.0.0.1 ansible_port=1'
+hosts down third second
 version 40
-judge 'a list is put in force by a login' "$(plays 0 || tail -n 20 output)"
+judge 'a list is put in force by a login, and a host that was down before is left out' "$(
+  step=2 plays 4
+  differs 'the hosts that cannot be reached' 'down=1 second=0 third=0' "$(recap unreachable)"
+  differs 'the hosts that failed' 'down=0 second=0 third=0' "$(recap failed)"
+  differs 'the versions in force' '40 40' "$(version_of third) $(version_of second)"
+)"
+hosts first third second
+touch lost
+version 45
+judge 'a host that is lost once its list has changed ends the run' "$(
+  step=2 plays 2
+  differs 'the hosts that were tried' 'first third' "$(recap failed | sed 's/=[01]//g')"
+  grep -qF 'third could not be reached for a while' output || tail -n 20 output
+  differs 'the version of the next step' 40 "$(version_of second)"
+)"
 version 50 "$room/login.pub"
 judge 'a list that lets nobody in any more ends the run' "$(
-  plays 4
-  differs 'the hosts that cannot be reached' third=1 "$(recap unreachable)"
-  grep -qF 'TASK [A new login works]' output || tail -n 20 output
+  step=2 plays 2
+  differs 'the hosts that were tried' 'first third' "$(recap failed | sed 's/=[01]//g')"
+  sed -n '/^TASK .A new login works/,/^$/p' output | grep -q '^fatal: .third.: FAILED' ||
+    tail -n 20 output
+  differs 'the version of the next step' 40 "$(version_of second)"
 )"
 ends
 judge 'the configuration of this machine is as before' "$(
