@@ -199,10 +199,12 @@ judge 'its version has the number of the program, the time and the commit' "$(
 judge 'it needs the C library of a version' \
   "$([[ "$(field Depends)" =~ ^'libc6 (>= '[0-9.]+')'$ ]] || field Depends)"
 # The kit decides how it compiles and links, and some bytes of the code look like misspelt words.
+# The shell of POSIX has ulimit -f, too.
 judge 'lintian finds nothing in the package, but for the code of the program' \
   "$(lintian --allow-root --display-info "$package" 2>&1 |
     grep -v -e '^N:' -e '^I: krl-keygen: hardening-no-' \
-    -e '^I: krl-keygen: spelling-error-in-binary')"
+    -e '^I: krl-keygen: spelling-error-in-binary' \
+    -e "^I: krl-keygen: bash-term-in-posix-shell 'ulimit' .*/krl-pull:")"
 judge 'apt would install it' \
   "$(apt-get --simulate install "$package" >"$scratch/output" 2>&1 || cat "$scratch/output")"
 dpkg-deb --extract "$package" "$root"
