@@ -18,3 +18,4 @@ pub mod TruncatedLists
 pub mod FixedFields
 pub mod PassingBits
 pub mod Lists
+mod Layouts

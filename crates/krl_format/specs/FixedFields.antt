@@ -1,12 +1,11 @@
 -- The first fields of a list, whose sizes depend on no length.
-use Rattle.std.specs.Prelude.{◌≡◌, ℕ, ◌+◌, Bool, true, false, List}
+use Rattle.std.specs.Prelude.{◌≡◌, ℕ, Bool, true, false, List}
 use Rattle.std.specs.Prelude.{◌++◌}
 use Rattle.std.specs.List.{concat}
 use Rattle.krl_format.specs.declared.place.Place.{Place}
 use Rattle.krl_format.specs.declared.place.Place.TheVariants as places
 use Rattle.krl_format.specs.declared.place.field.Table.{Table}
 use Rattle.krl_format.specs.declared.place.field.Table.TheVariants as tables
-use Rattle.krl_format.specs.declared.header.Header.{Header}
 use Rattle.krl_format.specs.Front.{State, start, Leads}
 use Rattle.krl_format.specs.Field.{row_of}
 

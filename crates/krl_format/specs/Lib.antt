@@ -5,3 +5,4 @@ pub mod Front
 pub mod Entries
 pub mod FixedFields
 pub mod Faults
+pub mod Layout

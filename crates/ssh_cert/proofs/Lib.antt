@@ -5,3 +5,4 @@ pub mod OptionLists
 pub mod Subjects
 pub mod TruncatedCertificates
 pub mod Sizes
+pub mod Layouts

@@ -153,3 +153,13 @@ value_again Principals value is stands = rw (principals_again value is) refl
 value_again Options value is stands = rw (options_again value is) refl
 value_again KeyBlob value is stands = rw (authority_again value.0 value.1 stands) refl
 value_again Signature value is stands = rw (algorithm_again value.0 value.1 stands) refl
+
+-- a value passes the judgement of its row
+pub value_passes : (meaning : Meaning) (before : List (List ℕ)) (value : Value meaning) → IsPart (step_of meaning).part (text_of meaning value) → IsValue meaning value → (step_of meaning).judged before (text_of meaning value) ≡ None
+value_passes Count before value is stands = refl
+value_passes Bytes before value is stands = refl
+value_passes RoleNumber before value is stands = rw (role_again value) refl
+value_passes Principals before value is stands = rw (principals_again value is) refl
+value_passes Options before value is stands = rw (options_again value is) refl
+value_passes KeyBlob before value is stands = rw (authority_again value.0 value.1 stands) refl
+value_passes Signature before value is stands = rw (algorithm_again value.0 value.1 stands) refl

@@ -12,3 +12,4 @@ pub mod Laws
 pub mod Validity
 pub mod Escape
 pub mod Sizes
+pub mod Layout

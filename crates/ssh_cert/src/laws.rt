@@ -6,11 +6,19 @@ ghost use Rattle.ssh_cert.specs.CertReading.{certificate_at};
 ghost use Rattle.ssh_cert.specs.Cert.{Cert, IsCertificate};
 ghost use Rattle.ssh_cert.specs.FirstFault.{IsFirstFault};
 ghost use Rattle.ssh_cert.specs.Laws.{HasCutFault, IsCut};
+ghost use Rattle.ssh_cert.specs.Layout.{IsCertificateText};
 ghost use Rattle.krl_types.specs.Subject.{Subject};
 ghost use Rattle.ssh_cert.specs.SubjectReading.{IsSubject, IsSubjectFault, subject_of};
 ghost use Rattle.ssh_cert.specs.declared.fault.CertFault.{CertFault};
 ghost use Rattle.ssh_cert.specs.declared.subject_fault.SubjectFault.{SubjectFault};
 ghost use Rattle.ssh_wire.specs.Wire.{IsBytes};
+
+/// The tables of a certificate spell the bytes that PROTOCOL.certkeys lists, field by field, and
+/// nothing else.
+pub fn certificate_is_these_bytes()
+    ensures { (blob : List ℕ) (certificate : Cert)
+        → IsCertificate blob certificate ↔ IsCertificateText blob certificate }
+{}
 
 /// Reading gives a certificate exactly where the bytes are its blob.
 pub fn read_where_spelled()

@@ -5,3 +5,4 @@ pub mod Keys
 pub mod FirstFaults
 pub mod TruncatedBlobs
 pub mod Sizes
+pub mod Layouts

@@ -5,3 +5,4 @@ pub mod KeyReading
 pub mod Value
 pub mod FirstFault
 pub mod Fields
+pub mod Layout

@@ -7,12 +7,19 @@ ghost use Rattle.ssh_key.specs.FirstFault.{IsFieldsFault, IsFirstFault};
 ghost use Rattle.ssh_key.specs.Key.{BeginsWithFields, IsKey, IsPositive, PublicKey, blob_of};
 ghost use Rattle.ssh_key.specs.KeyReading.{key_at, public_at};
 ghost use Rattle.ssh_key.specs.Kind.{bit_count, certificate_name, fields_of, type_name};
+ghost use Rattle.ssh_key.specs.Layout.{IsKeyText};
 ghost use Rattle.ssh_key.specs.Value.{SameValues};
 ghost use Rattle.ssh_key.specs.declared.fault.KeyFault.{KeyFault};
 ghost use Rattle.ssh_key.specs.declared.kind.Kind.{Kind};
 ghost use Rattle.ssh_key.specs.declared.fault.KeyFault.TheVariants.{Wire};
 ghost use Rattle.ssh_wire.specs.Wire.{IsBytes, number_of};
 ghost use Rattle.ssh_wire.specs.declared.fault.WireFault.TheVariants.{Short};
+
+/// The tables of the kinds spell the bytes that the documents list, field by field, and nothing
+/// else.
+pub fn key_is_these_bytes()
+    ensures { (blob : List ℕ) (key : PublicKey) → IsKey blob key ↔ IsKeyText blob key }
+{}
 
 /// No two kinds have the same type name, nor the same name for their certificates, and no name is
 /// both a key's and a certificate's.
