@@ -1,0 +1,5 @@
+//! The tests of `openssh_keys` and `curve_points`, through their public items.
+#![tactic(auto)]
+
+#[cfg(test)]
+mod tests;
