@@ -130,6 +130,7 @@ beside() {
 }
 zero=it\ names\ serial\ number\ 0 long='a bitmap has more than 2,048 bytes'
 other='a CA is no key, or a key in another spelling' size='the key of a CA is too short or too long'
+point='the key of a CA has an invalid point'
 first=0000000000000001 none=0000000000000000
 beside 'serial number 1' '' "$(certificates "$A" "20$(string $first)")"
 beside 'serial number 0' "$zero" "$(certificates "$A" "20$(string $none)")"
@@ -166,6 +167,39 @@ beside 'an RSA key of 16,384 bits' '' \
   "$(certificates "$(rsa "$exponent" "$(string 0080"$(repeat 2047 01)")")" '')"
 beside 'an RSA key of 16,385 bits' "$size" \
   "$(certificates "$(rsa "$exponent" "$(string 01"$(repeat 2048 01)")")" '')"
+most=$(string 0080"$(repeat 2047 01)") more=$(string 01"$(repeat 2048 01)")
+beside 'an RSA key with an exponent of 16,384 bits' '' \
+  "$(certificates "$(rsa "$most" "$(string 0080"$(repeat 127 01)")")" '')"
+beside 'an RSA key with an exponent of 16,385 bits' "$size" \
+  "$(certificates "$(rsa "$more" "$(string 0080"$(repeat 127 01)")")" '')"
+dsa=$(words ssh-dss)
+beside 'a DSA key of numbers of 16,384 bits' '' "$(certificates "$dsa$most$most$most$most" '')"
+for at in 1 2 3 4; do
+  numbers=("$dsa" "$exponent" "$exponent" "$exponent" "$exponent")
+  numbers[at]=$more
+  beside "a DSA key whose number $at has 16,385 bits" "$size" \
+    "$(certificates "$(printf %s "${numbers[@]}")" '')"
+done
+# The curve, and the coordinates of points of it: of a key that ssh-keygen made, of one whose first
+# coordinate has half as many bits as the curve's order, and of one whose first coordinate is the
+# order less one or a little more.
+while read -r curve on_it short long; do
+  beside "an authority on P-$curve" '' "$(certificates "$(ecdsa "$curve" "04$on_it")" '')"
+  beside "an authority beside P-$curve" "$point" \
+    "$(certificates "$(ecdsa "$curve" "04${on_it%?}$((0x${on_it: -1} < 8 ? 8 : 0))")" '')"
+  beside "an authority on P-$curve with a short coordinate" "$point" \
+    "$(certificates "$(ecdsa "$curve" "04$short")" '')"
+  beside "an authority on P-$curve with a long coordinate" "$point" \
+    "$(certificates "$(ecdsa "$curve" "04$long")" '')"
+  beside "an authority of zeros for P-$curve" "$point" \
+    "$(certificates "$(ecdsa "$curve" "04$(repeat $((${#on_it} / 2)) 00)")" '')"
+done <"$tests/lib/curve_points"
+device=$(words sk-ecdsa-sha2-nistp256@openssh.com nistp256)
+read -r _ on_it _ <"$tests/lib/curve_points"
+beside "a device's key on P-256" '' \
+  "$(certificates "$device$(string "04$on_it")$(words ssh:)" '')"
+beside "a device's key beside P-256" "$point" \
+  "$(certificates "$device$(string "04${on_it%?}$((0x${on_it: -1} < 8 ? 8 : 0))")$(words ssh:)" '')"
 beside 'an explicit key of no bytes' '' "$(section '')"
 beside 'an explicit key that is none' '' "$(section abcd)"
 

@@ -1,5 +1,5 @@
 -- The fields of a list for which OpenSSH refuses it, or reads other names.
-use Rattle.std.specs.Prelude.{ℕ, ◌-◌, ◌%◌, ◌==◌, ◌&&◌, ◌||◌, nat_le, nat_lt, not, if◌then◌else◌}
+use Rattle.std.specs.Prelude.{ℕ, ◌-◌, ◌%◌, ◌==◌, ◌&&◌, ◌||◌, nat_lt, not, if◌then◌else◌}
 use Rattle.std.specs.Prelude.{Bool, true, false, List, [], ◌∷◌, codes, length, take, Option, Some}
 use Rattle.std.specs.Prelude.{None, Result, Ok, Err}
 use Rattle.std.specs.List.{list_any}
@@ -7,8 +7,9 @@ use Rattle.ssh_wire.specs.Wire.{number_of}
 use Rattle.ssh_key.specs.Key.{PublicKey}
 use Rattle.ssh_key.specs.KeyReading.{key_at}
 use Rattle.ssh_key.specs.declared.fault.KeyFault.{KeyFault}
-use Rattle.ssh_key.specs.declared.kind.Kind.{Kind}
-use Rattle.ssh_key.specs.declared.kind.Kind.TheVariants as keys
+use Rattle.openssh_keys.specs.Judgement.{judgement_of}
+use Rattle.openssh_keys.specs.declared.judgement.Judgement.{Judgement}
+use Rattle.openssh_keys.specs.declared.judgement.Judgement.TheVariants as judgements
 use Rattle.krl_types.specs.declared.krl_fault.KrlFault.{KrlFault}
 use Rattle.krl_format.specs.Place.{expected}
 use Rattle.krl_format.specs.declared.place.Place.{Place}
@@ -31,6 +32,7 @@ difference_words differences.SerialZero = codes "it names serial number 0"
 difference_words differences.LongBitmap = codes "a bitmap has more than 2,048 bytes"
 difference_words differences.Authority = codes "a CA is no key, or a key in another spelling"
 difference_words differences.KeySize = codes "the key of a CA is too short or too long"
+difference_words differences.Point = codes "the key of a CA has an invalid point"
 difference_words differences.Extension = codes "it has an extension"
 difference_words differences.Signature = codes "it has a signature"
 
@@ -53,14 +55,14 @@ section_difference type_byte =
     if type_byte == 4 then Some differences.Signature
     else if type_byte == 255 then Some differences.Extension else None
 
--- whether OpenSSH accepts a key of this kind and size
-abbrev pub size_fits : Kind → ℕ → Bool
-size_fits keys.Rsa bits = nat_le 1024 bits && nat_le bits 16384
-size_fits keys.Dsa bits = nat_le bits 16384
-size_fits _ bits = true
+abbrev pub judgement_difference : Judgement → Option Difference
+judgement_difference judgements.Accepted = None
+judgement_difference judgements.Short = Some differences.KeySize
+judgement_difference judgements.Long = Some differences.KeySize
+judgement_difference judgements.Point = Some differences.Point
 
 abbrev pub key_difference : Result PublicKey KeyFault → Option Difference
-key_difference (Ok key) = found_if (not (size_fits key.kind key.bits)) differences.KeySize
+key_difference (Ok key) = judgement_difference (judgement_of key)
 key_difference (Err fault) = Some differences.Authority
 
 -- An authority is empty, for all authorities, or a key.

@@ -5,12 +5,13 @@ ghost use Rattle.krl_format.specs.Place.{certificates_expected, expected, serial
 ghost use Rattle.krl_openssh.specs.Difference.{authority_difference, bits_difference};
 ghost use Rattle.krl_openssh.specs.Difference.{certificates_difference, comment_difference};
 ghost use Rattle.krl_openssh.specs.Difference.{difference_at, difference_words, found_if, has_zero};
-ghost use Rattle.krl_openssh.specs.Difference.{is_long, names_zero, section_difference};
-ghost use Rattle.krl_openssh.specs.Difference.{serials_difference, size_fits};
+ghost use Rattle.krl_openssh.specs.Difference.{is_long, judgement_difference, names_zero};
+ghost use Rattle.krl_openssh.specs.Difference.{section_difference, serials_difference};
 
 use krl_format::{BitmapPlace, CertificatesPlace, Field, ItemKind, ListPlace, Place, SerialsPlace};
 use krl_types::{byte_of, u64_of};
-use ssh_key::{Kind, read_key};
+use openssh_keys::{Judgement, judge};
+use ssh_key::read_key;
 
 /// Why OpenSSH refuses a list, or reads other names from it.
 #[derive(Clone, Copy, PartialEq, Eq)]
@@ -25,9 +26,12 @@ pub enum Difference {
     LongBitmap,
     /// A certificate authority is not a key in its one spelling.
     Authority,
-    /// A certificate authority is an RSA key of fewer than 1,024 bits, or an RSA or DSA key of more
-    /// than 16,384.
+    /// A certificate authority is an RSA key of fewer than 1,024 bits, or an RSA or DSA key with a
+    /// number of more than 16,384.
     KeySize,
+    /// A certificate authority is a key of ECDSA whose point is not on its curve, or has a
+    /// coordinate that OpenSSH refuses.
+    Point,
     /// There is an extension.
     Extension,
     /// There is a signature.
@@ -46,6 +50,7 @@ impl Difference {
             Difference::LongBitmap => "a bitmap has more than 2,048 bytes",
             Difference::Authority => "a CA is no key, or a key in another spelling",
             Difference::KeySize => "the key of a CA is too short or too long",
+            Difference::Point => "the key of a CA has an invalid point",
             Difference::Extension => "it has an extension",
             Difference::Signature => "it has a signature",
         }
@@ -139,19 +144,19 @@ fn authority_difference(authority: &[u8]) -> Option<Difference>
         return None;
     }
     match read_key(authority) {
-        Ok(key) => found_if(!size_fits(key.kind(), key.bits()), Difference::KeySize),
+        Ok(key) => judgement_difference(judge(&key)),
         Err(_) => Some(Difference::Authority),
     }
 }
 
-// Returns true if OpenSSH accepts a key of this kind and size.
-fn size_fits(kind: Kind, bits: u32) -> bool
-    ensures { result ≡ size_fits kind bits }
+// The difference of a key by OpenSSH's judgement.
+fn judgement_difference(judgement: Judgement) -> Option<Difference>
+    ensures { result ≡ judgement_difference judgement }
 {
-    match kind {
-        Kind::Rsa => bits >= 1_024 && bits <= 16_384,
-        Kind::Dsa => bits <= 16_384,
-        _ => true,
+    match judgement {
+        Judgement::Accepted => None,
+        Judgement::Short | Judgement::Long => Some(Difference::KeySize),
+        Judgement::Point => Some(Difference::Point),
     }
 }
 

@@ -10,9 +10,7 @@ use krl_format::Place;
 
 /// Returns the first field for which OpenSSH refuses a list or reads other names from it, and why.
 /// Returns none if OpenSSH also reads the list, and reads the same names. The list must be one that
-/// can be read; for other bytes the result is not specified. Does not allocate. Does not check
-/// whether the point of an ECDSA key is on its curve, and checks only the modulus or the prime
-/// among the numbers of a key.
+/// can be read; for other bytes the result is not specified. Does not allocate.
 pub fn first_difference(list: &[u8]) -> Option<Difference>
     ensures { (fields : List (List ℕ)) → HasFields list.now fields
         → result ≡ first_difference start.place fields }

@@ -137,6 +137,24 @@ fn sizes_of_rsa_keys(rt: HostRuntime) {
     }
 }
 
+// Authorities with a long exponent, and with a point that is on no curve, since all of its bytes are
+// 4.
+#[test]
+fn keys_that_openssh_refuses(rt: HostRuntime) {
+    let alloc = rt.alloc();
+    let exponent = repeated(alloc, b"\x01", 2_049).expect(&rt, "there is memory");
+    let modulus = repeated(alloc, b"\x7f", 129).expect(&rt, "there is memory");
+    let point = repeated(alloc, b"\x04", 65).expect(&rt, "there is memory");
+    let rsa = strings(alloc, &[b"ssh-rsa", &exponent, &modulus]).expect(&rt, "there is memory");
+    let ecdsa = strings(alloc, &[b"ecdsa-sha2-nistp256", b"nistp256", &point]);
+    let ecdsa = ecdsa.expect(&rt, "there is memory");
+    let serial = b"\0\0\0\0\0\0\0\x01";
+    let of_rsa = certificates(&rt, alloc, &rsa, 0x20, serial);
+    let of_ecdsa = certificates(&rt, alloc, &ecdsa, 0x20, serial);
+    assert!(rt; differs(&rt, alloc, &of_rsa, Some(Difference::KeySize)));
+    assert!(rt; differs(&rt, alloc, &of_ecdsa, Some(Difference::Point)));
+}
+
 // Comments.
 const COMMENTS: [(&[u8], Option<Difference>); 5] = [
     (b"", None),
