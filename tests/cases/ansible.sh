@@ -201,6 +201,11 @@ judge 'a list is put in force by a login, and a host that was down before is lef
   differs 'the hosts that failed' 'down=0 second=0 third=0' "$(recap failed)"
   differs 'the versions in force' '40 40' "$(version_of third) $(version_of second)"
 )"
+hosts down second
+judge 'a step whose hosts were all down ends the run' "$(
+  plays 4
+  differs 'the hosts that were tried' down=1 "$(recap unreachable)"
+)"
 hosts first third second
 touch lost
 version 45
