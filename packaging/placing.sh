@@ -15,7 +15,7 @@ refuse() {
 # line_of FOLDER FILE: its line in a note: the checksum of its bytes, or of where it leads, and its
 # name.
 line_of() (
-  cd "$1"
+  cd "$1" || exit
   sum=$(if [ -L "$2" ]; then readlink "$2"; else cat "$2"; fi | sha256sum)
   printf '%s  %s\n' "${sum%% *}" "$2"
 )
