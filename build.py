@@ -379,8 +379,9 @@ class Build:
         if self.pace or it is self.last:
             return
         self.pace = (time.time() - it.began) / it.seconds
-        minutes = self.pace * self.lasting() / 60
-        say(f"on this machine that takes about {max(1, round(minutes))} minutes, by {it.name}")
+        minutes = max(1, round(self.pace * self.lasting() / 60))
+        plural = "" if minutes == 1 else "s"
+        say(f"on this machine that takes about {minutes} minute{plural}, by {it.name}")
 
     def link(self, it, program):
         words = [f"{self.kit}/bin/rattle-link", "--target", "x86_64-unknown-linux-gnu"]

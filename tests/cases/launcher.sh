@@ -63,7 +63,7 @@ proved() {
 # unnumbered FILE: what the file says, without how many seconds and minutes.
 unnumbered() {
   sed -e 's/: [0-9]* of about [0-9]* seconds$/: N of M seconds/' \
-    -e 's/about [0-9]* minutes/about N minutes/' "$1"
+    -e 's/about [0-9]* minutes\{0,1\},/about N minutes,/' "$1"
 }
 # build NAME STATUS OUTPUT ERROR PROVED WORD..
 build() {
