@@ -381,7 +381,7 @@ class Build:
         self.pace = (time.time() - it.began) / it.seconds
         minutes = max(1, round(self.pace * self.lasting() / 60))
         plural = "" if minutes == 1 else "s"
-        say(f"on this machine that takes about {minutes} minute{plural}, by {it.name}")
+        say(f"this takes about {minutes} minute{plural} on this machine, judging by {it.name}")
 
     def link(self, it, program):
         words = [f"{self.kit}/bin/rattle-link", "--target", "x86_64-unknown-linux-gnu"]

@@ -53,8 +53,8 @@ noted() {
   done <"$root/$note"
 }
 
-# replace FILE PLACE: a copy of the file gets the place by a rename, so a link there is replaced, and
-# not followed.
+# replace FILE PLACE: a copy of the file gets the place by a rename, so a link there is replaced,
+# and not followed.
 replace() {
   mkdir -p "$(dirname "$2")"
   cp -dpT --remove-destination "$1" "$2.new"

@@ -182,7 +182,8 @@ cat >tools/losing <<END_OF_FILE
 #!/bin/sh
 case \$* in
   *_command.py*)
-    cmp -s $PWD/revoked.krl $PWD/third/etc/ssh/revoked.krl && rm $PWD/lost 2>/dev/null && exit 255 ;;
+    cmp -s $PWD/revoked.krl $PWD/third/etc/ssh/revoked.krl && rm $PWD/lost 2>/dev/null &&
+      exit 255 ;;
 esac
 exec ssh "\$@"
 END_OF_FILE

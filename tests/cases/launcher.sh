@@ -63,7 +63,7 @@ proved() {
 # unnumbered FILE: what the file says, without how many seconds and minutes.
 unnumbered() {
   sed -e 's/: [0-9]* of about [0-9]* seconds$/: N of M seconds/' \
-    -e 's/about [0-9]* minutes\{0,1\},/about N minutes,/' "$1"
+    -e 's/about [0-9]* minutes\{0,1\} /about N minutes /' "$1"
 }
 # build NAME STATUS OUTPUT ERROR PROVED WORD..
 build() {
@@ -80,8 +80,9 @@ build() {
 every='low side upper aside krl_tool '
 : >calls
 all=$(said_by 'proving and building, this once: 5 crates' 'proving low' \
-  'on this machine that takes about N minutes, by low' 'proving side: N of M seconds' \
-  'proving upper: N of M seconds' 'proving aside: N of M seconds' 'proving krl_tool: N of M seconds')
+  'this takes about N minutes on this machine, judging by low' 'proving side: N of M seconds' \
+  'proving upper: N of M seconds' 'proving aside: N of M seconds' \
+  'proving krl_tool: N of M seconds')
 
 (use "${one[@]}") >said 2>"$scratch/error"
 judge 'the first use builds' "$(
@@ -193,7 +194,7 @@ sleep 3
 go
 whole 'a slow first crate'
 judge 'the time that is said goes by the first crate' "$(
-  minutes=$(sed -n 's/.* takes about \([0-9]*\) minutes, by low$/\1/p' "$scratch/error")
+  minutes=$(sed -n 's/.* takes about \([0-9]*\) minutes .* low$/\1/p' "$scratch/error")
   [ "${minutes:-0}" -ge 5 ] || cat "$scratch/error"
 )"
 
@@ -352,7 +353,7 @@ library 'the first time' 0 6 'low krl_c '
 judge 'library/build: how far it is' \
   "$(differs 'standard error' 'library/build: proving and building, this once: 2 crates
 library/build: proving low
-library/build: on this machine that takes about N minutes, by low
+library/build: this takes about N minutes on this machine, judging by low
 library/build: proving krl_c: N of M seconds' "$(unnumbered "$scratch/error")")"
 library 'nothing changed' 0 6 ''
 sleep 0.1 && echo 7 >away/crates/low/src/lib.rt

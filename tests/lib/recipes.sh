@@ -72,7 +72,7 @@ try_recipe() {
   PATH=$PWD/tools:$PATH bash -c "$(in_room "$(recipe "$1")")" 2>&1
 }
 
-# ends_script BEGINNING: whether a script with set -e ends at the recipe that begins so, which fails.
+# ends_script BEGINNING: whether a script with set -e ends at the recipe that begins so.
 ends_script() {
   rm -f went-on
   PATH=$PWD/tools:$PATH bash -e -c "$(in_room "$(recipe "$1")")
@@ -81,8 +81,8 @@ ends_script() {
 }
 
 # follows NAME BEGINNING STATUS OUTPUT [again]: the recipe ends with the status and prints this, and
-# where it fails, a script with set -e ends there. Where OUTPUT is a star, it may print anything. The
-# first time counts.
+# where it fails, a script with set -e ends there. Where OUTPUT is a star, it may print anything.
+# The first time counts.
 follows() {
   local got wanted
   wanted=$4${4:+$'\n'}status\ $3
