@@ -1,6 +1,6 @@
-//! The callers on the pages of `ssh_cert` and `cert_listing`, and the subject of a certificate.
+//! The callers on the pages of `ssh_cert`, `cert_listing` and `line_pieces`, and the subject of a certificate.
 
-ghost use Rattle.std.specs.Prelude.{◌≡◌, ◌++◌, ◌∷◌, IfOk, IsTrue, codes};
+ghost use Rattle.std.specs.Prelude.{◌≡◌, ◌++◌, ◌∷◌, [], IfOk, IsTrue, OnOk, codes, decimal};
 ghost use Rattle.cert_listing.specs.Listing.{listing_of};
 ghost use Rattle.ssh_cert.specs.Cert.{Cert, IsCertificate};
 ghost use Rattle.ssh_cert.specs.Escape.{escaped};
@@ -10,6 +10,7 @@ ghost use Rattle.key_text.specs.declared.hash.Hash.TheVariants.{Sha256};
 use crate::tests::parts::{Part, changed};
 use cert_listing::list_cert;
 use key_text::Hash;
+use line_pieces::{Escaped, put};
 use ssh_cert::laws::read_where_spelled;
 use ssh_cert::{Cert, Subject, push_escaped, read_cert, subject, valid_at};
 use std::alloc::{AllocError, Global};
@@ -36,6 +37,13 @@ fn listed(alloc: Global, file: &[u8], cert: &Cert, moment: u64) -> Result<Vec<u8
     text.extend_from_slice(b":\n")?;
     text.extend_from_slice(&list_cert(alloc, cert, Hash::Sha256, moment)?)?;
     Ok(text)
+}
+
+fn version_line(line: &mut Vec<u8>, name: &str, version: u64) -> Result<(), AllocError>
+    ensures { OnOk result (line.new.items
+        ≡ line.old.items ++ (escaped name.now ++ (codes ": " ++ (decimal version ++ 10 ∷ [])))) }
+{
+    put!(line; Escaped(name.as_bytes()), b": ", version, b"\n")
 }
 
 /// The serial number of a subject, if it is a certificate.
