@@ -66,8 +66,10 @@ judge 'a second -s after a file makes no list' "$(
 )"
 makes 'a file before two uses of -s' "${head}0000000000000000$rest$five" \
   five -s g.pub -s none
+cp five ./-s
 makes 'files called as an option after two hyphens' "${head}0000000000000000$rest$five" \
   -s g.pub -snone -- five -s five
+rm ./-s
 makes 'the list that there was' "${head}ffffffffffffffff$rest$six" \
   -u -z 18446744073709551615 -s none six
 expect 'an update past the greatest version' 255 '' \

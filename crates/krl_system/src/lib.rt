@@ -5,6 +5,7 @@
 mod clock;
 mod files;
 mod in_place;
+mod leftovers;
 mod locked_list;
 mod locking;
 mod names;

@@ -1,11 +1,12 @@
 //! Where a list is written, locked against other updates of it.
 
-use crate::locking::{Lock, lock_beside, lock_from_writers, lock_list, unlock};
+use crate::leftovers::remove_left;
+use crate::locking::{Lock, is_being_written, lock_beside, lock_from_writers, lock_list, unlock};
 use crate::names::followed;
 use crate::waiting::Waiting;
 use key_files::{Cause, FileFault};
 use std::fs::{self, File, Metadata, OpenOptions};
-use std::io::{self, ErrorKind};
+use std::io::{self, ErrorKind, Seek, SeekFrom};
 use std::os::unix::fs::MetadataExt;
 
 /// The source of the new list, besides its lines.
@@ -39,6 +40,63 @@ pub struct OldList {
     pub found: Metadata,
     /// Its path, with links followed.
     pub path: String,
+    /// The file that replaced it there, if it was changed before that.
+    pub(crate) put: Option<PutList>,
+}
+
+// A list that was put at a path, locked, so that no update writes it in place meanwhile.
+#[derive(Drop)]
+pub(crate) struct PutList {
+    pub(crate) file: File,
+    pub(crate) found: Metadata,
+}
+
+impl OldList {
+    // A file that no list has replaced.
+    fn new(file: File, found: Metadata, path: String) -> OldList {
+        let put = None;
+        OldList {
+            file,
+            found,
+            path,
+            put,
+        }
+    }
+
+    /// Whether the file was written to since its metadata was read. Its time and its length tell.
+    pub fn is_changed(&self) -> bool {
+        match self.file.metadata() {
+            Ok(now) => !is_unchanged(&now, &self.found),
+            Err(_) => true,
+        }
+    }
+
+    // Whether a list was written to this file, whole, since its metadata was read.
+    pub(crate) fn has_new_list(&self) -> bool {
+        self.is_changed() && !is_being_written(&self.file)
+    }
+
+    /// Whether no list has replaced the file yet.
+    pub fn is_read_first(&self) -> bool {
+        self.put.is_none()
+    }
+
+    // The file at the path, as far as this update knows.
+    pub(crate) fn at_path(&self) -> &Metadata {
+        match &self.put {
+            Some(put) => &put.found,
+            None => &self.found,
+        }
+    }
+
+    // Begins to read the file again, which was changed before this list replaced it.
+    pub(crate) fn read_again(&mut self, put: PutList) -> io::Result<()> {
+        self.found = self.file.metadata()?;
+        self.put = Some(put);
+        let mut file = &self.file;
+        file.seek(SeekFrom::Start(0))?;
+        Ok(())
+    }
 }
 
 /// Where a list is written. No other update reads or writes it while this is held.
@@ -84,7 +142,10 @@ pub fn lock_target(
     };
     let lock = lock_beside(rt, path.as_str(), list.as_ref(), waiting)?;
     let target = match &lock {
-        Some(_) => beside_lock(rt, name, path, made_of, waiting),
+        Some(_) => {
+            remove_left(rt, path.as_str());
+            beside_lock(rt, name, path, made_of, waiting)
+        }
         None => in_place(rt, name, path, made_of, waiting),
     };
     match target {
@@ -124,7 +185,7 @@ fn beside_lock(
             if made_of == MadeOf::List {
                 lock_from_writers(rt, &file, waiting)?;
             }
-            Ok(Some(Target::List(OldList { file, found, path })))
+            Ok(Some(Target::List(OldList::new(file, found, path))))
         }
         Opened::Nothing if leads_to_path(rt, name, path.as_str(), None)? => {
             Ok(Some(Target::Free(path)))
@@ -148,7 +209,7 @@ fn in_place(
                 return Err(Cause::File(FileFault::Open));
             };
             if leads_to_path(rt, name, path.as_str(), Some(&found))? {
-                Ok(Some(Target::List(OldList { file, found, path })))
+                Ok(Some(Target::List(OldList::new(file, found, path))))
             } else {
                 Ok(None)
             }
@@ -200,6 +261,12 @@ pub(crate) fn is_at(rt: &HostRuntime, path: &str, old: Option<&Metadata>) -> boo
         (Err(error), None) => error.kind() == ErrorKind::NotFound,
         _ => false,
     }
+}
+
+// Whether a file that had these metadata was not written to until it had those.
+pub(crate) fn is_unchanged(now: &Metadata, before: &Metadata) -> bool {
+    let moment = (before.mtime(), before.mtime_nsec());
+    (now.mtime(), now.mtime_nsec()) == moment && now.size() == before.size()
 }
 
 // Whether both are metadata of the same file.

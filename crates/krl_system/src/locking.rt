@@ -5,7 +5,7 @@ ghost use Rattle.std.specs.Prelude.{◌≡◌, ◌↔◌, ◌⊎◌, IsTrue};
 use crate::locked_list::{is_same, unopened};
 use crate::names::{lock_name, new_name};
 use crate::rights::{CLOSED, is_of_writer, share_lock};
-use crate::waiting::{SECOND, TURNS, Waiting};
+use crate::waiting::{TURNS, Waiting};
 use key_files::{Cause, FileFault};
 use std::fs::{self, File, Metadata, OpenOptions, TryLockError};
 use std::io::{self, ErrorKind};
@@ -24,6 +24,16 @@ pub struct Lock {
     file: File,
     found: Metadata,
     path: String,
+}
+
+// The lock that is asked for.
+#[derive(Clone, Copy)]
+struct Asking<'a> {
+    // Its name, beside the path of the list.
+    name: &'a str,
+    path: &'a str,
+    // The list, if there is one.
+    list: Option<&'a Metadata>,
 }
 
 // The result of one attempt to take the lock.
@@ -51,15 +61,18 @@ pub(crate) fn lock_beside(
         Ok(name) => name,
         Err(error) => return Err(unopened(&error)),
     };
+    let asked = Asking {
+        name: name.as_str(),
+        path,
+        list,
+    };
+    let mut known = None;
     let mut was_refused = false;
     for _ in 0..=TURNS {
-        match ask(rt, name.as_str(), path, list) {
+        match ask(rt, asked, &mut known) {
             Ok(Asked::Locked(file, found)) => {
-                return Ok(Some(Lock {
-                    file,
-                    found,
-                    path: name,
-                }));
+                let path = name;
+                return Ok(Some(Lock { file, found, path }));
             }
             Ok(Asked::NoFile) => return Ok(None),
             Ok(Asked::Refused) if !was_refused => {
@@ -78,12 +91,12 @@ pub(crate) fn lock_beside(
 
 // Tries to take the lock once. If the name is a link or another file, it is neither followed nor
 // written to.
-fn ask(rt: &HostRuntime, name: &str, path: &str, list: Option<&Metadata>) -> io::Result<Asked> {
+fn ask(rt: &HostRuntime, asked: Asking<'_>, known: &mut Option<Option<u32>>) -> io::Result<Asked> {
     let mut options = OpenOptions::new();
     options.read(true).write(true).create_new(true).mode(CLOSED);
-    match options.open(rt, name) {
-        Ok(file) => ask_new(rt, name, file, list),
-        Err(error) if error.kind() == ErrorKind::AlreadyExists => ask_other(rt, name, path, list),
+    match options.open(rt, asked.name) {
+        Ok(file) => ask_new(rt, asked.name, file, asked.list),
+        Err(error) if error.kind() == ErrorKind::AlreadyExists => ask_other(rt, asked, known),
         Err(error) if takes_no_file(error.kind()) => Ok(Asked::NoFile),
         Err(error) => Err(error),
     }
@@ -102,32 +115,52 @@ fn ask_new(rt: &HostRuntime, name: &str, file: File, list: Option<&Metadata>) ->
     asked
 }
 
-// Takes the lock with a file that exists already, of an update that is at work or was killed.
+// Takes the lock with a file that exists already, of an update that is at work or was killed. Only
+// a file of someone who may write the list is opened: another user could make the call wait, by a
+// lease on the file. What was opened is looked at again, since it may be another file by then. A
+// pipe that is opened to be read and written makes no call wait.
 fn ask_other(
     rt: &HostRuntime,
-    name: &str,
-    path: &str,
-    list: Option<&Metadata>,
+    asked: Asking<'_>,
+    known: &mut Option<Option<u32>>,
 ) -> io::Result<Asked> {
-    if !seen(rt, name)?.is_some_and(|found| found.is_file()) {
+    let user = match *known {
+        Some(user) => user,
+        None => maker(rt, asked.path)?,
+    };
+    *known = Some(user);
+    let Some(found) = seen(rt, asked.name)? else {
+        return Ok(Asked::Busy);
+    };
+    if !is_acceptable(&found, asked.list, user) {
         return Ok(Asked::Busy);
     }
     let mut options = OpenOptions::new();
     options.read(true).write(true);
-    let file = match options.open(rt, name) {
+    let file = match options.open(rt, asked.name) {
         Ok(file) => file,
         Err(error) if takes_no_file(error.kind()) => return Ok(Asked::Refused),
         Err(error) if error.kind() == ErrorKind::NotFound => return Ok(Asked::Busy),
         Err(error) => return Err(error),
     };
-    let Asked::Locked(file, found) = lock_named(rt, name, file)? else {
+    let Asked::Locked(file, found) = lock_named(rt, asked.name, file)? else {
         return Ok(Asked::Busy);
     };
-    match maker(rt, path)? {
+    match user {
         None => Ok(Asked::NoFile),
-        Some(user) if is_of_writer(&found, list, user) => Ok(Asked::Locked(file, found)),
+        Some(_) if is_acceptable(&found, asked.list, user) => Ok(Asked::Locked(file, found)),
         Some(_) => Ok(Asked::Busy),
     }
+}
+
+// Whether the file may be used as the lock by the user who owns new files beside it. If the folder
+// takes no new file, it is only waited for.
+fn is_acceptable(found: &Metadata, list: Option<&Metadata>, user: Option<u32>) -> bool {
+    found.is_file()
+        && match user {
+            Some(user) => is_of_writer(found, list, user),
+            None => true,
+        }
 }
 
 // Locks the file, if it still has its name then.
@@ -172,7 +205,11 @@ fn maker(rt: &HostRuntime, path: &str) -> io::Result<Option<u32>> {
     match options.open(rt, name.as_str()) {
         Ok(file) => {
             let found = file.metadata();
-            fs::remove_file(rt, name.as_str())?;
+            match fs::remove_file(rt, name.as_str()) {
+                // The update that has the lock removes what was left.
+                Err(error) if error.kind() != ErrorKind::NotFound => return Err(error),
+                _ => {}
+            }
             Ok(Some(found?.uid()))
         }
         Err(error) if takes_no_file(error.kind()) => Ok(None),
@@ -216,17 +253,17 @@ pub(crate) fn lock_list(rt: &HostRuntime, list: &File, waiting: &mut Waiting) ->
 }
 
 // Locks a list that is to be replaced, against updates that write it in place. A user who may only
-// read it can lock it too, so after a second it is used without the lock, unless it is being
-// written.
+// read it can lock it too, so it is used without the lock, unless it is being written. Whether it
+// was changed is looked at afterwards.
 pub(crate) fn lock_from_writers(
     rt: &HostRuntime,
     list: &File,
     waiting: &mut Waiting,
 ) -> Result<(), Cause> {
-    for turn in 0..=TURNS {
+    for _ in 0..=TURNS {
         match takes_lock(list) {
             Ok(true) => return Ok(()),
-            Ok(false) if turn >= SECOND && !is_being_written(list) => return Ok(()),
+            Ok(false) if !is_being_written(list) => return Ok(()),
             Ok(false) => waiting.wait(rt)?,
             Err(error) => return Err(unopened(&error)),
         }
@@ -234,8 +271,14 @@ pub(crate) fn lock_from_writers(
     Err(Cause::File(FileFault::Locked))
 }
 
+// Locks a new file before it gets the name of a list, so that no update writes it in place until
+// this one is done. No other one has it open, so it is locked if there are locks.
+pub(crate) fn lock_new(file: &File) {
+    let _ = file.try_lock();
+}
+
 // Whether the list has the format version of a list that is being written in place.
-fn is_being_written(list: &File) -> bool {
+pub(crate) fn is_being_written(list: &File) -> bool {
     let mut version = [0; 4];
     list.read_exact_at(&mut version, VERSION_AT).is_ok() && version == NO_VERSION
 }

@@ -10,6 +10,8 @@ const LINKS: usize = 40;
 // How many bytes of the list's name are in the names of the files beside it. These are then short
 // enough for file systems that allow only 143 bytes.
 const FRONT: usize = 100;
+// The length of the number in the name of a new file, with the dot before it.
+const DIGITS: usize = 17;
 
 // The path of the file to which the name leads, with links followed. The file need not exist.
 pub(crate) fn followed(rt: &HostRuntime, name: &str) -> io::Result<String> {
@@ -53,8 +55,30 @@ pub(crate) fn new_name(rt: &HostRuntime, path: &str) -> io::Result<String> {
     beside(rt.alloc(), path, name.as_str())
 }
 
+// Whether `new_name` makes such a name of a list whose name has this front.
+pub(crate) fn is_new_name(front: &[u8], name: &[u8]) -> bool {
+    let Some(rest) = name.strip_prefix(b".") else {
+        return false;
+    };
+    let Some(rest) = rest.strip_prefix(front) else {
+        return false;
+    };
+    match rest.split_first_chunk::<DIGITS>() {
+        Some((number, end)) => is_number(number) && end == b".new".as_slice(),
+        None => false,
+    }
+}
+
+// Whether these are a dot and the digits of a number.
+fn is_number(bytes: &[u8; DIGITS]) -> bool {
+    bytes[0] == b'.'
+        && bytes[1..]
+            .iter()
+            .all(|byte| matches!(byte, b'0'..=b'9' | b'a'..=b'f'))
+}
+
 // The front of the last component of a path.
-fn front_of(path: &str) -> &str {
+pub(crate) fn front_of(path: &str) -> &str {
     let last = match path.rsplit_once('/') {
         Some((_, last)) => last,
         None => path,

@@ -2,7 +2,8 @@
 //! then renamed.
 
 use crate::in_place::{send_all, write_in_place};
-use crate::locked_list::{Locked, OldList, Target, is_at, is_same, unopened};
+use crate::locked_list::{Locked, OldList, PutList, Target, is_at, is_same, unopened};
+use crate::locking::lock_new;
 use crate::names::{beside, new_name};
 use crate::rights::{first_mode, keep_rights};
 use key_files::Cause;
@@ -22,6 +23,17 @@ pub enum Written {
     Whole,
     /// Its name leads to another file by now, or that file was changed. The list must be made anew.
     Elsewhere,
+    /// All of it is written under its name, but the old list was changed right before that. The
+    /// list must be made again, of the old one as it is now.
+    Changed,
+}
+
+// The same, with the file that replaced an old list which was changed.
+#[derive(Drop)]
+enum Put {
+    Whole,
+    Elsewhere,
+    Over(PutList),
 }
 
 // The name and the path of a list.
@@ -36,12 +48,32 @@ struct Destination<'a> {
 
 /// Writes a list under its name. On a fault an old list is unchanged, unless its folder takes no
 /// new file.
-pub fn write_list<'a>(
+pub fn write_list(
+    rt: &HostRuntime,
+    name: &str,
+    locked: &mut Locked,
+    text: &[u8],
+) -> Result<Written, Cause> {
+    match put_list(rt, name, locked, text)? {
+        Put::Whole => Ok(Written::Whole),
+        Put::Elsewhere => Ok(Written::Elsewhere),
+        Put::Over(put) => match &mut locked.target {
+            Target::List(old) => match old.read_again(put) {
+                Ok(()) => Ok(Written::Changed),
+                Err(error) => Err(unopened(&error)),
+            },
+            _ => Ok(Written::Elsewhere),
+        },
+    }
+}
+
+// Writes a list under its name.
+fn put_list<'a>(
     rt: &HostRuntime,
     name: &'a str,
     locked: &'a Locked,
     text: &[u8],
-) -> Result<Written, Cause> {
+) -> Result<Put, Cause> {
     match &locked.target {
         Target::List(old) if locked.lock.is_none() => overwrite(rt, name, old, text),
         Target::List(old) => {
@@ -62,16 +94,16 @@ pub fn write_list<'a>(
             )
         }
         Target::Stream(file) => match send_all(file, text) {
-            Ok(()) => Ok(Written::Whole),
+            Ok(()) => Ok(Put::Whole),
             Err(count) => Err(Cause::Output { count }),
         },
     }
 }
 
 // Writes the list in place. This counts only if the name still leads to the file afterwards.
-fn overwrite(rt: &HostRuntime, name: &str, old: &OldList, text: &[u8]) -> Result<Written, Cause> {
+fn overwrite(rt: &HostRuntime, name: &str, old: &OldList, text: &[u8]) -> Result<Put, Cause> {
     if !is_as_opened(rt, old) {
-        return Ok(Written::Elsewhere);
+        return Ok(Put::Elsewhere);
     }
     match write_in_place(&old.file, text) {
         Ok(()) => looked_at(rt, name, &old.found, None),
@@ -80,23 +112,34 @@ fn overwrite(rt: &HostRuntime, name: &str, old: &OldList, text: &[u8]) -> Result
 }
 
 // Writes the list to a new file, which replaces the old one.
-fn replace(rt: &HostRuntime, destination: Destination<'_>, text: &[u8]) -> Result<Written, Cause> {
+fn replace(rt: &HostRuntime, destination: Destination<'_>, text: &[u8]) -> Result<Put, Cause> {
     let new = match create_beside(rt, destination) {
         Ok(new) => new,
         Err(error) => return Err(unopened(&error)),
     };
-    let put = match finish(&new.file, destination.old, text) {
+    let named = match finish(&new.file, destination.old, text) {
         Ok(found) => match give_name(rt, new.path.as_str(), destination) {
-            Ok(Written::Whole) => {
-                sync_folder(rt, destination.path);
-                return looked_at(rt, destination.name, &found, destination.old);
+            Ok(true) => {
+                let file = new.file;
+                return put_at(rt, destination, PutList { file, found });
             }
-            other => other,
+            Ok(false) => Ok(Put::Elsewhere),
+            Err(cause) => Err(cause),
         },
         Err(cause) => Err(cause),
     };
     let _ = fs::remove_file(rt, new.path.as_str());
-    put
+    named
+}
+
+// What the list that has its name by now replaced. The old list may have been written in place
+// right before that, by an update that ended well.
+fn put_at(rt: &HostRuntime, destination: Destination<'_>, put: PutList) -> Result<Put, Cause> {
+    sync_folder(rt, destination.path);
+    if destination.old.is_some_and(|old| old.has_new_list()) {
+        return Ok(Put::Over(put));
+    }
+    looked_at(rt, destination.name, &put.found, destination.old)
 }
 
 // The new file, until it has the name of the list.
@@ -125,10 +168,11 @@ fn create_beside(rt: &HostRuntime, destination: Destination<'_>) -> io::Result<N
 // Writes and syncs a new file before it gets the name of the list, and returns its metadata.
 // Synced, it loses no byte if closing it fails.
 fn finish(file: &File, old: Option<&OldList>, text: &[u8]) -> Result<Metadata, Cause> {
-    if let Some(old) = old
-        && keep_rights(file, &old.found).is_err()
-    {
-        return Err(UNWRITTEN);
+    if let Some(old) = old {
+        lock_new(file);
+        if keep_rights(file, &old.found).is_err() {
+            return Err(UNWRITTEN);
+        }
     }
     if send_all(file, text).is_err() || file.sync_all().is_err() {
         return Err(UNWRITTEN);
@@ -139,35 +183,30 @@ fn finish(file: &File, old: Option<&OldList>, text: &[u8]) -> Result<Metadata, C
 // Gives the new file the name of the list. If no file had the name, a link is made, which succeeds
 // only if the name is still free, so that no file is replaced that was created meanwhile. If no
 // link can be made, as on some file systems, and if there is an old list, the name is checked
-// directly before the new file is renamed.
-fn give_name(rt: &HostRuntime, new: &str, destination: Destination<'_>) -> Result<Written, Cause> {
+// directly before the new file is renamed. Returns false if it leads elsewhere, or the old list was
+// changed.
+fn give_name(rt: &HostRuntime, new: &str, destination: Destination<'_>) -> Result<bool, Cause> {
     if destination.old.is_none() && fs::hard_link(rt, new, destination.path).is_ok() {
         let _ = fs::remove_file(rt, new);
-        return Ok(Written::Whole);
+        return Ok(true);
     }
     let is_ready = match destination.old {
         Some(old) => is_as_opened(rt, old),
         None => is_at(rt, destination.path, None),
     };
     if !is_ready {
-        return Ok(Written::Elsewhere);
+        return Ok(false);
     }
     match fs::rename(rt, new, destination.path) {
-        Ok(()) => Ok(Written::Whole),
+        Ok(()) => Ok(true),
         Err(_) => Err(UNWRITTEN),
     }
 }
 
-// Whether the old list is still at its path, and was not written to since it was opened.
+// Whether the old list, or the one that replaced it, is still at its path, and the old one was not
+// written to since it was opened.
 fn is_as_opened(rt: &HostRuntime, old: &OldList) -> bool {
-    match old.file.metadata() {
-        Ok(now) => {
-            let moment = (old.found.mtime(), old.found.mtime_nsec());
-            let is_unchanged = (now.mtime(), now.mtime_nsec()) == moment;
-            is_unchanged && now.size() == old.found.size() && is_at(rt, &old.path, Some(&old.found))
-        }
-        Err(_) => false,
-    }
+    !old.is_changed() && is_at(rt, &old.path, Some(old.at_path()))
 }
 
 // Follows the name once more, to the list that was written. If it leads to another file, it was
@@ -178,14 +217,14 @@ fn looked_at(
     name: &str,
     put: &Metadata,
     old: Option<&OldList>,
-) -> Result<Written, Cause> {
+) -> Result<Put, Cause> {
     match fs::metadata(rt, name) {
-        Ok(found) if is_same(&found, put) => Ok(Written::Whole),
+        Ok(found) if is_same(&found, put) => Ok(Put::Whole),
         Ok(found) if found.nlink() == 0 && old.is_some_and(|old| is_same(&found, &old.found)) => {
-            Ok(Written::Whole)
+            Ok(Put::Whole)
         }
-        Ok(_) => Ok(Written::Elsewhere),
-        Err(error) if error.kind() == ErrorKind::NotFound => Ok(Written::Elsewhere),
+        Ok(_) => Ok(Put::Elsewhere),
+        Err(error) if error.kind() == ErrorKind::NotFound => Ok(Put::Elsewhere),
         Err(error) => Err(unopened(&error)),
     }
 }

@@ -1,7 +1,8 @@
 //! The rights of a file that replaces a list.
 
-ghost use Rattle.std.specs.Prelude.{◌≡◌, IsNone, IfSome, IsTrue, bit_and};
+ghost use Rattle.std.specs.Prelude.{◌≡◌, ◌≤◌, IsNone, IfSome, bit_and};
 ghost use Rattle.std.specs.Fs.{metadata_mode};
+ghost use Rattle.krl_system.specs.Rights.{is_writer, kept_mode, lock_mode, shared_rights};
 
 use std::fs::{File, Metadata, Permissions};
 use std::io;
@@ -38,21 +39,27 @@ pub(crate) fn keep_rights(file: &File, old: &Metadata) -> io::Result<()> {
 }
 
 // The mode of the old list. If the new file has another owner or group, the set-user-ID or
-// set-group-ID bit is cleared, and another group gets only the rights that all others have too.
+// set-group-ID bit is cleared. With another group, the members of the old one are among all others,
+// and those of the new one may be in the old one too. So the group and all others get only the
+// rights that both had.
 fn kept_mode(mode: u32, has_owner: bool, has_group: bool) -> u32
-    ensures whole { IsTrue has_owner → IsTrue has_group → result ≡ bit_and mode 0o7777 }
+    ensures { result ≡ kept_mode mode has_owner has_group }
 {
-    if has_owner && has_group {
-        return mode & PERMISSIONS;
-    }
-    let mut taken = 0;
-    if !has_owner {
-        taken |= 0o4000;
-    }
-    if !has_group {
-        taken |= 0o2070 & !((mode & 0o007) << 3);
-    }
-    mode & PERMISSIONS & !taken
+    let by_owner = if has_owner { PERMISSIONS } else { 0o3777 };
+    let by_group = if has_group {
+        PERMISSIONS
+    } else {
+        0o5700 + 9 * shared_rights(mode)
+    };
+    mode & by_owner & by_group
+}
+
+// The rights that both the group and all others have, as a digit of a mode.
+fn shared_rights(mode: u32) -> u32
+    ensures value { result ≡ shared_rights mode }
+    ensures digit { result ≤ 7 }
+{
+    mode / 8 & mode & 0o007
 }
 
 // Gives the file of a lock to those who may write the list: its owner, and its group or all others,
@@ -62,10 +69,7 @@ pub(crate) fn share_lock(file: &File, list: &Metadata) {
         return;
     };
     let mut mode = lock_mode(list.mode());
-    if mode & 0o020 != 0
-        && new.gid() != list.gid()
-        && fchown(file, None, Some(list.gid())).is_err()
-    {
+    if mode != CLOSED && new.gid() != list.gid() && fchown(file, None, Some(list.gid())).is_err() {
         mode = lock_mode(kept_mode(list.mode(), true, false));
     }
     if new.uid() != list.uid() {
@@ -78,9 +82,10 @@ pub(crate) fn share_lock(file: &File, list: &Metadata) {
 
 // The mode of a lock beside a list with this mode: everyone who may write the list may open the
 // lock.
-fn lock_mode(mode: u32) -> u32 {
-    let writers = mode & 0o022;
-    CLOSED | writers | (writers << 1)
+fn lock_mode(mode: u32) -> u32
+    ensures { result ≡ lock_mode mode }
+{
+    CLOSED + 3 * (mode & 0o022)
 }
 
 // Whether the file of a lock was created by someone who may write the list: the user, root, the
@@ -92,9 +97,17 @@ pub(crate) fn is_of_writer(lock: &Metadata, list: Option<&Metadata>, user: u32) 
     }
     match list {
         Some(list) => {
-            let by_group = list.mode() & 0o020 != 0 && list.gid() == lock.gid();
-            list.uid() == lock.uid() || by_group || list.mode() & 0o002 != 0
+            let is_owner = list.uid() == lock.uid();
+            is_writer(list.mode(), is_owner, list.gid() == lock.gid())
         }
         None => false,
     }
+}
+
+// Whether the owner of a list with this mode, or someone else who may be in its group, may write it
+// or become its owner.
+fn is_writer(mode: u32, is_owner: bool, is_member: bool) -> bool
+    ensures { result ≡ is_writer mode is_owner is_member }
+{
+    is_owner || is_member && mode & 0o020 != 0 || mode & 0o002 != 0
 }

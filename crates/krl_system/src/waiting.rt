@@ -14,7 +14,7 @@ const TURN: u64 = 10;
 // The number of turns: a minute, which is far longer than an update takes.
 pub(crate) const TURNS: u32 = 6_000;
 // The number of turns in a second.
-pub(crate) const SECOND: u32 = 100;
+const SECOND: u32 = 100;
 
 /// How long an update has waited for others.
 #[derive(Drop)]
@@ -31,9 +31,9 @@ impl<'a> Waiting<'a> {
         Waiting { name, turns: 0 }
     }
 
-    // Waits for a turn. After a second it prints a line on standard error, once. Fails after the
-    // last turn.
-    pub(crate) fn wait(&mut self, rt: &HostRuntime) -> Result<(), Cause>
+    /// Waits for a turn. After a second it prints a line on standard error, once. Fails after the
+    /// last turn.
+    pub fn wait(&mut self, rt: &HostRuntime) -> Result<(), Cause>
         ensures ends { IsErr result ↔ (TURNS ≤ self.old.turns) }
     {
         if self.turns >= TURNS {

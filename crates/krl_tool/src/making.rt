@@ -91,7 +91,8 @@ fn make_of(rt: &HostRuntime, base: Base, inputs: &Inputs) -> u8 {
     for _ in 0..TRIES {
         match write_once(rt, &made, inputs, &mut waiting) {
             Ok(Written::Whole) => return 0,
-            Ok(Written::Elsewhere) => {}
+            // A list of the lines alone has nothing of the old one, and is written once more.
+            Ok(Written::Elsewhere | Written::Changed) => {}
             Err(fault) => return end(rt, &stopped(fault)),
         }
     }
@@ -116,34 +117,70 @@ fn made_of<'a>(rt: &HostRuntime, base: Base, inputs: &'a Inputs<'a>) -> Result<M
     }
 }
 
-// Writes the bytes that were made; otherwise makes them from the current list, which no other
-// update can change in the meantime.
+// Writes the bytes that were made; otherwise makes them from the current list.
 fn write_once<'a>(
     rt: &HostRuntime,
     made: &Made,
     inputs: &'a Inputs<'a>,
     waiting: &mut Waiting,
 ) -> Result<Written, RunFault<'a>> {
-    let locked = match lock_target(rt, inputs.name, made.of, waiting) {
+    let mut locked = match lock_target(rt, inputs.name, made.of, waiting) {
         Ok(Some(locked)) => locked,
         Ok(None) => return Ok(Written::Elsewhere),
         Err(cause) => return Err(RunFault::whole(inputs.name, cause)),
     };
     let written = match &made.text {
-        Some(text) => write_text(rt, &locked, text, inputs),
-        None => match updated(rt, &locked.target, inputs) {
-            Ok(text) => write_text(rt, &locked, &text, inputs),
-            Err(fault) => Err(fault),
-        },
+        Some(text) => write_text(rt, &mut locked, text, inputs),
+        None => update(rt, &mut locked, inputs, waiting),
     };
     release(rt, locked);
     written
 }
 
+// Makes the bytes from the old list and writes them. Another update may write the old list in place
+// meanwhile, right before this one replaces it: then they are made again, of what it wrote.
+fn update<'a>(
+    rt: &HostRuntime,
+    locked: &mut Locked,
+    inputs: &'a Inputs<'a>,
+    waiting: &mut Waiting,
+) -> Result<Written, RunFault<'a>> {
+    for _ in 0..TRIES {
+        let text = match updated(rt, &locked.target, inputs) {
+            Ok(text) => text,
+            Err(fault) => return unless_changed(rt, locked, fault, waiting),
+        };
+        match write_text(rt, locked, &text, inputs)? {
+            Written::Changed => {}
+            other => return Ok(other),
+        }
+    }
+    Err(RunFault::whole(inputs.name, Cause::Output { count: 0 }))
+}
+
+// A fault of a list that was changed while it was read is no fault of the list: it is read again
+// after a turn of waiting.
+fn unless_changed<'a>(
+    rt: &HostRuntime,
+    locked: &Locked,
+    fault: RunFault<'a>,
+    waiting: &mut Waiting,
+) -> Result<Written, RunFault<'a>> {
+    match &locked.target {
+        Target::List(old) if old.is_read_first() && old.is_changed() => {
+            match waiting.wait(rt) {
+                Ok(()) => Ok(Written::Elsewhere),
+                Err(_) => Err(fault),
+            }
+        }
+        _ => Err(fault),
+    }
+}
+
 // Writes the bytes of the list.
 fn write_text<'a>(
     rt: &HostRuntime,
-    locked: &Locked,
+    locked: &mut Locked,
     text: &[u8],
     inputs: &'a Inputs<'a>,
 ) -> Result<Written, RunFault<'a>> {

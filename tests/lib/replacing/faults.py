@@ -98,9 +98,24 @@ def killed(place, made):
     if len(left) != 1 or os.path.getsize(left[0]) != len(made) // 2:
         wrong.append("beside it stands %r" % left)
     place.judge("a program that is killed", wrong)
+    others = [
+        ".%s.0123456789abcde.new" % LIST,
+        ".%s.0123456789ABCDEF.new" % LIST,
+        ".%s.0123456789abcdef.newer" % LIST,
+        ".%s.0123456789abcdef0.new" % LIST,
+        ".other.0123456789abcdef.new",
+        "%s.0123456789abcdef.new" % LIST,
+        "x.%s.0123456789abcdef.new" % LIST,
+    ]
+    for name in others:
+        place.put(name, b"")
+    folder, link = (".%s.%016x.new" % (LIST, it) for it in (1, 2))
+    os.mkdir(folder)
+    os.symlink(others[0], link)
     done = place.update()
-    wrong = place.differs(done, 0, b"") + place.stands(made, names=[LIST, *left])
-    place.judge("an update beside what was left", wrong)
+    wrong = place.differs(done, 0, b"")
+    wrong += place.stands(made, names=[LIST, *others, folder, link])
+    place.judge("an update removes what was left, and nothing else", wrong)
 
 
 def all_faults(place):

@@ -61,8 +61,7 @@ def is_locked_out(place, done, calls, says=WAITS + LOCKED):
 
 
 def by_readers(place, made):
-    """A user who may only read the list cannot delay an update for more than a second by a lock on
-    it."""
+    """A user who may only read the list cannot delay an update by a lock on it."""
     user = NOBODY if os.geteuid() == 0 else None
     for words, wanted in ((UPDATE, made), (ANEW, None)):
         place.enter()
@@ -70,7 +69,7 @@ def by_readers(place, made):
         with held(LIST, user):
             calls, done = Steps(place, words).seen()
         wrong = place.differs(done, 0, b"") + place.stands(wanted)
-        if slept(calls) > 1.5:
+        if slept(calls):
             wrong.append("it slept for %f seconds" % slept(calls))
         place.judge("a reader's lock on the list, and %s" % " ".join(words[:2]), wrong)
 
@@ -216,6 +215,47 @@ def planted(place):
         place.judge("a %s of the lock's name" % sort, wrong)
 
 
+def swapped(place):
+    """A pipe or a device that takes the place of the lock's file after it was looked at is not
+    used, and does not let the update hang."""
+    for sort in ("pipe", "device"):
+        place.enter()
+        place.put(LOCK, b"")
+        calls, _ = Steps(place).seen(HURRY="1")
+        opened = [at for at, it in enumerate(calls, 1) if (it.name, it.path) == ("open", LOCK)]
+
+        def swap():
+            os.remove(LOCK)
+            if sort == "pipe":
+                os.mkfifo(LOCK)
+            else:
+                os.mknod(LOCK, stat.S_IFCHR | 0o666, os.makedev(1, 3))
+
+        if sort == "device" and os.geteuid():
+            continue
+        place.enter()
+        place.put(LOCK, b"")
+        done = Steps(place).stopped(opened[0], swap, HURRY="1")
+        wrong = place.differs(done, 255, WAITS + LOCKED) + place.stands(OLD, names=[LIST, LOCK])
+        place.judge("a %s put in place of the lock" % sort, wrong)
+
+
+def leased(place):
+    """Another user's file is not opened, so that a lease on it makes no update wait."""
+    if os.geteuid():
+        print("# only root makes files for others, so no lease of another user is tried")
+        return
+    place.enter()
+    os.chmod(".", 0o1777)
+    place.put(LOCK, b"")
+    os.chown(LOCK, OTHER_USER, OTHER_USER)
+    calls, done = Steps(place).seen(HURRY="1")
+    wrong = is_locked_out(place, done, calls)
+    if ("open", LOCK) in [(it.name, it.path) for it in calls]:
+        wrong.append("it is opened")
+    place.judge("the file of a user who may not write the list", wrong)
+
+
 def left(place, made):
     """The file of an update that was killed is taken over, and taken away."""
     for mode in (0o600, 0o660, 0o000):
@@ -230,26 +270,47 @@ def left(place, made):
 
 
 def shown_files(place, made):
-    """The lock of a list that its group may write is the group's, at the end of links too."""
+    """The lock of a list that its group may write is the group's, at the end of links too. A user
+    who is not in that group keeps its members from the lock of a list of mode 664."""
     user, group = (NOBODY, GROUP) if os.geteuid() == 0 else (os.geteuid(), os.getegid())
-    for mode, wanted in ((0o640, 0o600), (0o664, 0o660), (0o646, 0o606), (0o666, 0o666)):
+    rows = [(0o640, 0o600), (0o664, 0o660), (0o646, 0o606), (0o666, 0o666), (0o606, 0o606)]
+    shown_to(place, rows, user, group, None)
+    if os.geteuid() == 0:
+        rows = [(0o640, 0o600), (0o664, 0o600), (0o646, 0o600), (0o666, 0o666), (0o606, 0o600)]
+        shown_to(place, rows, user, group, user)
+    long_name(place, made)
+
+
+def shown_to(place, rows, user, group, maker):
+    """The lock has this mode, and the list's group if the maker of the lock may set that."""
+    for mode, wanted in rows:
         place.enter(old=None)
         os.mkdir("a")
         os.symlink("a/it.krl", LIST)
         place.put("a/it.krl", OLD)
         os.chmod("a/it.krl", mode)
         os.chown("a/it.krl", user, group)
-        steps = Steps(place)
+        os.chown("a", user, -1)
+        steps = Steps(place, user=maker)
         calls, _ = steps.seen()
+        os.chmod("a/it.krl", mode)
+        os.chown("a/it.krl", user, group)
+        os.chmod("a/it.krl", mode)
         read = [(it.name, os.path.basename(it.path)) for it in calls].index(("read", "it.krl"))
         found = []
         steps.stopped(read + 1, lambda: found.append(os.lstat("a/.it.krl.lock")))
         wrong = [] if found else ["there is none"]
         for it in found:
             got = stat.S_IMODE(it.st_mode), it.st_uid, it.st_gid
-            if got[:2] != (wanted, user) or wanted & 0o060 and got[2] != group:
+            is_shared = maker is None and wanted & 0o066
+            if got[:2] != (wanted, user) or is_shared and got[2] != group:
                 wrong.append("it is %o, %d, %d" % got)
-        place.judge("the lock of a list of mode %o" % mode, wrong)
+        who = "" if maker is None else ", by a user out of its group"
+        place.judge("the lock of a list of mode %o%s" % (mode, who), wrong)
+
+
+def long_name(place, made):
+    """The name of the lock is short enough for every file system."""
     place.enter(old=None)
     name = "\u00e9" * 127
     place.put(name, OLD)
@@ -280,6 +341,27 @@ def of_others(place, made):
                 wrong = place.differs(done, 0, b"")
                 wrong += [] if same(content(), made) else ["it is not made"]
             place.judge("a lock of %d, and an update by %s" % (maker, user or "root"), wrong)
+    # A lock of a member of the group is taken over if the group may write the list, and any other
+    # user's if all may.
+    for mode, group, is_taken in (
+        (0o640, GROUP, False),
+        (0o660, GROUP, True),
+        (0o660, OTHER_USER, False),
+        (0o606, GROUP, True),
+        (0o666, OTHER_USER, True),
+    ):
+        place.enter()
+        os.chown(LIST, NOBODY, GROUP)
+        os.chmod(LIST, mode)
+        place.put(LOCK, b"")
+        os.chown(LOCK, OTHER_USER, group)
+        os.chmod(LOCK, 0o666)
+        calls, done = Steps(place).seen(HURRY="1")
+        wrong = [] if is_taken else is_locked_out(place, done, calls)
+        if is_taken:
+            wrong = place.differs(done, 0, b"") + place.stands(made)
+        member = "a member" if group == GROUP else "no member"
+        place.judge("a lock of %s of the group, list of mode %o" % (member, mode), wrong)
     # A lock that cannot be opened keeps those out who make files there, and no others.
     place.enter()
     os.chmod(".", 0o777)
@@ -311,5 +393,5 @@ def all_of_them(place):
     made = place.made()
     for case in (by_readers, by_writers, in_place, waits, left, shown_files, of_others):
         case(place, made)
-    for case in (control_bytes, compared, planted, streams):
+    for case in (control_bytes, compared, planted, swapped, leased, streams):
         case(place)

@@ -52,6 +52,27 @@ def replaced(place, made):
     place.judge("a list replaced by another program at each of %d calls" % len(calls), wrong)
 
 
+def written(place, made):
+    """Another program writes the list itself, in a list of another length and in one of the same.
+    What it writes before the renaming is kept, also if it comes right before that."""
+    steps = Steps(place)
+    same_length = OLD[:-1] + bytes((OLD[-1] ^ 1,))
+    for name, base in (("another", ANOTHER), ("the same", same_length)):
+        begin(place)
+        calls, _ = steps.calls()
+        wrong = []
+        for number, call in enumerate(calls, 1):
+            begin(place)
+            done = steps.stopped(number, lambda: place.put(LIST, base))
+            is_named = "rename" not in calls[number - 1 :]
+            wanted = base if is_named else with_lines(base, made)
+            if done.returncode or not same(content(), wanted):
+                wrong.append("before call %d, %s: %s" % (number, call, shown(done)))
+            if os.listdir() != [LIST]:
+                wrong.append("before call %d, %s: %r" % (number, call, os.listdir()))
+        place.judge("a list of %s length written at each of %d calls" % (name, len(calls)), wrong)
+
+
 def taken_away(place, made):
     """Another program moves it away, and no other list comes."""
     steps = Steps(place)
@@ -119,7 +140,8 @@ def failing(place, made):
                 done = steps.run(FAIL="%s:%s:%d" % (name, turn, error))
                 # If the lock cannot be made, the folder takes no new file.
                 in_place = (name, error) == ("create", errno.EACCES) and turn.startswith("1-")
-                is_whole = done.returncode == 0 or name == "stat"
+                # After the renaming the old list and the name are looked at.
+                is_whole = done.returncode == 0 or name in ("stat", "fstat")
                 is_whole = is_whole and same(content(), made)
                 if not is_whole and (done.returncode, content()) != (255, OLD):
                     wrong.append("%s of %s: %s" % (turn, os.strerror(error), shown(done)))
@@ -181,7 +203,7 @@ def synced(place):
 
 def all_of_them(place):
     made = place.made()
-    for case in (replaced, taken_away, first_list, failing, without_locks):
+    for case in (replaced, written, taken_away, first_list, failing, without_locks):
         case(place, made)
     unseen(place)
     synced(place)

@@ -16,19 +16,25 @@ VICTIM = b"another file\n"
 
 def clashes(place, made):
     """Nothing is written to a file that has the new name already, nor over a link of that name."""
-    for is_link in (False, True):
+    for sort in ("file", "link"):
         place.enter()
         place.put("../victim", VICTIM)
-        if is_link:
-            os.symlink("../victim", NEW)
+        os.symlink("../victim", NEW)
+        steps = Steps(place)
+        if sort == "link":
+            done = steps.run(NUMBER="7")
         else:
-            place.put(NEW, VICTIM)
-        done = Steps(place).run(NUMBER="7")
+            # It comes after the update has removed what was left.
+            os.remove(NEW)
+            calls, _ = steps.seen(NUMBER="7")
+            at = [it.path for it in calls].index(NEW) + 1
+            place.enter()
+            done = steps.stopped(at, lambda: place.put(NEW, VICTIM), NUMBER="7")
         wrong = place.differs(done, 255, b"ssh-keygen: r.krl: file 1 Open\n")
         wrong += place.stands(OLD, names=[LIST, NEW])
         if content(NEW) != VICTIM or content("../victim") != VICTIM:
             wrong.append("it is written to")
-        place.judge("a %s of the new file's name" % ("link" if is_link else "file"), wrong)
+        place.judge("a %s of the new file's name" % sort, wrong)
     place.enter()
     done = Steps(place).run(FAIL="create@.new:1-15:%d" % errno.EEXIST)
     wrong = place.differs(done, 0, b"") + place.stands(made)

@@ -60,6 +60,7 @@ def replaced(place):
         wanted += ["flock %s 6" % LIST, "read %s" % LIST] if words == UPDATE else []
         wanted += [
             "create NEW 600",
+            "flock NEW 6",
             "fchown NEW %s" % group,
             "fchown NEW %s" % owner,
             "fchmod NEW %o" % mode,
@@ -75,6 +76,8 @@ def replaced(place):
         wrong += [] if found == wanted else ["the calls are %s" % found]
         # The lock is there until its file is closed.
         names = [(it.name, it.path.replace(" (deleted)", "")) for it in calls]
+        if names.count(("close", LOCK)) != 1 or ("flock", LOCK, "8") in [tuple(it) for it in calls]:
+            wrong.append("the lock is closed more than once, or released")
         if not names.index(("unlink", LOCK)) < names.index(("close", LOCK)):
             wrong.append("the lock ends before its file is removed")
         place.judge("the calls of %s over a list of mode %o" % (" ".join(words[:2]), mode), wrong)

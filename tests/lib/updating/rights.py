@@ -32,8 +32,9 @@ def begin(place, mode, folder, owner=OWNER, group=GROUP):
 
 
 def narrowed(mode):
-    """The mode of a list that another group has: for it no more than for all others."""
-    return mode & ~0o2070 | mode & (mode & 0o007) << 3
+    """The mode of a list that another group has: for it and for all others only what both had."""
+    both = mode >> 3 & mode & 0o007
+    return mode & ~0o2077 | both << 3 | both
 
 
 def found():
@@ -51,7 +52,7 @@ def kept(place, name, update, wanted, made):
 
 def groups(place, made):
     """The group is kept by its members and by root, and is worth as much as all others else."""
-    for mode in (0o660, 0o664, 0o640, 0o644, 0o604, 0o670, 0o2660, 0o666, 0o657):
+    for mode in (0o660, 0o664, 0o640, 0o644, 0o604, 0o606, 0o670, 0o2660, 0o666, 0o657, 0o646):
         begin(place, mode, (OWNER, OWNER))
         wanted = (OWNER, OWNER, narrowed(mode))
         kept(place, "an owner out of the group, mode %o" % mode, Update(place, OWNER), wanted, made)
@@ -95,7 +96,7 @@ def at_each_call(place, made):
                     for it in map(os.stat, (it for it in os.listdir() if it.endswith(".new"))):
                         bits = stat.S_IMODE(it.st_mode)
                         seen.add(bits)
-                        is_wide = it.st_gid != GROUP and bits & 0o070 & ~((bits & 0o007) << 3)
+                        is_wide = it.st_gid != GROUP and bits & 0o077 & ~narrowed(mode)
                         if bits & ~mode or is_wide:
                             wrong.append("before call %d, %s: %o" % (number, call, bits))
 

@@ -28,6 +28,13 @@ class Ended:
         self.was_stopped = was_stopped
 
 
+def ended(process, was_stopped):
+    """The end of a run that was stopped."""
+    if was_stopped:
+        os.kill(process.pid, signal.SIGCONT)
+    return Ended(process, was_stopped)
+
+
 class Steps:
     """Runs with these words, maybe as another user."""
 
@@ -62,8 +69,8 @@ class Steps:
         here = os.getcwd()
         return [Call(*(it.replace(here + "/", "") for it in line)) for line in lines], done
 
-    def stopped(self, number, meanwhile, **orders):
-        """A run that stops before this call. Then `meanwhile` is called, and the run continues."""
+    def begun(self, number, **orders):
+        """A run that is stopped before this call, or has ended, and whether it is stopped."""
         as_user = {} if self.user is None else self.as_user()
         orders |= {"AT": str(number), "SIGNAL": str(int(signal.SIGSTOP))}
         process = subprocess.Popen(
@@ -76,11 +83,14 @@ class Steps:
         )
         # It is left to be waited for, where it has ended.
         found = os.waitid(os.P_PID, process.pid, os.WSTOPPED | os.WEXITED | os.WNOWAIT)
-        was_stopped = found.si_code == os.CLD_STOPPED
+        return process, found.si_code == os.CLD_STOPPED
+
+    def stopped(self, number, meanwhile, **orders):
+        """A run that stops before this call. Then `meanwhile` is called, and the run continues."""
+        process, was_stopped = self.begun(number, **orders)
         if was_stopped:
             meanwhile()
-            os.kill(process.pid, signal.SIGCONT)
-        return Ended(process, was_stopped)
+        return ended(process, was_stopped)
 
 
 def content(name=LIST):

@@ -44,8 +44,8 @@ fn key_lines<'a>(alloc: Global, file: &'a Named<'a>, text: &mut Vec<u8>) -> Done
 fn written(rt: &HostRuntime, name: &str, text: &[u8]) -> Result<Written, Cause> {
     let mut waiting = Waiting::new(name);
     match lock_target(rt, name, MadeOf::Lines, &mut waiting)? {
-        Some(locked) => {
-            let written = write_list(rt, name, &locked, text);
+        Some(mut locked) => {
+            let written = write_list(rt, name, &mut locked, text);
             release(rt, locked);
             written
         }
