@@ -106,9 +106,9 @@ int32_t krl_check(const uint8_t *list, size_t list_length,
  * carriage return in it, a key under the name of its signatures, numbers with a needless zero
  * byte.
  *
- * The call does not check the signature, the authority and the principals of a certificate on the
- * list, nor whether the point of an ECDSA key is on its curve. sshd refuses every key if one of
- * these is wrong, and the call does not. It keeps all keys of a plain list in memory while it runs.
+ * The signature of a certificate on the list is not checked, nor are its authority and its
+ * principals: sshd refuses every key for a list with a wrong one, and the call does not. It keeps
+ * all keys of a plain list in memory while it runs.
  *
  * A list without a key, also one of no bytes, revokes nobody. If a file could not be read to its
  * end, do not call with a part of it. */

@@ -197,6 +197,19 @@ modulus() {
 plain 'an RSA key below 1,024 bits' "$first" '%s\n%s\n' "$(line ssh-rsa "$(modulus 127)")" "$one"
 plain 'an RSA key of 1,024 bits' "$first" '%s\n%s\n' "$(line ssh-rsa "$(modulus 128)")" "$one"
 plain 'an RSA key above 16,384 bits' "$all" '%s\n%s\n' "$(line ssh-rsa "$(modulus 2049)")" "$one"
+plain 'an RSA key with an exponent above 16,384 bits' "$all" '%s\n%s\n' \
+  "$(line ssh-rsa "$(modulus 128 "$(repeat 2049 01)")")" "$one"
+plain 'an RSA key below 1,024 bits with such an exponent' "$all" '%s\n%s\n' \
+  "$(line ssh-rsa "$(modulus 127 "$(repeat 2049 01)")")" "$one"
+small=$(string 03)
+plain 'a DSA key of small numbers' "$first" '%s\n%s\n' \
+  "$(line ssh-dss "$(words ssh-dss)$small$small$small$small")" "$one"
+for at in 1 2 3 4; do
+  numbers=("$(words ssh-dss)" "$small" "$small" "$small" "$small")
+  numbers[at]=$(string "$(repeat 2049 01)")
+  plain "a DSA key whose number $at has more than 16,384 bits" "$all" '%s\n%s\n' \
+    "$(line ssh-dss "$(printf %s "${numbers[@]}")")" "$one"
+done
 stricter 'an RSA key below 1,024 bits and a byte after it' "$first" '%s\n%s\n' \
   "$(line ssh-rsa "$(modulus 127)00")" "$one"
 stricter 'an RSA key below 1,024 bits by another type' "$first" '%s\n%s\n' \
@@ -210,8 +223,15 @@ stricter 'an RSA key with a needless zero byte' 'rsa=revoked one=in' '%s\n' \
   "$(line ssh-rsa "${blob/00000003010001/0000000400010001}")"
 plain 'a point of Ed25519 that is not on the curve' "$first" '%s\n%s\n' \
   "$(line ssh-ed25519 "$(ed25519 "$(repeat 32 ff)")")" "$one"
-milder 'a point of ECDSA that is not on the curve' "$first" '%s\n%s\n' \
-  "$(line ecdsa-sha2-nistp256 "$(ecdsa 256 "04$(repeat 64 11)")")" "$one"
+while read -r curve on_it short long; do
+  type=ecdsa-sha2-nistp$curve
+  plain "a point on P-$curve" "$first" '%s\n%s\n' \
+    "$(line "$type" "$(ecdsa "$curve" "04$on_it")")" "$one"
+  for it in "${on_it%?}$((0x${on_it: -1} < 8 ? 8 : 0))" "$short" "$long"; do
+    plain "a point of P-$curve that sshd refuses, ${it:0:8}" "$all" '%s\n%s\n' \
+      "$(line "$type" "$(ecdsa "$curve" "04$it")")" "$one"
+  done
+done <"$tests/lib/curve_points"
 plain 'a byte after a key' "$all" '%s\n' "$(line ssh-ed25519 "${G}00")"
 plain 'a key of a device' 'ed25519-sk=revoked ecdsa-sk=in' '%s\n' "$ed25519_sk"
 stricter 'a key of a device by the name of its signatures' 'ed25519-sk=in ecdsa-sk=revoked' \

@@ -18,13 +18,13 @@ use Rattle.ssh_cert.specs.SubjectReading.{IsSubject, IsSubjectFault, subject_of}
 use Rattle.ssh_cert.proofs.Subjects.{plain_is_key}
 use Rattle.ssh_cert.specs.declared.subject_fault.SubjectFault.{SubjectFault}
 use Rattle.plain_list.specs.Line.{before_zero, begins_with_key, content_of, is_remark}
-use Rattle.plain_list.specs.Key.{blob_key, by_size, key_cause, key_line_key, line_key, sized_key, text_key}
-use Rattle.plain_list.specs.Size.{size_of}
-use Rattle.plain_list.specs.Spelled.{BeginsWithKey, HasKey, IsLineFault, Revokes, long, no_blob, no_line, no_name, one_key, remark, short}
+use Rattle.plain_list.specs.Key.{blob_key, by_judgement, judged_key, key_cause, key_line_key, line_key, text_key}
+use Rattle.plain_list.specs.Spelled.{BeginsWithKey, HasKey, IsLineFault, Revokes, long, no_blob, no_line, no_name, no_point, one_key, remark, short}
 use Rattle.plain_list.specs.declared.fault.LineCause.{LineCause}
 use Rattle.plain_list.specs.declared.fault.LineCause.TheVariants as causes
-use Rattle.plain_list.specs.declared.size.Size.{Size}
-use Rattle.plain_list.specs.declared.size.Size.TheVariants.{Fits, Long, Short}
+use Rattle.openssh_keys.specs.Judgement.{judgement_of}
+use Rattle.openssh_keys.specs.declared.judgement.Judgement.{Judgement}
+use Rattle.openssh_keys.specs.declared.judgement.Judgement.TheVariants.{Accepted, Long, Point, Short}
 
 -- the laws of key lines, of subjects and of keys
 pub record Laws : Type 0 where
@@ -50,8 +50,8 @@ content_fits line fits = IsBytes-drop (prefix_len is_blank (before_zero line)) (
 key_is_read : Laws → (plain : List ℕ) (key : PublicKey) → IsKey plain key → key_at plain ≡ Ok key
 key_is_read laws plain key is = let back = laws.read_back plain key is in rw (← back.0) back.1
 
--- A line with a key is read up to the size of the key.
-line_with_key : Laws → (line : List ℕ) (key : PublicKey) → HasKey line key → line_key line ≡ sized_key key
+-- A line with a key is read up to the judgement on the key.
+line_with_key : Laws → (line : List ℕ) (key : PublicKey) → HasKey line key → line_key line ≡ judged_key key
 unfolding line_key text_key blob_key
 line_with_key laws line key has =
     rw (has.begins.no_remark, has.begins.begins, laws.line_read _ _ _ _ has.is_line, (laws.asked has.blob has.asked has.is_line.bytes).1 has.asks, key_is_read laws has.asked.plain key has.is_key) refl
@@ -80,22 +80,24 @@ starts line = elim (cases_Bool (is_remark (content_of line))) [
 
 -- the subject of the blob, and its key
 abbrev keyed : Subject → Result (Option (List ℕ)) LineCause
-keyed asked = in_fault key_cause (key_at asked.plain) >>= sized_key
+keyed asked = in_fault key_cause (key_at asked.plain) >>= judged_key
 
 abbrev blobbed : KeyLine → Result (Option (List ℕ)) LineCause
 blobbed read = blob_key read.blob
 
-sized_found : (line : List ℕ) (key : PublicKey) (given : Option (List ℕ)) (size : Size) → HasKey line key → size_of key.kind key.bits ≡ size
-    → by_size size (blob_of key) ≡ Ok given → Revokes line given
-sized_found line key given Short has is e = short key has is (cc)
-sized_found line key given Fits has is e = one_key key has is (cc)
-sized_found line key given Long has is e = absurd (cc)
+judged_found : (line : List ℕ) (key : PublicKey) (given : Option (List ℕ)) (judgement : Judgement) → HasKey line key → judgement_of key ≡ judgement
+    → by_judgement judgement (blob_of key) ≡ Ok given → Revokes line given
+judged_found line key given Short has is e = short key has is (cc)
+judged_found line key given Accepted has is e = one_key key has is (cc)
+judged_found line key given Long has is e = absurd (cc)
+judged_found line key given Point has is e = absurd (cc)
 
-sized_refused : (line : List ℕ) (key : PublicKey) (cause : LineCause) (size : Size) → HasKey line key → size_of key.kind key.bits ≡ size
-    → by_size size (blob_of key) ≡ Err cause → IsLineFault line cause
-sized_refused line key cause Short has is e = absurd (cc)
-sized_refused line key cause Fits has is e = absurd (cc)
-sized_refused line key cause Long has is e = long key has is (cc)
+judged_refused : (line : List ℕ) (key : PublicKey) (cause : LineCause) (judgement : Judgement) → HasKey line key → judgement_of key ≡ judgement
+    → by_judgement judgement (blob_of key) ≡ Err cause → IsLineFault line cause
+judged_refused line key cause Short has is e = absurd (cc)
+judged_refused line key cause Accepted has is e = absurd (cc)
+judged_refused line key cause Long has is e = long key has is (cc)
+judged_refused line key cause Point has is e = no_point key has is (cc)
 
 -- a key line with a subject has a key
 has_key : Laws → (line : List ℕ) (read : KeyLine) (asked : Subject) → BeginsWithKey line → IsKeyLine (content_of line) read.word read.blob read.comment
@@ -112,7 +114,7 @@ key_found laws line given fits begins e =
     let asked = bind_ok (in_fault causes.Subject (subject_of read.0.blob)) keyed given read.2 in
     let asks = (laws.asked read.0.blob asked.0 is_line.bytes).0 (in_fault_ok causes.Subject (subject_of read.0.blob) asked.0 asked.1) in
     let key = has_key laws line read.0 asked.0 begins is_line asks in
-    sized_found line key.0 given (size_of key.0.kind key.0.bits) key.1 refl (sym (line_with_key laws line key.0 key.1) ∙ (begins_so line begins ∙ e))
+    judged_found line key.0 given (judgement_of key.0) key.1 refl (sym (line_with_key laws line key.0 key.1) ∙ (begins_so line begins ∙ e))
 
 pub line_found : Laws → (line : List ℕ) (given : Option (List ℕ)) → IsBytes line → line_key line ≡ Ok given → Revokes line given
 unfolding line_key text_key
@@ -145,7 +147,7 @@ key_refused laws line cause fits begins e = elim (bind_err (in_fault causes.Line
         | inr asked ↦
             let asks = (laws.asked read.0.blob asked.0 is_line.bytes).0 (in_fault_ok causes.Subject (subject_of read.0.blob) asked.0 asked.1) in
             let key = has_key laws line read.0 asked.0 begins is_line asks in
-            sized_refused line key.0 cause (size_of key.0.kind key.0.bits) key.1 refl (sym (line_with_key laws line key.0 key.1) ∙ (begins_so line begins ∙ e))
+            judged_refused line key.0 cause (judgement_of key.0) key.1 refl (sym (line_with_key laws line key.0 key.1) ∙ (begins_so line begins ∙ e))
       ]
 ]
 
@@ -165,3 +167,4 @@ fault_met laws line cause fits (no_line fault begins first is) =
 fault_met laws line cause fits (no_blob word blob comment fault begins is_line first is) =
     begins_so line begins ∙ rw (is, laws.line_read _ _ _ _ is_line, (laws.not_asked blob fault is_line.bytes).1 first) refl
 fault_met laws line cause fits (long key has is same) = line_with_key laws line key has ∙ rw (is, same) refl
+fault_met laws line cause fits (no_point key has is same) = line_with_key laws line key has ∙ rw (is, same) refl

@@ -5,37 +5,38 @@ use Rattle.ssh_key.specs.Key.{PublicKey, blob_of}
 use Rattle.ssh_key.specs.KeyReading.{key_at}
 use Rattle.ssh_key.specs.declared.fault.KeyFault.{KeyFault}
 use Rattle.ssh_key.specs.declared.fault.KeyFault.TheVariants as keys
+use Rattle.openssh_keys.specs.Judgement.{judgement_of}
+use Rattle.openssh_keys.specs.declared.judgement.Judgement.{Judgement}
+use Rattle.openssh_keys.specs.declared.judgement.Judgement.TheVariants.{Accepted, Long, Point, Short}
 use Rattle.key_text.specs.LineReading.{line_at}
 use Rattle.key_text.specs.declared.line_fault.LineFault.TheVariants as lines
 use Rattle.ssh_cert.specs.SubjectReading.{subject_of}
 use Rattle.ssh_cert.specs.declared.subject_fault.SubjectFault.TheVariants as subjects
 use Rattle.plain_list.specs.Line.{begins_with_key, content_of, is_remark}
-use Rattle.plain_list.specs.Size.{size_of}
 use Rattle.plain_list.specs.declared.fault.LineCause.{LineCause}
 use Rattle.plain_list.specs.declared.fault.LineCause.TheVariants as causes
 use Rattle.plain_list.specs.declared.fault.PlainFault.{PlainFault}
 use Rattle.plain_list.specs.declared.fault.PlainFault.TheVariants as faults
-use Rattle.plain_list.specs.declared.size.Size.{Size}
-use Rattle.plain_list.specs.declared.size.Size.TheVariants.{Fits, Long, Short}
-
--- The line of a short key is skipped, and a long key is a fault.
-abbrev pub by_size : Size → List ℕ → Result (Option (List ℕ)) LineCause
-by_size Short blob = Ok None
-by_size Fits blob = Ok (Some blob)
-by_size Long blob = Err (causes.Subject (subjects.Key keys.TooLong))
-
-abbrev pub sized_key : PublicKey → Result (Option (List ℕ)) LineCause
-sized_key key = by_size (size_of key.kind key.bits) (blob_of key)
 
 abbrev pub key_cause : KeyFault → LineCause
 key_cause fault = causes.Subject (subjects.Key fault)
+
+-- The line of a short key is skipped. A long number and an invalid point are faults.
+abbrev pub by_judgement : Judgement → List ℕ → Result (Option (List ℕ)) LineCause
+by_judgement Accepted blob = Ok (Some blob)
+by_judgement Short blob = Ok None
+by_judgement Long blob = Err (key_cause keys.TooLong)
+by_judgement Point blob = Err (key_cause keys.Point)
+
+abbrev pub judged_key : PublicKey → Result (Option (List ℕ)) LineCause
+judged_key key = by_judgement (judgement_of key) (blob_of key)
 
 -- the plain key of a blob, or that of its certificate
 unfoldable pub blob_key : List ℕ → Result (Option (List ℕ)) LineCause
 blob_key blob = do
   asked ← in_fault causes.Subject (subject_of blob)
   key ← in_fault key_cause (key_at asked.plain)
-  sized_key key
+  judged_key key
 
 -- the key of a key line
 abbrev pub key_line_key : List ℕ → Result (Option (List ℕ)) LineCause

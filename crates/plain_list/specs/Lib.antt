@@ -1,5 +1,4 @@
 pub mod Line
-pub mod Size
 pub mod Key
 pub mod List
 pub mod Spelled

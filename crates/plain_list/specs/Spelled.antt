@@ -2,6 +2,8 @@
 use Rattle.std.specs.Prelude.{◌≡◌, ℕ, true, false, ◌⊎◌, List, [], ◌∷◌, Option, Some, None}
 use Rattle.ssh_key.specs.Key.{IsKey, PublicKey, blob_of}
 use Rattle.ssh_key.specs.declared.fault.KeyFault.TheVariants as keys
+use Rattle.openssh_keys.specs.Judgement.{judgement_of}
+use Rattle.openssh_keys.specs.declared.judgement.Judgement.TheVariants.{Accepted, Long, Point, Short}
 use Rattle.key_text.specs.KeyLine.{IsKeyLine}
 use Rattle.key_text.specs.LineFaults.{IsFirstLineFault}
 use Rattle.key_text.specs.declared.line_fault.LineFault.{LineFault}
@@ -12,10 +14,8 @@ use Rattle.ssh_cert.specs.declared.subject_fault.SubjectFault.{SubjectFault}
 use Rattle.ssh_cert.specs.declared.subject_fault.SubjectFault.TheVariants as subjects
 use Rattle.krl_entries.specs.Reasons.{OfCert}
 use Rattle.plain_list.specs.Line.{begins_with_key, content_of, is_remark}
-use Rattle.plain_list.specs.Size.{size_of}
 use Rattle.plain_list.specs.declared.fault.LineCause.{LineCause}
 use Rattle.plain_list.specs.declared.fault.LineCause.TheVariants as causes
-use Rattle.plain_list.specs.declared.size.Size.TheVariants.{Fits, Long, Short}
 
 -- The content of a line is neither empty nor a comment, and begins with the type name of a key.
 pub record BeginsWithKey (line : List ℕ) : Type 0 where
@@ -36,13 +36,13 @@ pub record HasKey (line : List ℕ) (key : PublicKey) : Type 0 where
 -- The key that a line revokes, if it revokes one.
 pub data Revokes (line : List ℕ) (given : Option (List ℕ)) : Type 0 where
   remark : is_remark (content_of line) ≡ true → given ≡ None → Revokes line given
-  short : (key : PublicKey) → HasKey line key → size_of key.kind key.bits ≡ Short → given ≡ None
+  short : (key : PublicKey) → HasKey line key → judgement_of key ≡ Short → given ≡ None
       → Revokes line given
-  one_key : (key : PublicKey) → HasKey line key → size_of key.kind key.bits ≡ Fits
+  one_key : (key : PublicKey) → HasKey line key → judgement_of key ≡ Accepted
       → given ≡ Some (blob_of key) → Revokes line given
 
--- Why a line is refused: something is before its key, it is no key line, its blob is no key, or the
--- key is too long.
+-- Why a line is refused: something is before its key, it is no key line, its blob is no key, or a
+-- number of the key is too long, or its point is invalid.
 pub data IsLineFault (line : List ℕ) (cause : LineCause) : Type 0 where
   no_name : is_remark (content_of line) ≡ false → begins_with_key (content_of line) ≡ false
       → cause ≡ causes.Line lines.NoKey → IsLineFault line cause
@@ -51,8 +51,10 @@ pub data IsLineFault (line : List ℕ) (cause : LineCause) : Type 0 where
   no_blob : (word blob comment : List ℕ) (fault : SubjectFault) → BeginsWithKey line
       → IsKeyLine (content_of line) word blob comment → IsSubjectFault blob fault
       → cause ≡ causes.Subject fault → IsLineFault line cause
-  long : (key : PublicKey) → HasKey line key → size_of key.kind key.bits ≡ Long
+  long : (key : PublicKey) → HasKey line key → judgement_of key ≡ Long
       → cause ≡ causes.Subject (subjects.Key keys.TooLong) → IsLineFault line cause
+  no_point : (key : PublicKey) → HasKey line key → judgement_of key ≡ Point
+      → cause ≡ causes.Subject (subjects.Key keys.Point) → IsLineFault line cause
 
 -- ---- what the list revokes
 

@@ -12,8 +12,8 @@ use std::alloc::AllocError;
 pub enum LineCause {
     /// It is not a key line, or something is before the key.
     Line(LineFault),
-    /// Its blob is neither that of a plain key nor of a certificate, or the key has more than
-    /// 16,384 bits, which is `TooLong`.
+    /// Its blob is neither that of a plain key nor of a certificate. A key of which a number has
+    /// more than 16,384 bits is `TooLong`, and one whose point is not on its curve `Point`.
     Subject(SubjectFault),
 }
 

@@ -1,11 +1,11 @@
 //! The key of a line.
 
-ghost use Rattle.plain_list.specs.Key.{Gives, blob_key, line_key, sized_key, text_key};
+ghost use Rattle.plain_list.specs.Key.{Gives, blob_key, judged_key, line_key, text_key};
 
 use crate::fault::{LineCause, PlainFault};
 use crate::line::{begins_with_key, content_of, is_remark};
-use crate::size::{Size, size_of};
 use key_text::{LineFault, read_line};
+use openssh_keys::{Judgement, judge};
 use ssh_cert::{SubjectFault, read_any};
 use ssh_key::{KeyFault, PublicKey, plain_blob};
 use ssh_wire::Bytes;
@@ -52,7 +52,7 @@ fn key_of_blob(alloc: Global, number: u64, blob: &[u8]) -> Result<Option<Bytes>,
     ensures { Gives number result (blob_key blob.now) }
 {
     match read_any(blob) {
-        Ok(any) => sized_key(alloc, number, any.plain()),
+        Ok(any) => judged_key(alloc, number, any.plain()),
         Err(fault) => Err(PlainFault::Line {
             number,
             cause: LineCause::Subject(fault),
@@ -60,19 +60,23 @@ fn key_of_blob(alloc: Global, number: u64, blob: &[u8]) -> Result<Option<Bytes>,
     }
 }
 
-// The same for a plain key, by its size.
-fn sized_key(alloc: Global, number: u64, key: &PublicKey) -> Result<Option<Bytes>, PlainFault>
-    ensures { Gives number result (sized_key key.now) }
+// The same for a plain key, by OpenSSH's judgement.
+fn judged_key(alloc: Global, number: u64, key: &PublicKey) -> Result<Option<Bytes>, PlainFault>
+    ensures { Gives number result (judged_key key.now) }
 {
-    match size_of(key.kind(), key.bits()) {
-        Size::Short => Ok(None),
-        Size::Fits => match plain_blob(alloc, key) {
-            Ok(blob) => Ok(Some(Bytes::from_vec(blob))),
-            Err(_) => Err(PlainFault::NoMemory),
-        },
-        Size::Long => Err(PlainFault::Line {
-            number,
-            cause: LineCause::Subject(SubjectFault::Key(KeyFault::TooLong)),
-        }),
-    }
+    let fault = match judge(key) {
+        Judgement::Accepted => {
+            return match plain_blob(alloc, key) {
+                Ok(blob) => Ok(Some(Bytes::from_vec(blob))),
+                Err(_) => Err(PlainFault::NoMemory),
+            };
+        }
+        Judgement::Short => return Ok(None),
+        Judgement::Long => KeyFault::TooLong,
+        Judgement::Point => KeyFault::Point,
+    };
+    Err(PlainFault::Line {
+        number,
+        cause: LineCause::Subject(SubjectFault::Key(fault)),
+    })
 }

@@ -6,8 +6,6 @@ mod key;
 pub mod laws;
 mod line;
 mod reading;
-mod size;
 
 pub use fault::{LineCause, PlainFault};
 pub use reading::read_plain;
-pub use size::Size;

@@ -1,4 +1,4 @@
-//! RSA and DSA keys of each size.
+//! RSA and DSA keys of each size, and a point that is on no curve.
 
 use crate::tests::lists::asked;
 use base64::engine::general_purpose::STANDARD;
@@ -21,10 +21,10 @@ fn number(rt: &impl Abort, alloc: Global, first: u8, size: usize) -> Vec<u8> {
     joined(alloc, &[b"\0", &bytes]).expect(rt, "there is memory")
 }
 
-// A key line with the key of these numbers.
-fn key_line(rt: &impl Abort, alloc: Global, word: &[u8], numbers: &[&[u8]]) -> Vec<u8> {
+// A key line with the key of these fields.
+fn key_line(rt: &impl Abort, alloc: Global, word: &[u8], fields: &[&[u8]]) -> Vec<u8> {
     let name = strings(alloc, &[word]).expect(rt, "there is memory");
-    let fields = strings(alloc, numbers).expect(rt, "there is memory");
+    let fields = strings(alloc, fields).expect(rt, "there is memory");
     let blob = joined(alloc, &[&name, &fields]).expect(rt, "there is memory");
     let text = STANDARD.encode(alloc, &blob).expect(rt, "there is memory");
     joined(alloc, &[word, b" ", text.as_bytes()]).expect(rt, "there is memory")
@@ -66,5 +66,23 @@ fn keys_of_each_size(rt: HostRuntime) {
         let of_dsa = wanted.map(|_| (true, true));
         assert!(rt; revokes(&rt, alloc, &rsa) == of_rsa, "RSA in case {i}");
         assert!(rt; revokes(&rt, alloc, &dsa) == of_dsa, "DSA in case {i}");
+    }
+}
+
+#[test]
+fn keys_that_sshd_refuses(rt: HostRuntime) {
+    let alloc = rt.alloc();
+    let long = number(&rt, alloc, 1, 2_049);
+    let short = number(&rt, alloc, 1, 100);
+    let rsa = key_line(&rt, alloc, b"ssh-rsa", &[&long, &short]);
+    let dsa = key_line(&rt, alloc, b"ssh-dss", &[b"\x03", b"\x03", b"\x03", &long]);
+    let ecdsa = key_line(&rt, alloc, b"ecdsa-sha2-nistp256", &[b"nistp256", &[4; 65]]);
+    for (line, fault) in [
+        (&rsa, KeyFault::TooLong),
+        (&dsa, KeyFault::TooLong),
+        (&ecdsa, KeyFault::Point),
+    ] {
+        let cause = LineCause::Subject(SubjectFault::Key(fault));
+        assert!(rt; revokes(&rt, alloc, line) == Err(PlainFault::Line { number: 1, cause }));
     }
 }
