@@ -17,24 +17,68 @@
 
 static const char *allowed, *revoked;
 
-/* Whether the list does not revoke the key of a line. The list is read at each login, so a new one
- * takes effect immediately. If the list cannot be read, nobody is let in. */
-static bool is_not_revoked(const char *line) {
+/* The words for the reasons of krl_why, from its lowest bit on. */
+static const char *const reasons[] = {
+    "its key", "the SHA-1 of its key", "the SHA-256 of its key",
+    "its authority", "the SHA-1 of its authority", "the SHA-256 of its authority",
+    "its serial number", "its serial number under all authorities",
+    "its key ID", "its key ID under all authorities",
+};
+
+/* Says in the log whom the list does not let in, by which key, and why. A client may send any bytes
+ * as the name of a user. */
+static void report(const char *user, ssh_key key, int32_t answer, int32_t why) {
+    unsigned char *hash = NULL;
+    size_t length = 0;
+    char *fingerprint = NULL, words[65];
+    const char *before = " by ";
+    if (ssh_get_publickey_hash(key, SSH_PUBLICKEY_HASH_SHA256, &hash, &length) == SSH_OK)
+        fingerprint = ssh_get_fingerprint_hash(SSH_PUBLICKEY_HASH_SHA256, hash, length);
+    krl_fault_text(answer, words, sizeof words);
+    fprintf(stderr, "%s: user ", revoked);
+    for (; *user; user++) fputc(*user > ' ' && *user <= '~' ? *user : '?', stderr);
+    fprintf(stderr, ", key %s: %s", fingerprint ? fingerprint : "unknown", words);
+    if (answer == KRL_REVOKED && why < 0) fputs(" by a line of a plain list", stderr);
+    for (int at = 0; answer == KRL_REVOKED && why > 0 && at < 10; at++)
+        if (why >> at & 1) fprintf(stderr, "%s%s", before, reasons[at]), before = ", ";
+    fputc('\n', stderr);
+    ssh_string_free_char(fingerprint);
+    ssh_clean_pubkey_hash(&hash);
+}
+
+/* Writes the bytes of base64, which libssh made, over the text, and returns how many they are. */
+static size_t decode(char *text) {
+    static const char digits[] = "ABCDEFGHIJKLMNOPQRSTUVWXYZabcdefghijklmnopqrstuvwxyz0123456789+/";
+    const char *digit;
+    size_t length = 0;
+    uint32_t bits = 0;
+    int count = 0;
+    for (const char *at = text; *at && (digit = strchr(digits, *at)); at++) {
+        bits = bits << 6 | (uint32_t)(digit - digits);
+        count += 6;
+        if (count >= 8) text[length++] = (char)(bits >> (count -= 8));
+    }
+    return length;
+}
+
+/* Whether the list, a KRL or a plain file of keys, does not revoke a key, of which the base64 is
+ * decoded in its place. The list is read at each login, so a new one takes effect immediately. If
+ * the list cannot be read, nobody is let in. */
+static bool is_not_revoked(const char *user, ssh_key key, char *base64) {
     FILE *file = fopen(revoked, "rb");
     uint8_t *list = NULL, *longer;
     size_t length = 0, size = 0;
-    int32_t answer = KRL_NO_MEMORY;
+    int32_t answer = KRL_NO_MEMORY, why = 0;
+    const uint8_t *blob = (const uint8_t *)base64;
+    const size_t blob_length = decode(base64);
     if (!file) return perror(revoked), false;
     while (!feof(file) && !ferror(file) && (longer = realloc(list, size += 1 << 16))) {
         list = longer;
         length += fread(list + length, 1, size - length, file);
     }
-    if (feof(file)) answer = krl_check_line(list, length, (const uint8_t *)line, strlen(line));
-    if (answer < 0) {
-        char words[65];
-        krl_fault_text(answer, words, sizeof words);
-        fprintf(stderr, "%s: %s\n", revoked, words);
-    }
+    if (feof(file)) answer = krl_check_any(list, length, blob, blob_length);
+    if (answer == KRL_REVOKED) why = krl_why(list, length, blob, blob_length);
+    if (answer != KRL_OK) report(user, key, answer, why);
     free(list);
     fclose(file);
     return answer == KRL_OK;
@@ -58,11 +102,11 @@ static bool is_allowed(const char *line) {
 static int offers_key(ssh_session session, const char *user, ssh_key key, char state, void *given) {
     char *base64 = NULL, *line = NULL;
     int answer = SSH_AUTH_DENIED;
-    (void)session, (void)user, (void)given;
+    (void)session, (void)given;
     if ((state == SSH_PUBLICKEY_STATE_NONE || state == SSH_PUBLICKEY_STATE_VALID) &&
         ssh_pki_export_pubkey_base64(key, &base64) == SSH_OK &&
         asprintf(&line, "%s %s", ssh_key_type_to_char(ssh_key_type(key)), base64) > 0) {
-        if (is_allowed(line) && is_not_revoked(line)) answer = SSH_AUTH_SUCCESS;
+        if (is_allowed(line) && is_not_revoked(user, key, base64)) answer = SSH_AUTH_SUCCESS;
         free(line);
     }
     ssh_string_free_char(base64);

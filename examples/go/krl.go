@@ -1,4 +1,5 @@
-// Package krl asks OpenSSH key revocation lists (KRLs) about keys and certificates, by libkrl.
+// Package krl asks the lists that sshd takes as RevokedKeys about keys and certificates, by libkrl:
+// key revocation lists (KRLs) and plain files of keys.
 //
 // Let a key in where a check returns nil, and in no other case. Signatures, the dates of a
 // certificate and whether its authority is trusted are not checked here.
@@ -13,6 +14,7 @@ import "C"
 
 import (
 	"errors"
+	"strings"
 	"sync"
 	"unsafe"
 )
@@ -29,13 +31,36 @@ func (fault Fault) Error() string {
 	return C.GoString(&text[0])
 }
 
-// Check reads the whole content of a list and asks it about a public key or a certificate, as
-// golang.org/x/crypto/ssh gives it by PublicKey.Marshal.
+// Check reads the whole content of a list, a KRL or a plain file of keys, and asks it about a public
+// key or a certificate, as golang.org/x/crypto/ssh gives it by PublicKey.Marshal.
 func Check(list, blob []byte) error {
-	return answer(C.krl_check(start(list), C.size_t(len(list)), start(blob), C.size_t(len(blob))))
+	return answer(C.krl_check_any(start(list), C.size_t(len(list)), start(blob), C.size_t(len(blob))))
 }
 
-// A List is a list that is read once and asked often. Many goroutines may ask it at once.
+// The words for the reasons of krl_why, from its lowest bit on.
+var reasons = []string{
+	"its key", "the SHA-1 of its key", "the SHA-256 of its key",
+	"its authority", "the SHA-1 of its authority", "the SHA-256 of its authority",
+	"its serial number", "its serial number under all authorities",
+	"its key ID", "its key ID under all authorities",
+}
+
+// Why says for a log by what a list revokes a key or a certificate. Ask Check whether it does.
+func Why(list, blob []byte) string {
+	bits := C.krl_why(start(list), C.size_t(len(list)), start(blob), C.size_t(len(blob)))
+	if bits < 0 {
+		return "a line of a plain list"
+	}
+	var found []string
+	for at, words := range reasons {
+		if bits&(1<<at) != 0 {
+			found = append(found, words)
+		}
+	}
+	return strings.Join(found, ", ")
+}
+
+// A List is a KRL that is read once and asked often. Many goroutines may ask it at once.
 type List struct {
 	lock   sync.RWMutex
 	handle C.krl

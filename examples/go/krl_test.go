@@ -1,6 +1,7 @@
 package krl
 
 import (
+	"encoding/base64"
 	"encoding/binary"
 	"errors"
 	"sync"
@@ -43,9 +44,30 @@ func TestCheck(t *testing.T) {
 	if err := Check(list(one)[:60], two); err != Fault(-103) || err.Error() != "krl 3 EndsEarly" {
 		t.Error("a truncated list:", err)
 	}
-	for _, err := range []error{Check(nil, two), Check(list(one), nil)} {
-		if err == nil || errors.Is(err, ErrRevoked) {
-			t.Error("no bytes:", err)
+	if err := Check(list(one), nil); err == nil || errors.Is(err, ErrRevoked) {
+		t.Error("no key:", err)
+	}
+	if err := Check(nil, two); err != nil {
+		t.Error("a plain list without a key:", err)
+	}
+	plain := []byte("ssh-ed25519 " + base64.StdEncoding.EncodeToString(one))
+	if err := Check(plain, one); !errors.Is(err, ErrRevoked) {
+		t.Error("a key of a plain list:", err)
+	}
+	if err := Check([]byte("garbage"), two); err != Fault(-117) {
+		t.Error("a plain list with a line that is no key:", err)
+	}
+}
+
+func TestWhy(t *testing.T) {
+	one, two := key(1), key(2)
+	for _, it := range []struct{ found, wanted string }{
+		{Why(list(one), one), "its key"},
+		{Why(list(one), two), ""},
+		{Why([]byte("# a plain list"), one), "a line of a plain list"},
+	} {
+		if it.found != it.wanted {
+			t.Errorf("%q instead of %q", it.found, it.wanted)
 		}
 	}
 }

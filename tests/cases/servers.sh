@@ -31,6 +31,12 @@ enters() {
     "${words[@]}" somebody@127.0.0.1 true 2>error </dev/null)" = 'let in' ]
 }
 
+# reports KEY WORDS: the server's log has the user, the fingerprint of this key and the reason.
+reports() {
+  local wanted="revoked.krl: user somebody, key $("$openssh" -l -f "$1.pub" | cut -d ' ' -f 2): $2"
+  judge "$server: it logs who is refused, $2" "$(grep -qxF "$wanted" said || { echo "  $wanted"; cat said; })"
+}
+
 # lets_in NAME KEY..: exactly these of all keys and certificates get in.
 lets_in() {
   local it got=
@@ -65,18 +71,30 @@ tries() {
   lets_in 'a list of nothing' $everybody
   "$program" -k -f revoked.krl two.pub >/dev/null
   lets_in 'a revoked key, and a list that counts immediately' one three cert-5 cert-6
+  reports two 'revoked by its key'
   "$program" -k -f revoked.krl -s ca.pub - <<<'serial: 5' >/dev/null
   lets_in 'a revoked serial number' one two three cert-6
+  reports cert-5 'revoked by its serial number'
   "$program" -k -f revoked.krl -s ca.pub - <<<'id: id of 6' >/dev/null
   lets_in 'a revoked key ID' one two three cert-5
+  reports cert-6 'revoked by its key ID'
   "$program" -k -f revoked.krl user.pub one.pub >/dev/null
   lets_in 'the revoked key of certificates' two three
   "$program" -k -f revoked.krl ca.pub >/dev/null
   lets_in 'a revoked authority' one two three
+  reports cert-6 'revoked by its authority'
+  cat two.pub ca.pub >revoked.krl
+  lets_in 'a plain list' one three
+  reports two 'revoked by a line of a plain list'
+  reports cert-5 'revoked by a line of a plain list'
+  echo garbage >>revoked.krl
+  lets_in 'a plain list with a line that is no key lets nobody in'
+  reports one 'a line of the plain list is no key'
+  "$program" -k -f revoked.krl ca.pub >/dev/null
   truncate -s -1 revoked.krl
   : >said
   lets_in 'a truncated list lets nobody in'
-  judge "$server: it says why" "$(grep -qx 'revoked.krl: krl 3 EndsEarly' said || cat said)"
+  reports one 'krl 3 EndsEarly'
   rm revoked.krl
   lets_in 'without a list nobody gets in'
   kill $serving

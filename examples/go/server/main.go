@@ -1,8 +1,8 @@
 // Server is an SSH server that lets in the keys of an authorized_keys file and the certificates of
 // some authorities, but none that a list revokes.
 //
-// 	go mod tidy && go build ./server
-// 	./server PORT HOST_KEY authorized_keys authorities revoked.krl
+//	go mod tidy && go build ./server
+//	./server PORT HOST_KEY authorized_keys authorities revoked.krl
 //
 // It listens on the loopback, and says "let in" to each client that asks it to run a command. Your
 // own server needs the code before the comment "The server": it decides about the key.
@@ -11,9 +11,11 @@ package main
 import (
 	"bytes"
 	"errors"
+	"fmt"
 	"log"
 	"net"
 	"os"
+	"strings"
 
 	"golang.org/x/crypto/ssh"
 	"yezhirop.example/krl"
@@ -35,6 +37,24 @@ func keys(name string) (map[string]bool, error) {
 	return found, err
 }
 
+// fingerprint is that of a key, or of the key of a certificate, as sshd logs it.
+func fingerprint(key ssh.PublicKey) string {
+	if certificate, is := key.(*ssh.Certificate); is {
+		key = certificate.Key
+	}
+	return ssh.FingerprintSHA256(key)
+}
+
+// shown is the name of a user for the log. A client may send any bytes.
+func shown(user string) string {
+	return strings.Map(func(it rune) rune {
+		if it <= ' ' || it > '~' {
+			return '?'
+		}
+		return it
+	}, user)
+}
+
 type decision func(ssh.ConnMetadata, ssh.PublicKey) (*ssh.Permissions, error)
 
 // decides lets in a key or a certificate, or not. The list is read at each login, so a new one
@@ -54,8 +74,11 @@ func decides(allowed, authorities map[string]bool, revoked string) decision {
 		if err == nil {
 			err = krl.Check(list, key.Marshal())
 		}
+		if err == krl.ErrRevoked {
+			err = fmt.Errorf("%w by %s", err, krl.Why(list, key.Marshal()))
+		}
 		if err != nil {
-			log.Printf("%s: %v", revoked, err)
+			log.Printf("%s: user %s, key %s: %v", revoked, shown(client.User()), fingerprint(key), err)
 			return nil, err
 		}
 		return certificates.Authenticate(client, key)

@@ -67,17 +67,28 @@ def logins(tests):
         wrong = [it for it in kinds if enters(port, it) != (it in let_in)]
         tests.judge(name, ["%s is let in: %s" % (it, it not in let_in) for it in wrong])
 
+    def reported(name, why):
+        """The log has the user, the fingerprint of the key and the reason."""
+        shown = run(OPENSSH, "-l", "-f", name + ".pub").stdout.split()[1]
+        line = "revoked.krl: user somebody, key %s: %s" % (shown, why)
+        with open("said", encoding="utf-8") as said:
+            lines = said.read().splitlines()
+        tests.judge("the server logs who is refused: %s" % why, [] if line in lines else lines)
+
     listed()
     case("a list of nothing lets in the keys of the file alone", ("one", "two", "three"))
     listed("two", "other")
     case("a revoked key is not let in", ("one", "three"))
+    reported("two", "revoked by its key")
     listed("one", "three")
     case("a list that takes its place counts at once", ("two",))
     os.truncate("revoked.krl", os.path.getsize("revoked.krl") - 1)
     case("a list that is cut lets nobody in", ())
-    with open("said", encoding="utf-8") as said:
-        is_said = said.read() == "revoked.krl: krl 3 EndsEarly\n" * 3
-    tests.judge("the server says why", [] if is_said else ["it does not"])
+    reported("one", "krl 3 EndsEarly")
+    with open("revoked.krl", "wb") as plain, open("two.pub", "rb") as key:
+        shutil.copyfileobj(key, plain)
+    case("a plain list", ("one", "three"))
+    reported("two", "revoked by a line of a plain list")
     os.remove("revoked.krl")
     case("without a list nobody is let in", ())
     server.kill()
