@@ -83,13 +83,20 @@ const CURVES: [(&[u8], &[u8], usize, &[u8]); 4] = [
     ),
 ];
 
+// What OpenSSH does with a key of these first strings, of a point of bytes 4, and of what follows.
+fn of_fours(rt: &impl Abort, alloc: Global, front: &[u8], size: usize, after: &[u8]) -> Judgement {
+    let point = repeated(alloc, b"\x04", size).expect(rt, "there is memory");
+    let point = strings(alloc, &[&point]).expect(rt, "there is memory");
+    let blob = joined(alloc, &[front, &point, after]).expect(rt, "there is memory");
+    let key = read_key(&blob).expect(rt, "it is a key");
+    judge(&key)
+}
+
 #[test]
 fn points_on_no_curve(rt: HostRuntime) {
     for (name, curve, size, after) in CURVES.iter() {
-        let point = repeated(rt.alloc(), b"\x04", *size).expect(&rt, "there is memory");
-        let front = strings(rt.alloc(), &[*name, *curve, &point]).expect(&rt, "there is memory");
-        let blob = joined(rt.alloc(), &[&front, *after]).expect(&rt, "there is memory");
-        let key = read_key(&blob).expect(&rt, "it is a key");
-        assert!(rt; judge(&key) == Judgement::Point, "{size} bytes");
+        let front = strings(rt.alloc(), &[*name, *curve]).expect(&rt, "there is memory");
+        let found = of_fours(&rt, rt.alloc(), &front, *size, *after);
+        assert!(rt; found == Judgement::Point, "{size} bytes");
     }
 }

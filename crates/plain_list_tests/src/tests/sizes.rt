@@ -77,12 +77,20 @@ fn keys_that_sshd_refuses(rt: HostRuntime) {
     let rsa = key_line(&rt, alloc, b"ssh-rsa", &[&long, &short]);
     let dsa = key_line(&rt, alloc, b"ssh-dss", &[b"\x03", b"\x03", b"\x03", &long]);
     let ecdsa = key_line(&rt, alloc, b"ecdsa-sha2-nistp256", &[b"nistp256", &[4; 65]]);
-    for (line, fault) in [
-        (&rsa, KeyFault::TooLong),
-        (&dsa, KeyFault::TooLong),
-        (&ecdsa, KeyFault::Point),
-    ] {
-        let cause = LineCause::Subject(SubjectFault::Key(fault));
-        assert!(rt; revokes(&rt, alloc, line) == Err(PlainFault::Line { number: 1, cause }));
-    }
+    let too_long = Err(refused(KeyFault::TooLong));
+    assert!(rt; revokes(&rt, alloc, &rsa) == too_long, "an exponent");
+    assert!(rt;
+        revokes(&rt, alloc, &dsa) == too_long,
+        "the last number of DSA"
+    );
+    assert!(rt;
+        revokes(&rt, alloc, &ecdsa) == Err(refused(KeyFault::Point)),
+        "a point"
+    );
+}
+
+// The refusal of the first line for a fault of its key.
+fn refused(fault: KeyFault) -> PlainFault {
+    let cause = LineCause::Subject(SubjectFault::Key(fault));
+    PlainFault::Line { number: 1, cause }
 }
