@@ -52,15 +52,16 @@ fn is_published(blob: &[u8], fields: &[u8], authority: &[u8]) -> bool {
     }
 }
 
-// Reserved fields, which may be any string: one without bytes, and one that is no options.
-const RESERVED: [&[u8]; 2] = [b"\0\0\0\0", b"\0\0\0\x01a"];
+// Reserved fields, which may be any string, and the length of the certificate: one field without
+// bytes, and one that is no options.
+const RESERVED: [(&[u8], usize); 2] = [(b"\0\0\0\0", 267), (b"\0\0\0\x01a", 268)];
 
 #[test]
 fn each_field_is_lent(rt: HostRuntime) {
     let fields = strings(rt.alloc(), &[&PUBLISHED]).expect(&rt, "there is memory");
-    for (i, reserved) in RESERVED.iter().enumerate() {
+    for (i, (reserved, length)) in RESERVED.iter().enumerate() {
         let blob = changed(rt.alloc(), Part::Reserved, *reserved).expect(&rt, "there is memory");
-        assert!(rt; blob.len() == 267 + i, "in case {i}");
+        assert!(rt; blob.len() == *length, "in case {i}");
         assert!(rt; is_published(&blob, &fields, OTHER), "in case {i}");
     }
 }
