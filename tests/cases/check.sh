@@ -33,6 +33,13 @@ checks 'a canary of two keys, of which one is revoked' 1 \
 canary: both: 1 of 2 keys are revoked, $zeros" --canary both r.krl
 cat g.pub a.pub >two
 checks 'a canary of two keys' 0 '' --canary two r.krl
+checks 'two canaries' 0 '' --canary a.pub --canary g.pub r.krl
+not_b="b.pub:1: ok: ssh-ed25519 $(fingerprint "$B"): bob
+canary: b.pub: 0 of 1 keys are revoked, $zeros"
+checks 'two canaries, of which the first is not revoked' 1 "$not_b" \
+  --canary b.pub --canary a.pub r.krl
+checks 'two canaries, of which the second is not revoked' 1 "$not_b" \
+  --canary a.pub --canary b.pub r.krl
 { cat b.pub && echo garbage; } >wrong
 checks 'a file with a line that is not read' 1 "wrong:2: unread: no key type stands there
 keep: wrong: 0 of 1 keys are revoked, 1 lines are not read" --keep wrong r.krl
@@ -51,6 +58,10 @@ checks 'a canary that its line calls revoked' 1 "canary: marked: 0 of 1 keys are
 checks 'a file that is missing' 255 "gone: unread: No such file or directory
 keep: gone: 0 of 0 keys are revoked, 1 lines are not read
 canary: gone: 0 of 0 keys are revoked, 1 lines are not read" --keep gone --canary gone r.krl
+# A condition that fails is said too, and 255 wins over 1.
+checks 'a file that is missing and a key to be kept that is revoked' 255 "g.pub:1: $by_g
+keep: g.pub: 1 of 1 keys are revoked, $zeros
+canary: gone: 0 of 0 keys are revoked, 1 lines are not read" --canary gone --keep g.pub r.krl
 mkdir folder
 expect 'a folder to be kept' 255 'folder: unread: it cannot be read to its end
 keep: folder: 0 of 0 keys are revoked, 1 lines are not read
@@ -80,20 +91,71 @@ expect 'a list that is missing' 255 '' $'krl: no.krl: file 1 Open\n' check no.kr
 expect 'another list that is missing' 255 '' $'krl: no.krl: file 1 Open\n' check \
   --newer-than no.krl r.krl
 
+# Ages.
+# made_at SECONDS..: a list of this date, which revokes one key.
+made_at() {
+  bytes "${H:0:40}$(printf %016x "$1")${H:56}" "$(section "$G")"
+}
+now=$(date +%s)
+made_at $((now - 3000)) >old.krl
+made_at $((now + 200)) >ahead.krl
+made_at $((now + 3630)) >future.krl
+made_at $((now - 49 * 3600 - 60)) >older.krl
+checks 'a list that is young enough' 0 '' --max-age 2h old.krl
+checks 'the same by days' 0 '' --max-age 1d old.krl
+checks 'a list that is a little ahead of the clock' 0 '' --max-age 1s ahead.krl
+dated="generated $(date -u -d @$((now - 3000)) +%FT%TZ)"
+for it in 49m 2999s; do
+  checks "a list that is older than $it" 1 "age: old.krl: $dated, 50m ago" --max-age $it old.krl
+done
+checks 'a list from the future' 1 \
+  "age: future.krl: generated $(date -u -d @$((now + 3630)) +%FT%TZ), 60m from now" \
+  --max-age 9999d future.krl
+checks 'a list without a limit' 0 '' older.krl
+checks 'a list of the day before yesterday' 1 \
+  "age: older.krl: generated $(date -u -d @$((now - 49 * 3600 - 60)) +%FT%TZ), 49h ago" \
+  --max-age 24h older.krl
+checks 'a plain list, which has no date' 1 'age: a.pub: a plain list has no date' --max-age 7d a.pub
+# refuses NAME LINE WORD..: the options are refused, and this is the first line.
+refuses() {
+  local name=$1 line=$2
+  shift 2
+  run "$@"
+  judge "$name" "$(
+    differs 'exit status' 2 "$got_status"
+    differs 'standard output' '' "$got_output"
+    differs 'the first line' "$line" "${got_error%%$'\n'*}"
+  )"
+}
+for it in '' h 24 0h 1w ' 1h' +1h 1.5h 99999999999999999999s 18446744073709551615m; do
+  refuses "the duration \"$it\"" \
+    'error: --max-age takes a number and one of s, m, h and d, as in 24h' \
+    check --max-age "$it" r.krl
+done
+
+# Lists that revoke nobody. Serial number 0 is nobody.
+bytes "$H" >nobody.krl
+checks 'a list that revokes nobody' 1 'empty: nobody.krl: it revokes nobody' nobody.krl
+checks 'the same where it is allowed' 0 '' --allow-empty nobody.krl
+bytes "$H" "01$(string "$(string "$A")$(words '')20$(string 0000000000000000)")" >zero.krl
+checks 'a list of serial number 0' 1 'openssh: zero.krl: it names serial number 0
+empty: zero.krl: it revokes nobody' zero.krl
+
 # Plain lists. tests/cases/plain_lists.sh has each form of a line.
 checks 'a plain list' 0 '' --keep b.pub --canary a.pub two
 checks 'a plain list that revokes a key to be kept' 1 "g.pub:1: $by_g
 keep: g.pub: 1 of 1 keys are revoked, $zeros" --keep g.pub two
 checks 'a plain list without the canary' 1 "b.pub:1: ok: ssh-ed25519 $(fingerprint "$B"): bob
 canary: b.pub: 0 of 1 keys are revoked, $zeros" --canary b.pub two
-keyless='a plain list without a key revokes nobody'
+nobody='it revokes nobody'
 : >empty
 # One that lost its magic begins with a zero byte, which ends its only line.
 tail -c +9 r.krl | tr -d '\n' >magicless
 for it in empty none magicless; do
-  checks "a plain list without a key, $it" 1 "key: $it: $keyless" $it
+  checks "a plain list without a key, $it" 1 "empty: $it: $nobody" $it
+  checks "the same where it is allowed, $it" 0 '' --allow-empty $it
 done
-checks 'an empty list and a canary' 1 "key: empty: $keyless
+checks 'an empty list and a canary' 1 "empty: empty: $nobody
 a.pub:1: ok: ssh-ed25519 $(fingerprint "$A"): alice
 canary: a.pub: 0 of 1 keys are revoked, $zeros" --canary a.pub empty
 { cat two && echo garbage; } >wrong
@@ -107,6 +169,23 @@ checks 'a list and the version of a plain list' 1 "version: two: $unversioned" \
   --newer-than two r.krl
 expect 'the version of a plain list' 255 '' "krl: two: $unversioned"$'\n' check --print-version two
 expect 'a plain list to be compared that is wrong' 255 '' "$no_key" check --newer-than wrong r.krl
+
+# Options that are given twice, and others that do not go together.
+# twice OPTION WORD..: OPTION is named, and nothing is checked.
+twice() {
+  local option=$1
+  shift
+  refuses "$option twice" "error: the argument '$option' cannot be used multiple times" "$@"
+}
+twice '--newer-than <krl>' check --newer-than 8.krl --newer-than 7.krl 7.krl
+twice '--max-age <duration>' check --max-age 1s --max-age 9d r.krl
+twice '--allow-empty' check --allow-empty --allow-empty r.krl
+twice '-f <krl>' audit -f r.krl -f empty g.pub
+twice '--files0-from <file>' audit -f r.krl --files0-from none --files0-from empty
+for it in '--newer-than last.krl' '--max-age 1s' --allow-empty '--keep g.pub' '--canary b.pub'; do
+  refuses "--print-version and ${it%% *}" 'error: --print-version goes with no other option' \
+    check --print-version $it r.krl
+done
 expect_text 'no list' 2 error check
 expect_text 'two lists' 2 error check r.krl r.krl
 

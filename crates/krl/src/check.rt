@@ -10,6 +10,7 @@ use key_listing::{Printer, Run};
 use krl_arguments::Check;
 use krl_audit::{Form, Shown};
 use krl_checker::{Checker, PlainRefusal, Role};
+use krl_system::present;
 use line_pieces::put;
 use std::io::Stdout;
 
@@ -17,8 +18,26 @@ use std::io::Stdout;
 pub fn check(rt: &HostRuntime, task: &Check) -> u8 {
     match read_list(rt, task.list) {
         Ok(list) if task.print_version => print_version(rt, task.list, version_of(&list)),
-        Ok(list) => check_beside(rt, task, &list),
+        Ok(list) => check_at(rt, task, &list),
         Err(fault) => fail_by(rt, fault),
+    }
+}
+
+// The present moment, in seconds since 1970, and the largest age of a list, in seconds.
+#[derive(Clone, Copy)]
+struct AgeLimit {
+    now: u64,
+    max_age: u64,
+}
+
+// Checks a list by the clock, if its age is limited. A clock that cannot be read is a fault.
+fn check_at(rt: &HostRuntime, task: &Check, list: &List) -> u8 {
+    let Some(max_age) = task.max_age else {
+        return check_beside(rt, task, list, None);
+    };
+    match present(rt) {
+        Some(now) => check_beside(rt, task, list, Some(AgeLimit { now, max_age })),
+        None => fail_in_words(rt, task.list, b"the clock of this host cannot be read"),
     }
 }
 
@@ -54,14 +73,27 @@ struct Other<'a> {
     version: Option<u64>,
 }
 
+// What a list is compared with.
+#[derive(Clone, Copy)]
+struct Beside<'a> {
+    other: Option<Other<'a>>,
+    limit: Option<AgeLimit>,
+}
+
 // Checks a list beside the one whose version it must not be below, if there is one.
-fn check_beside<'a>(rt: &HostRuntime, task: &Check<'a>, list: &List) -> u8 {
+fn check_beside<'a>(
+    rt: &HostRuntime,
+    task: &Check<'a>,
+    list: &List,
+    limit: Option<AgeLimit>,
+) -> u8 {
     match task.newer_than {
-        None => check_by(rt, task, list, None),
+        None => check_by(rt, task, list, Beside { other: None, limit }),
         Some(name) => match read_list(rt, name) {
-            Ok(other) => {
-                let version = version_of(&other);
-                check_by(rt, task, list, Some(Other { name, version }))
+            Ok(list_beside) => {
+                let version = version_of(&list_beside);
+                let other = Some(Other { name, version });
+                check_by(rt, task, list, Beside { other, limit })
             }
             Err(fault) => fail_by(rt, fault),
         },
@@ -76,7 +108,7 @@ struct Round<'a, 'q, 'w> {
 }
 
 // Checks a list that was read.
-fn check_by<'a>(rt: &HostRuntime, task: &Check<'a>, list: &List, other: Option<Other<'a>>) -> u8 {
+fn check_by<'a>(rt: &HostRuntime, task: &Check<'a>, list: &List, beside: Beside<'a>) -> u8 {
     let mut out = ToWrite::new(rt.stdout());
     let mut buffer = Vec::new(rt.alloc());
     let shown = Shown {
@@ -91,20 +123,24 @@ fn check_by<'a>(rt: &HostRuntime, task: &Check<'a>, list: &List, other: Option<O
         unread: false,
     };
     let mut round = Round { rt, checker };
-    let stop = check_all(&mut round, task, list, other).err();
+    let stop = check_all(&mut round, task, list, beside).err();
     let done = round.checker.finish(stop);
     end(rt, &done)
 }
 
-// Checks each condition.
+// Checks each condition, in the order of krl(1).
 fn check_all<'t, 'a>(
     round: &mut Round,
     task: &'t Check<'a>,
     list: &List,
-    other: Option<Other<'a>>,
+    beside: Beside<'a>,
 ) -> Result<(), RunFault<'a>> {
     round.check_format(task.list, list)?;
-    round.check_version(task.list, version_of(list), other)?;
+    if !task.allow_empty {
+        round.checker.check_empty(task.list)?;
+    }
+    round.check_version(task.list, version_of(list), beside.other)?;
+    round.check_age(task.list, list, beside.limit)?;
     for name in &task.keep {
         round.check_file(Role::Keep, *name)?;
     }
@@ -115,14 +151,10 @@ fn check_all<'t, 'a>(
 }
 
 impl<'a, 'q, 'w> Round<'a, 'q, 'w> {
-    // Checks that OpenSSH reads a list alike. A plain list that was read is read alike, and must
-    // have a key.
+    // Checks that OpenSSH reads a list alike. A plain list that was read is read alike.
     fn check_format<'s>(&mut self, name: &'s str, list: &List) -> Result<(), RunFault<'s>> {
         match list.stated {
             Some(_) => self.checker.check_openssh(name, list.bytes.as_slice()),
-            None if list.revocations.keys() == 0 => {
-                self.checker.refuse_plain(name, PlainRefusal::NoKey)
-            }
             None => Ok(()),
         }
     }
@@ -143,6 +175,22 @@ impl<'a, 'q, 'w> Round<'a, 'q, 'w> {
                 .checker
                 .refuse_plain(other.name, PlainRefusal::NoVersion),
             (None, _) => self.checker.refuse_plain(name, PlainRefusal::NoVersion),
+        }
+    }
+
+    // Checks that a list is not too old and not from the future, if its age is limited.
+    fn check_age<'s>(
+        &mut self,
+        name: &'s str,
+        list: &List,
+        limit: Option<AgeLimit>,
+    ) -> Result<(), RunFault<'s>> {
+        let Some(AgeLimit { now, max_age }) = limit else {
+            return Ok(());
+        };
+        match list.stated {
+            Some(stated) => self.checker.check_age(name, stated.generated, now, max_age),
+            None => self.checker.refuse_plain(name, PlainRefusal::NoDate),
         }
     }
 

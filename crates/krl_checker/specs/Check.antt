@@ -1,12 +1,16 @@
 -- The lines that a check prints for each condition, and its end.
 use Rattle.std.specs.Prelude.{◌≡◌, ℕ, ◌||◌, nat_lt, not, Bool, true, false, List, [], ◌∷◌, ◌++◌}
-use Rattle.std.specs.Prelude.{is_some, OnOk, Option, Some, None, Result}
+use Rattle.std.specs.Prelude.{◌-◌, ◌==◌, ◌&&◌, nat_le, length, is_some, OnOk, Option, Some, None}
+use Rattle.std.specs.Prelude.{Result}
 use Rattle.key_files.specs.RunFault.{RunFault}
 use Rattle.key_listing.specs.Carries.{Carries}
 use Rattle.key_listing.specs.Done.{Ends}
 use Rattle.key_listing.specs.Printer.{Printer}
 use Rattle.key_listing.specs.Run.{Item, said_of}
+use Rattle.krl_types.specs.Entry.{Entry}
+use Rattle.krl_types.specs.Naming.{Name, SomeNames}
 use Rattle.krl_types.specs.Subject.{Subject}
+use Rattle.krl_entries.specs.Revocations.{Revocations}
 use Rattle.krl_entries.specs.declared.reasons.Reasons.{Reasons}
 use Rattle.krl_audit.specs.Audit.{file_items, file_kinds}
 use Rattle.krl_audit.specs.Counts.{all_counted}
@@ -14,7 +18,7 @@ use Rattle.krl_audit.specs.declared.counts.Counts.{Counts}
 use Rattle.krl_audit.specs.declared.why.Refusal.{Refusal}
 use Rattle.krl_openssh.specs.declared.difference.Difference.{Difference}
 use Rattle.krl_checker.specs.Role.{is_met, shown_for}
-use Rattle.krl_checker.specs.Text.{difference_line, file_line, version_line}
+use Rattle.krl_checker.specs.Text.{age_line, difference_line, empty_line, file_line, version_line}
 use Rattle.krl_checker.specs.declared.role.Role.{Role}
 
 -- a line is printed if a condition fails
@@ -29,6 +33,39 @@ difference_items name (Some difference) = said_of name (difference_line name dif
 abbrev pub version_items : List ℕ → (version other : ℕ) → List Item
 version_items name version other =
     said_where (nat_lt version other) name (version_line name version other)
+
+-- ---- age
+
+-- how many seconds after the present moment a list may have been made, since clocks differ
+abbrev pub most_ahead : ℕ
+most_ahead = 300
+
+-- A list that was made at this moment is not too old and not from the future. The moments are in
+-- seconds since 1970.
+abbrev pub is_fresh : (generated now max_age : ℕ) → Bool
+is_fresh generated now max_age =
+    nat_le (generated - now) most_ahead && nat_le (now - generated) max_age
+
+abbrev pub age_items : List ℕ → (generated now max_age : ℕ) → List Item
+age_items name generated now max_age =
+    said_where (not (is_fresh generated now max_age)) name (age_line name generated now)
+
+-- ---- lists that revoke nobody
+
+-- no entry names anything: neither a key, a hash nor a key ID, nor a serial number other than 0
+abbrev pub NamesNobody : List Entry → Type 0
+NamesNobody entries = (name : Name) → SomeNames entries name → ⊥
+
+-- nothing is held
+abbrev pub names_nobody : Revocations → Bool
+names_nobody list =
+    (length list.sections == 0) && ((length list.keys == 0)
+    && ((length list.sha1s == 0) && (length list.sha256s == 0)))
+
+abbrev pub empty_items : List ℕ → Revocations → List Item
+empty_items name list = said_where (names_nobody list) name (empty_line name)
+
+-- ---- the keys of a file
 
 abbrev pub counts_items : Role → List ℕ → Counts → List Item
 counts_items role name counts =

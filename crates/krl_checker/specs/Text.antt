@@ -1,5 +1,7 @@
 -- The lines that are printed for a condition that fails, and why it fails.
-use Rattle.std.specs.Prelude.{ℕ, List, [], ◌∷◌, ◌++◌, codes, decimal}
+use Rattle.std.specs.Prelude.{ℕ, ◌-◌, ◌/◌, nat_lt, if◌then◌else◌, List, [], ◌∷◌, ◌++◌}
+use Rattle.std.specs.Prelude.{codes, decimal}
+use Rattle.cert_listing.specs.Time.{instant_text}
 use Rattle.ssh_cert.specs.Escape.{escaped}
 use Rattle.krl_audit.specs.declared.counts.Counts.{Counts}
 use Rattle.krl_openssh.specs.Difference.{difference_words}
@@ -19,6 +21,35 @@ version_line name version other =
     codes "version: " ++ (escaped name
     ++ (codes ": " ++ (decimal version ++ (codes " is below " ++ (decimal other ++ 10 ∷ [])))))
 
+-- the line for a list that revokes nobody
+abbrev pub empty_line : List ℕ → List ℕ
+empty_line name =
+    codes "empty: " ++ (escaped name ++ codes ": it revokes nobody\n")
+
+-- A number of seconds, rounded down to minutes from 2 minutes on, and to hours from 2 hours on.
+abbrev pub span_text : ℕ → List ℕ
+span_text seconds =
+    if nat_lt seconds 120 then decimal seconds ++ codes "s"
+    else if nat_lt seconds 7_200 then decimal (seconds / 60) ++ codes "m"
+    else decimal (seconds / 3_600) ++ codes "h"
+
+-- how far an instant is from the present one, which are both given in seconds since 1970
+abbrev pub distance_text : (instant now : ℕ) → List ℕ
+distance_text instant now =
+    if nat_lt now instant then span_text (instant - now) ++ codes " from now"
+    else span_text (now - instant) ++ codes " ago"
+
+-- the line for a list of this date, and how far that is from the present moment
+abbrev pub dated_line : (name date distance : List ℕ) → List ℕ
+dated_line name date distance =
+    codes "age: " ++ (escaped name
+    ++ (codes ": generated " ++ (date ++ (codes ", " ++ (distance ++ 10 ∷ [])))))
+
+-- the line for a list that was made too long ago, or after the present moment
+abbrev pub age_line : List ℕ → (generated now : ℕ) → List ℕ
+age_line name generated now =
+    dated_line name (instant_text generated) (distance_text generated now)
+
 abbrev pub file_line : Role → List ℕ → Counts → List ℕ
 file_line role name counts =
     role_word role ++ (escaped name
@@ -29,11 +60,11 @@ file_line role name counts =
 
 abbrev pub plain_word : PlainRefusal → List ℕ
 plain_word refusals.NoVersion = codes "version: "
-plain_word refusals.NoKey = codes "key: "
+plain_word refusals.NoDate = codes "age: "
 
 abbrev pub plain_why : PlainRefusal → List ℕ
 plain_why refusals.NoVersion = codes "a plain list has no version"
-plain_why refusals.NoKey = codes "a plain list without a key revokes nobody"
+plain_why refusals.NoDate = codes "a plain list has no date"
 
 abbrev pub plain_line : List ℕ → PlainRefusal → List ℕ
 plain_line name why =

@@ -12,19 +12,27 @@ ghost use Rattle.krl_audit.specs.Audit.{content_of};
 ghost use Rattle.krl_openssh.specs.Difference.{first_difference};
 ghost use Rattle.krl_openssh.specs.Fields.{HasFields};
 ghost use Rattle.krl_checker.specs.Check.{ChecksFile, EndsCheck, check_status, difference_items};
-ghost use Rattle.krl_checker.specs.Check.{version_items, counts_items};
+ghost use Rattle.krl_checker.specs.Check.{age_items, counts_items, empty_items, is_fresh};
+ghost use Rattle.krl_checker.specs.Check.{names_nobody, version_items};
 ghost use Rattle.krl_checker.specs.Role.{is_met};
 ghost use Rattle.krl_checker.specs.Text.{plain_line};
 
 use crate::plain::PlainRefusal;
 use crate::role::Role;
-use crate::text::{write_difference, write_file, write_plain, write_version};
+use crate::text::{
+    write_age, write_difference, write_empty, write_file, write_plain, write_version,
+};
 use byte_streams::Sink;
 use key_files::RunFault;
 use key_listing::Done;
 use krl_audit::{Auditor, Counts, Refusal};
+use krl_entries::Revocations;
 use krl_openssh::first_difference;
+use span_sets::Held;
 use std::alloc::AllocError;
+
+// How many seconds after the present moment a list may have been made, since clocks differ.
+const MOST_AHEAD: u64 = 300;
 
 /// Checks a list: has the auditor that queries it for the keys of files and prints, whether a
 /// condition failed, and whether a file was not read. Prints nothing for a condition that holds.
@@ -77,6 +85,46 @@ impl<'q, 'w, W: Sink> Checker<'q, 'w, W> {
             return Ok(());
         }
         let made = write_version(&mut self.auditor.run.line, name, version, other);
+        self.refuse(name, made)
+    }
+
+    /// Checks that a list was made at most `max_age` seconds ago, and at most 5 minutes after the
+    /// present moment. The moments are in seconds since 1970.
+    pub fn check_age<'a>(
+        &mut self,
+        name: &'a str,
+        generated: u64,
+        now: u64,
+        max_age: u64,
+    ) -> Result<(), RunFault<'a>>
+        ensures carries { Carries (age_items name.now generated now max_age) result
+            self.old.auditor.run.printer self.new.auditor.run.printer }
+        ensures refused { self.new.refused
+            ≡ (self.old.refused || not (is_fresh generated now max_age)) }
+        ensures unread { self.new.unread ≡ self.old.unread }
+        ensures judge { self.new.auditor.judge ≡ self.old.auditor.judge }
+    {
+        if is_fresh(generated, now, max_age) {
+            return Ok(());
+        }
+        let alloc = self.auditor.run.alloc;
+        let made = write_age(alloc, &mut self.auditor.run.line, name, generated, now);
+        self.refuse(name, made)
+    }
+
+    /// Checks that the list of the auditor revokes somebody.
+    pub fn check_empty<'a>(&mut self, name: &'a str) -> Result<(), RunFault<'a>>
+        ensures carries { Carries (empty_items name.now self.old.auditor.judge.list.now) result
+            self.old.auditor.run.printer self.new.auditor.run.printer }
+        ensures refused { self.new.refused
+            ≡ (self.old.refused || names_nobody self.old.auditor.judge.list.now) }
+        ensures unread { self.new.unread ≡ self.old.unread }
+        ensures judge { self.new.auditor.judge ≡ self.old.auditor.judge }
+    {
+        if !names_nobody(self.auditor.judge.list) {
+            return Ok(());
+        }
+        let made = write_empty(&mut self.auditor.run.line, name);
         self.refuse(name, made)
     }
 
@@ -169,6 +217,20 @@ impl<'q, 'w, W: Sink> Checker<'q, 'w, W> {
             fault,
         }
     }
+}
+
+// Returns true if a list was made neither too long ago nor after the present moment.
+fn is_fresh(generated: u64, now: u64, max_age: u64) -> bool
+    ensures { result ≡ is_fresh generated now max_age }
+{
+    generated.saturating_sub(now) <= MOST_AHEAD && now.saturating_sub(generated) <= max_age
+}
+
+// Returns true if a list revokes nobody.
+fn names_nobody(list: &Revocations<Held>) -> bool
+    ensures { result ≡ names_nobody list.now }
+{
+    list.authorities() == 0 && list.keys() == 0 && list.sha1s() == 0 && list.sha256s() == 0
 }
 
 // The exit status of a check.

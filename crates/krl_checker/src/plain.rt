@@ -9,8 +9,8 @@ pub enum PlainRefusal {
     /// Its version must not be below that of another list, or another list's below its own, and it
     /// has none.
     NoVersion,
-    /// It has no key, so it revokes nobody, as a file whose bytes are lost.
-    NoKey,
+    /// It must not be older than it may be, and it has no date.
+    NoDate,
 }
 
 impl PlainRefusal {
@@ -20,7 +20,7 @@ impl PlainRefusal {
     {
         match self {
             PlainRefusal::NoVersion => b"version: ",
-            PlainRefusal::NoKey => b"key: ",
+            PlainRefusal::NoDate => b"age: ",
         }
     }
 
@@ -30,7 +30,7 @@ impl PlainRefusal {
     {
         match self {
             PlainRefusal::NoVersion => b"a plain list has no version",
-            PlainRefusal::NoKey => b"a plain list without a key revokes nobody",
+            PlainRefusal::NoDate => b"a plain list has no date",
         }
     }
 }

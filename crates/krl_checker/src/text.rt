@@ -1,14 +1,17 @@
 //! The lines that are printed for a condition that fails, and why it fails.
 
 ghost use Rattle.std.specs.Prelude.{◌≡◌, OnOk};
-ghost use Rattle.krl_checker.specs.Text.{difference_line, file_line, plain_line, version_line};
+ghost use Rattle.krl_checker.specs.Text.{age_line, dated_line, difference_line, distance_text};
+ghost use Rattle.krl_checker.specs.Text.{empty_line, file_line, plain_line, span_text};
+ghost use Rattle.krl_checker.specs.Text.{version_line};
 
 use crate::plain::PlainRefusal;
 use crate::role::Role;
+use cert_listing::time_text;
 use krl_audit::Counts;
 use krl_openssh::Difference;
-use line_pieces::{Escaped, Words, put};
-use std::alloc::AllocError;
+use line_pieces::{Escaped, Printed, Words, put};
+use std::alloc::{AllocError, Global};
 
 /// Makes the line for a list that OpenSSH does not read, or from which it reads other names.
 pub(crate) fn write_difference(
@@ -46,6 +49,80 @@ pub(crate) fn write_plain(
 {
     line.clear();
     put!(line; Words(why.word()), Escaped(name.as_bytes()), b": ", Words(why.why()), b"\n")
+}
+
+/// Makes the line for a list that revokes nobody.
+pub(crate) fn write_empty(line: &mut Vec<u8>, name: &str) -> Result<(), AllocError>
+    ensures { OnOk result (line.new.items ≡ empty_line name.now) }
+{
+    line.clear();
+    put!(line; b"empty: ", Escaped(name.as_bytes()), b": it revokes nobody\n")
+}
+
+/// Makes the line for a list that was made too long ago, or after the present moment.
+pub(crate) fn write_age(
+    alloc: Global,
+    line: &mut Vec<u8>,
+    name: &str,
+    generated: u64,
+    now: u64,
+) -> Result<(), AllocError>
+    ensures { OnOk result (line.new.items ≡ age_line name.now generated now) }
+{
+    let date = time_text(alloc, generated)?;
+    let instant = generated;
+    write_dated(line, name, &date, Distance { instant, now })
+}
+
+// Makes the line for a list of this date.
+fn write_dated(
+    line: &mut Vec<u8>,
+    name: &str,
+    date: &[u8],
+    distance: Distance,
+) -> Result<(), AllocError>
+    ensures { OnOk result (line.new.items ≡ dated_line name.now date.now
+        (distance_text distance.instant distance.now)) }
+{
+    line.clear();
+    put!(line; b"age: ", Escaped(name.as_bytes()), b": generated ", Words(date), b", ", distance, b"\n")
+}
+
+// How far an instant is from the present one, in seconds since 1970.
+#[derive(Clone, Copy)]
+struct Distance {
+    instant: u64,
+    now: u64,
+}
+
+impl Printed for Distance {
+    ghost text = { λ distance. distance_text distance.instant distance.now };
+
+    fn push_to(&self, out: &mut Vec<u8>) -> Result<(), AllocError> {
+        if self.now < self.instant {
+            put!(out; Span(self.instant - self.now), b" from now")
+        } else {
+            put!(out; Span(self.now - self.instant), b" ago")
+        }
+    }
+}
+
+// A number of seconds, in the unit that suits it.
+#[derive(Clone, Copy)]
+struct Span(u64);
+
+impl Printed for Span {
+    ghost text = { λ span. span_text span.0 };
+
+    fn push_to(&self, out: &mut Vec<u8>) -> Result<(), AllocError> {
+        if self.0 < 120 {
+            put!(out; self.0, b"s")
+        } else if self.0 < 7_200 {
+            put!(out; self.0 / 60, b"m")
+        } else {
+            put!(out; self.0 / 3_600, b"h")
+        }
+    }
 }
 
 /// Makes the line for a file whose keys do not meet the condition, or are not all read.

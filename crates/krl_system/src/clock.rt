@@ -23,11 +23,15 @@ pub fn date(rt: &HostRuntime) -> Result<u64, Cause> {
 
 /// The seconds since 1970. A clock that cannot be read, or shows an earlier time, counts as 0.
 pub fn moment(rt: &HostRuntime) -> u64 {
-    match SystemTime::now(rt) {
-        Ok(now) => match now.duration_since(UNIX_EPOCH) {
-            Ok(passed) => passed.as_secs(),
-            Err(_) => 0,
-        },
-        Err(_) => 0,
+    match present(rt) {
+        Some(now) => now,
+        None => 0,
     }
+}
+
+/// The seconds since 1970, if the clock can be read and does not show an earlier time.
+pub fn present(rt: &HostRuntime) -> Option<u64> {
+    let now = SystemTime::now(rt).ok()?;
+    let passed = now.duration_since(UNIX_EPOCH).ok()?;
+    Some(passed.as_secs())
 }

@@ -15,7 +15,7 @@ mod rights;
 mod streams;
 mod waiting;
 
-pub use clock::{date, moment};
+pub use clock::{date, moment, present};
 pub use files::{buffered, open, open_authority, open_inputs, open_list, open_or_input};
 pub use locked_list::{Locked, MadeOf, OldList, Target, lock_target, release};
 pub use replacing::{Written, write_list};

@@ -22,6 +22,10 @@ pub enum Asked<'a> {
     Keys(Role, &'a str, Result<&'a [u8], Refusal>),
     /// That it is a plain list that is refused.
     Plain(PlainRefusal),
+    /// When it was made, the present moment, and the largest age.
+    Age(u64, u64, u64),
+    /// That it revokes somebody.
+    Empty,
 }
 
 /// Checks a list.
@@ -34,6 +38,8 @@ pub fn check<'a, W: Sink>(
         Asked::Version(version, other) => checker.check_version("r.krl", version, other),
         Asked::Keys(role, name, content) => checker.check_keys(role, name, content),
         Asked::Plain(why) => checker.refuse_plain("r.krl", why),
+        Asked::Age(generated, now, most) => checker.check_age("r.krl", generated, now, most),
+        Asked::Empty => checker.check_empty("r.krl"),
     }
 }
 
@@ -89,7 +95,7 @@ pub fn checker_of<'q, 'w, W: Sink>(
 }
 
 // One condition, what is said, and the status.
-const CHECKS: [(Asked<'static>, &[u8], u8); 19] = [
+const CHECKS: [(Asked<'static>, &[u8], u8); 29] = [
     (Asked::OpenSsh(&HEADER), b"", 0),
     (Asked::Version(7, 7), b"", 0),
     (Asked::Version(8, 7), b"", 0),
@@ -105,8 +111,47 @@ const CHECKS: [(Asked<'static>, &[u8], u8); 19] = [
         1,
     ),
     (
-        Asked::Plain(PlainRefusal::NoKey),
-        b"key: r.krl: a plain list without a key revokes nobody\n",
+        Asked::Plain(PlainRefusal::NoDate),
+        b"age: r.krl: a plain list has no date\n",
+        1,
+    ),
+    (Asked::Empty, b"", 0),
+    // The largest age, and 5 minutes after the present moment.
+    (Asked::Age(NINE, NINE + 60, 60), b"", 0),
+    (Asked::Age(NINE + 300, NINE, 0), b"", 0),
+    (
+        Asked::Age(NINE, NINE + 61, 60),
+        b"age: r.krl: generated 2026-11-26T09:00:00Z, 61s ago\n",
+        1,
+    ),
+    (
+        Asked::Age(NINE, NINE + 119, 60),
+        b"age: r.krl: generated 2026-11-26T09:00:00Z, 119s ago\n",
+        1,
+    ),
+    (
+        Asked::Age(NINE, NINE + 7_199, 60),
+        b"age: r.krl: generated 2026-11-26T09:00:00Z, 119m ago\n",
+        1,
+    ),
+    (
+        Asked::Age(NINE, NINE + 49 * 3_600 + 3_599, 86_400),
+        b"age: r.krl: generated 2026-11-26T09:00:00Z, 49h ago\n",
+        1,
+    ),
+    (
+        Asked::Age(NINE + 301, NINE, 86_400),
+        b"age: r.krl: generated 2026-11-26T09:05:01Z, 5m from now\n",
+        1,
+    ),
+    (
+        Asked::Age(18_446_744_073_709_551_615, 0, 18_446_744_073_709_551_615),
+        b"age: r.krl: generated @18446744073709551615, 5124095576030431h from now\n",
+        1,
+    ),
+    (
+        Asked::Age(0, 18_446_744_073_709_551_615, 1),
+        b"age: r.krl: generated 1970-01-01T00:00:00Z, 5124095576030431h ago\n",
         1,
     ),
     (Asked::Keys(Role::Keep, "f", Ok(OTHER_LINE)), b"", 0),
@@ -163,6 +208,9 @@ keep: gone: 0 of 0 keys are revoked, 1 lines are not read\n",
         1,
     ),
 ];
+
+// 9:00:00 on 26 November 2026, in seconds since 1970.
+const NINE: u64 = 1_795_683_600;
 
 // A list of serial number 0 of all authorities.
 const SERIAL_ZERO: &[u8] = b"SSHKRL\n\0\0\0\0\x01\0\0\0\0\0\0\0\x01\0\0\0\0\0\0\0\0\
@@ -224,4 +272,14 @@ fn many_conditions(rt: HostRuntime) {
         assert!(rt; text.is_empty() == wanted.is_empty(), "row {i}");
         assert_eq!(rt; got, *status, "row {i}");
     }
+}
+
+#[test]
+fn nobody_is_revoked(rt: HostRuntime) {
+    let list: Revocations<Held> = Revocations::new(rt.alloc());
+    let mut taker = Taker::whole(rt.alloc());
+    let mut out = ToWrite::new(&mut taker);
+    let asked = [Asked::Empty, Asked::Version(1, 1)];
+    assert!(rt; said_into(&rt, rt.alloc(), &list, &asked, &mut out) == 1);
+    assert!(rt; taker.taken.as_slice() == b"empty: r.krl: it revokes nobody\n".as_slice());
 }
