@@ -44,9 +44,18 @@ checks 'two canaries, of which the second is not revoked' 1 "$not_b" \
 checks 'a file with a line that is not read' 1 "wrong:2: unread: no key type stands there
 keep: wrong: 0 of 1 keys are revoked, 1 lines are not read" --keep wrong r.krl
 { cat a.pub && echo garbage; } >wrong
-checks 'a canary with a line that is not read' 1 \
-  'canary: wrong: 1 of 1 keys are revoked, 1 lines are not read' \
-  --canary wrong r.krl
+checks 'a canary with a line that is not read' 1 'wrong:2: unread: no key type stands there
+canary: wrong: 1 of 1 keys are revoked, 1 lines are not read' --canary wrong r.krl
+printf 'garbage\n# none\nmore\n\nand more\n' >bad
+for word in keep canary; do
+  checks "a file of --$word with three lines that are no keys" 1 \
+    "bad: unread: none of its 3 lines is a key
+$word: bad: 0 of 0 keys are revoked, 3 lines are not read" --$word bad r.krl
+done
+# A control character of two bytes in each name.
+cp r.krl $'r\u9b.krl' && cp g.pub $'g\u9b.pub'
+checks 'a control character in a name' 1 "g\\x9b.pub:1: $by_g
+keep: g\\x9b.pub: 1 of 1 keys are revoked, $zeros" --keep $'g\u9b.pub' r.krl
 echo '# nobody' >none
 for word in keep canary; do
   checks "no key in the file of --$word" 1 "$word: none: 0 of 0 keys are revoked, $zeros" \
@@ -57,10 +66,12 @@ checks 'a canary that its line calls revoked' 1 "canary: marked: 0 of 1 keys are
   --canary marked r.krl
 checks 'a file that is missing' 255 "gone: unread: No such file or directory
 keep: gone: 0 of 0 keys are revoked, 1 lines are not read
+gone: unread: No such file or directory
 canary: gone: 0 of 0 keys are revoked, 1 lines are not read" --keep gone --canary gone r.krl
 # A condition that fails is said too, and 255 wins over 1.
 checks 'a file that is missing and a key to be kept that is revoked' 255 "g.pub:1: $by_g
 keep: g.pub: 1 of 1 keys are revoked, $zeros
+gone: unread: No such file or directory
 canary: gone: 0 of 0 keys are revoked, 1 lines are not read" --canary gone --keep g.pub r.krl
 mkdir folder
 expect 'a folder to be kept' 255 'folder: unread: it cannot be read to its end

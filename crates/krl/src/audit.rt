@@ -99,7 +99,8 @@ pub fn auditor_of<'q, 'w, W: Sink>(
 // Which findings the task prints, and how.
 fn shown_of(rt: &HostRuntime, task: &Audit) -> Shown {
     Shown {
-        findings: !task.quiet,
+        revoked: !task.quiet,
+        unread: !task.quiet,
         fine: task.all && !task.quiet,
         form: form_of(rt, task),
     }

@@ -112,7 +112,8 @@ fn check_by<'a>(rt: &HostRuntime, task: &Check<'a>, list: &List, beside: Beside<
     let mut out = ToWrite::new(rt.stdout());
     let mut buffer = Vec::new(rt.alloc());
     let shown = Shown {
-        findings: true,
+        revoked: true,
+        unread: true,
         fine: false,
         form: Form::Text,
     };

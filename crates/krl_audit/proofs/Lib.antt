@@ -2,6 +2,7 @@ pub mod Judging
 pub mod Telling
 pub mod Surveying
 pub mod Files
+pub mod KeylessFiles
 pub mod Spelled
 pub mod Private
 pub mod Shallow

@@ -51,8 +51,8 @@ abbrev pub says : Shown → LineKind → Bool
 says shown kinds.Empty = false
 says shown kinds.Distrusted = false
 says shown kinds.Fine = shown.fine
-says shown kinds.Revoked = shown.findings
-says shown kinds.Unread = shown.findings
+says shown kinds.Revoked = shown.revoked
+says shown kinds.Unread = shown.unread
 
 -- the line of a key, for people or as a JSON object
 abbrev pub key_said : Form → List ℕ → ℕ → Found → Reasons → List ℕ

@@ -7,4 +7,5 @@ pub mod Text
 pub mod Objects
 pub mod ReasonNames
 pub mod Audit
+pub mod Keyless
 pub mod Colour

@@ -233,9 +233,9 @@ fn say_made<'a, W: Sink>(run: &mut Run<W>, name: &'a str, said: bool) -> Result<
     }
 }
 
-// The text without a byte order mark at its start.
+/// The text without a byte order mark at its start.
 #[tactic(auto, unfolding(crate::specs::Outcome::without_mark))]
-fn without_mark(text: &[u8]) -> &[u8]
+pub(crate) fn without_mark(text: &[u8]) -> &[u8]
     ensures { result.now ≡ without_mark text.now }
 {
     if text.starts_with(ORDER_MARK) {

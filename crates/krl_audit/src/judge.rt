@@ -32,8 +32,10 @@ pub enum Form {
 /// Which findings are printed, and how.
 #[derive(Clone, Copy)]
 pub struct Shown {
-    /// Print revoked keys, and lines and files that are not read.
-    pub findings: bool,
+    /// Print revoked keys.
+    pub revoked: bool,
+    /// Print lines and files that are not read.
+    pub unread: bool,
     /// Print keys that are not revoked.
     pub fine: bool,
     /// The form in which they are printed.
@@ -92,7 +94,7 @@ impl<'q> Judge<'q> {
             self.now.shown location.entry.name.now location.entry.number (Unread why) made.kind
             made.said line.new.items) }
     {
-        let said = self.shown.findings;
+        let said = self.shown.unread;
         if said {
             say_unread(alloc, self.shown.form, location, why, line)?;
         }
@@ -153,6 +155,7 @@ fn says(shown: Shown, kind: LineKind) -> bool
     match kind {
         LineKind::Empty | LineKind::Distrusted => false,
         LineKind::Fine => shown.fine,
-        LineKind::Revoked | LineKind::Unread => shown.findings,
+        LineKind::Revoked => shown.revoked,
+        LineKind::Unread => shown.unread,
     }
 }

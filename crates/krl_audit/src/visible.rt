@@ -14,7 +14,7 @@ const DIGITS: &[u8; 16] = b"0123456789abcdef";
 
 /// A text that anyone may have written, and whether it stands between quotes.
 #[derive(Clone, Copy)]
-pub(crate) struct Visible<'a>(pub(crate) &'a [u8], pub(crate) bool);
+pub struct Visible<'a>(pub &'a [u8], pub bool);
 
 impl<'a> Printed for Visible<'a> {
     ghost text = { λ text. visible text.1 text.0.now };

@@ -1,7 +1,7 @@
 -- The lines that a check prints for each condition, and its end.
 use Rattle.std.specs.Prelude.{◌≡◌, ℕ, ◌||◌, nat_lt, not, Bool, true, false, List, [], ◌∷◌, ◌++◌}
 use Rattle.std.specs.Prelude.{◌-◌, ◌==◌, ◌&&◌, nat_le, length, is_some, OnOk, Option, Some, None}
-use Rattle.std.specs.Prelude.{Result}
+use Rattle.std.specs.Prelude.{Result, Ok, Err}
 use Rattle.key_files.specs.RunFault.{RunFault}
 use Rattle.key_listing.specs.Carries.{Carries}
 use Rattle.key_listing.specs.Done.{Ends}
@@ -12,8 +12,9 @@ use Rattle.krl_types.specs.Naming.{Name, SomeNames}
 use Rattle.krl_types.specs.Subject.{Subject}
 use Rattle.krl_entries.specs.Revocations.{Revocations}
 use Rattle.krl_entries.specs.declared.reasons.Reasons.{Reasons}
-use Rattle.krl_audit.specs.Audit.{file_items, file_kinds}
+use Rattle.krl_audit.specs.Audit.{file_items, file_kinds, said_if}
 use Rattle.krl_audit.specs.Counts.{all_counted}
+use Rattle.krl_audit.specs.Keyless.{keyless_lines}
 use Rattle.krl_audit.specs.declared.counts.Counts.{Counts}
 use Rattle.krl_audit.specs.declared.why.Refusal.{Refusal}
 use Rattle.krl_openssh.specs.declared.difference.Difference.{Difference}
@@ -67,30 +68,44 @@ empty_items name list = said_where (names_nobody list) name (empty_line name)
 
 -- ---- the keys of a file
 
+-- a line is printed for the file if its keys do not meet the condition
 abbrev pub counts_items : Role → List ℕ → Counts → List Item
 counts_items role name counts =
-    said_where (not (is_met role counts)) name (file_line role name counts)
+    said_if (not (is_met role counts)) name (file_line role name counts) ∷ []
 
 -- nothing was counted
 abbrev pub none_counted : Counts
 none_counted = record { keys = 0; revoked = 0; unread = 0 }
 
+-- these lines are not read
+abbrev pub with_unread : Option ℕ → Counts → Counts
+with_unread None counts = counts
+with_unread (Some lines) counts = record counts { unread = lines }
+
+-- The counts of an audited file. The lines of a file without a key count one by one, which an audit
+-- may report as a whole.
+abbrev pub lines_counted : List ℕ → Result (List ℕ) Refusal → Counts → Counts
+lines_counted name (Err refusal) counts = counts
+lines_counted name (Ok text) counts = with_unread (keyless_lines name text) counts
+
 -- the counts of a file
-abbrev pub counts_of : (Subject → Reasons) → Result (List ℕ) Refusal → Counts
-counts_of reasons content = all_counted none_counted (file_kinds reasons content)
+abbrev pub counts_of : (Subject → Reasons) → List ℕ → Result (List ℕ) Refusal → Counts
+counts_of reasons name content =
+    lines_counted name content (all_counted none_counted (file_kinds reasons content))
 
 -- the keys that do not meet the condition, and then the file
 abbrev pub keys_items : Role → (Subject → Reasons) → List ℕ → Result (List ℕ) Refusal → List Item
 keys_items role reasons name content =
     file_items reasons (shown_for role) name content
-    ++ counts_items role name (counts_of reasons content)
+    ++ counts_items role name (counts_of reasons name content)
 
 -- The keys of a file were checked, after the earlier checks; or the check was stopped.
 pub record ChecksFile (role : Role) (reasons : Subject → Reasons) (name : List ℕ)
     (content : Result (List ℕ) Refusal) (result : Result (Unit {0}) RunFault) (old new : Printer)
     (before after : Bool) : Type 0 where
   pub carries : Carries (keys_items role reasons name content) result old new
-  pub refused : OnOk result (after ≡ (before || not (is_met role (counts_of reasons content))))
+  pub refused : OnOk result
+      (after ≡ (before || not (is_met role (counts_of reasons name content))))
 
 -- the exit status, by whether the result is unknown and whether a condition failed
 abbrev pub check_status : Bool → Bool → ℕ

@@ -21,10 +21,10 @@ abbrev pub is_met : Role → Counts → Bool
 is_met role counts =
     if (counts.keys == 0) || nat_lt 0 counts.unread then false else are_right role counts
 
--- the keys that do not meet the condition are printed
+-- the keys that do not meet the condition are printed, and the lines that are not read
 abbrev pub shown_for : Role → Shown
-shown_for roles.Keep = record { findings = true; fine = false; form = Text }
-shown_for roles.Canary = record { findings = false; fine = true; form = Text }
+shown_for roles.Keep = record { revoked = true; unread = true; fine = false; form = Text }
+shown_for roles.Canary = record { revoked = false; unread = true; fine = true; form = Text }
 
 abbrev pub role_word : Role → List ℕ
 role_word roles.Keep = codes "keep: "

@@ -1,8 +1,8 @@
 -- The lines that are printed for a condition that fails, and why it fails.
-use Rattle.std.specs.Prelude.{ℕ, ◌-◌, ◌/◌, nat_lt, if◌then◌else◌, List, [], ◌∷◌, ◌++◌}
+use Rattle.std.specs.Prelude.{ℕ, ◌-◌, ◌/◌, false, nat_lt, if◌then◌else◌, List, [], ◌∷◌, ◌++◌}
 use Rattle.std.specs.Prelude.{codes, decimal}
 use Rattle.cert_listing.specs.Time.{instant_text}
-use Rattle.ssh_cert.specs.Escape.{escaped}
+use Rattle.krl_audit.specs.Visible.{visible}
 use Rattle.krl_audit.specs.declared.counts.Counts.{Counts}
 use Rattle.krl_openssh.specs.Difference.{difference_words}
 use Rattle.krl_openssh.specs.declared.difference.Difference.{Difference}
@@ -13,18 +13,18 @@ use Rattle.krl_checker.specs.declared.role.Role.{Role}
 
 abbrev pub difference_line : List ℕ → Difference → List ℕ
 difference_line name difference =
-    codes "openssh: " ++ (escaped name
+    codes "openssh: " ++ (visible false name
     ++ (codes ": " ++ (difference_words difference ++ 10 ∷ [])))
 
 abbrev pub version_line : List ℕ → (version other : ℕ) → List ℕ
 version_line name version other =
-    codes "version: " ++ (escaped name
+    codes "version: " ++ (visible false name
     ++ (codes ": " ++ (decimal version ++ (codes " is below " ++ (decimal other ++ 10 ∷ [])))))
 
 -- the line for a list that revokes nobody
 abbrev pub empty_line : List ℕ → List ℕ
 empty_line name =
-    codes "empty: " ++ (escaped name ++ codes ": it revokes nobody\n")
+    codes "empty: " ++ (visible false name ++ codes ": it revokes nobody\n")
 
 -- A number of seconds, rounded down to minutes from 2 minutes on, and to hours from 2 hours on.
 abbrev pub span_text : ℕ → List ℕ
@@ -42,7 +42,7 @@ distance_text instant now =
 -- the line for a list of this date, and how far that is from the present moment
 abbrev pub dated_line : (name date distance : List ℕ) → List ℕ
 dated_line name date distance =
-    codes "age: " ++ (escaped name
+    codes "age: " ++ (visible false name
     ++ (codes ": generated " ++ (date ++ (codes ", " ++ (distance ++ 10 ∷ [])))))
 
 -- the line for a list that was made too long ago, or after the present moment
@@ -52,7 +52,7 @@ age_line name generated now =
 
 abbrev pub file_line : Role → List ℕ → Counts → List ℕ
 file_line role name counts =
-    role_word role ++ (escaped name
+    role_word role ++ (visible false name
     ++ (codes ": " ++ (decimal counts.revoked
     ++ (codes " of " ++ (decimal counts.keys
     ++ (codes " keys are revoked, " ++ (decimal counts.unread
@@ -68,4 +68,4 @@ plain_why refusals.NoDate = codes "a plain list has no date"
 
 abbrev pub plain_line : List ℕ → PlainRefusal → List ℕ
 plain_line name why =
-    plain_word why ++ (escaped name ++ (codes ": " ++ (plain_why why ++ 10 ∷ [])))
+    plain_word why ++ (visible false name ++ (codes ": " ++ (plain_why why ++ 10 ∷ [])))

@@ -1,7 +1,7 @@
 //! Checking a list, one condition after the other.
 
 ghost use Rattle.std.specs.Prelude.{◌≡◌, ◌∷◌, [], ◌||◌, nat_lt, not, true, ℕ, List, Option, OnOk};
-ghost use Rattle.std.specs.Prelude.{is_err, is_some};
+ghost use Rattle.std.specs.Prelude.{IfOk, is_err, is_some};
 ghost use Rattle.key_listing.specs.Carries.{Carries, Reaches};
 ghost use Rattle.key_listing.specs.Run.{Item, said_of};
 ghost use Rattle.krl_format.specs.Front.{start};
@@ -13,7 +13,7 @@ ghost use Rattle.krl_openssh.specs.Difference.{first_difference};
 ghost use Rattle.krl_openssh.specs.Fields.{HasFields};
 ghost use Rattle.krl_checker.specs.Check.{ChecksFile, EndsCheck, check_status, difference_items};
 ghost use Rattle.krl_checker.specs.Check.{age_items, counts_items, empty_items, is_fresh};
-ghost use Rattle.krl_checker.specs.Check.{names_nobody, version_items};
+ghost use Rattle.krl_checker.specs.Check.{lines_counted, names_nobody, version_items};
 ghost use Rattle.krl_checker.specs.Role.{is_met};
 ghost use Rattle.krl_checker.specs.Text.{plain_line};
 
@@ -23,13 +23,13 @@ use crate::text::{
     write_age, write_difference, write_empty, write_file, write_plain, write_version,
 };
 use byte_streams::Sink;
-use key_files::RunFault;
+use key_files::{Cause, RunFault};
 use key_listing::Done;
-use krl_audit::{Auditor, Counts, Refusal};
+use krl_audit::{Auditor, Counts, Refusal, keyless_lines};
 use krl_entries::Revocations;
 use krl_openssh::first_difference;
 use span_sets::Held;
-use std::alloc::AllocError;
+use std::alloc::{AllocError, Global};
 
 // How many seconds after the present moment a list may have been made, since clocks differ.
 const MOST_AHEAD: u64 = 300;
@@ -160,19 +160,28 @@ impl<'q, 'w, W: Sink> Checker<'q, 'w, W> {
         self.auditor.judge.shown = role.shown();
         self.auditor.counts = Counts::NONE;
         self.auditor.audit_file(name, content)?;
-        self.check_counts(role, name)
+        self.check_counts(role, name, content)
     }
 
-    // Checks the counts of a file.
-    fn check_counts<'a>(&mut self, role: Role, name: &'a str) -> Result<(), RunFault<'a>>
-        ensures carries { Carries (counts_items role name.now self.old.auditor.counts) result
+    // Checks the counts of a file that was audited.
+    fn check_counts<'a>(
+        &mut self,
+        role: Role,
+        name: &'a str,
+        content: Result<&[u8], Refusal>,
+    ) -> Result<(), RunFault<'a>>
+        ensures carries { Carries (counts_items role name.now
+            (lines_counted name.now (content_of content.entry) self.old.auditor.counts)) result
             self.old.auditor.run.printer self.new.auditor.run.printer }
-        ensures refused { self.new.refused
-            ≡ (self.old.refused || not (is_met role self.old.auditor.counts)) }
+        ensures refused { OnOk result (self.new.refused ≡ (self.old.refused || not (is_met role
+            (lines_counted name.now (content_of content.entry) self.old.auditor.counts)))) }
         ensures unread { self.new.unread ≡ self.old.unread }
         ensures judge { self.new.auditor.judge ≡ self.old.auditor.judge }
     {
-        let counts = self.auditor.counts;
+        let audited = self.auditor.counts;
+        let Ok(counts) = lines_counted(self.auditor.run.alloc, name, content, audited) else {
+            return Err(RunFault::whole(name, Cause::NoMemory));
+        };
         if role.is_met(counts) {
             return Ok(());
         }
@@ -216,6 +225,26 @@ impl<'q, 'w, W: Sink> Checker<'q, 'w, W> {
             status: status(fault.is_some() || self.unread, self.refused),
             fault,
         }
+    }
+}
+
+// The counts of an audited file. The lines of a file without a key count one by one, which an audit
+// may report as a whole.
+fn lines_counted(
+    alloc: Global,
+    name: &str,
+    content: Result<&[u8], Refusal>,
+    audited: Counts,
+) -> Result<Counts, AllocError>
+    ensures { IfOk result (λ counts.
+        counts ≡ lines_counted name.now (content_of content.entry) audited) }
+{
+    let Ok(text) = content else {
+        return Ok(audited);
+    };
+    match keyless_lines(alloc, name, text)? {
+        Some(unread) => Ok(Counts { unread, ..audited }),
+        None => Ok(audited),
     }
 }
 

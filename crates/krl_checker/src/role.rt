@@ -29,18 +29,20 @@ impl Role {
         }
     }
 
-    /// The keys that are printed because they do not meet the condition.
+    /// The lines that are printed: keys that do not meet the condition, and lines that are not read.
     pub(crate) fn shown(self) -> Shown
         ensures { result ≡ shown_for self }
     {
         match self {
             Role::Keep => Shown {
-                findings: true,
+                revoked: true,
+                unread: true,
                 fine: false,
                 form: Form::Text,
             },
             Role::Canary => Shown {
-                findings: false,
+                revoked: false,
+                unread: true,
                 fine: true,
                 form: Form::Text,
             },

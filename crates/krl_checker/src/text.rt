@@ -8,9 +8,9 @@ ghost use Rattle.krl_checker.specs.Text.{version_line};
 use crate::plain::PlainRefusal;
 use crate::role::Role;
 use cert_listing::time_text;
-use krl_audit::Counts;
+use krl_audit::{Counts, Visible};
 use krl_openssh::Difference;
-use line_pieces::{Escaped, Printed, Words, put};
+use line_pieces::{Printed, Words, put};
 use std::alloc::{AllocError, Global};
 
 /// Makes the line for a list that OpenSSH does not read, or from which it reads other names.
@@ -23,7 +23,7 @@ pub(crate) fn write_difference(
 {
     let why = difference.words().as_bytes();
     line.clear();
-    put!(line; b"openssh: ", Escaped(name.as_bytes()), b": ", Words(why), b"\n")
+    put!(line; b"openssh: ", Visible(name.as_bytes(), false), b": ", Words(why), b"\n")
 }
 
 /// Makes the line for a list whose version is lower than that of another.
@@ -36,7 +36,7 @@ pub(crate) fn write_version(
     ensures { OnOk result (line.new.items ≡ version_line name.now version other) }
 {
     line.clear();
-    put!(line; b"version: ", Escaped(name.as_bytes()), b": ", version, b" is below ", other, b"\n")
+    put!(line; b"version: ", Visible(name.as_bytes(), false), b": ", version, b" is below ", other, b"\n")
 }
 
 /// Makes the line for a plain list.
@@ -48,7 +48,7 @@ pub(crate) fn write_plain(
     ensures { OnOk result (line.new.items ≡ plain_line name.now why) }
 {
     line.clear();
-    put!(line; Words(why.word()), Escaped(name.as_bytes()), b": ", Words(why.why()), b"\n")
+    put!(line; Words(why.word()), Visible(name.as_bytes(), false), b": ", Words(why.why()), b"\n")
 }
 
 /// Makes the line for a list that revokes nobody.
@@ -56,7 +56,7 @@ pub(crate) fn write_empty(line: &mut Vec<u8>, name: &str) -> Result<(), AllocErr
     ensures { OnOk result (line.new.items ≡ empty_line name.now) }
 {
     line.clear();
-    put!(line; b"empty: ", Escaped(name.as_bytes()), b": it revokes nobody\n")
+    put!(line; b"empty: ", Visible(name.as_bytes(), false), b": it revokes nobody\n")
 }
 
 /// Makes the line for a list that was made too long ago, or after the present moment.
@@ -85,7 +85,7 @@ fn write_dated(
         (distance_text distance.instant distance.now)) }
 {
     line.clear();
-    put!(line; b"age: ", Escaped(name.as_bytes()), b": generated ", Words(date), b", ", distance, b"\n")
+    put!(line; b"age: ", Visible(name.as_bytes(), false), b": generated ", Words(date), b", ", distance, b"\n")
 }
 
 // How far an instant is from the present one, in seconds since 1970.
@@ -135,6 +135,6 @@ pub(crate) fn write_file(
     ensures { OnOk result (line.new.items ≡ file_line role name.now counts) }
 {
     line.clear();
-    put!(line; Words(role.word()), Escaped(name.as_bytes()), b": ", counts.revoked, b" of ",
+    put!(line; Words(role.word()), Visible(name.as_bytes(), false), b": ", counts.revoked, b" of ",
         counts.keys, b" keys are revoked, ", counts.unread, b" lines are not read\n")
 }

@@ -14,28 +14,32 @@ use test_fixtures::Taker;
 
 /// Revoked keys and unread lines are printed.
 pub const FINDINGS: Shown = Shown {
-    findings: true,
+    revoked: true,
+    unread: true,
     fine: false,
     form: Form::Text,
 };
 
 /// All keys are printed.
 pub const ALL: Shown = Shown {
-    findings: true,
+    revoked: true,
+    unread: true,
     fine: true,
     form: Form::Text,
 };
 
 /// All keys are printed, as objects.
 pub const OBJECTS: Shown = Shown {
-    findings: true,
+    revoked: true,
+    unread: true,
     fine: true,
     form: Form::Json,
 };
 
 /// Nothing is printed.
 pub const NOTHING: Shown = Shown {
-    findings: false,
+    revoked: false,
+    unread: false,
     fine: false,
     form: Form::Text,
 };

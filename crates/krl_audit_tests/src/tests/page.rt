@@ -22,7 +22,8 @@ fn audit_one<W: Sink>(
     text: &[u8],
 ) -> Result<Counts, RunFault<'static>> {
     let shown = Shown {
-        findings: true,
+        revoked: true,
+        unread: true,
         fine: false,
         form: Form::Text,
     };

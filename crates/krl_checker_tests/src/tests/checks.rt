@@ -74,7 +74,8 @@ pub fn checker_of<'q, 'w, W: Sink>(
     printer: Printer<'w, W>,
 ) -> Checker<'q, 'w, W> {
     let shown = Shown {
-        findings: true,
+        revoked: true,
+        unread: true,
         fine: false,
         form: Form::Text,
     };
@@ -95,7 +96,7 @@ pub fn checker_of<'q, 'w, W: Sink>(
 }
 
 // One condition, what is said, and the status.
-const CHECKS: [(Asked<'static>, &[u8], u8); 29] = [
+const CHECKS: [(Asked<'static>, &[u8], u8); 31] = [
     (Asked::OpenSsh(&HEADER), b"", 0),
     (Asked::Version(7, 7), b"", 0),
     (Asked::Version(8, 7), b"", 0),
@@ -187,7 +188,21 @@ keep: f: 0 of 0 keys are revoked, 1 lines are not read\n",
     ),
     (
         Asked::Keys(Role::Canary, "f", Ok(b"x\n")),
-        b"canary: f: 0 of 0 keys are revoked, 1 lines are not read\n",
+        b"f:1: unread: no key type stands there
+canary: f: 0 of 0 keys are revoked, 1 lines are not read\n",
+        1,
+    ),
+    // A file without a key is reported as a whole, and its lines are counted one by one.
+    (
+        Asked::Keys(Role::Keep, "f", Ok(b"x\n# y\nz\n\nx\n")),
+        b"f: unread: none of its 3 lines is a key
+keep: f: 0 of 0 keys are revoked, 3 lines are not read\n",
+        1,
+    ),
+    (
+        Asked::Keys(Role::Canary, "f\u{9b}", Ok(b"x\ny\n")),
+        b"f\\x9b: unread: none of its 2 lines is a key
+canary: f\\x9b: 0 of 0 keys are revoked, 2 lines are not read\n",
         1,
     ),
     (Asked::Keys(Role::Canary, "id", Ok(CONTAINER)), b"", 0),
@@ -199,7 +214,8 @@ keep: gone: 0 of 0 keys are revoked, 1 lines are not read\n",
     ),
     (
         Asked::Keys(Role::Canary, "gone", Err(Refusal::Missing)),
-        b"canary: gone: 0 of 0 keys are revoked, 1 lines are not read\n",
+        b"gone: unread: No such file or directory
+canary: gone: 0 of 0 keys are revoked, 1 lines are not read\n",
         255,
     ),
     (

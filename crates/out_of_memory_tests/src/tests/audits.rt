@@ -49,7 +49,8 @@ fn said_as_objects<W: Sink>(
         line: Vec::new(alloc),
     };
     let shown = Shown {
-        findings: true,
+        revoked: true,
+        unread: true,
         fine: false,
         form: Form::Json,
     };
@@ -112,7 +113,8 @@ fn audited<W: Sink>(
         line: Vec::new(alloc),
     };
     let shown = Shown {
-        findings: true,
+        revoked: true,
+        unread: true,
         fine: false,
         form: Form::Text,
     };

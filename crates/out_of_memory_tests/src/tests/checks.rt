@@ -43,7 +43,8 @@ fn checked<W: Sink>(
         line: Vec::new(alloc),
     };
     let shown = Shown {
-        findings: true,
+        revoked: true,
+        unread: true,
         fine: false,
         form: Form::Text,
     };
