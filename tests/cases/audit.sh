@@ -69,6 +69,79 @@ audits 'a file without a key' 3 '1 file, 0 keys: 0 revoked in 0 files, 1 unread'
 : >empty
 audits 'an empty file' 0 '1 file, 0 keys: 0 revoked in 0 files, 0 unread' '' empty
 
+# The field before the key. Host names end at the first blank, and options at the first blank outside
+# double quotes: so this line has the key G as a line of known hosts, and B as one of authorized keys.
+mkdir -p fields/etc/authorized_keys.d fields/b
+for it in known_hosts b/known_hosts2 etc/ssh_known_hosts2 authorized_keys b/authorized_keys2 \
+  etc/authorized_keys.d/me keys; do
+  echo "host,\"x $g \"x $b" >"fields/$it"
+done
+# fields NAME COUNTS FINDING..: the findings about this file.
+fields() {
+  local name=$1 keys=$2 status=1
+  shift 2
+  [[ "$*" == *revoked* ]] || status=0
+  audits "host names or options: $name" $status "1 file, $keys, 0 unread" \
+    "$(printf "fields/$name:1: %s\n" "$@")" -a "fields/$name"
+}
+as_host="$by_g: \"x $b"
+one_revoked='1 key: 1 revoked in 1 file'
+for it in known_hosts b/known_hosts2 etc/ssh_known_hosts2; do
+  fields $it "$one_revoked" "$as_host"
+done
+for it in authorized_keys b/authorized_keys2 etc/authorized_keys.d/me; do
+  fields $it '1 key: 0 revoked in 0 files' "$ok_b"
+done
+fields keys '2 keys: 1 revoked in 1 file' "$ok_b" "$as_host"
+echo "@cert-authority host,\"x $g \"x $b" >fields/authorities
+fields authorities "$one_revoked" "$as_host"
+judge 'OpenSSH ends host names at the first blank' "$(differs 'the key' "$(fingerprint "$G")" \
+  "$("$openssh" -l -F host -f fields/known_hosts | sed -n 's/.*\(SHA256:[^ ]*\).*/\1/p')")"
+expect 'a key to be kept in one of two readings' 1 "fields/keys:1: $as_host
+keep: fields/keys: 1 of 2 keys are revoked, 0 lines are not read
+" '' check --keep fields/keys r.krl
+expect 'a canary in one of two readings' 1 "fields/keys:1: $ok_b
+canary: fields/keys: 1 of 2 keys are revoked, 0 lines are not read
+" '' check --canary fields/keys r.krl
+
+# Lines behind a private key.
+"$openssh" -q -t ed25519 -N '' -C me -f first
+key_of() {
+  echo "ok: ssh-ed25519 $("$openssh" -lf "$1.pub" | cut -d ' ' -f 2)"
+}
+armour=$(wc -l <first)
+{ cat first && echo && echo "host $g me"; } >behind
+audits 'a line behind a private key' 1 '1 file, 2 keys: 1 revoked in 1 file, 0 unread' \
+  "behind:1: $(key_of first): me
+behind:$((armour + 2)): $by_g: me" -a behind
+mkdir -p armour && cp behind armour/authorized_keys && cp behind armour/known_hosts
+for it in authorized_keys known_hosts; do
+  audits "a private key in $it" 1 "1 file, 2 keys: 1 revoked in 1 file, $armour unread" \
+    "$(seq -f "armour/$it:%.0f: $no_type" "$armour")
+armour/$it:$((armour + 2)): $by_g: me" armour/$it
+done
+judge 'OpenSSH reads a line behind a private key' "$(differs 'the key' "$(fingerprint "$G")" \
+  "$("$openssh" -l -F host -f armour/known_hosts | sed -n 's/.*\(SHA256:[^ ]*\).*/\1/p')")"
+{ echo "$g" && cat first; } >before
+audits 'a private key behind a line' 1 "1 file, 1 key: 1 revoked in 1 file, $armour unread" \
+  "before:1: $by_g
+$(seq -f "before:%.0f: $no_type" 2 $((armour + 1)))" before
+
+# Many lines that are not read.
+{ echo "$b" && yes x | head -n 5020; } >many_unread
+said=$(seq -f "many_unread:%.0f: $no_type" 2 21)
+audits 'many lines that are not read' 3 '1 file, 1 key: 0 revoked in 0 files, 5020 unread' \
+  "$said
+many_unread: unread: and 5000 more lines are unread" many_unread
+head -n 22 many_unread >one_more
+audits 'one line more than are named' 3 '1 file, 1 key: 0 revoked in 0 files, 21 unread' \
+  "${said//many_unread/one_more}
+one_more: unread: and 1 more line is unread" one_more
+head -n 21 many_unread >as_many
+audits 'as many lines as are named' 3 '1 file, 1 key: 0 revoked in 0 files, 20 unread' \
+  "${said//many_unread/as_many}" as_many
+rm many_unread
+
 # Reasons, in their order.
 cert=$(certificate "$B" "$A" 0000000000000007 'a "b"')
 line ssh-ed25519-cert-v01@openssh.com "$cert" me >cert
@@ -86,6 +159,21 @@ for it in 'serial 7' 'key ID "a \"b\""'; do
   wanted+=", by $it of CA $(fingerprint "$A"), by $it of all CAs"
 done
 judge 'all reasons at once' "$(differs 'what is said' "$wanted: me" "$said")"
+
+# One reason alone: a SHA-1 of a key, and a SHA-256 of a CA.
+printf 'sha1: %s\n' "$b" >of_sha1
+printf 'sha256: %s\n' "$a" >of_sha256
+"$openssh" -q -k -f sha1.krl of_sha1 && "$openssh" -q -k -f sha256.krl of_sha256
+for it in sha1:'its SHA-1' sha256:'the SHA-256 of its CA'; do
+  judge "${it#*:} alone" "$(differs 'what is said' \
+    "cert:1: revoked: ssh-ed25519-cert-v01@openssh.com $(fingerprint "$B") by ${it#*:}: me" \
+    "$("$program" audit -f "${it%%:*}.krl" cert 2>/dev/null)")"
+done
+for it in sha1:'{"by":"sha1"}' sha256:'{"by":"authority","of":"sha256"}'; do
+  said=$("$program" audit --json -f "${it%%:*}.krl" cert 2>/dev/null)
+  judge "${it%%:*} alone, as an object" "$([[ "$said" == *"\"reasons\":[${it#*:}]}"* ]] ||
+    echo "  it says $said")"
+done
 
 # Files and directories.
 "$openssh" -q -t ed25519 -N '' -C me -f private && "$openssh" -q -t ed25519 -N secret \
@@ -419,12 +507,29 @@ ends_with() {
 }
 by_key='"reasons":[{"by":"key"}]'
 printf 'no-pty %s \xc3\xa9"\\\n\n# none\ngarbage\n' "$g" >authorized_keys
+printf 'no-pty\r %s\n' "$g" >returned
 objects 'objects of lines' 1 \
   "{\"file\":\"authorized_keys\",\"line\":1,\"status\":\"revoked\",$key_g,\
 \"comment\":\"\u00e9\\\"\\\\\",\"options\":\"no-pty\",$by_key}
 {\"file\":\"authorized_keys\",\"line\":4,\"status\":\"unread\",\"fault\":\"line 1 NoKey\",\
 \"why\":\"no key type stands there\"}
 $(ends_with 1 1 1 1)" -f r.krl authorized_keys
+objects 'a carriage return at the end of options' 1 \
+  "{\"file\":\"returned\",\"line\":1,\"status\":\"revoked\",$key_g,\
+\"comment\":\"\",\"options\":\"no-pty\\r\",$by_key}
+$(ends_with 1 1 1 0)" -f r.krl returned
+echo "a.example $g" >known_hosts2
+objects 'an object of a host in known_hosts2' 1 \
+  "{\"file\":\"known_hosts2\",\"line\":1,\"status\":\"revoked\",$key_g,\
+\"comment\":\"\",\"hosts\":\"a.example\",$by_key}
+$(ends_with 1 1 1 0)" -f r.krl known_hosts2
+objects 'the number of other lines that are not read' 3 "$(
+  for ((i = 2; i <= 21; i++)); do
+    echo "{\"file\":\"one_more\",\"line\":$i,\"status\":\"unread\",\"fault\":\"line 1 NoKey\",\
+\"why\":\"no key type stands there\"}"
+  done)
+{\"file\":\"one_more\",\"status\":\"unread\",\"count\":1,\"why\":\"and 1 more line is unread\"}
+$(ends_with 1 1 0 21)" -f r.krl one_more
 printf '@cert-authority a.example,b.example %s\n' "$g" >known_hosts
 objects 'objects by a plain list' 0 \
   "{\"status\":\"done\",\"files\":1,\"keys\":1,\"revoked\":0,\"unread\":0,\

@@ -6,6 +6,7 @@ pub mod LineBase64
 pub mod LineOptions
 pub mod TextWords
 pub mod LineLaws
+pub mod HostLines
 pub mod LineFaults
 pub mod FingerprintLaws
 pub mod ListLaws

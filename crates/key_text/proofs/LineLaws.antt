@@ -38,7 +38,7 @@ word_takes word blob fits e =
 
 -- ---- reading returns only key lines
 
-checked_takes : (word : List ℕ) (read : Result (List ℕ) LineFault) (comment : List ℕ) (parts : KeyLine) → checked word read comment ≡ Ok parts → (read ≡ Ok parts.blob) × (has_word word parts.blob ≡ true) × (content word parts.blob comment ≡ parts)
+pub checked_takes : (word : List ℕ) (read : Result (List ℕ) LineFault) (comment : List ℕ) (parts : KeyLine) → checked word read comment ≡ Ok parts → (read ≡ Ok parts.blob) × (has_word word parts.blob ≡ true) × (content word parts.blob comment ≡ parts)
 checked_takes word (Err fault) comment parts e = absurd cc
 checked_takes word (Ok blob) comment parts e =
     let g = passed_ok (has_word word blob) WordDiffers (content word blob comment) parts e in

@@ -80,3 +80,21 @@ pub record IsKeyLine (text word blob comment : List ℕ) : Type 0 where
   pub words : HasWords text word (base64 blob) comment
   pub bytes : IsBytes blob
   pub begins : BeginsWith blob word
+
+-- the same after host names, which end at the first blank, also between quotes
+pub record AreWordsAfterHosts (line word encoded comment : List ℕ) : Type 0 where
+  pub other : ¬ Contains type_names (first_word line)
+  pub hosts : List ℕ
+  pub is_word : IsWord hosts
+  pub blanks : List ℕ
+  pub are_blanks : AreBlanks blanks
+  pub part : List ℕ
+  pub are_words : AreWords part word encoded comment
+  pub spelled : line ≡ hosts ++ (blanks ++ part)
+
+-- a line of known hosts, without its marker (sshd(8), SSH_KNOWN_HOSTS FILE FORMAT)
+pub record IsHostLine (text word blob comment : List ℕ) : Type 0 where
+  pub words : AreWords (trimmed text) word (base64 blob) comment
+      ⊎ AreWordsAfterHosts (trimmed text) word (base64 blob) comment
+  pub bytes : IsBytes blob
+  pub begins : BeginsWith blob word

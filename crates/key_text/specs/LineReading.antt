@@ -65,6 +65,11 @@ key_part line =
     if is_type_name (first_word line) then Some line
     else part_after (after_options false false line)
 
+-- the same after host names, which end at the first blank, also between quotes
+unfoldable pub host_part : List ℕ → Option (List ℕ)
+host_part line =
+    if is_type_name (first_word line) then Some line else typed (after_blanks (after_word line))
+
 abbrev pub no_base64 : DecodeError → LineFault
 no_base64 error = Base64
 
@@ -96,3 +101,7 @@ content_at (Some part) = blob_at (first_word part) (after_blanks (after_word par
 
 unfoldable pub line_at : List ℕ → Result KeyLine LineFault
 line_at text = content_at (key_part (trimmed text))
+
+-- the same of a line of known hosts
+unfoldable pub host_line_at : List ℕ → Result KeyLine LineFault
+host_line_at text = content_at (host_part (trimmed text))

@@ -9,9 +9,9 @@ ghost use Rattle.key_text.specs.ContainerReading.{private_at};
 ghost use Rattle.key_text.specs.FingerprintReading.{IsFingerprint, IsFingerprintFault};
 ghost use Rattle.key_text.specs.FingerprintReading.{fingerprint_at};
 ghost use Rattle.key_text.specs.Fingerprints.{fingerprint_text};
-ghost use Rattle.key_text.specs.KeyLine.{IsKeyLine, base64};
+ghost use Rattle.key_text.specs.KeyLine.{IsHostLine, IsKeyLine, base64};
 ghost use Rattle.key_text.specs.LineFaults.{IsFirstLineFault};
-ghost use Rattle.key_text.specs.LineReading.{KeyLine, content, line_at};
+ghost use Rattle.key_text.specs.LineReading.{KeyLine, content, host_line_at, line_at};
 ghost use Rattle.key_text.specs.Marker.{IsMarkedLine, marked_line_at, marker_of};
 ghost use Rattle.key_text.specs.declared.marker.Marker.{Marker as MarkerOf};
 ghost use Rattle.key_text.specs.declared.fingerprint_fault.FingerprintFault.{FingerprintFault};
@@ -28,7 +28,15 @@ pub fn line_read_where_spelled()
         → IsKeyLine text line.word line.blob line.comment }
 {}
 
-/// A line with a marker is read as the key line after it, and its marker is found.
+/// Reading returns the parts of each line of known hosts, and no other line has any.
+pub fn host_line_read_where_spelled()
+    ensures read { (text word blob comment : List ℕ) → IsHostLine text word blob comment
+        → host_line_at text ≡ Ok (content word blob comment) }
+    ensures spelled { (text : List ℕ) (line : KeyLine) → IsBytes text
+        → host_line_at text ≡ Ok line → IsHostLine text line.word line.blob line.comment }
+{}
+
+/// A line with a marker is read as the line of known hosts after it, and its marker is found.
 pub fn marked_line_is_read()
     ensures marker { (text : List ℕ) (marker : MarkerOf) (word blob comment : List ℕ)
         → IsMarkedLine text marker word blob comment → marker_of text ≡ Some marker }

@@ -21,7 +21,10 @@ pub use fingerprint_fault::FingerprintFault;
 pub use fingerprints::fingerprint;
 pub use hash::{Hash, sha1_of, sha256_of};
 pub use key_file::has_key;
-pub use line::{Line, after_blanks, before_ending, is_blank, is_ending, key_part, read_line};
+pub use line::{
+    Line, after_blanks, before_ending, host_part, is_blank, is_ending, key_part, read_line,
+    read_part,
+};
 pub use line_fault::LineFault;
 pub use lines::split_line;
 pub use marker::{Marker, split_marker};

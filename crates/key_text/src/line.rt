@@ -1,14 +1,14 @@
 //! Reading a key line (sshd(8), AUTHORIZED_KEYS FILE FORMAT).
 
-ghost use Rattle.std.specs.Prelude.{◌≡◌, ℕ, List, IfErr, IfOk, Ok, option_map};
+ghost use Rattle.std.specs.Prelude.{◌≡◌, ℕ, List, IfErr, IfOk, Ok, Some, option_map};
 ghost use Rattle.ssh_wire.specs.Wire.{IsBytes};
 ghost use Rattle.ssh_wire.specs.Reading.{Answers};
 ghost use Rattle.key_text.specs.Blanks.{first_word};
 ghost use Rattle.key_text.specs.KeyLine.{IsKeyLine};
 ghost use Rattle.key_text.specs.TypeName.{is_type_name};
 ghost use Rattle.key_text.specs.LineFaults.{IsReportedFault};
-ghost use Rattle.key_text.specs.LineReading.{ReportsFault, blob_at, content, content_of, decoded};
-ghost use Rattle.key_text.specs.LineReading.{has_word, key_part, line_at};
+ghost use Rattle.key_text.specs.LineReading.{ReportsFault, blob_at, content, content_at, content_of};
+ghost use Rattle.key_text.specs.LineReading.{decoded, has_word, host_part, key_part, line_at};
 
 use crate::line_fault::LineFault;
 use crate::type_name::is_type_name;
@@ -65,6 +65,14 @@ fn read_content<'a>(alloc: Global, text: &'a [u8]) -> Result<Line<'a>, LineFault
     ensures bytes { IfOk result (λ line. IsBytes line.blob) }
 {
     let part = key_part(trimmed(text)).ok_or(LineFault::NoKey)?;
+    read_part(alloc, part)
+}
+
+/// Reads a line from its type name on, which `key_part` or `host_part` found.
+pub fn read_part<'a>(alloc: Global, part: &'a [u8]) -> Result<Line<'a>, LineFault>
+    ensures exact { Answers ReportsFault content_of result (content_at (Some part.now)) }
+    ensures bytes { IfOk result (λ line. IsBytes line.blob) }
+{
     let (word, rest) = split_word(part);
     read_blob(alloc, word, after_blanks(rest))
 }
@@ -79,6 +87,24 @@ pub fn key_part(line: &[u8]) -> Option<&[u8]>
         return Some(line);
     }
     let part = after_blanks(after_options(line)?);
+    if begins_with_name(part) {
+        Some(part)
+    } else {
+        None
+    }
+}
+
+/// The same of a line of known hosts without its marker: host names may be before the type name.
+/// They end at the first blank, also between quotes, where ssh ends them.
+#[tactic(auto, unfolding(crate::specs::LineReading::host_part, crate::specs::LineReading::typed))]
+pub fn host_part(line: &[u8]) -> Option<&[u8]>
+    ensures { option_map (λ part. part.now) result ≡ host_part line.now }
+{
+    if begins_with_name(line) {
+        return Some(line);
+    }
+    let (_, rest) = split_word(line);
+    let part = after_blanks(rest);
     if begins_with_name(part) {
         Some(part)
     } else {

@@ -1,5 +1,5 @@
 -- A line in colour is a plain line with one word in a colour.
-use Rattle.std.proofs.Common.{◌≡◌, ℕ, ◌<◌, ◌^◌, Bool, true, false, List, [], ◌∷◌, ◌++◌, append_assoc, codes, decimal, if◌then◌else◌, length, nat_lt, Option, Some, None, refl, sym, ap, subst, ◌∙◌, arith}
+use Rattle.std.proofs.Common.{◌≡◌, ℕ, ◌==◌, ◌<◌, ◌^◌, Bool, true, false, List, [], ◌∷◌, ◌++◌, append_assoc, codes, decimal, if◌then◌else◌, length, nat_lt, Option, Some, None, refl, sym, ap, subst, ◌∙◌, arith}
 use Rattle.ssh_wire.specs.Laws.{ReadsJust}
 use Rattle.ssh_wire.specs.Reading.{string_at}
 use Rattle.ssh_wire.specs.Wire.{IsBytes, string}
@@ -35,7 +35,7 @@ use Rattle.krl_entries.specs.declared.reasons.Reasons.{Reasons}
 use Rattle.krl_audit.specs.Colour.{HasNoEscape, IsCount, IsPainted, in_colour, painted, verdict_word, word_text}
 use Rattle.krl_audit.specs.Text.{authority_parts, cert_parts, comment_words, id_words, key_line, key_parts, key_words, name_parts, of_all, of_authority, location_text, reason_parts, reasons_text, serial_words, type_of, unread_line, with_cert_parts, word_if}
 use Rattle.krl_audit.specs.Visible.{visible}
-use Rattle.krl_audit.specs.Why.{line_why, refusal_why, why_text}
+use Rattle.krl_audit.specs.Why.{line_why, more_words, refusal_why, why_text}
 use Rattle.krl_audit.specs.declared.why.Refusal.{Refusal}
 use Rattle.krl_audit.specs.declared.why.Refusal.TheVariants as refusals
 use Rattle.krl_audit.specs.declared.why.Why.{Why}
@@ -233,12 +233,17 @@ refusal_free refusals.Open = refl
 refusal_free refusals.Read = refl
 refusal_free refusals.TooLong = refl
 
+more_free : (one : Bool) → HasNoEscape (more_words one)
+more_free true = refl
+more_free false = refl
+
 why_free : (why : Why) → IsCount why → HasNoEscape (why_text why)
 why_free (whys.Line fault) small = line_free fault
 why_free (whys.Subject fault) small = free_append (codes "the key is cut or misspelt: ") (subject_fault_text fault) refl (subject_free fault)
 why_free (whys.Private fault) small = free_append (codes "the private key file is cut or misspelt: ") (private_fault_text fault) refl (private_free fault)
 why_free (whys.File refusal) small = refusal_free refusal
 why_free (whys.NoKeys lines) small = three_free (codes "none of its ") (decimal lines) (codes " lines is a key") refl (decimal_free lines small) refl
+why_free (whys.More lines) small = free_append (codes "and ") (decimal lines ++ more_words (lines == 1)) refl (free_append (decimal lines) (more_words (lines == 1)) (decimal_free lines small) (more_free (lines == 1)))
 
 pub unread_painted : (name : List ℕ) (number : ℕ) (why : Why) → number < 2 ^ 64 → IsCount why → IsPainted (unread_line false name number why) (unread_line true name number why)
 unread_painted name number why small few =

@@ -14,8 +14,8 @@ use Rattle.krl_entries.specs.declared.reasons.Reasons.{Reasons}
 use Rattle.json.specs.Json.{Json}
 use Rattle.json_lines.specs.Field.{Field, number_field, text_field, word_field}
 use Rattle.json_lines.proofs.Shallow.{FieldsFit, Fits, ValuesFit, array_fits, deeper, digits_fit, fields_fit, number_fits, object_fits, text_fits, values_fit, word_fits}
-use Rattle.krl_audit.specs.Front.{has_hosts}
-use Rattle.krl_audit.specs.Objects.{authority_values, by_value, cert_field, cert_fields, cert_names, cert_values, count_fields, done_object, front_fields, front_word, id_field, key_fields, key_object, key_values, line_fields, list_facts, list_field, list_fields, marker_fields, name_value, name_values, of_value, location_fields, reason_values, reasons_field, serial_field, stated_fields, status_word, unread_object, value_if, version_fields, why_fault, why_fields, with_cert_values}
+use Rattle.krl_audit.specs.Colour.{IsCount}
+use Rattle.krl_audit.specs.Objects.{authority_values, by_value, cause_field, cert_field, cert_fields, cert_names, cert_values, count_fields, done_object, front_fields, front_word, id_field, key_fields, key_object, key_values, line_fields, list_facts, list_field, list_fields, marker_fields, name_value, name_values, of_value, location_fields, reason_values, reasons_field, serial_field, stated_fields, status_word, unread_object, value_if, version_fields, why_fault, why_fields, with_cert_values}
 use Rattle.krl_audit.specs.Outcome.{Found}
 use Rattle.krl_audit.specs.Text.{type_of}
 use Rattle.krl_audit.specs.Why.{why_text}
@@ -23,6 +23,7 @@ use Rattle.krl_audit.specs.declared.counts.Counts.{Counts}
 use Rattle.krl_audit.specs.declared.done.ListFacts.{ListFacts}
 use Rattle.krl_audit.specs.declared.done.Stated.{Stated}
 use Rattle.krl_audit.specs.declared.why.Why.{Why}
+use Rattle.krl_audit.specs.declared.why.Why.TheVariants as whys
 
 -- ---- reasons
 
@@ -106,17 +107,28 @@ pub key_object_fits : (name : List ℕ) (number : ℕ) (found : Found) (all : Re
 key_object_fits name number found all small =
     let location = location_fields name number in
     let key = key_fields found.blob found.comment found.asked all in
-    let line = line_fields name found.marker found.front in
+    let line = line_fields found.marker found.hosts found.front in
     let list = list_fields found.asked all in
-    let line_fit = fields_fit 2 (marker_fields found.marker) (front_fields (has_hosts name found.marker) found.front) (marker_fits found.marker) (front_fits (has_hosts name found.marker) found.front) in
+    let line_fit = fields_fit 2 (marker_fields found.marker) (front_fields found.hosts found.front) (marker_fits found.marker) (front_fits found.hosts found.front) in
     object_fits 2 (location ++ (key ++ (line ++ list)))
     (fields_fit 2 location (key ++ (line ++ list)) (place_fits name number small)
     (fields_fit 2 key (line ++ list) (key_fits found.blob found.comment found.asked all) (fields_fit 2 line list line_fit (list_fits found.asked all))))
 
-pub unread_object_fits : (name : List ℕ) (number : ℕ) (why : Why) → number < 2 ^ 64 → Fits 3 (unread_object name number why)
-unread_object_fits name number why small =
+fault_fits : (why : Why) → Fits 2 (word_field (codes "fault") (why_fault why)).value
+fault_fits why = word_fits 2 (codes "fault") (why_fault why)
+
+cause_fits : (why : Why) → IsCount why → Fits 2 (cause_field why).value
+cause_fits (whys.Line fault) few = fault_fits (whys.Line fault)
+cause_fits (whys.Subject fault) few = fault_fits (whys.Subject fault)
+cause_fits (whys.Private fault) few = fault_fits (whys.Private fault)
+cause_fits (whys.File refusal) few = fault_fits (whys.File refusal)
+cause_fits (whys.NoKeys lines) few = fault_fits (whys.NoKeys lines)
+cause_fits (whys.More lines) few = number_fits 2 (codes "count") lines few
+
+pub unread_object_fits : (name : List ℕ) (number : ℕ) (why : Why) → number < 2 ^ 64 → IsCount why → Fits 3 (unread_object name number why)
+unread_object_fits name number why small few =
     object_fits 2 (location_fields name number ++ why_fields why) (fields_fit 2 (location_fields name number) (why_fields why) (place_fits name number small)
-    (word_fits 2 (codes "status") (codes "unread"), (word_fits 2 (codes "fault") (why_fault why), (text_fits 2 (codes "why") (why_text why), tt))))
+    (word_fits 2 (codes "status") (codes "unread"), (cause_fits why few, (text_fits 2 (codes "why") (why_text why), tt))))
 
 version_fit : (stated : Stated) → FieldsFit 0 (version_fields stated)
 version_fit stated = (digits_fit 0 (codes "version") stated.version, (text_fits 0 (codes "generated") (instant_text stated.generated), tt))

@@ -1,7 +1,7 @@
 -- Auditing files: the findings of their lines, and the counts.
 use Rattle.std.specs.Borrow.{Bor}
-use Rattle.std.specs.Prelude.{◌≡◌, ℕ, ◌+◌, Bool, true, false, List, [], ◌∷◌, is_some, map, nat_lt}
-use Rattle.std.specs.Prelude.{OnOk, Option, Some, None, Result, Ok, Err, if◌then◌else◌}
+use Rattle.std.specs.Prelude.{◌≡◌, ℕ, ◌+◌, ◌-◌, ◌&&◌, Bool, true, false, not, List, [], ◌∷◌, ◌++◌}
+use Rattle.std.specs.Prelude.{IfOk, is_some, map, nat_lt, OnOk, Option, Some, None, Result, Ok, Err, if◌then◌else◌}
 use Rattle.key_text.specs.declared.marker.Marker.{Marker}
 use Rattle.key_text.specs.declared.marker.Marker.TheVariants as markers
 use Rattle.krl_types.specs.Subject.{Subject}
@@ -12,10 +12,13 @@ use Rattle.key_listing.specs.Carries.{Carries}
 use Rattle.key_listing.specs.Done.{Ends}
 use Rattle.key_listing.specs.Printer.{Printer}
 use Rattle.key_listing.specs.Run.{Item, Passed, said_of}
-use Rattle.krl_audit.specs.Counts.{all_counted, audit_status}
+use Rattle.key_text.specs.Armour.{begins_container}
+use Rattle.krl_audit.specs.Counts.{all_counted, audit_status, one_more}
+use Rattle.krl_audit.specs.Front.{fronts_of}
 use Rattle.json_lines.specs.Field.{json_line}
 use Rattle.krl_audit.specs.Objects.{key_object, unread_object}
-use Rattle.krl_audit.specs.Outcome.{Empty, Found, Key, Outcome, Unread, outcomes}
+use Rattle.krl_audit.specs.Outcome.{Empty, Found, Key, Outcome, Outcomes, Placed}
+use Rattle.krl_audit.specs.Outcome.{Unread, place, placed_from, plain_lines, private_lines}
 use Rattle.krl_audit.specs.Text.{key_line, unread_line}
 use Rattle.krl_audit.specs.declared.counts.Counts.{Counts}
 use Rattle.krl_audit.specs.declared.counts.LineKind.{LineKind}
@@ -87,26 +90,29 @@ line_item reasons shown name number outcome =
 
 -- ---- files
 
--- the items of lines, of which the first has this number
-abbrev pub lines_items : (Subject → Reasons) → Shown → List ℕ → ℕ → List Outcome → List Item
-lines_items reasons shown name number [] = []
-lines_items reasons shown name number (line ∷ lines) =
-    line_item reasons shown name number line ∷ lines_items reasons shown name (number + 1) lines
-
 -- this number more
 abbrev pub more_unread : ℕ → Option ℕ → Option ℕ
 more_unread more None = None
 more_unread more (Some count) = Some (more + count)
 
+abbrev pub with_first : Outcome → Option ℕ → Option ℕ
+with_first Empty count = count
+with_first (Key found) count = None
+with_first (Unread why) count = more_unread 1 count
+
+abbrev pub with_second : Option Outcome → Option ℕ → Option ℕ
+with_second None count = count
+with_second (Some Empty) count = count
+with_second (Some (Key found)) count = None
+with_second (Some (Unread why)) count = count
+
 -- the number of lines that are not read, or none if one has a key
-abbrev pub unread_alone : List Outcome → Option ℕ
+abbrev pub unread_alone : List Outcomes → Option ℕ
 unread_alone [] = Some 0
-unread_alone (Empty ∷ lines) = unread_alone lines
-unread_alone (Key found ∷ lines) = None
-unread_alone (Unread why ∷ lines) = more_unread 1 (unread_alone lines)
+unread_alone (line ∷ lines) = with_second line.second (with_first line.first (unread_alone lines))
 
 -- the same if this number was counted before, or a key was found
-abbrev pub unread_with : Option ℕ → List Outcome → Option ℕ
+abbrev pub unread_with : Option ℕ → List Outcomes → Option ℕ
 unread_with None lines = None
 unread_with (Some count) lines = more_unread count (unread_alone lines)
 
@@ -116,32 +122,85 @@ many (Some count) = if nat_lt 1 count then Some count else None
 
 -- A file without a key in which several lines are not read is treated as one unread file: the
 -- number of these lines.
-unfoldable pub keyless : List Outcome → Option ℕ
+unfoldable pub keyless : List Outcomes → Option ℕ
 keyless lines = many (unread_alone lines)
 
+-- the file as a whole, which has the number 0
+abbrev pub whole : Why → List Placed
+whole why = place 0 (Unread why) ∷ []
+
 -- the lines of a file, or the file as a whole
-abbrev pub or_whole : Option ℕ → List Outcome → List Outcome
-or_whole None lines = lines
-or_whole (Some count) lines = Unread (whys.NoKeys count) ∷ []
+abbrev pub or_whole : Option ℕ → List Outcomes → List Placed
+or_whole None lines = placed_from 1 lines
+or_whole (Some count) lines = whole (whys.NoKeys count)
 
--- the number of the first line: 0 represents the whole file
-abbrev pub first_number : Option ℕ → ℕ
-first_number None = 1
-first_number (Some count) = 0
+abbrev pub text_lines : Bool → (name text : List ℕ) → List Placed
+text_lines true name text = private_lines name text
+text_lines false name text =
+    let lines = plain_lines (fronts_of name) text in or_whole (keyless lines) lines
 
--- the items of a file, and the kinds of lines that are counted: by its bytes, or why there are none
+-- the outcomes of a file, by its name, and by its bytes or why there are none
+unfoldable pub file_lines : List ℕ → Result (List ℕ) Refusal → List Placed
+file_lines name (Err refusal) = whole (whys.File refusal)
+file_lines name (Ok text) = text_lines (begins_container text) name text
+
+-- ---- the items of a file
+
+-- the number of lines of a file that are reported as unread one by one
+abbrev pub most_unread : ℕ
+most_unread = 20
+
+abbrev pub is_unread : Outcome → Bool
+is_unread Empty = false
+is_unread (Key found) = false
+is_unread (Unread why) = true
+
+-- how many lines of a file were not read, after this one: a count that stops at its maximum
+abbrev pub unread_after : ℕ → Outcome → ℕ
+unread_after unread outcome = one_more unread (is_unread outcome)
+
+abbrev pub unread_all : ℕ → List Placed → ℕ
+unread_all unread [] = unread
+unread_all unread (line ∷ lines) = unread_all (unread_after unread line.outcome) lines
+
+-- whether a line is only counted, if this number of lines was not read before it
+abbrev pub is_beyond : ℕ → Outcome → Bool
+is_beyond unread outcome = not (nat_lt unread most_unread) && is_unread outcome
+
+abbrev pub item_if : Bool → (Subject → Reasons) → Shown → List ℕ → Placed → Item
+item_if true reasons shown name line = Passed name
+item_if false reasons shown name line = line_item reasons shown name line.number line.outcome
+
+-- the items of lines, if this number of lines of their file was not read before
+abbrev pub lines_items : (Subject → Reasons) → Shown → List ℕ → ℕ → List Placed → List Item
+lines_items reasons shown name unread [] = []
+lines_items reasons shown name unread (line ∷ lines) =
+    item_if (is_beyond unread line.outcome) reasons shown name line
+    ∷ lines_items reasons shown name (unread_after unread line.outcome) lines
+
+-- The last item of a file: how many of its lines, beyond the first 20, are not read.
+abbrev pub rest_if : Bool → (Subject → Reasons) → Shown → List ℕ → ℕ → List Item
+rest_if false reasons shown name unread = []
+rest_if true reasons shown name unread =
+    line_item reasons shown name 0 (Unread (whys.More (unread - most_unread))) ∷ []
+
+abbrev pub rest_items : (Subject → Reasons) → Shown → List ℕ → ℕ → List Item
+rest_items reasons shown name unread =
+    rest_if (nat_lt most_unread unread) reasons shown name unread
+
+-- the items of a file, and the kinds of lines that are counted
 unfoldable pub file_items : (Subject → Reasons) → Shown → List ℕ → Result (List ℕ) Refusal
     → List Item
-file_items reasons shown name (Err refusal) =
-    lines_items reasons shown name 0 (Unread (whys.File refusal) ∷ [])
-file_items reasons shown name (Ok text) =
-    let lines = outcomes text in
-    lines_items reasons shown name (first_number (keyless lines)) (or_whole (keyless lines) lines)
+file_items reasons shown name content =
+    let lines = file_lines name content in
+    lines_items reasons shown name 0 lines ++ rest_items reasons shown name (unread_all 0 lines)
 
-unfoldable pub file_kinds : (Subject → Reasons) → Result (List ℕ) Refusal → List LineKind
-file_kinds reasons (Err refusal) = kinds.Unread ∷ []
-file_kinds reasons (Ok text) =
-    let lines = outcomes text in map (kind_of reasons) (or_whole (keyless lines) lines)
+abbrev pub kinds_of : (Subject → Reasons) → List Placed → List LineKind
+kinds_of reasons lines = map (λ line. kind_of reasons line.outcome) lines
+
+unfoldable pub file_kinds : (Subject → Reasons) → List ℕ → Result (List ℕ) Refusal
+    → List LineKind
+file_kinds reasons name content = kinds_of reasons (file_lines name content)
 
 -- ---- the line that was made for an outcome
 
@@ -160,20 +219,27 @@ content_of (Err refusal) = Err refusal
 abbrev pub JudgesAs : Judge → (Subject → Reasons) → Type 0
 JudgesAs judge reasons = (asked : Subject) → held_reasons judge.list.now asked ≡ reasons asked
 
--- Exactly the items of these lines, of which the first has this number, were printed after the
--- earlier ones, and all lines were counted; or the audit was stopped within them.
-pub record Told (reasons : Subject → Reasons) (shown : Shown) (name : List ℕ) (number : ℕ)
-    (lines : List Outcome) (result : Result (Unit {0}) RunFault) (old new : Printer)
-    (before after : Counts) : Type 0 where
-  pub carries : Carries (lines_items reasons shown name number lines) result old new
-  pub counts : OnOk result (after ≡ all_counted before (map (kind_of reasons) lines))
+-- The line was printed if it is to be printed, and this is its kind; or the audit was stopped at it.
+pub record SaysLine (reasons : Subject → Reasons) (shown : Shown) (name : List ℕ) (line : Placed)
+    (result : Result LineKind RunFault) (old new : Printer) : Type 0 where
+  pub carries : Carries (line_item reasons shown name line.number line.outcome ∷ []) result old new
+  pub kind_is : IfOk result (λ kind. kind ≡ kind_of reasons line.outcome)
+
+-- Exactly the items of these lines were printed after the earlier ones, and all lines were counted;
+-- or the audit was stopped within them. Before them this number of lines of their file was not read.
+pub record Told (reasons : Subject → Reasons) (shown : Shown) (name : List ℕ) (unread : ℕ)
+    (lines : List Placed) (result : Result ℕ RunFault) (old new : Printer) (before after : Counts)
+    : Type 0 where
+  pub carries : Carries (lines_items reasons shown name unread lines) result old new
+  pub counts : OnOk result (after ≡ all_counted before (kinds_of reasons lines))
+  pub unread_is : IfOk result (λ now. now ≡ unread_all unread lines)
 
 -- The same for a file.
 pub record ToldFile (reasons : Subject → Reasons) (shown : Shown) (name : List ℕ)
     (content : Result (List ℕ) Refusal) (result : Result (Unit {0}) RunFault) (old new : Printer)
     (before after : Counts) : Type 0 where
   pub carries : Carries (file_items reasons shown name content) result old new
-  pub counts : OnOk result (after ≡ all_counted before (file_kinds reasons content))
+  pub counts : OnOk result (after ≡ all_counted before (file_kinds reasons name content))
 
 -- The audit ended as a run over its items does, with the status of its counts.
 pub record EndsAudit (run : List Item) (counts : Counts) (before after : Option (List ℕ))

@@ -1,18 +1,46 @@
--- The text before the key of a line: host names, an options field, or nothing.
-use Rattle.std.specs.Prelude.{ℕ, ◌-◌, ◌||◌, Bool, List, [], codes, is_some, length, nat_eq, take}
-use Rattle.std.specs.Prelude.{Option, Some, None}
-use Rattle.std.specs.List.{ends_with}
-use Rattle.key_text.specs.Blanks.{before_ending, trimmed}
-use Rattle.key_text.specs.LineReading.{key_part}
-use Rattle.key_text.specs.declared.marker.Marker.{Marker}
+-- The field before the key of a line: host names, an options field, or nothing.
+use Rattle.std.specs.Prelude.{ℕ, ◌-◌, ◌==◌, ◌||◌, Bool, true, false, not, List, codes, drop}
+use Rattle.std.specs.Prelude.{length, nat_eq, take}
+use Rattle.std.specs.List.{ends_with, suffix_len}
+use Rattle.std.specs.Str.{bytes_eq}
+use Rattle.key_text.specs.Blanks.{is_blank}
+use Rattle.krl_audit.specs.declared.front.Fronts.{Fronts}
+use Rattle.krl_audit.specs.declared.front.Fronts.TheVariants as fronts
 
-abbrev pub front_before : List ℕ → Option (List ℕ) → List ℕ
-front_before line None = []
-front_before line (Some part) = before_ending (take (length line - length part) line)
+-- ---- the field
 
--- the text before the type name of a line without its marker, without the blanks around it
-unfoldable pub front_of : List ℕ → List ℕ
-front_of text = front_before (trimmed text) (key_part (trimmed text))
+-- without the blanks at its end
+unfoldable pub before_blanks : List ℕ → List ℕ
+before_blanks text = take (length text - suffix_len is_blank text) text
+
+-- The field of a line before its part from the type name on, without the blanks between them. A
+-- carriage return is a byte of the field.
+unfoldable pub front_before : List ℕ → List ℕ → List ℕ
+front_before line part = before_blanks (take (length line - length part) line)
+
+-- ---- names of files
+
+abbrev pub is_slash : ℕ → Bool
+is_slash byte = byte == 47
+
+abbrev pub is_no_slash : ℕ → Bool
+is_no_slash byte = not (byte == 47)
+
+-- up to its last slash
+unfoldable pub to_slash : List ℕ → List ℕ
+to_slash path = take (length path - suffix_len is_no_slash path) path
+
+-- behind its last slash
+unfoldable pub last_part : List ℕ → List ℕ
+last_part path = drop (length path - suffix_len is_no_slash path) path
+
+-- without the slashes at its end
+unfoldable pub before_slashes : List ℕ → List ℕ
+before_slashes path = take (length path - suffix_len is_slash path) path
+
+-- the name of the folder that a file is in
+abbrev pub folder_part : List ℕ → List ℕ
+folder_part path = last_part (before_slashes (to_slash path))
 
 -- whether the lines of a file with this name are of known hosts
 unfoldable pub is_known_hosts : List ℕ → Bool
@@ -21,6 +49,24 @@ is_known_hosts name =
     || (ends_with nat_eq name (codes "known_hosts2")
     || ends_with nat_eq name (codes "known_hosts.old"))
 
--- whether the text before a key is host names: only a line of known hosts has a marker
-abbrev pub has_hosts : List ℕ → Option Marker → Bool
-has_hosts name marker = is_some marker || is_known_hosts name
+-- whether the lines of a file with this name are of authorized keys
+unfoldable pub is_authorized_keys : List ℕ → Bool
+is_authorized_keys name =
+    bytes_eq (last_part name) (codes "authorized_keys")
+    || (bytes_eq (last_part name) (codes "authorized_keys2")
+    || bytes_eq (folder_part name) (codes "authorized_keys.d"))
+
+-- whether ssh or sshd reads each line of a file with this name, whatever its first line is
+unfoldable pub is_read_by_lines : List ℕ → Bool
+is_read_by_lines name = is_known_hosts name || is_authorized_keys name
+
+-- a name that tells both, or neither, leaves open what the field is
+abbrev pub fronts_by : (hosts options : Bool) → Fronts
+fronts_by true true = fronts.Either
+fronts_by true false = fronts.Hosts
+fronts_by false true = fronts.Options
+fronts_by false false = fronts.Either
+
+-- what the field before a key is, by the name of the file
+unfoldable pub fronts_of : List ℕ → Fronts
+fronts_of name = fronts_by (is_known_hosts name) (is_authorized_keys name)

@@ -21,7 +21,6 @@ use Rattle.krl_entries.specs.declared.reasons.KeyReasons.{KeyReasons}
 use Rattle.krl_entries.specs.declared.reasons.NameReasons.{NameReasons}
 use Rattle.krl_entries.specs.declared.reasons.Reasons.{Reasons}
 use Rattle.ssh_cert.specs.SubjectFault.{subject_fault_text}
-use Rattle.krl_audit.specs.Front.{has_hosts}
 use Rattle.krl_audit.specs.Outcome.{Found}
 use Rattle.krl_audit.specs.Text.{type_of}
 use Rattle.krl_audit.specs.Why.{why_text}
@@ -123,9 +122,8 @@ front_fields hosts [] = []
 front_fields hosts (byte ∷ bytes) = text_field (front_word hosts) (byte ∷ bytes) ∷ []
 
 -- the rest of the line
-abbrev pub line_fields : List ℕ → Option Marker → List ℕ → List Field
-line_fields name marker front =
-    marker_fields marker ++ front_fields (has_hosts name marker) front
+abbrev pub line_fields : Option Marker → Bool → List ℕ → List Field
+line_fields marker hosts front = marker_fields marker ++ front_fields hosts front
 
 abbrev pub cert_names : CertNames → List Field
 cert_names cert =
@@ -152,7 +150,7 @@ abbrev pub key_object : List ℕ → ℕ → Found → Reasons → Json
 key_object name number found all =
     object_of (location_fields name number
     ++ (key_fields found.blob found.comment found.asked all
-    ++ (line_fields name found.marker found.front ++ list_fields found.asked all)))
+    ++ (line_fields found.marker found.hosts found.front ++ list_fields found.asked all)))
 
 -- ---- lines and files that are not read
 
@@ -173,11 +171,17 @@ why_fault (whys.Subject fault) = subject_fault_text fault
 why_fault (whys.Private fault) = private_fault_text fault
 why_fault (whys.File refusal) = file_fault_text (refusal_fault refusal)
 why_fault (whys.NoKeys lines) = file_fault_text files.NoKeys
+why_fault (whys.More lines) = []
+
+-- lines that are not reported one by one have faults of their own
+abbrev pub cause_field : Why → Field
+cause_field (whys.More lines) = number_field (codes "count") lines
+cause_field why = word_field (codes "fault") (why_fault why)
 
 abbrev pub why_fields : Why → List Field
 why_fields why =
     word_field (codes "status") (codes "unread")
-    ∷ word_field (codes "fault") (why_fault why)
+    ∷ cause_field why
     ∷ text_field (codes "why") (why_text why) ∷ []
 
 -- the object of a line or file that is not read: it has no text of the line itself

@@ -1,32 +1,41 @@
--- The outcome of each line of a file of keys: nothing, a key, or why it is not read.
-use Rattle.std.specs.Prelude.{◌≡◌, ℕ, List, [], ◌∷◌, drop, map, nat_eq, Option, Some, None, Result}
-use Rattle.std.specs.Prelude.{Ok, Err, if◌then◌else◌}
+-- The outcomes of each line of a file of keys: nothing, a key, or why it is not read.
+use Rattle.std.specs.Prelude.{◌≡◌, ◌⊎◌, ℕ, ◌+◌, Bool, true, false, List, [], ◌∷◌, ◌++◌, drop, map, nat_eq}
+use Rattle.std.specs.Prelude.{Option, Some, None, Result, Ok, Err, if◌then◌else◌}
+use Rattle.std.specs.Borrow.{Bor}
 use Rattle.std.specs.List.{slice_split, starts_with}
+use Rattle.std.specs.Str.{bytes_eq}
 use Rattle.ssh_cert.specs.SubjectReading.{IsAsked, subject_of}
 use Rattle.ssh_cert.specs.declared.subject_fault.SubjectFault.{SubjectFault}
 use Rattle.krl_types.specs.Subject.{Subject}
-use Rattle.key_text.specs.Armour.{begins_container}
+use Rattle.key_text.specs.Armour.{end_line}
+use Rattle.key_text.specs.Blanks.{before_ending, trimmed}
 use Rattle.key_text.specs.ContainerReading.{Opened, opened_of, private_at}
 use Rattle.key_text.specs.KeyFile.{has_key}
-use Rattle.key_text.specs.LineReading.{KeyLine}
+use Rattle.key_text.specs.LineReading.{KeyLine, content_at, host_part, key_part}
 use Rattle.key_text.specs.Lines.{is_newline}
-use Rattle.key_text.specs.Marker.{marked_line_at, marker_of, unmarked}
+use Rattle.key_text.specs.Marker.{marker_of, unmarked}
 use Rattle.key_text.specs.PublicHalf.{public_half_at}
 use Rattle.key_text.specs.declared.container.Private.{Private}
 use Rattle.key_text.specs.declared.line_fault.LineFault.{LineFault}
+use Rattle.key_text.specs.declared.line_fault.LineFault.TheVariants as lines
 use Rattle.key_text.specs.declared.marker.Marker.{Marker}
 use Rattle.key_text.specs.declared.private_fault.PrivateFault.{PrivateFault}
 use Rattle.key_text.specs.declared.private_fault.PrivateFault.TheVariants as faults
-use Rattle.krl_audit.specs.Front.{front_of}
+use Rattle.krl_audit.specs.Front.{front_before, fronts_of, is_read_by_lines}
+use Rattle.krl_audit.specs.declared.front.Fronts.{Fronts}
+use Rattle.krl_audit.specs.declared.front.Fronts.TheVariants as fronts
 use Rattle.krl_audit.specs.declared.outcome.Found.{Found as KeyFound}
 use Rattle.krl_audit.specs.declared.outcome.Outcome.{Outcome as Given}
 use Rattle.krl_audit.specs.declared.outcome.Outcome.TheVariants as given
+use Rattle.krl_audit.specs.declared.outcome.Outcomes.{Outcomes as Read}
 use Rattle.krl_audit.specs.declared.why.Why.{Why}
 use Rattle.krl_audit.specs.declared.why.Why.TheVariants as whys
 
--- A key: its marker, the text before it, its bytes, its comment, and the query for it.
+-- A key: its marker, whether the text before it is host names, that text, its bytes, its comment, and
+-- the query for it.
 pub record Found : Type 0 where
   pub marker : Option Marker
+  pub hosts : Bool
   pub front : List ℕ
   pub blob : List ℕ
   pub comment : List ℕ
@@ -39,28 +48,116 @@ pub data Outcome : Type 0 where
   Unread : Why → Outcome
 
 -- the outcome of the bytes of a key, by the query that they make
-abbrev pub asked_outcome : Option Marker → (front blob comment : List ℕ)
+abbrev pub asked_outcome : Option Marker → Bool → (front blob comment : List ℕ)
     → Result Subject SubjectFault → Outcome
-asked_outcome marker front blob comment (Ok asked) =
+asked_outcome marker hosts front blob comment (Ok asked) =
     Key (record {
       marker = marker;
+      hosts = hosts;
       front = front;
       blob = blob;
       comment = comment;
       asked = asked;
     })
-asked_outcome marker front blob comment (Err fault) = Unread (whys.Subject fault)
+asked_outcome marker hosts front blob comment (Err fault) = Unread (whys.Subject fault)
 
-abbrev pub line_outcome : Option Marker → List ℕ → Result KeyLine LineFault → Outcome
-line_outcome marker front (Ok line) =
-    asked_outcome marker front line.blob line.comment (subject_of line.blob)
-line_outcome marker front (Err fault) = Unread (whys.Line fault)
+abbrev pub line_outcome : Option Marker → Bool → List ℕ → Result KeyLine LineFault → Outcome
+line_outcome marker hosts front (Ok line) =
+    asked_outcome marker hosts front line.blob line.comment (subject_of line.blob)
+line_outcome marker hosts front (Err fault) = Unread (whys.Line fault)
 
--- the outcome of a line
-unfoldable pub outcome_of : List ℕ → Outcome
-outcome_of text =
-    if has_key text
-    then line_outcome (marker_of text) (front_of (unmarked text)) (marked_line_at text) else Empty
+-- ---- a line
+
+-- the text of a line before its part from the type name on
+abbrev pub part_front : List ℕ → Option (List ℕ) → List ℕ
+part_front line None = []
+part_front line (Some part) = front_before line part
+
+-- the outcome of a line by this part of it
+unfoldable pub part_outcome : Option Marker → Bool → List ℕ → Option (List ℕ) → Outcome
+part_outcome marker hosts line part =
+    line_outcome marker hosts (part_front line part) (content_at part)
+
+-- The outcome of a line of authorized keys, and of a line of known hosts. The line has no marker,
+-- no blanks around it and no carriage returns at its end.
+abbrev pub by_options : List ℕ → Outcome
+by_options line = part_outcome None false line (key_part line)
+
+abbrev pub by_hosts : Option Marker → List ℕ → Outcome
+by_hosts marker line = part_outcome marker true line (host_part line)
+
+-- The outcomes of a line: two, if it can be read in two ways.
+pub record Outcomes : Type 0 where
+  pub first : Outcome
+  pub second : Option Outcome
+
+abbrev pub one : Outcome → Outcomes
+one outcome = record { first = outcome; second = None }
+
+abbrev pub two : Outcome → Outcome → Outcomes
+two first second = record { first = first; second = Some second }
+
+-- no key type is there
+abbrev pub is_bare : Outcome → Bool
+is_bare (Unread (whys.Line lines.NoKey)) = true
+is_bare _ = false
+
+-- the same key, or no key
+abbrev pub is_same : Outcome → Outcome → Bool
+is_same (Key found) (Key other) = bytes_eq found.blob other.blob
+is_same (Unread why) (Unread other) = true
+is_same _ _ = false
+
+-- the outcomes of a line that one may read in these two ways: one where they lead to the same
+unfoldable pub merged : Outcome → Outcome → Outcomes
+merged first second =
+    if is_bare first then one second
+    else if is_bare second then one first
+    else if is_same first second then one first else two first second
+
+abbrev pub is_same_part : Option (List ℕ) → Option (List ℕ) → Bool
+is_same_part None None = true
+is_same_part None (Some part) = false
+is_same_part (Some part) None = false
+is_same_part (Some part) (Some other) = bytes_eq part other
+
+-- a line of which nobody knows whether it is of authorized keys or of known hosts
+unfoldable pub by_either : List ℕ → Outcomes
+by_either line =
+    if is_same_part (key_part line) (host_part line) then one (by_options line)
+    else merged (by_options line) (by_hosts None line)
+
+-- only a line of known hosts has a marker
+abbrev pub bare_outcomes : Option Marker → Fronts → List ℕ → Outcomes
+bare_outcomes (Some marker) kind line = one (by_hosts (Some marker) line)
+bare_outcomes None fronts.Hosts line = one (by_hosts None line)
+bare_outcomes None fronts.Options line = one (by_options line)
+bare_outcomes None fronts.Either line = by_either line
+
+-- the outcomes of a line, by what the field before its key is
+unfoldable pub outcomes_of : Fronts → List ℕ → Outcomes
+outcomes_of kind text =
+    if has_key text then bare_outcomes (marker_of text) kind (trimmed (unmarked text)) else one Empty
+
+-- the text before the key of a line of authorized keys, and of a line of known hosts
+abbrev pub options_of : List ℕ → List ℕ
+options_of line = part_front line (key_part line)
+
+abbrev pub hosts_of : List ℕ → List ℕ
+hosts_of line = part_front line (host_part line)
+
+abbrev pub IsFound : List ℕ → Outcome → Type 0
+IsFound blob Empty = ⊥
+IsFound blob (Key found) = found.blob ≡ blob
+IsFound blob (Unread why) = ⊥
+
+abbrev pub IsSecond : List ℕ → Option Outcome → Type 0
+IsSecond blob None = ⊥
+IsSecond blob (Some outcome) = IsFound blob outcome
+
+-- the key with these bytes is one of the outcomes
+abbrev pub HasFound : Outcomes → List ℕ → Type 0
+HasFound outcomes blob = IsFound blob outcomes.first ⊎ IsSecond blob outcomes.second
 
 -- ---- private key files
 
@@ -82,7 +179,7 @@ opened_at text = or_half text (private_at text)
 
 abbrev pub private_outcome : Result Opened PrivateFault → Outcome
 private_outcome (Ok opened) =
-    asked_outcome None [] opened.blob opened.comment (subject_of opened.blob)
+    asked_outcome None false [] opened.blob opened.comment (subject_of opened.blob)
 private_outcome (Err fault) = Unread (whys.Private fault)
 
 -- ---- files
@@ -94,11 +191,58 @@ order_mark = 239 ∷ 187 ∷ 191 ∷ []
 unfoldable pub without_mark : List ℕ → List ℕ
 without_mark text = if starts_with nat_eq text order_mark then drop 3 text else text
 
--- the outcomes of the lines of a file, one for each; a private key file counts as one line
-unfoldable pub outcomes : List ℕ → List Outcome
-outcomes text =
-    if begins_container text then private_outcome (opened_at text) ∷ []
-    else map outcome_of (slice_split is_newline (without_mark text))
+-- an outcome, and the number of its line
+pub record Placed : Type 0 where
+  pub number : ℕ
+  pub outcome : Outcome
+
+abbrev pub place : ℕ → Outcome → Placed
+place number outcome = record { number = number; outcome = outcome }
+
+abbrev pub place_second : ℕ → Option Outcome → List Placed
+place_second number None = []
+place_second number (Some outcome) = place number outcome ∷ []
+
+abbrev pub place_all : ℕ → Outcomes → List Placed
+place_all number outcomes = place number outcomes.first ∷ place_second number outcomes.second
+
+-- the outcomes of lines, of which the first has this number
+abbrev pub placed_from : ℕ → List Outcomes → List Placed
+placed_from number [] = []
+placed_from number (line ∷ lines) = place_all number line ++ placed_from (number + 1) lines
+
+abbrev pub read_all : Fronts → List (List ℕ) → List Outcomes
+read_all kind lines = map (outcomes_of kind) lines
+
+-- the outcomes of the lines after the first one that ends a private key
+abbrev pub placed_behind : Fronts → ℕ → List (List ℕ) → List Placed
+placed_behind kind number [] = []
+placed_behind kind number (line ∷ lines) =
+    if bytes_eq (before_ending line) end_line then placed_from (number + 1) (read_all kind lines)
+    else placed_behind kind (number + 1) lines
+
+-- These are the outcomes of the lines of the text that was found, which has this many lines before
+-- it; or there is none.
+abbrev pub LeadsBehind : Fronts → Option (ℕ × Bor (List ℕ)) → List Placed → Type 0
+LeadsBehind kind None lines = lines ≡ []
+LeadsBehind kind (Some (passed, rest)) lines =
+    lines ≡ placed_from (passed + 1) (read_all kind (slice_split is_newline rest.now))
+
+-- Whatever stands behind a private key is read as lines, and all of a file that ssh or sshd reads by
+-- lines.
+abbrev pub placed_beside : Fronts → Bool → List (List ℕ) → List Placed
+placed_beside kind true lines = placed_from 1 (read_all kind lines)
+placed_beside kind false lines = placed_behind kind 1 lines
+
+-- a private key file: its key has the number of its first line
+unfoldable pub private_lines : (name text : List ℕ) → List Placed
+private_lines name text =
+    place 1 (private_outcome (opened_at text))
+    ∷ placed_beside (fronts_of name) (is_read_by_lines name) (slice_split is_newline text)
+
+-- the lines of another file
+unfoldable pub plain_lines : Fronts → List ℕ → List Outcomes
+plain_lines kind text = read_all kind (slice_split is_newline (without_mark text))
 
 -- ---- the result of reading
 
@@ -107,6 +251,7 @@ abbrev pub found_as : KeyFound → Subject → Found
 found_as found asked =
     record {
       marker = found.marker;
+      hosts = found.hosts;
       front = found.front.now;
       blob = found.blob;
       comment = found.comment.now;
@@ -120,6 +265,15 @@ GivesOutcome (given.Key found) outcome =
     (asked : Subject) × ((subject_of found.blob ≡ Ok asked)
     × (outcome ≡ Key (found_as found asked)))
 GivesOutcome (given.Unread why) outcome = outcome ≡ Unread why
+
+abbrev pub GivesSecond : Option Given → Option Outcome → Type 0
+GivesSecond None second = second ≡ None
+GivesSecond (Some read) second = (other : Outcome) × ((GivesOutcome read other) × (second ≡ Some other))
+
+-- The outcomes are these.
+pub record GivesOutcomes (read : Read) (outcomes : Outcomes) : Type 0 where
+  pub first : GivesOutcome read.first outcomes.first
+  pub second : GivesSecond read.second outcomes.second
 
 -- A list can be queried for the bytes, or this is why not.
 abbrev pub SaysFault : Option SubjectFault → Result Subject SubjectFault → Type 0

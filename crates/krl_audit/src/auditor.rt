@@ -1,6 +1,7 @@
 //! Auditing one file after the other.
 
-ghost use Rattle.std.specs.Prelude.{◌≡◌, ◌∷◌, [], ℕ, List, Ok, Option, map};
+ghost use Rattle.std.specs.Prelude.{◌≡◌, ◌∷◌, ◌+◌, ◌<◌, ◌^◌, [], ℕ, false, IfSome, List, Option};
+ghost use Rattle.std.specs.Prelude.{length};
 ghost use Rattle.std.specs.List.{slice_split};
 ghost use Rattle.key_text.specs.Lines.{is_newline, lines_left};
 ghost use Rattle.key_listing.specs.Carries.{Carries, Reaches};
@@ -11,25 +12,36 @@ ghost use Rattle.krl_types.specs.Entry.{Entry};
 ghost use Rattle.krl_entries.specs.Reasons.{reasons_of};
 ghost use Rattle.krl_entries.specs.Revocations.{Means};
 ghost use Rattle.krl_entries.specs.declared.reasons.Reasons.{Reasons as ReasonsOf};
-ghost use Rattle.krl_audit.specs.Audit.{EndsAudit, JudgesAs, Told, ToldFile, content_of, said_if};
+ghost use Rattle.krl_audit.specs.Audit.{EndsAudit, JudgesAs, Told, ToldFile, SaysLine, content_of};
+ghost use Rattle.krl_audit.specs.Audit.{file_lines, text_lines};
+ghost use Rattle.krl_audit.specs.Audit.{rest_items, said_if, whole};
 ghost use Rattle.krl_audit.specs.Objects.{done_object};
-ghost use Rattle.krl_audit.specs.Outcome.{GivesOutcome, Outcome as OutcomeOf, Unread as UnreadOf};
-ghost use Rattle.krl_audit.specs.Outcome.{opened_at, outcome_of, private_outcome, without_mark};
+ghost use Rattle.krl_audit.specs.declared.front.Fronts.{Fronts as FrontsOf};
+ghost use Rattle.krl_audit.specs.Outcome.{GivesOutcome, GivesOutcomes, Outcome as OutcomeOf};
+ghost use Rattle.krl_audit.specs.Outcome.{Outcomes as OutcomesOf, LeadsBehind, opened_at};
+ghost use Rattle.krl_audit.specs.Outcome.{outcomes_of, private_lines};
+ghost use Rattle.krl_audit.specs.Outcome.{place, place_all, placed_behind, placed_from};
+ghost use Rattle.krl_audit.specs.Outcome.{private_outcome, read_all, without_mark};
 
-use crate::counts::Counts;
+use crate::counts::{Counts, LineKind};
 use crate::done::{ListFacts, write_done};
+use crate::front::{Fronts, is_read_by_lines};
 use crate::judge::Judge;
-use crate::outcome::{Outcome, checked, open_private, read_outcome};
+use crate::outcome::{Outcome, Outcomes, checked, open_private, read_outcomes};
 use crate::survey::keyless;
 use crate::text::Location;
+use crate::unread::{MOST_UNREAD, is_beyond, unread_after};
 use crate::why::{Refusal, Why};
 use byte_streams::Sink;
 use key_files::{Cause, RunFault};
 use key_listing::{Done, Run};
-use key_text::{Private, is_container, split_line};
+use key_text::{Private, before_ending, is_container, split_line};
 
 // The byte order mark of UTF-8.
 const ORDER_MARK: &[u8] = b"\xef\xbb\xbf";
+
+// The line that ends a private key.
+const END_LINE: &[u8] = b"-----END OPENSSH PRIVATE KEY-----";
 
 /// Audits files: has the list for the queries, the printer and the counts.
 #[derive(Drop)]
@@ -45,7 +57,8 @@ pub struct Auditor<'q, 'w, W: Sink> {
 impl<'q, 'w, W: Sink> Auditor<'q, 'w, W> {
     /// Audits a file, given its bytes or why there are none: prints the findings of each of its
     /// lines after the earlier findings, and counts the lines. Each finding depends only on the
-    /// list's entries and on the bytes.
+    /// list's entries, on the name and on the bytes. The first 20 lines that are not read are
+    /// printed one by one, and then how many more there are.
     pub fn audit_file<'a>(
         &mut self,
         name: &'a str,
@@ -56,99 +69,180 @@ impl<'q, 'w, W: Sink> Auditor<'q, 'w, W> {
             result self.old.run.printer self.new.run.printer self.old.counts self.new.counts }
         ensures judge { self.new.judge ≡ self.old.judge }
     {
+        let unread = self.audit_lines(name, content)?;
+        self.say_rest(name, unread)
+    }
+
+    // The same but for its last finding. Returns the number of lines that are not read.
+    fn audit_lines<'a>(
+        &mut self,
+        name: &'a str,
+        content: Result<&[u8], Refusal>,
+    ) -> Result<u64, RunFault<'a>>
+        ensures told { (reasons : SubjectOf → ReasonsOf) → JudgesAs self.old.judge reasons
+            → Told reasons self.old.judge.shown name.now 0
+            (file_lines name.now (content_of content.entry)) result self.old.run.printer
+            self.new.run.printer self.old.counts self.new.counts }
+        ensures judge { self.new.judge ≡ self.old.judge }
+    {
         match content {
-            Ok(text) => self.audit_text(name, text),
-            Err(refusal) => self.say_unread(name, Why::File(refusal)),
+            Err(refusal) => self.say_whole(name, Why::File(refusal)),
+            Ok(text) if is_container(text) => self.audit_private(name, text),
+            Ok(text) => self.audit_plain(name, text),
         }
     }
 
-    // The same for bytes.
-    fn audit_text<'a>(&mut self, name: &'a str, text: &[u8]) -> Result<(), RunFault<'a>>
+    // The same for a file that begins with no private key.
+    fn audit_plain<'a>(&mut self, name: &'a str, text: &[u8]) -> Result<u64, RunFault<'a>>
         ensures told { (reasons : SubjectOf → ReasonsOf) → JudgesAs self.old.judge reasons
-            → ToldFile reasons self.old.judge.shown name.now (Ok text.now) result
-            self.old.run.printer self.new.run.printer self.old.counts self.new.counts }
+            → Told reasons self.old.judge.shown name.now 0 (text_lines false name.now text.now)
+            result self.old.run.printer self.new.run.printer self.old.counts self.new.counts }
         ensures judge { self.new.judge ≡ self.old.judge }
     {
-        if is_container(text) {
-            return self.audit_private(name, text);
-        }
+        let fronts = Fronts::of(name.as_bytes());
         let text = without_mark(text);
         let (line, after) = split_line(text);
-        let Ok(first) = read_outcome(self.run.alloc, line) else {
+        let Ok(first) = read_outcomes(self.run.alloc, fronts, line) else {
             return Err(RunFault::whole(name, Cause::NoMemory));
         };
-        match keyless(self.run.alloc, &first, text) {
-            Ok(Some(count)) => self.say_unread(name, Why::NoKeys(count)),
-            Ok(None) => self.audit_from(name, &first, after),
+        match keyless(self.run.alloc, fronts, &first, text) {
+            Ok(Some(count)) => self.say_whole(name, Why::NoKeys(count)),
+            Ok(None) => self.audit_from(name, fronts, &first, after),
             Err(_) => Err(RunFault::whole(name, Cause::NoMemory)),
         }
     }
 
-    // The same for the outcome of the first line, and the lines after it.
+    // The same for the outcomes of the first line, and the lines after it.
     fn audit_from<'a>(
         &mut self,
         name: &'a str,
-        first: &Outcome<'_>,
+        fronts: Fronts,
+        first: &Outcomes<'_>,
         after: Option<&[u8]>,
-    ) -> Result<(), RunFault<'a>>
-        ensures told { (given : OutcomeOf) → GivesOutcome first.now given
+    ) -> Result<u64, RunFault<'a>>
+        requires { IfSome after (λ rest. length rest.now + 2 < 2 ^ 64) }
+        ensures told { (given : OutcomesOf) → GivesOutcomes first.now given
             → (reasons : SubjectOf → ReasonsOf) → JudgesAs self.old.judge reasons
-            → Told reasons self.old.judge.shown name.now 1
-            (given ∷ map outcome_of (lines_left after.entry)) result self.old.run.printer
-            self.new.run.printer self.old.counts self.new.counts }
+            → Told reasons self.old.judge.shown name.now 0
+            (placed_from 1 (given ∷ read_all fronts (lines_left after.entry))) result
+            self.old.run.printer self.new.run.printer self.old.counts self.new.counts }
         ensures judge { self.new.judge ≡ self.old.judge }
     {
-        self.say(Location { name, number: 1 }, first)?;
+        let unread = self.say_all(Location { name, number: 1 }, 0, first)?;
         match after {
-            None => Ok(()),
-            Some(rest) => self.audit_lines(name, rest),
+            None => Ok(unread),
+            Some(rest) => self.audit_rest(Location { name, number: 1 }, fronts, unread, rest),
         }
     }
 
-    // The same for each line after the first.
-    fn audit_lines<'a>(&mut self, name: &'a str, text: &[u8]) -> Result<(), RunFault<'a>>
+    // The same for each line of a text. The location is that of the line before it.
+    fn audit_rest<'a>(
+        &mut self,
+        location: Location<'a>,
+        fronts: Fronts,
+        unread: u64,
+        text: &[u8],
+    ) -> Result<u64, RunFault<'a>>
+        requires { location.number + length text.now + 1 < 2 ^ 64 }
         ensures told { (reasons : SubjectOf → ReasonsOf) → JudgesAs self.old.judge reasons
-            → Told reasons self.old.judge.shown name.now 2
-            (map outcome_of (slice_split is_newline text.now)) result self.old.run.printer
+            → Told reasons self.old.judge.shown location.entry.name.now unread
+            (placed_from (location.entry.number + 1)
+            (read_all fronts (slice_split is_newline text.now))) result self.old.run.printer
             self.new.run.printer self.old.counts self.new.counts }
         ensures judge { self.new.judge ≡ self.old.judge }
     {
+        let Location { name, mut number } = location;
+        let mut unread = unread;
         let mut rest = text;
-        let mut passed: usize = 1;
         loop {
             let (line, after) = split_line(rest);
-            passed += 1;
-            let number = passed as u64;
-            self.say_line(Location { name, number }, line)?;
+            number += 1;
+            unread = self.say_line(Location { name, number }, fronts, unread, line)?;
             let Some(after) = after else {
-                return Ok(());
+                return Ok(unread);
             };
             rest = after;
         }
     }
 
-    // Prints the finding of a line, if it is to be printed, and counts it.
-    fn say_line<'a>(&mut self, location: Location<'a>, line: &[u8]) -> Result<(), RunFault<'a>>
+    // Prints the findings of a line, if they are to be printed, and counts it.
+    fn say_line<'a>(
+        &mut self,
+        location: Location<'a>,
+        fronts: Fronts,
+        unread: u64,
+        line: &[u8],
+    ) -> Result<u64, RunFault<'a>>
         ensures told { (reasons : SubjectOf → ReasonsOf) → JudgesAs self.old.judge reasons
-            → Told reasons self.old.judge.shown location.entry.name.now location.entry.number
-            (outcome_of line.now ∷ []) result self.old.run.printer self.new.run.printer
-            self.old.counts self.new.counts }
+            → Told reasons self.old.judge.shown location.entry.name.now unread
+            (place_all location.entry.number (outcomes_of fronts line.now)) result
+            self.old.run.printer self.new.run.printer self.old.counts self.new.counts }
         ensures judge { self.new.judge ≡ self.old.judge }
     {
-        match read_outcome(self.run.alloc, line) {
-            Ok(outcome) => self.say(location, &outcome),
+        match read_outcomes(self.run.alloc, fronts, line) {
+            Ok(read) => self.say_all(location, unread, &read),
             Err(_) => Err(RunFault::whole(location.name, Cause::NoMemory)),
         }
     }
 
-    // Prints the finding of an outcome, if it is to be printed, and counts it.
-    fn say<'a>(&mut self, location: Location<'a>, outcome: &Outcome<'_>) -> Result<(), RunFault<'a>>
+    // Prints the findings of the outcomes of a line, if they are to be printed, and counts it.
+    fn say_all<'a>(
+        &mut self,
+        location: Location<'a>,
+        unread: u64,
+        read: &Outcomes<'_>,
+    ) -> Result<u64, RunFault<'a>>
+        ensures told { (given : OutcomesOf) → GivesOutcomes read.now given
+            → (reasons : SubjectOf → ReasonsOf) → JudgesAs self.old.judge reasons
+            → Told reasons self.old.judge.shown location.entry.name.now unread
+            (place_all location.entry.number given) result self.old.run.printer
+            self.new.run.printer self.old.counts self.new.counts }
+        ensures judge { self.new.judge ≡ self.old.judge }
+    {
+        let unread = self.say(location, unread, &read.first)?;
+        match &read.second {
+            None => Ok(unread),
+            Some(second) => self.say(location, unread, second),
+        }
+    }
+
+    // Prints the finding of an outcome, if it is to be printed, and counts it. `unread` is the
+    // number of lines of the file that were not read before it.
+    fn say<'a>(
+        &mut self,
+        location: Location<'a>,
+        unread: u64,
+        outcome: &Outcome<'_>,
+    ) -> Result<u64, RunFault<'a>>
         ensures told { (given : OutcomeOf) → GivesOutcome outcome.now given
             → (reasons : SubjectOf → ReasonsOf) → JudgesAs self.old.judge reasons
-            → Told reasons self.old.judge.shown location.entry.name.now location.entry.number
-            (given ∷ []) result self.old.run.printer self.new.run.printer self.old.counts
-            self.new.counts }
+            → Told reasons self.old.judge.shown location.entry.name.now unread
+            (place location.entry.number given ∷ []) result self.old.run.printer
+            self.new.run.printer self.old.counts self.new.counts }
         ensures judge { self.new.judge ≡ self.old.judge }
+    {
+        if is_beyond(unread, outcome) {
+            self.counts = self.counts.with(LineKind::Unread);
+            return Ok(unread.saturating_add(1));
+        }
+        let kind = self.say_judged(location, outcome)?;
+        self.counts = self.counts.with(kind);
+        Ok(unread_after(unread, outcome))
+    }
+
+    // Prints the finding of an outcome, if it is to be printed, and returns its kind.
+    fn say_judged<'a>(
+        &mut self,
+        location: Location<'a>,
+        outcome: &Outcome<'_>,
+    ) -> Result<LineKind, RunFault<'a>>
+        ensures said { (given : OutcomeOf) → GivesOutcome outcome.now given
+            → (reasons : SubjectOf → ReasonsOf) → JudgesAs self.old.judge reasons
+            → SaysLine reasons self.old.judge.shown location.entry.name.now
+            (place location.entry.number given) result self.old.run.printer
+            self.new.run.printer }
+        ensures judge { self.new.judge ≡ self.old.judge }
+        ensures counts { self.new.counts ≡ self.old.counts }
     {
         let alloc = self.run.alloc;
         let made = match self
@@ -159,37 +253,77 @@ impl<'q, 'w, W: Sink> Auditor<'q, 'w, W> {
             Err(_) => return Err(RunFault::whole(location.name, Cause::NoMemory)),
         };
         say_made(&mut self.run, location.name, made.said)?;
-        self.counts = self.counts.with(made.kind);
-        Ok(())
+        Ok(made.kind)
     }
 
-    // The same for a private key file.
-    fn audit_private<'a>(&mut self, name: &'a str, text: &[u8]) -> Result<(), RunFault<'a>>
+    // The same for a private key file, and for the lines that are read beside its key.
+    fn audit_private<'a>(&mut self, name: &'a str, text: &[u8]) -> Result<u64, RunFault<'a>>
         ensures told { (reasons : SubjectOf → ReasonsOf) → JudgesAs self.old.judge reasons
-            → Told reasons self.old.judge.shown name.now 1
-            (private_outcome (opened_at text.now) ∷ []) result self.old.run.printer
+            → Told reasons self.old.judge.shown name.now 0 (private_lines name.now text.now)
+            result self.old.run.printer self.new.run.printer self.old.counts self.new.counts }
+        ensures judge { self.new.judge ≡ self.old.judge }
+    {
+        let unread = self.say_private(name, text)?;
+        let fronts = Fronts::of(name.as_bytes());
+        if is_read_by_lines(name.as_bytes()) {
+            return self.audit_rest(Location { name, number: 0 }, fronts, unread, text);
+        }
+        match behind_private(text) {
+            None => Ok(unread),
+            Some((number, rest)) => self.audit_rest(
+                Location { name, number },
+                fronts,
+                unread,
+                rest,
+            ),
+        }
+    }
+
+    // The same for the key of a private key file.
+    fn say_private<'a>(&mut self, name: &'a str, text: &[u8]) -> Result<u64, RunFault<'a>>
+        ensures told { (reasons : SubjectOf → ReasonsOf) → JudgesAs self.old.judge reasons
+            → Told reasons self.old.judge.shown name.now 0
+            (place 1 (private_outcome (opened_at text.now)) ∷ []) result self.old.run.printer
             self.new.run.printer self.old.counts self.new.counts }
         ensures judge { self.new.judge ≡ self.old.judge }
     {
         let location = Location { name, number: 1 };
         match open_private(self.run.alloc, text) {
             Ok(Ok(Private { blob, comment })) => {
-                let outcome = checked(None, &[], blob, comment.as_slice());
-                self.say(location, &outcome)
+                let outcome = checked(None, false, &[], blob, comment.as_slice());
+                self.say(location, 0, &outcome)
             }
-            Ok(Err(fault)) => self.say(location, &Outcome::Unread(Why::Private(fault))),
+            Ok(Err(fault)) => self.say(location, 0, &Outcome::Unread(Why::Private(fault))),
             Err(_) => Err(RunFault::whole(name, Cause::NoMemory)),
         }
     }
 
     // Prints that a file is not read, if it is to be printed, and counts it.
-    fn say_unread<'a>(&mut self, name: &'a str, why: Why) -> Result<(), RunFault<'a>>
+    fn say_whole<'a>(&mut self, name: &'a str, why: Why) -> Result<u64, RunFault<'a>>
         ensures told { (reasons : SubjectOf → ReasonsOf) → JudgesAs self.old.judge reasons
-            → Told reasons self.old.judge.shown name.now 0 (UnreadOf why ∷ []) result
+            → Told reasons self.old.judge.shown name.now 0 (whole why) result
             self.old.run.printer self.new.run.printer self.old.counts self.new.counts }
         ensures judge { self.new.judge ≡ self.old.judge }
     {
-        self.say(Location { name, number: 0 }, &Outcome::Unread(why))
+        self.say(Location { name, number: 0 }, 0, &Outcome::Unread(why))
+    }
+
+    // Prints how many lines of a file are not read beyond those that were printed, if there are any.
+    fn say_rest<'a>(&mut self, name: &'a str, unread: u64) -> Result<(), RunFault<'a>>
+        ensures said { (reasons : SubjectOf → ReasonsOf) → JudgesAs self.old.judge reasons
+            → Carries (rest_items reasons self.old.judge.shown name.now unread) result
+            self.old.run.printer self.new.run.printer }
+        ensures judge { self.new.judge ≡ self.old.judge }
+        ensures counts { self.new.counts ≡ self.old.counts }
+    {
+        if unread <= MOST_UNREAD {
+            return Ok(());
+        }
+        let rest = Outcome::Unread(Why::More(unread - MOST_UNREAD));
+        match self.say_judged(Location { name, number: 0 }, &rest) {
+            Ok(_) => Ok(()),
+            Err(stop) => Err(stop),
+        }
     }
 
     /// Prints the last object of an audit that was not stopped: the number of files, the counts,
@@ -230,6 +364,25 @@ fn say_made<'a, W: Sink>(run: &mut Run<W>, name: &'a str, said: bool) -> Result<
         run.say_line(name, Ok(()))
     } else {
         Ok(())
+    }
+}
+
+// The number of lines to the one that ends a private key, and the text behind it, if there is one.
+fn behind_private(text: &[u8]) -> Option<(u64, &[u8])>
+    ensures leads { (kind : FrontsOf) → LeadsBehind kind result
+        (placed_behind kind 1 (slice_split is_newline text.now)) }
+    ensures within { IfSome result (λ behind. behind.0 + length behind.1.now + 1 < 2 ^ 64) }
+{
+    let mut rest = text;
+    let mut passed: u64 = 0;
+    loop {
+        let (line, after) = split_line(rest);
+        let rest_of_text = after?;
+        passed += 1;
+        if before_ending(line) == END_LINE {
+            return Some((passed, rest_of_text));
+        }
+        rest = rest_of_text;
     }
 }
 

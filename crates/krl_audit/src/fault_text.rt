@@ -7,7 +7,7 @@ use crate::why::{Refusal, Why};
 use key_files::FileFault;
 use std::alloc::{AllocError, Global};
 
-/// The fault, by its family, its number and its name.
+/// The fault, by its family, its number and its name. Lines that are only counted have none.
 pub(crate) fn fault_text(alloc: Global, why: Why) -> Result<String, AllocError>
     ensures { IfOk result (λ text. string_bytes text ≡ why_fault why) }
 {
@@ -17,6 +17,7 @@ pub(crate) fn fault_text(alloc: Global, why: Why) -> Result<String, AllocError>
         Why::Private(fault) => fault.to_string(alloc),
         Why::File(refusal) => refusal_fault(refusal).to_string(alloc),
         Why::NoKeys(_) => FileFault::NoKeys.to_string(alloc),
+        Why::More(_) => Ok(String::new(alloc)),
     }
 }
 

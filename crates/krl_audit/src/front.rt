@@ -1,37 +1,45 @@
-//! The text before the key of a line.
+//! The field before the key of a line.
 
 ghost use Rattle.std.specs.Prelude.{◌≡◌, ◌-◌, length, take};
-ghost use Rattle.key_text.specs.Blanks.{before_ending};
-ghost use Rattle.krl_audit.specs.Front.{front_of, has_hosts, is_known_hosts};
+ghost use Rattle.krl_audit.specs.Front.{before_blanks, before_slashes, folder_part, front_before};
+ghost use Rattle.krl_audit.specs.Front.{fronts_of, is_authorized_keys, is_known_hosts};
+ghost use Rattle.krl_audit.specs.Front.{is_no_slash, is_read_by_lines, is_slash};
+ghost use Rattle.krl_audit.specs.Front.{last_part, to_slash};
 
-use key_text::{Marker, after_blanks, before_ending, key_part};
+use key_text::is_blank;
 
-/// The text before the type name of a line without its marker: host names, an options field, or
-/// nothing.
-#[tactic(auto, unfolding(crate::specs::Front::front_of, key_text::specs::Blanks::trimmed))]
-pub(crate) fn front_of(line: &[u8]) -> &[u8]
-    ensures { result.now ≡ front_of line.now }
-{
-    let line = before_ending(after_blanks(line));
-    match key_part(line) {
-        None => &[],
-        Some(part) => front_before(line, part.len()),
+/// What the field before the key of a line is.
+#[derive(Clone, Copy)]
+pub enum Fronts {
+    /// Host names, which end at the first blank.
+    Hosts,
+    /// Options, which end at the first blank outside double quotes.
+    Options,
+    /// One of these.
+    Either,
+}
+
+impl Fronts {
+    /// What the field is in a file of this name: of known hosts, of authorized keys, or another.
+    #[tactic(auto, unfolding(crate::specs::Front::fronts_of))]
+    pub fn of(name: &[u8]) -> Fronts
+        ensures { result ≡ fronts_of name.now }
+    {
+        match (is_known_hosts(name), is_authorized_keys(name)) {
+            (true, false) => Fronts::Hosts,
+            (false, true) => Fronts::Options,
+            (true, true) | (false, false) => Fronts::Either,
+        }
     }
 }
 
-// A line without this number of bytes at its end, and without blanks before them.
-fn front_before(line: &[u8], rest: usize) -> &[u8]
-    ensures { result.now ≡ before_ending (take (length line.now - rest) line.now) }
+/// Returns true if ssh or sshd reads each line of a file with this name, also if the file begins
+/// with a private key.
+#[tactic(auto, unfolding(crate::specs::Front::is_read_by_lines))]
+pub(crate) fn is_read_by_lines(name: &[u8]) -> bool
+    ensures { result ≡ is_read_by_lines name.now }
 {
-    before_ending(&line[..line.len().saturating_sub(rest)])
-}
-
-/// Returns true if the text before a key is host names, by the name of the file and the marker of
-/// the line.
-pub(crate) fn has_hosts(name: &str, marker: Option<Marker>) -> bool
-    ensures { result ≡ has_hosts name.now marker }
-{
-    marker.is_some() || is_known_hosts(name.as_bytes())
+    is_known_hosts(name) || is_authorized_keys(name)
 }
 
 // Returns true if the lines of a file with this name are of known hosts.
@@ -42,4 +50,75 @@ fn is_known_hosts(name: &[u8]) -> bool
     name.ends_with(b"known_hosts")
         || name.ends_with(b"known_hosts2")
         || name.ends_with(b"known_hosts.old")
+}
+
+// Returns true if the lines of a file with this name are of authorized keys.
+#[tactic(auto, unfolding(crate::specs::Front::is_authorized_keys))]
+fn is_authorized_keys(name: &[u8]) -> bool
+    ensures { result ≡ is_authorized_keys name.now }
+{
+    let (folder, last) = split_path(name);
+    let (_, folder) = split_path(before_slashes(folder));
+    last == b"authorized_keys".as_slice()
+        || last == b"authorized_keys2".as_slice()
+        || folder == b"authorized_keys.d".as_slice()
+}
+
+// A path up to its last slash, and the name behind it.
+#[tactic(auto, unfolding(crate::specs::Front::to_slash, crate::specs::Front::last_part))]
+fn split_path(path: &[u8]) -> (&[u8], &[u8])
+    ensures before { result.0.now ≡ to_slash path.now }
+    ensures last { result.1.now ≡ last_part path.now }
+{
+    let mut end = path.len();
+    while end > 0 && is_no_slash(path[end - 1]) {
+        end -= 1;
+    }
+    (&path[..end], &path[end..])
+}
+
+// Returns true if a byte is a slash.
+fn is_slash(byte: u8) -> bool
+    ensures { result ≡ is_slash byte }
+{
+    byte == b'/'
+}
+
+// Returns true if a byte is no slash.
+fn is_no_slash(byte: u8) -> bool
+    ensures { result ≡ is_no_slash byte }
+{
+    byte != b'/'
+}
+
+// A path without the slashes at its end.
+#[tactic(auto, unfolding(crate::specs::Front::before_slashes))]
+fn before_slashes(path: &[u8]) -> &[u8]
+    ensures { result.now ≡ before_slashes path.now }
+{
+    let mut end = path.len();
+    while end > 0 && is_slash(path[end - 1]) {
+        end -= 1;
+    }
+    &path[..end]
+}
+
+/// The field of a line before its part from the type name on.
+#[tactic(auto, unfolding(crate::specs::Front::front_before))]
+pub(crate) fn front_before<'a>(line: &'a [u8], part: &[u8]) -> &'a [u8]
+    ensures { result.now ≡ front_before line.now part.now }
+{
+    before_blanks(&line[..line.len().saturating_sub(part.len())])
+}
+
+// The text before the blanks at its end.
+#[tactic(auto, unfolding(crate::specs::Front::before_blanks))]
+fn before_blanks(text: &[u8]) -> &[u8]
+    ensures { result.now ≡ before_blanks text.now }
+{
+    let mut end = text.len();
+    while end > 0 && is_blank(text[end - 1]) {
+        end -= 1;
+    }
+    &text[..end]
 }

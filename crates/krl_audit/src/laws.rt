@@ -1,10 +1,11 @@
 //! Laws of the outcomes of lines. Each function does nothing: its contract is the law.
 
-ghost use Rattle.std.specs.Prelude.{◌≡◌, ℕ, ◌<◌, ◌^◌, true, false, List, None, Ok, Some};
+ghost use Rattle.std.specs.Prelude.{◌≡◌, ◌⊎◌, ℕ, ◌<◌, ◌^◌, true, false, List, None, Ok, Some};
 ghost use Rattle.ssh_wire.specs.Wire.{IsBytes};
 ghost use Rattle.ssh_cert.specs.SubjectReading.{IsSubject};
 ghost use Rattle.key_text.specs.KeyFile.{has_key};
-ghost use Rattle.key_text.specs.KeyLine.{IsKeyLine};
+ghost use Rattle.key_text.specs.Blanks.{trimmed};
+ghost use Rattle.key_text.specs.KeyLine.{IsHostLine, IsKeyLine};
 ghost use Rattle.key_text.specs.LineFaults.{IsFirstLineFault};
 ghost use Rattle.key_text.specs.Marker.{IsMarkedLine, marker_of, unmarked};
 ghost use Rattle.key_text.specs.declared.line_fault.LineFault.{LineFault};
@@ -17,39 +18,66 @@ ghost use Rattle.krl_entries.specs.declared.reasons.Reasons.{Reasons};
 ghost use Rattle.json_lines.specs.ReadBack.{IsReadBack};
 ghost use Rattle.krl_audit.specs.Audit.{kind_of};
 ghost use Rattle.krl_audit.specs.Colour.{IsCount, IsPainted};
-ghost use Rattle.krl_audit.specs.Front.{front_of};
 ghost use Rattle.krl_audit.specs.Objects.{done_object, key_object, unread_object};
-ghost use Rattle.krl_audit.specs.Outcome.{Empty, Found, Key, Unread, asked_outcome, outcome_of};
+ghost use Rattle.krl_audit.specs.Outcome.{Empty, Found, HasFound, Key, Unread, asked_outcome};
+ghost use Rattle.krl_audit.specs.Outcome.{hosts_of, one, options_of, outcomes_of};
 ghost use Rattle.krl_audit.specs.Text.{key_line, unread_line};
 ghost use Rattle.krl_audit.specs.declared.counts.Counts.{Counts as CountsOf};
 ghost use Rattle.krl_audit.specs.declared.counts.LineKind.TheVariants as kinds;
+ghost use Rattle.krl_audit.specs.declared.front.Fronts.{Fronts as FrontsOf};
+ghost use Rattle.krl_audit.specs.declared.front.Fronts.TheVariants as fronts;
 ghost use Rattle.krl_audit.specs.declared.done.ListFacts.{ListFacts as ListFactsOf};
 ghost use Rattle.krl_audit.specs.declared.why.Why.{Why as WhyOf};
 ghost use Rattle.krl_audit.specs.declared.why.Why.TheVariants.{Line};
 
 use json_lines::laws::lines_are_read_back;
-use key_text::laws::{line_read_where_spelled, line_refused_by_first_fault, marked_line_is_read};
+use key_text::laws::{
+    host_line_read_where_spelled, line_read_where_spelled, line_refused_by_first_fault,
+    marked_line_is_read,
+};
 use ssh_cert::laws::asked_where_spelled;
 use ssh_wire::laws::string_is_read_back;
 
-/// A line that is neither blank nor a comment has a key if it spells one, with or without its
-/// marker; otherwise its first fault, after a marker too.
+/// A line that is neither blank nor a comment has a key if it spells one, as a line of authorized
+/// keys or of known hosts, as the file says, and as a line of known hosts after a marker. A line of
+/// authorized keys without a key has its first fault.
 pub fn lines_by_what_is_spelled()
-    ensures none { (text : List ℕ) → has_key text ≡ false → outcome_of text ≡ Empty }
-    ensures plain { (text word blob comment : List ℕ) (asked : Subject) → has_key text ≡ true
+    ensures none { (kind : FrontsOf) (text : List ℕ) → has_key text ≡ false
+        → outcomes_of kind text ≡ one Empty }
+    ensures options { (text word blob comment : List ℕ) (asked : Subject) → has_key text ≡ true
         → marker_of text ≡ None → IsKeyLine text word blob comment → IsSubject blob asked
-        → outcome_of text ≡ asked_outcome None (front_of text) blob comment (Ok asked) }
-    ensures marked { (text : List ℕ) (marker : MarkerOf) (word blob comment : List ℕ)
-        (asked : Subject) → has_key text ≡ true → IsMarkedLine text marker word blob comment
-        → IsSubject blob asked
-        → outcome_of text
-        ≡ asked_outcome (Some marker) (front_of (unmarked text)) blob comment (Ok asked) }
+        → outcomes_of fronts.Options text ≡ one (asked_outcome None false
+        (options_of (trimmed text)) blob comment (Ok asked)) }
+    ensures hosts { (text word blob comment : List ℕ) (asked : Subject) → has_key text ≡ true
+        → marker_of text ≡ None → IsHostLine text word blob comment → IsSubject blob asked
+        → outcomes_of fronts.Hosts text ≡ one (asked_outcome None true
+        (hosts_of (trimmed text)) blob comment (Ok asked)) }
+    ensures marked { (kind : FrontsOf) (text : List ℕ) (marker : MarkerOf)
+        (word blob comment : List ℕ) (asked : Subject) → has_key text ≡ true
+        → IsMarkedLine text marker word blob comment → IsSubject blob asked
+        → outcomes_of kind text ≡ one (asked_outcome (Some marker) true
+        (hosts_of (trimmed (unmarked text))) blob comment (Ok asked)) }
     ensures fault { (text : List ℕ) (fault : LineFault) → IsBytes text → has_key text ≡ true
-        → IsFirstLineFault (unmarked text) fault → outcome_of text ≡ Unread (Line fault) }
+        → marker_of text ≡ None → IsFirstLineFault text fault
+        → outcomes_of fronts.Options text ≡ one (Unread (Line fault)) }
 {
     line_read_where_spelled();
-    line_refused_by_first_fault();
+    host_line_read_where_spelled();
     marked_line_is_read();
+    asked_where_spelled();
+    line_refused_by_first_fault();
+}
+
+/// A line of a file of which nobody knows whether it is of authorized keys or of known hosts has
+/// the key that it spells as either of them.
+pub fn both_readings_are_found()
+    ensures { (text word blob comment : List ℕ) (asked : Subject) → has_key text ≡ true
+        → marker_of text ≡ None
+        → IsKeyLine text word blob comment ⊎ IsHostLine text word blob comment
+        → IsSubject blob asked → HasFound (outcomes_of fronts.Either text) blob }
+{
+    line_read_where_spelled();
+    host_line_read_where_spelled();
     asked_where_spelled();
 }
 
@@ -67,7 +95,7 @@ pub fn objects_are_read_back()
     ensures key { (name : List ℕ) (number : ℕ) (found : Found) (all : Reasons)
         → number < 2 ^ 64 → IsReadBack (key_object name number found all) }
     ensures unread { (name : List ℕ) (number : ℕ) (why : WhyOf) → number < 2 ^ 64
-        → IsReadBack (unread_object name number why) }
+        → IsCount why → IsReadBack (unread_object name number why) }
     ensures done { (files : ℕ) (counts : CountsOf) (list : ListFactsOf) → files < 2 ^ 64
         → counts.keys < 2 ^ 64 → counts.revoked < 2 ^ 64 → counts.unread < 2 ^ 64
         → IsReadBack (done_object files counts list) }

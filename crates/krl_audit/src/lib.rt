@@ -18,14 +18,16 @@ mod reasons;
 mod said;
 mod survey;
 mod text;
+mod unread;
 mod visible;
 mod why;
 
 pub use auditor::Auditor;
 pub use counts::{Counts, LineKind};
 pub use done::{ListFacts, Stated};
+pub use front::Fronts;
 pub use judge::{Form, Judge, Shown};
 pub use keyless::keyless_lines;
-pub use outcome::{Found, Outcome, read_outcome};
+pub use outcome::{Found, Outcome, Outcomes, read_outcomes};
 pub use visible::{Visible, visible_name};
 pub use why::{Refusal, Why};

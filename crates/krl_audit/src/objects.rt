@@ -4,14 +4,14 @@ ghost use Rattle.std.specs.Prelude.{◌≡◌, ◌∷◌, ◌++◌, [], OnOk};
 ghost use Rattle.key_text.specs.Marker.{marker_word};
 ghost use Rattle.krl_entries.specs.Reasons.{any_reason};
 ghost use Rattle.json_lines.specs.Field.{fields_tokens, json_line};
-ghost use Rattle.krl_audit.specs.Objects.{cert_field, cert_fields, front_fields, front_word};
+ghost use Rattle.krl_audit.specs.Objects.{cause_field, cert_field, cert_fields, front_fields};
+ghost use Rattle.krl_audit.specs.Objects.{front_word};
 ghost use Rattle.krl_audit.specs.Objects.{key_fields, key_object, line_fields, list_fields};
 ghost use Rattle.krl_audit.specs.Objects.{marker_fields, location_fields, status_word};
 ghost use Rattle.krl_audit.specs.Objects.{unread_object, why_fields};
 ghost use Rattle.krl_audit.specs.Outcome.{found_as};
 
 use crate::fault_text::fault_text;
-use crate::front::has_hosts;
 use crate::outcome::Found;
 use crate::reason_values::put_reasons;
 use crate::text::{Location, Verdict, type_of};
@@ -38,7 +38,7 @@ pub(crate) fn write_key_object(
     let mut out = LineWriter::object(alloc)?;
     put_location(&mut out, location)?;
     put_key(alloc, &mut out, verdict)?;
-    put_line(alloc, &mut out, location.name, verdict.found)?;
+    put_line(alloc, &mut out, verdict.found)?;
     put_list(alloc, &mut out, verdict.subject, verdict.reasons)?;
     *line = out.end_object()?;
     Ok(())
@@ -79,13 +79,26 @@ fn put_location(out: &mut LineWriter, location: Location<'_>) -> Result<(), Allo
 fn put_why(alloc: Global, out: &mut LineWriter, why: Why) -> Result<(), AllocError>
     ensures { OnOk result (out.new ≡ out.old ++ fields_tokens (why_fields why)) }
 {
-    let fault = fault_text(alloc, why)?;
     let mut words = Vec::new(alloc);
     put!(&mut words; Told { alloc, why })?;
     put_word(out, "status", "unread")?;
-    put_word(out, "fault", fault.as_str())?;
+    put_cause(alloc, out, why)?;
     put_text(alloc, out, "why", &words)?;
     Ok(())
+}
+
+// Writes the fault, or the number of lines that are only counted.
+#[tactic(auto, unfolding(json_lines::specs::Field::fields_tokens))]
+fn put_cause(alloc: Global, out: &mut LineWriter, why: Why) -> Result<(), AllocError>
+    ensures { OnOk result (out.new ≡ out.old ++ fields_tokens (cause_field why ∷ [])) }
+{
+    match why {
+        Why::More(lines) => put_number(out, "count", lines),
+        Why::Line(_) | Why::Subject(_) | Why::Private(_) | Why::File(_) | Why::NoKeys(_) => {
+            let fault = fault_text(alloc, why)?;
+            put_word(out, "fault", fault.as_str())
+        }
+    }
 }
 
 // Writes the type of a key, the fingerprint of its plain key, and its comment.
@@ -113,17 +126,12 @@ fn status_word(reasons: Reasons) -> &'static str
 }
 
 // Writes the rest of the line of a key.
-fn put_line(
-    alloc: Global,
-    out: &mut LineWriter,
-    name: &str,
-    found: &Found<'_>,
-) -> Result<(), AllocError>
-    ensures { OnOk result (out.new ≡ out.old ++ fields_tokens (line_fields name.now
-        found.now.marker found.now.front.now)) }
+fn put_line(alloc: Global, out: &mut LineWriter, found: &Found<'_>) -> Result<(), AllocError>
+    ensures { OnOk result (out.new ≡ out.old ++ fields_tokens (line_fields found.now.marker
+        found.now.hosts found.now.front.now)) }
 {
     put_marker(out, found.marker)?;
-    put_front(alloc, out, has_hosts(name, found.marker), found.front)?;
+    put_front(alloc, out, found.hosts, found.front)?;
     Ok(())
 }
 

@@ -1,16 +1,19 @@
-//! The outcome of each line of a file of keys.
+//! The outcomes of each line of a file of keys.
 
-ghost use Rattle.std.specs.Prelude.{◌≡◌, IfOk};
+ghost use Rattle.std.specs.Prelude.{◌≡◌, IfOk, None, option_map};
 ghost use Rattle.ssh_cert.specs.SubjectReading.{subject_of};
 ghost use Rattle.key_text.specs.ContainerReading.{private_at};
-ghost use Rattle.krl_audit.specs.Outcome.{GivesOpened, GivesOutcome, SaysFault, asked_outcome};
-ghost use Rattle.krl_audit.specs.Outcome.{half_opened, opened_at, outcome_of};
+ghost use Rattle.krl_audit.specs.Outcome.{GivesOpened, GivesOutcome, GivesOutcomes, SaysFault};
+ghost use Rattle.krl_audit.specs.Outcome.{asked_outcome, bare_outcomes, by_either, half_opened};
+ghost use Rattle.krl_audit.specs.Outcome.{is_bare, is_same, is_same_part, merged, one};
+ghost use Rattle.krl_audit.specs.Outcome.{opened_at};
+ghost use Rattle.krl_audit.specs.Outcome.{Outcome as OutcomeOf, outcomes_of, part_outcome};
 
-use crate::front::front_of;
+use crate::front::{Fronts, front_before};
 use crate::why::Why;
 use key_text::{
-    LineFault, Marker, Private, PrivateFault, has_key, read_line, read_private, read_public_half,
-    split_marker,
+    LineFault, Marker, Private, PrivateFault, after_blanks, before_ending, has_key, host_part,
+    key_part, read_part, read_private, read_public_half, split_marker,
 };
 use ssh_cert::{SubjectFault, read_any};
 use ssh_wire::Bytes;
@@ -21,6 +24,8 @@ use std::alloc::{AllocError, Global};
 pub struct Found<'a> {
     /// The marker of the line.
     pub marker: Option<Marker>,
+    /// True if the text before the key is host names.
+    pub hosts: bool,
     /// The text before the key: host names, an options field, or nothing.
     pub front: &'a [u8],
     /// The key's bytes: a plain key or a certificate.
@@ -40,19 +45,149 @@ pub enum Outcome<'a> {
     Unread(Why),
 }
 
-/// The outcome of a line (sshd(8), AUTHORIZED_KEYS FILE FORMAT and SSH_KNOWN_HOSTS FILE FORMAT):
-/// an optional marker, an optional options field or host names, a type name, the key in base64 and
-/// a comment. Fails only if an allocation fails.
-#[tactic(auto, unfolding(crate::specs::Outcome::outcome_of))]
-pub fn read_outcome<'a>(alloc: Global, text: &'a [u8]) -> Result<Outcome<'a>, AllocError>
-    ensures { IfOk result (λ outcome. GivesOutcome outcome (outcome_of text.now)) }
+/// The outcomes of a line: two, if ssh and sshd read it in two ways and nobody knows which of them
+/// reads it.
+#[derive(Drop)]
+pub struct Outcomes<'a> {
+    /// The outcome.
+    pub first: Outcome<'a>,
+    /// The other outcome.
+    pub second: Option<Outcome<'a>>,
+}
+
+// One outcome.
+fn one(first: Outcome<'_>) -> Outcomes<'_>
+    ensures { (given : OutcomeOf) → GivesOutcome first.entry given
+        → GivesOutcomes result (one given) }
+{
+    Outcomes {
+        first,
+        second: None,
+    }
+}
+
+/// The outcomes of a line (sshd(8), AUTHORIZED_KEYS FILE FORMAT and SSH_KNOWN_HOSTS FILE FORMAT):
+/// an optional marker, an optional field of options or of host names, a type name, the key in
+/// base64 and a comment. A line with a marker is of known hosts. A line that may be of either has
+/// both outcomes, if they are not the same. Fails only if an allocation fails.
+#[tactic(auto, unfolding(crate::specs::Outcome::outcomes_of, key_text::specs::Blanks::trimmed))]
+pub fn read_outcomes<'a>(
+    alloc: Global,
+    fronts: Fronts,
+    text: &'a [u8],
+) -> Result<Outcomes<'a>, AllocError>
+    ensures { IfOk result (λ read. GivesOutcomes read (outcomes_of fronts text.now)) }
 {
     if !has_key(text) {
-        return Ok(Outcome::Empty);
+        return Ok(one(Outcome::Empty));
     }
     let (marker, rest) = split_marker(text);
-    match read_line(alloc, rest) {
-        Ok(line) => Ok(checked(marker, front_of(rest), line.blob, line.comment)),
+    read_bare(alloc, fronts, marker, before_ending(after_blanks(rest)))
+}
+
+// The outcomes of a line without its marker, the blanks around it and carriage returns at its end.
+fn read_bare<'a>(
+    alloc: Global,
+    fronts: Fronts,
+    marker: Option<Marker>,
+    line: &'a [u8],
+) -> Result<Outcomes<'a>, AllocError>
+    ensures { IfOk result (λ read. GivesOutcomes read (bare_outcomes marker fronts line.now)) }
+{
+    match (fronts, marker) {
+        (_, Some(_)) | (Fronts::Hosts, None) => {
+            Ok(one(read_by(alloc, marker, true, line, host_part(line))?))
+        }
+        (Fronts::Options, None) => Ok(one(read_by(alloc, None, false, line, key_part(line))?)),
+        (Fronts::Either, None) => read_either(alloc, line),
+    }
+}
+
+// The outcomes of a line that may be of authorized keys or of known hosts.
+#[tactic(auto, unfolding(crate::specs::Outcome::by_either))]
+fn read_either<'a>(alloc: Global, line: &'a [u8]) -> Result<Outcomes<'a>, AllocError>
+    ensures { IfOk result (λ read. GivesOutcomes read (by_either line.now)) }
+{
+    let part = key_part(line);
+    let other = host_part(line);
+    let first = read_by(alloc, None, false, line, part)?;
+    if is_same_part(part, other) {
+        return Ok(one(first));
+    }
+    let second = read_by(alloc, None, true, line, other)?;
+    Ok(merged(first, second))
+}
+
+// Returns true if two parts of a line are the same.
+fn is_same_part(part: Option<&[u8]>, other: Option<&[u8]>) -> bool
+    ensures { result ≡ is_same_part (option_map (λ text. text.now) part.entry)
+        (option_map (λ text. text.now) other.entry) }
+{
+    match (part, other) {
+        (None, None) => true,
+        (Some(part), Some(other)) => part == other,
+        (None, Some(_)) | (Some(_), None) => false,
+    }
+}
+
+// The outcomes of a line that one may read in these two ways.
+#[tactic(auto, unfolding(crate::specs::Outcome::merged))]
+fn merged<'a>(first: Outcome<'a>, second: Outcome<'a>) -> Outcomes<'a>
+    ensures { (one other : OutcomeOf) → GivesOutcome first.entry one
+        → GivesOutcome second.entry other → GivesOutcomes result (merged one other) }
+{
+    if is_bare(&first) {
+        return one(second);
+    }
+    if is_bare(&second) || is_same(&first, &second) {
+        return one(first);
+    }
+    Outcomes {
+        first,
+        second: Some(second),
+    }
+}
+
+// Returns true if no key type is in a line.
+fn is_bare(outcome: &Outcome<'_>) -> bool
+    ensures { (given : OutcomeOf) → GivesOutcome outcome.now given → result ≡ is_bare given }
+{
+    matches!(outcome, Outcome::Unread(Why::Line(LineFault::NoKey)))
+}
+
+// Returns true if both have the same key, or neither has one.
+fn is_same(first: &Outcome<'_>, second: &Outcome<'_>) -> bool
+    ensures { (one other : OutcomeOf) → GivesOutcome first.now one
+        → GivesOutcome second.now other → result ≡ is_same one other }
+{
+    match (first, second) {
+        (Outcome::Key(found), Outcome::Key(other)) => found.blob.as_slice()
+            == other.blob.as_slice(),
+        (Outcome::Unread(_), Outcome::Unread(_)) => true,
+        _ => false,
+    }
+}
+
+// The outcome of a line by its part from the type name on, if it has one.
+#[tactic(auto, unfolding(crate::specs::Outcome::part_outcome))]
+fn read_by<'a>(
+    alloc: Global,
+    marker: Option<Marker>,
+    hosts: bool,
+    line: &'a [u8],
+    part: Option<&'a [u8]>,
+) -> Result<Outcome<'a>, AllocError>
+    ensures { IfOk result (λ read. GivesOutcome read (part_outcome marker hosts line.now
+        (option_map (λ text. text.now) part.entry))) }
+{
+    let Some(part) = part else {
+        return Ok(Outcome::Unread(Why::Line(LineFault::NoKey)));
+    };
+    match read_part(alloc, part) {
+        Ok(read) => {
+            let front = front_before(line, part);
+            Ok(checked(marker, hosts, front, read.blob, read.comment))
+        }
         Err(LineFault::NoMemory) => Err(AllocError),
         Err(fault) => Ok(Outcome::Unread(Why::Line(fault))),
     }
@@ -61,16 +196,18 @@ pub fn read_outcome<'a>(alloc: Global, text: &'a [u8]) -> Result<Outcome<'a>, Al
 /// A key with these bytes, if they are those of a plain key or of a certificate.
 pub(crate) fn checked<'a>(
     marker: Option<Marker>,
+    hosts: bool,
     front: &'a [u8],
     blob: Bytes,
     comment: &'a [u8],
 ) -> Outcome<'a>
     ensures { GivesOutcome result
-        (asked_outcome marker front.now blob comment.now (subject_of blob)) }
+        (asked_outcome marker hosts front.now blob comment.now (subject_of blob)) }
 {
     match fault_of(blob.as_slice()) {
         None => Outcome::Key(Found {
             marker,
+            hosts,
             front,
             blob,
             comment,

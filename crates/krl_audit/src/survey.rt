@@ -1,30 +1,36 @@
 //! The test whether a file has a key.
 
-ghost use Rattle.std.specs.Prelude.{◌≡◌, ◌∷◌, ◌+◌, ◌<◌, ◌≤◌, ◌^◌, IfOk, IfSome, List, map};
+ghost use Rattle.std.specs.Prelude.{◌≡◌, ◌∷◌, ◌+◌, ◌<◌, ◌≤◌, ◌^◌, IfOk, IfSome, List, Option};
+ghost use Rattle.std.specs.Prelude.{ℕ};
 ghost use Rattle.std.specs.List.{slice_split};
 ghost use Rattle.key_text.specs.Lines.{is_newline};
 ghost use Rattle.krl_audit.specs.Audit.{keyless, many, more_unread, unread_alone, unread_with};
-ghost use Rattle.krl_audit.specs.Outcome.{GivesOutcome, Outcome as OutcomeOf, outcome_of};
+ghost use Rattle.krl_audit.specs.Audit.{with_first, with_second};
+ghost use Rattle.krl_audit.specs.Outcome.{GivesOutcome, GivesOutcomes, GivesSecond};
+ghost use Rattle.krl_audit.specs.Outcome.{Outcome as OutcomeOf, Outcomes as OutcomesOf};
+ghost use Rattle.krl_audit.specs.Outcome.{outcomes_of, read_all};
 
-use crate::outcome::{Outcome, read_outcome};
+use crate::front::Fronts;
+use crate::outcome::{Outcome, Outcomes, read_outcomes};
 use key_text::split_line;
 use std::alloc::{AllocError, Global};
 
 /// The number of lines of a text that are not read, if none has a key and more than one is not
-/// read. `first` is the outcome of its first line.
+/// read. `first` is the outcomes of its first line.
 #[tactic(auto, unfolding(crate::specs::Audit::keyless))]
 pub(crate) fn keyless(
     alloc: Global,
-    first: &Outcome<'_>,
+    fronts: Fronts,
+    first: &Outcomes<'_>,
     text: &[u8],
 ) -> Result<Option<u64>, AllocError>
-    ensures { (given : OutcomeOf) (lines : List OutcomeOf) → GivesOutcome first.now given
-        → map outcome_of (slice_split is_newline text.now) ≡ given ∷ lines
+    ensures { (given : OutcomesOf) (lines : List OutcomesOf) → GivesOutcomes first.now given
+        → read_all fronts (slice_split is_newline text.now) ≡ given ∷ lines
         → IfOk result (λ count. count ≡ keyless (given ∷ lines)) }
 {
-    match first {
+    match first.first {
         Outcome::Key(_) => Ok(None),
-        Outcome::Empty | Outcome::Unread(_) => Ok(many(unread_alone(alloc, text)?)),
+        Outcome::Empty | Outcome::Unread(_) => Ok(many(unread_alone(alloc, fronts, text)?)),
     }
 }
 
@@ -39,15 +45,15 @@ fn many(count: Option<u64>) -> Option<u64>
 }
 
 // The number of lines of a text that are not read, if none has a key. Stops at the first key.
-fn unread_alone(alloc: Global, text: &[u8]) -> Result<Option<u64>, AllocError>
+fn unread_alone(alloc: Global, fronts: Fronts, text: &[u8]) -> Result<Option<u64>, AllocError>
     ensures { IfOk result (λ count. count
-        ≡ unread_alone (map outcome_of (slice_split is_newline text.now))) }
+        ≡ unread_alone (read_all fronts (slice_split is_newline text.now))) }
 {
     let mut rest = text;
     let mut count: u64 = 0;
     loop {
         let (line, after) = split_line(rest);
-        let Some(more) = count_line(alloc, line, count)? else {
+        let Some(more) = count_line(alloc, fronts, line, count)? else {
             return Ok(None);
         };
         count = more;
@@ -59,14 +65,23 @@ fn unread_alone(alloc: Global, text: &[u8]) -> Result<Option<u64>, AllocError>
 }
 
 // The count with one more line, if the line has no key.
-fn count_line(alloc: Global, line: &[u8], count: u64) -> Result<Option<u64>, AllocError>
+fn count_line(
+    alloc: Global,
+    fronts: Fronts,
+    line: &[u8],
+    count: u64,
+) -> Result<Option<u64>, AllocError>
     requires { count + 1 < 2 ^ 64 }
-    ensures counts { IfOk result (λ more. (lines : List OutcomeOf)
-        → more_unread count (unread_alone (outcome_of line.now ∷ lines))
+    ensures counts { IfOk result (λ more. (lines : List OutcomesOf)
+        → more_unread count (unread_alone (outcomes_of fronts line.now ∷ lines))
         ≡ unread_with more lines) }
     ensures within { IfOk result (λ more. IfSome more (λ more. more ≤ count + 1)) }
 {
-    match read_outcome(alloc, line)? {
+    let read = read_outcomes(alloc, fronts, line)?;
+    if let Some(Outcome::Key(_)) = read.second {
+        return Ok(None);
+    }
+    match read.first {
         Outcome::Empty => Ok(Some(count)),
         Outcome::Key(_) => Ok(None),
         Outcome::Unread(_) => Ok(Some(count + 1)),

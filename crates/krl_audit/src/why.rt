@@ -1,7 +1,7 @@
 //! Why a line or a file is not read.
 
 ghost use Rattle.std.specs.Prelude.{◌≡◌};
-ghost use Rattle.krl_audit.specs.Why.{line_why, refusal_why, why_text};
+ghost use Rattle.krl_audit.specs.Why.{line_why, more_words, refusal_why, why_text};
 
 use key_text::{LineFault, PrivateFault};
 use line_pieces::{Printed, Words, put};
@@ -40,6 +40,8 @@ pub enum Why {
     File(Refusal),
     /// A file has no key, and this number of lines that are not keys.
     NoKeys(u64),
+    /// This number of lines of a file is not read, beyond those that are reported one by one.
+    More(u64),
 }
 
 /// Why a line or a file is not read, in words for people.
@@ -65,7 +67,19 @@ impl Printed for Told {
             }
             Why::File(refusal) => put!(out; Words(refusal_why(refusal))),
             Why::NoKeys(lines) => put!(out; b"none of its ", lines, b" lines is a key"),
+            Why::More(lines) => put!(out; b"and ", lines, Words(more_words(lines == 1))),
         }
+    }
+}
+
+// The words behind the number of lines that are not reported one by one.
+fn more_words(one: bool) -> &'static [u8]
+    ensures { result.now ≡ more_words one }
+{
+    if one {
+        b" more line is unread"
+    } else {
+        b" more lines are unread"
     }
 }
 

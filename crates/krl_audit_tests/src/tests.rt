@@ -6,3 +6,4 @@ mod lines;
 mod made;
 mod objects;
 mod page;
+mod readings;

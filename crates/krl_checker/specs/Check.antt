@@ -91,7 +91,7 @@ lines_counted name (Ok text) counts = with_unread (keyless_lines name text) coun
 -- the counts of a file
 abbrev pub counts_of : (Subject → Reasons) → List ℕ → Result (List ℕ) Refusal → Counts
 counts_of reasons name content =
-    lines_counted name content (all_counted none_counted (file_kinds reasons content))
+    lines_counted name content (all_counted none_counted (file_kinds reasons name content))
 
 -- the keys that do not meet the condition, and then the file
 abbrev pub keys_items : Role → (Subject → Reasons) → List ℕ → Result (List ℕ) Refusal → List Item

@@ -74,6 +74,70 @@ cut:1: unread: the private key file is cut or misspelt: private 1 Armour\n",
     assert_eq!(rt; found.text.as_slice(), wanted.as_slice());
 }
 
+// Key lines behind a private key, and in the place of it.
+#[test]
+fn lines_behind_a_private_key_are_read(rt: HostRuntime) {
+    let list = alice_and_bob(&rt, rt.alloc());
+    let behind = joined(
+        rt.alloc(),
+        &[CONTAINER, b"\n", ALICE.as_bytes(), b" a\n\nx\n"],
+    );
+    let behind = behind.expect(&rt, "there is memory");
+    let lines = CONTAINER.iter().filter(|byte| **byte == b'\n').count();
+    let found = said_of(
+        &rt,
+        rt.alloc(),
+        &list,
+        FINDINGS,
+        &[("id", Ok(behind.as_slice()))],
+    );
+    let revoked = lines + 2;
+    let unread = lines + 4;
+    let wanted = format!(in rt.alloc();
+        "id:{revoked}: revoked: ssh-ed25519 {ALICE_PRINT} by its key: a
+id:{unread}: unread: no key type stands there\n"
+    );
+    let wanted = wanted.expect(&rt, "there is memory");
+    assert_eq!(rt; found.text.as_slice(), wanted.as_bytes());
+    assert!(rt; found.counts.keys == 2 && found.counts.unread == 1);
+    let name = "home/.ssh/authorized_keys";
+    let found = said_of(
+        &rt,
+        rt.alloc(),
+        &list,
+        FINDINGS,
+        &[(name, Ok(behind.as_slice()))],
+    );
+    let armour = lines as u64;
+    assert!(rt; found.counts.keys == 2 && found.counts.unread == armour + 1);
+}
+
+// The first 20 lines that are not read are named, and then how many more there are.
+#[test]
+fn lines_that_are_not_read_are_counted(rt: HostRuntime) {
+    let list = nothing(rt.alloc());
+    for (count, last) in [
+        (20, "f:21: unread: no key type stands there\n"),
+        (21, "f: unread: and 1 more line is unread\n"),
+        (1_020, "f: unread: and 1000 more lines are unread\n"),
+    ] {
+        let rest = repeated(rt.alloc(), b"x\n", count).expect(&rt, "there is memory");
+        let text = joined(rt.alloc(), &[ALICE.as_bytes(), b"\n", &rest]);
+        let text = text.expect(&rt, "there is memory");
+        let found = said_of(
+            &rt,
+            rt.alloc(),
+            &list,
+            FINDINGS,
+            &[("f", Ok(text.as_slice()))],
+        );
+        assert!(rt; found.text.ends_with(last.as_bytes()));
+        assert!(rt; found.counts.unread == count as u64 && found.counts.keys == 1);
+        let lines = found.text.iter().filter(|byte| **byte == b'\n').count();
+        assert!(rt; lines == if count > 20 { 21 } else { count });
+    }
+}
+
 // More lines than any page of memory has.
 #[test]
 fn many_lines(rt: HostRuntime) {
@@ -89,8 +153,8 @@ fn many_lines(rt: HostRuntime) {
     );
     assert!(rt; found.counts.keys == 1_500 && found.counts.unread == 1_500);
     assert!(rt;
-        found
-            .text
-            .ends_with(b"f:3000: unread: no key type stands there\n")
+        found.text.ends_with(
+            b"f:40: unread: no key type stands there\nf: unread: and 1480 more lines are unread\n"
+        )
     );
 }

@@ -46,7 +46,7 @@ fn the_objects_of_a_file(rt: HostRuntime) {
 }
 
 // The name of a file, what is before Alice's key and after it, and the fields of that.
-const LINES: [(&str, &[u8], &[u8], &[u8]); 13] = [
+const LINES: [(&str, &[u8], &[u8], &[u8]); 15] = [
     ("f", b"", b"", b"\"comment\":\"\""),
     ("f", b"", b" a\"b\\c", b"\"comment\":\"a\\\"b\\\\c\""),
     ("f", b"", b" a\rb\tc\r", b"\"comment\":\"a\\rb\\tc\""),
@@ -90,6 +90,18 @@ const LINES: [(&str, &[u8], &[u8], &[u8]); 13] = [
         b"\"comment\":\"\",\"hosts\":\"|1|c2FsdA==|aGFzaA==\"",
     ),
     ("known_hosts2", b"", b"", b"\"comment\":\"\""),
+    (
+        "etc/ssh_known_hosts2",
+        b"host ",
+        b" a",
+        b"\"comment\":\"a\",\"hosts\":\"host\"",
+    ),
+    (
+        "authorized_keys",
+        b"command=\"a\"\r ",
+        b" a",
+        b"\"comment\":\"a\",\"options\":\"command=\\\"a\\\"\\r\"",
+    ),
 ];
 
 #[test]

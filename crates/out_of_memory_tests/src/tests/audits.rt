@@ -5,7 +5,9 @@ use crate::tests::buffer::Buffer;
 use byte_streams::{Sink, ToWrite};
 use key_files::{Cause, RunFault};
 use key_listing::{Printer, Run};
-use krl_audit::{Auditor, Counts, Form, Judge, ListFacts, Outcome, Shown, Stated, read_outcome};
+use krl_audit::{
+    Auditor, Counts, Form, Fronts, Judge, ListFacts, Outcome, Shown, Stated, read_outcomes,
+};
 use krl_core::Revocations;
 use span_sets::Held;
 use std::alloc::{AllocError, Global};
@@ -155,8 +157,8 @@ fn files_are_audited(rt: HostRuntime) {
 
 #[test]
 fn a_line_has_an_outcome(rt: HostRuntime) {
-    let read = read_outcome(rt.alloc(), GITHUB_LINE);
-    if let Some(outcome) = answered(&rt, read, AllocError) {
-        assert!(rt; matches!(outcome, Outcome::Key(_)));
+    let read = read_outcomes(rt.alloc(), Fronts::Either, GITHUB_LINE);
+    if let Some(read) = answered(&rt, read, AllocError) {
+        assert!(rt; matches!(read.first, Outcome::Key(_)) && read.second.is_none());
     }
 }

@@ -1,15 +1,17 @@
 -- A private key file is none of these files, and any other is surveyed.
-use Rattle.std.proofs.Common.{ℕ, Option, map, sym, ap, subst, ◌≡◌, ◌∙◌}
+use Rattle.std.proofs.Common.{ℕ, Option, sym, ap, ◌≡◌, ◌∙◌}
 use Rattle.std.proofs.lemmas.Result.{IfOk-weaker}
 use Rattle.key_text.specs.Lines.{lines_left}
-use Rattle.krl_audit.specs.Outcome.{outcome_of}
+use Rattle.krl_audit.specs.Front.{fronts_of}
+use Rattle.krl_audit.specs.Outcome.{outcomes_of, read_all}
 use Rattle.krl_audit.proofs.KeylessFiles.{plain_is, private_is_not}
 use Rattle.krl_audit.proofs.keyless.keyless_lines.Goals as goal
 
 pub returns-then-is_container : goal.returns-then-is_container
-returns-then-is_container c = private_is_not c.args._name.now c.args.text.now (sym c.is_container.ensures ∙ c.if-is_container.true)
+returns-then-is_container c = private_is_not c.args.name.now c.args.text.now (sym c.is_container.ensures ∙ c.if-is_container.true)
 
 pub returns : goal.returns
 returns c =
-    let is = plain_is c.args._name.now c.args.text.now c.without_mark-text.result.now _ _ (sym c.is_container.ensures ∙ c.if-is_container.false) c.without_mark-text.ensures c.split_line.ensures.lines in
-    IfOk-weaker c.keyless.result _ _ (λ count e. e ∙ is) (c.keyless.ensures (outcome_of c.split_line.result.0.now) (map outcome_of (lines_left c.split_line.result.1)) c.in_ok-first.ensures (ap (map outcome_of) c.split_line.ensures.lines))
+    let kind = c.of-fronts.result in
+    let is = plain_is c.args.name.now c.args.text.now c.without_mark-text.result.now _ kind _ (sym c.is_container.ensures ∙ c.if-is_container.false) (c.of-fronts.ensures ∙ ap fronts_of c.as_bytes.ensures.value) c.without_mark-text.ensures c.split_line.ensures.lines in
+    IfOk-weaker c.keyless.result _ _ (λ count e. e ∙ is) (c.keyless.ensures (outcomes_of kind c.split_line.result.0.now) (read_all kind (lines_left c.split_line.result.1)) c.in_ok-first.ensures (ap (read_all kind) c.split_line.ensures.lines))

@@ -16,8 +16,8 @@ returns-clause-key c = λ name number found all small.
     let fit = key_object_fits name number found all small in c.lines_are_read_back.ensures (key_object name number found all) fit.0 (shallow (key_object name number found all) fit)
 
 pub returns-clause-unread : goal.returns-clause-unread
-returns-clause-unread c = λ name number why small.
-    let fit = unread_object_fits name number why small in c.lines_are_read_back.ensures (unread_object name number why) fit.0 (shallow (unread_object name number why) fit)
+returns-clause-unread c = λ name number why small few.
+    let fit = unread_object_fits name number why small few in c.lines_are_read_back.ensures (unread_object name number why) fit.0 (shallow (unread_object name number why) fit)
 
 pub returns-clause-done : goal.returns-clause-done
 returns-clause-done c = λ files counts list few keys revoked unread.

@@ -3,6 +3,4 @@ use Rattle.json_lines.proofs.Objects.{two_fields}
 use Rattle.krl_audit.proofs.objects.put_line.Goals as goal
 
 pub returns : goal.returns
-returns c =
-    let front = rw c.has_hosts.ensures at c.in_ok-put_front.ensures in
-    two_fields c.args.out.now _ _ _ _ c.in_ok-put_marker.ensures front
+returns c = two_fields c.args.out.now _ _ _ _ c.in_ok-put_marker.ensures c.in_ok-put_front.ensures

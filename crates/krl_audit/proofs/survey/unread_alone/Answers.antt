@@ -12,6 +12,6 @@ loop-more-preserved c =
     let counts = rw c.in-Some.is at c.in_ok-more.ensures.counts in
     let one = rw c.in-Some.is at c.in_ok-more.ensures.within in
     record {
-      counted = counted_on _ c.loop-more.count c.in-Some.more c.loop-more.rest.now c.split_line.result.0.now (slice_split is_newline c.in-Some-after.after.now) c.loop-more.invariant.counted split counts;
+      counted = counted_on c.args.fronts _ c.loop-more.count c.in-Some.more c.loop-more.rest.now c.split_line.result.0.now (slice_split is_newline c.in-Some-after.after.now) c.loop-more.invariant.counted split counts;
       within = let so_far = c.loop-more.invariant.within in omega arith;
     }

@@ -1,33 +1,17 @@
--- One more line is printed, or the audit is stopped at it.
-use Rattle.std.proofs.Common.{◌≡◌, ◌+◌, [], rules, ◌∙◌, arith}
-use Rattle.std.specs.List.{slice_split}
-use Rattle.std.proofs.lemmas.Result.{err_from_is_err_and}
-use Rattle.key_text.specs.Lines.{is_newline, lines_left}
-use Rattle.krl_audit.proofs.Telling.{told_cut, told_next, told_none}
+-- A file is refused, begins with a private key, or is read line by line.
+use Rattle.std.proofs.Common.{sym, ap, ◌∙◌}
+use Rattle.key_text.specs.Armour.{begins_container}
+use Rattle.krl_audit.proofs.Files.{text_in, told_refused, told_text}
 use Rattle.krl_audit.proofs.auditor.Auditor.audit_lines.Goals as goal
 
-pub returns-in_err-say_line-clause-told : goal.returns-in_err-say_line-clause-told
-returns-in_err-say_line-clause-told g c =
-    let p = err_from_is_err_and c.from_residual.result c.from_residual.ensures.1 in
-    let told = rw c.loop-after.invariant.judge at c.in_err-say_line.ensures.told in
-    rw (p.1, p.2) (λ reasons judges. c.loop-after.invariant.told reasons judges _ _ _ (told_cut reasons _ c.args.name.now (c.loop-after.passed + 1) c.loop-after.rest.now c.split_line.result.0.now _ _ _ _ _ _ _ c.split_line.ensures.lines (told reasons judges)))
+pub returns-in-Err-clause-told : goal.returns-in-Err-clause-told
+returns-in-Err-clause-told g c = rw c.in-Err.is (λ reasons judges. told_refused reasons _ c.args.name.now c.in-Err.refusal _ _ _ _ _ (c.say_whole.ensures.told reasons judges))
 
-pub returns-in_default-clause-told : goal.returns-in_default-clause-told
-returns-in_default-clause-told g c =
-    let told = rw c.loop-after.invariant.judge at c.in_ok-say_line.ensures.told in
-    let last : lines_left c.split_line.result.1 ≡ [] = search rules in
-    let split = rw last at c.split_line.ensures.lines in
-    λ reasons judges. c.loop-after.invariant.told reasons judges _ _ _ (told_next reasons _ c.args.name.now (c.loop-after.passed + 1) c.loop-after.rest.now c.split_line.result.0.now [] _ _ _ _ _ _ _ _ split (told reasons judges) (told_none reasons _ c.args.name.now _ _ _))
+pub returns-in-Ok-clause-told : goal.returns-in-Ok-clause-told
+returns-in-Ok-clause-told g c = rw c.in-Ok.is (λ reasons judges. told_text reasons _ c.args.name.now c.in-Ok.text.now _ _ _ _ _ _ (sym c.is_container.ensures ∙ c.if-is_container.true) (c.audit_private.ensures.told reasons judges))
 
-pub loop-after-preserved : goal.loop-after-preserved
-loop-after-preserved g c =
-    let told = rw c.loop-after.invariant.judge at c.in_ok-say_line.ensures.told in
-    let split = rw c.in-Some.is at c.split_line.ensures.lines in
-    let shorter = rw c.in-Some.is at c.split_line.ensures.shorter in
-    record {
-      told = λ reasons judges result new after later.
-          c.loop-after.invariant.told reasons judges result new after
-          (told_next reasons _ c.args.name.now (c.loop-after.passed + 1) c.loop-after.rest.now c.split_line.result.0.now (slice_split is_newline c.in-Some.after.now) _ result _ _ new _ _ after split (told reasons judges) later);
-      judge = c.in_ok-say_line.ensures.judge ∙ c.loop-after.invariant.judge;
-      within = let so_far = c.loop-after.invariant.within in omega arith;
-    }
+pub returns-in-Ok-2-clause-told : goal.returns-in-Ok-2-clause-told
+returns-in-Ok-2-clause-told g c =
+    let same = ap text_in (sym c.in-Ok-2.is ∙ c.in-Ok.is) in
+    let plain = ap begins_container same ∙ (sym c.is_container.ensures ∙ c.if-is_container.false) in
+    rw c.in-Ok-2.is (λ reasons judges. told_text reasons _ c.args.name.now c.in-Ok-2.text.now _ _ _ _ _ _ plain (c.audit_plain.ensures.told reasons judges))

@@ -1,16 +1,31 @@
--- The outcome is that of the public key, or why the file is not read.
-use Rattle.std.proofs.Common.{rules, ap}
-use Rattle.krl_audit.specs.Outcome.{opened_at, private_outcome}
-use Rattle.krl_audit.proofs.Private.{private_gives}
+-- The key is printed, and then the lines beside it, or the audit is stopped.
+use Rattle.std.proofs.Common.{true, false, sym, ap, ◌∙◌}
+use Rattle.std.proofs.lemmas.Result.{err_from_is_err_and}
+use Rattle.krl_audit.specs.Front.{fronts_of, is_read_by_lines}
+use Rattle.krl_audit.proofs.Files.{told_as, told_beside, told_private_stop}
+use Rattle.krl_audit.proofs.Telling.{told_none}
 use Rattle.krl_audit.proofs.auditor.Auditor.audit_private.Goals as goal
 
-pub returns-in-Ok-Ok-clause-told : goal.returns-in-Ok-Ok-clause-told
-returns-in-Ok-Ok-clause-told g c =
-    let opened = rw c.in-Ok-Ok.field-0-is at c.in-Ok-Ok.ensures in
-    λ reasons judges. c.say.ensures.told (private_outcome (opened_at c.args.text.now))
-    (private_gives c.checked-outcome.result c.args.text.now c.in-Ok-Ok.field-0-0.blob c.as_slice.result.now _ opened (search rules) (search rules) c.checked-outcome.ensures) reasons judges
+pub returns-in_err-unread-clause-told : goal.returns-in_err-unread-clause-told
+returns-in_err-unread-clause-told g c =
+    let p = err_from_is_err_and c.from_residual.result c.from_residual.ensures.1 in
+    rw (p.1, p.2) (λ reasons judges. told_private_stop reasons _ c.args.name.now c.args.text.now _ _ _ _ _ _ (c.in_err-unread.ensures.told reasons judges))
 
-pub returns-in-Ok-Err-clause-told : goal.returns-in-Ok-Err-clause-told
-returns-in-Ok-Err-clause-told g c =
-    let refused = rw c.in-Ok-Err.field-0-is at c.in-Ok-Err.ensures in
-    λ reasons judges. c.say-in-Ok-Err.ensures.told (private_outcome (opened_at c.args.text.now)) (ap private_outcome refused) reasons judges
+pub returns-then-is_read_by_lines-clause-told : goal.returns-then-is_read_by_lines-clause-told
+returns-then-is_read_by_lines-clause-told g c = λ reasons judges.
+    let later = rw c.in_ok-unread.ensures.judge at c.audit_rest.ensures.told in
+    told_beside reasons _ c.args.name.now c.args.text.now c.of-fronts.result true _ _ _ _ _ _ _ _ (c.of-fronts.ensures ∙ ap fronts_of c.as_bytes.ensures.value)
+    (sym (c.is_read_by_lines.ensures ∙ ap is_read_by_lines c.as_bytes-2.ensures.value) ∙ c.if-is_read_by_lines.true) (c.in_ok-unread.ensures.told reasons judges) (later reasons judges)
+
+pub returns-in-None-clause-told : goal.returns-in-None-clause-told
+returns-in-None-clause-told g c = λ reasons judges.
+    told_beside reasons _ c.args.name.now c.args.text.now c.of-fronts.result false _ _ _ _ _ _ _ _ (c.of-fronts.ensures ∙ ap fronts_of c.as_bytes.ensures.value)
+    (sym (c.is_read_by_lines.ensures ∙ ap is_read_by_lines c.as_bytes-2.ensures.value) ∙ c.if-is_read_by_lines.false) (c.in_ok-unread.ensures.told reasons judges)
+    (told_as reasons _ c.args.name.now _ _ _ _ _ _ _ _ (c.in-None.ensures.leads c.of-fronts.result) (told_none reasons _ c.args.name.now _ _ _))
+
+pub returns-in-Some-clause-told : goal.returns-in-Some-clause-told
+returns-in-Some-clause-told g c = λ reasons judges.
+    let later = rw c.in_ok-unread.ensures.judge at c.audit_rest-in-Some.ensures.told in
+    told_beside reasons _ c.args.name.now c.args.text.now c.of-fronts.result false _ _ _ _ _ _ _ _ (c.of-fronts.ensures ∙ ap fronts_of c.as_bytes.ensures.value)
+    (sym (c.is_read_by_lines.ensures ∙ ap is_read_by_lines c.as_bytes-2.ensures.value) ∙ c.if-is_read_by_lines.false) (c.in_ok-unread.ensures.told reasons judges)
+    (told_as reasons _ c.args.name.now _ _ _ _ _ _ _ _ (c.in-Some.ensures.leads c.of-fronts.result) (later reasons judges))

@@ -1,6 +1,6 @@
--- The outcome is that of the line.
-use Rattle.krl_audit.specs.Outcome.{outcome_of}
+-- The outcomes are those of the line, or an allocation failed.
+use Rattle.krl_audit.specs.Outcome.{outcomes_of}
 use Rattle.krl_audit.proofs.auditor.Auditor.say_line.Goals as goal
 
 pub returns-in-Ok-clause-told : goal.returns-in-Ok-clause-told
-returns-in-Ok-clause-told g c = λ reasons judges. c.say.ensures.told (outcome_of c.args.line.now) c.in-Ok.ensures reasons judges
+returns-in-Ok-clause-told g c = λ reasons judges. c.say_all.ensures.told (outcomes_of c.args.fronts c.args.line.now) c.in-Ok.ensures reasons judges

@@ -1,0 +1,24 @@
+-- The findings of the lines that are left are the end of the findings of all lines.
+use Rattle.std.proofs.Common.{◌≡◌, ℕ, ◌+◌, ◌≤◌, length, Result}
+use Rattle.std.specs.List.{slice_split}
+use Rattle.key_text.specs.Lines.{is_newline}
+use Rattle.key_files.specs.RunFault.{RunFault}
+use Rattle.key_listing.specs.Printer.{Printer}
+use Rattle.krl_types.specs.Subject.{Subject}
+use Rattle.krl_entries.specs.declared.reasons.Reasons.{Reasons}
+use Rattle.krl_audit.specs.Audit.{JudgesAs, Told}
+use Rattle.krl_audit.specs.Outcome.{placed_from, read_all}
+use Rattle.krl_audit.specs.declared.counts.Counts.{Counts}
+use Rattle.krl_audit.proofs.auditor.Auditor.audit_rest.Given as goal
+
+abbrev pub invariant-loop-unread : goal.invariant-loop-unread
+invariant-loop-unread g l = record {
+  told : (reasons : Subject → Reasons) → JudgesAs l.initial.self.judge reasons → (result : Result ℕ RunFault) (new : Printer) (after : Counts)
+      → Told reasons l.initial.self.judge.shown l.name l.unread (placed_from (l.number + 1) (read_all l.fronts (slice_split is_newline l.rest))) result l.self.run.printer new l.self.counts after
+      → Told reasons l.initial.self.judge.shown l.name l.initial.unread (placed_from (l.initial.number + 1) (read_all l.fronts (slice_split is_newline l.fn.text))) result l.initial.self.run.printer new l.initial.self.counts after;
+  judge : l.self.judge ≡ l.initial.self.judge;
+  within : l.number + length l.rest ≤ l.initial.number + length l.fn.text;
+}
+
+abbrev pub decreases-loop-unread : goal.decreases-loop-unread
+decreases-loop-unread g l = length l.rest
