@@ -86,9 +86,9 @@ version() {
 version 0000000000000007 >7.krl
 version 0000000000000008 >8.krl
 version ffffffffffffffff >last.krl
-checks 'a version above' 0 '' --newer-than 7.krl 8.krl
-checks 'the same version' 0 '' --newer-than 8.krl 8.krl
-checks 'a version below' 1 'version: 7.krl: 7 is below 8' --newer-than 8.krl 7.krl
+checks 'a version above' 0 '' --allow-empty --newer-than 7.krl 8.krl
+checks 'the same version' 0 '' --allow-empty --newer-than 8.krl 8.krl
+checks 'a version below' 1 'version: 7.krl: 7 is below 8' --allow-empty --newer-than 8.krl 7.krl
 checks 'the lowest below the highest' 1 'version: r.krl: 1 is below 18446744073709551615' \
   --newer-than last.krl r.krl
 checks 'the version alone' 0 18446744073709551615 --print-version last.krl
@@ -213,7 +213,7 @@ beside() {
   shift 2
   [ -z "$why" ] || status=1
   bytes "$H" "$@" >made.krl
-  checks "a list with $name" $status "${why:+openssh: made.krl: $why}" made.krl
+  checks "a list with $name" $status "${why:+openssh: made.krl: $why}" --allow-empty made.krl
   "$openssh" -Q -l -f made.krl >"$scratch/said" 2>&1
   refused=$?
   judge "OpenSSH on a list with $name" "$(differs 'its status' $((status * 255)) $refused)"
@@ -299,7 +299,7 @@ reads_others() {
   local name=$1 why=$2
   shift 2
   bytes "$H" "$@" >made.krl
-  checks "a list with $name" 1 "openssh: made.krl: $why" made.krl
+  checks "a list with $name" 1 "openssh: made.krl: $why" --allow-empty made.krl
   "$openssh" -Q -l -f made.krl >"$scratch/said" 2>&1
   judge "OpenSSH on a list with $name" "$(differs 'its status' 0 $?)"
 }
@@ -316,10 +316,11 @@ reads_others 'a zero byte after an application' "$other" \
 # Comments.
 for it in '' 61 6100 00; do
   bytes "${H:0:80}" "$(string "$it")" >made.krl
-  checks "a comment of the bytes ${it:-none}" 0 '' made.krl
+  checks "a comment of the bytes ${it:-none}" 0 '' --allow-empty made.krl
 done
 bytes "${H:0:80}" "$(string 610062)" >made.krl
-checks 'a zero byte within a comment' 1 'openssh: made.krl: its comment has a zero byte' made.krl
+checks 'a zero byte within a comment' 1 'openssh: made.krl: its comment has a zero byte' \
+  --allow-empty made.krl
 
 # A list of each sort of section, whose last one has the canary. It never passes if it is truncated.
 printf 'serial: 5-100\nserial: 7000\nid: bob\nkey: %s\n' "$(cat g.pub)" >spec
