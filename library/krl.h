@@ -60,8 +60,9 @@ extern "C" {
 #define KRL_LIST_CRITICAL_EXTENSION (-115)
 
 /* The list has no fault, but the authority of one of its sections is neither empty, for all
- * authorities, nor a key in its one spelling. OpenSSH may take it for a key, and so revoke
- * certificates that a comparison of bytes does not find. So let nobody in. */
+ * authorities, nor a key in its one spelling that OpenSSH accepts. OpenSSH may take it for a key, and
+ * so revoke certificates that a comparison of bytes does not find, or refuse the list. So let nobody
+ * in. */
 #define KRL_LIST_AUTHORITY (-116)
 
 /* A line of a plain list is neither empty nor a comment nor a key. sshd refuses every key while

@@ -27,6 +27,9 @@ taken_is text rest text' rest' read e f =
 pub not_both : {X E : Type 0} (read : Result X E) (fault : E) (x : X) → read ≡ Err fault → read ≡ Ok x → ⊥
 not_both read fault x e f = absurd cc
 
+pub one_read : {X E : Type 0} (read : Result X E) (x y : X) → read ≡ Ok x → read ≡ Ok y → x ≡ y
+one_read read x y e f = grind arith
+
 -- ---- the header
 
 -- the fields of the header from one on, and then the sections

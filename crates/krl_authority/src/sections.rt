@@ -7,16 +7,19 @@ ghost use Rattle.ssh_wire.specs.Wire.{string};
 ghost use Rattle.krl_format.specs.Field.{part_of};
 ghost use Rattle.krl_format.specs.Krl.{SpelledSection, Spells, SpellsSection};
 ghost use Rattle.krl_format.specs.declared.header.Header.{Header as HeaderOf};
+ghost use Rattle.openssh_keys.specs.Judgement.{judgement_of};
+ghost use Rattle.openssh_keys.specs.declared.judgement.Judgement.TheVariants.{Accepted};
 ghost use Rattle.krl_authority.specs.Authority.{AuthoritiesAreKeys, IsJudged, IsKeyOrAll};
 
 use krl_format::{Field, FieldPart};
+use openssh_keys::{Judgement, judge};
 use ssh_key::laws::read_where_spelled;
-use ssh_key::read_key;
+use ssh_key::{PublicKey, read_key};
 use ssh_wire::Cursor;
 
-/// Whether each certificate authority that a list names is a key in its one spelling, or empty,
-/// which means all authorities. The list must be one that can be read; for other bytes nothing is
-/// promised. Does not allocate.
+/// Whether each certificate authority that a list names is a key in its one spelling that OpenSSH
+/// accepts, or empty, which means all authorities. The list must be one that can be read; for other
+/// bytes nothing is promised. Does not allocate.
 pub fn authorities_are_keys(list: &[u8]) -> bool
     ensures { (header : HeaderOf) (sections : List SpelledSection)
         → Spells list.now header sections → IsTrue result ↔ AuthoritiesAreKeys sections }
@@ -33,7 +36,8 @@ pub fn authorities_are_keys(list: &[u8]) -> bool
     true
 }
 
-/// Whether an authority is a key in its one spelling, or empty. Does not allocate.
+/// Whether an authority is a key in its one spelling that OpenSSH accepts, or empty. Does not
+/// allocate.
 pub fn is_key_or_all(authority: &[u8]) -> bool
     ensures { IsTrue result ↔ IsKeyOrAll authority.now }
 {
@@ -42,9 +46,16 @@ pub fn is_key_or_all(authority: &[u8]) -> bool
         return true;
     }
     match read_key(authority) {
-        Ok(_) => true,
+        Ok(key) => is_accepted(&key),
         Err(_) => false,
     }
+}
+
+// Whether OpenSSH accepts a key.
+fn is_accepted(key: &PublicKey) -> bool
+    ensures { IsTrue result ↔ (judgement_of key.now ≡ Accepted) }
+{
+    matches!(judge(key), Judgement::Accepted)
 }
 
 // The bytes after the header, whose fields are skipped one after the other.
