@@ -179,7 +179,8 @@ done
 "$openssh" -q -t ed25519 -N '' -C me -f private && "$openssh" -q -t ed25519 -N secret \
   -C me -f locked
 mkdir -p home/.ssh home/B home/a home/linked
-for it in authorized_keys authorized_keys2 known_hosts known_hosts2 ssh_known_hosts x.pub; do
+for it in authorized_keys authorized_keys2 known_hosts known_hosts2 ssh_known_hosts \
+  ssh_known_hosts2 x.pub; do
   echo "$g" >"home/.ssh/$it"
 done
 for it in authorized_keys.old key id_key x.pub.txt; do echo "$g" >"home/.ssh/$it"; done
@@ -191,7 +192,7 @@ ln -s "$PWD/home/B" home/linked/B
 key_of() {
   echo "ok: ssh-ed25519 $("$openssh" -lf "$1.pub" | cut -d ' ' -f 2)"
 }
-audits 'a directory' 1 '11 files, 11 keys: 8 revoked in 8 files, 0 unread' \
+audits 'a directory' 1 '13 files, 12 keys: 9 revoked in 9 files, 1 unread, 5 skipped' \
   "home/.ssh/authorized_keys:1: $by_g
 home/.ssh/authorized_keys2:1: $by_g
 home/.ssh/id_plain:1: $(key_of private): me
@@ -199,20 +200,78 @@ home/.ssh/known_hosts:1: $by_g
 home/.ssh/known_hosts2:1: $by_g
 home/.ssh/ssh_host_locked:1: $(key_of locked)
 home/.ssh/ssh_known_hosts:1: $by_g
+home/.ssh/ssh_known_hosts2:1: $by_g
 home/.ssh/x.pub:1: $by_g
 home/B/known_hosts:1: $by_a
 home/a/link.pub:1: $by_g: \\x9b1m\\xff
-home/a/x.pub:1: $ok_b" -a home
+home/a/x.pub:1: $ok_b
+home/linked/B: unread: a link to a directory: name it" -a home
+# The links of a directory: to a directory, to a file, to nothing, and one that leads to itself.
+mkdir -p links/.ssh && cd links || exit 1
+ln -s ../home/B folder && ln -s ../marked file && ln -s gone dangling && ln -s loop loop
+ln -s gone id_dangling && ln -s ../home/B id_folder && ln -s ../private id_link
+ln -s gone .ssh/id_rsa
+cd ..
+audits 'links in a directory' 3 '6 files, 1 key: 0 revoked in 0 files, 5 unread, 2 skipped' \
+  'links/.ssh/id_rsa: unread: No such file or directory
+links/folder: unread: a link to a directory: name it
+links/id_dangling: unread: No such file or directory
+links/id_folder: unread: a link to a directory: name it
+links/loop: unread: Too many levels of symbolic links' links
+# Each file of a directory of authorized keys, and each regular file with --all.
+mkdir -p etc/authorized_keys.d/below && echo "$g" >etc/authorized_keys.d/bob
+echo "$a" >etc/authorized_keys.d/below/bob && echo "$b" >etc/authorized_keys.d/below/x.pub
+mkfifo etc/authorized_keys.d/pipe
+for it in etc/authorized_keys.d etc/authorized_keys.d/; do
+  audits "each file of $it" 1 '3 files, 2 keys: 1 revoked in 1 file, 1 unread, 1 skipped' \
+    "etc/authorized_keys.d/bob:1: $by_g
+etc/authorized_keys.d/pipe: unread: no regular file" $it
+done
+mkdir -p every/below && echo "$g" >every/key && echo "$a" >every/below/.hidden && mkfifo every/pipe
+audits 'each regular file with --all' 1 \
+  '2 files, 2 keys: 2 revoked in 2 files, 0 unread, 1 skipped' \
+  "every/below/.hidden:1: $by_a
+every/key:1: $by_g" --all every
+audits 'the same without it' 3 '1 file, 0 keys: 0 revoked in 0 files, 1 unread, 3 skipped' \
+  'every: unread: no file in this directory is read by its name' every
 audits 'a directory that a link names' 1 '1 file, 1 key: 1 revoked in 1 file, 0 unread' \
   "home/linked/B/known_hosts:1: $by_a" home/linked/B
 audits 'a slash at the end' 1 '1 file, 1 key: 1 revoked in 1 file, 0 unread' \
   "home/B/known_hosts:1: $by_a" home/B/
 audits 'a file of another name that is named' 1 '1 file, 1 key: 1 revoked in 1 file, 0 unread' \
   "home/.ssh/key:1: $by_g" home/.ssh/key
-audits 'a file twice' 1 '2 files, 2 keys: 2 revoked in 2 files, 0 unread' "marked:1: $by_g
-marked:1: $by_g" marked marked
+audits 'a file twice' 1 '1 file, 1 key: 1 revoked in 1 file, 0 unread, 1 audited before' \
+  "marked:1: $by_g
+marked: same: it was audited before" marked marked
+audits 'a pipe twice' 1 '2 files, 1 key: 1 revoked in 1 file, 0 unread' "/dev/stdin:1: $by_g" \
+  /dev/stdin /dev/stdin < <(echo "$g")
+# A file of several names is audited once for each way in which its names say that it is read.
+mkdir twice && echo "$g" >twice/authorized_keys && ln twice/authorized_keys twice/authorized_keys2
+ln twice/authorized_keys twice/known_hosts && ln -s known_hosts twice/ssh_known_hosts
+ln twice/authorized_keys twice/x.pub && ln twice/x.pub twice/y.pub
+audits 'hard and symbolic links to a file' 1 \
+  '3 files, 3 keys: 3 revoked in 3 files, 0 unread, 3 audited before' \
+  "twice/authorized_keys:1: $by_g
+twice/authorized_keys2: same: it was audited before
+twice/known_hosts:1: $by_g
+twice/ssh_known_hosts: same: it was audited before
+twice/x.pub:1: $by_g
+twice/y.pub: same: it was audited before" twice
+audits 'the same quietly, where it is not revoked' 0 \
+  '1 file, 1 key: 0 revoked in 0 files, 0 unread, 1 audited before' '' -q home/a/x.pub home/a/x.pub
 mkdir nothing
-audits 'an empty directory' 0 '0 files, 0 keys: 0 revoked in 0 files, 0 unread' '' nothing
+audits 'an empty directory' 3 '1 file, 0 keys: 0 revoked in 0 files, 1 unread' \
+  'nothing: unread: no file in this directory is read by its name' nothing
+audits 'an empty directory with --all' 0 '0 files, 0 keys: 0 revoked in 0 files, 0 unread' '' \
+  --all nothing
+mkdir -p none.d/below && echo "$g" >none.d/below/key
+audits 'a directory without a file that is read' 3 \
+  '1 file, 0 keys: 0 revoked in 0 files, 1 unread, 1 skipped' \
+  'none.d: unread: no file in this directory is read by its name' none.d
+mkdir linked && echo "$b" >linked/0.pub
+for it in {1..300}; do ln linked/0.pub linked/$it.pub; done
+audits 'three hundred links to a file' 0 \
+  '1 file, 1 key: 0 revoked in 0 files, 0 unread, 300 audited before' '' -q linked
 audits 'standard input' 1 '1 file, 1 key: 1 revoked in 1 file, 0 unread' "-:1: $by_g" - <<<"$g"
 audits 'a file that is not there' 3 '1 file, 0 keys: 0 revoked in 0 files, 1 unread' \
   'gone: unread: No such file or directory' gone
@@ -231,11 +290,13 @@ ln -s loop.pub loop.pub && ln -s gone dangling.pub && ln -s ../nothing directory
 mkdir $'\x1b[31m' && echo "$g" >$'\x1b[31m/a\nb\rc.pub'
 echo "$g" >$'\xe9.pub' && echo "$g" >$'caf\xe9'
 cd ..
-audits 'pipes, sockets, links and names' 1 '7 files, 1 key: 1 revoked in 1 file, 6 unread' \
+audits 'pipes, sockets, links and names' 1 \
+  '8 files, 1 key: 1 revoked in 1 file, 7 unread, 3 skipped' \
   'odd/\x1b[31m/a\x0ab\x0dc.pub:1: '"$by_g
 odd/authorized_keys: unread: no regular file
 odd/caf\\xe9: unread: it cannot be opened
 odd/dangling.pub: unread: No such file or directory
+odd/directory.pub: unread: a link to a directory: name it
 odd/known_hosts: unread: no regular file
 odd/loop.pub: unread: Too many levels of symbolic links
 odd/\\xe9.pub: unread: it cannot be opened" odd
@@ -252,6 +313,44 @@ closed/x.pub: unread: Permission denied
 krl audit: 2 files, 0 keys: 0 revoked in 0 files, 2 unread (list version 1, 1970-01-01T00:00:00Z)' \
   "$said")"
 chmod 755 closed/in
+# Private key files that may not be read, and one that is too long.
+mkdir keys && cp private keys/id_closed && cp private keys/id_long && chmod 000 keys/id_closed
+truncate -s 16777217 keys/id_long && chmod 644 keys/id_long
+said=$("${ask[@]}" audit -f r.krl keys 2>&1)
+judge 'private key files that are not read' "$(differs status 3 $?
+  differs 'what is said' 'keys/id_closed: unread: Permission denied
+keys/id_long: unread: it has more than 16 MiB
+krl audit: 2 files, 0 keys: 0 revoked in 0 files, 2 unread (list version 1, 1970-01-01T00:00:00Z)' \
+  "$said")"
+# Files that change between the look at them and their opening, and openings that last.
+# opens NAME STATUS COUNTS OUTPUT WORD..: as audits, with such files.
+opens() {
+  local said
+  said=$(LD_PRELOAD=$PWD/opening.so ./built audit -af r.krl "${@:5}" 2>&1)
+  judge "$1" "$(differs status "$2" $?
+    differs 'what is said' "$4
+krl audit: $3 (list version 1, 1970-01-01T00:00:00Z)" "$said")"
+}
+if need cc gcc && cc -O2 -shared -fPIC -o opening.so "$tests/lib/opening.c"; then
+  mkdir leaving swapped slow && echo "$b" >swapped/swapped.pub
+  : >leaving/going && echo "$b" >leaving/x.pub
+  for it in 1.pub 2.slow.pub 3.pub 4.slow.pub; do echo "$b" >slow/$it; done
+  chown -R 65534 slow 2>/dev/null
+  opens 'a file that a device takes the place of' 3 \
+    '1 file, 0 keys: 0 revoked in 0 files, 1 unread' \
+    'swapped/swapped.pub: unread: no regular file' swapped
+  opens 'a name that is gone when it is looked at' 3 \
+    '2 files, 1 key: 0 revoked in 0 files, 1 unread' \
+    "leaving/going: unread: No such file or directory
+leaving/x.pub:1: $ok_b" leaving
+  opens 'one slow opening for each owner' 3 '4 files, 2 keys: 0 revoked in 0 files, 2 unread' \
+    "slow/1.pub:1: $ok_b
+slow/2.slow.pub:1: $ok_b
+slow/3.pub: unread: opening another file of its owner took too long
+slow/4.slow.pub: unread: opening another file of its owner took too long" slow
+else
+  judge 'a C compiler is there' '  install gcc'
+fi
 # A directory in a directory, as deep as a path can be, and deeper than Linux opens one.
 python3 - <<'END'
 import os
@@ -263,6 +362,20 @@ END
 "$program" audit -f r.krl deep >"$scratch/output" 2>&1
 judge 'directories too deep to be opened' "$(differs status 3 $?
   differs findings 1 "$(grep -c '^deep/d.*: unread: it cannot be opened$' "$scratch/output")"
+  differs lines 2 "$(wc -l <"$scratch/output")")"
+rm -rf deep
+# Two thousand directories, one in the other, with a small stack.
+python3 - "$g" <<'END'
+import os, sys
+for it in ["deep"] + ["d"] * 2035:
+    os.mkdir(it)
+    os.chdir(it)
+with open("x.pub", "w") as out:
+    out.write(sys.argv[1] + "\n")
+END
+(ulimit -s 256 && exec ./built audit -f r.krl deep) >"$scratch/output" 2>&1
+judge 'two thousand directories with a stack of 256 KiB' "$(differs status 1 $?
+  differs findings 1 "$(grep -c ':1: revoked: ' "$scratch/output")"
   differs lines 2 "$(wc -l <"$scratch/output")")"
 rm -rf deep
 mkdir many && (cd many && seq -f 'k%.0f.pub' 3000 | xargs touch && echo "$g" >k1500.pub)
@@ -288,6 +401,26 @@ odd/authorized_keys: unread: no regular file
 audits 'names of standard input, the last without its end' 1 \
   '3 files, 2 keys: 2 revoked in 2 files, 0 unread' "marked:1: $by_g
 home/B/known_hosts:1: $by_a" --files0-from - home/B < <(printf 'marked\0empty')
+mkdir $'caf\xc3\xa9' && echo "$g" >$'caf\xc3\xa9/\xe9.pub'
+audits 'a name that is not UTF-8, in a file and in a directory' 3 \
+  '2 files, 0 keys: 0 revoked in 0 files, 2 unread' \
+  'caf\xc3\xa9/\xe9.pub: unread: it cannot be opened
+caf\xc3\xa9/\xe9.pub: unread: it cannot be opened' \
+  --files0-from <(printf 'caf\xc3\xa9/\xe9.pub\0') $'caf\xc3\xa9'
+printf '%s\0' - - >names
+audits 'a hyphen among names is the name of a file' 3 \
+  '2 files, 0 keys: 0 revoked in 0 files, 2 unread' '-: unread: No such file or directory
+-: unread: No such file or directory' --files0-from names < <(echo "$g")
+long_name=$(head -c 4096 /dev/zero | tr '\0' a)
+{ head -c 4097 /dev/zero | tr '\0' a && printf '\0%s\0' marked; } >names
+audits 'a name of 4,097 bytes' 1 '2 files, 1 key: 1 revoked in 1 file, 1 unread' \
+  "$long_name: unread: its name has more than 4,096 bytes
+marked:1: $by_g" --files0-from names
+head -c 200000000 /dev/zero | tr '\0' a |
+  (ulimit -v 100000 && exec ./built audit -f r.krl --files0-from -) >"$scratch/output" 2>&1
+judge 'a name of 200 MB in 100 MB' "$(differs status 3 $?
+  differs 'its line' "$long_name: unread: its name has more than 4,096 bytes" \
+    "$(head -n 1 "$scratch/output")")"
 audits 'no name' 0 '0 files, 0 keys: 0 revoked in 0 files, 0 unread' '' --files0-from empty
 expect 'names that cannot be opened' 255 '' $'krl: none/names: file 1 Open\n' audit -f r.krl \
   --files0-from none/names
@@ -308,6 +441,23 @@ bytes "$H" 02 >cut.krl
 expect 'a list that is cut' 255 '' $'krl: cut.krl: krl 3 EndsEarly\n' audit -f cut.krl gone
 expect 'a list of a name that moves the terminal' 255 '' $'krl: \\x1b[2J: file 1 Open\n' audit \
   -f $'\e[2J' a
+expect 'a list of a name with a control character past ASCII' 255 '' \
+  $'krl: \\x9b2J: file 1 Open\n' audit -f $'\xc2\x9b2J' a
+# A CA that is no key, or a key in another spelling, which sshd may read otherwise.
+for it in 00 "${A}00"; do
+  bytes "$H" 01 "$(string "$(string "$it")$(string '')20$(string 0000000000000005)")" >other.krl
+  expect "a CA of ${#it} digits that is no key" 255 '' \
+    'krl: other.krl: a certificate authority in it is no key in its one spelling, and sshd may '\
+$'read it otherwise\n' audit -f other.krl marked
+done
+bytes "$H" 01 "$(string "$(string '')$(string '')20$(string 0000000000000005)")" >all.krl
+expect_text 'serial numbers of all CAs' 0 error audit -qf all.krl home/a/x.pub
+# A list of more than 64 MiB has the fault of its first field that has one, as ssh-keygen says it.
+{ bytes "$H" 02 && head -c 67108865 /dev/zero; } >long.krl
+said=$("$keygen" -Q -f long.krl home/a/x.pub 2>&1)
+expect "a list of more than 64 MiB: ${said##*: }" 255 '' "krl: ${said#*: }"$'\n' \
+  audit -f long.krl marked
+rm long.krl
 echo "$a" >plain
 expect 'a plain list' 1 "plain:1: $by_a"$'\n' \
   $'krl audit: 2 files, 2 keys: 1 revoked in 1 file, 0 unread (plain list)\n' \
@@ -428,7 +578,7 @@ setting=()
 # A line may be shorter than the one before: "1 file" after "0 files". Nothing of the longer one may
 # stay on the terminal.
 mkdir single nobody && echo "$b" >single/x.pub
-at 2 audit -q -f r.krl --files0-from - < <(slowly nobody single && sleep 1 && printf 'gone\0')
+at 2 audit --all -q -f r.krl --files0-from - < <(slowly nobody single && sleep 1 && printf 'gone\0')
 judge 'how far it is, of fewer characters than before' "$(differs status 3 $got_status
   python3 - "$scratch/terminal" <<'END' || echo '  what the terminal is sent cannot be read'
 import re, sys
@@ -503,7 +653,8 @@ key_g="\"type\":\"ssh-ed25519\",\"fingerprint\":\"$(fingerprint "$G")\""
 list_of_g='"list":{"file":"r.krl","version":"1","generated":"1970-01-01T00:00:00Z",'
 list_of_g+="\"sha256\":\"$(sha256sum r.krl | cut -d ' ' -f 1)\"}"
 ends_with() {
-  echo "{\"status\":\"done\",\"files\":$1,\"keys\":$2,\"revoked\":$3,\"unread\":$4,$list_of_g}"
+  echo "{\"status\":\"done\",\"files\":$1,\"keys\":$2,\"revoked\":$3,\"unread\":$4,\
+\"skipped\":${5:-0},\"same\":${6:-0},$list_of_g}"
 }
 by_key='"reasons":[{"by":"key"}]'
 printf 'no-pty %s \xc3\xa9"\\\n\n# none\ngarbage\n' "$g" >authorized_keys
@@ -533,6 +684,7 @@ $(ends_with 1 1 0 21)" -f r.krl one_more
 printf '@cert-authority a.example,b.example %s\n' "$g" >known_hosts
 objects 'objects by a plain list' 0 \
   "{\"status\":\"done\",\"files\":1,\"keys\":1,\"revoked\":0,\"unread\":0,\
+\"skipped\":0,\"same\":0,\
 \"list\":{\"file\":\"plain\",\"sha256\":\"$(sha256sum plain | cut -d ' ' -f 1)\"}}" \
   -f plain home/a/x.pub
 objects 'an object of a known host' 1 \
@@ -547,7 +699,15 @@ objects 'an object of a file' 3 \
   "{\"file\":\"gone\",\"status\":\"unread\",\"fault\":\"file 1 Open\",\
 \"why\":\"No such file or directory\"}
 $(ends_with 1 0 0 1)" -f r.krl gone
-objects 'no file at all' 0 "$(ends_with 0 0 0 0)" -f r.krl nothing
+objects 'no file at all' 0 "$(ends_with 0 0 0 0)" --all -f r.krl nothing
+objects 'an object of a name that leads to the same file' 1 \
+  "{\"file\":\"marked\",\"line\":1,\"status\":\"revoked\",$key_g,\"comment\":\"\",$by_key}
+{\"file\":\"marked\",\"status\":\"same\"}
+$(ends_with 1 1 1 0 0 1)" -f r.krl marked marked
+objects 'an object with the number of skipped names' 3 \
+  "{\"file\":\"none.d\",\"status\":\"unread\",\"fault\":\"file 5 NoKeys\",\
+\"why\":\"no file in this directory is read by its name\"}
+$(ends_with 1 0 0 1 1)" -f r.krl none.d
 objects 'keys that are not revoked' 0 "{\"file\":\"home/a/x.pub\",\"line\":1,\"status\":\"ok\",\
 \"type\":\"ssh-ed25519\",\"fingerprint\":\"$(fingerprint "$B")\",\"comment\":\"\",\"reasons\":[]}
 $(ends_with 1 1 0 0)" -a -f r.krl home/a/x.pub

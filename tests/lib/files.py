@@ -2,6 +2,7 @@
 
 import base64
 import hashlib
+import os
 import struct
 
 from wire import HEADER, HIGHEST, bitmap, certificates, section, serials, span, string, strings
@@ -155,3 +156,19 @@ def contents():
         "highest.krl": HEADER[:12] + struct.pack(">Q", HIGHEST) + HEADER[20:],
     }
     return {**{name: text.encode() for name, text in texts.items()}, **bytes_of}
+
+
+def make_home():
+    """The folder home, with a file of each sort that an audit reads, and the file names, of names
+    that each end with a zero byte."""
+    private = contents()["private"]
+    os.makedirs("home/.ssh/below")
+    for name, content in {
+        "home/.ssh/authorized_keys": line(KEY).encode(),
+        "home/.ssh/below/x.pub": line(OTHER).encode(),
+        "home/.ssh/id_ed25519": private,
+        "home/.ssh/id_of_host": line(OTHER).encode(),
+        "names": b"g.pub\0other.pub\0home\0",
+    }.items():
+        with open(name, "wb") as out:
+            out.write(content)

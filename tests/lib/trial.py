@@ -8,6 +8,7 @@ import sys
 LIB = os.path.dirname(os.path.abspath(__file__))
 TOP = os.path.dirname(os.path.dirname(LIB))
 PROGRAM = os.path.abspath(os.environ.get("PROGRAM", os.path.join(TOP, "built", "ssh-keygen")))
+KRL = os.path.abspath(os.environ.get("KRL", os.path.join(TOP, "built", "krl")))
 
 
 def built_library(source, folder):

@@ -14,16 +14,26 @@ is_key_name name =
     || (bytes_eq name (codes "known_hosts")
     || (bytes_eq name (codes "known_hosts2")
     || (bytes_eq name (codes "ssh_known_hosts")
-    || ends_with nat_eq name (codes ".pub")))))
+    || (bytes_eq name (codes "ssh_known_hosts2")
+    || ends_with nat_eq name (codes ".pub"))))))
 
 -- the name of a possible private key file
 abbrev pub is_private_name : List ℕ → Bool
 is_private_name name =
     starts_with nat_eq name (codes "id_") || starts_with nat_eq name (codes "ssh_host_")
 
-abbrev pub selection_of : List ℕ → Selection
-selection_of name =
-    if is_key_name name then selections.Always
+-- Each file of a directory with this path is read, whatever its name.
+abbrev pub reads_every : List ℕ → Bool
+reads_every path =
+    bytes_eq path (codes "authorized_keys.d")
+    || (bytes_eq path (codes "authorized_keys.d/")
+    || (ends_with nat_eq path (codes "/authorized_keys.d")
+    || ends_with nat_eq path (codes "/authorized_keys.d/")))
+
+-- whether a file of this name is read, where each file of its directory is or not
+abbrev pub selection_of : (every : Bool) → List ℕ → Selection
+selection_of every name =
+    if every || is_key_name name then selections.Always
     else if is_private_name name then selections.IfPrivate else selections.Never
 
 abbrev pub is_audited_as : Selection → List ℕ → Bool
@@ -32,5 +42,5 @@ is_audited_as selections.IfPrivate text = begins_container text
 is_audited_as selections.Never text = false
 
 -- Whether a file of a directory is audited depends on its name, or on its name and its first line.
-abbrev pub is_audited : (name text : List ℕ) → Bool
-is_audited name text = is_audited_as (selection_of name) text
+abbrev pub is_audited : (every : Bool) → (name text : List ℕ) → Bool
+is_audited every name text = is_audited_as (selection_of every name) text

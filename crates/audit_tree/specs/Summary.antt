@@ -25,12 +25,23 @@ list_text (Some stated) = stated_text stated
 abbrev pub inputs_text : Summary → List ℕ
 inputs_text summary =
     codes "krl audit: "
-    ++ (amount_text summary.files (codes "file")
+    ++ (amount_text summary.files.audited (codes "file")
     ++ (codes ", " ++ (amount_text summary.counts.keys (codes "key") ++ codes ": ")))
 
 -- the number of lines and files that were not read
 abbrev pub unread_text : Summary → List ℕ
 unread_text summary = decimal summary.counts.unread ++ codes " unread"
+
+-- the number of names that were not audited, if there are any, and why
+abbrev pub others_text : ℕ → List ℕ → List ℕ
+others_text count why =
+    if count == 0 then [] else codes ", " ++ (decimal count ++ (codes " " ++ why))
+
+-- the numbers of names that were not audited
+abbrev pub names_text : Summary → List ℕ
+names_text summary =
+    others_text summary.files.skipped (codes "skipped")
+    ++ others_text summary.files.same (codes "audited before")
 
 -- the number of revoked keys, and of lines and files that were not read
 abbrev pub findings_text : Summary → List ℕ
@@ -41,4 +52,6 @@ findings_text summary =
     ++ (codes ", " ++ unread_text summary)))
 
 abbrev pub summary_text : Summary → List ℕ
-summary_text summary = inputs_text summary ++ (findings_text summary ++ list_text summary.stated)
+summary_text summary =
+    inputs_text summary
+    ++ (findings_text summary ++ (names_text summary ++ list_text summary.stated))

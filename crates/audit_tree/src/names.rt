@@ -1,7 +1,8 @@
 //! Which files of a directory are read (krl(1), FILES THAT ARE READ).
 
 ghost use Rattle.std.specs.Prelude.{◌≡◌};
-ghost use Rattle.audit_tree.specs.Names.{is_audited, is_key_name, is_private_name, selection_of};
+ghost use Rattle.audit_tree.specs.Names.{is_audited, is_key_name, is_private_name, reads_every};
+ghost use Rattle.audit_tree.specs.Names.{selection_of};
 
 use key_text::is_container;
 
@@ -16,11 +17,22 @@ pub enum Selection {
     Never,
 }
 
-/// Returns whether a file of this name is read.
-pub fn selection_of(name: &[u8]) -> Selection
-    ensures { result ≡ selection_of name.now }
+/// Returns true if each file of a directory with this path is read, whatever its name: the
+/// directory is named `authorized_keys.d`.
+pub fn reads_every(path: &[u8]) -> bool
+    ensures { result ≡ reads_every path.now }
 {
-    if is_key_name(name) {
+    path == b"authorized_keys.d".as_slice()
+        || path == b"authorized_keys.d/".as_slice()
+        || path.ends_with(b"/authorized_keys.d")
+        || path.ends_with(b"/authorized_keys.d/")
+}
+
+/// Returns whether a file of this name is read, where each file of its directory is or not.
+pub fn selection_of(every: bool, name: &[u8]) -> Selection
+    ensures { result ≡ selection_of every name.now }
+{
+    if every || is_key_name(name) {
         Selection::Always
     } else if is_private_name(name) {
         Selection::IfPrivate
@@ -30,10 +42,10 @@ pub fn selection_of(name: &[u8]) -> Selection
 }
 
 /// Returns true if a file of a directory is audited, by its name and its bytes.
-pub fn is_audited(name: &[u8], text: &[u8]) -> bool
-    ensures { result ≡ is_audited name.now text.now }
+pub fn is_audited(every: bool, name: &[u8], text: &[u8]) -> bool
+    ensures { result ≡ is_audited every name.now text.now }
 {
-    match selection_of(name) {
+    match selection_of(every, name) {
         Selection::Always => true,
         Selection::IfPrivate => is_container(text),
         Selection::Never => false,
@@ -49,6 +61,7 @@ fn is_key_name(name: &[u8]) -> bool
         || name == b"known_hosts".as_slice()
         || name == b"known_hosts2".as_slice()
         || name == b"ssh_known_hosts".as_slice()
+        || name == b"ssh_known_hosts2".as_slice()
         || name.ends_with(b".pub")
 }
 

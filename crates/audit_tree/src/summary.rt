@@ -2,19 +2,19 @@
 
 ghost use Rattle.std.specs.Prelude.{◌≡◌, ◌++◌, OnOk};
 ghost use Rattle.audit_tree.specs.Summary.{amount_text, findings_text, inputs_text, list_text};
-ghost use Rattle.audit_tree.specs.Summary.{summary_text};
+ghost use Rattle.audit_tree.specs.Summary.{names_text, others_text, summary_text};
 
 use cert_listing::time_text;
-use krl_audit::{Counts, Stated};
+use krl_audit::{Counts, FileCounts, Stated};
 use line_pieces::{Printed, Words, put};
 use std::alloc::{AllocError, Global};
 
 /// The counts of an audit, and the list that it queried.
 #[derive(Clone, Copy)]
 pub struct Summary {
-    /// The number of files that were audited, whether they were read or not.
-    pub files: u64,
-    /// The number of those that have a revoked key.
+    /// The counts of files.
+    pub files: FileCounts,
+    /// The number of audited files that have a revoked key.
     pub revoked_files: u64,
     /// The counts of their lines.
     pub counts: Counts,
@@ -35,12 +35,28 @@ impl<'a> Printed for Amount<'a> {
     }
 }
 
+// The number of names that were not audited, if there are any, and why.
+#[derive(Clone, Copy)]
+struct Others<'a>(u64, &'a [u8]);
+
+impl<'a> Printed for Others<'a> {
+    ghost text = { λ others. others_text others.0 others.1.now };
+
+    fn push_to(&self, out: &mut Vec<u8>) -> Result<(), AllocError> {
+        if self.0 == 0 {
+            return Ok(());
+        }
+        put!(out; b", ", self.0, b" ", Words(self.1))
+    }
+}
+
 /// Appends the last line of an audit, with its line feed.
 pub fn push_summary(alloc: Global, summary: &Summary, text: &mut Vec<u8>) -> Result<(), AllocError>
     ensures { OnOk result (text.new.items ≡ text.old.items ++ summary_text summary.now) }
 {
     push_inputs(summary, text)?;
     push_findings(summary, text)?;
+    push_names(summary, text)?;
     push_list(alloc, summary, text)
 }
 
@@ -48,7 +64,7 @@ pub fn push_summary(alloc: Global, summary: &Summary, text: &mut Vec<u8>) -> Res
 pub(crate) fn push_inputs(summary: &Summary, text: &mut Vec<u8>) -> Result<(), AllocError>
     ensures { OnOk result (text.new.items ≡ text.old.items ++ inputs_text summary.now) }
 {
-    put!(text; b"krl audit: ", Amount(summary.files, b"file"), b", ",
+    put!(text; b"krl audit: ", Amount(summary.files.audited, b"file"), b", ",
         Amount(summary.counts.keys, b"key"), b": ")
 }
 
@@ -59,6 +75,14 @@ fn push_findings(summary: &Summary, text: &mut Vec<u8>) -> Result<(), AllocError
     let counts = summary.counts;
     put!(text; counts.revoked, b" revoked in ", Amount(summary.revoked_files, b"file"), b", ",
         counts.unread, b" unread")
+}
+
+// Appends the numbers of names that were not audited.
+fn push_names(summary: &Summary, text: &mut Vec<u8>) -> Result<(), AllocError>
+    ensures { OnOk result (text.new.items ≡ text.old.items ++ names_text summary.now) }
+{
+    put!(text; Others(summary.files.skipped, b"skipped"),
+        Others(summary.files.same, b"audited before"))
 }
 
 // Appends the list that was queried.

@@ -1,6 +1,6 @@
 -- The steps of reading a directory: a byte, the end of a name, and some bytes of its reader.
 use Rattle.std.proofs.Common.{◌≡◌, ◌≢◌, ◌∙◌, ap, refl, sym, true, false, ℕ, zero, suc, ◌+◌, ◌<◌}
-use Rattle.std.proofs.Common.{List, [], ◌∷◌, ◌++◌, append-nil, append_assoc, drop, length, slice_index_or}
+use Rattle.std.proofs.Common.{Bool, List, [], ◌∷◌, ◌++◌, append-nil, append_assoc, drop, length, slice_index_or}
 use Rattle.std.proofs.Common.{IsPermutation, IsSorted, Option, None, Some, IfSome, ◌≤◌, arith}
 use Rattle.std.proofs.lemmas.List.{length-append}
 use Rattle.std.proofs.Math.Dec.{eqb-suc-zero}
@@ -14,12 +14,12 @@ use native.Mathlib.Numerals.{unary_clauses}
 
 -- ---- the bytes of a part
 
-stays : {front bytes : List ℕ} {names : List (Vec ℕ)} → Continues front bytes names front bytes names
+stays : {every : Bool} {front bytes : List ℕ} {names : List (Vec ℕ)} → Continues every front bytes names front bytes names
 stays = record { completed = λ wanted are. (wanted, (refl, are)) }
 
-pub then : {front bytes middle rest later left : List ℕ} {names some found : List (Vec ℕ)}
-    → Continues front bytes names middle rest some → Continues middle rest some later left found
-    → Continues front bytes names later left found
+pub then : {every : Bool} {front bytes middle rest later left : List ℕ} {names some found : List (Vec ℕ)}
+    → Continues every front bytes names middle rest some → Continues every middle rest some later left found
+    → Continues every front bytes names later left found
 then first second = record {
   completed = λ wanted are.
       let more = second.completed wanted are in
@@ -28,8 +28,8 @@ then first second = record {
 }
 
 -- a byte of a name
-byte_read : (front rest : List ℕ) (byte : ℕ) (names : List (Vec ℕ)) → byte ≢ 0
-    → Continues front (byte ∷ rest) names (front ++ byte ∷ []) rest names
+byte_read : {every : Bool} (front rest : List ℕ) (byte : ℕ) (names : List (Vec ℕ)) → byte ≢ 0
+    → Continues every front (byte ∷ rest) names (front ++ byte ∷ []) rest names
 unfolding names_after
 byte_read front rest zero names some = absurd (some refl)
 byte_read front rest (suc byte) names some = record {
@@ -37,9 +37,9 @@ byte_read front rest (suc byte) names some = record {
 }
 
 -- the end of a name
-pub name_taken : (name : Vec ℕ) (front later rest : List ℕ) (names found : List (Vec ℕ)) → name.items ≡ front
-    → later ≡ [] → found ≡ names ++ name ∷ [] → MayBeWanted true name.items
-    → Continues front (0 ∷ rest) names later rest found
+pub name_taken : {every : Bool} (name : Vec ℕ) (front later rest : List ℕ) (names found : List (Vec ℕ)) → name.items ≡ front
+    → later ≡ [] → found ≡ names ++ name ∷ [] → MayBeWanted every true name.items
+    → Continues every front (0 ∷ rest) names later rest found
 unfolding names_after
 name_taken name front later rest names found held ends grown may = record {
   completed = λ wanted are. (
@@ -51,8 +51,8 @@ name_taken name front later rest names found held ends grown may = record {
   );
 }
 
-pub name_left : (front later rest : List ℕ) (names found : List (Vec ℕ)) → later ≡ [] → found ≡ names
-    → MayBeWanted false front → Continues front (0 ∷ rest) names later rest found
+pub name_left : {every : Bool} (front later rest : List ℕ) (names found : List (Vec ℕ)) → later ≡ [] → found ≡ names
+    → MayBeWanted every false front → Continues every front (0 ∷ rest) names later rest found
 unfolding names_after
 name_left front later rest names found ends same may = record {
   completed = λ wanted are. (
@@ -69,50 +69,50 @@ split_at : (bytes rest : List ℕ) (at : ℕ) → at < length bytes
     → drop at bytes ++ rest ≡ slice_index_or bytes at 0 ∷ (drop (at + 1) bytes ++ rest)
 split_at bytes rest at fits = simp unary_clauses (ap (λ (left : List ℕ). left ++ rest) (drop-cons bytes at 0 fits))
 
-pub byte_read_at : (front bytes rest : List ℕ) (at : ℕ) (names : List (Vec ℕ)) → at < length bytes
+pub byte_read_at : {every : Bool} (front bytes rest : List ℕ) (at : ℕ) (names : List (Vec ℕ)) → at < length bytes
     → slice_index_or bytes at 0 ≢ 0
-    → Continues front (drop at bytes ++ rest) names (front ++ slice_index_or bytes at 0 ∷ [])
+    → Continues every front (drop at bytes ++ rest) names (front ++ slice_index_or bytes at 0 ∷ [])
     (drop (at + 1) bytes ++ rest) names
 byte_read_at front bytes rest at names fits some =
     let left = drop (at + 1) bytes ++ rest in
     rw (split_at bytes rest at fits) (byte_read front left (slice_index_or bytes at 0) names some)
 
-pub name_ended_at : {later front : List ℕ} {names found : List (Vec ℕ)} (bytes rest : List ℕ) (at : ℕ)
+pub name_ended_at : {every : Bool} {later front : List ℕ} {names found : List (Vec ℕ)} (bytes rest : List ℕ) (at : ℕ)
     → at < length bytes → slice_index_or bytes at 0 ≡ 0
-    → Continues front (0 ∷ (drop (at + 1) bytes ++ rest)) names later (drop (at + 1) bytes ++ rest) found
-    → Continues front (drop at bytes ++ rest) names later (drop (at + 1) bytes ++ rest) found
+    → Continues every front (0 ∷ (drop (at + 1) bytes ++ rest)) names later (drop (at + 1) bytes ++ rest) found
+    → Continues every front (drop at bytes ++ rest) names later (drop (at + 1) bytes ++ rest) found
 name_ended_at bytes rest at fits ends goes = rw (split_at bytes rest at fits, ends) goes
 
 -- ---- the bytes of a reader
 
 -- the names that an audit goes to, of all bytes of a reader, as far as they are read
-abbrev pub Leads : (all left : Option (List ℕ)) → List ℕ → List (Vec ℕ) → Type 0
-Leads None left front names = Unit {0}
-Leads (Some all) None front names = ⊥
-Leads (Some all) (Some left) front names = Continues [] all [] front left names
+abbrev pub Leads : (every : Bool) → (all left : Option (List ℕ)) → List ℕ → List (Vec ℕ) → Type 0
+Leads every None left front names = Unit {0}
+Leads every (Some all) None front names = ⊥
+Leads every (Some all) (Some left) front names = Continues every [] all [] front left names
 
-pub begins : (all : Option (List ℕ)) → Leads all all [] []
-begins None = tt
-begins (Some all) = stays
+pub begins : (every : Bool) → (all : Option (List ℕ)) → Leads every all all [] []
+begins every None = tt
+begins every (Some all) = stays
 
-pub part_read : (all old new : Option (List ℕ)) (bytes front later : List ℕ) (names found : List (Vec ℕ))
-    → Leads all old front names → Consumes old new bytes
-    → ((rest : List ℕ) → Continues front (bytes ++ rest) names later rest found) → Leads all new later found
+pub part_read : {every : Bool} (all old new : Option (List ℕ)) (bytes front later : List ℕ) (names found : List (Vec ℕ))
+    → Leads every all old front names → Consumes old new bytes
+    → ((rest : List ℕ) → Continues every front (bytes ++ rest) names later rest found) → Leads every all new later found
 part_read None old new bytes front later names found leads comes goes = tt
 part_read (Some all) None new bytes front later names found leads comes goes = absurd leads
 part_read (Some all) (Some old) None bytes front later names found leads comes goes = absurd comes
 part_read (Some all) (Some old) (Some new) bytes front later names found leads comes goes =
     then leads (rw comes (goes new))
 
-pub all_read : (all old new : Option (List ℕ)) (front : List ℕ) (names sorted : List (Vec ℕ))
-    → Leads all old front names → Consumes old new [] → IsAtEnd new → IsPermutation names sorted
+pub all_read : (every : Bool) → (all old new : Option (List ℕ)) (front : List ℕ) (names sorted : List (Vec ℕ))
+    → Leads every all old front names → Consumes old new [] → IsAtEnd new → IsPermutation names sorted
     → IsSorted (λ (x y : Vec ℕ). slice_cmp nat_cmp x.items y.items) sorted
-    → IfSome all (λ bytes. IsListed bytes sorted)
+    → IfSome all (λ bytes. IsListed every bytes sorted)
 unfolding names_after
-all_read None old new front names sorted leads comes end same ordered = tt
-all_read (Some all) None new front names sorted leads comes end same ordered = absurd leads
-all_read (Some all) (Some old) None front names sorted leads comes end same ordered = absurd comes
-all_read (Some all) (Some old) (Some new) front names sorted leads comes end same ordered =
+all_read every None old new front names sorted leads comes end same ordered = tt
+all_read every (Some all) None new front names sorted leads comes end same ordered = absurd leads
+all_read every (Some all) (Some old) None front names sorted leads comes end same ordered = absurd comes
+all_read every (Some all) (Some old) (Some new) front names sorted leads comes end same ordered =
     let found = leads.completed [] (rw (comes ∙ end) no_name) in
     record {
       wanted = names;

@@ -3,7 +3,8 @@ use Rattle.std.specs.Prelude.{◌≡◌, ℕ, ◌≤◌, ◌<◌, Bool, true, fa
 use Rattle.std.specs.Io.KnownBytes.{IsAtEnd}
 use Rattle.krl_audit.specs.declared.why.Refusal.{Refusal}
 use Rattle.krl_audit.specs.declared.why.Refusal.TheVariants.{Missing, Denied, Irregular, Loop}
-use Rattle.krl_audit.specs.declared.why.Refusal.TheVariants.{Open, Read, TooLong}
+use Rattle.krl_audit.specs.declared.why.Refusal.TheVariants.{DirectoryLink, NoFile, LongName}
+use Rattle.krl_audit.specs.declared.why.Refusal.TheVariants.{Slow, Open, Read, TooLong}
 
 -- the most bytes that a file may have
 abbrev pub file_limit : ℕ
@@ -19,4 +20,8 @@ IsRead left failed size (Err Missing) = ⊥
 IsRead left failed size (Err Denied) = ⊥
 IsRead left failed size (Err Irregular) = ⊥
 IsRead left failed size (Err Loop) = ⊥
+IsRead left failed size (Err DirectoryLink) = ⊥
+IsRead left failed size (Err NoFile) = ⊥
+IsRead left failed size (Err LongName) = ⊥
+IsRead left failed size (Err Slow) = ⊥
 IsRead left failed size (Err Open) = ⊥

@@ -1,27 +1,40 @@
 //! `krl audit`: files of keys, audited by a list.
 
-use crate::ending::{end, fail_by, print_line};
+use crate::disk::Disk;
+use crate::ending::{end, fail_by, fail_in_words, print_line};
 use crate::list::{List, read_list};
 use crate::rounds::Rounds;
 use crate::screen::{Screen, has_colours};
 use crate::stop::Stop;
 use audit_tree::push_summary;
-use byte_streams::Sink;
+use byte_streams::{FromRead, Sink};
 use key_files::{Cause, FileFault, RunFault};
 use key_listing::{Printer, Run};
 use krl_arguments::Audit;
-use krl_audit::{Auditor, Counts, Form, Judge, ListFacts, Shown, Stated};
+use krl_audit::{Auditor, Counts, FileCounts, Form, Judge, ListFacts, Shown, Stated};
+use krl_authority::authorities_are_keys;
 use krl_core::Revocations;
 use sha2::{Digest, Sha256};
 use span_sets::Held;
 use std::fs;
 
+// Why no audit is made by a list whose authorities OpenSSH compares otherwise.
+const OTHER_AUTHORITY: &[u8] = b"a certificate authority in it is no key in its one spelling, and \
+sshd may read it otherwise";
+
 /// Audits what the task names. Answers the exit status.
 pub fn audit(rt: &HostRuntime, task: &Audit) -> u8 {
     match read_list(rt, task.list) {
+        Ok(list) if has_other_authority(&list) => fail_in_words(rt, task.list, OTHER_AUTHORITY),
         Ok(list) => audit_by(rt, task, list),
         Err(fault) => fail_by(rt, fault),
     }
+}
+
+// Whether a list names a certificate authority by other bytes than those of a key in its one
+// spelling. sshd compares such an authority as a key, and an audit compares bytes.
+fn has_other_authority(list: &List) -> bool {
+    list.stated.is_some() && !authorities_are_keys(list.bytes.as_slice())
 }
 
 // The facts about a list that the last line prints, and its SHA-256 if the last object has it.
@@ -59,8 +72,10 @@ fn audit_by(rt: &HostRuntime, task: &Audit, list: List) -> u8 {
     let mut rounds = Rounds {
         rt,
         auditor: auditor_of(rt, &revocations, shown_of(rt, task), printer),
+        disk: Disk::new(rt),
+        every_file: task.every_file,
         ends_at_revoked: task.quiet,
-        files: 0,
+        files: FileCounts::NONE,
         revoked_files: 0,
         stated: known.stated,
         text: Vec::new(rt.alloc()),
@@ -160,10 +175,10 @@ fn print_last<'a>(
 // Audits the files whose names are in a file. Answers false where these cannot be read.
 fn audit_names<'a>(rounds: &mut Rounds, from: &'a str) -> Result<bool, Stop<'a>> {
     if from == "-" {
-        return rounds.audit_listed(rounds.rt.stdin());
+        return rounds.audit_listed(&mut FromRead::new(rounds.rt.stdin()));
     }
     match fs::open(rounds.rt, from) {
-        Ok(names) => rounds.audit_listed(names),
+        Ok(names) => rounds.audit_listed(&mut FromRead::new(names)),
         Err(_) => {
             let cause = Cause::File(FileFault::Open);
             Err(Stop::Fault(RunFault::whole(from, cause)))

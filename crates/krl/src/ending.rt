@@ -1,27 +1,44 @@
 //! How a run ends: with a status, and a line that says why it stopped.
 
-ghost use Rattle.std.specs.Prelude.{◌≡◌, ◌⊎◌};
+ghost use Rattle.std.specs.Prelude.{◌≡◌, ◌⊎◌, IfOk};
+ghost use Rattle.key_files.specs.RunFault.{line_part};
+ghost use Rattle.krl.specs.Ending.{fault_line, words_line};
 ghost use Rattle.krl_arguments.specs.Command.{command_fault_status};
 
 use byte_streams::{ToWrite, send};
-use key_files::{Cause, RunFault, fault_text};
+use key_files::{Cause, RunFault};
 use key_listing::{Done, FAILED};
 use krl_arguments::CommandFault;
-use line_pieces::{Escaped, Words, put};
+use krl_audit::Visible;
+use line_pieces::{Printed, Words, put};
 use std::alloc::{AllocError, Global};
 
 // The status of a command line that asks for nothing that the program does.
 const MISUSED: u8 = 2;
+
+// The number of a line, if there is one.
+#[derive(Clone, Copy)]
+struct Line(Option<u64>);
+
+impl Printed for Line {
+    ghost text = { λ line. line_part line.0 };
+
+    fn push_to(&self, out: &mut Vec<u8>) -> Result<(), AllocError> {
+        match self.0 {
+            None => Ok(()),
+            Some(number) => put!(out; b"line ", number, b": "),
+        }
+    }
+}
 
 /// Reports why the run stopped, if it did, and gives its status.
 pub fn end(rt: &HostRuntime, done: &Done) -> u8
     ensures { result ≡ done.now.status }
 {
     if let Some(fault) = &done.fault
-        && let Ok(line) = fault_text(rt.alloc(), b"krl", fault)
+        && let Ok(line) = fault_line(rt.alloc(), fault)
     {
         print_line(rt, line.as_slice());
-        print_line(rt, b"\n");
     }
     done.status
 }
@@ -98,8 +115,21 @@ pub fn print_line(rt: &HostRuntime, line: &[u8]) {
 }
 
 // The line about a file, in words.
-fn words_line(alloc: Global, name: &str, why: &[u8]) -> Result<Vec<u8>, AllocError> {
+fn words_line(alloc: Global, name: &str, why: &[u8]) -> Result<Vec<u8>, AllocError>
+    ensures { IfOk result (λ text. text.items ≡ words_line name.now why.now) }
+{
     let mut text = Vec::new(alloc);
-    put!(&mut text; b"krl: ", Escaped(name.as_bytes()), b": ", Words(why), b"\n")?;
+    put!(&mut text; b"krl: ", Visible(name.as_bytes(), false), b": ", Words(why), b"\n")?;
+    Ok(text)
+}
+
+// The line about a fault. The name is shown as in findings.
+fn fault_line(alloc: Global, fault: &RunFault) -> Result<Vec<u8>, AllocError>
+    ensures { IfOk result (λ text. text.items ≡ fault_line fault.now) }
+{
+    let cause = fault.cause.to_string(alloc)?;
+    let mut text = Vec::new(alloc);
+    put!(&mut text; b"krl: ", Visible(fault.name.as_bytes(), false), b": ", Line(fault.line),
+        Words(cause.as_bytes()), b"\n")?;
     Ok(text)
 }

@@ -8,6 +8,7 @@ use plain_list::{LineCause, PlainFault, read_plain};
 use span_sets::Held;
 use ssh_wire::Bytes;
 use std::fs;
+use std::io::Read;
 
 /// A list that was read: its bytes, its version and date if it is no plain list, and what it
 /// revokes.
@@ -24,7 +25,9 @@ pub fn read_list<'a>(rt: &HostRuntime, name: &'a str) -> Result<List, RunFault<'
     let Ok(file) = fs::open(rt, name) else {
         return Err(RunFault::whole(name, Cause::File(FileFault::Open)));
     };
-    let bytes = match Pull::new(FromRead::new(file), LIMIT).rest(rt.alloc()) {
+    // One byte more than a list may have, so that one that is too long has its first fault.
+    let most = LIMIT + 1;
+    let bytes = match Pull::new(FromRead::new(file.take(most)), most).rest(rt.alloc()) {
         Ok(bytes) => bytes,
         Err(fault) => return Err(RunFault::whole(name, cause_of(KrlFault::from(fault)))),
     };

@@ -1,16 +1,16 @@
 //! Files that are opened and read.
 
-ghost use Rattle.std.specs.Prelude.{◌≡◌, ◌<◌, IfOk, IfSome, OnErr, OnOk, false, length};
+ghost use Rattle.std.specs.Prelude.{◌≡◌, ◌<◌, ◌≤◌, IfOk, IfSome, OnErr, OnOk, false, length};
 ghost use Rattle.std.specs.Prelude.{vec_capacity, vec_len};
 ghost use Rattle.std.specs.Io.KnownBytes.{Consumes};
 ghost use Rattle.krl.specs.Loading.{IsRead};
 
-use byte_streams::Source;
+use byte_streams::{FromRead, Source};
 use key_text::is_container;
 use krl_audit::Refusal;
 use std::alloc::AllocError;
 use std::fs::{self, File};
-use std::io::{self, ErrorKind, Read, Seek, SeekFrom};
+use std::io::{self, ErrorKind, Seek, SeekFrom};
 
 // The most bytes that a file may have.
 const LIMIT: u64 = 16_777_216;
@@ -68,9 +68,28 @@ pub fn read<R: Source>(
 }
 
 /// Whether a file begins as a private key file does. It is read from its start afterwards.
-pub fn begins_private(file: &mut File) -> io::Result<bool> {
+pub fn begins_private(file: &mut File) -> Result<bool, Refusal> {
     let mut front = [0u8; FRONT];
-    let count = file.read(&mut front)?;
-    file.seek(SeekFrom::Start(0))?;
-    Ok(is_container(&front[..count]))
+    let count = read_front(&mut FromRead::new(&mut *file), &mut front)?;
+    match file.seek(SeekFrom::Start(0)) {
+        Ok(_) => Ok(is_container(&front[..count])),
+        Err(_) => Err(Refusal::Read),
+    }
+}
+
+// Fills a buffer with the first bytes of a reader, and returns how many there are.
+fn read_front<R: Source>(reader: &mut R, front: &mut [u8; FRONT]) -> Result<usize, Refusal>
+    ensures { IfOk result (λ count. count ≤ 64) }
+{
+    let mut count = 0;
+    'parts: while count < FRONT {
+        let Ok(more) = reader.read(&mut front[count..]) else {
+            return Err(Refusal::Read);
+        };
+        if more == 0 {
+            break 'parts;
+        }
+        count += more;
+    }
+    Ok(count)
 }

@@ -3,12 +3,14 @@
 
 mod audit;
 mod check;
+mod disk;
 mod ending;
 mod list;
 mod loading;
 mod rounds;
 mod screen;
 mod stop;
+mod walk;
 
 use crate::audit::audit;
 use crate::check::check;

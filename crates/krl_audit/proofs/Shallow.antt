@@ -16,10 +16,13 @@ use Rattle.json_lines.specs.Field.{Field, number_field, text_field, word_field}
 use Rattle.json_lines.proofs.Shallow.{FieldsFit, Fits, ValuesFit, array_fits, deeper, digits_fit, fields_fit, number_fits, object_fits, text_fits, values_fit, word_fits}
 use Rattle.krl_audit.specs.Colour.{IsCount}
 use Rattle.krl_audit.specs.Objects.{authority_values, by_value, cause_field, cert_field, cert_fields, cert_names, cert_values, count_fields, done_object, front_fields, front_word, id_field, key_fields, key_object, key_values, line_fields, list_facts, list_field, list_fields, marker_fields, name_value, name_values, of_value, location_fields, reason_values, reasons_field, serial_field, stated_fields, status_word, unread_object, value_if, version_fields, why_fault, why_fields, with_cert_values}
+use Rattle.krl_audit.specs.Objects.{AreCounts}
 use Rattle.krl_audit.specs.Outcome.{Found}
+use Rattle.krl_audit.specs.Same.{same_fields, same_object}
 use Rattle.krl_audit.specs.Text.{type_of}
 use Rattle.krl_audit.specs.Why.{why_text}
 use Rattle.krl_audit.specs.declared.counts.Counts.{Counts}
+use Rattle.krl_audit.specs.declared.done.FileCounts.{FileCounts}
 use Rattle.krl_audit.specs.declared.done.ListFacts.{ListFacts}
 use Rattle.krl_audit.specs.declared.done.Stated.{Stated}
 use Rattle.krl_audit.specs.declared.why.Why.{Why}
@@ -146,11 +149,31 @@ facts_fit list = (
 list_field_fits : (list : ListFacts) → FieldsFit 2 (list_field list ∷ [])
 list_field_fits list = (deeper 1 2 (list_field list).value (omega arith) (object_fits 0 (list_facts list) (facts_fit list)), tt)
 
-pub done_object_fits : (files : ℕ) (counts : Counts) (list : ListFacts) → files < 2 ^ 64 → counts.keys < 2 ^ 64 → counts.revoked < 2 ^ 64 → counts.unread < 2 ^ 64 → Fits 3 (done_object files counts list)
-done_object_fits files counts list few keys revoked unread =
+pub same_object_fits : (name : List ℕ) → Fits 3 (same_object name)
+same_object_fits name =
+    object_fits 2 (same_fields name) (word_fits 2 (codes "file") name, (word_fits 2 (codes "status") (codes "same"), tt))
+
+counts_fit : (files : FileCounts) (counts : Counts) → AreCounts files counts → FieldsFit 2 (count_fields files counts)
+counts_fit files counts are = (
+  number_fits 2 (codes "files") files.audited are.audited,
+  (
+    number_fits 2 (codes "keys") counts.keys are.keys,
+    (
+      number_fits 2 (codes "revoked") counts.revoked are.revoked,
+      (
+        number_fits 2 (codes "unread") counts.unread are.unread,
+        (
+          number_fits 2 (codes "skipped") files.skipped are.skipped,
+          (number_fits 2 (codes "same") files.same are.same, tt),
+        ),
+      ),
+    ),
+  ),
+)
+
+pub done_object_fits : (files : FileCounts) (counts : Counts) (list : ListFacts) → AreCounts files counts → Fits 3 (done_object files counts list)
+done_object_fits files counts list are =
     object_fits 2 (word_field (codes "status") (codes "done") ∷ (count_fields files counts ++ list_field list ∷ [])) (
       word_fits 2 (codes "status") (codes "done"),
-      fields_fit 2 (count_fields files counts) (list_field list ∷ [])
-          (number_fits 2 (codes "files") files few, (number_fits 2 (codes "keys") counts.keys keys, (number_fits 2 (codes "revoked") counts.revoked revoked, (number_fits 2 (codes "unread") counts.unread unread, tt))))
-          (list_field_fits list),
+      fields_fit 2 (count_fields files counts) (list_field list ∷ []) (counts_fit files counts are) (list_field_fits list),
     )

@@ -9,3 +9,4 @@ pub mod ReasonNames
 pub mod Audit
 pub mod Keyless
 pub mod Colour
+pub mod Same

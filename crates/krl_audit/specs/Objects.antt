@@ -1,6 +1,6 @@
 -- Findings as JSON objects.
-use Rattle.std.specs.Prelude.{ℕ, Bool, true, false, List, [], ◌∷◌, ◌++◌, codes, nat_lt, Option}
-use Rattle.std.specs.Prelude.{Some, None, if◌then◌else◌}
+use Rattle.std.specs.Prelude.{ℕ, ◌<◌, ◌^◌, Bool, true, false, List, [], ◌∷◌, ◌++◌, codes, nat_lt}
+use Rattle.std.specs.Prelude.{Option, Some, None, if◌then◌else◌}
 use Rattle.hex.specs.Hex.{encode_lower}
 use Rattle.json.specs.Json.{Json}
 use Rattle.json_lines.specs.Field.{Field, array_of, digits_field, field, number_field, object_of}
@@ -25,6 +25,7 @@ use Rattle.krl_audit.specs.Outcome.{Found}
 use Rattle.krl_audit.specs.Text.{type_of}
 use Rattle.krl_audit.specs.Why.{why_text}
 use Rattle.krl_audit.specs.declared.counts.Counts.{Counts}
+use Rattle.krl_audit.specs.declared.done.FileCounts.{FileCounts}
 use Rattle.krl_audit.specs.declared.done.ListFacts.{ListFacts}
 use Rattle.krl_audit.specs.declared.done.Stated.{Stated}
 use Rattle.krl_audit.specs.declared.why.Refusal.{Refusal}
@@ -160,6 +161,10 @@ refusal_fault refusals.Missing = files.Open
 refusal_fault refusals.Denied = files.Open
 refusal_fault refusals.Irregular = files.Open
 refusal_fault refusals.Loop = files.Open
+refusal_fault refusals.DirectoryLink = files.Open
+refusal_fault refusals.NoFile = files.NoKeys
+refusal_fault refusals.LongName = files.Open
+refusal_fault refusals.Slow = files.Open
 refusal_fault refusals.Open = files.Open
 refusal_fault refusals.Read = files.Read
 refusal_fault refusals.TooLong = files.TooLong
@@ -209,15 +214,33 @@ list_facts list =
 abbrev pub list_field : ListFacts → Field
 list_field list = field (codes "list") (object_of (list_facts list))
 
-abbrev pub count_fields : ℕ → Counts → List Field
-count_fields files counts =
-    number_field (codes "files") files
-    ∷ number_field (codes "keys") counts.keys
+abbrev pub line_count_fields : Counts → List Field
+line_count_fields counts =
+    number_field (codes "keys") counts.keys
     ∷ number_field (codes "revoked") counts.revoked
     ∷ number_field (codes "unread") counts.unread ∷ []
 
+-- the names that were not audited
+abbrev pub name_count_fields : FileCounts → List Field
+name_count_fields files =
+    number_field (codes "skipped") files.skipped ∷ number_field (codes "same") files.same ∷ []
+
+abbrev pub count_fields : FileCounts → Counts → List Field
+count_fields files counts =
+    number_field (codes "files") files.audited
+    ∷ (line_count_fields counts ++ name_count_fields files)
+
+-- Each of them is a number of 64 bits.
+pub record AreCounts (files : FileCounts) (counts : Counts) : Type 0 where
+  pub audited : files.audited < 2 ^ 64
+  pub same : files.same < 2 ^ 64
+  pub skipped : files.skipped < 2 ^ 64
+  pub keys : counts.keys < 2 ^ 64
+  pub revoked : counts.revoked < 2 ^ 64
+  pub unread : counts.unread < 2 ^ 64
+
 -- the last object of an audit that was not stopped
-abbrev pub done_object : ℕ → Counts → ListFacts → Json
+abbrev pub done_object : FileCounts → Counts → ListFacts → Json
 done_object files counts list =
     object_of (word_field (codes "status") (codes "done")
     ∷ (count_fields files counts ++ list_field list ∷ []))

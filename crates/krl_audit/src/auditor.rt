@@ -24,7 +24,7 @@ ghost use Rattle.krl_audit.specs.Outcome.{place, place_all, placed_behind, place
 ghost use Rattle.krl_audit.specs.Outcome.{private_outcome, read_all, without_mark};
 
 use crate::counts::{Counts, LineKind};
-use crate::done::{ListFacts, write_done};
+use crate::done::{FileCounts, ListFacts, write_done};
 use crate::front::{Fronts, is_read_by_lines};
 use crate::judge::Judge;
 use crate::outcome::{Outcome, Outcomes, checked, open_private, read_outcomes};
@@ -326,9 +326,13 @@ impl<'q, 'w, W: Sink> Auditor<'q, 'w, W> {
         }
     }
 
-    /// Prints the last object of an audit that was not stopped: the number of files, the counts,
+    /// Prints the last object of an audit that was not stopped: the counts of files and of lines,
     /// and the list.
-    pub fn say_done<'a>(&mut self, files: u64, list: &ListFacts<'a>) -> Result<(), RunFault<'a>>
+    pub fn say_done<'a>(
+        &mut self,
+        files: FileCounts,
+        list: &ListFacts<'a>,
+    ) -> Result<(), RunFault<'a>>
         ensures said { Carries (said_of list.now.name.now
             (json_line (done_object files self.old.counts list.now)) ∷ []) result
             self.old.run.printer self.new.run.printer }
@@ -356,7 +360,11 @@ impl<'q, 'w, W: Sink> Auditor<'q, 'w, W> {
 }
 
 // Prints the line that was made, if it is to be printed.
-fn say_made<'a, W: Sink>(run: &mut Run<W>, name: &'a str, said: bool) -> Result<(), RunFault<'a>>
+pub(crate) fn say_made<'a, W: Sink>(
+    run: &mut Run<W>,
+    name: &'a str,
+    said: bool,
+) -> Result<(), RunFault<'a>>
     ensures { Carries (said_if said name.now run.old.line.items ∷ []) result run.old.printer
         run.new.printer }
 {

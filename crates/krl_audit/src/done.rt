@@ -2,7 +2,8 @@
 
 ghost use Rattle.std.specs.Prelude.{◌≡◌, ◌∷◌, ◌++◌, [], OnOk};
 ghost use Rattle.json_lines.specs.Field.{fields_tokens, json_line};
-ghost use Rattle.krl_audit.specs.Objects.{count_fields, done_object, list_field, stated_fields};
+ghost use Rattle.krl_audit.specs.Objects.{count_fields, done_object, line_count_fields};
+ghost use Rattle.krl_audit.specs.Objects.{list_field, name_count_fields, stated_fields};
 ghost use Rattle.krl_audit.specs.Objects.{version_fields};
 
 use crate::counts::Counts;
@@ -20,6 +21,26 @@ pub struct Stated {
     pub generated: u64,
 }
 
+/// The counts of files.
+#[derive(Clone, Copy)]
+pub struct FileCounts {
+    /// The number of files that were audited, whether they were read or not.
+    pub audited: u64,
+    /// The number of names that lead to a file that was audited before.
+    pub same: u64,
+    /// The number of files of directories that were skipped by their names.
+    pub skipped: u64,
+}
+
+impl FileCounts {
+    /// No file.
+    pub const NONE: FileCounts = FileCounts {
+        audited: 0,
+        same: 0,
+        skipped: 0,
+    };
+}
+
 /// The facts about the list of the audit.
 #[derive(Clone, Copy)]
 pub struct ListFacts<'a> {
@@ -34,7 +55,7 @@ pub struct ListFacts<'a> {
 /// Makes the line of the last object.
 pub(crate) fn write_done(
     alloc: Global,
-    files: u64,
+    files: FileCounts,
     counts: Counts,
     list: &ListFacts<'_>,
     line: &mut Vec<u8>,
@@ -50,13 +71,31 @@ pub(crate) fn write_done(
 }
 
 // Writes the counts.
-fn put_counts(out: &mut LineWriter, files: u64, counts: Counts) -> Result<(), AllocError>
+fn put_counts(out: &mut LineWriter, files: FileCounts, counts: Counts) -> Result<(), AllocError>
     ensures { OnOk result (out.new ≡ out.old ++ fields_tokens (count_fields files counts)) }
 {
-    put_number(out, "files", files)?;
+    put_number(out, "files", files.audited)?;
+    put_line_counts(out, counts)?;
+    put_name_counts(out, files)?;
+    Ok(())
+}
+
+// Writes the counts of lines.
+fn put_line_counts(out: &mut LineWriter, counts: Counts) -> Result<(), AllocError>
+    ensures { OnOk result (out.new ≡ out.old ++ fields_tokens (line_count_fields counts)) }
+{
     put_number(out, "keys", counts.keys)?;
     put_number(out, "revoked", counts.revoked)?;
     put_number(out, "unread", counts.unread)?;
+    Ok(())
+}
+
+// Writes the counts of the names that were not audited.
+fn put_name_counts(out: &mut LineWriter, files: FileCounts) -> Result<(), AllocError>
+    ensures { OnOk result (out.new ≡ out.old ++ fields_tokens (name_count_fields files)) }
+{
+    put_number(out, "skipped", files.skipped)?;
+    put_number(out, "same", files.same)?;
     Ok(())
 }
 

@@ -28,6 +28,8 @@ fn refusal_fault(refusal: Refusal) -> FileFault
     match refusal {
         Refusal::Missing | Refusal::Denied | Refusal::Irregular | Refusal::Loop | Refusal::Open =>
             FileFault::Open,
+        Refusal::DirectoryLink | Refusal::LongName | Refusal::Slow => FileFault::Open,
+        Refusal::NoFile => FileFault::NoKeys,
         Refusal::Read => FileFault::Read,
         Refusal::TooLong => FileFault::TooLong,
     }

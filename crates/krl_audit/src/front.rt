@@ -9,7 +9,7 @@ ghost use Rattle.krl_audit.specs.Front.{last_part, to_slash};
 use key_text::is_blank;
 
 /// What the field before the key of a line is.
-#[derive(Clone, Copy)]
+#[derive(Clone, Copy, PartialEq, Eq, PartialOrd, Ord)]
 pub enum Fronts {
     /// Host names, which end at the first blank.
     Hosts,
@@ -36,7 +36,7 @@ impl Fronts {
 /// Returns true if ssh or sshd reads each line of a file with this name, also if the file begins
 /// with a private key.
 #[tactic(auto, unfolding(crate::specs::Front::is_read_by_lines))]
-pub(crate) fn is_read_by_lines(name: &[u8]) -> bool
+pub fn is_read_by_lines(name: &[u8]) -> bool
     ensures { result ≡ is_read_by_lines name.now }
 {
     is_known_hosts(name) || is_authorized_keys(name)

@@ -18,12 +18,14 @@ ghost use Rattle.krl_entries.specs.declared.reasons.Reasons.{Reasons};
 ghost use Rattle.json_lines.specs.ReadBack.{IsReadBack};
 ghost use Rattle.krl_audit.specs.Audit.{kind_of};
 ghost use Rattle.krl_audit.specs.Colour.{IsCount, IsPainted};
-ghost use Rattle.krl_audit.specs.Objects.{done_object, key_object, unread_object};
+ghost use Rattle.krl_audit.specs.Objects.{AreCounts, done_object, key_object, unread_object};
 ghost use Rattle.krl_audit.specs.Outcome.{Empty, Found, HasFound, Key, Unread, asked_outcome};
 ghost use Rattle.krl_audit.specs.Outcome.{hosts_of, one, options_of, outcomes_of};
+ghost use Rattle.krl_audit.specs.Same.{same_object};
 ghost use Rattle.krl_audit.specs.Text.{key_line, unread_line};
 ghost use Rattle.krl_audit.specs.declared.counts.Counts.{Counts as CountsOf};
 ghost use Rattle.krl_audit.specs.declared.counts.LineKind.TheVariants as kinds;
+ghost use Rattle.krl_audit.specs.declared.done.FileCounts.{FileCounts as FileCountsOf};
 ghost use Rattle.krl_audit.specs.declared.front.Fronts.{Fronts as FrontsOf};
 ghost use Rattle.krl_audit.specs.declared.front.Fronts.TheVariants as fronts;
 ghost use Rattle.krl_audit.specs.declared.done.ListFacts.{ListFacts as ListFactsOf};
@@ -96,9 +98,9 @@ pub fn objects_are_read_back()
         → number < 2 ^ 64 → IsReadBack (key_object name number found all) }
     ensures unread { (name : List ℕ) (number : ℕ) (why : WhyOf) → number < 2 ^ 64
         → IsCount why → IsReadBack (unread_object name number why) }
-    ensures done { (files : ℕ) (counts : CountsOf) (list : ListFactsOf) → files < 2 ^ 64
-        → counts.keys < 2 ^ 64 → counts.revoked < 2 ^ 64 → counts.unread < 2 ^ 64
-        → IsReadBack (done_object files counts list) }
+    ensures same { (name : List ℕ) → IsReadBack (same_object name) }
+    ensures done { (files : FileCountsOf) (counts : CountsOf) (list : ListFactsOf)
+        → AreCounts files counts → IsReadBack (done_object files counts list) }
 {
     lines_are_read_back();
 }

@@ -16,6 +16,7 @@ mod outcome;
 mod reason_values;
 mod reasons;
 mod said;
+mod same;
 mod survey;
 mod text;
 mod unread;
@@ -24,8 +25,8 @@ mod why;
 
 pub use auditor::Auditor;
 pub use counts::{Counts, LineKind};
-pub use done::{ListFacts, Stated};
-pub use front::Fronts;
+pub use done::{FileCounts, ListFacts, Stated};
+pub use front::{Fronts, is_read_by_lines};
 pub use judge::{Form, Judge, Shown};
 pub use keyless::keyless_lines;
 pub use outcome::{Found, Outcome, Outcomes, read_outcomes};

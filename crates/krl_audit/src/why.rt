@@ -19,6 +19,14 @@ pub enum Refusal {
     Irregular,
     /// A link leads back to itself.
     Loop,
+    /// A link that was found in a directory leads to a directory.
+    DirectoryLink,
+    /// A directory that is named has no file that is read.
+    NoFile,
+    /// The name of a file has more than 4,096 bytes.
+    LongName,
+    /// Opening another file of its owner took long, and opening it may take as long.
+    Slow,
     /// It cannot be opened for another reason.
     Open,
     /// It cannot be read to its end.
@@ -104,6 +112,10 @@ fn refusal_why(refusal: Refusal) -> &'static [u8]
         Refusal::Denied => b"Permission denied",
         Refusal::Irregular => b"no regular file",
         Refusal::Loop => b"Too many levels of symbolic links",
+        Refusal::DirectoryLink => b"a link to a directory: name it",
+        Refusal::NoFile => b"no file in this directory is read by its name",
+        Refusal::LongName => b"its name has more than 4,096 bytes",
+        Refusal::Slow => b"opening another file of its owner took too long",
         Refusal::Open => b"it cannot be opened",
         Refusal::Read => b"it cannot be read to its end",
         Refusal::TooLong => b"it has more than 16 MiB",

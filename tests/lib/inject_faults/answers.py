@@ -5,11 +5,15 @@ Each function returns None, or what is wrong."""
 
 import re
 
-NO_MEMORY = re.compile(rb"ssh-keygen: (?:usage 3 NoMemory|[^\n]+: (?:file 4|run 1) NoMemory)\n")
-READ = re.compile(rb"ssh-keygen: [^\n]+: (?:file 2|krl 13) Read\n")
-WRITE = b"ssh-keygen: %s: output 1 Write after %d bytes\n"
-OPEN = b"ssh-keygen: made.krl: file 1 Open\n"
+# The lines of a fault, after the name of the program.
+NO_MEMORY = re.compile(rb"(?:usage 3 NoMemory|[^\n]+: (?:file 4|run 1) NoMemory)\n")
+READ = re.compile(rb"[^\n]+: (?:file 2|krl 13) Read\n")
+WRITE = b"%s: output 1 Write after %d bytes\n"
+OPEN = b"made.krl: file 1 Open\n"
+UNREAD = b"it cannot be read to its end"
+DONE = b'{"status":"done",'
 FAULT = 255
+REVOKED, UNKNOWN = 1, 3
 OUTPUT, ERROR = 1, 2
 
 
@@ -33,9 +37,15 @@ def stopped(run, ample, got):
     return None
 
 
+def lacks_summary(run, ample, got):
+    """Whether an audit is whole, but for its last line on standard error."""
+    whole = (ample.status, ample.output, b"")
+    return run.audits() and (got.status, got.output, got.error) == whole
+
+
 def without_memory(run, ample, got):
     """Memory was refused once: of a run with a fault to report, maybe that for the line of it."""
-    if got.says() == ample.says():
+    if got.says() == ample.says() or lacks_summary(run, ample, got):
         return None
     if not NO_MEMORY.fullmatch(got.error) and (got.error or ample.status != FAULT):
         return "standard error"
@@ -44,7 +54,7 @@ def without_memory(run, ample, got):
 
 def without_any_memory(run, ample, got):
     """Memory was refused from some call on, so there may be none for the line that reports it."""
-    if got.says() == ample.says():
+    if got.says() == ample.says() or lacks_summary(run, ample, got):
         return None
     if got.error and not NO_MEMORY.fullmatch(got.error):
         return "standard error"
@@ -58,6 +68,19 @@ def after_read(run, ample, got):
     if not READ.fullmatch(got.error):
         return "standard error"
     return stopped(run, ample, got)
+
+
+def after_audit_read(run, ample, got):
+    """A read of an audit failed: the list is refused, or what was read is reported as unread, and
+    the status says so. All other lines are among those of a whole audit."""
+    if got.status == FAULT:
+        return after_read(run, ample, got)
+    lines = ample.output.split(b"\n")
+    new = [it for it in got.output.split(b"\n") if it not in lines]
+    unread = [it for it in new if UNREAD in it]
+    if len(unread) != 1 or not all(it in unread or it.startswith(DONE) for it in new):
+        return "standard output"
+    return None if got.status in (REVOKED, UNKNOWN) else "the status"
 
 
 def after_write(run, ample, got):

@@ -51,14 +51,20 @@ class Counts:
 class Program:
     """The program, in the current folder, which has the files that it reads."""
 
-    def __init__(self, program, library):
+    def __init__(self, program, library, name="ssh-keygen"):
         self.program = program
         self.library = library
+        self.name = name
         signal.signal(signal.SIGALRM, self.stop)
         self.process = None
 
     def stop(self, *_):
         os.kill(self.process, signal.SIGKILL)
+
+    def faults(self, error):
+        """Standard error, without the name of the program before a fault, or the front of it."""
+        before = self.name.encode() + b": "
+        return b"" if before.startswith(error) else error.removeprefix(before)
 
     def run(self, words, given=os.devnull, old=None, **failing):
         """Runs it with the words, and standard input from the file given. Where the words make a
@@ -74,7 +80,7 @@ class Program:
         names = {*os.listdir(), LIST, "output", "error"}
         self.process = os.posix_spawn(
             self.program,
-            ["ssh-keygen"] + words,
+            [self.name] + words,
             {"LD_PRELOAD": self.library, "REPORT": "report", "MOMENT": str(MOMENT), **failing},
             file_actions=[
                 (os.POSIX_SPAWN_OPEN, 0, given, os.O_RDONLY, 0),
@@ -89,7 +95,7 @@ class Program:
         return Ended(
             status,
             Path("output").read_bytes(),
-            Path("error").read_bytes(),
+            self.faults(Path("error").read_bytes()),
             Path(LIST).read_bytes() if os.path.exists(LIST) else None,
             remove_all({*os.listdir()} - names),
             {sort: Counts(*numbers[3 * at : 3 * at + 3]) for at, sort in enumerate(SORTS)},

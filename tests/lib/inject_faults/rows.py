@@ -31,7 +31,7 @@ def equal_growths(room, name, small, large):
 def fault(room, name, says, words, output=b"", **failing):
     """A run that ends with this fault line, and leaves no list."""
     got = asked(room, words, **failing)
-    is_right = got.says() == (255, output, b"ssh-keygen: %s\n" % says, None, 0)
+    is_right = got.says() == (255, output, says + b"\n", None, 0)
     room.judge(name, [] if is_right else [got.shown()])
 
 

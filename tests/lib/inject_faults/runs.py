@@ -17,6 +17,9 @@ class Run:
     def makes(self):
         return self.words[0] == "-k"
 
+    def audits(self):
+        return self.words[0] == "audit"
+
 
 # A number that is so long that its text needs an allocation.
 EPOCH = {"SOURCE_DATE_EPOCH": "00000000001234567890"}
@@ -61,4 +64,19 @@ RUNS = [
     Run("the help", "-h"),
     Run("an unknown option", "-Y"),
     Run("options that do not go together", "-l -u -f g.pub", is_patient=False),
+]
+
+# The same of krl. The folder home has files of each sort, and what is read and reported in it.
+KRL_RUNS = [
+    Run("an audit of a file", "audit -f key.krl keys.pub", is_patient=False),
+    Run("an audit of all sections", "audit -a -f whole.krl " + KEYS, is_patient=False),
+    Run("an audit of a directory", "audit -a -f key.krl home", is_patient=False),
+    Run("an audit as objects", "audit --json -a -f whole.krl certs.pub", is_patient=False),
+    Run(
+        "an audit by names",
+        "audit -f key.krl --files0-from - g.pub",
+        given="names",
+        is_patient=False,
+    ),
+    Run("an audit by a list that is cut", "audit -f cut.krl g.pub", is_patient=False),
 ]

@@ -48,6 +48,11 @@ MEMORY = [
     Sweep("refused allocations", "MEMORY", answers.without_memory),
     Sweep("last allocations refused", "MEMORY", answers.without_any_memory, lasts=True),
 ]
+AUDIT_READS = [
+    Sweep("reads that fail", "READ", answers.after_audit_read, errno.EIO),
+    Sweep("short reads", "READ", answers.same, SHORT),
+    Sweep("interrupted reads", "READ", answers.same, errno.EINTR),
+]
 FILES = [
     Sweep("lists that are not created", "CREATE", answers.unopened, errno.ENOSPC),
     Sweep("new names that are taken", "CREATE", answers.same, errno.EEXIST),
@@ -60,7 +65,6 @@ FILES = [
     Sweep("lists that get no name", "RENAME", answers.unwritten, errno.EIO),
     Sweep("lists that get no link", "LINK", answers.same, errno.EPERM),
 ]
-ALL = MEMORY + READS + WRITES
 
 
 def numbers(count, most):
@@ -134,7 +138,9 @@ class Room(trial.Tests):
 
     def all(self, run):
         run.before = self.files[run.old] if run.old else None
-        for sweep in ALL + (FILES if run.makes() else []):
+        for sweep in MEMORY + (AUDIT_READS if run.audits() else READS) + WRITES:
+            self.sweep(run, sweep)
+        for sweep in FILES if run.makes() else []:
             self.sweep(run, sweep)
         self.unremoved(run)
         self.pieces(run)

@@ -1,7 +1,9 @@
 //! The order and the paths of names, how far an audit is, and its last line.
 
-use audit_tree::{Summary, path_in, push_progress, push_summary, push_wipe, sort_names};
-use krl_audit::{Counts, Stated};
+use audit_tree::{
+    Summary, path_in, push_progress, push_summary, push_wipe, reads_every, shown_path, sort_names,
+};
+use krl_audit::{Counts, FileCounts, Stated};
 use std::test::Fail;
 
 #[test]
@@ -29,6 +31,26 @@ fn paths(rt: HostRuntime) -> Result<(), Fail> {
 }
 
 #[test]
+fn a_path_that_is_not_utf8(rt: HostRuntime) -> Result<(), Fail> {
+    let path = shown_path(rt.alloc(), "caf\u{e9}", b"x\xe9")?;
+    assert!(rt; path.as_str() == "caf\\xc3\\xa9/x\\xe9");
+    Ok(())
+}
+
+#[test]
+fn files_of_directories(rt: HostRuntime) {
+    for (path, every) in [
+        ("authorized_keys.d", true),
+        ("etc/authorized_keys.d/", true),
+        ("/authorized_keys.d", true),
+        ("my_authorized_keys.d", false),
+        ("authorized_keys.d/bob", false),
+    ] {
+        assert!(rt; reads_every(path.as_bytes()) == every);
+    }
+}
+
+#[test]
 fn last_lines(rt: HostRuntime) -> Result<(), Fail> {
     let counts = Counts {
         keys: 8,
@@ -36,7 +58,11 @@ fn last_lines(rt: HostRuntime) -> Result<(), Fail> {
         unread: 1,
     };
     let mut summary = Summary {
-        files: 4,
+        files: FileCounts {
+            audited: 4,
+            same: 0,
+            skipped: 0,
+        },
         revoked_files: 3,
         counts,
         stated: Some(Stated {
@@ -54,12 +80,18 @@ fn last_lines(rt: HostRuntime) -> Result<(), Fail> {
     push_wipe(3, &mut text)?;
     let wanted = b"\rkrl audit: 4 files, 8 keys: 5 revoked, 1 unread\r   \r";
     assert!(rt; text.as_slice() == wanted.as_slice());
-    summary.files = 1;
+    summary.files.audited = 1;
+    summary.files.same = 3;
+    summary.files.skipped = 12;
     summary.counts.keys = 1;
     summary.revoked_files = 1;
     text.clear();
     push_summary(rt.alloc(), &summary, &mut text)?;
-    assert!(rt; text.starts_with(b"krl audit: 1 file, 1 key: 5 revoked in 1 file, 1 unread ("));
+    let wanted = b"krl audit: 1 file, 1 key: 5 revoked in 1 file, 1 unread, 12 skipped, \
+3 audited before (";
+    assert!(rt; text.starts_with(wanted));
+    summary.files.same = 0;
+    summary.files.skipped = 0;
     summary.stated = None;
     text.clear();
     push_summary(rt.alloc(), &summary, &mut text)?;

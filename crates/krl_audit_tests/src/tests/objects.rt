@@ -5,7 +5,7 @@ use crate::tests::made::{Listed, OBJECTS, alice_and_bob, all_of_bob, blob_of, no
 use byte_streams::{Sink, ToWrite};
 use key_listing::{Printer, Run};
 use key_text::{sha1_of, sha256_of};
-use krl_audit::{Auditor, Counts, Judge, ListFacts, Refusal, Stated};
+use krl_audit::{Auditor, Counts, FileCounts, Judge, ListFacts, Refusal, Stated};
 use std::alloc::Global;
 use std::process::Abort;
 use test_fixtures::{Taker, joined};
@@ -206,7 +206,7 @@ fn a_line_that_is_not_read_has_its_fault(rt: HostRuntime) {
 }
 
 // Files that are not read, and their faults.
-const REFUSED: [(Refusal, &str, &str); 7] = [
+const REFUSED: [(Refusal, &str, &str); 11] = [
     (Refusal::Missing, "file 1 Open", "No such file or directory"),
     (Refusal::Denied, "file 1 Open", "Permission denied"),
     (Refusal::Irregular, "file 1 Open", "no regular file"),
@@ -214,6 +214,26 @@ const REFUSED: [(Refusal, &str, &str); 7] = [
         Refusal::Loop,
         "file 1 Open",
         "Too many levels of symbolic links",
+    ),
+    (
+        Refusal::DirectoryLink,
+        "file 1 Open",
+        "a link to a directory: name it",
+    ),
+    (
+        Refusal::NoFile,
+        "file 5 NoKeys",
+        "no file in this directory is read by its name",
+    ),
+    (
+        Refusal::LongName,
+        "file 1 Open",
+        "its name has more than 4,096 bytes",
+    ),
+    (
+        Refusal::Slow,
+        "file 1 Open",
+        "opening another file of its owner took too long",
     ),
     (Refusal::Open, "file 1 Open", "it cannot be opened"),
     (Refusal::Read, "file 2 Read", "it cannot be read to its end"),
@@ -265,7 +285,12 @@ fn say_last<W: Sink>(
         unread: u64::MAX,
     };
     let mut auditor = Auditor { judge, run, counts };
-    auditor.say_done(4, facts).expect(rt, "there is memory");
+    let files = FileCounts {
+        audited: 4,
+        same: 1,
+        skipped: 12,
+    };
+    auditor.say_done(files, facts).expect(rt, "there is memory");
     assert!(rt; auditor.finish(None).status == 1);
 }
 
@@ -289,7 +314,7 @@ fn the_last_object_has_the_counts_and_the_list(rt: HostRuntime) {
         &mut ToWrite::new(&mut taker),
     );
     let wanted = b"{\"status\":\"done\",\"files\":4,\"keys\":8,\"revoked\":5,\
-\"unread\":18446744073709551615,\"list\":{\"file\":\"revoked.krl\",\
+\"unread\":18446744073709551615,\"skipped\":12,\"same\":1,\"list\":{\"file\":\"revoked.krl\",\
 \"version\":\"18446744073709551615\",\"generated\":\"2026-11-26T23:15:11Z\",\
 \"sha256\":\"abababababababababababababababababababababababababababababababab\"}}\n";
     assert_eq!(rt; taker.taken.as_slice(), wanted.as_slice());

@@ -6,7 +6,8 @@ use byte_streams::{Sink, ToWrite};
 use key_files::{Cause, RunFault};
 use key_listing::{Printer, Run};
 use krl_audit::{
-    Auditor, Counts, Form, Fronts, Judge, ListFacts, Outcome, Shown, Stated, read_outcomes,
+    Auditor, Counts, FileCounts, Form, Fronts, Judge, ListFacts, Outcome, Shown, Stated,
+    read_outcomes,
 };
 use krl_core::Revocations;
 use span_sets::Held;
@@ -32,12 +33,28 @@ const OBJECTS: &[u8] = b"{\"file\":\"f\",\"line\":1,\"status\":\"unread\",\
 \"options\":\"no-pty\",\"certificate\":{\"serial\":\"7\",\"id\":\"a\",\
 \"authority\":\"SHA256:SQfC+vTbLURn9cTkVxIS8fGQ3FKNAJWeB0o139+gV4M\"},\
 \"reasons\":[{\"by\":\"key\"},{\"by\":\"serial\",\"serial\":\"7\",\"authority\":\"all\"}]}
-{\"status\":\"done\",\"files\":1,\"keys\":2,\"revoked\":2,\"unread\":1,\"list\":{\"file\":\"l\",\
+{\"file\":\"g\",\"status\":\"same\"}
+{\"status\":\"done\",\"files\":1,\"keys\":2,\"revoked\":2,\"unread\":1,\"skipped\":2,\"same\":1,\
+\"list\":{\"file\":\"l\",\
 \"version\":\"1\",\"generated\":\"1970-01-01T00:00:00Z\",\
 \"sha256\":\"0000000000000000000000000000000000000000000000000000000000000000\"}}
 ";
 
-// Audits a file of three lines, and says the last object.
+// Says that a name leads to the same file, and the last object.
+fn say_rest<W: Sink>(
+    auditor: &mut Auditor<'_, '_, W>,
+    facts: &ListFacts<'static>,
+) -> Result<(), RunFault<'static>> {
+    auditor.say_same("g")?;
+    let files = FileCounts {
+        audited: 1,
+        same: 1,
+        skipped: 2,
+    };
+    auditor.say_done(files, facts)
+}
+
+// Audits a file of three lines, and says the rest.
 fn said_as_objects<W: Sink>(
     alloc: Global,
     list: &Revocations<Held>,
@@ -70,7 +87,7 @@ fn said_as_objects<W: Sink>(
         sha256: [0; 32],
     };
     let stop = match auditor.audit_file("f", Ok(text)) {
-        Ok(()) => auditor.say_done(1, &facts).err(),
+        Ok(()) => say_rest(&mut auditor, &facts).err(),
         Err(stop) => Some(stop),
     };
     let done = auditor.finish(stop);

@@ -1,14 +1,21 @@
 //! Paths of directories, names that are shown, how far an audit is, and its last line.
 
 use crate::tests::answered::answered;
-use audit_tree::{Summary, path_in, push_progress, push_summary, push_wipe};
-use krl_audit::{Counts, Stated, visible_name};
+use audit_tree::{Summary, path_in, push_progress, push_summary, push_wipe, shown_path};
+use krl_audit::{Counts, FileCounts, Stated, visible_name};
 use std::alloc::AllocError;
 
 #[test]
 fn a_path(rt: HostRuntime) {
     if let Some(path) = answered(&rt, path_in(rt.alloc(), "home", "x"), AllocError) {
         assert!(rt; path.as_str() == "home/x");
+    }
+}
+
+#[test]
+fn a_path_that_is_not_utf8(rt: HostRuntime) {
+    if let Some(path) = answered(&rt, shown_path(rt.alloc(), "home", b"\xe9"), AllocError) {
+        assert!(rt; path.as_str() == "home/\\xe9");
     }
 }
 
@@ -21,7 +28,11 @@ fn a_name_that_is_not_utf8(rt: HostRuntime) {
 
 // One file without a key.
 const SUMMARY: Summary = Summary {
-    files: 1,
+    files: FileCounts {
+        audited: 1,
+        same: 0,
+        skipped: 2,
+    },
     revoked_files: 0,
     counts: Counts::NONE,
     stated: Some(Stated {
@@ -48,7 +59,7 @@ fn a_last_line(rt: HostRuntime) {
     let mut text = Vec::new(rt.alloc());
     let pushed = push_summary(rt.alloc(), &SUMMARY, &mut text);
     if let Some(()) = answered(&rt, pushed, AllocError) {
-        let wanted = b"krl audit: 1 file, 0 keys: 0 revoked in 0 files, 0 unread \
+        let wanted = b"krl audit: 1 file, 0 keys: 0 revoked in 0 files, 0 unread, 2 skipped \
 (list version 12, 2026-11-26T23:15:11Z)\n";
         assert!(rt; text.as_slice() == wanted.as_slice());
     }

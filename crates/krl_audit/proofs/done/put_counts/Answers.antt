@@ -1,6 +1,6 @@
--- Four fields, one after the other.
-use Rattle.json_lines.proofs.Objects.{four_fields}
+-- The number of files, the counts of lines, and those of names.
+use Rattle.json_lines.proofs.Objects.{three_fields}
 use Rattle.krl_audit.proofs.done.put_counts.Goals as goal
 
 pub returns : goal.returns
-returns c = four_fields c.args.out.now _ _ _ _ _ _ _ _ c.in_ok-put_number.ensures c.in_ok-put_number-2.ensures c.in_ok-put_number-3.ensures c.in_ok-put_number-4.ensures
+returns c = three_fields c.args.out.now _ _ _ _ _ _ c.in_ok-put_number.ensures c.in_ok-put_line_counts.ensures c.in_ok-put_name_counts.ensures

@@ -13,7 +13,7 @@ returns-then-count-eq0-clause-names g c =
     let end = c.in-Ok.ensures.bytes.1 c.if-count-eq0.true room in
     let sorted = c.sort_names.ensures in (
       search rules,
-      all_read (left c.args.reader.now) (left loop.reader) (left c.read.new.self) loop.name.items loop.names.items
+      all_read _ (left c.args.reader.now) (left loop.reader) (left c.read.new.self) loop.name.items loop.names.items
           c.sort_names.new.names.items loop.invariant.found none end sorted.same sorted.ordered,
     )
 

@@ -32,10 +32,10 @@ loop-byte-preserved c = record {
         | then-branch+in_ok-push-2 w ↦
             name_taken c.replace-ended.result front later left names found held ends
             (ap (λ (names : Vec (Vec ℕ)). names.items) w.names-is ∙ w.in_ok-push-2.ensures.items)
-            (rw (w.if-branch.true, c.as_slice.ensures.value) at c.in_ok-is_wanted.ensures)
+            (rw (w.if-branch.true, c.as_slice.ensures.value) at c.in_ok-is_wanted.ensures.wanted)
         | else-branch w ↦
             name_left front later left names found ends (ap (λ (names : Vec (Vec ℕ)). names.items) w.names-is)
-            (rw (w.if-branch.false, c.as_slice.ensures.value, held) at c.in_ok-is_wanted.ensures)
+            (rw (w.if-branch.false, c.as_slice.ensures.value, held) at c.in_ok-is_wanted.ensures.wanted)
       ]));
   kept = search rules;
 }

@@ -1,0 +1,34 @@
+/* Loaded before the C library of a program, this lets the opening of a file whose name ends with
+   slow.pub last six seconds, as its owner can by a lease, puts a link to a device in the place of a
+   file whose name ends with swapped.pub right before it is opened, and removes a file whose name
+   ends with going right before it is looked at. */
+#define _GNU_SOURCE
+#include <fcntl.h>
+#include <stdarg.h>
+#include <string.h>
+#include <sys/stat.h>
+#include <sys/syscall.h>
+#include <unistd.h>
+
+static int ends(const char *path, const char *with) {
+  size_t length = strlen(path), end = strlen(with);
+  return length >= end && strcmp(path + length - end, with) == 0;
+}
+
+int open(const char *path, int flags, ...) {
+  va_list rest;
+  va_start(rest, flags);
+  mode_t mode = flags & O_CREAT ? va_arg(rest, mode_t) : 0;
+  va_end(rest);
+  if (ends(path, "slow.pub"))
+    sleep(6);
+  if (ends(path, "swapped.pub") && unlink(path) == 0 && symlink("/dev/zero", path) != 0)
+    return -1;
+  return syscall(SYS_openat, AT_FDCWD, path, flags, mode);
+}
+
+int statx(int folder, const char *path, int flags, unsigned mask, struct statx *found) {
+  if (ends(path, "going"))
+    unlink(path);
+  return syscall(SYS_statx, folder, path, flags, mask, found);
+}
