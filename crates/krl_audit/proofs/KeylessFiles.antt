@@ -6,7 +6,7 @@ use Rattle.key_text.specs.Lines.{is_newline}
 use Rattle.krl_audit.specs.Audit.{keyless}
 use Rattle.krl_audit.specs.Front.{fronts_of}
 use Rattle.krl_audit.specs.Keyless.{keyless_lines}
-use Rattle.krl_audit.specs.Outcome.{Outcome, Outcomes, outcomes_of, plain_lines, read_all, without_mark}
+use Rattle.krl_audit.specs.Outcome.{outcomes_of, plain_lines, read_all, without_mark}
 use Rattle.krl_audit.specs.declared.front.Fronts.{Fronts}
 use Rattle.krl_audit.proofs.Files.{bare_lines}
 

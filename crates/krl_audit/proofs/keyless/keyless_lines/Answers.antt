@@ -1,5 +1,5 @@
 -- A private key file is none of these files, and any other is surveyed.
-use Rattle.std.proofs.Common.{ℕ, Option, sym, ap, ◌≡◌, ◌∙◌}
+use Rattle.std.proofs.Common.{sym, ap, ◌∙◌}
 use Rattle.std.proofs.lemmas.Result.{IfOk-weaker}
 use Rattle.key_text.specs.Lines.{lines_left}
 use Rattle.krl_audit.specs.Front.{fronts_of}
