@@ -34,6 +34,8 @@ sys.dont_write_bytecode = True
 TOP = os.path.dirname(os.path.realpath(__file__))
 BUILT = os.path.join(TOP, "built")
 TOOLS = ("rattle", "rattle-link", "rtlib.py")
+# The processor that the programs and libkrl need: any of the 64-bit x86 family.
+CPU = "x86-64"
 # The memory in bytes of a process that proves a crate.
 NEED = 2_500_000_000
 # How many builds of a crate stay in the cache; each stays for this many seconds after its last use.
@@ -202,7 +204,8 @@ class Task:
         texts = [(os.path.relpath(it, self.crate.folder), read(it)) for it in self.files()]
         # A library's file `format` has a checksum of its other files.
         below = [(it.name, read(f"{it.made}/format")) for it in self.below]
-        told = repr((kit_sum, self.name, sorted(self.crate.said.items()), texts, below))
+        how = [] if self.crate.makes_rlib() else [CPU]
+        told = repr((kit_sum, self.name, sorted(self.crate.said.items()), texts, below, *how))
         self.place = f"{store}/{self.name}-{hashlib.sha256(told.encode()).hexdigest()[:32]}"
         return self.take()
 
@@ -348,7 +351,7 @@ class Build:
         words = [f"{self.kit}/bin/rattle", "build", *it.crate.words(["--jobs", str(it.jobs)])]
         if it.crate.makes_rlib():
             return [*words, "--statements", "-o", made]
-        words += ["--backend", "llvm", "--toolchain", f"{self.kit}/toolchain"]
+        words += ["--backend", "llvm", "--toolchain", f"{self.kit}/toolchain", "--cpu", CPU]
         return [*words, "-o", f"{made}.o" if it.crate.is_program else made]
 
     def finish(self, it):
@@ -427,7 +430,7 @@ def by_rt(top):
     folder = f"{TOP}/crates/{top}"
     is_program = os.path.isfile(f"{folder}/src/main.rt")
     # rt builds a program where it runs it, so it runs the one that needs no file.
-    words = ["rt", "run", "--", "-h"] if is_program else ["rt", "lib"]
+    words = ["rt", "run", "--cpu", CPU, "--", "-h"] if is_program else ["rt", "lib", "--cpu", CPU]
     with open(f"{BUILT}/{top}.log", "w") as log:
         ran = subprocess.run(words, cwd=folder, stdin=subprocess.DEVNULL, stdout=log, stderr=log)
     if ran.returncode:
