@@ -695,6 +695,16 @@ objects 'a comment that is not UTF-8 in base64' 1 \
   "{\"file\":\"high\",\"line\":1,\"status\":\"revoked\",$key_g,\
 \"comment_base64\":\"$(printf '\x9b1m\xff' | base64)\",$by_key}
 $(ends_with 1 1 1 0)" -f r.krl high
+controls=$'c1\x7f\xc2\x9b'
+printf '%s ~\x7f\xc2\x80\xc2\x9f\xc2\xa0\xc3\x9b\n' "$g" >"$controls"
+objects 'control characters of a name and of a comment' 1 \
+  "{\"file\":\"c1\u007f\u009b\",\"line\":1,\"status\":\"revoked\",$key_g,\
+\"comment\":\"~\u007f\u0080\u009f\u00a0\u00db\",$by_key}
+$(ends_with 1 1 1 0)" -f r.krl "$controls"
+judge 'a terminal is sent none of them' "$(
+  asks 1 env LC_ALL=C grep -nP '\x7f|\xc2[\x80-\x9f]' "$scratch/output"
+  differs 'the comment' $'"~\\u007f\\u0080\\u009f\xc2\xa0\xc3\x9b"' \
+    "$(grep -o '"~[^"]*"' "$scratch/output")")"
 objects 'an object of a file' 3 \
   "{\"file\":\"gone\",\"status\":\"unread\",\"fault\":\"file 1 Open\",\
 \"why\":\"No such file or directory\"}

@@ -1,3 +1,7 @@
+pub mod Escaping
+pub mod NoControls
 pub mod Objects
-pub mod SingleLines
+pub mod Reread
 pub mod Shallow
+pub mod SingleLines
+pub mod Strings

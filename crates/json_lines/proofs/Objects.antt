@@ -8,6 +8,7 @@ use Rattle.json.specs.Json.{Json}
 use Rattle.json.specs.Print.{print}
 use Rattle.json.specs.Token.{Token, begin_array, begin_object, end_array, end_object, key}
 use Rattle.json.specs.Tree.{items_tokens, json_tokens, members_tokens}
+use Rattle.json_lines.specs.Controls.{escaped_controls}
 use Rattle.json_lines.specs.Field.{Field, array_of, base64_field, field, field_tokens, fields_tokens, items_of, json_line, json_text, members_of, object_of, text_field, values_tokens, word_field}
 
 -- ---- bytes as text
@@ -103,10 +104,10 @@ array_field old start one two new name values key_is first second third =
 
 -- ---- lines
 
-pub line_of : (tokens : List Token) (value : Json) → tokens ≡ json_tokens value → print tokens ++ 10 ∷ [] ≡ json_line value
+pub line_of : (tokens : List Token) (value : Json) → tokens ≡ json_tokens value → escaped_controls (print tokens) ++ 10 ∷ [] ≡ json_line value
 unfolding json_text
-line_of tokens value is = ap (λ (ts : List Token). print ts ++ 10 ∷ []) is
+line_of tokens value is = ap (λ (ts : List Token). escaped_controls (print ts) ++ 10 ∷ []) is
 
-pub ended : (old new : List Token) (fields : List Field) → old ≡ begin_object ∷ fields_tokens fields → new ≡ old ++ end_object ∷ [] → print new ++ 10 ∷ [] ≡ json_line (object_of fields)
+pub ended : (old new : List Token) (fields : List Field) → old ≡ begin_object ∷ fields_tokens fields → new ≡ old ++ end_object ∷ [] → escaped_controls (print new) ++ 10 ∷ [] ≡ json_line (object_of fields)
 ended old new fields begun written =
     line_of new (object_of fields) (written ∙ ap (λ (ts : List Token). ts ++ end_object ∷ []) begun ∙ sym (object_written fields))

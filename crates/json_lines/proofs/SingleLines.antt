@@ -1,19 +1,23 @@
 -- The text of a value has no line feed.
-use Rattle.std.proofs.Common.{◌≡◌, ℕ, ◌+◌, ◌<◌, ◌≤◌, ◌^◌, ◌/◌, ◌%◌, ◌==◌, ◌||◌, Bool, true, false, cond, List, [], ◌∷◌, ◌++◌, decimal, nat_lt, refl, Some, sym, subst, arith}
+use Rattle.std.proofs.Common.{◌≡◌, ℕ, ◌+◌, ◌<◌, ◌≤◌, ◌^◌, ◌/◌, ◌%◌, ◌==◌, ◌&&◌, ◌||◌, Bool, true, false, cond, List, [], ◌∷◌, ◌++◌, decimal, nat_lt, refl, Option, Some, option_and_then, sym, ap, ◌∙◌, subst, arith}
 use Rattle.std.specs.List.{All}
 use Rattle.std.specs.Char.{digit_char}
 use Rattle.std.proofs.lemmas.Bool.{ne_eqb}
 use Rattle.std.proofs.lemmas.Fmt.{decimal_by_steps}
 use Rattle.std.proofs.lemmas.List.Elements.{All-cons, All-nil}
 use Rattle.std.proofs.lemmas.List.Splits.{slice_split_at}
-use Rattle.json.specs.Json.{Json, array, boolean, document, max_depth, null, number, object, string, Items, item, no_items, Members, member, no_members}
-use Rattle.json.specs.Print.{ends, escape, escape_byte, escape_letter, print_from, quoted, separator, token_text}
+use Rattle.json.specs.Json.{value as read_value, if_last, Json, array, boolean, document, max_depth, null, number, object, string, Items, item, no_items, Members, member, no_members}
+use Rattle.json.specs.Lex.{Lexeme, fresh, punctuate}
+use Rattle.json.specs.Print.{ends, escape, escape_byte, escape_letter, print, print_from, quoted, separator, token_text}
 use Rattle.json.specs.Token as tokens
 use Rattle.json.specs.Tree.{depth, HasNumbers, ItemsHaveNumbers, MembersHaveNumbers, items_tokens, json_tokens, members_tokens}
 use Rattle.json.proofs.Printed.Decimals.{IsNumber-decimal}
-use Rattle.json.proofs.Printed.Trees.{document-print}
+use Rattle.json.proofs.Printed.Trees.{ArePrintable-json_tokens, document-print}
+use Rattle.json_lines.specs.Controls.{alone, ends_control, escaped_from, held, spelled, written}
 use Rattle.json_lines.specs.Field.{json_text}
 use Rattle.json_lines.specs.ReadBack.{HasCounts, IsReadBack, ItemsHaveCounts, MembersHaveCounts}
+use Rattle.json_lines.proofs.Reread.{HaveSafeNumbers, print_same}
+use Rattle.json_lines.proofs.Strings.{Safe, safe_append}
 
 abbrev is_feed : ℕ → Bool
 is_feed byte = byte == 10
@@ -120,9 +124,59 @@ print_free after_value (t ∷ ts) free =
     free_append (separator after_value t) (token_text t ++ print_from (ends t) ts) (separator_free _)
     (free_append (token_text t) (print_from (ends t) ts) free.0 (print_free (ends t) ts free.1))
 
+-- ---- escapes of control characters
+
+spelled_free : (x : ℕ) (rest : List ℕ) → Free rest → Free (spelled x ++ rest)
+spelled_free x rest free = (refl, (refl, (refl, (refl, (digit_free (x / 16), (digit_free (x % 16), free))))))
+
+held_free : (p : Bool) → Free (held p)
+held_free true = (refl, tt)
+held_free false = tt
+
+alone_free : (x : ℕ) → is_feed x ≡ false → Free (alone x)
+alone_free x is = free_pick (x == 127) (spelled 127) (cond (x == 194) [] (x ∷ [])) (λ _. spelled_free 127 [] tt) (λ _. free_pick (x == 194) [] (x ∷ []) (λ _. tt) (λ _. (is, tt)))
+
+written_free : (p : Bool) (x : ℕ) → is_feed x ≡ false → Free (written p x)
+written_free p x is =
+    free_pick (p && ends_control x) (spelled x) (held p ++ alone x) (λ _. spelled_free x [] tt) (λ _. free_append (held p) (alone x) (held_free p) (alone_free x is))
+
+escaped_free : (p : Bool) (text : List ℕ) → Free text → Free (escaped_from p text)
+unfolding escaped_from
+escaped_free p [] free = held_free p
+escaped_free p (x ∷ text) free = free_append (written p x) (escaped_from (x == 194) text) (written_free p x free.0) (escaped_free (x == 194) text free.1)
+
 text_free : (value : Json) → HasCounts value → Free (json_text value)
 unfolding json_text
-text_free value has = print_free false (json_tokens value) (tokens_free value has)
+text_free value has = escaped_free false (print (json_tokens value)) (print_free false (json_tokens value) (tokens_free value has))
+
+-- ---- numbers have no control characters
+
+decimal_safe : (n : ℕ) → n < 2 ^ 64 → Safe (decimal n)
+decimal_safe n small =
+    decimal_by_steps (λ n ds. Safe ds) (λ n below. (ne_eqb (48 + n) 127 (λ e. omega arith), (ne_eqb (48 + n) 194 (λ e. omega arith), tt)))
+    (λ n ds above rest. safe_append ds ((48 + n % 10) ∷ []) rest (ne_eqb (48 + n % 10) 127 (λ e. omega arith), (ne_eqb (48 + n % 10) 194 (λ e. omega arith), tt))) n small
+
+safe_numbers_append : (a b : List tokens.Token) → HaveSafeNumbers a → HaveSafeNumbers b → HaveSafeNumbers (a ++ b)
+safe_numbers_append [] b first second = second
+safe_numbers_append (t ∷ ts) b first second = (first.0, safe_numbers_append ts b first.1 second)
+
+mutual
+  safe_numbers : (value : Json) → HasCounts value → HaveSafeNumbers (json_tokens value)
+  safe_numbers null has = (tt, tt)
+  safe_numbers (boolean b) has = (tt, tt)
+  safe_numbers (number text) has = (subst Safe (sym has.1.1) (decimal_safe has.0 has.1.0), tt)
+  safe_numbers (string text) has = (tt, tt)
+  safe_numbers (array items) has = (tt, items_safe_numbers items has)
+  safe_numbers (object members) has = (tt, members_safe_numbers members has)
+
+  items_safe_numbers : (items : Items) → ItemsHaveCounts items → HaveSafeNumbers (items_tokens items)
+  items_safe_numbers no_items has = (tt, tt)
+  items_safe_numbers (item one more) has = safe_numbers_append (json_tokens one) (items_tokens more) (safe_numbers one has.0) (items_safe_numbers more has.1)
+
+  members_safe_numbers : (members : Members) → MembersHaveCounts members → HaveSafeNumbers (members_tokens members)
+  members_safe_numbers no_members has = (tt, tt)
+  members_safe_numbers (member name one more) has =
+      (tt, safe_numbers_append (json_tokens one) (members_tokens more) (safe_numbers one has.0) (members_safe_numbers more has.1))
 
 -- ---- numbers are numbers of JSON
 
@@ -143,12 +197,17 @@ mutual
   members_have_numbers no_members has = tt
   members_have_numbers (member name one more) has = (has_numbers one has.0, members_have_numbers more has.1)
 
-read_text : (value : Json) → HasNumbers value → depth value ≤ max_depth → document (json_text value) ≡ Some value
+abbrev read_lexemes : List Lexeme → Option Json
+read_lexemes lexemes = option_and_then (λ p. if_last p.0 p.1) (read_value max_depth (punctuate fresh lexemes))
+
+read_text : (value : Json) → HasCounts value → depth value ≤ max_depth → document (json_text value) ≡ Some value
 unfolding json_text
-read_text value numbers shallow = document-print value numbers shallow
+read_text value has shallow =
+    let numbers = has_numbers value has in
+    ap read_lexemes (print_same false (json_tokens value) (ArePrintable-json_tokens value numbers) (safe_numbers value has)) ∙ document-print value numbers shallow
 
 pub read_back : (value : Json) → HasCounts value → depth value ≤ max_depth → IsReadBack value
 read_back value has shallow = record {
   one_line = slice_split_at is_feed (json_text value) 10 [] (all_free (json_text value) (text_free value has)) refl;
-  read = read_text value (has_numbers value has) shallow;
+  read = read_text value has shallow;
 }

@@ -9,6 +9,7 @@ use Rattle.json.specs.Json.{member, no_members}
 use Rattle.json.specs.Print.{print}
 use Rattle.json.specs.Token.{Token, key}
 use Rattle.json.specs.Tree.{json_tokens}
+use Rattle.json_lines.specs.Controls.{escaped_controls}
 
 -- a field of an object
 pub record Field : Type 0 where
@@ -65,9 +66,9 @@ fields_tokens fields = flat_map field_tokens fields
 unfoldable pub values_tokens : List Json → List Token
 values_tokens values = flat_map json_tokens values
 
--- the text of a value, without a blank
+-- the text of a value, without a blank, and without a control character
 unfoldable pub json_text : Json → List ℕ
-json_text value = print (json_tokens value)
+json_text value = escaped_controls (print (json_tokens value))
 
 -- its line
 abbrev pub json_line : Json → List ℕ

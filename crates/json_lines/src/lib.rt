@@ -2,6 +2,7 @@
 //! text.
 #![tactic(auto)]
 
+mod escapes;
 mod fields;
 pub mod laws;
 mod line_writer;

@@ -4,8 +4,10 @@ ghost use Rattle.std.specs.Prelude.{◌≡◌, ◌∷◌, ◌++◌, [], IfOk, Li
 ghost use Rattle.json.specs.Print.{IsPrintable, print};
 ghost use Rattle.json.specs.Reads.{token_of};
 ghost use Rattle.json.specs.Token.{begin_object, number};
+ghost use Rattle.json_lines.specs.Controls.{escaped_controls};
 ghost use Rattle.json_lines.specs.Field.{Field, fields_tokens, json_line, object_of};
 
+use crate::escapes::without_controls;
 use json::{Token, Writer};
 use std::alloc::{AllocError, Global};
 use std::marker::Model;
@@ -73,11 +75,11 @@ impl LineWriter {
         self.into_line()
     }
 
-    // The text, with a line feed at its end.
+    // The text, with escapes for control characters and a line feed at its end.
     fn into_line(self) -> Result<Vec<u8>, AllocError>
-        ensures { IfOk result (λ line. line.items ≡ print self ++ 10 ∷ []) }
+        ensures { IfOk result (λ line. line.items ≡ escaped_controls (print self) ++ 10 ∷ []) }
     {
-        let mut line = self.out.into_inner();
+        let mut line = without_controls(self.out.into_inner())?;
         line.push(b'\n')?;
         Ok(line)
     }

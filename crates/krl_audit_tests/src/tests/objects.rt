@@ -128,6 +128,23 @@ fn each_kind_of_line_has_its_fields(rt: HostRuntime) {
     }
 }
 
+// DEL and the ends of U+0080 to U+009F, which a terminal may obey, and the characters beside them.
+#[test]
+fn control_characters_are_escaped(rt: HostRuntime) {
+    let list = alice_and_bob(&rt, rt.alloc());
+    let text = format!(in rt.alloc(); "{ALICE} ~\x7f\u{80}\u{9f}\u{a0}\u{c2}");
+    let text = text.expect(&rt, "there is memory");
+    let content = Ok(text.as_bytes());
+    let found = objects_of(&rt, rt.alloc(), &list, "a\x7f\u{9b}\u{a0}", content);
+    let wanted = format!(in rt.alloc();
+        "{{\"file\":\"a\\u007f\\u009b\u{a0}\",\"line\":1,\"status\":\"revoked\",\
+\"type\":\"ssh-ed25519\",\"fingerprint\":\"{ALICE_PRINT}\",\
+\"comment\":\"~\\u007f\\u0080\\u009f\u{a0}\u{c2}\",\"reasons\":[{{\"by\":\"key\"}}]}}\n"
+    );
+    let wanted = wanted.expect(&rt, "there is memory");
+    assert_eq!(rt; found.as_slice(), wanted.as_bytes());
+}
+
 #[test]
 fn all_reasons_have_their_objects(rt: HostRuntime) {
     let list = all_of_bob(&rt, rt.alloc());

@@ -1,0 +1,7 @@
+-- What is written, and what is still to be written, are the whole text with its escapes.
+use Rattle.std.proofs.Common.{◌≡◌, ◌++◌, drop, false}
+use Rattle.json_lines.specs.Controls.{escaped_from}
+use Rattle.json_lines.proofs.escapes.push_escaped.Given as goal
+
+abbrev pub invariant-loop-byte : goal.invariant-loop-byte
+invariant-loop-byte l = l.out.items ++ escaped_from l.after_lead (drop l.byte-index l.text) ≡ l.initial.out.items ++ escaped_from false l.text
