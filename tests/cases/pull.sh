@@ -26,8 +26,10 @@ options=() keep=(user-ca.pub host.pub)
 
 # pull: krl-pull fetches what is at $url, with these options and files of keys.
 pull() {
+  # A shell without jobs ignores INT in what it runs in the background.
   PATH=$PWD/tools:$PATH KRL_SIGNERS=signers CURL_CA_BUNDLE=cert.pem exec \
-    "$units/krl-pull" "${options[@]}" "$url" "$room/revoked.krl" "${keep[@]}" >output 2>&1
+    env --default-signal=INT "$units/krl-pull" "${options[@]}" "$url" "$room/revoked.krl" \
+    "${keep[@]}" >output 2>&1
 }
 
 # pulls NAME STATUS VERSION [TEXT]: krl-pull ends with this status and says this, and then the list

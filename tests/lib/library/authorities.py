@@ -1,4 +1,5 @@
-"""Lists that name a certificate authority in another spelling than its key's own, or no key."""
+"""Lists that name a certificate authority in another spelling than its key's own, no key, or a key
+that OpenSSH refuses."""
 
 import base64
 import os
@@ -87,13 +88,14 @@ def beside_openssh(tests, kind):
 def named(tests):
     """Which authorities are compared, whatever their sections revoke and whatever the query is."""
     text = line(SEVENTH).strip().encode()
-    keys = {"none": b"", "ed25519": AUTHORITY, "rsa": RSA, "ecdsa": ECDSA, "device": DEVICE}
+    keys = {"none": b"", "ed25519": AUTHORITY, "rsa": RSA, "device": DEVICE}
     others = {
         "a byte": b"a",
         "a key that is cut": AUTHORITY[:-1],
         "a key and a byte": AUTHORITY + b"\0",
         "a certificate": SEVENTH,
         "a device with a zero byte": DEVICE[:-8] + string(b"ssh:\0"),
+        "a point on no curve": ECDSA,
     }
     wrong = []
 
