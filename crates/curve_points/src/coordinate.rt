@@ -77,7 +77,7 @@ const LIMIT_521: Number = [
 /// than half as many bits as the curve's order, and is below the order less one.
 pub fn is_usual(curve: Curve, coordinate: &[u8]) -> bool
     requires { length coordinate.now ≤ 66 }
-    // What `laws::points_are_decided` says.
+    // See `laws::points_are_decided`.
     ensures { result ≡ is_usual curve (big_endian coordinate.now) }
 {
     let number = number_of(coordinate);

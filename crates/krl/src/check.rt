@@ -73,7 +73,7 @@ struct Other<'a> {
     version: Option<u64>,
 }
 
-// What a list is compared with.
+// The conditions that compare a list with another, or with the time.
 #[derive(Clone, Copy)]
 struct Beside<'a> {
     other: Option<Other<'a>>,

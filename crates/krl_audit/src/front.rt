@@ -8,7 +8,7 @@ ghost use Rattle.krl_audit.specs.Front.{last_part, to_slash};
 
 use key_text::is_blank;
 
-/// What the field before the key of a line is.
+/// The field before the key of a line.
 #[derive(Clone, Copy, PartialEq, Eq, PartialOrd, Ord)]
 pub enum Fronts {
     /// Host names, which end at the first blank.
@@ -20,7 +20,7 @@ pub enum Fronts {
 }
 
 impl Fronts {
-    /// What the field is in a file of this name: of known hosts, of authorized keys, or another.
+    /// The field in a file of this name: of known hosts, of authorized keys, or another.
     #[tactic(auto, unfolding(crate::specs::Front::fronts_of))]
     pub fn of(name: &[u8]) -> Fronts
         ensures { result ≡ fronts_of name.now }

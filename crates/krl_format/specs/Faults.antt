@@ -1,4 +1,4 @@
--- What the fault of a reading says about the text.
+-- The facts about the text that the fault of a reading states.
 use Rattle.std.specs.Prelude.{◌≡◌, ℕ, ◌⊎◌, Bool, true, false, List}
 use Rattle.std.specs.Prelude.{◌++◌, Option, Some, None}
 use Rattle.krl_types.specs.declared.krl_fault.KrlFault.{KrlFault}

@@ -132,7 +132,7 @@ fn replace(rt: &HostRuntime, destination: Destination<'_>, text: &[u8]) -> Resul
     named
 }
 
-// What the list that has its name by now replaced. The old list may have been written in place
+// Says how the new list got its name. The old list may have been written in place
 // right before that, by an update that ended well.
 fn put_at(rt: &HostRuntime, destination: Destination<'_>, put: PutList) -> Result<Put, Cause> {
     sync_folder(rt, destination.path);

@@ -6,7 +6,7 @@ ghost use Rattle.krl_words.specs.Order.{letters_met, takes_value, word_met};
 
 use std::convert::AsStr;
 
-/// What precedes a word.
+/// The facts about a word that the words before it decide.
 #[derive(Clone, Copy)]
 pub struct Place {
     /// An option whose value the word is.
@@ -49,7 +49,7 @@ pub fn is_divided<S: AsStr>(words: &[S]) -> bool
     place.is_divided
 }
 
-// What precedes the word after this one.
+// The place of the word after this one.
 fn after_word(place: Place, word: &[u8]) -> Place
     ensures { result ≡ word_met place word.now }
 {
@@ -72,7 +72,7 @@ fn after_word(place: Place, word: &[u8]) -> Place
     }
 }
 
-// What precedes the word after a file.
+// The place of the word after a file.
 fn after_file(place: Place) -> Place
     ensures { result ≡ file_met place }
 {
@@ -82,7 +82,7 @@ fn after_file(place: Place) -> Place
     }
 }
 
-// What precedes the word after one with these options.
+// The place of the word after one with these options.
 fn after_letters(place: Place, letters: Letters) -> Place
     ensures { result ≡ authority_met place letters }
 {

@@ -11,7 +11,7 @@ use ssh_key::{Kind, PublicKey};
 // The fewest bits of an RSA key.
 const LEAST: u32 = 1_024;
 
-/// What OpenSSH does with a key that it reads.
+/// The decision of OpenSSH about a key that it can read.
 #[derive(Clone, Copy, PartialEq, Eq)]
 pub enum Judgement {
     /// It accepts the key.
@@ -25,7 +25,7 @@ pub enum Judgement {
     Point,
 }
 
-/// What OpenSSH does with a key: it looks at the length of each number of an RSA or DSA key, and at
+/// Decides about a key as OpenSSH does: it looks at the length of each number of an RSA or DSA key, and at
 /// the point of a key of ECDSA. Does not allocate.
 #[tactic(auto, unfolding(crate::specs::Judgement::judgement_of))]
 pub fn judge(key: &PublicKey) -> Judgement

@@ -52,7 +52,7 @@ fn each_name_has_its_reading(rt: HostRuntime) {
     }
 }
 
-// What is before Alice's key and after it, the name of the file, and what is printed.
+// The text before Alice's key and after it, the name of the file, and the word that is printed.
 const LINES: [(&str, &str, &str, &str); 7] = [
     ("@cert-authority \"x ", " y", "authorized_keys", "revoked"),
     ("@cert-authority \"x ", " y", "keys", "revoked"),

@@ -17,7 +17,7 @@ fn number(rt: &impl Abort, alloc: Global, bits: usize) -> Vec<u8> {
     joined(alloc, &[&first, &rest]).expect(rt, "there is memory")
 }
 
-// What OpenSSH does with a key of this type with numbers of so many bits.
+// Judges a key of this type whose numbers have these sizes in bits.
 fn judged(rt: &impl Abort, alloc: Global, name: &[u8], sizes: &[usize]) -> Judgement {
     let mut blob = strings(alloc, &[name]).expect(rt, "there is memory");
     for bits in sizes.iter() {
@@ -83,7 +83,7 @@ const CURVES: [(&[u8], &[u8], usize, &[u8]); 4] = [
     ),
 ];
 
-// What OpenSSH does with a key of these first strings, of a point of bytes 4, and of what follows.
+// Judges a key of these first strings, a point whose bytes are all 4, and the bytes after it.
 fn of_fours(rt: &impl Abort, alloc: Global, front: &[u8], size: usize, after: &[u8]) -> Judgement {
     let point = repeated(alloc, b"\x04", size).expect(rt, "there is memory");
     let point = strings(alloc, &[&point]).expect(rt, "there is memory");

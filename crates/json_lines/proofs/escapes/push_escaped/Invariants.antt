@@ -1,4 +1,4 @@
--- What is written, and what is still to be written, are the whole text with its escapes.
+-- The bytes written so far and those still to be written are the whole text with its escapes.
 use Rattle.std.proofs.Common.{◌≡◌, ◌++◌, drop, false}
 use Rattle.json_lines.specs.Controls.{escaped_from}
 use Rattle.json_lines.proofs.escapes.push_escaped.Given as goal
