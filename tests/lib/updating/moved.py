@@ -9,6 +9,7 @@ from updating.steps import ANEW, UPDATE, Steps, content, same, shown
 from wire import HEADER, section, string
 
 ANOTHER = HEADER + section(2, string(OTHER))
+LONGER = HEADER + section(2, string(OTHER + b"+"))
 FAULTS = (b"ssh-keygen: r.krl: output 1 Write after 0 bytes\n", b"ssh-keygen: r.krl: file 1 Open\n")
 SORTS = (errno.EIO, errno.EACCES, errno.ENOMEM)
 ALL = 1 << 62
@@ -52,18 +53,27 @@ def replaced(place, made):
     place.judge("a list replaced by another program at each of %d calls" % len(calls), wrong)
 
 
+def write(place, base):
+    """Writes the list in place. The time of one of another length does not tell that."""
+    before = os.stat(LIST)
+    place.put(LIST, base)
+    if len(base) != before.st_size:
+        os.utime(LIST, ns=(before.st_atime_ns, before.st_mtime_ns))
+
+
 def written(place, made):
-    """Another program writes the list itself, in a list of another length and in one of the same.
-    What it writes before the renaming is kept, also if it comes right before that."""
+    """Another program writes the list itself: a list of another length, with the time of the old
+    one, and one of the same length. What it writes before the renaming is kept, also if it comes
+    right before that."""
     steps = Steps(place)
     same_length = OLD[:-1] + bytes((OLD[-1] ^ 1,))
-    for name, base in (("another", ANOTHER), ("the same", same_length)):
+    for name, base in (("another", LONGER), ("the same", same_length)):
         begin(place)
         calls, _ = steps.calls()
         wrong = []
         for number, call in enumerate(calls, 1):
             begin(place)
-            done = steps.stopped(number, lambda: place.put(LIST, base))
+            done = steps.stopped(number, lambda: write(place, base))
             is_named = "rename" not in calls[number - 1 :]
             wanted = base if is_named else with_lines(base, made)
             if done.returncode or not same(content(), wanted):
