@@ -1,10 +1,10 @@
 //! Checking a list, one condition after the other.
 
 ghost use Rattle.std.specs.Prelude.{◌≡◌, ◌∷◌, [], ◌||◌, nat_lt, not, true, ℕ, List, Option, OnOk};
-ghost use Rattle.std.specs.Prelude.{IfOk, is_err, is_some};
+ghost use Rattle.std.specs.Prelude.{IfOk, None, is_err, is_some};
 ghost use Rattle.key_listing.specs.Carries.{Carries, Reaches};
 ghost use Rattle.key_listing.specs.Run.{Item, said_of};
-ghost use Rattle.krl_format.specs.Front.{start};
+ghost use Rattle.krl_format.specs.Front.{IsFirstFault, start};
 ghost use Rattle.krl_types.specs.Entry.{Entry};
 ghost use Rattle.krl_entries.specs.Reasons.{reasons_of};
 ghost use Rattle.krl_entries.specs.Revocations.{Means};
@@ -28,6 +28,7 @@ use key_listing::Done;
 use krl_audit::{Auditor, Counts, Refusal, keyless_lines};
 use krl_entries::Revocations;
 use krl_openssh::first_difference;
+use krl_openssh::laws::read_lists_have_fields;
 use span_sets::Held;
 use std::alloc::{AllocError, Global};
 
@@ -48,8 +49,9 @@ pub struct Checker<'q, 'w, W: Sink> {
 
 impl<'q, 'w, W: Sink> Checker<'q, 'w, W> {
     /// Checks that OpenSSH also reads a list, and reads the same names. `list` is the bytes of the
-    /// list, which must have been read.
+    /// list, which has no fault.
     pub fn check_openssh<'a>(&mut self, name: &'a str, list: &[u8]) -> Result<(), RunFault<'a>>
+        requires { IsFirstFault list.now None }
         ensures carries { (fields : List (List ℕ)) → HasFields list.now fields
             → Carries (difference_items name.now (first_difference start.place fields)) result
             self.old.auditor.run.printer self.new.auditor.run.printer }
@@ -59,6 +61,7 @@ impl<'q, 'w, W: Sink> Checker<'q, 'w, W> {
         ensures unread { self.new.unread ≡ self.old.unread }
         ensures judge { self.new.auditor.judge ≡ self.old.auditor.judge }
     {
+        read_lists_have_fields();
         match first_difference(list) {
             None => Ok(()),
             Some(difference) => {

@@ -70,7 +70,7 @@ next_at (field ∷ more) place next rest size unended (next', (passes', later)) 
       parts = sym both.1;
     }
 
-first_of : (place next : Place) (field : List ℕ) (more : List (List ℕ)) → (expected place).judged field ≡ Ok next
+pub first_of : (place next : Place) (field : List ℕ) (more : List (List ℕ)) → (expected place).judged field ≡ Ok next
     → first_difference place (field ∷ more) ≡ or_later (difference_at place field) (first_difference next more)
 first_of place next field more judged = ap (λ (r : Result Place KrlFault). or_later (difference_at place field) (first_difference (place_or place r) more)) judged
 

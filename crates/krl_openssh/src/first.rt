@@ -1,19 +1,17 @@
 //! The first difference among the fields of a list.
 
-ghost use Rattle.std.specs.Prelude.{◌≡◌, ◌↔◌, List, ℕ, IsTrue};
-ghost use Rattle.krl_format.specs.Front.{IsEnd, start};
-ghost use Rattle.krl_openssh.specs.Difference.{first_difference};
-ghost use Rattle.krl_openssh.specs.Fields.{HasFields};
+ghost use Rattle.std.specs.Prelude.{◌↔◌, IsTrue, None};
+ghost use Rattle.krl_format.specs.Front.{IsEnd, IsFirstFault};
+ghost use Rattle.krl_openssh.specs.Fields.{IsFirstDifference};
 
 use crate::difference::{Difference, difference_at};
 use krl_format::Place;
 
 /// Returns the first field for which OpenSSH refuses a list or reads other names from it, and why.
-/// Returns none if OpenSSH also reads the list, and reads the same names. The list must be one that
-/// can be read; for other bytes the result is not specified. Does not allocate.
+/// Returns none if OpenSSH also reads the list, and reads the same names. Does not allocate.
 pub fn first_difference(list: &[u8]) -> Option<Difference>
-    ensures { (fields : List (List ℕ)) → HasFields list.now fields
-        → result ≡ first_difference start.place fields }
+    requires { IsFirstFault list.now None }
+    ensures { IsFirstDifference list.now result }
 {
     let mut place = Place::start();
     let mut rest = list;

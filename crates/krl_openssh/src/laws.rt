@@ -1,8 +1,15 @@
 //! Laws of the fields of lists. Each function does nothing: its contract is the law.
 
 ghost use Rattle.std.specs.Prelude.{◌≡◌, List, ℕ, None};
+ghost use Rattle.ssh_wire.specs.Wire.{IsBytes};
 ghost use Rattle.krl_format.specs.Front.{IsFirstFault};
-ghost use Rattle.krl_openssh.specs.Fields.{HasFields};
+ghost use Rattle.krl_format.specs.Krl.{SpelledSection, Spells};
+ghost use Rattle.krl_format.specs.declared.header.Header.{Header};
+ghost use Rattle.krl_authority.specs.Authority.{AuthoritiesAreKeys};
+ghost use Rattle.krl_openssh.specs.Fields.{HasFields, IsFirstDifference};
+
+use krl_format::laws::no_fault_where_spelled;
+use ssh_key::laws::read_where_spelled;
 
 /// A list that is read without a fault has one row of fields.
 pub fn read_lists_have_fields()
@@ -11,3 +18,14 @@ pub fn read_lists_have_fields()
     ensures one { (list : List ℕ) (fields others : List (List ℕ)) → HasFields list fields
         → HasFields list others → fields ≡ others }
 {}
+
+/// If a list has no difference, each certificate authority that it names is a key in its one
+/// spelling that OpenSSH accepts, or empty, which means all authorities.
+pub fn authorities_are_keys_if_alike()
+    ensures { (list : List ℕ) (header : Header) (sections : List SpelledSection)
+        → IsBytes list → IsFirstFault list None → Spells list header sections
+        → IsFirstDifference list None → AuthoritiesAreKeys sections }
+{
+    no_fault_where_spelled();
+    read_where_spelled();
+}

@@ -14,10 +14,12 @@ use test_fixtures::{
 };
 
 // Whether a list is read and has this difference.
-fn differs(rt: &impl Abort, alloc: Global, list: &[u8], wanted: Option<Difference>) -> bool {
+fn differs(alloc: Global, list: &[u8], wanted: Option<Difference>) -> bool {
     let (read, _reader) = read_krl::<Held, _>(alloc, FromRead::new(list));
-    assert!(rt; read.is_ok());
-    first_difference(list) == wanted
+    match read {
+        Ok(_) => first_difference(list) == wanted,
+        Err(_) => false,
+    }
 }
 
 // Subsections of an authority's section, by their type.
@@ -57,7 +59,7 @@ const SUBSECTIONS: [(u8, &[u8], Option<Difference>); 13] = [
 fn subsections(rt: HostRuntime) {
     for (i, (type_byte, content, wanted)) in SUBSECTIONS.iter().enumerate() {
         let list = certificates(&rt, rt.alloc(), GITHUB, *type_byte, *content);
-        assert!(rt; differs(&rt, rt.alloc(), &list, *wanted), "subsection {i}");
+        assert!(rt; differs(rt.alloc(), &list, *wanted), "subsection {i}");
     }
 }
 
@@ -82,7 +84,7 @@ fn bitmap(rt: &impl Abort, alloc: Global, front: &[u8], ones: usize) -> Vec<u8> 
 fn long_bitmaps(rt: HostRuntime) {
     for (i, (front, ones, wanted)) in BITMAPS.iter().enumerate() {
         let list = bitmap(&rt, rt.alloc(), *front, *ones);
-        assert!(rt; differs(&rt, rt.alloc(), &list, *wanted), "bitmap {i}");
+        assert!(rt; differs(rt.alloc(), &list, *wanted), "bitmap {i}");
     }
 }
 
@@ -106,7 +108,7 @@ const AUTHORITIES: [(&[u8], Option<Difference>); 4] = [
 fn authorities(rt: HostRuntime) {
     for (i, (authority, wanted)) in AUTHORITIES.iter().enumerate() {
         let list = certificates(&rt, rt.alloc(), *authority, 0x20, b"\0\0\0\0\0\0\0\x01");
-        assert!(rt; differs(&rt, rt.alloc(), &list, *wanted), "authority {i}");
+        assert!(rt; differs(rt.alloc(), &list, *wanted), "authority {i}");
     }
 }
 
@@ -133,7 +135,7 @@ fn rsa_authority(rt: &impl Abort, alloc: Global, front: &[u8], ones: usize) -> V
 fn sizes_of_rsa_keys(rt: HostRuntime) {
     for (i, (front, ones, wanted)) in MODULI.iter().enumerate() {
         let list = rsa_authority(&rt, rt.alloc(), *front, *ones);
-        assert!(rt; differs(&rt, rt.alloc(), &list, *wanted), "modulus {i}");
+        assert!(rt; differs(rt.alloc(), &list, *wanted), "modulus {i}");
     }
 }
 
@@ -151,8 +153,8 @@ fn keys_that_openssh_refuses(rt: HostRuntime) {
     let serial = b"\0\0\0\0\0\0\0\x01";
     let of_rsa = certificates(&rt, alloc, &rsa, 0x20, serial);
     let of_ecdsa = certificates(&rt, alloc, &ecdsa, 0x20, serial);
-    assert!(rt; differs(&rt, alloc, &of_rsa, Some(Difference::KeySize)));
-    assert!(rt; differs(&rt, alloc, &of_ecdsa, Some(Difference::Point)));
+    assert!(rt; differs(alloc, &of_rsa, Some(Difference::KeySize)));
+    assert!(rt; differs(alloc, &of_ecdsa, Some(Difference::Point)));
 }
 
 // Comments.
@@ -169,7 +171,7 @@ fn comments(rt: HostRuntime) {
     for (i, (comment, wanted)) in COMMENTS.iter().enumerate() {
         let comment = strings(rt.alloc(), &[*comment]).expect(&rt, "there is memory");
         let list = joined(rt.alloc(), &[&HEADER[..40], &comment]).expect(&rt, "there is memory");
-        assert!(rt; differs(&rt, rt.alloc(), &list, *wanted), "comment {i}");
+        assert!(rt; differs(rt.alloc(), &list, *wanted), "comment {i}");
     }
 }
 
@@ -192,7 +194,7 @@ const SECTIONS: [(&[u8], Option<Difference>); 8] = [
 fn sections(rt: HostRuntime) {
     for (i, (section, wanted)) in SECTIONS.iter().enumerate() {
         let list = list_of(rt.alloc(), *section).expect(&rt, "there is memory");
-        assert!(rt; differs(&rt, rt.alloc(), &list, *wanted), "section {i}");
+        assert!(rt; differs(rt.alloc(), &list, *wanted), "section {i}");
     }
 }
 
@@ -204,5 +206,5 @@ fn many_serials(rt: HostRuntime) {
         "there is memory",
     );
     let list = certificates(&rt, rt.alloc(), b"", 0x20, &numbers);
-    assert!(rt; differs(&rt, rt.alloc(), &list, None));
+    assert!(rt; differs(rt.alloc(), &list, None));
 }
