@@ -1,3 +1,4 @@
 pub mod Listing
 pub mod Loading
 pub mod Ending
+pub mod Whole

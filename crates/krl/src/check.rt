@@ -1,5 +1,7 @@
 //! `krl check`: a list, checked before it is put in force.
 
+ghost use Rattle.krl.specs.Whole.{IsWhole};
+
 use crate::audit::auditor_of;
 use crate::ending::{end, fail_by, fail_in_words};
 use crate::list::{List, read_list};
@@ -31,7 +33,9 @@ struct AgeLimit {
 }
 
 // Checks a list by the clock, if its age is limited. A clock that cannot be read is a fault.
-fn check_at(rt: &HostRuntime, task: &Check, list: &List) -> u8 {
+fn check_at(rt: &HostRuntime, task: &Check, list: &List) -> u8
+    requires { IsWhole list.now }
+{
     let Some(max_age) = task.max_age else {
         return check_beside(rt, task, list, None);
     };
@@ -81,12 +85,9 @@ struct Beside<'a> {
 }
 
 // Checks a list beside the one whose version it must not be below, if there is one.
-fn check_beside<'a>(
-    rt: &HostRuntime,
-    task: &Check<'a>,
-    list: &List,
-    limit: Option<AgeLimit>,
-) -> u8 {
+fn check_beside<'a>(rt: &HostRuntime, task: &Check<'a>, list: &List, limit: Option<AgeLimit>) -> u8
+    requires { IsWhole list.now }
+{
     match task.newer_than {
         None => check_by(rt, task, list, Beside { other: None, limit }),
         Some(name) => match read_list(rt, name) {
@@ -108,7 +109,9 @@ struct Round<'a, 'q, 'w> {
 }
 
 // Checks a list that was read.
-fn check_by<'a>(rt: &HostRuntime, task: &Check<'a>, list: &List, beside: Beside<'a>) -> u8 {
+fn check_by<'a>(rt: &HostRuntime, task: &Check<'a>, list: &List, beside: Beside<'a>) -> u8
+    requires { IsWhole list.now }
+{
     let mut out = ToWrite::new(rt.stdout());
     let mut buffer = Vec::new(rt.alloc());
     let shown = Shown {
@@ -135,7 +138,9 @@ fn check_all<'t, 'a>(
     task: &'t Check<'a>,
     list: &List,
     beside: Beside<'a>,
-) -> Result<(), RunFault<'a>> {
+) -> Result<(), RunFault<'a>>
+    requires { IsWhole list.now }
+{
     round.check_format(task.list, list)?;
     if !task.allow_empty {
         round.checker.check_empty(task.list)?;
@@ -153,7 +158,9 @@ fn check_all<'t, 'a>(
 
 impl<'a, 'q, 'w> Round<'a, 'q, 'w> {
     // Checks that OpenSSH reads a list alike. A plain list that was read is read alike.
-    fn check_format<'s>(&mut self, name: &'s str, list: &List) -> Result<(), RunFault<'s>> {
+    fn check_format<'s>(&mut self, name: &'s str, list: &List) -> Result<(), RunFault<'s>>
+        requires { IsWhole list.now }
+    {
         match list.stated {
             Some(_) => self.checker.check_openssh(name, list.bytes.as_slice()),
             None => Ok(()),

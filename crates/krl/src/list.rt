@@ -1,5 +1,8 @@
 //! The list that a task names.
 
+ghost use Rattle.std.specs.Prelude.{IfOk};
+ghost use Rattle.krl.specs.Whole.{IsWhole};
+
 use byte_streams::{FromRead, Pull};
 use key_files::{Cause, FileFault, RunFault, cause_of};
 use krl_audit::Stated;
@@ -21,7 +24,9 @@ pub struct List {
 
 /// Reads the list of this name, or says why it is refused. As sshd(8) does, it takes a file that
 /// does not begin as a key revocation list for a plain list.
-pub fn read_list<'a>(rt: &HostRuntime, name: &'a str) -> Result<List, RunFault<'a>> {
+pub fn read_list<'a>(rt: &HostRuntime, name: &'a str) -> Result<List, RunFault<'a>>
+    ensures { IfOk result (λ list. IsWhole list) }
+{
     let Ok(file) = fs::open(rt, name) else {
         return Err(RunFault::whole(name, Cause::File(FileFault::Open)));
     };
@@ -39,7 +44,9 @@ pub fn read_list<'a>(rt: &HostRuntime, name: &'a str) -> Result<List, RunFault<'
 }
 
 // Reads a key revocation list.
-fn read_whole<'a>(rt: &HostRuntime, name: &'a str, bytes: Bytes) -> Result<List, RunFault<'a>> {
+fn read_whole<'a>(rt: &HostRuntime, name: &'a str, bytes: Bytes) -> Result<List, RunFault<'a>>
+    ensures { IfOk result (λ list. IsWhole list) }
+{
     let (read, _reader) = read_krl::<Held, _>(rt.alloc(), FromRead::new(bytes.as_slice()));
     match read {
         Ok((header, revocations)) => Ok(List {
@@ -55,7 +62,9 @@ fn read_whole<'a>(rt: &HostRuntime, name: &'a str, bytes: Bytes) -> Result<List,
 }
 
 // Reads a plain list.
-fn read_lines<'a>(rt: &HostRuntime, name: &'a str, bytes: Bytes) -> Result<List, RunFault<'a>> {
+fn read_lines<'a>(rt: &HostRuntime, name: &'a str, bytes: Bytes) -> Result<List, RunFault<'a>>
+    ensures { IfOk result (λ list. IsWhole list) }
+{
     match read_plain::<Held>(rt.alloc(), bytes.as_slice()) {
         Ok(revocations) => Ok(List {
             bytes,

@@ -1,3 +1,4 @@
 pub mod Checking
 pub mod Counting
 pub mod Nobody
+pub mod Marked

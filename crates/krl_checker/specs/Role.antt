@@ -1,8 +1,10 @@
 -- The condition that a list must meet for the keys of a file.
-use Rattle.std.specs.Prelude.{ℕ, ◌==◌, nat_lt, if◌then◌else◌, Bool, true, false, List, [], ◌∷◌}
-use Rattle.std.specs.Prelude.{codes, ◌||◌, ◌⊎◌, IsTrue}
+use Rattle.std.specs.Prelude.{◌≡◌, ℕ, ◌==◌, nat_lt, if◌then◌else◌, Bool, true, false, List, []}
+use Rattle.std.specs.Prelude.{◌∷◌, codes, ◌||◌, ◌⊎◌, IsTrue, Some}
 use Rattle.std.specs.List.{AllByRecursion}
+use Rattle.key_text.specs.declared.marker.Marker.TheVariants as markers
 use Rattle.krl_audit.specs.Counts.{is_key}
+use Rattle.krl_audit.specs.Outcome.{Empty, Key, Outcome, Placed, Unread}
 use Rattle.krl_audit.specs.declared.counts.LineKind.{LineKind}
 use Rattle.krl_audit.specs.declared.counts.LineKind.TheVariants as kinds
 use Rattle.krl_audit.specs.declared.counts.Counts.{Counts}
@@ -33,7 +35,7 @@ role_word roles.Canary = codes "canary: "
 -- ---- the same of the lines of a file
 
 -- A line of this kind may be in the file. A key that its line marks as revoked is not trusted
--- there, so it counts neither as a key to be kept nor as a canary.
+-- there: it counts as a key of the file, and never as revoked.
 abbrev pub MayBe : Role → LineKind → Type 0
 MayBe role kinds.Empty = Unit {0}
 MayBe role kinds.Unread = ⊥
@@ -52,3 +54,14 @@ HasKey (line ∷ lines) = IsTrue (is_key line) ⊎ HasKey lines
 -- Each line may be in the file, and one has a key.
 abbrev pub AreMet : Role → List LineKind → Type 0
 AreMet role lines = AllByRecursion (MayBe role) lines × HasKey lines
+
+-- ---- files whose keys are all marked as revoked
+
+-- The line is read, and marks its key as revoked if it has one.
+abbrev pub IsMarked : Outcome → Type 0
+IsMarked Empty = Unit {0}
+IsMarked (Key found) = found.marker ≡ Some markers.Revoked
+IsMarked (Unread why) = ⊥
+
+abbrev pub AreMarked : List Placed → Type 0
+AreMarked lines = AllByRecursion (λ (line : Placed). IsMarked line.outcome) lines

@@ -125,7 +125,8 @@ pub have_keys : (sections : List SpelledSection) (body : List ℕ) → Signature
 have_keys sections body last spelled boundary earlier [] before rest each more all parts bytes = tt
 have_keys sections body last spelled boundary earlier (section ∷ later) before rest each (text, (after, (rest_is, one, others))) all parts bytes =
     let there = boundary before rest earlier each (last_front earlier (section ∷ later) (subst SignaturesLast all last)) parts in
-    let both = subst IsBytes rest_is bytes in
-    (has_key section text after one (IsBytes-front text after both) spelled (subst IsBoundary rest_is there),
-    have_keys sections body last spelled boundary (earlier ++ section ∷ []) later (before ++ text) after (one_more earlier before text section each one) others
-    (all ∙ sym (append_assoc earlier (section ∷ []) later)) (parts ∙ ap (λ (b : List ℕ). before ++ b) rest_is ∙ sym (append_assoc before text after)) (IsBytes-back text after both))
+    let both = subst IsBytes rest_is bytes in (
+      has_key section text after one (IsBytes-front text after both) spelled (subst IsBoundary rest_is there),
+      have_keys sections body last spelled boundary (earlier ++ section ∷ []) later (before ++ text) after (one_more earlier before text section each one) others
+          (all ∙ sym (append_assoc earlier (section ∷ []) later)) (parts ∙ ap (λ (b : List ℕ). before ++ b) rest_is ∙ sym (append_assoc before text after)) (IsBytes-back text after both),
+    )

@@ -1,10 +1,11 @@
 //! Each condition both ways, and how a check ends.
 
-use byte_streams::{Sink, ToWrite};
-use key_files::RunFault;
+use byte_streams::{FromRead, Sink, ToWrite};
+use key_files::{RunFault, cause_of};
 use key_listing::{Printer, Run};
 use krl_audit::{Auditor, Counts, Form, Judge, Refusal, Shown};
 use krl_checker::{Checker, PlainRefusal, Role};
+use krl_core::read_krl;
 use krl_entries::Revocations;
 use span_sets::Held;
 use std::alloc::Global;
@@ -34,12 +35,24 @@ pub fn check<'a, W: Sink>(
     asked: Asked<'a>,
 ) -> Result<(), RunFault<'a>> {
     match asked {
-        Asked::OpenSsh(bytes) => checker.check_openssh("r.krl", bytes),
+        Asked::OpenSsh(bytes) => check_format(checker, bytes),
         Asked::Version(version, other) => checker.check_version("r.krl", version, other),
         Asked::Keys(role, name, content) => checker.check_keys(role, name, content),
         Asked::Plain(why) => checker.refuse_plain("r.krl", why),
         Asked::Age(generated, now, most) => checker.check_age("r.krl", generated, now, most),
         Asked::Empty => checker.check_empty("r.krl"),
+    }
+}
+
+// Checks the bytes of a list, which are read first.
+fn check_format<W: Sink>(
+    checker: &mut Checker<'_, '_, W>,
+    bytes: &[u8],
+) -> Result<(), RunFault<'static>> {
+    let (read, _reader) = read_krl::<Held, _>(checker.auditor.run.alloc, FromRead::new(bytes));
+    match read {
+        Ok(_) => checker.check_openssh("r.krl", bytes),
+        Err(fault) => Err(RunFault::whole("r.krl", cause_of(fault))),
     }
 }
 

@@ -2,12 +2,12 @@
 
 use crate::tests::answered::{answered, ran_out};
 use crate::tests::buffer::Buffer;
-use byte_streams::{Sink, ToWrite};
-use key_files::{Cause, RunFault};
+use byte_streams::{FromRead, Sink, ToWrite};
+use key_files::{Cause, RunFault, cause_of};
 use key_listing::{Printer, Run};
 use krl_audit::{Auditor, Counts, Form, Judge, Shown};
 use krl_checker::{Checker, Role};
-use krl_core::Revocations;
+use krl_core::{Revocations, read_krl};
 use span_sets::Held;
 use std::alloc::{AllocError, Global};
 use test_fixtures::{GITHUB, GITHUB_LINE, OTHER_LINE};
@@ -23,9 +23,13 @@ f:1: revoked: ssh-ed25519 SHA256:+DiY3wvvV6TuJJhbpZisF/zLDA0zPMSvHdkr4UvCOqU by 
 keep: f: 1 of 1 keys are revoked, 0 lines are not read
 ";
 
-// Checks each condition.
+// Checks each condition, the first one of a list that is read before.
 fn check_all<W: Sink>(checker: &mut Checker<'_, '_, W>) -> Result<(), RunFault<'static>> {
-    checker.check_openssh("r.krl", SIGNED)?;
+    let (read, _reader) = read_krl::<Held, _>(checker.auditor.run.alloc, FromRead::new(SIGNED));
+    match read {
+        Ok(_) => checker.check_openssh("r.krl", SIGNED)?,
+        Err(fault) => return Err(RunFault::whole("r.krl", cause_of(fault))),
+    }
     checker.check_version("r.krl", 1, 2)?;
     checker.check_keys(Role::Keep, "f", Ok(GITHUB_LINE))?;
     checker.check_keys(Role::Keep, "g", Ok(OTHER_LINE))
