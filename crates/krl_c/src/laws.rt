@@ -19,8 +19,13 @@ ghost use Rattle.krl_c.specs.Loan.{Loan, is_lent};
 ghost use Rattle.krl_c.specs.Number.{line_number, list_number, no_memory, subject_number};
 ghost use Rattle.krl_c.specs.Words.{words};
 
+mod numbers;
+mod reasons;
+
 use key_text::laws::{line_read_where_spelled, line_refused_by_first_fault};
 use krl_format::laws::{no_fault_where_spelled, one_first_fault, one_spelling};
+pub use numbers::{handles_stay_ready, some_numbers_are_never_answered, words_are_short};
+pub use reasons::reasons_where_revoked;
 use ssh_cert::laws::{asked_where_spelled, not_asked_by_first_fault};
 
 /// A list has one row of entries or one first fault.
