@@ -1,7 +1,6 @@
 -- The authorities of a list without a difference are keys that OpenSSH accepts.
-use Rattle.std.proofs.Common.{◌≡◌, ℕ, ◌+◌, ◌-◌, ◌<◌, ◌≤◌, ◌^◌, true, false, List, [], ◌∷◌, ◌++◌, length, Option, Some, None, Result, Ok, Err, inl, inr, refl, sym, ap, subst, ◌∙◌, arith, ltb, length-append, append_assoc}
+use Rattle.std.proofs.Common.{◌≡◌, ℕ, ◌-◌, ◌<◌, ◌^◌, true, false, List, [], ◌∷◌, ◌++◌, length, None, Result, Ok, Err, inl, inr, refl, sym, ap, subst, ◌∙◌, arith, ltb, append_assoc}
 use Rattle.std.specs.Prelude.{slice_index_or}
-use Rattle.std.specs.List.{AllByRecursion}
 use Rattle.ssh_wire.specs.Rows.{BeginsWithPart, Leads, Text}
 use Rattle.ssh_wire.specs.Wire.{IsBytes, number, number_of, string}
 use Rattle.ssh_wire.proofs.Digits.{IsBytes-back, IsBytes-front}
@@ -13,8 +12,8 @@ use Rattle.openssh_keys.specs.Judgement.{judgement_of}
 use Rattle.openssh_keys.specs.declared.judgement.Judgement.{Judgement}
 use Rattle.openssh_keys.specs.declared.judgement.Judgement.TheVariants as judgements
 use Rattle.krl_types.specs.declared.krl_fault.KrlFault.TheVariants as faults
-use Rattle.krl_format.specs.Krl.{Certificates, Extension, Keys, Sha1s, Sha256s, Signature, SignaturesLast, SpelledSection, Spells, SpellsCertificates, SpellsContent, SpellsEach, SpellsSection, authority_fields}
-use Rattle.krl_format.specs.Place.{can_end, expected}
+use Rattle.krl_format.specs.Krl.{Certificates, Extension, Keys, Sha1s, Sha256s, Signature, SignaturesLast, SpelledSection, SpellsEach, SpellsSection, authority_fields}
+use Rattle.krl_format.specs.Place.{can_end}
 use Rattle.krl_format.specs.declared.place.Place.{Place}
 use Rattle.krl_format.specs.declared.place.Place.TheVariants as places
 use Rattle.krl_format.specs.declared.place.certificates.CertificatesPlace.TheVariants as certificates

@@ -11,14 +11,21 @@ use Rattle.openssh_keys.specs.Judgement.{judgement_of}
 use Rattle.openssh_keys.specs.declared.judgement.Judgement.{Judgement}
 use Rattle.openssh_keys.specs.declared.judgement.Judgement.TheVariants as judgements
 use Rattle.krl_types.specs.declared.krl_fault.KrlFault.{KrlFault}
+use Rattle.krl_format.specs.Field.{row_of}
 use Rattle.krl_format.specs.Place.{expected}
 use Rattle.krl_format.specs.declared.place.Place.{Place}
 use Rattle.krl_format.specs.declared.place.Place.TheVariants as places
+use Rattle.krl_format.specs.declared.place.bitmap.BitmapPlace.{BitmapPlace}
 use Rattle.krl_format.specs.declared.place.bitmap.BitmapPlace.TheVariants as bitmaps
 use Rattle.krl_format.specs.declared.place.certificates.CertificatesPlace.{CertificatesPlace}
 use Rattle.krl_format.specs.declared.place.certificates.CertificatesPlace.TheVariants as certificates
+use Rattle.krl_format.specs.declared.place.field.Field.{Field}
 use Rattle.krl_format.specs.declared.place.field.Field.TheVariants as fields
+use Rattle.krl_format.specs.declared.place.field.Table.{Table}
+use Rattle.krl_format.specs.declared.place.field.Table.TheVariants as tables
+use Rattle.krl_format.specs.declared.place.list.ItemKind.{ItemKind}
 use Rattle.krl_format.specs.declared.place.list.ItemKind.TheVariants as kinds
+use Rattle.krl_format.specs.declared.place.list.ListPlace.{ListPlace}
 use Rattle.krl_format.specs.declared.place.list.ListPlace.TheVariants as lists
 use Rattle.krl_format.specs.declared.place.serials.SerialsPlace.{SerialsPlace}
 use Rattle.krl_format.specs.declared.place.serials.SerialsPlace.TheVariants as serials
@@ -50,10 +57,25 @@ abbrev pub comment_difference : List ℕ → Option Difference
 comment_difference comment =
     found_if (has_zero (take (length comment - 1) comment)) differences.Comment
 
-abbrev pub section_difference : ℕ → Option Difference
-section_difference type_byte =
-    if type_byte == 4 then Some differences.Signature
-    else if type_byte == 255 then Some differences.Extension else None
+-- a string of a table
+abbrev pub text_difference : Field → List ℕ → Option Difference
+text_difference fields.Comment text = comment_difference text
+text_difference _ text = None
+
+-- a field of a table
+abbrev pub table_difference : Table → Option Difference
+table_difference tables.Header = None
+table_difference tables.Signature = Some differences.Signature
+table_difference tables.Extension = Some differences.Extension
+
+-- a string of a list
+abbrev pub item_difference : ItemKind → List ℕ → Option Difference
+item_difference kinds.Id text = found_if (has_zero text) differences.KeyId
+item_difference _ text = None
+
+abbrev pub list_difference : ListPlace → List ℕ → Option Difference
+list_difference (lists.Item kind size left after) field = item_difference kind field
+list_difference _ field = None
 
 abbrev pub judgement_difference : Judgement → Option Difference
 judgement_difference judgements.Accepted = None
@@ -72,8 +94,6 @@ authority_difference (byte ∷ bytes) = key_difference (key_at (byte ∷ bytes))
 
 abbrev pub certificates_difference : CertificatesPlace → List ℕ → Option Difference
 certificates_difference (certificates.Authority size after) field = authority_difference field
-certificates_difference (certificates.SubsectionType left) field =
-    found_if (number_of field == 0x39) differences.Extension
 certificates_difference _ field = None
 
 abbrev pub serials_difference : SerialsPlace → List ℕ → Option Difference
@@ -98,17 +118,21 @@ bits_difference offset size left byte =
     if is_long size left byte then Some differences.LongBitmap
     else found_if (names_zero offset left byte) differences.SerialZero
 
+abbrev pub bitmap_difference : BitmapPlace → List ℕ → Option Difference
+bitmap_difference (bitmaps.Byte offset size left after) field =
+    bits_difference offset size left (number_of field)
+bitmap_difference _ field = None
+
 -- a whole field at a place
 abbrev pub difference_at : Place → List ℕ → Option Difference
-difference_at (places.Content fields.Comment size left after) field = comment_difference field
-difference_at (places.SectionType signed) field = section_difference (number_of field)
+difference_at (places.Field row left after) field = table_difference (row_of row).table
+difference_at (places.Content row size left after) field = text_difference row field
+difference_at (places.SectionType signed) field = None
+difference_at (places.List at) field = list_difference at field
 difference_at (places.Certificates at) field = certificates_difference at field
 difference_at (places.Serials at) field = serials_difference at field
-difference_at (places.Bitmap (bitmaps.Byte offset size left after)) field =
-    bits_difference offset size left (number_of field)
-difference_at (places.List (lists.Item kinds.Id size left after)) field =
-    found_if (has_zero field) differences.KeyId
-difference_at _ field = None
+difference_at (places.Bitmap at) field = bitmap_difference at field
+difference_at (places.Extension at) field = Some differences.Extension
 
 -- ---- all fields
 

@@ -1,14 +1,18 @@
 //! The fields of a list for which OpenSSH refuses it, or reads other names.
 
 ghost use Rattle.std.specs.Prelude.{◌≡◌, length};
-ghost use Rattle.krl_format.specs.Place.{certificates_expected, expected, serials_expected};
-ghost use Rattle.krl_openssh.specs.Difference.{authority_difference, bits_difference};
-ghost use Rattle.krl_openssh.specs.Difference.{certificates_difference, comment_difference};
-ghost use Rattle.krl_openssh.specs.Difference.{difference_at, difference_words, found_if, has_zero};
-ghost use Rattle.krl_openssh.specs.Difference.{is_long, judgement_difference, names_zero};
-ghost use Rattle.krl_openssh.specs.Difference.{section_difference, serials_difference};
+ghost use Rattle.krl_format.specs.Place.{bitmap_expected, expected, serials_expected};
+ghost use Rattle.krl_openssh.specs.Difference.{authority_difference, bitmap_difference};
+ghost use Rattle.krl_openssh.specs.Difference.{bits_difference, certificates_difference};
+ghost use Rattle.krl_openssh.specs.Difference.{comment_difference, difference_at, difference_words};
+ghost use Rattle.krl_openssh.specs.Difference.{found_if, has_zero, is_long, item_difference};
+ghost use Rattle.krl_openssh.specs.Difference.{judgement_difference, list_difference, names_zero};
+ghost use Rattle.krl_openssh.specs.Difference.{serials_difference, table_difference};
+ghost use Rattle.krl_openssh.specs.Difference.{text_difference};
 
-use krl_format::{BitmapPlace, CertificatesPlace, Field, ItemKind, ListPlace, Place, SerialsPlace};
+use krl_format::{
+    BitmapPlace, CertificatesPlace, Field, ItemKind, ListPlace, Place, SerialsPlace, Table,
+};
 use krl_types::{byte_of, u64_of};
 use openssh_keys::{Judgement, judge};
 use ssh_key::read_key;
@@ -63,28 +67,14 @@ pub(crate) fn difference_at(place: Place, field: &[u8]) -> Option<Difference>
     ensures { result ≡ difference_at place field.now }
 {
     match place {
-        Place::Content {
-            field: Field::Comment,
-            ..
-        } => comment_difference(field),
-        Place::SectionType { .. } => section_difference(byte_of(field)),
+        Place::Field { field: row, .. } => table_difference(row.row().0),
+        Place::Content { field: row, .. } => text_difference(row, field),
+        Place::SectionType { .. } => None,
+        Place::List(at) => list_difference(at, field),
         Place::Certificates(at) => certificates_difference(at, field),
         Place::Serials(at) => serials_difference(at, field),
-        Place::Bitmap(
-            BitmapPlace::Byte {
-                offset,
-                size,
-                left,
-                ..
-            },
-        ) => bits_difference(offset, size, left, byte_of(field)),
-        Place::List(
-            ListPlace::Item {
-                kind: ItemKind::Id,
-                ..
-            },
-        ) => { found_if(has_zero(field), Difference::KeyId) }
-        _ => None,
+        Place::Bitmap(at) => bitmap_difference(at, field),
+        Place::Extension(_) => Some(Difference::Extension),
     }
 }
 
@@ -93,6 +83,37 @@ fn found_if(found: bool, difference: Difference) -> Option<Difference>
     ensures { result ≡ found_if found difference }
 {
     if found { Some(difference) } else { None }
+}
+
+// The difference of a field of a table.
+fn table_difference(table: Table) -> Option<Difference>
+    ensures { result ≡ table_difference table }
+{
+    match table {
+        Table::Header => None,
+        Table::Signature => Some(Difference::Signature),
+        Table::Extension => Some(Difference::Extension),
+    }
+}
+
+// The difference of a string of a table.
+fn text_difference(row: Field, text: &[u8]) -> Option<Difference>
+    ensures { result ≡ text_difference row text.now }
+{
+    match row {
+        Field::Comment => comment_difference(text),
+        Field::Magic
+        | Field::FormatVersion
+        | Field::Version
+        | Field::Date
+        | Field::Flags
+        | Field::Reserved
+        | Field::SignatureKey
+        | Field::SignatureBytes
+        | Field::ExtensionName
+        | Field::Critical
+        | Field::ExtensionContents => None,
+    }
 }
 
 // The difference of a comment. OpenSSH drops a zero byte at the end.
@@ -110,28 +131,39 @@ fn has_zero(text: &[u8]) -> bool
     text.contains(&0)
 }
 
-// The difference of the type of a section.
-fn section_difference(type_byte: u8) -> Option<Difference>
-    ensures { result ≡ section_difference type_byte }
+// The difference of a field of a list of strings.
+fn list_difference(at: ListPlace, field: &[u8]) -> Option<Difference>
+    ensures { result ≡ list_difference at field.now }
 {
-    match type_byte {
-        4 => Some(Difference::Signature),
-        255 => Some(Difference::Extension),
-        _ => None,
+    match at {
+        ListPlace::Item { kind, .. } => item_difference(kind, field),
+        ListPlace::SectionLength { .. }
+        | ListPlace::IdsLength { .. }
+        | ListPlace::ItemLength { .. } => None,
+    }
+}
+
+// The difference of a string of a list.
+fn item_difference(kind: ItemKind, text: &[u8]) -> Option<Difference>
+    ensures { result ≡ item_difference kind text.now }
+{
+    match kind {
+        ItemKind::Id => found_if(has_zero(text), Difference::KeyId),
+        ItemKind::Key | ItemKind::Sha1 | ItemKind::Sha256 => None,
     }
 }
 
 // The difference of a field of a section of certificates.
 fn certificates_difference(at: CertificatesPlace, field: &[u8]) -> Option<Difference>
-    requires { length field.now ≡ (certificates_expected at).size }
     ensures { result ≡ certificates_difference at field.now }
 {
     match at {
         CertificatesPlace::Authority { .. } => authority_difference(field),
-        CertificatesPlace::SubsectionType { .. } => {
-            found_if(byte_of(field) == 0x39, Difference::Extension)
-        }
-        _ => None,
+        CertificatesPlace::SectionLength
+        | CertificatesPlace::AuthorityLength { .. }
+        | CertificatesPlace::ReservedLength { .. }
+        | CertificatesPlace::Reserved { .. }
+        | CertificatesPlace::SubsectionType { .. } => None,
     }
 }
 
@@ -169,7 +201,25 @@ fn serials_difference(at: SerialsPlace, field: &[u8]) -> Option<Difference>
         SerialsPlace::Serial { .. } | SerialsPlace::RangeMin { .. } => {
             found_if(u64_of(field) == 0, Difference::SerialZero)
         }
-        _ => None,
+        SerialsPlace::SerialsLength { .. }
+        | SerialsPlace::RangeLength { .. }
+        | SerialsPlace::RangeMax { .. } => None,
+    }
+}
+
+// The difference of a field of a bitmap.
+fn bitmap_difference(at: BitmapPlace, field: &[u8]) -> Option<Difference>
+    requires { length field.now ≡ (bitmap_expected at).size }
+    ensures { result ≡ bitmap_difference at field.now }
+{
+    match at {
+        BitmapPlace::Byte {
+            offset,
+            size,
+            left,
+            ..
+        } => bits_difference(offset, size, left, byte_of(field)),
+        BitmapPlace::Length { .. } | BitmapPlace::Offset { .. } | BitmapPlace::Size { .. } => None,
     }
 }
 
