@@ -13,9 +13,10 @@ answer_of (pos zero) = fine
 answer_of (pos (suc reasons)) = revoked
 answer_of (negsuc number) = negsuc number
 
--- -113: `Read`, since bytes in memory are never refused by a reader. -114: `NoMemory`, which has the
--- number -1. -402: an unknown type, since the type of a certificate is known before it is read. -502
--- and -507: the same fault of its key, and bytes after the key, which are the other fields.
+-- -113 would be that the reader of a list failed, and bytes in memory have none. -114 would be a
+-- failed allocation, which has the number -1. -402 and -502 would be that the type of a certificate
+-- or of its key is not known, and it is known before either is read. -507 would be that bytes are
+-- left after the key, where the other fields are.
 abbrev pub never_answered : List ℤ
 never_answered = negsuc 112 ∷ negsuc 113 ∷ negsuc 401 ∷ negsuc 501 ∷ negsuc 506 ∷ []
 

@@ -1,6 +1,7 @@
 //! Laws of the checks. Each function does nothing: its contract is the law.
 
-ghost use Rattle.std.specs.Prelude.{◌≡◌, ◌+◌, ◌<◌, ◌^◌, ◌↔◌, ℕ, List, length, Ok, Some, false, true};
+ghost use Rattle.std.specs.Prelude.{◌≡◌, ◌+◌, ◌<◌, ◌^◌, ◌↔◌, ℕ, List, length, Ok, Some, false};
+ghost use Rattle.std.specs.Prelude.{true};
 ghost use Rattle.key_text.specs.declared.marker.Marker.TheVariants as markers;
 ghost use Rattle.krl_audit.specs.Audit.{file_kinds, file_lines, kind_of};
 ghost use Rattle.krl_audit.specs.Counts.{all_counted};
