@@ -1,14 +1,29 @@
 -- The front of a list, and of each of its sections.
-use Rattle.std.proofs.Common.{◌≡◌, ℕ, ◌^◌, ◌<◌, Bool, true, false, List, [], ◌∷◌, ◌++◌, length, refl, sym, ap, subst, ◌∙◌, arith, length-append, append_assoc}
+use Rattle.std.proofs.Common.{◌≡◌, ℕ, ◌^◌, ◌<◌, ◌≤◌, ◌-◌, ◌⊎◌, inl, inr, Bool, true, false, List, [], ◌∷◌, ◌++◌, length, take, drop, refl, sym, ap, subst, ◌∙◌, arith, length-append, append_assoc}
 use Rattle.std.proofs.lemmas.Bool.{false≢true}
-use Rattle.std.proofs.lemmas.List.{append-nil}
+use Rattle.std.proofs.lemmas.List.{append-nil, length-take-le, take_rest}
 use Rattle.std.specs.Prelude.{IsTrue, ◌↔◌, Option, Some, Result, Ok, Err, slice_index_or}
 use Rattle.ssh_wire.specs.Rows.{BeginsWithPart, Leads, Text}
 use Rattle.ssh_wire.specs.declared.fault.WireFault.{WireFault}
-use Rattle.ssh_wire.specs.Wire.{string}
+use Rattle.ssh_wire.specs.Wire.{number_of, string}
 use Rattle.krl_format.specs.Field.{row_of, steps_of}
-use Rattle.krl_format.specs.Krl.{Certificates, Signature, SpelledSection, SpellsContent, SpellsEach, SpellsSection, authority_fields}
+use Rattle.krl_format.specs.Front.{Passes}
+use Rattle.krl_format.specs.Krl.{Certificates, Extension, Keys, Sha1s, Sha256s, Signature, SpelledSection, SpellsContent, SpellsEach, SpellsSection, authority_fields}
+use Rattle.krl_format.specs.Place.{expected}
+use Rattle.krl_format.specs.declared.place.Place.{Place}
+use Rattle.krl_format.specs.declared.place.Place.TheVariants as places
+use Rattle.krl_format.specs.declared.place.bitmap.BitmapPlace.{BitmapPlace}
+use Rattle.krl_format.specs.declared.place.certificates.CertificatesPlace.{CertificatesPlace}
+use Rattle.krl_format.specs.declared.place.certificates.CertificatesPlace.TheVariants as certificates
+use Rattle.krl_format.specs.declared.place.extension.ExtensionPlace.{ExtensionPlace}
+use Rattle.krl_format.specs.declared.place.extension.ExtensionPlace.TheVariants as extensions
 use Rattle.krl_format.specs.declared.place.field.Field.{Field}
+use Rattle.krl_format.specs.declared.place.field.Field.TheVariants as fields
+use Rattle.krl_format.specs.declared.place.list.ItemKind.TheVariants as kinds
+use Rattle.krl_format.specs.declared.place.list.ListPlace.{ListPlace}
+use Rattle.krl_format.specs.declared.place.list.ListPlace.TheVariants as lists
+use Rattle.krl_format.specs.declared.place.serials.SerialsPlace.{SerialsPlace}
+use Rattle.krl_format.proofs.Judgements.{same_place}
 use Rattle.krl_format.proofs.OneSpelling.{section_type}
 use Rattle.krl_format.proofs.TableRows.{after_is, fields_at}
 use Rattle.krl_authority.specs.Authority.{AuthoritiesAreKeys, IsJudged, IsKeyOrAll}
@@ -72,21 +87,61 @@ begins_so section first is = of_content section first is
 abbrev pub Takes : (from content left : List ℕ) → Type 0
 Takes from content left = (text rest : List ℕ) → from ≡ string text ++ rest → length text < 2 ^ 32 → (content ≡ text) × (left ≡ rest)
 
-abbrev head_of : List ℕ → ℕ
-head_of [] = 0
-head_of (byte ∷ bytes) = byte
+-- ---- the place after its type byte
 
-abbrev tail_of : List ℕ → List ℕ
-tail_of [] = []
-tail_of (byte ∷ bytes) = bytes
+abbrev pub place_of : SpelledSection → Place
+place_of (Certificates authority subsections) = places.Certificates certificates.SectionLength
+place_of (Keys blobs) = places.List (lists.SectionLength kinds.Key)
+place_of (Sha1s hashes) = places.List (lists.SectionLength kinds.Sha1)
+place_of (Sha256s hashes) = places.List (lists.SectionLength kinds.Sha256)
+place_of Signature = places.Field fields.SignatureKey 0 0
+place_of Extension = places.Extension extensions.SectionLength
 
--- the type byte is that of the section, and its string is next
-pub front_is : (section : SpelledSection) (first rest old after : List ℕ) (byte : ℕ) (begins : BeginsSo section first) → old ≡ first ++ rest → old ≡ byte ∷ after
-    → (byte ≡ section_type section) × (after ≡ string begins.content ++ (begins.after ++ rest))
-front_is section first rest old after byte begins parts front =
-    let more = string begins.content ++ begins.after in
-    let same : byte ∷ after ≡ section_type section ∷ (more ++ rest) = sym front ∙ parts ∙ ap (λ bytes. bytes ++ rest) begins.parts in
-    (ap head_of same, ap tail_of same ∙ append_assoc (string begins.content) begins.after rest)
+typed : (section : SpelledSection) → (expected (places.SectionType false)).judged (section_type section ∷ []) ≡ Ok (place_of section)
+unfolding number_of
+typed (Certificates authority subsections) = refl
+typed (Keys blobs) = refl
+typed (Sha1s hashes) = refl
+typed (Sha256s hashes) = refl
+typed Signature = refl
+typed Extension = refl
+
+parts_of : (section : SpelledSection) (first rest bytes : List ℕ) (begins : BeginsSo section first) → bytes ≡ first ++ rest → bytes ≡ section_type section ∷ (string begins.content ++ (begins.after ++ rest))
+parts_of section first rest bytes begins parts =
+    parts ∙ ap (λ (b : List ℕ). b ++ rest) begins.parts ∙ ap (λ (b : List ℕ). section_type section ∷ b) (append_assoc (string begins.content) begins.after rest)
+
+-- The place is the one after the type byte, and the section's string is next.
+pub record IsNext (section : SpelledSection) (first rest : List ℕ) (spells : SpellsSection first section) (next : Place) (after : List ℕ) : Type 0 where
+  pub place_is : next ≡ place_of section
+  pub after_is : after ≡ string (begins_so section first spells).content ++ ((begins_so section first spells).after ++ rest)
+
+pub next_is : (section : SpelledSection) (first rest bytes after : List ℕ) (size : ℕ) (next : Place) (spells : SpellsSection first section) → bytes ≡ first ++ rest → size ≤ length bytes
+    → Passes (places.SectionType false) (take size bytes) next → after ≡ take (length bytes - size) (drop size bytes) → IsNext section first rest spells next after
+next_is section first rest bytes after size next spells parts within passes after_is =
+    let begins = begins_so section first spells in
+    let is = parts_of section first rest bytes begins parts in
+    let one : size ≡ 1 = omega (arith, passes.whole, length-take-le size bytes within) in
+    let byte : take size bytes ≡ section_type section ∷ [] = ap (λ (n : ℕ). take n bytes) one ∙ ap (take 1) is in
+    record {
+      place_is = same_place next (place_of section) (sym passes.judged ∙ ap (expected (places.SectionType false)).judged byte ∙ typed section);
+      after_is = after_is ∙ take_rest bytes size ∙ ap (λ (n : ℕ). drop n bytes) one ∙ ap (drop 1) is;
+    }
+
+-- There is a type byte.
+pub has_type : (section : SpelledSection) (first rest bytes : List ℕ) → SpellsSection first section → bytes ≡ first ++ rest
+    → ((field rest : List ℕ) (next : Place) → Passes (places.SectionType false) field next → bytes ≡ field ++ rest → ⊥) → ⊥
+has_type section first rest bytes spells parts none =
+    let begins = begins_so section first spells in
+    none (section_type section ∷ []) (string begins.content ++ (begins.after ++ rest)) (place_of section) (record { room = tt; whole = refl; judged = typed section }) (parts_of section first rest bytes begins parts)
+
+-- There is a string after it.
+pub has_string : (section : SpelledSection) (first rest : List ℕ) (spells : SpellsSection first section) (next : Place) (after : List ℕ) → IsNext section first rest spells next after
+    → ((text rest : List ℕ) → after ≡ string text ++ rest → length text < 2 ^ 32 → ⊥) → ⊥
+has_string section first rest spells next after is none =
+    let begins = begins_so section first spells in
+    none begins.content (begins.after ++ rest) is.after_is begins.fits
+
+-- ---- the judgement on a section
 
 -- a content begins with its authority
 authority_front : (content body : List ℕ) (values : List (List ℕ)) → Leads authority_fields [] content values body → (more : List ℕ) × BeginsWithPart Text content (slice_index_or values 0 []) more
@@ -94,20 +149,82 @@ authority_front content body values (authority, a, is_authority, any_authority, 
     (a, subst (λ (v : List (List ℕ)). BeginsWithPart Text content (slice_index_or v 0 []) a) same is_authority)
 
 -- a section of certificates, judged by its authority
-pub judged_certificates : (section : SpelledSection) (first rest old after content left : List ℕ) (fine : Bool) → SpellsSection first section → old ≡ first ++ rest → old ≡ 1 ∷ after
-    → Takes after content left → ((authority more : List ℕ) → content ≡ string authority ++ more → length authority < 2 ^ 32 → IsTrue fine ↔ IsKeyOrAll authority)
+pub judged_certificates : (section : SpelledSection) (first rest after content left : List ℕ) (fine : Bool) (next : Place) (at : CertificatesPlace) (spells : SpellsSection first section) → IsNext section first rest spells next after
+    → next ≡ places.Certificates at → Takes after content left → ((authority more : List ℕ) → content ≡ string authority ++ more → length authority < 2 ^ 32 → IsTrue fine ↔ IsKeyOrAll authority)
     → IsJudged section fine left rest
-judged_certificates (Certificates authority subsections) first rest old after content left fine is parts front takes begins =
-    let so = begins_so (Certificates authority subsections) first is in
-    let taken = takes so.content (so.after ++ rest) (front_is (Certificates authority subsections) first rest old after 1 so parts front).1 so.fits in
-    let held = is.content_is in
-    let (more, named) = authority_front is.content held.body held.values held.fields in
-    let begun = subst (λ (text : List ℕ). BeginsWithPart Text is.content text more) held.authority_is named in
+judged_certificates (Certificates authority subsections) first rest after content left fine next at spells is here takes begins =
+    let so = begins_so (Certificates authority subsections) first spells in
+    let taken = takes so.content (so.after ++ rest) is.after_is so.fits in
+    let held = spells.content_is in
+    let (more, named) = authority_front spells.content held.body held.values held.fields in
+    let begun = subst (λ (text : List ℕ). BeginsWithPart Text spells.content text more) held.authority_is named in
     record {
       judged = begins authority more (taken.0 ∙ begun.spelled) begun.is_part;
       left_is = λ _. taken.1;
     }
-judged_certificates section first rest old after content left fine is parts front takes begins = absurd (omega (arith, (front_is section first rest old after 1 (begins_so section first is) parts front).0))
+judged_certificates section first rest after content left fine next at spells is here takes begins = let other = sym is.place_is ∙ here in absurd cc
+
+-- a signature, whose second string is skipped
+pub judged_signature : (section : SpelledSection) (first rest after content middle left : List ℕ) (fine : Bool) (next : Place) (row : Field) (size behind : ℕ) (spells : SpellsSection first section) → IsNext section first rest spells next after
+    → next ≡ places.Field row size behind → Takes after content middle → ((text rest : List ℕ) → middle ≡ string text ++ rest → length text < 2 ^ 32 → IsTrue fine × (left ≡ rest))
+    → IsJudged section fine left rest
+judged_signature Signature first rest after content middle left fine next row size behind (bytes, spelled, (values, (key, a, is_key, any_key, (signature, b, is_signature, any_signature, (same, ends))))) is here takes skips =
+    let taken = takes key (a ++ rest) is.after_is is_key.is_part in
+    let middle_is : middle ≡ string signature ++ rest = taken.1 ∙ ap (λ (x : List ℕ). x ++ rest) is_signature.spelled ∙ append_assoc (string signature) b rest ∙ ap (λ (x : List ℕ). string signature ++ (x ++ rest)) ends in
+    let skipped = skips signature rest middle_is is_signature.is_part in
+    record {
+      judged = ((λ _. tt), (λ _. skipped.0));
+      left_is = λ _. skipped.1;
+    }
+judged_signature section first rest after content middle left fine next row size behind spells is here takes skips = let other = sym is.place_is ∙ here in absurd cc
+
+abbrev pub IsPlain : Place → Type 0
+IsPlain (places.List at) = Unit {0}
+IsPlain (places.Extension at) = Unit {0}
+IsPlain _ = ⊥
+
+pub is_plain : (next : Place) → ((at : ListPlace) × (next ≡ places.List at)) ⊎ ((at : ExtensionPlace) × (next ≡ places.Extension at)) → IsPlain next
+is_plain next (inl (at, is)) = subst IsPlain (sym is) tt
+is_plain next (inr (at, is)) = subst IsPlain (sym is) tt
+
+-- a section of one string without an authority
+pub judged_plain : (section : SpelledSection) (first rest after content left : List ℕ) (next : Place) (spells : SpellsSection first section) → IsNext section first rest spells next after → IsPlain next → Takes after content left
+    → IsJudged section true left rest
+judged_plain (Certificates authority subsections) first rest after content left next spells is plain takes = absurd (subst IsPlain is.place_is plain)
+judged_plain Signature first rest after content left next spells is plain takes = absurd (subst IsPlain is.place_is plain)
+judged_plain section first rest after content left next spells is plain takes =
+    let so = begins_so section first spells in
+    let taken = takes so.content (so.after ++ rest) is.after_is so.fits in
+    record {
+      judged = ((λ _. tt), (λ _. refl));
+      left_is = λ _. taken.1;
+    }
+
+-- no section begins with such a place
+abbrev pub IsOther : Place → Type 0
+IsOther (places.Content row size left after) = Unit {0}
+IsOther (places.SectionType signed) = Unit {0}
+IsOther (places.Serials at) = Unit {0}
+IsOther (places.Bitmap at) = Unit {0}
+IsOther _ = ⊥
+
+pub is_other : (next : Place) → ((row : Field) × (size : ℕ) × (left : ℕ) × (after : ℕ) × (next ≡ places.Content row size left after))
+    ⊎ (((signed : Bool) × (next ≡ places.SectionType signed)) ⊎ (((at : SerialsPlace) × (next ≡ places.Serials at)) ⊎ ((at : BitmapPlace) × (next ≡ places.Bitmap at)))) → IsOther next
+is_other next (inl (row, size, left, after, is)) = subst IsOther (sym is) tt
+is_other next (inr (inl (signed, is))) = subst IsOther (sym is) tt
+is_other next (inr (inr (inl (at, is)))) = subst IsOther (sym is) tt
+is_other next (inr (inr (inr (at, is)))) = subst IsOther (sym is) tt
+
+never_other : (section : SpelledSection) → IsOther (place_of section) → ⊥
+never_other (Certificates authority subsections) other = other
+never_other (Keys blobs) other = other
+never_other (Sha1s hashes) other = other
+never_other (Sha256s hashes) other = other
+never_other Signature other = other
+never_other Extension other = other
+
+pub judged_never : (section : SpelledSection) (first rest after left : List ℕ) (next : Place) (spells : SpellsSection first section) → IsNext section first rest spells next after → IsOther next → IsJudged section false left rest
+judged_never section first rest after left next spells is other = absurd (never_other section (subst IsOther is.place_is other))
 
 -- ---- all sections
 

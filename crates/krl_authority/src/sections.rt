@@ -11,7 +11,7 @@ ghost use Rattle.openssh_keys.specs.Judgement.{judgement_of};
 ghost use Rattle.openssh_keys.specs.declared.judgement.Judgement.TheVariants.{Accepted};
 ghost use Rattle.krl_authority.specs.Authority.{AuthoritiesAreKeys, IsJudged, IsKeyOrAll};
 
-use krl_format::{Field, FieldPart};
+use krl_format::{Field, FieldPart, Place};
 use openssh_keys::{Judgement, judge};
 use ssh_key::laws::read_where_spelled;
 use ssh_key::{PublicKey, read_key};
@@ -107,17 +107,21 @@ fn section_is_fine<'a>(left: &mut Cursor<'a>) -> bool
         → SpellsSection first section → left.old ≡ first ++ rest
         → IsJudged section result left.new rest }
 {
-    let Some((type_byte, after)) = left.rest().split_first() else {
+    let bytes = left.rest();
+    let Some((size, next)) = (Place::SectionType { signed: false }).passes(bytes) else {
         return false;
     };
-    *left = Cursor::new(after);
+    *left = Cursor::new(&bytes[size..]);
     let Some(content) = take_string(left) else {
         return false;
     };
-    match *type_byte {
-        1 => begins_with_key(content),
-        4 => skips_string(left),
-        _ => true,
+    match next {
+        Place::Certificates(_) => begins_with_key(content),
+        // The key of a signature comes before the signature.
+        Place::Field { .. } => skips_string(left),
+        Place::List(_) | Place::Extension(_) => true,
+        Place::Content { .. } | Place::SectionType { .. } | Place::Serials(_) | Place::Bitmap(_) =>
+            false,
     }
 }
 

@@ -1,10 +1,33 @@
 -- The section's type byte and the string after it are read.
-use Rattle.std.proofs.Common.{◌≡◌, ◌∷◌}
-use Rattle.krl_authority.proofs.Spelled.{judged_certificates}
+use Rattle.std.proofs.Common.{◌∙◌, refl}
+use Rattle.krl_authority.proofs.Spelled.{has_string, has_type, is_other, is_plain, judged_certificates, judged_never, judged_plain, judged_signature, next_is}
 use Rattle.krl_authority.proofs.sections.section_is_fine.Goals as goal
 
-pub returns-in-1-clause-judged : goal.returns-in-1-clause-judged
-returns-in-1-clause-judged c = λ section first rest spells parts.
-    let cases : c.rest.result.now ≡ c.in-Some.type_byte.now ∷ c.in-Some.after.now = c.in-Some.ensures.cases.0 in
-    let front : c.args.left.now ≡ 1 ∷ c.new.result = cc (c.rest.ensures, cases, c.new.ensures, c.in-1.is) in
-    judged_certificates section first rest c.args.left.now c.new.result c.in-Some-take_string.content.now c.take_string.new.left c.begins_with_key.result spells parts front c.in-Some-take_string.ensures.text c.begins_with_key.ensures
+pub returns-in_default-clause-judged : goal.returns-in_default-clause-judged
+returns-in_default-clause-judged c = λ section first rest spells parts.
+    absurd (has_type section first rest c.rest-bytes.result.now spells (c.rest-bytes.ensures ∙ parts) (λ field after next passes is. c.in_default.ensures.found field after next passes is refl))
+
+pub returns-in_default-take_string-clause-judged : goal.returns-in_default-take_string-clause-judged
+returns-in_default-take_string-clause-judged c = λ section first rest spells parts.
+    let next = next_is section first rest c.rest-bytes.result.now c.new.result c.in-Some.size c.in-Some.next spells (c.rest-bytes.ensures ∙ parts) c.in-Some.ensures.within c.in-Some.ensures.passes c.new.ensures in
+    absurd (has_string section first rest spells c.in-Some.next c.new.result next c.in_default-take_string.ensures.text)
+
+pub returns-in-Certificates-clause-judged : goal.returns-in-Certificates-clause-judged
+returns-in-Certificates-clause-judged c = λ section first rest spells parts.
+    let next = next_is section first rest c.rest-bytes.result.now c.new.result c.in-Some.size c.in-Some.next spells (c.rest-bytes.ensures ∙ parts) c.in-Some.ensures.within c.in-Some.ensures.passes c.new.ensures in
+    judged_certificates section first rest c.new.result c.in-Some-take_string.content.now c.take_string.new.left c.begins_with_key.result c.in-Some.next c.in-Certificates.field-0 spells next c.in-Certificates.is c.in-Some-take_string.ensures.text c.begins_with_key.ensures
+
+pub returns-in-Field-clause-judged : goal.returns-in-Field-clause-judged
+returns-in-Field-clause-judged c = λ section first rest spells parts.
+    let next = next_is section first rest c.rest-bytes.result.now c.new.result c.in-Some.size c.in-Some.next spells (c.rest-bytes.ensures ∙ parts) c.in-Some.ensures.within c.in-Some.ensures.passes c.new.ensures in
+    judged_signature section first rest c.new.result c.in-Some-take_string.content.now c.take_string.new.left c.skips_string.new.left c.skips_string.result c.in-Some.next c.in-Field.field c.in-Field.left c.in-Field.after spells next c.in-Field.is c.in-Some-take_string.ensures.text c.skips_string.ensures.text
+
+pub returns-in-List-clause-judged : goal.returns-in-List-clause-judged
+returns-in-List-clause-judged c = λ section first rest spells parts.
+    let next = next_is section first rest c.rest-bytes.result.now c.new.result c.in-Some.size c.in-Some.next spells (c.rest-bytes.ensures ∙ parts) c.in-Some.ensures.within c.in-Some.ensures.passes c.new.ensures in
+    judged_plain section first rest c.new.result c.in-Some-take_string.content.now c.take_string.new.left c.in-Some.next spells next (is_plain c.in-Some.next c.in-List.is) c.in-Some-take_string.ensures.text
+
+pub returns-in-Content-clause-judged : goal.returns-in-Content-clause-judged
+returns-in-Content-clause-judged c = λ section first rest spells parts.
+    let next = next_is section first rest c.rest-bytes.result.now c.new.result c.in-Some.size c.in-Some.next spells (c.rest-bytes.ensures ∙ parts) c.in-Some.ensures.within c.in-Some.ensures.passes c.new.ensures in
+    judged_never section first rest c.new.result c.take_string.new.left c.in-Some.next spells next (is_other c.in-Some.next c.in-Content.is)
