@@ -6,6 +6,7 @@ pub mod KeylessFiles
 pub mod Spelled
 pub mod Private
 pub mod Shallow
+pub mod EachReason
 pub mod Escapes
 pub mod Painted
 pub mod AsciiNames

@@ -28,12 +28,13 @@ use Rattle.key_text.specs.declared.line_fault.LineFault.TheVariants as lines
 use Rattle.key_text.specs.declared.private_fault.PrivateFault.{PrivateFault}
 use Rattle.key_text.specs.declared.private_fault.PrivateFault.TheVariants as privates
 use Rattle.krl_types.specs.Subject.{CertNames, Subject}
-use Rattle.krl_entries.specs.Reasons.{any_reason}
-use Rattle.krl_entries.specs.declared.reasons.KeyReasons.{KeyReasons}
-use Rattle.krl_entries.specs.declared.reasons.NameReasons.{NameReasons}
+use Rattle.std.specs.List.{flat_map}
+use Rattle.krl_entries.specs.Reasons.{any_reason, every_reason, has_reason}
+use Rattle.krl_entries.specs.declared.reasons.Reason.{Reason}
+use Rattle.krl_entries.specs.declared.reasons.Reason.TheVariants as reasons
 use Rattle.krl_entries.specs.declared.reasons.Reasons.{Reasons}
 use Rattle.krl_audit.specs.Colour.{HasNoEscape, IsCount, IsPainted, in_colour, painted, verdict_word, word_text}
-use Rattle.krl_audit.specs.Text.{authority_parts, cert_parts, comment_words, id_words, key_line, key_parts, key_words, name_parts, of_all, of_authority, location_text, reason_parts, reasons_text, serial_words, type_of, unread_line, with_cert_parts, word_if}
+use Rattle.krl_audit.specs.Text.{comment_words, key_line, key_words, location_text, of_authority, reason_parts, reason_words, reasons_text, type_of, unread_line}
 use Rattle.krl_audit.specs.Visible.{visible}
 use Rattle.krl_audit.specs.Why.{line_why, more_words, refusal_why, why_text}
 use Rattle.krl_audit.specs.declared.why.Refusal.{Refusal}
@@ -84,49 +85,53 @@ comment_free (byte ∷ bytes) = free_append (codes ": ") (visible false (byte �
 
 -- ---- reasons
 
-if_free : (said : Bool) (words : List ℕ) → HasNoEscape words → HasNoEscape (word_if said words)
-unfolding word_if
-if_free true words free = free
-if_free false words free = refl
-
 three_free : (a b c : List ℕ) → HasNoEscape a → HasNoEscape b → HasNoEscape c → HasNoEscape (a ++ (b ++ c))
 three_free a b c first second third = free_append a (b ++ c) first (free_append b c second third)
 
-ifs_free : (a b c : Bool) (x y z : List ℕ) → HasNoEscape x → HasNoEscape y → HasNoEscape z → HasNoEscape (word_if a x ++ (word_if b y ++ word_if c z))
-ifs_free a b c x y z first second third = three_free (word_if a x) (word_if b y) (word_if c z) (if_free a x first) (if_free b y second) (if_free c z third)
-
-key_parts_free : (key : KeyReasons) → HasNoEscape (key_parts key)
-key_parts_free key = ifs_free key.blob key.sha1 key.sha256 (codes ", by its key") (codes ", by its SHA-1") (codes ", by its SHA-256") refl refl refl
-
-authority_parts_free : (key : KeyReasons) → HasNoEscape (authority_parts key)
-authority_parts_free key = ifs_free key.blob key.sha1 key.sha256 (codes ", by the key of its CA") (codes ", by the SHA-1 of its CA") (codes ", by the SHA-256 of its CA") refl refl refl
-
-name_parts_free : (words print : List ℕ) (reasons : NameReasons) → HasNoEscape words → HasNoEscape print → HasNoEscape (name_parts words print reasons)
-name_parts_free words print reasons free printed =
-    free_append (word_if reasons.own (of_authority words print)) (word_if reasons.all (of_all words))
-    (if_free reasons.own (of_authority words print) (three_free words (codes " of CA ") print free refl printed)) (if_free reasons.all (of_all words) (free_append words (codes " of all CAs") free refl))
-
-cert_parts_free : (cert : CertNames) (all : Reasons) → cert.serial < 2 ^ 64 → HasNoEscape (cert_parts cert all)
-cert_parts_free cert all small =
-    let print = fingerprint_text Sha256 cert.authority in
-    three_free (authority_parts all.authority) (name_parts (serial_words cert.serial) print all.serial) (name_parts (id_words cert.key_id) print all.key_id)
-    (authority_parts_free all.authority)
-    (name_parts_free (serial_words cert.serial) print all.serial (free_append (codes ", by serial ") (decimal cert.serial) refl (decimal_free cert.serial small)) (fingerprint_free cert.authority))
-    (name_parts_free (id_words cert.key_id) print all.key_id
-    (three_free (codes ", by key ID \"") (visible true cert.key_id) (codes "\"") refl (visible_free true cert.key_id) refl) (fingerprint_free cert.authority))
+authority_free : (authority : List ℕ) → HasNoEscape (of_authority authority)
+authority_free authority = free_append (codes " of CA ") (fingerprint_text Sha256 authority) refl (fingerprint_free authority)
 
 -- the serial number of a certificate has eight bytes
 abbrev IsSmall : Option CertNames → Type 0
 IsSmall None = Unit {0}
 IsSmall (Some cert) = cert.serial < 2 ^ 64
 
-with_cert_free : (cert : Option CertNames) (all : Reasons) → IsSmall cert → HasNoEscape (with_cert_parts cert all)
-with_cert_free None all small = refl
-with_cert_free (Some cert) all small = cert_parts_free cert all small
+reason_free : (reason : Reason) (cert : Option CertNames) → IsSmall cert → HasNoEscape (reason_words reason cert)
+reason_free reasons.Key cert small = refl
+reason_free reasons.KeySha1 cert small = refl
+reason_free reasons.KeySha256 cert small = refl
+reason_free reason None small = none reason
+  where
+    none : (reason : Reason) → HasNoEscape (reason_words reason None)
+    none reasons.Key = refl
+    none reasons.KeySha1 = refl
+    none reasons.KeySha256 = refl
+    none other = refl
+reason_free reasons.Authority (Some cert) small = refl
+reason_free reasons.AuthoritySha1 (Some cert) small = refl
+reason_free reasons.AuthoritySha256 (Some cert) small = refl
+reason_free reasons.Serial (Some cert) small =
+    three_free (codes ", by serial ") (decimal cert.serial) (of_authority cert.authority) refl (decimal_free cert.serial small) (authority_free cert.authority)
+reason_free reasons.SerialOfAll (Some cert) small =
+    three_free (codes ", by serial ") (decimal cert.serial) (codes " of all CAs") refl (decimal_free cert.serial small) refl
+reason_free reasons.KeyId (Some cert) small =
+    three_free (codes ", by key ID \"") (visible true cert.key_id) (codes "\"" ++ of_authority cert.authority) refl (visible_free true cert.key_id)
+    (free_append (codes "\"") (of_authority cert.authority) refl (authority_free cert.authority))
+reason_free reasons.KeyIdOfAll (Some cert) small =
+    three_free (codes ", by key ID \"") (visible true cert.key_id) (codes "\" of all CAs") refl (visible_free true cert.key_id) refl
+
+if_free : (said : Bool) (words : List ℕ) → HasNoEscape words → HasNoEscape (if said then words else [])
+if_free true words free = free
+if_free false words free = refl
+
+parts_free : (asked : Subject) (all : Reasons) → IsSmall asked.cert → (few : List Reason) → HasNoEscape (flat_map (λ reason. if has_reason all reason then reason_words reason asked.cert else []) few)
+parts_free asked all small [] = refl
+parts_free asked all small (reason ∷ few) =
+    free_append (if has_reason all reason then reason_words reason asked.cert else []) (flat_map (λ reason. if has_reason all reason then reason_words reason asked.cert else []) few)
+    (if_free (has_reason all reason) (reason_words reason asked.cert) (reason_free reason asked.cert small)) (parts_free asked all small few)
 
 reasons_free : (asked : Subject) (all : Reasons) → IsSmall asked.cert → HasNoEscape (reasons_text asked all)
-reasons_free asked all small =
-    free_drop (reason_parts asked all) (free_append (key_parts all.key) (with_cert_parts asked.cert all) (key_parts_free all.key) (with_cert_free asked.cert all small))
+reasons_free asked all small = free_drop (reason_parts asked all) (parts_free asked all small every_reason)
 
 -- ---- the type of a key
 

@@ -7,15 +7,17 @@ use Rattle.key_text.specs.Marker.{marker_word}
 use Rattle.key_text.specs.declared.hash.Hash.TheVariants.{Sha256}
 use Rattle.key_text.specs.declared.marker.Marker.{Marker}
 use Rattle.krl_types.specs.Subject.{CertNames, Subject}
-use Rattle.krl_entries.specs.Reasons.{any_reason}
-use Rattle.krl_entries.specs.declared.reasons.KeyReasons.{KeyReasons}
-use Rattle.krl_entries.specs.declared.reasons.NameReasons.{NameReasons}
+use Rattle.std.specs.List.{flat_map}
+use Rattle.krl_entries.specs.Reasons.{any_reason, every_reason, has_reason}
+use Rattle.krl_entries.specs.declared.reasons.Reason.{Reason}
+use Rattle.krl_entries.specs.declared.reasons.Reason.TheVariants as reasons
 use Rattle.krl_entries.specs.declared.reasons.Reasons.{Reasons}
 use Rattle.json.specs.Json.{Json}
 use Rattle.json_lines.specs.Field.{Field, number_field, text_field, word_field}
 use Rattle.json_lines.proofs.Shallow.{FieldsFit, Fits, ValuesFit, array_fits, deeper, digits_fit, fields_fit, number_fits, object_fits, text_fits, values_fit, word_fits}
 use Rattle.krl_audit.specs.Colour.{IsCount}
-use Rattle.krl_audit.specs.Objects.{authority_values, by_value, cause_field, cert_field, cert_fields, cert_names, cert_values, count_fields, done_object, front_fields, front_word, id_field, key_fields, key_object, key_values, line_fields, list_facts, list_field, list_fields, marker_fields, name_value, name_values, of_value, location_fields, reason_values, reasons_field, serial_field, stated_fields, status_word, unread_object, value_if, version_fields, why_fault, why_fields, with_cert_values}
+use Rattle.krl_audit.specs.Objects.{by_value, cause_field, cert_field, cert_fields, cert_names, count_fields, done_object, front_fields, front_word, id_field, id_value, key_fields, key_object, line_fields, list_facts, list_field, list_fields, location_fields, marker_fields}
+use Rattle.krl_audit.specs.Objects.{of_value, reason_value, reason_values, reasons_field, serial_field, serial_value, stated_fields, status_word, unread_object, version_fields, why_fault, why_fields}
 use Rattle.krl_audit.specs.Objects.{AreCounts}
 use Rattle.krl_audit.specs.Outcome.{Found}
 use Rattle.krl_audit.specs.Same.{same_fields, same_object}
@@ -30,48 +32,52 @@ use Rattle.krl_audit.specs.declared.why.Why.TheVariants as whys
 
 -- ---- reasons
 
-if_fits : (d : ℕ) (said : Bool) (value : Json) → Fits d value → ValuesFit d (value_if said value)
-unfolding value_if
-if_fits d true value fit = (fit, tt)
-if_fits d false value fit = tt
-
 by_fits : (by : List ℕ) → Fits 1 (by_value by [])
 by_fits by = object_fits 0 (word_field (codes "by") by ∷ []) (word_fits 0 (codes "by") by, tt)
 
 of_fits : (of : List ℕ) → Fits 1 (of_value of)
 of_fits of = object_fits 0 (word_field (codes "by") (codes "authority") ∷ word_field (codes "of") of ∷ []) (word_fits 0 (codes "by") (codes "authority"), (word_fits 0 (codes "of") of, tt))
 
-name_fits : (by : List ℕ) (name : Field) (authority : List ℕ) → Fits 0 name.value → Fits 1 (name_value by name authority)
+name_fits : (by : List ℕ) (name : Field) (authority : List ℕ) → Fits 0 name.value → Fits 1 (by_value by (name ∷ text_field (codes "authority") authority ∷ []))
 name_fits by name authority fit = object_fits 0 (word_field (codes "by") by ∷ name ∷ text_field (codes "authority") authority ∷ []) (word_fits 0 (codes "by") by, (fit, (text_fits 0 (codes "authority") authority, tt)))
 
-three_fit : (a b c : List Json) → ValuesFit 1 a → ValuesFit 1 b → ValuesFit 1 c → ValuesFit 1 (a ++ (b ++ c))
-three_fit a b c first second third = values_fit 1 a (b ++ c) first (values_fit 1 b c second third)
+serial_fits : (serial : ℕ) (authority : List ℕ) → Fits 1 (serial_value serial authority)
+serial_fits serial authority = name_fits (codes "serial") (serial_field serial) authority (digits_fit 0 (codes "serial") serial)
 
-key_values_fit : (key : KeyReasons) → ValuesFit 1 (key_values key)
-key_values_fit key =
-    three_fit _ _ _ (if_fits 1 key.blob _ (by_fits (codes "key"))) (if_fits 1 key.sha1 _ (by_fits (codes "sha1"))) (if_fits 1 key.sha256 _ (by_fits (codes "sha256")))
+id_fits : (id authority : List ℕ) → Fits 1 (id_value id authority)
+id_fits id authority = name_fits (codes "id") (id_field id) authority (text_fits 0 (codes "id") id)
 
-authority_values_fit : (key : KeyReasons) → ValuesFit 1 (authority_values key)
-authority_values_fit key =
-    three_fit _ _ _ (if_fits 1 key.blob _ (of_fits (codes "key"))) (if_fits 1 key.sha1 _ (of_fits (codes "sha1"))) (if_fits 1 key.sha256 _ (of_fits (codes "sha256")))
+reason_fits : (reason : Reason) (cert : Option CertNames) → ValuesFit 1 (reason_value reason cert)
+reason_fits reasons.Key cert = (by_fits (codes "key"), tt)
+reason_fits reasons.KeySha1 cert = (by_fits (codes "sha1"), tt)
+reason_fits reasons.KeySha256 cert = (by_fits (codes "sha256"), tt)
+reason_fits reason None = none reason
+  where
+    none : (reason : Reason) → ValuesFit 1 (reason_value reason None)
+    none reasons.Key = (by_fits (codes "key"), tt)
+    none reasons.KeySha1 = (by_fits (codes "sha1"), tt)
+    none reasons.KeySha256 = (by_fits (codes "sha256"), tt)
+    none other = tt
+reason_fits reasons.Authority (Some cert) = (of_fits (codes "key"), tt)
+reason_fits reasons.AuthoritySha1 (Some cert) = (of_fits (codes "sha1"), tt)
+reason_fits reasons.AuthoritySha256 (Some cert) = (of_fits (codes "sha256"), tt)
+reason_fits reasons.Serial (Some cert) = (serial_fits cert.serial (fingerprint_text Sha256 cert.authority), tt)
+reason_fits reasons.SerialOfAll (Some cert) = (serial_fits cert.serial (codes "all"), tt)
+reason_fits reasons.KeyId (Some cert) = (id_fits cert.key_id (fingerprint_text Sha256 cert.authority), tt)
+reason_fits reasons.KeyIdOfAll (Some cert) = (id_fits cert.key_id (codes "all"), tt)
 
-name_values_fit : (by : List ℕ) (name : Field) (print : List ℕ) (reasons : NameReasons) → Fits 0 name.value → ValuesFit 1 (name_values by name print reasons)
-name_values_fit by name print reasons fit =
-    values_fit 1 _ _ (if_fits 1 reasons.own _ (name_fits by name print fit)) (if_fits 1 reasons.all _ (name_fits by name (codes "all") fit))
+if_fits : (said : Bool) (values : List Json) → ValuesFit 1 values → ValuesFit 1 (if said then values else [])
+if_fits true values fit = fit
+if_fits false values fit = tt
 
-cert_values_fit : (cert : CertNames) (all : Reasons) → ValuesFit 1 (cert_values cert all)
-cert_values_fit cert all =
-    three_fit _ _ _ (authority_values_fit all.authority)
-    (name_values_fit (codes "serial") (serial_field cert.serial) (fingerprint_text Sha256 cert.authority) all.serial (digits_fit 0 (codes "serial") cert.serial))
-    (name_values_fit (codes "id") (id_field cert.key_id) (fingerprint_text Sha256 cert.authority) all.key_id (text_fits 0 (codes "id") cert.key_id))
-
-with_cert_values_fit : (cert : Option CertNames) (all : Reasons) → ValuesFit 1 (with_cert_values cert all)
-with_cert_values_fit None all = tt
-with_cert_values_fit (Some cert) all = cert_values_fit cert all
+few_fit : (asked : Subject) (all : Reasons) (few : List Reason) → ValuesFit 1 (flat_map (λ reason. if has_reason all reason then reason_value reason asked.cert else []) few)
+few_fit asked all [] = tt
+few_fit asked all (reason ∷ few) =
+    values_fit 1 (if has_reason all reason then reason_value reason asked.cert else []) (flat_map (λ reason. if has_reason all reason then reason_value reason asked.cert else []) few)
+    (if_fits (has_reason all reason) (reason_value reason asked.cert) (reason_fits reason asked.cert)) (few_fit asked all few)
 
 reasons_fit : (asked : Subject) (all : Reasons) → Fits 2 (reasons_field asked all).value
-reasons_fit asked all =
-    array_fits 1 (reason_values asked all) (values_fit 1 (key_values all.key) (with_cert_values asked.cert all) (key_values_fit all.key) (with_cert_values_fit asked.cert all))
+reasons_fit asked all = array_fits 1 (reason_values asked all) (few_fit asked all every_reason)
 
 -- ---- fields
 

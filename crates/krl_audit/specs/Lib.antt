@@ -5,7 +5,6 @@ pub mod Counts
 pub mod Visible
 pub mod Text
 pub mod Objects
-pub mod ReasonNames
 pub mod Audit
 pub mod Keyless
 pub mod Colour

@@ -1,6 +1,6 @@
 -- Findings as JSON objects.
-use Rattle.std.specs.Prelude.{ℕ, ◌<◌, ◌^◌, Bool, true, false, List, [], ◌∷◌, ◌++◌, codes, nat_lt}
-use Rattle.std.specs.Prelude.{Option, Some, None, if◌then◌else◌}
+use Rattle.std.specs.Prelude.{ℕ, ◌<◌, ◌^◌, Bool, true, false, List, [], ◌∷◌, ◌++◌, codes, flat_map}
+use Rattle.std.specs.Prelude.{nat_lt, Option, Some, None, if◌then◌else◌}
 use Rattle.hex.specs.Hex.{encode_lower}
 use Rattle.json.specs.Json.{Json}
 use Rattle.json_lines.specs.Field.{Field, array_of, digits_field, field, number_field, object_of}
@@ -16,9 +16,9 @@ use Rattle.key_text.specs.PrivateFault.{private_fault_text}
 use Rattle.key_text.specs.declared.hash.Hash.TheVariants.{Sha256}
 use Rattle.key_text.specs.declared.marker.Marker.{Marker}
 use Rattle.krl_types.specs.Subject.{CertNames, Subject}
-use Rattle.krl_entries.specs.Reasons.{any_reason}
-use Rattle.krl_entries.specs.declared.reasons.KeyReasons.{KeyReasons}
-use Rattle.krl_entries.specs.declared.reasons.NameReasons.{NameReasons}
+use Rattle.krl_entries.specs.Reasons.{any_reason, every_reason, has_reason}
+use Rattle.krl_entries.specs.declared.reasons.Reason.{Reason}
+use Rattle.krl_entries.specs.declared.reasons.Reason.TheVariants as reasons
 use Rattle.krl_entries.specs.declared.reasons.Reasons.{Reasons}
 use Rattle.ssh_cert.specs.SubjectFault.{subject_fault_text}
 use Rattle.krl_audit.specs.Outcome.{Found}
@@ -41,60 +41,49 @@ location_fields name number =
 
 -- ---- reasons
 
--- a value, if its reason holds
-unfoldable pub value_if : Bool → Json → List Json
-value_if true value = value ∷ []
-value_if false value = []
-
-abbrev pub by_value : List ℕ → List Field → Json
-by_value by fields = object_of (word_field (codes "by") by ∷ fields)
-
--- those that name the key
-abbrev pub key_values : KeyReasons → List Json
-key_values key =
-    value_if key.blob (by_value (codes "key") [])
-    ++ (value_if key.sha1 (by_value (codes "sha1") [])
-    ++ value_if key.sha256 (by_value (codes "sha256") []))
-
-abbrev pub of_value : List ℕ → Json
-of_value of = by_value (codes "authority") (word_field (codes "of") of ∷ [])
-
--- those that name the key of the authority
-abbrev pub authority_values : KeyReasons → List Json
-authority_values key =
-    value_if key.blob (of_value (codes "key"))
-    ++ (value_if key.sha1 (of_value (codes "sha1"))
-    ++ value_if key.sha256 (of_value (codes "sha256")))
-
--- a serial number or a key ID, under the authority of this fingerprint or under all
-abbrev pub name_value : List ℕ → Field → List ℕ → Json
-name_value by name authority = by_value by (name ∷ text_field (codes "authority") authority ∷ [])
-
-abbrev pub name_values : List ℕ → Field → List ℕ → NameReasons → List Json
-name_values by name print reasons =
-    value_if reasons.own (name_value by name print)
-    ++ value_if reasons.all (name_value by name (codes "all"))
-
 abbrev pub serial_field : ℕ → Field
 serial_field serial = digits_field (codes "serial") serial
 
 abbrev pub id_field : List ℕ → Field
 id_field id = text_field (codes "id") id
 
-abbrev pub cert_values : CertNames → Reasons → List Json
-cert_values cert all =
-    let print = fingerprint_text Sha256 cert.authority in
-    authority_values all.authority
-    ++ (name_values (codes "serial") (serial_field cert.serial) print all.serial
-    ++ name_values (codes "id") (id_field cert.key_id) print all.key_id)
+abbrev pub by_value : List ℕ → List Field → Json
+by_value by fields = object_of (word_field (codes "by") by ∷ fields)
 
-abbrev pub with_cert_values : Option CertNames → Reasons → List Json
-with_cert_values None all = []
-with_cert_values (Some cert) all = cert_values cert all
+-- a name of the authority's key
+abbrev pub of_value : List ℕ → Json
+of_value of = by_value (codes "authority") (word_field (codes "of") of ∷ [])
+
+-- a serial number or a key ID, under the authority of this fingerprint or under all
+abbrev pub serial_value : ℕ → List ℕ → Json
+serial_value serial authority =
+    by_value (codes "serial") (serial_field serial ∷ text_field (codes "authority") authority ∷ [])
+
+abbrev pub id_value : List ℕ → List ℕ → Json
+id_value id authority =
+    by_value (codes "id") (id_field id ∷ text_field (codes "authority") authority ∷ [])
+
+-- A plain key has no reason that is about a certificate.
+abbrev pub reason_value : Reason → Option CertNames → List Json
+reason_value reasons.Key _ = by_value (codes "key") [] ∷ []
+reason_value reasons.KeySha1 _ = by_value (codes "sha1") [] ∷ []
+reason_value reasons.KeySha256 _ = by_value (codes "sha256") [] ∷ []
+reason_value _ None = []
+reason_value reasons.Authority (Some cert) = of_value (codes "key") ∷ []
+reason_value reasons.AuthoritySha1 (Some cert) = of_value (codes "sha1") ∷ []
+reason_value reasons.AuthoritySha256 (Some cert) = of_value (codes "sha256") ∷ []
+reason_value reasons.Serial (Some cert) =
+    serial_value cert.serial (fingerprint_text Sha256 cert.authority) ∷ []
+reason_value reasons.SerialOfAll (Some cert) = serial_value cert.serial (codes "all") ∷ []
+reason_value reasons.KeyId (Some cert) =
+    id_value cert.key_id (fingerprint_text Sha256 cert.authority) ∷ []
+reason_value reasons.KeyIdOfAll (Some cert) = id_value cert.key_id (codes "all") ∷ []
 
 -- all reasons, in the order in which people read them
 abbrev pub reason_values : Subject → Reasons → List Json
-reason_values asked all = key_values all.key ++ with_cert_values asked.cert all
+reason_values asked found =
+    flat_map (λ reason. if has_reason found reason then reason_value reason asked.cert else [])
+    every_reason
 
 -- ---- keys
 

@@ -1,14 +1,14 @@
 -- The lines of findings.
 use Rattle.std.specs.Prelude.{ℕ, Bool, true, false, List, [], ◌∷◌, ◌++◌, codes, decimal, drop}
-use Rattle.std.specs.Prelude.{nat_lt, Option, Some, None, Result, Ok, Err, if◌then◌else◌}
+use Rattle.std.specs.Prelude.{flat_map, nat_lt, Option, Some, None, Result, Ok, Err, if◌then◌else◌}
 use Rattle.ssh_wire.specs.Reading.{string_at}
 use Rattle.ssh_wire.specs.declared.fault.WireFault.{WireFault}
 use Rattle.key_text.specs.Fingerprints.{fingerprint_text}
 use Rattle.key_text.specs.declared.hash.Hash.TheVariants.{Sha256}
 use Rattle.krl_types.specs.Subject.{CertNames, Subject}
-use Rattle.krl_entries.specs.Reasons.{any_reason}
-use Rattle.krl_entries.specs.declared.reasons.KeyReasons.{KeyReasons}
-use Rattle.krl_entries.specs.declared.reasons.NameReasons.{NameReasons}
+use Rattle.krl_entries.specs.Reasons.{any_reason, every_reason, has_reason}
+use Rattle.krl_entries.specs.declared.reasons.Reason.{Reason}
+use Rattle.krl_entries.specs.declared.reasons.Reason.TheVariants as reasons
 use Rattle.krl_entries.specs.declared.reasons.Reasons.{Reasons}
 use Rattle.krl_audit.specs.Colour.{unread_word, verdict_word}
 use Rattle.krl_audit.specs.Visible.{visible}
@@ -22,53 +22,33 @@ location_text name number =
 
 -- ---- reasons
 
--- words, if their reason holds
-unfoldable pub word_if : Bool → List ℕ → List ℕ
-word_if true words = words
-word_if false words = []
+abbrev pub of_authority : List ℕ → List ℕ
+of_authority authority = codes " of CA " ++ fingerprint_text Sha256 authority
 
-abbrev pub key_parts : KeyReasons → List ℕ
-key_parts key =
-    word_if key.blob (codes ", by its key")
-    ++ (word_if key.sha1 (codes ", by its SHA-1")
-    ++ word_if key.sha256 (codes ", by its SHA-256"))
-
-abbrev pub authority_parts : KeyReasons → List ℕ
-authority_parts key =
-    word_if key.blob (codes ", by the key of its CA")
-    ++ (word_if key.sha1 (codes ", by the SHA-1 of its CA")
-    ++ word_if key.sha256 (codes ", by the SHA-256 of its CA"))
-
-abbrev pub serial_words : ℕ → List ℕ
-serial_words serial = codes ", by serial " ++ decimal serial
-
-abbrev pub id_words : List ℕ → List ℕ
-id_words id = codes ", by key ID \"" ++ (visible true id ++ codes "\"")
-
-abbrev pub of_authority : List ℕ → List ℕ → List ℕ
-of_authority words print = words ++ (codes " of CA " ++ print)
-
-abbrev pub of_all : List ℕ → List ℕ
-of_all words = words ++ codes " of all CAs"
-
--- words under the authority of this fingerprint, and under all
-abbrev pub name_parts : (words print : List ℕ) → NameReasons → List ℕ
-name_parts words print reasons =
-    word_if reasons.own (of_authority words print) ++ word_if reasons.all (of_all words)
-
-abbrev pub cert_parts : CertNames → Reasons → List ℕ
-cert_parts cert all =
-    authority_parts all.authority
-    ++ (name_parts (serial_words cert.serial) (fingerprint_text Sha256 cert.authority) all.serial
-    ++ name_parts (id_words cert.key_id) (fingerprint_text Sha256 cert.authority) all.key_id)
-
-abbrev pub with_cert_parts : Option CertNames → Reasons → List ℕ
-with_cert_parts None all = []
-with_cert_parts (Some cert) all = cert_parts cert all
+-- the words for a reason, after a comma; a plain key has none that is about a certificate
+abbrev pub reason_words : Reason → Option CertNames → List ℕ
+reason_words reasons.Key _ = codes ", by its key"
+reason_words reasons.KeySha1 _ = codes ", by its SHA-1"
+reason_words reasons.KeySha256 _ = codes ", by its SHA-256"
+reason_words _ None = []
+reason_words reasons.Authority (Some cert) = codes ", by the key of its CA"
+reason_words reasons.AuthoritySha1 (Some cert) = codes ", by the SHA-1 of its CA"
+reason_words reasons.AuthoritySha256 (Some cert) = codes ", by the SHA-256 of its CA"
+reason_words reasons.Serial (Some cert) =
+    codes ", by serial " ++ (decimal cert.serial ++ of_authority cert.authority)
+reason_words reasons.SerialOfAll (Some cert) =
+    codes ", by serial " ++ (decimal cert.serial ++ codes " of all CAs")
+reason_words reasons.KeyId (Some cert) =
+    codes ", by key ID \"" ++ (visible true cert.key_id
+    ++ (codes "\"" ++ of_authority cert.authority))
+reason_words reasons.KeyIdOfAll (Some cert) =
+    codes ", by key ID \"" ++ (visible true cert.key_id ++ codes "\" of all CAs")
 
 -- each reason after a comma
 abbrev pub reason_parts : Subject → Reasons → List ℕ
-reason_parts asked all = key_parts all.key ++ with_cert_parts asked.cert all
+reason_parts asked all =
+    flat_map (λ reason. if has_reason all reason then reason_words reason asked.cert else [])
+    every_reason
 
 -- the reasons, with no comma before the first one
 abbrev pub reasons_text : Subject → Reasons → List ℕ

@@ -1,40 +1,27 @@
 //! The words for the reasons why a key is revoked.
 
-ghost use Rattle.std.specs.Prelude.{◌≡◌, ◌++◌, OnOk, drop};
-ghost use Rattle.krl_audit.specs.Text.{cert_parts, key_parts, name_parts, reason_parts};
-ghost use Rattle.krl_audit.specs.Text.{word_if};
+ghost use Rattle.std.specs.Prelude.{◌≡◌, ◌++◌, OnOk, codes, drop};
+ghost use Rattle.key_text.specs.Fingerprints.{fingerprint_text};
+ghost use Rattle.key_text.specs.declared.hash.Hash.TheVariants.{Sha256};
+ghost use Rattle.krl_audit.specs.Text.{reason_parts, reason_words};
 
 use crate::visible::Visible;
 use key_text::{Hash, fingerprint};
-use krl_entries::{KeyReasons, NameReasons, Reasons};
-use krl_types::{CertNames, Subject};
+use krl_entries::{Reason, Reasons};
+use krl_types::Subject;
 use line_pieces::{Printed, Words, pieces, put};
 use std::alloc::{AllocError, Global};
 
-// Words, if their reason holds.
+// The authority that a certificate has, by the fingerprint of its key.
 #[derive(Clone, Copy)]
-struct If<T>(bool, T);
+struct OfAuthority<'a>(Global, &'a [u8]);
 
-impl<T: Printed> Printed for If<T> {
-    ghost text = { λ words. word_if words.0 (T.text words.1) };
-
-    #[tactic(auto, unfolding(crate::specs::Text::word_if))]
-    fn push_to(&self, out: &mut Vec<u8>) -> Result<(), AllocError> {
-        if self.0 { self.1.push_to(out) } else { Ok(()) }
-    }
-}
-
-// Words under the authority of this fingerprint, and under all, if their reasons hold.
-#[derive(Clone, Copy)]
-struct Named<'a, T>(T, &'a [u8], NameReasons);
-
-impl<'a, T: Printed + Copy> Printed for Named<'a, T> {
-    ghost text = { λ named. name_parts (T.text named.0) named.1.now named.2 };
+impl<'a> Printed for OfAuthority<'a> {
+    ghost text = { λ of. codes " of CA " ++ fingerprint_text Sha256 of.1.now };
 
     fn push_to(&self, out: &mut Vec<u8>) -> Result<(), AllocError> {
-        let words = self.0;
-        put!(out; If(self.2.own, pieces!(words, b" of CA ", Words(self.1))),
-            If(self.2.all, pieces!(words, b" of all CAs")))
+        let print = fingerprint(self.0, Hash::Sha256, self.1)?;
+        put!(out; b" of CA ", Words(&print))
     }
 }
 
@@ -48,19 +35,44 @@ pub(crate) fn push_parts(
     ensures { OnOk result (text.new.items
         ≡ text.old.items ++ reason_parts subject.now reasons) }
 {
-    push_key_parts(text, reasons.key)?;
-    match &subject.cert {
-        None => Ok(()),
-        Some(cert) => push_cert_parts(alloc, text, cert, reasons),
+    for reason in &Reason::ALL {
+        if reasons.has(*reason) {
+            push_reason(alloc, text, *reason, subject)?;
+        }
     }
+    Ok(())
 }
 
-// Appends the reasons that name the key.
-fn push_key_parts(text: &mut Vec<u8>, key: KeyReasons) -> Result<(), AllocError>
-    ensures { OnOk result (text.new.items ≡ text.old.items ++ key_parts key) }
+// Appends a reason. A plain key has none that is about a certificate.
+fn push_reason(
+    alloc: Global,
+    text: &mut Vec<u8>,
+    reason: Reason,
+    subject: &Subject<'_>,
+) -> Result<(), AllocError>
+    ensures { OnOk result (text.new.items
+        ≡ text.old.items ++ reason_words reason subject.now.cert) }
 {
-    put!(text; If(key.blob, Words(b", by its key")), If(key.sha1, Words(b", by its SHA-1")),
-        If(key.sha256, Words(b", by its SHA-256")))
+    match (reason, &subject.cert) {
+        (Reason::Key, _) => put!(text; b", by its key"),
+        (Reason::KeySha1, _) => put!(text; b", by its SHA-1"),
+        (Reason::KeySha256, _) => put!(text; b", by its SHA-256"),
+        (_, None) => Ok(()),
+        (Reason::Authority, Some(_)) => put!(text; b", by the key of its CA"),
+        (Reason::AuthoritySha1, Some(_)) => put!(text; b", by the SHA-1 of its CA"),
+        (Reason::AuthoritySha256, Some(_)) => put!(text; b", by the SHA-256 of its CA"),
+        (Reason::Serial, Some(cert)) => {
+            put!(text; b", by serial ", cert.serial, OfAuthority(alloc, cert.authority))
+        }
+        (Reason::SerialOfAll, Some(cert)) => {
+            put!(text; b", by serial ", cert.serial, b" of all CAs")
+        }
+        (Reason::KeyId, Some(cert)) => put!(text; b", by key ID \"", Visible(cert.key_id, true),
+            b"\"", OfAuthority(alloc, cert.authority)),
+        (Reason::KeyIdOfAll, Some(cert)) => {
+            put!(text; b", by key ID \"", Visible(cert.key_id, true), b"\" of all CAs")
+        }
+    }
 }
 
 /// The reasons without the comma before the first one.
@@ -71,23 +83,4 @@ pub(crate) fn after_first(parts: &[u8]) -> &[u8]
         [] => &[],
         [_, rest @ ..] => rest,
     }
-}
-
-// Appends the reasons of a certificate.
-fn push_cert_parts(
-    alloc: Global,
-    text: &mut Vec<u8>,
-    cert: &CertNames<'_>,
-    reasons: Reasons,
-) -> Result<(), AllocError>
-    ensures { OnOk result (text.new.items ≡ text.old.items ++ cert_parts cert.now reasons) }
-{
-    let print = fingerprint(alloc, Hash::Sha256, cert.authority)?;
-    let key = reasons.authority;
-    put!(text;
-        pieces!(If(key.blob, Words(b", by the key of its CA")),
-            If(key.sha1, Words(b", by the SHA-1 of its CA")),
-            If(key.sha256, Words(b", by the SHA-256 of its CA"))),
-        Named(pieces!(b", by serial ", cert.serial), &print, reasons.serial),
-        Named(pieces!(b", by key ID \"", Visible(cert.key_id, true), b"\""), &print, reasons.key_id))
 }

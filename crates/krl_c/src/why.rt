@@ -1,11 +1,11 @@
 //! The reasons why a list revokes a blob, as the bits of a number.
 
-ghost use Rattle.std.specs.Prelude.{◌≡◌, ◌+◌, ◌*◌, ◌<◌, ◌≤◌, ◌^◌, ◌↔◌, List, IfOk, IfErr, IsTrue};
+ghost use Rattle.std.specs.Prelude.{◌<◌, ◌^◌, ◌↔◌, List, IfOk, IfErr, IsTrue};
 ghost use Rattle.krl_types.specs.Entry.{Entry};
 ghost use Rattle.krl_entries.specs.Reasons.{IsReason, has_reason};
 ghost use Rattle.krl_entries.specs.declared.reasons.Reason.{Reason as ReasonOf};
 ghost use Rattle.krl_c.specs.Answer.{IsCompared, IsRefusal};
-ghost use Rattle.krl_c.specs.Why.{Explains, bits_in, flags_of, with_bit};
+ghost use Rattle.krl_c.specs.Why.{Explains};
 
 use crate::check::{judge, stream};
 use crate::number::{of_list, of_subject};
@@ -21,7 +21,7 @@ pub(crate) fn explain_list(alloc: Global, list: &[u8], blob: &[u8]) -> i32
 {
     match subject(alloc, blob) {
         Ok(asked) => match explain(alloc, list, &asked) {
-            Ok(reasons) => bits_of(reasons) as i32,
+            Ok(reasons) => reasons.bits as i32,
             Err(refusal) => of_list(refusal),
         },
         Err(fault) => match judge(alloc, list) {
@@ -36,6 +36,7 @@ fn explain(alloc: Global, list: &[u8], asked: &Subject) -> Result<Reasons, Refus
     ensures reasons { IfOk result (λ reasons. (entries : List Entry)
         × IsCompared list.now entries × ((reason : ReasonOf)
         → (IsTrue (has_reason reasons reason) ↔ IsReason entries asked.now reason))) }
+    ensures small { IfOk result (λ reasons. reasons.bits < 2 ^ 10) }
     ensures refused { IfErr result (λ refusal. IsRefusal list.now refusal) }
 {
     match stream(alloc, list, asked) {
@@ -48,29 +49,4 @@ fn explain(alloc: Global, list: &[u8], asked: &Subject) -> Result<Reasons, Refus
         }
         Err(fault) => Err(Refusal::Fault(fault)),
     }
-}
-
-// The reasons as bits: the last one is the highest.
-fn bits_of(reasons: Reasons) -> u16
-    ensures { result ≡ bits_in (flags_of reasons) }
-{
-    let bits = with_bit(0, reasons.key_id.all);
-    let bits = with_bit(bits, reasons.key_id.own);
-    let bits = with_bit(bits, reasons.serial.all);
-    let bits = with_bit(bits, reasons.serial.own);
-    let bits = with_bit(bits, reasons.authority.sha256);
-    let bits = with_bit(bits, reasons.authority.sha1);
-    let bits = with_bit(bits, reasons.authority.blob);
-    let bits = with_bit(bits, reasons.key.sha256);
-    let bits = with_bit(bits, reasons.key.sha1);
-    with_bit(bits, reasons.key.blob)
-}
-
-// The bits of a number, each one position higher, and a lowest one below them.
-fn with_bit(bits: u16, lowest: bool) -> u16
-    requires { bits < 2 ^ 15 }
-    ensures value { result ≡ with_bit bits lowest }
-    ensures below { result ≤ 2 * bits + 1 }
-{
-    2 * bits + u16::from(lowest)
 }

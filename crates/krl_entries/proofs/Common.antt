@@ -31,8 +31,9 @@ pub use Rattle.krl_entries.specs.Scope.{InScope, MeansInScope, MeansMoreInScope,
 pub use Rattle.krl_entries.specs.Inserting.{Inserts, Stands}
 pub use Rattle.std.specs.List.Sorted.{IsBinarySearchResult, IsSearchInRange}
 pub use Rattle.std.specs.BTreeSet.{IsFromIterResult, contains, insert_key}
-pub use Rattle.krl_entries.specs.Reasons.{IsReason, any_of_key, any_of_name, any_reason, cert_reasons, has_reason, held_reasons, id_reasons}
-pub use Rattle.krl_entries.specs.Reasons.{key_reasons, no_key_reasons, no_name_reasons, reasons_of, serial_reasons, with_cert}
+pub use Rattle.krl_entries.specs.Named.{named}
+pub use Rattle.krl_entries.specs.Reasons.{IsReason, OfName, any_reason, bit_of, bits_in, every_reason, has_reason, held_reasons}
+pub use Rattle.krl_entries.specs.Reasons.{name_asked, passes, position_of, reasons_of, with_bit}
 unfoldable pub use Rattle.std.specs.List.Sorted.{IsStrictlySortedBy}
 pub use Rattle.krl_entries.specs.Revoked.{KeyNamed}
 pub use Rattle.std.specs.declared.cmp.Ordering.{Ordering}

@@ -15,6 +15,8 @@ pub mod SameMeaning
 pub mod ScopedMeaning
 pub mod SectionChanges
 pub mod SomeSections
+pub mod NameTests
+pub mod ReasonBits
 pub mod RevokedTests
 pub mod ReasonTests
 pub mod OneMeaning

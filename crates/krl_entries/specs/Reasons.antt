@@ -1,10 +1,12 @@
--- Why a key or a certificate is revoked: the ways in which entries name it, and whether it is.
-use Rattle.std.specs.Prelude.{ℕ, ◌||◌, Bool, false, List, [], Option, Some, None}
+-- Why a key or a certificate is revoked: the name that it has for each reason, and whether entries
+-- name it.
+use Rattle.std.specs.Prelude.{ℕ, ◌+◌, ◌*◌, ◌==◌, nat_lt, Bool, true, false, List, [], ◌∷◌, map}
+use Rattle.std.specs.Prelude.{Option, Some, None}
+use Rattle.std.specs.Int.{bit_at}
+use Rattle.std.specs.Option.{option_map}
 use Rattle.sha1.specs.Sha1.{sha1}
 use Rattle.sha2.specs.Sha256.{sha256}
-use Rattle.krl_types.specs.Subject.{CertNames, Subject}
-use Rattle.krl_entries.specs.declared.reasons.KeyReasons.{KeyReasons}
-use Rattle.krl_entries.specs.declared.reasons.NameReasons.{NameReasons}
+use Rattle.krl_types.specs.Subject.{Subject}
 use Rattle.krl_entries.specs.declared.reasons.Reason.{Reason}
 use Rattle.krl_entries.specs.declared.reasons.Reason.TheVariants as reasons
 use Rattle.krl_entries.specs.declared.reasons.Reasons.{Reasons}
@@ -13,103 +15,81 @@ use Rattle.krl_types.specs.Naming.{IdOf, KeyOf, Name, SerialOf, Sha1Of, Sha256Of
 use Rattle.krl_entries.specs.Revocations.{Revocations}
 use Rattle.krl_entries.specs.Tested.{holds_name, some_names}
 
--- a property of the names of a certificate, which no plain key has
-abbrev pub OfCert : Option CertNames → (CertNames → Type 0) → Type 0
-OfCert None Holds = ⊥
-OfCert (Some cert) Holds = Holds cert
+-- The name that entries have for a reason. A plain key has none for the reasons of a certificate.
+abbrev pub name_asked : Reason → Subject → Option Name
+name_asked reasons.Key asked = Some (KeyOf asked.plain)
+name_asked reasons.KeySha1 asked = Some (Sha1Of (sha1 asked.plain))
+name_asked reasons.KeySha256 asked = Some (Sha256Of (sha256 asked.plain))
+name_asked reasons.Authority asked = option_map (λ cert. KeyOf cert.authority) asked.cert
+name_asked reasons.AuthoritySha1 asked =
+    option_map (λ cert. Sha1Of (sha1 cert.authority)) asked.cert
+name_asked reasons.AuthoritySha256 asked =
+    option_map (λ cert. Sha256Of (sha256 cert.authority)) asked.cert
+name_asked reasons.Serial asked =
+    option_map (λ cert. SerialOf cert.authority cert.serial) asked.cert
+name_asked reasons.SerialOfAll asked = option_map (λ cert. SerialOf [] cert.serial) asked.cert
+name_asked reasons.KeyId asked = option_map (λ cert. IdOf cert.authority cert.key_id) asked.cert
+name_asked reasons.KeyIdOfAll asked = option_map (λ cert. IdOf [] cert.key_id) asked.cert
+
+-- there is a name, and it has a property
+abbrev pub OfName : (Name → Type 0) → Option Name → Type 0
+OfName Holds None = ⊥
+OfName Holds (Some name) = Holds name
 
 -- The entries revoke the key or the certificate in this way.
 abbrev pub IsReason : List Entry → Subject → Reason → Type 0
-IsReason entries subject reasons.Key = SomeNames entries (KeyOf subject.plain)
-IsReason entries subject reasons.KeySha1 = SomeNames entries (Sha1Of (sha1 subject.plain))
-IsReason entries subject reasons.KeySha256 = SomeNames entries (Sha256Of (sha256 subject.plain))
-IsReason entries subject reasons.Authority =
-    OfCert subject.cert (λ cert. SomeNames entries (KeyOf cert.authority))
-IsReason entries subject reasons.AuthoritySha1 =
-    OfCert subject.cert (λ cert. SomeNames entries (Sha1Of (sha1 cert.authority)))
-IsReason entries subject reasons.AuthoritySha256 =
-    OfCert subject.cert (λ cert. SomeNames entries (Sha256Of (sha256 cert.authority)))
-IsReason entries subject reasons.Serial =
-    OfCert subject.cert (λ cert. SomeNames entries (SerialOf cert.authority cert.serial))
-IsReason entries subject reasons.SerialOfAll =
-    OfCert subject.cert (λ cert. SomeNames entries (SerialOf [] cert.serial))
-IsReason entries subject reasons.KeyId =
-    OfCert subject.cert (λ cert. SomeNames entries (IdOf cert.authority cert.key_id))
-IsReason entries subject reasons.KeyIdOfAll =
-    OfCert subject.cert (λ cert. SomeNames entries (IdOf [] cert.key_id))
+IsReason entries subject reason = OfName (SomeNames entries) (name_asked reason subject)
 
 -- ---- the same as tests
 
+-- there is a name, and it passes a test
+abbrev pub passes : (Name → Bool) → Option Name → Bool
+passes names None = false
+passes names (Some name) = names name
+
+abbrev pub every_reason : List Reason
+every_reason =
+    reasons.Key ∷ reasons.KeySha1 ∷ reasons.KeySha256
+    ∷ reasons.Authority ∷ reasons.AuthoritySha1 ∷ reasons.AuthoritySha256
+    ∷ reasons.Serial ∷ reasons.SerialOfAll ∷ reasons.KeyId ∷ reasons.KeyIdOfAll ∷ []
+
+-- the position of the bit of a reason
+abbrev pub position_of : Reason → ℕ
+position_of reasons.Key = 0
+position_of reasons.KeySha1 = 1
+position_of reasons.KeySha256 = 2
+position_of reasons.Authority = 3
+position_of reasons.AuthoritySha1 = 4
+position_of reasons.AuthoritySha256 = 5
+position_of reasons.Serial = 6
+position_of reasons.SerialOfAll = 7
+position_of reasons.KeyId = 8
+position_of reasons.KeyIdOfAll = 9
+
 abbrev pub has_reason : Reasons → Reason → Bool
-has_reason all reasons.Key = all.key.blob
-has_reason all reasons.KeySha1 = all.key.sha1
-has_reason all reasons.KeySha256 = all.key.sha256
-has_reason all reasons.Authority = all.authority.blob
-has_reason all reasons.AuthoritySha1 = all.authority.sha1
-has_reason all reasons.AuthoritySha256 = all.authority.sha256
-has_reason all reasons.Serial = all.serial.own
-has_reason all reasons.SerialOfAll = all.serial.all
-has_reason all reasons.KeyId = all.key_id.own
-has_reason all reasons.KeyIdOfAll = all.key_id.all
-
-abbrev pub any_of_key : KeyReasons → Bool
-any_of_key key = key.blob || (key.sha1 || key.sha256)
-
-abbrev pub any_of_name : NameReasons → Bool
-any_of_name name = name.own || name.all
+has_reason all reason = bit_at all.bits (position_of reason) == 1
 
 abbrev pub any_reason : Reasons → Bool
-any_reason all =
-    any_of_key all.key
-    || (any_of_key all.authority || (any_of_name all.key_id || any_of_name all.serial))
+any_reason all = nat_lt 0 all.bits
 
--- which names of a key pass a test
-abbrev pub key_reasons : (Name → Bool) → (blob : List ℕ) → KeyReasons
-key_reasons names blob = record {
-  blob = names (KeyOf blob);
-  sha1 = names (Sha1Of (sha1 blob));
-  sha256 = names (Sha256Of (sha256 blob));
-}
+abbrev pub bit_of : Bool → ℕ
+bit_of true = 1
+bit_of false = 0
 
-abbrev pub no_key_reasons : KeyReasons
-no_key_reasons = record { blob = false; sha1 = false; sha256 = false }
+-- bits, each one position higher, and a lowest one below them
+abbrev pub with_bit : ℕ → Bool → ℕ
+with_bit bits lowest = 2 * bits + bit_of lowest
 
--- under which authorities a serial number or a key ID passes a test
-abbrev pub serial_reasons : (Name → Bool) → (authority : List ℕ) (serial : ℕ) → NameReasons
-serial_reasons names authority serial = record {
-  own = names (SerialOf authority serial);
-  all = names (SerialOf [] serial);
-}
+-- the first one is the lowest
+abbrev pub bits_in : List Bool → ℕ
+bits_in [] = 0
+bits_in (lowest ∷ others) = with_bit (bits_in others) lowest
 
-abbrev pub id_reasons : (Name → Bool) → (authority text : List ℕ) → NameReasons
-id_reasons names authority text = record {
-  own = names (IdOf authority text);
-  all = names (IdOf [] text);
-}
-
-abbrev pub no_name_reasons : NameReasons
-no_name_reasons = record { own = false; all = false }
-
--- which names of a certificate pass a test, together with the reasons of its plain key
-abbrev pub cert_reasons : (Name → Bool) → KeyReasons → CertNames → Reasons
-cert_reasons names key cert = record {
-  key = key;
-  authority = key_reasons names cert.authority;
-  serial = serial_reasons names cert.authority cert.serial;
-  key_id = id_reasons names cert.authority cert.key_id;
-}
-
-abbrev pub with_cert : (Name → Bool) → KeyReasons → Option CertNames → Reasons
-with_cert names key None = record {
-  key = key;
-  authority = no_key_reasons;
-  serial = no_name_reasons;
-  key_id = no_name_reasons;
-}
-with_cert names key (Some cert) = cert_reasons names key cert
-
+-- the reasons whose names pass a test
 unfoldable pub reasons_by : (Name → Bool) → Subject → Reasons
-reasons_by names subject = with_cert names (key_reasons names subject.plain) subject.cert
+reasons_by names subject =
+    let passed : Reason → Bool = λ reason. passes names (name_asked reason subject) in
+    record { bits = bits_in (map passed every_reason) }
 
 -- the reasons that revocations give
 abbrev pub held_reasons : Revocations → Subject → Reasons

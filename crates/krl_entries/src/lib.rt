@@ -10,6 +10,7 @@ mod getters;
 mod ids;
 pub mod laws;
 mod listed;
+mod name;
 mod reasons;
 mod revocations;
 mod store;
@@ -17,7 +18,8 @@ mod texts;
 
 pub use gathered::Gathered;
 pub use listed::{Authorities, Listed};
-pub use reasons::{KeyReasons, NameReasons, Reason, Reasons};
+pub use name::Name;
+pub use reasons::{Reason, Reasons};
 pub use revocations::Revocations;
 pub use store::Store;
 pub use texts::Texts;

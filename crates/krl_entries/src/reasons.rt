@@ -1,17 +1,19 @@
 //! Whether a key or a certificate is revoked, and why.
 
-ghost use Rattle.std.specs.Prelude.{◌≡◌, ◌↔◌, IsTrue, List};
+ghost use Rattle.std.specs.Prelude.{◌≡◌, ◌↔◌, ◌<◌, ◌^◌, IsTrue, List};
+ghost use Rattle.std.specs.Option.{option_map};
 ghost use Rattle.krl_types.specs.Entry.{Entry};
-ghost use Rattle.krl_entries.specs.Reasons.{IsReason, any_reason, cert_reasons, has_reason};
-ghost use Rattle.krl_entries.specs.Reasons.{held_reasons, id_reasons, key_reasons, revokes};
-ghost use Rattle.krl_entries.specs.Reasons.{serial_reasons};
+ghost use Rattle.krl_entries.specs.Named.{named};
+ghost use Rattle.krl_entries.specs.Reasons.{IsReason, any_reason, has_reason, held_reasons};
+ghost use Rattle.krl_entries.specs.Reasons.{name_asked, passes, revokes, with_bit};
 ghost use Rattle.krl_entries.specs.Revocations.{Means};
 ghost use Rattle.krl_entries.specs.Revoked.{Revoked};
 ghost use Rattle.krl_entries.specs.Tested.{holds_name};
 ghost use Rattle.krl_entries.specs.declared.reasons.Reason.{Reason as ReasonOf};
 
+use crate::name::Name;
 use crate::revocations::Revocations;
-use krl_types::{CertNames, Subject};
+use krl_types::Subject;
 use serial_set::Spans;
 
 /// A way in which entries revoke a key or a certificate.
@@ -39,44 +41,48 @@ pub enum Reason {
     KeyIdOfAll,
 }
 
-/// Whether entries name a key by its blob, and by each of its hashes.
-#[derive(Clone, Copy)]
-pub struct KeyReasons {
-    pub blob: bool,
-    pub sha1: bool,
-    pub sha256: bool,
+impl Reason {
+    /// Every reason, in the order in which people read them and of the bits of `Reasons`, the
+    /// lowest first.
+    pub const ALL: [Reason; 10] = [
+        Reason::Key,
+        Reason::KeySha1,
+        Reason::KeySha256,
+        Reason::Authority,
+        Reason::AuthoritySha1,
+        Reason::AuthoritySha256,
+        Reason::Serial,
+        Reason::SerialOfAll,
+        Reason::KeyId,
+        Reason::KeyIdOfAll,
+    ];
+
+    /// The name that an entry has for this reason. Only a certificate has one for a reason that is
+    /// about its authority, its serial number or its key ID.
+    pub fn name<'s>(self, subject: &'s Subject<'s>) -> Option<Name<'s>>
+        ensures { option_map named result ≡ name_asked self subject.now }
+    {
+        let plain = subject.plain.as_slice();
+        match (self, &subject.cert) {
+            (Reason::Key, _) => Some(Name::Key(plain)),
+            (Reason::KeySha1, _) => Some(Name::Sha1(plain)),
+            (Reason::KeySha256, _) => Some(Name::Sha256(plain)),
+            (_, None) => None,
+            (Reason::Authority, Some(cert)) => Some(Name::Key(cert.authority)),
+            (Reason::AuthoritySha1, Some(cert)) => Some(Name::Sha1(cert.authority)),
+            (Reason::AuthoritySha256, Some(cert)) => Some(Name::Sha256(cert.authority)),
+            (Reason::Serial, Some(cert)) => Some(Name::Serial(cert.authority, cert.serial)),
+            (Reason::SerialOfAll, Some(cert)) => Some(Name::Serial(&[], cert.serial)),
+            (Reason::KeyId, Some(cert)) => Some(Name::Id(cert.authority, cert.key_id)),
+            (Reason::KeyIdOfAll, Some(cert)) => Some(Name::Id(&[], cert.key_id)),
+        }
+    }
 }
 
-impl KeyReasons {
-    const NONE: KeyReasons = KeyReasons {
-        blob: false,
-        sha1: false,
-        sha256: false,
-    };
-}
-
-/// Whether entries name a serial number or a key ID under the certificate's own authority, and
-/// whether they do under all authorities.
-#[derive(Clone, Copy)]
-pub struct NameReasons {
-    pub own: bool,
-    pub all: bool,
-}
-
-impl NameReasons {
-    const NONE: NameReasons = NameReasons {
-        own: false,
-        all: false,
-    };
-}
-
-/// The ways in which entries revoke a key or a certificate.
+/// The ways in which entries revoke a key or a certificate: a bit for each reason.
 #[derive(Clone, Copy)]
 pub struct Reasons {
-    pub key: KeyReasons,
-    pub authority: KeyReasons,
-    pub serial: NameReasons,
-    pub key_id: NameReasons,
+    pub bits: u16,
 }
 
 impl Reasons {
@@ -84,35 +90,23 @@ impl Reasons {
     pub fn has(self, reason: Reason) -> bool
         ensures { result ≡ has_reason self reason }
     {
-        match reason {
-            Reason::Key => self.key.blob,
-            Reason::KeySha1 => self.key.sha1,
-            Reason::KeySha256 => self.key.sha256,
-            Reason::Authority => self.authority.blob,
-            Reason::AuthoritySha1 => self.authority.sha1,
-            Reason::AuthoritySha256 => self.authority.sha256,
-            Reason::Serial => self.serial.own,
-            Reason::SerialOfAll => self.serial.all,
-            Reason::KeyId => self.key_id.own,
-            Reason::KeyIdOfAll => self.key_id.all,
-        }
+        self.bits >> reason as u16 & 1 == 1
     }
 
     /// Whether there is a reason.
     pub fn any(self) -> bool
         ensures { result ≡ any_reason self }
     {
-        if self.key.blob || self.key.sha1 || self.key.sha256 {
-            return true;
-        }
-        if self.authority.blob || self.authority.sha1 || self.authority.sha256 {
-            return true;
-        }
-        if self.key_id.own || self.key_id.all {
-            return true;
-        }
-        self.serial.own || self.serial.all
+        0 < self.bits
     }
+}
+
+// The bits of a number, each one position higher, and a lowest one below them.
+fn with_bit(bits: u16, lowest: bool) -> u16
+    requires { bits < 2 ^ 15 }
+    ensures { result ≡ with_bit bits lowest }
+{
+    2 * bits + u16::from(lowest)
 }
 
 impl<S: Spans> Revocations<S> {
@@ -132,63 +126,38 @@ impl<S: Spans> Revocations<S> {
         ensures meant { (entries : List Entry) → Means self.now entries → (reason : ReasonOf)
             → (IsTrue (has_reason result reason) ↔ IsReason entries subject.now reason) }
         ensures tested { result ≡ held_reasons self.now subject.now }
+        ensures small { result.bits < 2 ^ 10 }
     {
-        let key = self.key_reasons(subject.plain.as_slice());
-        match &subject.cert {
-            None => Reasons {
-                key,
-                authority: KeyReasons::NONE,
-                serial: NameReasons::NONE,
-                key_id: NameReasons::NONE,
-            },
-            Some(cert) => self.cert_reasons(key, cert),
+        let mut bits = 0;
+        let mut left = Reason::ALL.len();
+        while left > 0 {
+            left -= 1;
+            let held = self.has_asked(Reason::ALL[left].name(&*subject));
+            bits = with_bit(bits, held);
+        }
+        Reasons { bits }
+    }
+
+    /// Whether a name is held, under exactly the authority that it has.
+    pub fn has(&self, name: Name<'_>) -> bool
+        ensures { result ≡ holds_name self.now (named name.entry) }
+    {
+        match name {
+            Name::Serial(authority, serial) => self.has_serial(authority, serial),
+            Name::Id(authority, id) => self.has_id(authority, id),
+            Name::Key(blob) => self.has_blob(blob),
+            Name::Sha1(blob) => self.has_sha1(blob),
+            Name::Sha256(blob) => self.has_sha256(blob),
         }
     }
 
-    // The reasons of a certificate, together with those of its plain key.
-    fn cert_reasons(&self, key: KeyReasons, cert: &CertNames) -> Reasons
-        ensures { result ≡ cert_reasons (holds_name self.now) key cert.now }
+    // Whether a name is held, if it is one.
+    fn has_asked(&self, name: Option<Name<'_>>) -> bool
+        ensures { result ≡ passes (holds_name self.now) (option_map named name.entry) }
     {
-        let authority = self.key_reasons(cert.authority);
-        let serial = self.serial_reasons(cert.authority, cert.serial);
-        let key_id = self.id_reasons(cert.authority, cert.key_id);
-        Reasons {
-            key,
-            authority,
-            serial,
-            key_id,
+        match name {
+            None => false,
+            Some(name) => self.has(name),
         }
-    }
-
-    // Which names of a key are held.
-    fn key_reasons(&self, blob: &[u8]) -> KeyReasons
-        ensures { result ≡ key_reasons (holds_name self.now) blob.now }
-    {
-        let has = self.has_blob(blob);
-        let sha1 = self.has_sha1(blob);
-        let sha256 = self.has_sha256(blob);
-        KeyReasons {
-            blob: has,
-            sha1,
-            sha256,
-        }
-    }
-
-    // Whether a serial number is held under its own authority, and whether it is under all.
-    fn serial_reasons(&self, authority: &[u8], serial: u64) -> NameReasons
-        ensures { result ≡ serial_reasons (holds_name self.now) authority.now serial }
-    {
-        let own = self.has_serial(authority, serial);
-        let all = self.has_serial(&[], serial);
-        NameReasons { own, all }
-    }
-
-    // Whether a key ID is held under its own authority, and whether it is under all.
-    fn id_reasons(&self, authority: &[u8], id: &[u8]) -> NameReasons
-        ensures { result ≡ id_reasons (holds_name self.now) authority.now id.now }
-    {
-        let own = self.has_id(authority, id);
-        let all = self.has_id(&[], id);
-        NameReasons { own, all }
     }
 }

@@ -13,3 +13,4 @@ pub mod AddedFindings
 pub mod FirstSerials
 pub mod SkippedSerials
 pub mod MoreQuestions
+mod AskedNames

@@ -5,7 +5,9 @@ use Rattle.serial_set.specs.declared.span.Span.{Span}
 use Rattle.krl_types.specs.Subject.{CertNames, Subject}
 use Rattle.krl_entries.specs.Revocations.{Revocations, Section, HoldsId, HoldsSerial}
 use Rattle.krl_entries.specs.Revocations.{held, stored}
-use Rattle.krl_types.specs.Naming.{Name}
+use Rattle.krl_types.specs.Naming.{Name, SerialOf}
+use Rattle.krl_entries.specs.Reasons.{name_asked}
+use Rattle.krl_entries.specs.declared.reasons.Reason.{Reason}
 use Rattle.krl_entries.specs.Scope.{IsTopic, Scope}
 
 -- the topics, which are asked about, and what was found of them
@@ -48,9 +50,20 @@ abbrev pub HasCert : Revocations → Option CertNames → Type 0
 HasCert topics None = ⊤
 HasCert topics (Some cert) = HasAll topics cert
 
--- the key or the certificate is asked about
-abbrev pub Asks : Revocations → Subject → Type 0
-Asks topics subject = Contains topics.keys subject.plain × HasCert topics subject.cert
+-- the name is a topic, or the serial number 0, which names no certificate
+abbrev pub IsAsked : Revocations → Name → Type 0
+IsAsked topics (SerialOf authority serial) =
+    (serial ≡ 0) ⊎ HoldsSerial topics.sections authority serial
+IsAsked topics name = IsTopic topics name
+
+-- if there is a name, it has a property
+abbrev pub EachName : (Name → Type 0) → Option Name → Type 0
+EachName Holds None = ⊤
+EachName Holds (Some name) = Holds name
+
+-- The key or the certificate is asked about: the name that it has for each reason is.
+pub record Asks (topics : Revocations) (subject : Subject) : Type 0 where
+  pub names : (reason : Reason) → EachName (IsAsked topics) (name_asked reason subject)
 
 -- ---- the size of questions and findings
 

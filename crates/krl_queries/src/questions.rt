@@ -1,6 +1,7 @@
 //! Questions about a list that is streamed.
 
-ghost use Rattle.std.specs.Prelude.{◌≡◌, ◌↔◌, ◌+◌, ◌≤◌, IsTrue, List, OnOk, Some, length};
+ghost use Rattle.std.specs.Prelude.{◌≡◌, ◌↔◌, ◌+◌, ◌<◌, ◌≤◌, ◌^◌, IsTrue, List, OnOk, Some};
+ghost use Rattle.std.specs.Prelude.{length};
 ghost use Rattle.krl_types.specs.Entry.{Entry};
 ghost use Rattle.krl_entries.specs.Reasons.{IsReason, has_reason, held_reasons, revokes};
 ghost use Rattle.krl_entries.specs.Revocations.{IsOrderly, nothing, stored};
@@ -102,6 +103,7 @@ impl<S: Spans> Questions<S> {
             → MeansInScope (asked_in self.now) self.now.found entries → (reason : ReasonOf)
             → (IsTrue (has_reason result reason) ↔ IsReason entries subject.now reason) }
         ensures tested { result ≡ held_reasons self.now.found subject.now }
+        ensures small { result.bits < 2 ^ 10 }
     {
         self.found.reasons(subject)
     }

@@ -1,7 +1,7 @@
 -- Keys that are expected are answered for.
 use Rattle.krl_runs.proofs.Common.{[], ◌+◌, ◌<◌, ◌∙◌, ◌∷◌, ◌≡◌, ◌≢◌, AreExpected, arith, Asks}
-use Rattle.krl_runs.proofs.Common.{AsksMore, CertNames, ended_by, Err, FileKey, get_or, GivesKey}
-use Rattle.krl_runs.proofs.Common.{HasCert, IfOk, inl, inr, IsErr, IsRefused, keys_of, length, List}
+use Rattle.krl_runs.proofs.Common.{AsksMore, ended_by, Err, FileKey, get_or, GivesKey}
+use Rattle.krl_runs.proofs.Common.{IfOk, inl, inr, IsErr, IsRefused, keys_of, length, List}
 use Rattle.krl_runs.proofs.Common.{Named, None, Ok, Option, refl, Result, Revocations, RunFault}
 use Rattle.krl_runs.proofs.Common.{Some, Subject, subst, sym, ℕ}
 use Rattle.std.proofs.lemmas.Bool.{cases_lt}
@@ -9,8 +9,10 @@ use Rattle.std.proofs.lemmas.List.{get_or_default}
 use Rattle.ssh_cert.specs.SubjectReading.{subject_of}
 use Rattle.ssh_cert.specs.declared.subject_fault.SubjectFault.{SubjectFault}
 use Rattle.key_files.specs.declared.cause.Cause.{Cause}
-use Rattle.krl_types.specs.Naming.{KeyOf}
-use Rattle.krl_queries.proofs.MoreQuestions.{under_stays}
+use Rattle.krl_types.specs.Naming.{IdOf, KeyOf, Name, SerialOf, Sha1Of, Sha256Of}
+use Rattle.krl_entries.specs.Reasons.{name_asked}
+use Rattle.krl_queries.specs.Questions.{EachName, IsAsked}
+use Rattle.std.proofs.Math.Logic.{⊎_map}
 use Rattle.key_files.specs.declared.cause.Cause.TheVariants as causes
 
 -- a key whose blob cannot be read is the last that counts
@@ -33,11 +35,18 @@ fault_expected Expected next stop keys is known = by stop.cause is known
 -- ---- more queries
 
 asked_more : (old new : Revocations) (asked : Subject) → AsksMore old new → Asks old asked → Asks new asked
-asked_more old new asked more h = (more (KeyOf asked.plain) h.0, by asked.cert h.1)
+asked_more old new asked more h = record { names = λ reason. by (name_asked reason asked) (h.names reason) }
   where
-    by : (cert : Option CertNames) → HasCert old cert → HasCert new cert
+    stays : (name : Name) → IsAsked old name → IsAsked new name
+    stays (SerialOf a s) h = ⊎_map (λ zero. zero) (more (SerialOf a s)) h
+    stays (IdOf a text) h = more (IdOf a text) h
+    stays (KeyOf blob) h = more (KeyOf blob) h
+    stays (Sha1Of hash) h = more (Sha1Of hash) h
+    stays (Sha256Of hash) h = more (Sha256Of hash) h
+
+    by : (name : Option Name) → EachName (IsAsked old) name → EachName (IsAsked new) name
     by None h = tt
-    by (Some cert) h = (more (KeyOf cert.authority) h.0, (under_stays old new [] cert.key_id cert.serial more h.1.0, under_stays old new cert.authority cert.key_id cert.serial more h.1.1))
+    by (Some name) h = stays name h
 
 -- keys that were expected are still expected
 pub keys_more : (old new : Revocations) (keys : List (Result FileKey RunFault)) → AsksMore old new → AreExpected (Asks old) keys → AreExpected (Asks new) keys

@@ -1,11 +1,11 @@
 -- The entries of a plain list revoke the keys on its lines.
 use Rattle.std.proofs.Common.{◌≡◌, ◌↔◌, ℕ, List, [], ◌∷◌, All, Option, Some, None, Result, Ok, Err, refl, ap, inl, inr}
+use Rattle.std.specs.Prelude.{MatchOption}
 use Rattle.std.proofs.lemmas.List.Elements.{All-head, All-tail}
 use Rattle.ssh_wire.specs.Wire.{IsBytes}
 use Rattle.krl_types.specs.Subject.{CertNames, Subject}
 use Rattle.krl_types.specs.Naming.{IdOf, KeyOf, Name, SerialOf, Sha1Of, Sha256Of, SomeNames}
 use Rattle.krl_entries.specs.Revoked.{KeyNamed}
-use Rattle.krl_entries.specs.Reasons.{OfCert}
 use Rattle.krl_entries.specs.Revoked.{CertRevoked, Revoked}
 use Rattle.krl_types.proofs.Elements.{some_cases, some_left, some_right}
 use Rattle.plain_list.specs.Key.{line_key}
@@ -77,7 +77,7 @@ module _ (law : ReadAsSpelled) (lines : List (List ℕ)) (fits : All IsBytes lin
     ]
   ]
 
-  of_cert : (cert : Option CertNames) → CertRevoked (entries_of lines) cert → OfCert cert (λ cert. IsOnLine lines cert.authority)
+  of_cert : (cert : Option CertNames) → CertRevoked (entries_of lines) cert → MatchOption cert ⊥ (λ cert. IsOnLine lines cert.authority)
   of_cert None revoked = revoked
   of_cert (Some cert) revoked = elim revoked [
     | inl key ↦ of_key cert.authority key
@@ -93,7 +93,7 @@ module _ (law : ReadAsSpelled) (lines : List (List ℕ)) (fits : All IsBytes lin
     ]
   ]
 
-  to_cert : (cert : Option CertNames) → OfCert cert (λ cert. IsOnLine lines cert.authority) → CertRevoked (entries_of lines) cert
+  to_cert : (cert : Option CertNames) → MatchOption cert ⊥ (λ cert. IsOnLine lines cert.authority) → CertRevoked (entries_of lines) cert
   to_cert None is = is
   to_cert (Some cert) is = inl (inl (named_by law lines cert.authority fits is))
 

@@ -1,5 +1,6 @@
 -- The spelling of the lines of a plain list.
 use Rattle.std.specs.Prelude.{◌≡◌, ℕ, true, false, ◌⊎◌, List, [], ◌∷◌, Option, Some, None}
+use Rattle.std.specs.Prelude.{MatchOption}
 use Rattle.ssh_key.specs.Key.{IsKey, PublicKey, blob_of}
 use Rattle.ssh_key.specs.declared.fault.KeyFault.TheVariants as keys
 use Rattle.openssh_keys.specs.Judgement.{judgement_of}
@@ -12,7 +13,6 @@ use Rattle.krl_types.specs.Subject.{Subject}
 use Rattle.ssh_cert.specs.SubjectReading.{IsSubject, IsSubjectFault}
 use Rattle.ssh_cert.specs.declared.subject_fault.SubjectFault.{SubjectFault}
 use Rattle.ssh_cert.specs.declared.subject_fault.SubjectFault.TheVariants as subjects
-use Rattle.krl_entries.specs.Reasons.{OfCert}
 use Rattle.plain_list.specs.Line.{begins_with_key, content_of, is_remark}
 use Rattle.plain_list.specs.declared.fault.LineCause.{LineCause}
 use Rattle.plain_list.specs.declared.fault.LineCause.TheVariants as causes
@@ -67,4 +67,5 @@ IsOnLine (line ∷ lines) blob = Revokes line (Some blob) ⊎ IsOnLine lines blo
 -- authority is.
 abbrev pub IsListed : List (List ℕ) → Subject → Type 0
 IsListed lines subject =
-    IsOnLine lines subject.plain ⊎ OfCert subject.cert (λ cert. IsOnLine lines cert.authority)
+    IsOnLine lines subject.plain
+    ⊎ MatchOption subject.cert ⊥ (λ cert. IsOnLine lines cert.authority)

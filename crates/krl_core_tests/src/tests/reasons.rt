@@ -7,19 +7,6 @@ use span_sets::Held;
 use std::alloc::Global;
 use std::process::Abort;
 
-const ALL_REASONS: [Reason; 10] = [
-    Reason::Key,
-    Reason::KeySha1,
-    Reason::KeySha256,
-    Reason::Authority,
-    Reason::AuthoritySha1,
-    Reason::AuthoritySha256,
-    Reason::Serial,
-    Reason::SerialOfAll,
-    Reason::KeyId,
-    Reason::KeyIdOfAll,
-];
-
 // The certificate of the query.
 const CERTIFICATE: About<'static> = Some((A, 7, b"id"));
 
@@ -60,7 +47,7 @@ fn said_for<'a>(reason: Reason, hashes: &'a Hashes) -> Said<'a> {
 /// The only reason is this one, or there is none.
 pub fn says_only(rt: &impl Abort, found: Reasons, only: Option<Reason>, place: (usize, usize)) {
     assert_eq!(rt; found.any(), only.is_some(), "any reason: {place:?}");
-    for (i, reason) in ALL_REASONS.iter().enumerate() {
+    for (i, reason) in Reason::ALL.iter().enumerate() {
         assert_eq!(rt;
             found.has(*reason),
             only == Some(*reason),
@@ -77,7 +64,7 @@ fn reasons_of(rt: &impl Abort, alloc: Global, said: &[Said<'_>], about: About<'_
 #[test]
 fn each_entry_is_its_reason_alone(rt: HostRuntime) {
     let hashes = make_hashes();
-    for (i, reason) in ALL_REASONS.iter().enumerate() {
+    for (i, reason) in Reason::ALL.iter().enumerate() {
         let found = reasons_of(&rt, rt.alloc(), &[said_for(*reason, &hashes)], CERTIFICATE);
         says_only(&rt, found, Some(*reason), (i, 0));
     }
@@ -86,7 +73,7 @@ fn each_entry_is_its_reason_alone(rt: HostRuntime) {
 #[test]
 fn a_plain_key_has_no_reason_of_a_certificate(rt: HostRuntime) {
     let hashes = make_hashes();
-    for (i, reason) in ALL_REASONS.iter().enumerate() {
+    for (i, reason) in Reason::ALL.iter().enumerate() {
         let found = reasons_of(&rt, rt.alloc(), &[said_for(*reason, &hashes)], None);
         let only = if i < 3 { Some(*reason) } else { None };
         says_only(&rt, found, only, (i, 1));
@@ -97,12 +84,12 @@ fn a_plain_key_has_no_reason_of_a_certificate(rt: HostRuntime) {
 fn all_reasons_are_said_at_once(rt: HostRuntime) {
     let hashes = make_hashes();
     let mut said: Vec<Said<'_>> = Vec::new(rt.alloc());
-    for reason in ALL_REASONS {
+    for reason in Reason::ALL {
         said.push(said_for(reason, &hashes))
             .expect(&rt, "there is memory");
     }
     let found = reasons_of(&rt, rt.alloc(), &said, CERTIFICATE);
-    for (i, reason) in ALL_REASONS.iter().enumerate() {
+    for (i, reason) in Reason::ALL.iter().enumerate() {
         assert!(rt; found.has(*reason), "reason {i}");
     }
 }

@@ -1,8 +1,8 @@
 -- The answer is why the list names the key of the query; otherwise it is the list's first fault, or
 -- the blob's.
-use Rattle.krl_c.proofs.Common.{◌<◌, ◌^◌, ◌∙◌, answered, arith, rules, SFits, subst, sym, to_z_pos}
+use Rattle.krl_c.proofs.Common.{◌<◌, ◌^◌, ◌∙◌, answered, arith, rules, SFits, to_z_pos}
 use Rattle.krl_c.proofs.Common.{w32}
-use Rattle.krl_c.specs.Why.{HasReasons, explained}
+use Rattle.krl_c.specs.Why.{explained}
 use Rattle.krl_c.proofs.ReasonBits.{has_reasons, unexplained}
 use Rattle.krl_c.proofs.AnswerMeaning.{list_refused, same}
 use Rattle.krl_c.proofs.why.explain_list.Goals as goal
@@ -10,9 +10,10 @@ use Rattle.krl_c.proofs.why.explain_list.Goals as goal
 pub returns-in-Ok-explain : goal.returns-in-Ok-explain
 returns-in-Ok-explain c =
     let found = c.in-Ok-explain.ensures.reasons in
-    let has = subst (HasReasons found.0 c.in-Ok.asked) (sym c.bits_of.ensures) (has_reasons found.0 c.in-Ok.asked c.in-Ok-explain.reasons found.2) in
-    let small : c.bits_of.result < 2 ^ 31 = omega (arith, has.within) in
-    answered found.0 found.1 (explained c.in-Ok.asked c.bits_of.result c.in-Ok.ensures.found has (to_z_pos w32 c.bits_of.result small))
+    let all = c.in-Ok-explain.reasons in
+    let has = has_reasons found.0 c.in-Ok.asked all c.in-Ok-explain.ensures.small found.2 in
+    let fits : all.bits < 2 ^ 31 = omega (arith, has.within) in
+    answered found.0 found.1 (explained c.in-Ok.asked all.bits c.in-Ok.ensures.found has (to_z_pos w32 all.bits fits))
 
 pub returns-in-Ok : goal.returns-in-Ok
 returns-in-Ok c =

@@ -1,6 +1,7 @@
 -- The plain key stays a topic when the names of the certificate are added.
 use Rattle.krl_queries.proofs.Common.{AsksMore, Contains, HasCert, KeyEntry, KeyOf, on_ok_weaker}
 use Rattle.krl_queries.proofs.Common.{refl, subst, sym}
+use Rattle.krl_queries.proofs.AskedNames.{asks_by}
 use Rattle.krl_queries.proofs.MoreQuestions.{asks_entry, now_held, on_ok_with}
 use Rattle.krl_queries.proofs.questions.ask_names.Goals.{In_ok-add_key}
 use Rattle.krl_queries.proofs.questions.ask_names.Given.{Over}
@@ -17,7 +18,7 @@ key_more g c = asks_entry c.args.topics.now c.add_key.new.self (KeyEntry c.as_sl
 pub returns-in-None-clause-asked : goal.returns-in-None-clause-asked
 returns-in-None-clause-asked g c =
     let key = rw c.as_slice.ensures at (key_held g (goal.at.returns-in-None-clause-asked g c).In_ok-add_key) in
-    rw (← c.subject.view_is) (key, subst (HasCert c.add_key.new.self) (sym c.in-None.is) tt)
+    rw (← c.subject.view_is) (asks_by c.add_key.new.self c.subject.inside.plain c.subject.inside.cert key (subst (HasCert c.add_key.new.self) (sym c.in-None.is) tt))
 
 pub returns-in-None-clause-more : goal.returns-in-None-clause-more
 returns-in-None-clause-more g c = key_more g (goal.at.returns-in-None-clause-more g c).In_ok-add_key
@@ -26,7 +27,7 @@ pub returns-in-Some-clause-asked : goal.returns-in-Some-clause-asked
 returns-in-Some-clause-asked g c =
     let key = rw c.as_slice.ensures at (key_held g (goal.at.returns-in-Some-clause-asked g c).In_ok-add_key) in
     rw (← c.subject.view_is) (on_ok_with c.ask_cert.result
-    (λ more all. (more (KeyOf _) key, subst (HasCert c.ask_cert.new.topics) (sym c.in-Some.is) all))
+    (λ more all. asks_by c.ask_cert.new.topics c.subject.inside.plain c.subject.inside.cert (more (KeyOf c.subject.inside.plain) key) (subst (HasCert c.ask_cert.new.topics) (sym c.in-Some.is) all))
     c.ask_cert.ensures.more c.ask_cert.ensures.asked)
 
 pub returns-in-Some-clause-more : goal.returns-in-Some-clause-more
