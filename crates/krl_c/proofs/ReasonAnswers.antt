@@ -19,7 +19,7 @@ use Rattle.krl_entries.specs.declared.reasons.Reason.{Reason}
 use Rattle.krl_entries.specs.declared.reasons.Reason.TheVariants as reasons
 use Rattle.krl_c.specs.Laws.{answer_of}
 use Rattle.krl_c.specs.Number.{fine}
-use Rattle.krl_c.specs.Why.{Explains, ExplainsBlob, HasReasons, explained, position_of}
+use Rattle.krl_c.specs.Why.{Explains, ExplainsBlob, HasReasons, explained}
 use Rattle.krl_c.specs.Why.{no_blob as unexplained_blob}
 use Rattle.krl_c.specs.Why.{ran_out as why_ran_out}
 
@@ -43,19 +43,22 @@ some_bit zero bits some fits = absurd (omega (arith, some, fits))
 some_bit (suc places) bits some fits =
     by_lowest places bits (bits % 2) refl (λ even. some_bit places (bits / 2) (omega (arith, some, even)) (omega (arith, fits, pow-succ' 2 places)))
 
--- the reason of a bit
-reason_at : (place : ℕ) → place < 10 → (reason : Reason) × (position_of reason ≡ place)
-reason_at zero within = (reasons.Key, refl)
-reason_at (suc zero) within = (reasons.KeySha1, refl)
-reason_at (suc (suc zero)) within = (reasons.KeySha256, refl)
-reason_at (suc (suc (suc zero))) within = (reasons.Authority, refl)
-reason_at (suc (suc (suc (suc zero)))) within = (reasons.AuthoritySha1, refl)
-reason_at (suc (suc (suc (suc (suc zero))))) within = (reasons.AuthoritySha256, refl)
-reason_at (suc (suc (suc (suc (suc (suc zero)))))) within = (reasons.Serial, refl)
-reason_at (suc (suc (suc (suc (suc (suc (suc zero))))))) within = (reasons.SerialOfAll, refl)
-reason_at (suc (suc (suc (suc (suc (suc (suc (suc zero)))))))) within = (reasons.KeyId, refl)
-reason_at (suc (suc (suc (suc (suc (suc (suc (suc (suc zero))))))))) within = (reasons.KeyIdOfAll, refl)
-reason_at (suc (suc (suc (suc (suc (suc (suc (suc (suc (suc place)))))))))) within = absurd (omega (arith, within))
+-- The reason of a bit that is set.
+reason_of : (entries : List Entry) (asked : Subject) (bits : ℕ) → HasReasons entries asked bits → (place : ℕ) → place < 10 → bit_at bits place ≡ 1 → (reason : Reason) × IsReason entries asked reason
+reason_of entries asked bits has zero within set = (reasons.Key, (has.reasons_are reasons.Key).0 set)
+reason_of entries asked bits has (suc zero) within set = (reasons.KeySha1, (has.reasons_are reasons.KeySha1).0 set)
+reason_of entries asked bits has (suc (suc zero)) within set = (reasons.KeySha256, (has.reasons_are reasons.KeySha256).0 set)
+reason_of entries asked bits has (suc (suc (suc zero))) within set = (reasons.Authority, (has.reasons_are reasons.Authority).0 set)
+reason_of entries asked bits has (suc (suc (suc (suc zero)))) within set = (reasons.AuthoritySha1, (has.reasons_are reasons.AuthoritySha1).0 set)
+reason_of entries asked bits has (suc (suc (suc (suc (suc zero))))) within set = (reasons.AuthoritySha256, (has.reasons_are reasons.AuthoritySha256).0 set)
+reason_of entries asked bits has (suc (suc (suc (suc (suc (suc zero)))))) within set = (reasons.Serial, (has.reasons_are reasons.Serial).0 set)
+reason_of entries asked bits has (suc (suc (suc (suc (suc (suc (suc zero))))))) within set = (reasons.SerialOfAll, (has.reasons_are reasons.SerialOfAll).0 set)
+reason_of entries asked bits has (suc (suc (suc (suc (suc (suc (suc (suc zero)))))))) within set = (reasons.KeyId, (has.reasons_are reasons.KeyId).0 set)
+reason_of entries asked bits has (suc (suc (suc (suc (suc (suc (suc (suc (suc zero))))))))) within set = (reasons.KeyIdOfAll, (has.reasons_are reasons.KeyIdOfAll).0 set)
+reason_of entries asked bits has (suc (suc (suc (suc (suc (suc (suc (suc (suc (suc place)))))))))) within set = absurd (omega (arith, within))
+
+no_bit : (place : ℕ) → bit_at 0 place ≡ 1 → ⊥
+no_bit place set = omega (arith, bit_at-zero place, set)
 
 -- ---- an answer
 
@@ -64,12 +67,10 @@ abbrev pub ForAReason : Type 0
 ForAReason = (entries : List Entry) (asked : Subject) → (Revoked entries asked ↔ ((reason : Reason) × IsReason entries asked reason))
 
 says : ForAReason → (entries : List Entry) (asked : Subject) (bits : ℕ) → HasReasons entries asked bits → Says entries asked (answer_of (pos bits))
-says for entries asked zero has =
-    spares (λ revoked. let why = (for entries asked).0 revoked in absurd (omega (arith, (has.reasons_are why.0).1 why.1, bit_at-zero (position_of why.0)))) refl
+says for entries asked zero has = spares (λ revoked. let why = (for entries asked).0 revoked in no_bit _ ((has.reasons_are why.0).1 why.1)) refl
 says for entries asked (suc n) has =
     let bit = some_bit 10 (suc n) (omega arith) has.within in
-    let why = reason_at bit.place bit.within in
-    names ((for entries asked).1 (why.0, (has.reasons_are why.0).0 (ap (bit_at (suc n)) why.1 ∙ bit.is_set))) refl
+    names ((for entries asked).1 (reason_of entries asked (suc n) has bit.place bit.within bit.is_set)) refl
 
 -- ---- numbers below zero are the same
 
