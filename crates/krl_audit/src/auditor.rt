@@ -349,6 +349,7 @@ impl<'q, 'w, W: Sink> Auditor<'q, 'w, W> {
             → Reaches before run stop.entry self.old.run.printer
             → EndsAudit run self.old.counts before self.new.run.printer.taken
             self.new.run.printer.failed result.status result.fault }
+        ensures writer { self.new.run.printer.writer ≡ self.old.run.printer.writer }
     {
         let done = self.run.printer.finish(stop);
         let fault = done.fault;

@@ -6,7 +6,8 @@ pub use Rattle.std.proofs.Common.{refl, Result, rules, SFits, Some, subst, suc, 
 pub use Rattle.std.proofs.Common.{unsigned_abs, w32, zero, ℕ, ℤ}
 pub use Rattle.key_text.specs.declared.line_fault.LineFault.{LineFault}
 pub use Rattle.krl_c.specs.Answer.{answered, Answers, AnswersBlob, AnswersBy, AnswersLine}
-pub use Rattle.krl_c.specs.Answer.{AnswersOfLine, HasOne, HasOtherAuthority, IsCompared, IsListOf}
+pub use Rattle.krl_c.specs.Answer.{AnswersOfLine, HasOne, HasOtherAuthority, IsCompared}
+pub use Rattle.plain_list.specs.Any.{IsListOf}
 pub use Rattle.krl_c.specs.Answer.{IsRefusal, line_ran_out, list_ran_out, names, no_blob, no_line}
 pub use Rattle.krl_c.specs.Answer.{no_list, of_key, other_authority, ran_out, said, Says, spares}
 pub use Rattle.krl_c.specs.Number.{line_number, list_number, no_memory, plain_number}

@@ -3,7 +3,8 @@ use Rattle.krl_c.proofs.Common.{[], ◌<◌, ◌∙◌, ◌∷◌, ◌≡◌, �
 use Rattle.krl_c.proofs.Common.{Bool, Entry, false, get_or, inl, inr, length, length-append, List}
 use Rattle.krl_c.proofs.Common.{no_memory, plain_number, sym, true, ℕ, ℤ}
 use Rattle.std.proofs.Math.Seq.{get_or-append_seam}
-use Rattle.plain_list.specs.List.{AreRead, HasFault, IsFirstFault, entries_of, limit, lines_of}
+use Rattle.std.proofs.Common.{subst}
+use Rattle.plain_list.specs.List.{AreRead, HasFault, IsFirstFault, limit, lines_of}
 use Rattle.plain_list.specs.declared.fault.LineCause.{LineCause}
 use Rattle.plain_list.specs.declared.fault.PlainFault.{PlainFault}
 use Rattle.krl_c.specs.Any.{AnswersIf, AnswersPlain, no_plain, plain}
@@ -35,9 +36,9 @@ fault_once list (faults.Line at cause) (faults.Line line why) one other has too 
 
 plain_once : (list blob : List ℕ) → ((entries : List Entry) (one other : ℤ) → AnswersBlob entries blob one → AnswersBlob entries blob other → Once one other)
     → (one other : ℤ) → AnswersPlain list blob one → AnswersPlain list blob other → Once one other
-plain_once list blob once one other (plain within read says) (plain fits also tells) = once (entries_of (lines_of list)) one other says tells
-plain_once list blob once one other (plain within read says) (no_plain fault has f) = inr (inr (read_or_no_memory list fault other within read has f))
-plain_once list blob once one other (no_plain fault has e) (plain within read tells) = inr (inl (read_or_no_memory list fault one within read has e))
+plain_once list blob once one other (plain entries is says) (plain others also tells) = once others one other (subst (λ (es : List Entry). AnswersBlob es blob one) (is.entries_are ∙ sym also.entries_are) says) tells
+plain_once list blob once one other (plain entries is says) (no_plain fault has f) = inr (inr (read_or_no_memory list fault other is.within is.are_read has f))
+plain_once list blob once one other (no_plain fault has e) (plain entries is tells) = inr (inl (read_or_no_memory list fault one is.within is.are_read has e))
 plain_once list blob once one other (no_plain fault has e) (no_plain also too f) = fault_once list fault also one other has too e f
 
 pub any_once : (krl : Bool) (list blob : List ℕ) → ((one other : ℤ) → Answers list blob one → Answers list blob other → Once one other)

@@ -1,5 +1,5 @@
 -- The answer of a list for the blob of a key or of a certificate.
-use Rattle.std.specs.Prelude.{◌≡◌, ◌≤◌, ◌⊎◌, ℕ, ℤ, List, length, Some}
+use Rattle.std.specs.Prelude.{◌≡◌, ◌⊎◌, ℕ, ℤ, List, Some}
 use Rattle.krl_types.specs.Subject.{Subject}
 use Rattle.key_text.specs.KeyLine.{IsKeyLine}
 use Rattle.key_text.specs.LineFaults.{IsFirstLineFault}
@@ -7,26 +7,16 @@ use Rattle.key_text.specs.declared.line_fault.LineFault.{LineFault}
 use Rattle.ssh_cert.specs.SubjectReading.{IsSubject, IsSubjectFault}
 use Rattle.ssh_cert.specs.declared.subject_fault.SubjectFault.{SubjectFault}
 use Rattle.krl_types.specs.declared.krl_fault.KrlFault.{KrlFault}
-use Rattle.krl_format.specs.declared.header.Header.{Header}
 use Rattle.krl_types.specs.Entry.{Entry}
-use Rattle.krl_format.specs.Entries.{entries_of}
-use Rattle.krl_format.specs.Front.{IsFirstFault, limit}
-use Rattle.krl_format.specs.Krl.{SpelledSection, Spells}
+use Rattle.krl_format.specs.Front.{IsFirstFault}
 use Rattle.krl_entries.specs.Revoked.{Revoked}
+use Rattle.plain_list.specs.Any.{IsListOf}
 use Rattle.krl_authority.specs.Authority.{AuthoritiesAreKeys}
 use Rattle.krl_types.specs.declared.krl_fault.KrlFault.TheVariants.{NoMemory}
 use Rattle.krl_c.specs.declared.refusal.Refusal.{Refusal}
 use Rattle.krl_c.specs.declared.refusal.Refusal.TheVariants as refusals
 use Rattle.krl_c.specs.Number.{authority_number, fine, revoked, no_memory, list_number, line_number}
 use Rattle.krl_c.specs.Number.{subject_number}
-
--- A header and sections spell the list, within the limit.
-pub record IsListOf (list : List ℕ) (entries : List Entry) : Type 0 where
-  pub header : Header
-  pub sections : List SpelledSection
-  pub spelled : Spells list header sections
-  pub within : length list ≤ limit
-  pub entries_are : entries ≡ entries_of sections
 
 -- Each authority of the list is empty or a key in its one spelling, so a certificate's authority
 -- can be compared with it.

@@ -7,12 +7,13 @@ ghost use Rattle.krl_format.specs.Front.{IsFirstFault};
 ghost use Rattle.krl_queries.specs.Questions.{Asks, asked_in};
 ghost use Rattle.krl_entries.specs.Revoked.{Revoked};
 ghost use Rattle.krl_entries.specs.Scope.{MeansInScope};
-ghost use Rattle.krl_c.specs.Answer.{Answers, AnswersOfLine, IsCompared, IsListOf, IsRefusal};
+ghost use Rattle.plain_list.specs.Any.{IsListOf};
+ghost use Rattle.krl_c.specs.Answer.{Answers, AnswersOfLine, IsCompared, IsRefusal};
 ghost use Rattle.krl_c.specs.Streamed.{StoresAsked};
 
-use crate::lent::Lent;
 use crate::number::{FINE, REVOKED, of_line, of_list, of_subject};
 use crate::refusal::Refusal;
+use byte_streams::Lent;
 use key_text::read_line;
 use krl_authority::authorities_are_keys;
 use krl_core::{KrlFault, Walk};

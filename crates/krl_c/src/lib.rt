@@ -19,7 +19,6 @@ mod check;
 mod handle;
 mod init;
 pub mod laws;
-mod lent;
 mod loaded_list;
 mod number;
 mod refusal;

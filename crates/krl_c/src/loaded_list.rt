@@ -6,9 +6,9 @@ ghost use Rattle.krl_types.specs.Entry.{Entry};
 ghost use Rattle.krl_core.specs.Reading.{HoldsAll};
 ghost use Rattle.krl_c.specs.Answer.{AnswersBlob, AnswersLine, IsCompared, IsRefusal};
 
-use crate::lent::Lent;
 use crate::number::{FINE, REVOKED, of_line, of_subject};
 use crate::refusal::Refusal;
+use byte_streams::Lent;
 use key_text::read_line;
 use krl_authority::authorities_are_keys;
 use krl_core::{Revocations, read_krl};

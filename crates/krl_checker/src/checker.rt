@@ -218,6 +218,7 @@ impl<'q, 'w, W: Sink> Checker<'q, 'w, W> {
             → EndsCheck run self.old.refused self.old.unread before
             self.new.auditor.run.printer.taken self.new.auditor.run.printer.failed result.status
             result.fault }
+        ensures writer { self.new.auditor.run.printer.writer ≡ self.old.auditor.run.printer.writer }
         ensures refused { self.new.refused ≡ self.old.refused }
         ensures unread { self.new.unread ≡ self.old.unread }
         ensures judge { self.new.auditor.judge ≡ self.old.auditor.judge }

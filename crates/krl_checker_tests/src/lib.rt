@@ -1,4 +1,4 @@
-//! The tests of `krl_checker`, through its public items.
+//! The tests of `krl_checker` and `any_list`, through their public items.
 #![tactic(auto)]
 
 #[cfg(test)]

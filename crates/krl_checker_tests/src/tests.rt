@@ -1,4 +1,6 @@
 //! What no contract says: the lines of a check, and calls with ample memory.
 
+mod any_lists;
 mod checks;
 mod page;
+mod runs;

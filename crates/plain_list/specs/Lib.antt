@@ -2,3 +2,4 @@ pub mod Line
 pub mod Key
 pub mod List
 pub mod Spelled
+pub mod Any

@@ -238,11 +238,11 @@ canary: gone: 0 of 0 keys are revoked, 1 lines are not read\n",
     ),
 ];
 
-// 9:00:00 on 26 November 2026, in seconds since 1970.
-const NINE: u64 = 1_795_683_600;
+/// 9:00:00 on 26 November 2026, in seconds since 1970.
+pub const NINE: u64 = 1_795_683_600;
 
-// A list of serial number 0 of all authorities.
-const SERIAL_ZERO: &[u8] = b"SSHKRL\n\0\0\0\0\x01\0\0\0\0\0\0\0\x01\0\0\0\0\0\0\0\0\
+/// A list of serial number 0 of all authorities.
+pub const SERIAL_ZERO: &[u8] = b"SSHKRL\n\0\0\0\0\x01\0\0\0\0\0\0\0\x01\0\0\0\0\0\0\0\0\
 \0\0\0\0\0\0\0\0\0\0\0\0\0\0\0\0\
 \x01\0\0\0\x15\0\0\0\0\0\0\0\0\x20\0\0\0\x08\0\0\0\0\0\0\0\0";
 

@@ -2,17 +2,17 @@
 
 ghost use Rattle.std.specs.Prelude.{◌≡◌, Some, false};
 
-use byte_streams::{Failed, Source};
+use crate::device::{Failed, Source};
 
-// The rest of borrowed bytes. Reading never fails.
+/// The rest of borrowed bytes. Reading never fails.
 #[derive(Drop)]
-pub(crate) struct Lent<'a> {
+pub struct Lent<'a> {
     rest: &'a [u8],
 }
 
 impl<'a> Lent<'a> {
-    // All of the bytes.
-    pub(crate) fn new(bytes: &'a [u8]) -> Self
+    /// All of the bytes.
+    pub fn new(bytes: &'a [u8]) -> Self
         ensures bytes { ⟦<Lent<'a> as Source>⟧.left result ≡ Some bytes.now }
         ensures fresh { ⟦<Lent<'a> as Source>⟧.has_failed result ≡ false }
     {

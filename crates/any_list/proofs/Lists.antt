@@ -1,0 +1,42 @@
+-- A list that was read, by how its bytes begin, and the fault of one that is not.
+use Rattle.std.proofs.Common.{◌≡◌, ℕ, Bool, true, false, List, Option, Some, None, refl, sym, ap, subst}
+use Rattle.krl_types.specs.declared.krl_fault.KrlFault.{KrlFault}
+use Rattle.krl_core.specs.Reading.{IsList}
+use Rattle.krl_entries.specs.Revocations.{Revocations}
+use Rattle.krl_format.specs.Entries.{entries_of}
+use Rattle.krl_format.specs.Faults.{Says, failed_read, first, ran_out}
+use Rattle.krl_format.specs.Front.{IsFirstFault}
+use Rattle.krl_format.specs.declared.header.Header.{Header}
+use Rattle.key_files.specs.RunFault.{krl_cause, run_fault_of}
+use Rattle.plain_list.specs.Any.{NamesIf, NamesWhole, begins_list}
+use Rattle.any_list.specs.List.{IsReadAs, IsReadLines, IsReadList, IsReadWhole, IsWholeFault, whole_fault, whole_ran_out}
+use Rattle.any_list.specs.declared.list.List.{List as ListOf}
+
+read_if : (begins : Bool) (hashed : Bool) (bytes : List ℕ) (list : ListOf) → begins_list bytes ≡ begins → IsReadAs (NamesIf begins bytes) hashed bytes list → IsReadList hashed bytes list
+read_if begins hashed bytes list is read = record {
+  header = read.header;
+  entries = read.entries;
+  named = subst (λ (b : Bool). NamesIf b bytes read.header read.entries) (sym is) read.named;
+  stated_is = read.stated_is;
+  means = read.means;
+  sha256_is = read.sha256_is;
+}
+
+pub whole_is_list : (hashed : Bool) (bytes : List ℕ) (list : ListOf) → begins_list bytes ≡ true → IsReadWhole hashed bytes list → IsReadList hashed bytes list
+whole_is_list = read_if true
+
+pub lines_are_list : (hashed : Bool) (bytes : List ℕ) (list : ListOf) → begins_list bytes ≡ false → IsReadLines hashed bytes list → IsReadList hashed bytes list
+lines_are_list = read_if false
+
+pub named_whole : (bytes : List ℕ) (header : Header) (held : Revocations) (list : IsList bytes header held) → IsFirstFault bytes None → NamesWhole bytes (Some header) (entries_of list.sections)
+named_whole bytes header held list none = record {
+  is = record { header = header; sections = list.sections; spelled = list.spelled; within = list.within; entries_are = refl };
+  no_fault = none;
+  header_is = refl;
+}
+
+-- Borrowed bytes do not fail.
+pub whole_refused : (name bytes : List ℕ) (fault : KrlFault) (left : Option (List ℕ)) → Says fault bytes false left → IsWholeFault name bytes (run_fault_of name (krl_cause fault))
+whole_refused name bytes fault left (ran_out is fixed works) = whole_ran_out (ap (λ (f : KrlFault). run_fault_of name (krl_cause f)) is)
+whole_refused name bytes fault left (failed_read is fails) = let failed = fails.failed_is in absurd (cc)
+whole_refused name bytes fault left (first is works) = whole_fault fault is refl

@@ -1,0 +1,115 @@
+//! A list that was read from its bytes.
+
+ghost use Rattle.std.specs.Prelude.{◌≡◌, IfErr, IfOk};
+ghost use Rattle.any_list.specs.List.{IsLinesFault, IsListFault, IsReadLines, IsReadList};
+ghost use Rattle.any_list.specs.List.{IsReadWhole, IsWholeFault, line_run_cause};
+ghost use Rattle.any_list.specs.List.{plain_run_fault, sha256_if};
+
+use byte_streams::Lent;
+use key_files::{Cause, RunFault, cause_of};
+use key_text::sha256_of;
+use krl_audit::Stated;
+use krl_core::{KrlFault, MAGIC, Revocations, read_krl};
+use plain_list::{LineCause, PlainFault, read_plain};
+use span_sets::Held;
+use std::alloc::Global;
+
+/// A list that was read: its version and date if it is no plain list, what it revokes, and the
+/// SHA-256 of its bytes if that was wanted.
+#[derive(Drop)]
+pub struct List {
+    pub stated: Option<Stated>,
+    pub revocations: Revocations<Held>,
+    pub sha256: Option<[u8; 32]>,
+}
+
+/// Reads the list of this name from its bytes, or says why it is refused. As sshd(8) does, it takes
+/// bytes that do not begin as a key revocation list for a plain list. The SHA-256 is taken only if
+/// the list is to be hashed.
+pub fn read_list<'a>(
+    alloc: Global,
+    name: &'a str,
+    bytes: &[u8],
+    hashed: bool,
+) -> Result<List, RunFault<'a>>
+    ensures found { IfOk result (λ list. IsReadList hashed bytes.now list) }
+    ensures fault { IfErr result (λ stop. IsListFault name.now bytes.now stop) }
+{
+    if bytes.starts_with(MAGIC) {
+        read_whole(alloc, name, bytes, hashed)
+    } else {
+        read_lines(alloc, name, bytes, hashed)
+    }
+}
+
+// Reads a key revocation list.
+fn read_whole<'a>(
+    alloc: Global,
+    name: &'a str,
+    bytes: &[u8],
+    hashed: bool,
+) -> Result<List, RunFault<'a>>
+    ensures found { IfOk result (λ list. IsReadWhole hashed bytes.now list) }
+    ensures fault { IfErr result (λ stop. IsWholeFault name.now bytes.now stop) }
+{
+    let (read, _lent) = read_krl::<Held, _>(alloc, Lent::new(bytes));
+    match read {
+        Ok((header, revocations)) => Ok(List {
+            stated: Some(Stated {
+                version: header.version,
+                generated: header.date,
+            }),
+            revocations,
+            sha256: sha256_if(hashed, bytes),
+        }),
+        Err(fault) => Err(RunFault::whole(name, cause_of(fault))),
+    }
+}
+
+// Reads a plain list.
+fn read_lines<'a>(
+    alloc: Global,
+    name: &'a str,
+    bytes: &[u8],
+    hashed: bool,
+) -> Result<List, RunFault<'a>>
+    ensures found { IfOk result (λ list. IsReadLines hashed bytes.now list) }
+    ensures fault { IfErr result (λ stop. IsLinesFault name.now bytes.now stop) }
+{
+    match read_plain::<Held>(alloc, bytes) {
+        Ok(revocations) => Ok(List {
+            stated: None,
+            revocations,
+            sha256: sha256_if(hashed, bytes),
+        }),
+        Err(fault) => Err(plain_fault(name, fault)),
+    }
+}
+
+// The SHA-256 of a list, if it is to be hashed.
+fn sha256_if(hashed: bool, bytes: &[u8]) -> Option<[u8; 32]>
+    ensures { result ≡ sha256_if hashed bytes.now }
+{
+    if hashed { Some(sha256_of(bytes)) } else { None }
+}
+
+// Why a run stops at a fault of a plain list.
+fn plain_fault<'a>(name: &'a str, fault: PlainFault) -> RunFault<'a>
+    ensures { result ≡ plain_run_fault name.now fault }
+{
+    match fault {
+        PlainFault::Line { number, cause } => RunFault::at_line(name, number, line_cause(cause)),
+        PlainFault::TooLong => RunFault::whole(name, Cause::Krl(KrlFault::TooLong)),
+        PlainFault::NoMemory => RunFault::whole(name, Cause::NoMemory),
+    }
+}
+
+// The cause of a line that is refused.
+fn line_cause(cause: LineCause) -> Cause
+    ensures { result ≡ line_run_cause cause }
+{
+    match cause {
+        LineCause::Line(fault) => Cause::Line(fault),
+        LineCause::Subject(fault) => Cause::Subject(fault),
+    }
+}

@@ -1,0 +1,73 @@
+-- The end of a check.
+use Rattle.std.proofs.Common.{◌≡◌, ℕ, ◌||◌, Bool, List, [], ◌∷◌, ◌++◌, Option, Some, None, Result, Ok, Err, refl, ap, ◌∙◌}
+use Rattle.std.specs.Prelude.{OnOk, is_some}
+use Rattle.std.specs.Result.{result_err}
+use Rattle.key_files.specs.RunFault.{RunFault}
+use Rattle.key_listing.specs.Carries.{Carries, Reaches}
+use Rattle.key_listing.specs.Printer.{HasSaid, Printer}
+use Rattle.key_listing.specs.Run.{Answered, Item, Passed, Stopped, outcome_of}
+use Rattle.key_listing.proofs.RunParts.{carries_more}
+use Rattle.krl_audit.specs.declared.why.Refusal.{Refusal}
+use Rattle.krl_checker.specs.Check.{EndsCheck, check_status}
+use Rattle.check_run.specs.Files.{Named}
+use Rattle.check_run.specs.Run.{ChecksAll, EndsChecked}
+use Rattle.check_run.specs.declared.given.Conditions.{Conditions}
+use Rattle.check_run.specs.declared.lists.Other.{Other}
+
+some_is : {A : Type 0} (x : A) → Some x ≡ None → ⊥
+some_is x is = cc
+
+-- a run with one more stop has one
+never_none : (run : List Item) (stop : RunFault) → (outcome_of (run ++ Stopped stop ∷ [])).stop ≡ None → ⊥
+never_none [] stop is = some_is stop is
+never_none (Answered name answer ∷ items) stop is = never_none items stop is
+never_none (Passed name ∷ items) stop is = never_none items stop is
+never_none (Stopped other ∷ items) stop is = some_is other is
+
+-- How a check ends, whatever it printed before.
+abbrev EndsAny : Result (Unit {0}) RunFault → Printer → Bool → Bool → Option (List ℕ) → Bool → ℕ → Option RunFault → Type 0
+EndsAny result mid refused unread taken failed status fault =
+    (before : Option (List ℕ)) (run : List Item) → Reaches before run (result_err result) mid → EndsCheck run refused unread before taken failed status fault
+
+-- A stop is reported: the end is also that of a run with one more stop after the first one.
+stop_is_kept : (items : List Item) (result : Result (Unit {0}) RunFault) (old mid : Printer) (before taken : Option (List ℕ)) (refused unread failed : Bool) (status : ℕ) (fault : Option RunFault)
+    → Carries items result old mid → HasSaid before [] old → EndsAny result mid refused unread taken failed status fault → fault ≡ None → result_err result ≡ None
+stop_is_kept items (Ok done) old mid before taken refused unread failed status fault carries has ends is = refl
+stop_is_kept items (Err stop) old mid before taken refused unread failed status None carries has ends is =
+    let more = carries_more {A = Unit {0}} {B = Unit {0}} items (Stopped stop ∷ []) stop old mid carries in
+    let ended = ends before (items ++ Stopped stop ∷ []) (more.says before [] has) in
+    absurd (never_none items stop ended.ends.0.reported)
+stop_is_kept items (Err stop) old mid before taken refused unread failed status (Some fault) carries has ends is = absurd (some_is fault is)
+
+ends_as : (result : Result (Unit {0}) RunFault) (items : List Item) (refused unread fails some : Bool) (before taken : Option (List ℕ)) (failed : Bool) (status : ℕ) (fault : Option RunFault)
+    → OnOk result (refused ≡ fails) → OnOk result (unread ≡ some) → (fault ≡ None → result_err result ≡ None) → EndsCheck items refused unread before taken failed status fault → EndsCheck items fails some before taken failed status fault
+ends_as (Ok done) items refused unread fails some before taken failed status fault refused_is unread_is kept ends = record {
+  plain = ends.plain;
+  ends = ends.ends;
+  status_is = ends.status_is ∙ (ap (λ (u : Bool). check_status (is_some fault || u) refused) unread_is ∙ ap (λ (r : Bool). check_status (is_some fault || some) r) refused_is);
+}
+ends_as (Err stop) items refused unread fails some before taken failed status None refused_is unread_is kept ends = absurd (some_is stop (kept refl))
+ends_as (Err stop) items refused unread fails some before taken failed status (Some fault) refused_is unread_is kept ends = record { plain = ends.plain; ends = ends.ends; status_is = ends.status_is }
+
+all_reached : (result : Result (Unit {0}) RunFault) (later : List Named) → result_err result ≡ None → OnOk result (later ≡ []) → later ≡ []
+all_reached (Ok done) later is all = all
+all_reached (Err stop) later is all = absurd (some_is stop is)
+
+pub ended : (Knows : List ℕ → Result (List ℕ) Refusal → Type 0) (name bytes : List ℕ) (conditions : Conditions) (other : Option Other) (result : Result (Unit {0}) RunFault) (old mid : Printer) (before taken : Option (List ℕ)) (refused unread failed : Bool) (status : ℕ) (fault : Option RunFault)
+    → ChecksAll Knows name bytes conditions other result old mid refused unread → HasSaid before [] old → EndsAny result mid refused unread taken failed status fault → EndsChecked Knows name bytes conditions other before taken failed status fault
+ended Knows name bytes conditions other result old mid before taken refused unread failed status fault all has ends =
+    let kept : fault ≡ None → result_err result ≡ None = stop_is_kept all.items result old mid before taken refused unread failed status fault all.checks.carries has ends in
+    record {
+      items = all.items;
+      fails = all.fails;
+      unread = all.some;
+      later = all.later;
+      is = all.is;
+      ends = ends_as result all.items refused unread all.fails all.some before taken failed status fault all.checks.refused all.unread_is kept (ends before all.items (all.checks.carries.says before [] has));
+      all = λ none. all_reached result all.later (kept none) all.all;
+    }
+
+-- The final state of the printer's writer is that of the writer.
+pub ended_there : (Knows : List ℕ → Result (List ℕ) Refusal → Type 0) (name bytes : List ℕ) (conditions : Conditions) (other : Option Other) (before taken taken' : Option (List ℕ)) (failed failed' : Bool) (status : ℕ) (fault : Option RunFault)
+    → EndsChecked Knows name bytes conditions other before taken failed status fault → taken' ≡ taken → failed' ≡ failed → EndsChecked Knows name bytes conditions other before taken' failed' status fault
+ended_there Knows name bytes conditions other before taken taken' failed failed' status fault ends is_taken is_failed = rw (is_taken, is_failed) ends

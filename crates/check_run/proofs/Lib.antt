@@ -1,0 +1,5 @@
+pub mod Checking
+pub mod KeyFiles
+pub mod Formats
+pub mod Judging
+pub mod Ending

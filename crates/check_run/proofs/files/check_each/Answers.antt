@@ -1,0 +1,52 @@
+-- Each file continues the check, or stops it.
+use Rattle.std.proofs.Common.{refl, ℕ, ◌∙◌, ◌+◌, ◌++◌, ◌∷◌, get_or, take, drop, List, Ok, Err, []}
+use Rattle.std.specs.Borrow.{Bor}
+use Rattle.std.proofs.lemmas.List.{get_or_default, take_all}
+use Rattle.std.proofs.lemmas.Result.{err_from_is_err_and}
+use Rattle.krl_entries.specs.Reasons.{reasons_of}
+use Rattle.check_run.specs.Files.{named, named_all}
+use Rattle.check_run.proofs.KeyFiles.{files_stop, files_then, named_more, named_none, named_split, no_file}
+use Rattle.check_run.proofs.files.check_each.Goals as goal
+
+-- the name where there is no name
+abbrev nobody : Bor (List ℕ)
+nobody = record { ref_ptr = (0, 0); now = [] }
+
+pub loop-name-init : goal.loop-name-init
+loop-name-init g c = record { checks = λ entries means. rw (named_none c.args.role) (no_file (g.F.Files.states c.args.files.now) (reasons_of entries) _ _ _); list = refl }
+
+pub returns-in_err-check_file-clause-checks : goal.returns-in_err-check_file-clause-checks
+returns-in_err-check_file-clause-checks g c =
+    let p = err_from_is_err_and c.from_residual.result c.from_residual.ensures.1 in
+    let Knows = g.F.Files.states c.args.files.now in
+    let role = c.args.role in
+    let names = c.args.names.now in
+    let i = c.loop-name.name-index in
+    let checks = rw c.loop-name.invariant.list at c.in_err-check_file.ensures.checks in
+    let name = get_or names i nobody in
+    let is = get_or_default names i nobody name c.loop-name-test.true in
+    let stop = c.in_err-check_file.field-0.0 in
+    rw (p.1, p.2) (λ entries means.
+    let front = files_then Knows (reasons_of entries) (named_all role (take i names)) (named role name.now ∷ []) (tt {0}) (Err stop) _ _ _ _ _ _ _ _ _ (c.loop-name.invariant.checks entries means) (checks entries means) in
+    rw (named_split role names (i + 1), named_more role names i name c.loop-name-test.true is)
+    (files_stop Knows (reasons_of entries) (named_all role (take i names) ++ named role name.now ∷ []) (named_all role (drop (i + 1) names)) stop _ _ _ _ _ _ _ _ front))
+
+pub loop-name-preserved : goal.loop-name-preserved
+loop-name-preserved g c =
+    let Knows = g.F.Files.states c.args.files.now in
+    let role = c.args.role in
+    let names = c.args.names.now in
+    let i = c.loop-name.name-index in
+    let checks = rw c.loop-name.invariant.list at c.in_ok-check_file.ensures.checks in
+    let name = get_or names i nobody in
+    let is = get_or_default names i nobody name c.loop-name-test.true in
+    record {
+      checks = λ entries means.
+          rw (named_more role names i name c.loop-name-test.true is)
+          (files_then Knows (reasons_of entries) (named_all role (take i names)) (named role name.now ∷ []) (tt {0}) (Ok (tt {0})) _ _ _ _ _ _ _ _ _ (c.loop-name.invariant.checks entries means) (checks entries means));
+      list = c.in_ok-check_file.ensures.list ∙ c.loop-name.invariant.list;
+    }
+
+pub returns-clause-checks : goal.returns-clause-checks
+returns-clause-checks g c = λ entries means.
+    rw (take_all c.loop-name.name-index c.args.names.now c.loop-name-test.false) at (c.loop-name.invariant.checks entries means)

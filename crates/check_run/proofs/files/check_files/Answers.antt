@@ -1,0 +1,18 @@
+-- The files to be kept are checked, and then the canaries.
+use Rattle.std.proofs.lemmas.Result.{err_from_is_err_and}
+use Rattle.krl_entries.specs.Reasons.{reasons_of}
+use Rattle.krl_checker.specs.declared.role.Role.TheVariants.{Canary, Keep}
+use Rattle.check_run.specs.Files.{named_all}
+use Rattle.check_run.proofs.KeyFiles.{files_stop, files_then}
+use Rattle.check_run.proofs.files.check_files.Goals as goal
+
+pub returns-in_err-check_each : goal.returns-in_err-check_each
+returns-in_err-check_each g c =
+    let p = err_from_is_err_and c.from_residual.result c.from_residual.ensures.1 in
+    rw (p.1, p.2) (λ entries means.
+    files_stop (g.F.Files.states c.args.files.now) (reasons_of entries) (named_all Keep c.args.keep.now) (named_all Canary c.args.canary.now) c.in_err-check_each.field-0.0 _ _ _ _ _ _ _ _ (c.in_err-check_each.ensures.checks entries means))
+
+pub returns : goal.returns
+returns g c = λ entries means.
+    let second = rw c.in_ok-check_each.ensures.list at c.check_each-2.ensures.checks in
+    files_then (g.F.Files.states c.args.files.now) (reasons_of entries) (named_all Keep c.args.keep.now) (named_all Canary c.args.canary.now) (tt {0}) _ _ _ _ _ _ _ _ _ _ (c.in_ok-check_each.ensures.checks entries means) (second entries means)

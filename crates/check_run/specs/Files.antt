@@ -1,0 +1,79 @@
+-- The conditions for the keys of files.
+use Rattle.std.specs.Borrow.{Bor}
+use Rattle.std.specs.Prelude.{◌≡◌, ℕ, ◌||◌, not, Bool, List, [], ◌++◌, map, OnOk, Result, Ok}
+use Rattle.std.specs.Prelude.{Err, is_err}
+use Rattle.std.specs.List.{AllByRecursion, flat_map, list_any}
+use Rattle.key_files.specs.RunFault.{RunFault}
+use Rattle.key_listing.specs.Printer.{Printer}
+use Rattle.key_listing.specs.Run.{Item, Passed}
+use Rattle.krl_types.specs.Subject.{Subject}
+use Rattle.krl_entries.specs.declared.reasons.Reasons.{Reasons}
+use Rattle.krl_audit.specs.declared.why.Refusal.{Refusal}
+use Rattle.krl_checker.specs.Check.{counts_of, keys_items}
+use Rattle.krl_checker.specs.Role.{is_met}
+use Rattle.krl_checker.specs.declared.role.Role.{Role}
+use Rattle.check_run.specs.Lists.{Checks}
+
+-- a file that the user names, and what the list must do to its keys
+pub record Named : Type 0 where
+  pub role : Role
+  pub name : List ℕ
+
+abbrev pub named : Role → List ℕ → Named
+named role name = record { role = role; name = name }
+
+unfoldable pub named_all : Role → List (Bor (List ℕ)) → List Named
+named_all role names = map (λ (name : Bor (List ℕ)). named role name.now) names
+
+-- A file that was read: its content, or why it has none.
+pub record Read : Type 0 where
+  pub file : Named
+  pub content : Result (List ℕ) Refusal
+
+-- what was read into a buffer
+abbrev pub content_read : Result (Unit {0}) Refusal → List ℕ → Result (List ℕ) Refusal
+content_read (Ok done) text = Ok text
+content_read (Err refusal) text = Err refusal
+
+-- The files up to some file were read, and these are their contents. The later ones were not read.
+pub record AreRead (Knows : List ℕ → Result (List ℕ) Refusal → Type 0) (files : List Named)
+    (reads : List Read) (later : List Named) : Type 0 where
+  pub files_are : files ≡ map (λ (read : Read). read.file) reads ++ later
+  pub known : AllByRecursion (λ (read : Read). Knows read.file.name read.content) reads
+
+-- ---- what is printed, and what fails
+
+abbrev pub read_items : (Subject → Reasons) → Read → List Item
+read_items reasons read = keys_items read.file.role reasons read.file.name read.content
+
+abbrev pub read_fails : (Subject → Reasons) → Read → Bool
+read_fails reasons read =
+    not (is_met read.file.role (counts_of reasons read.file.name read.content))
+
+abbrev pub is_unread : Read → Bool
+is_unread read = is_err read.content
+
+-- nothing is printed for a file that was not reached
+abbrev pub passed : Named → Item
+passed file = Passed file.name
+
+unfoldable pub reads_items : (Subject → Reasons) → List Read → (later : List Named) → List Item
+reads_items reasons reads later = flat_map (read_items reasons) reads ++ map passed later
+
+unfoldable pub reads_fail : (Subject → Reasons) → List Read → Bool
+reads_fail reasons reads = list_any (read_fails reasons) reads
+
+unfoldable pub some_unread : List Read → Bool
+some_unread reads = list_any is_unread reads
+
+-- The keys of the files were checked, or the check was stopped within them.
+pub record ChecksFiles (Knows : List ℕ → Result (List ℕ) Refusal → Type 0)
+    (reasons : Subject → Reasons) (files : List Named) (result : Result (Unit {0}) RunFault)
+    (old new : Printer) (before after : Bool) (unread_before unread_after : Bool) : Type 0 where
+  pub reads : List Read
+  pub later : List Named
+  pub are_read : AreRead Knows files reads later
+  pub checks : Checks (reads_items reasons reads later) (reads_fail reasons reads) result old new
+      before after
+  pub unread : OnOk result (unread_after ≡ (unread_before || some_unread reads))
+  pub all : OnOk result (later ≡ [])

@@ -1,0 +1,149 @@
+-- The conditions for the list itself.
+use Rattle.std.specs.Borrow.{Bor}
+use Rattle.std.specs.Prelude.{◌≡◌, ℕ, ◌||◌, ◌&&◌, nat_lt, not, Bool, true, false, List, [], ◌∷◌}
+use Rattle.std.specs.Prelude.{Option, Some, None, Result, Ok, Err, OnOk, is_some, option_map}
+use Rattle.key_files.specs.RunFault.{RunFault, run_fault_of}
+use Rattle.key_files.specs.declared.cause.Cause.{Cause}
+use Rattle.key_listing.specs.Carries.{Carries}
+use Rattle.key_listing.specs.Printer.{Printer}
+use Rattle.key_listing.specs.Run.{Item, said_of}
+use Rattle.krl_format.specs.Front.{start}
+use Rattle.krl_format.specs.declared.header.Header.{Header}
+use Rattle.krl_types.specs.Entry.{Entry}
+use Rattle.krl_audit.specs.declared.done.Stated.{Stated}
+use Rattle.krl_openssh.specs.Difference.{first_difference}
+use Rattle.krl_openssh.specs.Fields.{HasFields}
+use Rattle.krl_openssh.specs.declared.difference.Difference.{Difference}
+use Rattle.krl_checker.specs.Check.{age_items, difference_items, is_fresh, said_where}
+use Rattle.krl_checker.specs.Check.{version_items}
+use Rattle.krl_checker.specs.Text.{empty_line, plain_line}
+use Rattle.krl_checker.specs.declared.plain.PlainRefusal.TheVariants as refusals
+use Rattle.plain_list.specs.Any.{Names, begins_list}
+use Rattle.any_list.specs.List.{IsListFault, IsReadList, stated_in}
+use Rattle.check_run.specs.declared.lists.Given.{Given}
+use Rattle.check_run.specs.declared.lists.Other.{Other}
+use Rattle.check_run.specs.declared.given.AgeLimit.{AgeLimit}
+use Rattle.check_run.specs.declared.given.ListFile.{ListFile}
+
+abbrev pub version_of : Option Stated → Option ℕ
+version_of (Some stated) = Some stated.version
+version_of None = None
+
+-- ---- a list, by the content of its file
+
+-- The bytes were not read for this cause, or are refused as a list for this fault.
+abbrev pub IsRefusedAs : List ℕ → Result (Bor (List ℕ)) Cause → RunFault → Type 0
+IsRefusedAs name (Ok bytes) stop = IsListFault name bytes.now stop
+IsRefusedAs name (Err cause) stop = stop ≡ run_fault_of name cause
+
+abbrev pub IsRefused : ListFile → RunFault → Type 0
+IsRefused file = IsRefusedAs file.name.now file.content
+
+-- The list was read from these bytes of its file.
+pub record IsGiven (file : ListFile) (given : Given) : Type 0 where
+  pub name_is : given.name.now ≡ file.name.now
+  pub content_is : file.content ≡ Ok given.bytes
+  pub read : IsReadList false given.bytes.now given.list
+
+-- the version and the date of a list; a plain list has neither
+abbrev pub stated_by : Option Header → Option Stated
+stated_by header = option_map stated_in header
+
+-- The other list has this name and this version.
+pub record IsOther (file : ListFile) (other : Other) : Type 0 where
+  pub bytes : Bor (List ℕ)
+  pub header : Option Header
+  pub entries : List Entry
+  pub content_is : file.content ≡ Ok bytes
+  pub names : Names bytes.now header entries
+  pub name_is : other.name.now ≡ file.name.now
+  pub version_is : other.version ≡ version_of (stated_by header)
+
+abbrev pub IsOtherOf : Option ListFile → Option Other → Type 0
+IsOtherOf None other = other ≡ None
+IsOtherOf (Some file) None = ⊥
+IsOtherOf (Some file) (Some other) = IsOther file other
+
+abbrev pub IsOtherRefused : Option ListFile → RunFault → Type 0
+IsOtherRefused None stop = ⊥
+IsOtherRefused (Some file) stop = IsRefused file stop
+
+-- ---- a condition
+
+-- Exactly these items were printed, and the condition failed or held; or the check was stopped.
+pub record Checks (items : List Item) (fails : Bool) (result : Result (Unit {0}) RunFault)
+    (old new : Printer) (before after : Bool) : Type 0 where
+  pub carries : Carries items result old new
+  pub refused : OnOk result (after ≡ (before || fails))
+
+-- ---- the format
+
+-- The first difference of a key revocation list for OpenSSH. A plain list that is read has none.
+abbrev pub IsDifferenceIf : Bool → List ℕ → Option Difference → Type 0
+IsDifferenceIf true bytes difference =
+    (fields : List (List ℕ))
+    × (HasFields bytes fields × (difference ≡ first_difference start.place fields))
+IsDifferenceIf false bytes difference = difference ≡ None
+
+abbrev pub IsDifference : List ℕ → Option Difference → Type 0
+IsDifference bytes difference = IsDifferenceIf (begins_list bytes) bytes difference
+
+-- The format of a list was checked.
+pub record ChecksFormat (name bytes : List ℕ) (result : Result (Unit {0}) RunFault)
+    (old new : Printer) (before after : Bool) : Type 0 where
+  pub difference : Option Difference
+  pub is : IsDifference bytes difference
+  pub checks : Checks (difference_items name difference) (is_some difference) result old new before
+      after
+
+-- ---- lists that revoke nobody
+
+abbrev pub empty_fails : (nobody allow_empty : Bool) → Bool
+empty_fails nobody allow_empty = not allow_empty && nobody
+
+abbrev pub empty_said : List ℕ → (nobody allow_empty : Bool) → List Item
+empty_said name nobody allow_empty =
+    said_where (empty_fails nobody allow_empty) name (empty_line name)
+
+-- ---- the version
+
+-- a plain list has no version
+abbrev pub no_version : List ℕ → List Item
+no_version name = said_of name (plain_line name refusals.NoVersion) ∷ []
+
+abbrev pub items_beside : List ℕ → Option ℕ → (other : List ℕ) → Option ℕ → List Item
+items_beside name (Some version) other (Some least) = version_items name version least
+items_beside name (Some version) other None = no_version other
+items_beside name None other least = no_version name
+
+abbrev pub versions_items : List ℕ → Option ℕ → Option Other → List Item
+versions_items name version None = []
+versions_items name version (Some other) = items_beside name version other.name.now other.version
+
+abbrev pub fails_beside : Option ℕ → Option ℕ → Bool
+fails_beside (Some version) (Some least) = nat_lt version least
+fails_beside (Some version) None = true
+fails_beside None least = true
+
+abbrev pub versions_fail : Option ℕ → Option Other → Bool
+versions_fail version None = false
+versions_fail version (Some other) = fails_beside version other.version
+
+-- ---- the age
+
+-- a plain list has no date
+abbrev pub limited_items : List ℕ → Option Stated → AgeLimit → List Item
+limited_items name (Some stated) limit = age_items name stated.generated limit.now limit.max_age
+limited_items name None limit = said_of name (plain_line name refusals.NoDate) ∷ []
+
+abbrev pub ages_items : List ℕ → Option Stated → Option AgeLimit → List Item
+ages_items name stated None = []
+ages_items name stated (Some limit) = limited_items name stated limit
+
+abbrev pub limit_fails : Option Stated → AgeLimit → Bool
+limit_fails (Some stated) limit = not (is_fresh stated.generated limit.now limit.max_age)
+limit_fails None limit = true
+
+abbrev pub ages_fail : Option Stated → Option AgeLimit → Bool
+ages_fail stated None = false
+ages_fail stated (Some limit) = limit_fails stated limit

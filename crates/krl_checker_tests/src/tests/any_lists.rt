@@ -1,0 +1,48 @@
+//! Lists in either form.
+
+use any_list::read_list;
+use key_files::Cause;
+use key_text::{LineFault, sha256_of};
+use krl_types::KrlFault;
+use std::alloc::Global;
+use test_fixtures::{GITHUB_LINE, HEADER};
+
+/// The version of a list that these bytes are, if they are one that has a version.
+fn version_of(alloc: Global, bytes: &[u8]) -> Option<u64> {
+    match read_list(alloc, "revoked.krl", bytes, false) {
+        Ok(list) => Some(list.stated?.version),
+        Err(_) => None,
+    }
+}
+
+// The bytes of a list, and how many keys it revokes, or the number of its line and why it is
+// refused.
+const LISTS: [(&[u8], Result<usize, (Option<u64>, Cause)>); 5] = [
+    (&HEADER, Ok(0)),
+    (GITHUB_LINE, Ok(1)),
+    (b"", Ok(0)),
+    (b"SSHKRL\n\0", Err((None, Cause::Krl(KrlFault::EndsEarly)))),
+    (
+        b"# c\nSSHKRL\n",
+        Err((Some(2), Cause::Line(LineFault::NoKey))),
+    ),
+];
+
+#[test]
+fn either_form(rt: HostRuntime) {
+    let alloc = rt.alloc();
+    for (i, (bytes, wanted)) in LISTS.iter().enumerate() {
+        let right = match (read_list(alloc, "l", bytes, true), wanted) {
+            (Ok(list), Ok(keys)) => {
+                list.revocations.keys() == *keys && list.sha256 == Some(sha256_of(bytes))
+            }
+            (Err(fault), Err((line, cause))) => {
+                fault.name == "l" && fault.line == *line && fault.cause == *cause
+            }
+            _ => false,
+        };
+        assert!(rt; right, "in case {i}");
+    }
+    assert!(rt; version_of(alloc, &HEADER) == Some(1));
+    assert!(rt; version_of(alloc, GITHUB_LINE).is_none());
+}
