@@ -1,4 +1,3 @@
-pub mod Listing
 pub mod Loading
 pub mod Ending
 pub mod Whole

@@ -1,22 +1,23 @@
 //! `krl audit`: files of keys, audited by a list.
 
+ghost use Rattle.std.specs.Prelude.{◌≡◌, false, IfOk, IfSome};
+
 use crate::disk::Disk;
 use crate::ending::{end, fail_by, fail_in_words, print_line};
 use crate::list::{List, read_list};
-use crate::rounds::Rounds;
 use crate::screen::{Screen, has_colours};
-use crate::stop::Stop;
-use audit_tree::push_summary;
-use byte_streams::{FromRead, Sink};
-use key_files::{Cause, FileFault, RunFault};
+use audit_run::{Given, Order, Queried, audit_by};
+use audit_tree::{Summary, push_summary};
+use byte_streams::{FromRead, Sink, Source};
+use key_files::FileFault;
 use key_listing::{Printer, Run};
 use krl_arguments::Audit;
-use krl_audit::{Auditor, Counts, FileCounts, Form, Judge, ListFacts, Shown, Stated};
+use krl_audit::{Auditor, Counts, Form, Judge, Shown, Stated};
 use krl_authority::authorities_are_keys;
 use krl_core::Revocations;
 use sha2::{Digest, Sha256};
 use span_sets::Held;
-use std::fs;
+use std::fs::{self, File};
 
 // Why no audit is made by a list whose authorities OpenSSH compares otherwise.
 const OTHER_AUTHORITY: &[u8] = b"a certificate authority in it is no key in its one spelling, and \
@@ -26,7 +27,7 @@ sshd may read it otherwise";
 pub fn audit(rt: &HostRuntime, task: &Audit) -> u8 {
     match read_list(rt, task.list) {
         Ok(list) if has_other_authority(&list) => fail_in_words(rt, task.list, OTHER_AUTHORITY),
-        Ok(list) => audit_by(rt, task, list),
+        Ok(list) => audit_list(rt, task, list),
         Err(fault) => fail_by(rt, fault),
     }
 }
@@ -58,7 +59,7 @@ fn known_of(task: &Audit, list: &List) -> Known {
 }
 
 // Audits what the task names by this list, of which the bytes are dropped first.
-fn audit_by(rt: &HostRuntime, task: &Audit, list: List) -> u8 {
+fn audit_list(rt: &HostRuntime, task: &Audit, list: List) -> u8 {
     let known = known_of(task, &list);
     let List {
         bytes,
@@ -66,30 +67,49 @@ fn audit_by(rt: &HostRuntime, task: &Audit, list: List) -> u8 {
         ..
     } = list;
     drop(bytes);
-    let mut screen = Screen::new(rt);
-    let mut buffer = Vec::new(rt.alloc());
-    let printer = Printer::new(&mut buffer, &mut screen);
-    let mut rounds = Rounds {
-        rt,
-        auditor: auditor_of(rt, &revocations, shown_of(rt, task), printer),
-        disk: Disk::new(rt),
-        every_file: task.every_file,
-        ends_at_revoked: task.quiet,
-        files: FileCounts::NONE,
-        revoked_files: 0,
+    let queried = Queried {
+        list: &revocations,
         stated: known.stated,
-        text: Vec::new(rt.alloc()),
+        sha256: known.sha256,
     };
-    let stop = match audit_all(&mut rounds, task, known) {
-        Ok(()) => None,
-        Err(stop) => stop.fault(),
-    };
-    rounds.auditor.run.printer.out.wipe();
-    let done = rounds.auditor.finish(stop);
-    if done.fault.is_none() {
-        print_summary(rt, &rounds);
+    match task.names_from {
+        None => audit_given(rt, task, &queried, None::<Result<FromRead<File>, FileFault>>),
+        Some("-") => audit_given(rt, task, &queried, Some(Ok(FromRead::new(rt.stdin())))),
+        Some(from) => match fs::open(rt, from) {
+            Ok(names) => audit_given(rt, task, &queried, Some(Ok(FromRead::new(names)))),
+            Err(_) => {
+                let names: Option<Result<FromRead<File>, FileFault>> = Some(Err(FileFault::Open));
+                audit_given(rt, task, &queried, names)
+            }
+        },
     }
-    end(rt, &done)
+}
+
+// The same, with the names that a reader gives, if there is one.
+fn audit_given<N: Source + Drop>(
+    rt: &HostRuntime,
+    task: &Audit,
+    queried: &Queried,
+    names: Option<Result<N, FileFault>>,
+) -> u8
+    requires { IfSome names (λ names. IfOk names (λ names. N.has_failed names ≡ false)) }
+{
+    let order = Order {
+        list: task.list,
+        shown: shown_of(rt, task),
+        every_file: task.every_file,
+        names_from: task.names_from.unwrap_or(""),
+        paths: task.files.as_slice(),
+    };
+    let disk = Disk::new(rt);
+    let given = Given { tree: &disk, names };
+    let mut screen = Screen::new(rt);
+    let audited = audit_by(rt.alloc(), &order, queried, given, &mut screen);
+    screen.wipe();
+    if audited.done.fault.is_none() {
+        print_summary(rt, &audited.summary);
+    }
+    end(rt, &audited.done)
 }
 
 /// An auditor by a list that prints by this printer and has counted nothing.
@@ -132,65 +152,11 @@ fn form_of(rt: &HostRuntime, task: &Audit) -> Form {
     }
 }
 
-// Audits all that the task names, first what a file names, and prints the last object if there is
-// one.
-fn audit_all<'t, 'a>(
-    rounds: &mut Rounds,
-    task: &'t Audit<'a>,
-    known: Known,
-) -> Result<(), Stop<'a>> {
-    if let Some(from) = task.names_from
-        && !audit_names(rounds, from)?
-    {
-        let cause = Cause::File(FileFault::Read);
-        return Err(Stop::Fault(RunFault::whole(from, cause)));
-    }
-    for name in &task.files {
-        rounds.audit_named(name)?;
-    }
-    match known.sha256 {
-        Some(sha256) => print_last(rounds, task.list, known, sha256),
-        None => Ok(()),
-    }
-}
-
-// Prints the last object of an audit by the list of this name.
-fn print_last<'a>(
-    rounds: &mut Rounds,
-    name: &'a str,
-    known: Known,
-    sha256: [u8; 32],
-) -> Result<(), Stop<'a>> {
-    let facts = ListFacts {
-        name,
-        stated: known.stated,
-        sha256,
-    };
-    match rounds.auditor.say_done(rounds.files, &facts) {
-        Ok(()) => Ok(()),
-        Err(fault) => Err(Stop::Fault(fault)),
-    }
-}
-
-// Audits the files whose names are in a file. Answers false where these cannot be read.
-fn audit_names<'a>(rounds: &mut Rounds, from: &'a str) -> Result<bool, Stop<'a>> {
-    if from == "-" {
-        return rounds.audit_listed(&mut FromRead::new(rounds.rt.stdin()));
-    }
-    match fs::open(rounds.rt, from) {
-        Ok(names) => rounds.audit_listed(&mut FromRead::new(names)),
-        Err(_) => {
-            let cause = Cause::File(FileFault::Open);
-            Err(Stop::Fault(RunFault::whole(from, cause)))
-        }
-    }
-}
-
 // Prints on standard error what was counted. Where there is no memory for the line, nothing is
 // printed.
-fn print_summary(rt: &HostRuntime, rounds: &Rounds) {
+fn print_summary(rt: &HostRuntime, summary: &Summary) {
     let mut line = Vec::new(rt.alloc());
-    if push_summary(rt.alloc(), &rounds.summary(), &mut line).is_ok() {
+    if push_summary(rt.alloc(), summary, &mut line).is_ok() {
         print_line(rt, line.as_slice());
     }
 }

@@ -1,10 +1,13 @@
 //! The file system, as an audit sees it: one place that looks at a name, and one that opens a file.
 
-use crate::loading::{open, refusal_of};
-use krl_audit::{Fronts, Refusal, is_read_by_lines};
+use crate::loading::{open, read, read_front, refusal_of};
+use audit_run::{Found, Identity, Kind, Opened, Tree, What};
+use audit_tree::path_in;
+use byte_streams::FromRead;
+use krl_audit::Refusal;
 use std::alloc::AllocError;
-use std::collections::BTreeSet;
-use std::fs::{self, File, Metadata};
+use std::cell::Cell;
+use std::fs::{self, File, Files, Metadata};
 use std::io;
 use std::os::unix::fs::MetadataExt;
 use std::time::{Duration, Instant};
@@ -12,104 +15,50 @@ use std::time::{Duration, Instant};
 // How many seconds an opening may take before no other file of the same owner is opened.
 const PATIENCE: u64 = 5;
 
-// A file by its device and its number there, and how its path says that it is read. A file that has
-// several names is audited once for each of these, since a link would otherwise hide how sshd or ssh
-// reads it.
-#[derive(Clone, Copy, PartialEq, Eq, PartialOrd, Ord)]
-struct Audited {
-    device: u64,
-    number: u64,
-    fronts: Fronts,
-    by_lines: bool,
-}
-
-/// A file that is open, and the metadata of exactly this file.
+// A file that is open, and its path.
 #[derive(Drop)]
-pub struct Opened {
-    pub file: File,
-    pub found: Metadata,
+struct Held {
+    path: String,
+    file: File,
 }
 
-/// The file system, and what an audit has found of it so far.
+/// The file system, of which nothing is claimed.
 #[derive(Drop)]
 pub struct Disk<'a> {
     rt: &'a HostRuntime,
-    // The files that were audited.
-    audited: BTreeSet<Audited>,
+    // The file that was opened last.
+    held: Cell<Option<Held>>,
     // The owners of files whose opening took long.
-    slow: Vec<u32>,
+    slow: Cell<Vec<u32>>,
 }
 
 impl<'a> Disk<'a> {
-    /// The file system, of which nothing is found yet.
+    /// The file system, in which no file is open yet.
     pub fn new(rt: &'a HostRuntime) -> Self {
         Disk {
             rt,
-            audited: BTreeSet::new(rt.alloc()),
-            slow: Vec::new(rt.alloc()),
+            held: Cell::new(None),
+            slow: Cell::new(Vec::new(rt.alloc())),
         }
     }
 
-    /// Looks at what a path leads to, or at a link itself.
-    pub fn look(&self, path: &str, followed: bool) -> Result<Metadata, Refusal> {
-        let found = if followed {
-            fs::metadata(self.rt, path)
-        } else {
-            fs::symlink_metadata(self.rt, path)
-        };
-        match found {
-            Ok(found) => Ok(found),
-            Err(error) => Err(refusal_of(&error)),
-        }
+    // Whether the owner of a file made an opening last.
+    fn is_slow(&self, owner: u32) -> bool {
+        let slow = self.slow.replace(Vec::new(self.rt.alloc()));
+        let is_slow = slow.contains(&owner);
+        self.slow.set(slow);
+        is_slow
     }
 
-    /// Why a directory that was found cannot be opened: for a link, what it leads to.
-    pub fn why_closed(&self, path: &str, refusal: Refusal) -> Refusal {
-        match self.look(path, false) {
-            Ok(found) if found.is_symlink() => {}
-            _ => return refusal,
+    // Keeps the owner of a file whose opening lasted. Root has no need to make one last.
+    fn keep_slow(&self, owner: u32, began: io::Result<Instant>) -> Result<(), AllocError> {
+        if owner == 0 || !self.lasted(began) {
+            return Ok(());
         }
-        match self.look(path, true) {
-            Ok(found) if found.is_dir() => Refusal::DirectoryLink,
-            Ok(_) => refusal,
-            Err(other) => other,
-        }
-    }
-
-    /// Opens what the command names. A pipe is waited for.
-    pub fn open_named(&self, path: &str) -> Result<Opened, Refusal> {
-        let file = open(self.rt, path)?;
-        match file.metadata() {
-            Ok(found) => Ok(Opened { file, found }),
-            Err(error) => Err(refusal_of(&error)),
-        }
-    }
-
-    /// Opens a file that was a regular one when it was looked at. Only what is one when it is open
-    /// is read. The owner of a file can make an opening last (fcntl(2), F_SETLEASE), so one that
-    /// lasted is the last one of its owner's files, unless that is root.
-    pub fn open_found(
-        &mut self,
-        path: &str,
-        looked: &Metadata,
-    ) -> Result<Result<Opened, Refusal>, AllocError> {
-        if self.slow.contains(&looked.uid()) {
-            return Ok(Err(Refusal::Slow));
-        }
-        let began = Instant::now(self.rt);
-        let opened = match self.open_named(path) {
-            Ok(opened) => opened,
-            Err(refusal) => return Ok(Err(refusal)),
-        };
-        let owner = opened.found.uid();
-        if owner != 0 && self.lasted(began) {
-            self.slow.push(owner)?;
-        }
-        if opened.found.is_file() {
-            Ok(Ok(opened))
-        } else {
-            Ok(Err(Refusal::Irregular))
-        }
+        let mut slow = self.slow.replace(Vec::new(self.rt.alloc()));
+        slow.push(owner)?;
+        self.slow.set(slow);
+        Ok(())
     }
 
     // Whether this began too long ago. Without a clock nothing did.
@@ -122,19 +71,151 @@ impl<'a> Disk<'a> {
         }
     }
 
-    /// Whether this open file is audited now for the first time, as its path says that it is read.
-    pub fn is_new(&mut self, path: &str, found: &Metadata) -> Result<bool, AllocError> {
-        let is_new = self.audited.insert(audited_as(path, found))?;
-        Ok(is_new)
+    // Opens what is at a path, and looks at exactly this file.
+    fn open_at(&self, path: &str) -> Result<(File, Metadata), Refusal> {
+        let file = open(self.rt, path)?;
+        match file.metadata() {
+            Ok(found) => Ok((file, found)),
+            Err(error) => Err(refusal_of(&error)),
+        }
+    }
+
+    // Keeps a file that is open until it is read.
+    fn hold(&self, path: &str, file: File, found: &Metadata) -> Result<Opened, AllocError> {
+        let path = String::from_str(self.rt.alloc(), path)?;
+        self.held.set(Some(Held { path, file }));
+        Ok(Opened {
+            is_file: found.is_file(),
+            identity: Identity {
+                device: found.dev(),
+                number: found.ino(),
+            },
+        })
+    }
+
+    // Reads the file that is open, if it was opened at this path.
+    fn read_held(
+        &self,
+        what: What,
+        path: &str,
+        text: &mut Vec<u8>,
+    ) -> Result<Result<(), Refusal>, AllocError> {
+        let Some(held) = self.held.take() else {
+            return Ok(Err(Refusal::Read));
+        };
+        if held.path.as_str() != path {
+            return Ok(Err(Refusal::Read));
+        }
+        if what != What::Front {
+            return read(&mut FromRead::new(held.file), text);
+        }
+        let mut held = held;
+        let done = read_front(&mut held.file, text)?;
+        self.held.set(Some(held));
+        Ok(done)
+    }
+
+    // Why a directory that was found cannot be entered: for a link, what it leads to.
+    fn why_closed(&self, path: &str, refusal: Refusal) -> Refusal {
+        match self.look(path, false) {
+            Ok(found) if found.kind == Kind::Link => {}
+            _ => return refusal,
+        }
+        match self.look(path, true) {
+            Ok(found) if found.kind == Kind::Directory => Refusal::DirectoryLink,
+            Ok(_) => refusal,
+            Err(other) => other,
+        }
     }
 }
 
-// A file, as its path says that it is read.
-fn audited_as(path: &str, found: &Metadata) -> Audited {
-    Audited {
-        device: found.dev(),
-        number: found.ino(),
-        fronts: Fronts::of(path.as_bytes()),
-        by_lines: is_read_by_lines(path.as_bytes()),
+impl<'a> Tree for Disk<'a> {
+    ghost use Rattle.audit_run.specs.Fact.{Fact};
+
+    type Names = FromRead<<HostRuntime as Files>::Dir>;
+
+    ghost states = { λ _ _. ⊤ };
+
+    fn look(&self, path: &str, followed: bool) -> Result<Found, Refusal> {
+        let found = if followed {
+            fs::metadata(self.rt, path)
+        } else {
+            fs::symlink_metadata(self.rt, path)
+        };
+        match found {
+            Ok(found) => Ok(Found {
+                kind: kind_of(&found),
+                owner: found.uid(),
+            }),
+            Err(error) => Err(refusal_of(&error)),
+        }
+    }
+
+    // The owner of a file can make its opening last (fcntl(2), F_SETLEASE), so one that lasted is
+    // the last one of its owner's files, unless that is root.
+    fn open(
+        &self,
+        path: &str,
+        looked: Option<Found>,
+    ) -> Result<Result<Opened, Refusal>, AllocError> {
+        if let Some(found) = looked
+            && self.is_slow(found.owner)
+        {
+            return Ok(Err(Refusal::Slow));
+        }
+        let began = Instant::now(self.rt);
+        let (file, found) = match self.open_at(path) {
+            Ok(opened) => opened,
+            Err(refusal) => return Ok(Err(refusal)),
+        };
+        if looked.is_some() {
+            self.keep_slow(found.uid(), began)?;
+        }
+        Ok(Ok(self.hold(path, file, &found)?))
+    }
+
+    fn read(
+        &self,
+        what: What,
+        path: &str,
+        text: &mut Vec<u8>,
+    ) -> Result<Result<(), Refusal>, AllocError> {
+        match what {
+            What::Input => read(&mut FromRead::new(self.rt.stdin()), text),
+            What::Front | What::Whole => self.read_held(what, path, text),
+        }
+    }
+
+    // A link to a directory is followed where it has a slash at its end, which one gets that is
+    // named.
+    fn enter(&self, path: &str, named: bool) -> Result<Result<Self::Names, Refusal>, AllocError> {
+        let with_slash = path_in(self.rt.alloc(), path, "")?;
+        let opened = if named { with_slash.as_str() } else { path };
+        match self.rt.open_dir(opened) {
+            Ok(directory) => Ok(Ok(FromRead::new(directory))),
+            Err(error) if named => Ok(Err(refusal_of(&error))),
+            Err(error) => Ok(Err(self.why_closed(path, refusal_of(&error)))),
+        }
+    }
+
+    fn why_broken(&self, path: &str, named: bool, _names: &Self::Names) -> Refusal {
+        if named {
+            Refusal::Read
+        } else {
+            self.why_closed(path, Refusal::Read)
+        }
+    }
+}
+
+// What was found at a path.
+fn kind_of(found: &Metadata) -> Kind {
+    if found.is_dir() {
+        Kind::Directory
+    } else if found.is_file() {
+        Kind::File
+    } else if found.is_symlink() {
+        Kind::Link
+    } else {
+        Kind::Other
     }
 }

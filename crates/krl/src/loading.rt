@@ -6,7 +6,6 @@ ghost use Rattle.std.specs.Io.KnownBytes.{Consumes};
 ghost use Rattle.krl.specs.Loading.{IsRead};
 
 use byte_streams::{FromRead, Source};
-use key_text::is_container;
 use krl_audit::Refusal;
 use std::alloc::AllocError;
 use std::fs::{self, File};
@@ -39,8 +38,7 @@ pub fn open(rt: &HostRuntime, path: &str) -> Result<File, Refusal> {
 
 /// Replaces the content of a buffer by the bytes of a reader, or says why they are not all read: it
 /// failed, or it has too many. Fails only if an allocation for more bytes than the buffer has room
-/// for fails. Never inlined, since a caller enters directories in directories.
-#[inline(never)]
+/// for fails.
 pub fn read<R: Source>(
     reader: &mut R,
     text: &mut Vec<u8>,
@@ -67,18 +65,24 @@ pub fn read<R: Source>(
     Ok(Err(Refusal::TooLong))
 }
 
-/// Whether a file begins as a private key file does. It is read from its start afterwards.
-pub fn begins_private(file: &mut File) -> Result<bool, Refusal> {
+/// Replaces the content of a buffer by the first bytes of a file, which show whether it begins as a
+/// private key file, or says why they cannot be read. The file is read from its start afterwards.
+pub fn read_front(file: &mut File, text: &mut Vec<u8>) -> Result<Result<(), Refusal>, AllocError> {
     let mut front = [0u8; FRONT];
-    let count = read_front(&mut FromRead::new(&mut *file), &mut front)?;
+    let count = match fill_front(&mut FromRead::new(&mut *file), &mut front) {
+        Ok(count) => count,
+        Err(refusal) => return Ok(Err(refusal)),
+    };
+    text.clear();
+    text.extend_from_slice(&front[..count])?;
     match file.seek(SeekFrom::Start(0)) {
-        Ok(_) => Ok(is_container(&front[..count])),
-        Err(_) => Err(Refusal::Read),
+        Ok(_) => Ok(Ok(())),
+        Err(_) => Ok(Err(Refusal::Read)),
     }
 }
 
 // Fills a buffer with the first bytes of a reader, and returns how many there are.
-fn read_front<R: Source>(reader: &mut R, front: &mut [u8; FRONT]) -> Result<usize, Refusal>
+fn fill_front<R: Source>(reader: &mut R, front: &mut [u8; FRONT]) -> Result<usize, Refusal>
     ensures { IfOk result (λ count. count ≤ 64) }
 {
     let mut count = 0;

@@ -7,10 +7,7 @@ mod disk;
 mod ending;
 mod list;
 mod loading;
-mod rounds;
 mod screen;
-mod stop;
-mod walk;
 
 use crate::audit::audit;
 use crate::check::check;

@@ -2,6 +2,7 @@
 
 ghost use Rattle.std.specs.Prelude.{◌≡◌};
 
+use audit_run::Screen as Shows;
 use audit_tree::{Summary, push_progress, push_wipe};
 use byte_streams::{Failed, Sink, ToWrite, send};
 use std::env::{self, VarError};
@@ -64,31 +65,6 @@ impl<'a> Screen<'a> {
         }
     }
 
-    /// Shows how far the run is, after its first second.
-    pub fn show(&mut self, summary: &Summary) {
-        let Some(next) = self.next else {
-            return;
-        };
-        let Ok(now) = Instant::now(self.rt) else {
-            return;
-        };
-        if now < next {
-            return;
-        }
-        let mut line = Vec::new(self.rt.alloc());
-        if push_progress(summary, &mut line).is_ok() {
-            // The line begins with a carriage return.
-            let length = line.len().saturating_sub(1);
-            // A line covers one that is no longer. "1 file" is shorter than "0 files".
-            if length < self.shown {
-                self.wipe();
-            }
-            self.print(line.as_slice());
-            self.shown = length;
-        }
-        self.next = now.checked_add(Duration::from_millis(NEXT));
-    }
-
     /// Wipes the line.
     pub fn wipe(&mut self)
         ensures { self.new.out ≡ self.old.out }
@@ -121,6 +97,33 @@ impl<'a> Sink for Screen<'a> {
 
     fn failed(&self) -> bool {
         self.out.failed()
+    }
+}
+
+impl<'a> Shows for Screen<'a> {
+    // Shows how far the run is, after its first second.
+    fn show(&mut self, summary: &Summary) {
+        let Some(next) = self.next else {
+            return;
+        };
+        let Ok(now) = Instant::now(self.rt) else {
+            return;
+        };
+        if now < next {
+            return;
+        }
+        let mut line = Vec::new(self.rt.alloc());
+        if push_progress(summary, &mut line).is_ok() {
+            // The line begins with a carriage return.
+            let length = line.len().saturating_sub(1);
+            // A line covers one that is no longer. "1 file" is shorter than "0 files".
+            if length < self.shown {
+                self.wipe();
+            }
+            self.print(line.as_slice());
+            self.shown = length;
+        }
+        self.next = now.checked_add(Duration::from_millis(NEXT));
     }
 }
 

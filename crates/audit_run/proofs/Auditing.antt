@@ -1,0 +1,416 @@
+-- Auditing one thing after another.
+use Rattle.std.proofs.Common.{◌≡◌, ℕ, ◌<◌, nat_lt, ◌||◌, ◌&&◌, not, Bool, true, false, List, [], ◌∷◌, ◌++◌, Option, Some, None}
+use Rattle.std.proofs.Common.{Result, Ok, Err, arith, refl, sym, ap, subst, ◌∙◌, append_assoc, inl, inr}
+use Rattle.std.specs.Prelude.{IfSome}
+use Rattle.std.specs.Result.{result_err}
+use Rattle.std.proofs.lemmas.Bool.{ltb-true}
+use Rattle.std.proofs.lemmas.List.{append-nil}
+use Rattle.std.proofs.lemmas.List.Concat.{flat_map-append}
+use Rattle.key_files.specs.RunFault.{RunFault, ended_by}
+use Rattle.key_files.specs.declared.cause.Cause.{Cause}
+use Rattle.key_files.specs.declared.file_fault.FileFault.{FileFault}
+use Rattle.key_files.specs.declared.cause.Cause.TheVariants as causes
+use Rattle.key_listing.specs.Carries.{Carries, IsEnded}
+use Rattle.key_listing.specs.Printer.{HasSaid, Printer}
+use Rattle.key_listing.specs.Run.{Item, Stopped}
+use Rattle.krl_types.specs.Subject.{Subject}
+use Rattle.krl_entries.specs.Reasons.{reasons_of}
+use Rattle.krl_entries.specs.Revocations.{Means}
+use Rattle.krl_entries.specs.declared.reasons.Reasons.{Reasons}
+use Rattle.krl_audit.specs.Audit.{ToldFile, file_kinds}
+use Rattle.krl_audit.specs.Counts.{all_counted}
+use Rattle.krl_audit.specs.declared.counts.Counts.{Counts}
+use Rattle.krl_audit.specs.declared.judge.Judge.{Judge}
+use Rattle.krl_audit.specs.declared.judge.Shown.{Shown}
+use Rattle.krl_audit.specs.declared.why.Refusal.{Refusal}
+use Rattle.audit_run.specs.Visits.{AreTimely, Audited, Audits, AuditsBy, Begun, Goes, IsSince, IsStopped}
+use Rattle.audit_run.specs.Visits.{IsTallied, IsTimely, Meets, Same, Says, Skipped, State, Tally, Visit}
+use Rattle.audit_run.specs.Visits.{all_tallied, gives, gives_one, is_seen, passes, stop_for, tallied}
+use Rattle.audit_run.specs.Visits.{visit_items, visits_items, with_audited, with_key, with_skipped}
+use Rattle.audit_run.specs.declared.files.Files.{Files}
+use Rattle.audit_run.specs.declared.files.Since.{Since}
+use Rattle.audit_run.specs.declared.stop.Stop.{Stop}
+use Rattle.audit_run.specs.declared.stop.Stop.TheVariants as stops
+
+-- ---- items and tallies
+
+items_append : (reasons : Subject → Reasons) (shown : Shown) (xs ys : List Visit)
+    → visits_items reasons shown (xs ++ ys) ≡ visits_items reasons shown xs ++ visits_items reasons shown ys
+unfolding visits_items
+items_append reasons shown xs ys = flat_map-append (visit_items reasons shown) xs ys
+
+items_one : (reasons : Subject → Reasons) (shown : Shown) (visit : Visit)
+    → visits_items reasons shown (visit ∷ []) ≡ visit_items reasons shown visit
+unfolding visits_items
+items_one reasons shown visit = append-nil (visit_items reasons shown visit)
+
+items_none : (reasons : Subject → Reasons) (shown : Shown) → visits_items reasons shown [] ≡ []
+unfolding visits_items
+items_none reasons shown = refl
+
+tallied_append : (reasons : Subject → Reasons) (tally : Tally) (xs ys : List Visit)
+    → all_tallied reasons tally (xs ++ ys) ≡ all_tallied reasons (all_tallied reasons tally xs) ys
+tallied_append reasons tally [] ys = refl
+tallied_append reasons tally (x ∷ xs) ys = tallied_append reasons (tallied reasons tally x) xs ys
+
+timely_append : (reasons : Subject → Reasons) (tally : Tally) (xs ys : List Visit) → AreTimely reasons tally xs
+    → AreTimely reasons (all_tallied reasons tally xs) ys → AreTimely reasons tally (xs ++ ys)
+timely_append reasons tally [] ys first second = second
+timely_append reasons tally (x ∷ xs) ys first second =
+    (first.0, timely_append reasons (tallied reasons tally x) xs ys first.1 second)
+
+-- ---- since a directory that is named was entered
+
+or_true : (b : Bool) → true ≡ b || true
+or_true true = refl
+or_true false = refl
+
+or_false : (b : Bool) → b ≡ b || false
+or_false true = refl
+or_false false = refl
+
+or_assoc : (a b c : Bool) → (a || b) || c ≡ a || (b || c)
+or_assoc true b c = refl
+or_assoc false b c = refl
+
+gives_append : (xs ys : List Visit) → gives (xs ++ ys) ≡ gives xs || gives ys
+gives_append [] ys = refl
+gives_append (x ∷ xs) ys =
+    ap (λ (b : Bool). gives_one x || b) (gives_append xs ys) ∙ sym (or_assoc (gives_one x) (gives xs) (gives ys))
+
+passes_append : (xs ys : List Visit) → passes (xs ++ ys) ≡ passes xs || passes ys
+passes_append [] ys = refl
+passes_append (Audited key name content ∷ xs) ys = passes_append xs ys
+passes_append (Same key name ∷ xs) ys = passes_append xs ys
+passes_append (Skipped count ∷ xs) ys =
+    ap (λ (b : Bool). nat_lt 0 count || b) (passes_append xs ys) ∙ sym (or_assoc (nat_lt 0 count) (passes xs) (passes ys))
+
+same_since : (old new : Since) (visit : Visit) (gave passed : Bool) → gives (visit ∷ []) ≡ gave → passes (visit ∷ []) ≡ passed
+    → new.gave ≡ old.gave || gave → new.passed ≡ old.passed || passed → IsSince (visit ∷ []) None old new
+same_since old new visit gave passed gives_is passes_is is was =
+    (is ∙ ap (λ (b : Bool). old.gave || b) (sym gives_is), was ∙ ap (λ (b : Bool). old.passed || b) (sym passes_is))
+
+since_then : (xs ys : List Visit) (stop : Option Stop) (old mid new : Since) → IsSince xs None old mid → IsSince ys stop mid new
+    → IsSince (xs ++ ys) stop old new
+since_then xs ys None old mid new first second = (
+    second.0 ∙ ap (λ (b : Bool). b || gives ys) first.0 ∙ or_assoc old.gave (gives xs) (gives ys)
+    ∙ ap (λ (b : Bool). old.gave || b) (sym (gives_append xs ys)),
+    second.1 ∙ ap (λ (b : Bool). b || passes ys) first.1 ∙ or_assoc old.passed (passes xs) (passes ys)
+    ∙ ap (λ (b : Bool). old.passed || b) (sym (passes_append xs ys)),
+  )
+since_then xs ys (Some stop) old mid new first second = tt
+
+-- ---- one file
+
+stopped_by : (before : Option (List ℕ)) (all items : List Item) (cause : Cause) (fault : RunFault) (now : State)
+    → all ≡ items → IsEnded (ended_by cause) before items fault now.printer → IsStopped before all (stop_for cause) now
+stopped_by before all items (causes.Output count) fault now is lost = record {
+  said = lost.said;
+  later = lost.later;
+  parts = is ∙ lost.parts;
+  unstopped = lost.unstopped;
+  cut_off = record { named = refl; cut = lost.cut_off.cut; broken = lost.cut_off.broken };
+}
+stopped_by before all items causes.NoMemory fault now is out = record {
+  said = out.said;
+  later = out.runs_out.next ∷ out.runs_out.later;
+  parts = is ∙ out.runs_out.parts;
+  has_said = out.has_said;
+}
+stopped_by before all items (causes.File f) fault now is at =
+    record { said = at.said; later = Stopped fault ∷ at.later; parts = is ∙ at.parts; has_said = at.has_said }
+stopped_by before all items (causes.Krl f) fault now is at =
+    record { said = at.said; later = Stopped fault ∷ at.later; parts = is ∙ at.parts; has_said = at.has_said }
+stopped_by before all items (causes.Line f) fault now is at =
+    record { said = at.said; later = Stopped fault ∷ at.later; parts = is ∙ at.parts; has_said = at.has_said }
+stopped_by before all items (causes.Private f) fault now is at =
+    record { said = at.said; later = Stopped fault ∷ at.later; parts = is ∙ at.parts; has_said = at.has_said }
+stopped_by before all items (causes.Subject f) fault now is at =
+    record { said = at.said; later = Stopped fault ∷ at.later; parts = is ∙ at.parts; has_said = at.has_said }
+stopped_by before all items (causes.Spec f) fault now is at =
+    record { said = at.said; later = Stopped fault ∷ at.later; parts = is ∙ at.parts; has_said = at.has_said }
+stopped_by before all items causes.VersionFull fault now is at =
+    record { said = at.said; later = Stopped fault ∷ at.later; parts = is ∙ at.parts; has_said = at.has_said }
+stopped_by before all items causes.TextTooLong fault now is at =
+    record { said = at.said; later = Stopped fault ∷ at.later; parts = is ∙ at.parts; has_said = at.has_said }
+
+not_tallied : (reasons : Subject → Reasons) (visits : List Visit) (cause : Cause) (old new : Tally)
+    → IsTallied reasons visits (Some (stop_for cause)) old new
+not_tallied reasons visits (causes.Output count) old new = tt
+not_tallied reasons visits causes.NoMemory old new = tt
+not_tallied reasons visits (causes.File f) old new = tt
+not_tallied reasons visits (causes.Krl f) old new = tt
+not_tallied reasons visits (causes.Line f) old new = tt
+not_tallied reasons visits (causes.Private f) old new = tt
+not_tallied reasons visits (causes.Subject f) old new = tt
+not_tallied reasons visits (causes.Spec f) old new = tt
+not_tallied reasons visits causes.VersionFull old new = tt
+not_tallied reasons visits causes.TextTooLong old new = tt
+
+-- the items of one visit, after what was said
+item_said : (reasons : Subject → Reasons) (shown : Shown) (visit : Visit) (said : List Item)
+    → said ++ visits_items reasons shown (visit ∷ []) ≡ said ++ visit_items reasons shown visit
+item_said reasons shown visit said = ap (λ (items : List Item). said ++ items) (items_one reasons shown visit)
+
+-- the audit was stopped within what was met
+pub met_stopped : (reasons : Subject → Reasons) (visit : Visit) (fault : RunFault) (old new : State)
+    → Carries {A = Unit {0}} (visit_items reasons old.judge.shown visit) (Err fault) old.printer new.printer → IsTimely old.tally visit
+    → Audits reasons (visit ∷ []) (Some (stop_for fault.cause)) old new
+met_stopped reasons visit fault old new carries timely = record {
+  says = λ before said has.
+      stopped_by before (said ++ visits_items reasons old.judge.shown (visit ∷ [])) (said ++ visit_items reasons old.judge.shown visit)
+      fault.cause fault new (item_said reasons old.judge.shown visit said) (carries.says before said has);
+  tallies = not_tallied reasons (visit ∷ []) fault.cause old.tally new.tally;
+  timely = (timely, tt);
+  writer = carries.writer;
+}
+
+said_all : (reasons : Subject → Reasons) (visit : Visit) (value : Unit {0}) (old new : State)
+    → Carries {A = Unit {0}} (visit_items reasons old.judge.shown visit) (Ok value) old.printer new.printer
+    → (before : Option (List ℕ)) (said : List Item) → HasSaid before said old.printer
+    → HasSaid before (said ++ visits_items reasons old.judge.shown (visit ∷ [])) new.printer
+said_all reasons visit value old new carries before said has =
+    subst (λ (items : List Item). HasSaid before items new.printer) (sym (item_said reasons old.judge.shown visit said))
+    (carries.says before said has)
+
+-- all of it was met
+pub met : (reasons : Subject → Reasons) (visit : Visit) (value : Unit {0}) (old new : State)
+    → Carries {A = Unit {0}} (visit_items reasons old.judge.shown visit) (Ok value) old.printer new.printer → IsTimely old.tally visit
+    → new.tally ≡ tallied reasons old.tally visit → Audits reasons (visit ∷ []) None old new
+met reasons visit value old new carries timely tallies = record {
+  says = said_all reasons visit value old new carries;
+  tallies = tallies;
+  timely = (timely, tt);
+  writer = carries.writer;
+}
+
+-- its key is revoked, and no finding is asked for
+pub met_revoked : (reasons : Subject → Reasons) (visit : Visit) (value : Unit {0}) (old new : State)
+    → Carries {A = Unit {0}} (visit_items reasons old.judge.shown visit) (Ok value) old.printer new.printer → IsTimely old.tally visit
+    → new.tally ≡ tallied reasons old.tally visit → new.judge.shown.revoked ≡ false → 0 < new.tally.counts.revoked
+    → Audits reasons (visit ∷ []) (Some stops.Revoked) old new
+met_revoked reasons visit value old new carries timely tallies quiet some = record {
+  says = λ before said has. (said_all reasons visit value old new carries before said has, (quiet, some));
+  tallies = tallies;
+  timely = (timely, tt);
+  writer = carries.writer;
+}
+
+pub same_tally : (c c' : Counts) (f f' : Files) → c ≡ c' → f ≡ f'
+    → (let one : Tally = record { counts = c; files = f } in one) ≡ record { counts = c'; files = f' }
+same_tally c c' f f' counts files = rw (counts, files) refl
+
+-- a file was counted
+pub file_tallied : (reasons : Subject → Reasons) (key : Option (List ℕ)) (name : List ℕ) (content : Result (List ℕ) Refusal)
+    (old new : Tally) (kept : Files) → new.counts ≡ all_counted old.counts (file_kinds reasons name content)
+    → kept ≡ with_key key old.files → new.files ≡ with_audited (nat_lt old.counts.revoked new.counts.revoked) kept
+    → new ≡ tallied reasons old (Audited key name content)
+file_tallied reasons key name content old new kept counts keeps files =
+    same_tally new.counts _ new.files _ counts
+    (files ∙ ap (λ (f : Files). with_audited (nat_lt old.counts.revoked new.counts.revoked) f) keeps
+    ∙ ap (λ (c : Counts). with_audited (nat_lt old.counts.revoked c.revoked) (with_key key old.files)) counts)
+
+pub key_timely : (tally : Tally) (key : Option (List ℕ)) (name : List ℕ) (content : Result (List ℕ) Refusal)
+    → IfSome key (λ new. is_seen tally.files new ≡ false) → IsTimely tally (Audited key name content)
+key_timely tally None name content new = tt
+key_timely tally (Some key) name content new = new
+
+-- the same of a file
+pub file_stopped : (reasons : Subject → Reasons) (key : Option (List ℕ)) (name : List ℕ) (content : Result (List ℕ) Refusal)
+    (fault : RunFault) (old new : State)
+    → ToldFile reasons old.judge.shown name content (Err fault) old.printer new.printer old.tally.counts new.tally.counts
+    → IfSome key (λ new. is_seen old.tally.files new ≡ false)
+    → Audits reasons (Audited key name content ∷ []) (Some (stop_for fault.cause)) old new
+file_stopped reasons key name content fault old new told is_new =
+    met_stopped reasons (Audited key name content) fault old new told.carries (key_timely old.tally key name content is_new)
+
+pub file_met : (reasons : Subject → Reasons) (key : Option (List ℕ)) (name : List ℕ) (content : Result (List ℕ) Refusal)
+    (value : Unit {0}) (old new : State) (kept : Files)
+    → ToldFile reasons old.judge.shown name content (Ok value) old.printer new.printer old.tally.counts new.tally.counts
+    → IfSome key (λ new. is_seen old.tally.files new ≡ false) → kept ≡ with_key key old.tally.files
+    → new.tally.files ≡ with_audited (nat_lt old.tally.counts.revoked new.tally.counts.revoked) kept
+    → Audits reasons (Audited key name content ∷ []) None old new
+file_met reasons key name content value old new kept told is_new keeps files =
+    met reasons (Audited key name content) value old new told.carries (key_timely old.tally key name content is_new)
+    (file_tallied reasons key name content old.tally new.tally kept told.counts keeps files)
+
+ends_quiet : (ends some revoked : Bool) → ends ≡ some && not revoked → ends ≡ true → revoked ≡ false
+ends_quiet true true true is so = is
+ends_quiet true true false is so = refl
+ends_quiet true false true is so = absurd (cc)
+ends_quiet true false false is so = refl
+ends_quiet false some revoked is so = absurd (cc)
+
+ends_some : (ends some revoked : Bool) → ends ≡ some && not revoked → ends ≡ true → some ≡ true
+ends_some true true revoked is so = refl
+ends_some true false revoked is so = absurd (cc)
+ends_some false some revoked is so = absurd (cc)
+
+some_more : (a b : ℕ) → nat_lt a b ≡ true → 0 < b
+some_more a b is = let less : a < b = ltb-true a b is in omega (arith, less)
+
+pub file_revoked : (reasons : Subject → Reasons) (key : Option (List ℕ)) (name : List ℕ) (content : Result (List ℕ) Refusal)
+    (value : Unit {0}) (old new : State) (kept : Files) (ends : Bool)
+    → ToldFile reasons old.judge.shown name content (Ok value) old.printer new.printer old.tally.counts new.tally.counts
+    → IfSome key (λ new. is_seen old.tally.files new ≡ false) → kept ≡ with_key key old.tally.files
+    → new.tally.files ≡ with_audited (nat_lt old.tally.counts.revoked new.tally.counts.revoked) kept
+    → ends ≡ nat_lt old.tally.counts.revoked new.tally.counts.revoked && not new.judge.shown.revoked → ends ≡ true
+    → Audits reasons (Audited key name content ∷ []) (Some stops.Revoked) old new
+file_revoked reasons key name content value old new kept ends told is_new keeps files is so =
+    let more = nat_lt old.tally.counts.revoked new.tally.counts.revoked in
+    met_revoked reasons (Audited key name content) value old new told.carries (key_timely old.tally key name content is_new)
+    (file_tallied reasons key name content old.tally new.tally kept told.counts keeps files)
+    (ends_quiet ends more new.judge.shown.revoked is so)
+    (some_more old.tally.counts.revoked new.tally.counts.revoked (ends_some ends more new.judge.shown.revoked is so))
+
+pub gave_since : (old new : Since) (key : Option (List ℕ)) (name : List ℕ) (content : Result (List ℕ) Refusal)
+    → new.gave ≡ true → new.passed ≡ old.passed → IsSince (Audited key name content ∷ []) None old new
+gave_since old new key name content is was = (is ∙ or_true old.gave, was ∙ or_false old.passed)
+
+pub same_gave_since : (old new : Since) (key name : List ℕ) → new.gave ≡ true → new.passed ≡ old.passed
+    → IsSince (Same key name ∷ []) None old new
+same_gave_since old new key name is was = (is ∙ or_true old.gave, was ∙ or_false old.passed)
+
+-- names were passed over
+pub skipped_meets : (count : ℕ) (old new : State) → new.judge ≡ old.judge → new.printer ≡ old.printer
+    → new.tally ≡ record { counts = old.tally.counts; files = with_skipped count old.tally.files }
+    → new.since.gave ≡ old.since.gave → new.since.passed ≡ old.since.passed || nat_lt 0 count
+    → Meets (Skipped count ∷ []) None old new
+skipped_meets count old new judge printer tally gave passed = record {
+  audits = record {
+    judge = judge;
+    audits = λ entries means. record {
+        says = λ before said has.
+            let kept : HasSaid before said new.printer = subst (λ (p : Printer). HasSaid before said p) (sym printer) has in
+            let none = items_one (reasons_of entries) old.judge.shown (Skipped count) in
+            subst (λ (items : List Item). HasSaid before items new.printer)
+            (sym (ap (λ (items : List Item). said ++ items) none ∙ append-nil said)) kept;
+        tallies = tally;
+        timely = (tt, tt);
+        writer = ap (λ (p : Printer). p.writer) printer;
+      };
+  };
+  since = (gave ∙ or_false old.since.gave, passed ∙ ap (λ (b : Bool). old.since.passed || b) (or_false (nat_lt 0 count)));
+}
+
+-- ---- one after another
+
+pub nothing_met : (now : State) → Meets [] None now now
+nothing_met now = record {
+  audits = record {
+    judge = refl;
+    audits = λ entries means. record {
+        says = λ before said has.
+            subst (λ (items : List Item). HasSaid before items now.printer)
+            (sym (ap (λ (items : List Item). said ++ items) (items_none (reasons_of entries) now.judge.shown) ∙ append-nil said)) has;
+        tallies = refl;
+        timely = tt;
+        writer = refl;
+      };
+  };
+  since = (or_false now.since.gave, or_false now.since.passed);
+}
+
+pub nothing_begun : (now : State) → Meets [] (Some stops.NoMemory) now now
+nothing_begun now = record {
+  audits = record {
+    judge = refl;
+    audits = λ entries means. record {
+        says = λ before said has. record {
+            said = said;
+            later = [];
+            parts = ap (λ (items : List Item). said ++ items) (items_none (reasons_of entries) now.judge.shown);
+            has_said = has;
+          };
+        tallies = tt;
+        timely = tt;
+        writer = refl;
+      };
+  };
+  since = tt;
+}
+
+pub nothing_named : (fault : FileFault) (now : State) → AuditsBy [] (Some (stops.NoNames fault)) now now
+nothing_named fault now = record {
+  judge = refl;
+  audits = λ entries means. record {
+      says = λ before said has.
+          subst (λ (items : List Item). HasSaid before items now.printer)
+          (sym (ap (λ (items : List Item). said ++ items) (items_none (reasons_of entries) now.judge.shown) ∙ append-nil said)) has;
+      tallies = tt;
+      timely = tt;
+      writer = refl;
+    };
+}
+
+tallied_then : (reasons : Subject → Reasons) (xs ys : List Visit) (stop : Option Stop) (old mid new : Tally)
+    → mid ≡ all_tallied reasons old xs → IsTallied reasons ys stop mid new → IsTallied reasons (xs ++ ys) stop old new
+tallied_then reasons xs ys None old mid new first second =
+    second ∙ ap (λ (t : Tally). all_tallied reasons t ys) first ∙ sym (tallied_append reasons old xs ys)
+tallied_then reasons xs ys (Some stops.Revoked) old mid new first second =
+    second ∙ ap (λ (t : Tally). all_tallied reasons t ys) first ∙ sym (tallied_append reasons old xs ys)
+tallied_then reasons xs ys (Some stops.NoMemory) old mid new first second = tt
+tallied_then reasons xs ys (Some (stops.Lost count)) old mid new first second = tt
+tallied_then reasons xs ys (Some (stops.NoNames fault)) old mid new first second = tt
+
+audits_then : (reasons : Subject → Reasons) (xs ys : List Visit) (stop : Option Stop) (old mid new : State) → mid.judge ≡ old.judge
+    → Audits reasons xs None old mid → Audits reasons ys stop mid new → Audits reasons (xs ++ ys) stop old new
+audits_then reasons xs ys stop old mid new judge first second = record {
+  says = λ before said has.
+      let there = second.says before (said ++ visits_items reasons old.judge.shown xs) (first.says before said has) in
+      let same : visits_items reasons mid.judge.shown ys ≡ visits_items reasons old.judge.shown ys =
+          ap (λ (j : Judge). visits_items reasons j.shown ys) judge in
+      let all : (said ++ visits_items reasons old.judge.shown xs) ++ visits_items reasons mid.judge.shown ys
+          ≡ said ++ visits_items reasons old.judge.shown (xs ++ ys) =
+          append_assoc said _ _
+          ∙ ap (λ (items : List Item). said ++ (visits_items reasons old.judge.shown xs ++ items)) same
+          ∙ ap (λ (items : List Item). said ++ items) (sym (items_append reasons old.judge.shown xs ys)) in
+      subst (λ (items : List Item). Says before items stop new) all there;
+  tallies = tallied_then reasons xs ys stop old.tally mid.tally new.tally first.tallies second.tallies;
+  timely = timely_append reasons old.tally xs ys first.timely
+      (subst (λ (t : Tally). AreTimely reasons t ys) first.tallies second.timely);
+  writer = second.writer ∙ first.writer;
+}
+
+pub by_then : (xs ys : List Visit) (stop : Option Stop) (old mid new : State) → AuditsBy xs None old mid
+    → AuditsBy ys stop mid new → AuditsBy (xs ++ ys) stop old new
+by_then xs ys stop old mid new first second = record {
+  judge = second.judge ∙ first.judge;
+  audits = λ entries means.
+      let also : Means mid.judge.list.now entries = subst (λ (j : Judge). Means j.list.now entries) (sym first.judge) means in
+      audits_then (reasons_of entries) xs ys stop old mid new first.judge (first.audits entries means) (second.audits entries also);
+}
+
+pub meets_then : (xs ys : List Visit) (stop : Option Stop) (old mid new : State) → Meets xs None old mid
+    → Meets ys stop mid new → Meets (xs ++ ys) stop old new
+meets_then xs ys stop old mid new first second = record {
+  audits = by_then xs ys stop old mid new first.audits second.audits;
+  since = since_then xs ys stop old.since mid.since new.since first.since second.since;
+}
+
+-- ---- what was begun
+
+pub begun : {A : Type 0} (result : Result A Stop) (value : A) (Is : List Visit → Type 0) (visits : List Visit) → Is visits
+    → Begun result (λ (a : A). Is) visits
+begun (Ok done) value Is visits is = is
+begun (Err stop) value Is visits is = inl (value, is)
+
+-- what holds of it holds of more
+pub begun_as : {A : Type 0} (result : Result A Stop) (Is Also : List Visit → Type 0) (visits : List Visit)
+    → (Is visits → Also visits) → Begun result (λ (a : A). Is) visits → Begun result (λ (a : A). Also) visits
+begun_as (Ok done) Is Also visits goes is = goes is
+begun_as (Err stop) Is Also visits goes (inl is) = inl (is.0, goes is.1)
+begun_as (Err stop) Is Also visits goes (inr none) = inr none
+
+pub goes : (result : Result (Unit {0}) Stop) (visits : List Visit) (Is : List Visit → Type 0) (old new : State) → Is visits
+    → Meets visits (result_err result) old new → Goes result (λ (done : Unit {0}). Is) old new
+goes result visits Is old new is meets = record { visits = visits; is = begun result tt Is visits is; meets = meets }
+
+pub goes_as : (result : Result (Unit {0}) Stop) (Is Also : List Visit → Type 0) (old new : State)
+    → ((visits : List Visit) → Is visits → Also visits) → Goes result (λ (done : Unit {0}). Is) old new
+    → Goes result (λ (done : Unit {0}). Also) old new
+goes_as result Is Also old new implies was =
+    record { visits = was.visits; is = begun_as result Is Also was.visits (implies was.visits) was.is; meets = was.meets }
+
+pub goes_nothing : {A : Type 0} (Is : A → List Visit → Type 0) (now : State) → Goes (Err stops.NoMemory) Is now now
+goes_nothing Is now = record { visits = []; is = inr refl; meets = nothing_begun now }

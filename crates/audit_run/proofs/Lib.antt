@@ -1,0 +1,9 @@
+pub mod Auditing
+pub mod Listing
+pub mod Entering
+pub mod Rows
+pub mod Naming
+pub mod Turning
+pub mod Running
+pub mod Inputs
+pub mod Directory

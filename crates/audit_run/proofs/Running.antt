@@ -1,0 +1,192 @@
+-- The end of a whole audit.
+use Rattle.std.proofs.Common.{◌≡◌, ℕ, Bool, true, false, List, [], ◌∷◌, ◌++◌, codes, Option, Some, None, Result}
+use Rattle.std.proofs.Common.{refl, sym, ap, subst, ◌∙◌, append_assoc}
+use Rattle.std.specs.Result.{result_err}
+use Rattle.key_files.specs.RunFault.{RunFault, EndedBy, ByInput, ByMemory, ByOutput, ended_by, run_fault_of}
+use Rattle.key_files.specs.declared.cause.Cause.TheVariants as causes
+use Rattle.key_files.specs.declared.file_fault.FileFault.{FileFault}
+use Rattle.key_listing.specs.Carries.{Carries, IsEnded, Reaches}
+use Rattle.key_listing.specs.Done.{Ends}
+use Rattle.key_listing.specs.Printer.{HasSaid, Printer}
+use Rattle.key_listing.specs.Run.{Answered, Item, Passed, Stopped, outcome_of}
+use Rattle.krl_types.specs.Entry.{Entry}
+use Rattle.krl_entries.specs.Reasons.{reasons_of}
+use Rattle.krl_audit.specs.Audit.{EndsAudit}
+use Rattle.krl_audit.specs.declared.counts.Counts.{Counts}
+use Rattle.krl_audit.specs.declared.judge.Judge.{Judge}
+use Rattle.krl_audit.specs.declared.judge.Shown.{Shown}
+use Rattle.audit_run.specs.Fact.{Fact}
+use Rattle.audit_run.specs.Run.{AreGiven, IsAudit, all_audited, ended_at_revoked, last_items, lost, no_names, ran_out, stop_fault}
+use Rattle.audit_run.specs.Visits.{Audits, Says, State, Tally, Visit, visits_items}
+use Rattle.audit_run.specs.declared.run.Order.{Order}
+use Rattle.audit_run.specs.declared.run.Queried.{Queried}
+use Rattle.audit_run.specs.declared.stop.Stop.{Stop}
+use Rattle.audit_run.specs.declared.stop.Stop.TheVariants as stops
+
+-- An audit came to an end: what it printed, and how far it came.
+abbrev pub Ended : (Fact → Type 0) → Order → Queried → Option (Result (Option (List ℕ)) FileFault) → List Entry → Option (List ℕ)
+    → Option RunFault → State → State → Type 0
+Ended Knows order queried names entries before stop old new =
+    (run : List Item)
+    × (IsAudit Knows order queried names entries old.tally new.tally stop run
+    × (Reaches before run stop new.printer × (new.printer.writer ≡ old.printer.writer)))
+
+-- what was printed, in the form that the command asks for
+said_so : (order : Order) (entries : List Entry) (visits : List Visit) (stop : Option Stop) (before : Option (List ℕ)) (old new : State)
+    → old.judge.shown ≡ order.shown → Audits (reasons_of entries) visits stop old new → HasSaid before [] old.printer
+    → Says before (visits_items (reasons_of entries) order.shown visits) stop new
+said_so order entries visits stop before old new shown audits said =
+    subst (λ (s : Shown). Says before (visits_items (reasons_of entries) s visits) stop new) shown (audits.says before [] said)
+
+pub ended_all : (Knows : Fact → Type 0) (order : Order) (queried : Queried) (names : Option (Result (Option (List ℕ)) FileFault))
+    (entries : List Entry) (before : Option (List ℕ)) (visits : List Visit) (result : Result (Unit {0}) RunFault) (old mid new : State)
+    → AreGiven Knows order.every_file true names order.paths.now visits → Audits (reasons_of entries) visits None old mid
+    → Carries (last_items order.list.now queried mid.tally) result mid.printer new.printer → new.tally ≡ mid.tally
+    → old.judge.shown ≡ order.shown → HasSaid before [] old.printer
+    → Ended Knows order queried names entries before (result_err result) old new
+ended_all Knows order queried names entries before visits result old mid new given audits carries same shown said =
+    let items = visits_items (reasons_of entries) order.shown visits in
+    let has : HasSaid before items mid.printer = said_so order entries visits None before old mid shown audits said in
+    let last : Carries (last_items order.list.now queried new.tally) result mid.printer new.printer =
+        subst (λ (t : Tally). Carries (last_items order.list.now queried t) result mid.printer new.printer) (sym same) carries in
+    (items ++ last_items order.list.now queried new.tally, (
+      record {
+        visits = visits;
+        whole = true;
+        given = given;
+        timely = audits.timely;
+        is_run = all_audited refl refl;
+        tally_is = λ none. same ∙ audits.tallies;
+      },
+      (last.says before items has, last.writer ∙ audits.writer),
+    ))
+
+some_is : {A : Type 0} (x : A) → Some x ≡ None → ⊥
+some_is x is = cc
+
+-- an audit was stopped
+pub ended_stopped : (Knows : Fact → Type 0) (order : Order) (queried : Queried) (names : Option (Result (Option (List ℕ)) FileFault))
+    (entries : List Entry) (before : Option (List ℕ)) (visits : List Visit) (stop : Stop) (old new : State)
+    → AreGiven Knows order.every_file false names order.paths.now visits → Audits (reasons_of entries) visits (Some stop) old new
+    → new.judge ≡ old.judge → old.judge.shown ≡ order.shown → HasSaid before [] old.printer
+    → Ended Knows order queried names entries before (stop_fault order.names_from.now stop) old new
+ended_stopped Knows order queried names entries before visits stops.Revoked old new given audits judge shown said =
+    let at = said_so order entries visits (Some stops.Revoked) before old new shown audits said in
+    let kept : new.judge.shown ≡ order.shown = ap (λ (j : Judge). j.shown) judge ∙ shown in
+    let quiet : order.shown.revoked ≡ false = subst (λ (s : Shown). s.revoked ≡ false) kept at.1.0 in
+    (visits_items (reasons_of entries) order.shown visits, (
+      record {
+        visits = visits;
+        whole = false;
+        given = given;
+        timely = audits.timely;
+        is_run = ended_at_revoked quiet at.1.1 refl refl;
+        tally_is = λ none. audits.tallies;
+      },
+      (at.0, audits.writer),
+    ))
+ended_stopped Knows order queried names entries before visits stops.NoMemory old new given audits judge shown said =
+    let front = said_so order entries visits (Some stops.NoMemory) before old new shown audits said in
+    (front.said ++ Passed (codes "memory") ∷ [], (
+      record {
+        visits = visits;
+        whole = false;
+        given = given;
+        timely = audits.timely;
+        is_run = ran_out front.said front.later front.parts refl refl;
+        tally_is = λ none. absurd (some_is _ none);
+      },
+      (
+        record {
+          said = front.said;
+          runs_out = record { next = Passed (codes "memory"); later = []; parts = refl; named = refl };
+          has_said = front.has_said;
+        },
+        audits.writer,
+      ),
+    ))
+ended_stopped Knows order queried names entries before visits (stops.Lost count) old new given audits judge shown said =
+    (visits_items (reasons_of entries) order.shown visits, (
+      record {
+        visits = visits;
+        whole = false;
+        given = given;
+        timely = audits.timely;
+        is_run = lost count refl refl;
+        tally_is = λ none. absurd (some_is _ none);
+      },
+      (said_so order entries visits (Some (stops.Lost count)) before old new shown audits said, audits.writer),
+    ))
+ended_stopped Knows order queried names entries before visits (stops.NoNames fault) old new given audits judge shown said =
+    let items = visits_items (reasons_of entries) order.shown visits in
+    let end = run_fault_of order.names_from.now (causes.File fault) in
+    (items ++ Stopped end ∷ [], (
+      record {
+        visits = visits;
+        whole = false;
+        given = given;
+        timely = audits.timely;
+        is_run = no_names fault refl refl refl;
+        tally_is = λ none. absurd (some_is _ none);
+      },
+      (
+        record {
+          said = items;
+          later = [];
+          parts = refl;
+          has_said = said_so order entries visits (Some (stops.NoNames fault)) before old new shown audits said;
+        },
+        audits.writer,
+      ),
+    ))
+
+-- the final state of the printer's writer is that of the writer
+pub ends_there : (run : List Item) (counts : Counts) (before taken taken' : Option (List ℕ)) (failed failed' : Bool) (status : ℕ)
+    (fault : Option RunFault) → EndsAudit run counts before taken failed status fault → taken' ≡ taken → failed' ≡ failed
+    → EndsAudit run counts before taken' failed' status fault
+ends_there run counts before taken taken' failed failed' status fault ends is_taken is_failed = rw (is_taken, is_failed) ends
+
+-- ---- a stop is reported
+
+-- a run with one more stop has one
+never_none : (run : List Item) (stop : RunFault) → (outcome_of (run ++ Stopped stop ∷ [])).stop ≡ None → ⊥
+never_none [] stop is = some_is stop is
+never_none (Answered name answer ∷ items) stop is = never_none items stop is
+never_none (Passed name ∷ items) stop is = never_none items stop is
+never_none (Stopped other ∷ items) stop is = some_is other is
+
+-- the items after an end are ignored
+ended_more : (ended : EndedBy) (before : Option (List ℕ)) (items more : List Item) (stop : RunFault) (now : Printer)
+    → IsEnded ended before items stop now → IsEnded ended before (items ++ more) stop now
+ended_more (ByOutput count) before items more stop now p = record {
+  said = p.said;
+  later = p.later ++ more;
+  parts = ap (λ (xs : List Item). xs ++ more) p.parts ∙ append_assoc p.said p.later more;
+  unstopped = p.unstopped;
+  cut_off = p.cut_off;
+}
+ended_more ByMemory before items more stop now p =
+    let s = p.runs_out in
+    let parts = ap (λ (xs : List Item). xs ++ more) s.parts ∙ append_assoc p.said (s.next ∷ s.later) more in
+    record {
+      said = p.said;
+      runs_out = record { next = s.next; later = s.later ++ more; parts = parts; named = s.named };
+      has_said = p.has_said;
+    }
+ended_more ByInput before items more stop now p = record {
+  said = p.said;
+  later = p.later ++ more;
+  parts = ap (λ (xs : List Item). xs ++ more) p.parts ∙ append_assoc p.said (Stopped stop ∷ p.later) more;
+  has_said = p.has_said;
+}
+
+-- the end of a printer says so of each run, so also of one that has a stop later
+pub stop_is_kept : (stop : Option RunFault) (run : List Item) (before taken : Option (List ℕ)) (mid : Printer) (failed : Bool)
+    (status : ℕ) (fault : Option RunFault) → Reaches before run stop mid
+    → ((before : Option (List ℕ)) (run : List Item) → Reaches before run stop mid → Ends run before taken failed status fault)
+    → fault ≡ None → stop ≡ None
+stop_is_kept None run before taken mid failed status fault reaches ends is = refl
+stop_is_kept (Some stop) run before taken mid failed status None reaches ends is =
+    let more = ended_more (ended_by stop.cause) before run (Stopped stop ∷ []) stop mid reaches in
+    absurd (never_none run stop (ends before (run ++ Stopped stop ∷ []) more).0.reported)
+stop_is_kept (Some stop) run before taken mid failed status (Some fault) reaches ends is = absurd (some_is fault is)

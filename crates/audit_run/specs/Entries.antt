@@ -1,0 +1,196 @@
+-- What a path leads to, by what a tree states about it.
+use Rattle.std.specs.Prelude.{◌≡◌, ℕ, Bool, true, false, List, [], ◌∷◌}
+use Rattle.std.specs.Prelude.{Option, Some, Result, Ok, Err}
+use Rattle.std.specs.Str.{IsUtf8}
+use Rattle.key_text.specs.Armour.{begins_container}
+use Rattle.audit_tree.specs.Names.{reads_every, selection_of}
+use Rattle.audit_tree.specs.Paths.{path_in}
+use Rattle.audit_tree.specs.declared.names.Selection.{Selection}
+use Rattle.audit_tree.specs.declared.names.Selection.TheVariants as selections
+use Rattle.krl_audit.specs.Front.{fronts_of, is_read_by_lines}
+use Rattle.krl_audit.specs.Visible.{visible_bytes}
+use Rattle.krl_audit.specs.declared.front.Fronts.{Fronts}
+use Rattle.krl_audit.specs.declared.front.Fronts.TheVariants as fronts
+use Rattle.krl_audit.specs.declared.why.Refusal.{Refusal}
+use Rattle.krl_audit.specs.declared.why.Refusal.TheVariants as refusals
+use Rattle.audit_run.specs.Fact.{Fact, Holds, Leads, Opens}
+use Rattle.audit_run.specs.Names.{is_directory_kind, is_link_kind, is_never}
+use Rattle.audit_run.specs.Visits.{Audited, Same, Skipped, Visit, refused}
+use Rattle.audit_run.specs.declared.kind.Found.{Found}
+use Rattle.audit_run.specs.declared.kind.Identity.{Identity}
+use Rattle.audit_run.specs.declared.kind.Kind.{Kind}
+use Rattle.audit_run.specs.declared.kind.Kind.TheVariants as kinds
+use Rattle.audit_run.specs.declared.kind.Opened.{Opened}
+use Rattle.audit_run.specs.declared.kind.What.{What}
+use Rattle.audit_run.specs.declared.kind.What.TheVariants as whats
+
+-- ---- the key of a file
+
+-- how the name of a file says that it is read
+abbrev pub way_by : Fronts → (by_lines : Bool) → ℕ
+way_by fronts.Hosts false = 0
+way_by fronts.Options false = 1
+way_by fronts.Either false = 2
+way_by fronts.Hosts true = 3
+way_by fronts.Options true = 4
+way_by fronts.Either true = 5
+
+abbrev pub way_of : List ℕ → ℕ
+way_of path = way_by (fronts_of path) (is_read_by_lines path)
+
+-- A file, and how its path says that it is read: a file with several names is audited once for each
+-- of these ways.
+abbrev pub key_of : List ℕ → Identity → List ℕ
+key_of path identity = identity.device ∷ identity.number ∷ way_of path ∷ []
+
+-- ---- a file
+
+-- the bytes at a path are audited, or why there are none
+pub record IsRead (Knows : Fact → Type 0) (what : What) (path : List ℕ)
+    (key : Option (List ℕ)) (visits : List Visit) : Type 0 where
+  pub content : Result (List ℕ) Refusal
+  pub holds : Knows (Holds what path content)
+  pub visits_are : visits ≡ Audited key path content ∷ []
+
+-- A file that is open is read, or it was audited before.
+pub data IsOpened (Knows : Fact → Type 0) (path : List ℕ) (opened : Opened)
+    (visits : List Visit) : Type 0 where
+  read : IsRead Knows whats.Whole path (Some (key_of path opened.identity)) visits
+      → IsOpened Knows path opened visits
+  same : visits ≡ Same (key_of path opened.identity) path ∷ []
+      → IsOpened Knows path opened visits
+
+-- one that is no regular file once it is open is not read
+abbrev pub IsOpenedIf : Bool → (Fact → Type 0) → List ℕ → Opened → List Visit → Type 0
+IsOpenedIf true Knows path opened visits = IsOpened Knows path opened visits
+IsOpenedIf false Knows path opened visits = visits ≡ refused path refusals.Irregular
+
+abbrev pub IsRegularBy : (Fact → Type 0) → List ℕ → Result Opened Refusal → List Visit → Type 0
+IsRegularBy Knows path (Err refusal) visits = visits ≡ refused path refusal
+IsRegularBy Knows path (Ok opened) visits = IsOpenedIf opened.is_file Knows path opened visits
+
+-- a path that led to a regular file when it was looked at
+pub record IsRegular (Knows : Fact → Type 0) (path : List ℕ) (found : Found)
+    (visits : List Visit) : Type 0 where
+  pub opened : Result Opened Refusal
+  pub opens : Knows (Opens path (Some found) opened)
+  pub leads : IsRegularBy Knows path opened visits
+
+-- by its front: a file that does not begin as a private key file is passed over
+abbrev pub IsFrontOf : (Fact → Type 0) → List ℕ → Opened → Bool → List Visit → Type 0
+IsFrontOf Knows path opened true visits = IsOpened Knows path opened visits
+IsFrontOf Knows path opened false visits = visits ≡ Skipped 1 ∷ []
+
+abbrev pub IsPrivateFront : (Fact → Type 0) → List ℕ → Opened → Result (List ℕ) Refusal
+    → List Visit → Type 0
+IsPrivateFront Knows path opened (Err refusal) visits = visits ≡ refused path refusal
+IsPrivateFront Knows path opened (Ok front) visits =
+    IsFrontOf Knows path opened (begins_container front) visits
+
+abbrev pub IsPrivateIf : Bool → (Fact → Type 0) → List ℕ → Opened → List Visit → Type 0
+IsPrivateIf true Knows path opened visits =
+    (front : Result (List ℕ) Refusal)
+    × (Knows (Holds whats.Front path front) × IsPrivateFront Knows path opened front visits)
+IsPrivateIf false Knows path opened visits = visits ≡ refused path refusals.Irregular
+
+abbrev pub IsPrivateBy : (Fact → Type 0) → List ℕ → Result Opened Refusal → List Visit → Type 0
+IsPrivateBy Knows path (Err refusal) visits = visits ≡ refused path refusal
+IsPrivateBy Knows path (Ok opened) visits = IsPrivateIf opened.is_file Knows path opened visits
+
+-- the same for one that is audited if it begins as a private key file
+pub record IsPrivate (Knows : Fact → Type 0) (path : List ℕ) (found : Found)
+    (visits : List Visit) : Type 0 where
+  pub opened : Result Opened Refusal
+  pub opens : Knows (Opens path (Some found) opened)
+  pub leads : IsPrivateBy Knows path opened visits
+
+-- ---- a name that is found in a directory
+
+-- whether sshd or ssh reads a file of this name in this directory
+abbrev pub is_always : Selection → Bool
+is_always selections.Always = true
+is_always selections.IfPrivate = false
+is_always selections.Never = false
+
+abbrev pub is_expected : (directory name : List ℕ) → Bool
+is_expected directory name = is_always (selection_of (reads_every directory) name)
+
+-- a regular file, by its name
+abbrev pub IsFileBy : Selection → (Fact → Type 0) → List ℕ → Found → List Visit → Type 0
+IsFileBy selections.Always Knows path found visits = IsRegular Knows path found visits
+IsFileBy selections.IfPrivate Knows path found visits = IsPrivate Knows path found visits
+IsFileBy selections.Never Knows path found visits = IsPrivate Knows path found visits
+
+-- what is no regular file is not opened
+abbrev pub irregular : (expected : Bool) → List ℕ → List Visit
+irregular true path = refused path refusals.Irregular
+irregular false path = Skipped 1 ∷ []
+
+-- What was found, or what a link that was found leads to, which is no directory.
+abbrev pub IsFound : Kind → (Fact → Type 0) → (path : List ℕ) → Selection → (expected : Bool)
+    → Found → List Visit → Type 0
+IsFound kinds.File Knows path selection expected found visits =
+    IsFileBy selection Knows path found visits
+IsFound kinds.Directory Knows path selection expected found visits =
+    visits ≡ irregular expected path
+IsFound kinds.Link Knows path selection expected found visits = visits ≡ irregular expected path
+IsFound kinds.Other Knows path selection expected found visits = visits ≡ irregular expected path
+
+-- A link to a directory is not followed.
+abbrev pub IsBehindIf : (directory : Bool) → (Fact → Type 0) → (path : List ℕ) → Selection
+    → (expected : Bool) → Found → List Visit → Type 0
+IsBehindIf true Knows path selection expected found visits =
+    visits ≡ refused path refusals.DirectoryLink
+IsBehindIf false Knows path selection expected found visits =
+    IsFound found.kind Knows path selection expected found visits
+
+abbrev pub IsBehind : (Fact → Type 0) → (path : List ℕ) → Selection → (expected : Bool)
+    → Result Found Refusal → List Visit → Type 0
+IsBehind Knows path selection expected (Err refusal) visits = visits ≡ refused path refusal
+IsBehind Knows path selection expected (Ok found) visits =
+    IsBehindIf (is_directory_kind found.kind) Knows path selection expected found visits
+
+pub record IsLink (Knows : Fact → Type 0) (path : List ℕ) (selection : Selection)
+    (expected : Bool) (visits : List Visit) : Type 0 where
+  pub behind : Result Found Refusal
+  pub leads : Knows (Leads path true behind)
+  pub is : IsBehind Knows path selection expected behind visits
+
+abbrev pub IsLookedIf : (link : Bool) → (Fact → Type 0) → (path : List ℕ) → Selection
+    → (expected : Bool) → Found → List Visit → Type 0
+IsLookedIf true Knows path selection expected found visits =
+    IsLink Knows path selection expected visits
+IsLookedIf false Knows path selection expected found visits =
+    IsFound found.kind Knows path selection expected found visits
+
+-- what is there, or why it cannot be looked at
+abbrev pub IsLooked : (Fact → Type 0) → (path : List ℕ) → Selection → (expected : Bool)
+    → Result Found Refusal → List Visit → Type 0
+IsLooked Knows path selection expected (Err refusal) visits = visits ≡ refused path refusal
+IsLooked Knows path selection expected (Ok found) visits =
+    IsLookedIf (is_link_kind found.kind) Knows path selection expected found visits
+
+abbrev pub is_directory : Result Found Refusal → Bool
+is_directory (Ok found) = is_directory_kind found.kind
+is_directory (Err refusal) = false
+
+-- A name that an audit goes to, of a directory of which every file is read or not, leads to this: to
+-- a directory that is entered, or not.
+pub data IsEntry (Knows : Fact → Type 0) (every : Bool) (directory name : List ℕ) (down : Bool)
+    (visits : List Visit) : Type 0 where
+  no_text : (IsUtf8 name → ⊥) → down ≡ false
+      → visits ≡ refused (visible_bytes false (path_in directory name)) refusals.Open
+      → IsEntry Knows every directory name down visits
+  not_selected : IsUtf8 name → is_never (selection_of every name) ≡ true → down ≡ true
+      → visits ≡ [] → IsEntry Knows every directory name down visits
+  below : (found : Result Found Refusal) → IsUtf8 name
+      → is_never (selection_of every name) ≡ false
+      → Knows (Leads (path_in directory name) false found) → is_directory found ≡ true
+      → down ≡ true → visits ≡ [] → IsEntry Knows every directory name down visits
+  here : (found : Result Found Refusal) → IsUtf8 name
+      → is_never (selection_of every name) ≡ false
+      → Knows (Leads (path_in directory name) false found) → is_directory found ≡ false
+      → down ≡ false
+      → IsLooked Knows (path_in directory name) (selection_of every name)
+      (is_expected directory name) found visits
+      → IsEntry Knows every directory name down visits

@@ -1,0 +1,146 @@
+-- The names of a directory that an audit goes to.
+use Rattle.std.specs.Prelude.{◌≡◌, ℕ, ◌+◌, ◌-◌, ◌^◌, ◌≤◌, ◌==◌, ◌||◌, ◌⊎◌, if◌then◌else◌, Bool, true, false}
+use Rattle.std.specs.Prelude.{List, [], ◌∷◌, ◌++◌, codes, IsPermutation, length, min, Option, Some, None, IfSome}
+use Rattle.std.specs.Prelude.{Result, Ok, Err}
+use Rattle.std.specs.Cmp.Lexicographic.{slice_cmp}
+use Rattle.std.specs.Global.{Vec}
+use Rattle.std.specs.List.Sorted.{IsSorted}
+use Rattle.std.specs.Ordering.{nat_cmp}
+use Rattle.std.specs.Str.{IsUtf8, bytes_eq}
+use Rattle.audit_tree.specs.Names.{selection_of}
+use Rattle.audit_tree.specs.Paths.{path_in}
+use Rattle.audit_tree.specs.declared.names.Selection.{Selection}
+use Rattle.audit_tree.specs.declared.names.Selection.TheVariants as selections
+use Rattle.krl_audit.specs.declared.why.Refusal.{Refusal}
+use Rattle.krl_audit.specs.declared.why.Refusal.TheVariants.{Missing}
+use Rattle.audit_run.specs.Fact.{Fact, Leads}
+use Rattle.audit_run.specs.declared.kind.Found.{Found}
+use Rattle.audit_run.specs.declared.kind.Kind.{Kind}
+use Rattle.audit_run.specs.declared.kind.Kind.TheVariants as kinds
+use Rattle.audit_run.specs.declared.names.Listing.{Listing}
+
+-- ---- what a path leads to
+
+abbrev pub is_directory_kind : Kind → Bool
+is_directory_kind kinds.Directory = true
+is_directory_kind kinds.File = false
+is_directory_kind kinds.Link = false
+is_directory_kind kinds.Other = false
+
+abbrev pub is_link_kind : Kind → Bool
+is_link_kind kinds.Directory = false
+is_link_kind kinds.File = false
+is_link_kind kinds.Link = true
+is_link_kind kinds.Other = false
+
+abbrev pub is_file_kind : Kind → Bool
+is_file_kind kinds.Directory = false
+is_file_kind kinds.File = true
+is_file_kind kinds.Link = false
+is_file_kind kinds.Other = false
+
+-- ---- one name
+
+-- the directory itself, or the one that it is in
+abbrev pub is_dots : List ℕ → Bool
+is_dots name = bytes_eq name (codes ".") || bytes_eq name (codes "..")
+
+-- no file of this name is read
+abbrev pub is_never : Selection → Bool
+is_never selections.Always = false
+is_never selections.IfPrivate = false
+is_never selections.Never = true
+
+-- a link leads to a directory, or it may: what it leads to cannot be looked at
+abbrev pub may_be_behind : Result Found Refusal → Bool
+may_be_behind (Ok found) = is_directory_kind found.kind
+may_be_behind (Err Missing) = false
+may_be_behind (Err refusal) = true
+
+-- A path is that of a directory, leads to one, or cannot be looked at.
+pub data MayBeDirectory (Knows : Fact → Type 0) (path : List ℕ) (may : Bool) : Type 0 where
+  not_looked_at : (refusal : Refusal) → Knows (Leads path false (Err refusal)) → may ≡ true
+      → MayBeDirectory Knows path may
+  looked_at : (found : Found) → Knows (Leads path false (Ok found))
+      → is_link_kind found.kind ≡ false → may ≡ is_directory_kind found.kind
+      → MayBeDirectory Knows path may
+  behind : (found : Found) (other : Result Found Refusal) → Knows (Leads path false (Ok found))
+      → is_link_kind found.kind ≡ true → Knows (Leads path true other)
+      → may ≡ may_be_behind other → MayBeDirectory Knows path may
+
+-- Whether an audit goes to a name of the directory at this path, of which every file is read or
+-- not: never to the directory itself or the one that it is in, always to a file that its name
+-- selects, and otherwise to what may be a directory.
+pub data IsWanted (Knows : Fact → Type 0) (every : Bool) (path : List ℕ) (wanted : Bool)
+    (name : List ℕ) : Type 0 where
+  dots : is_dots name ≡ true → wanted ≡ false → IsWanted Knows every path wanted name
+  selected : is_dots name ≡ false → is_never (selection_of every name) ≡ false → wanted ≡ true
+      → IsWanted Knows every path wanted name
+  no_text : is_dots name ≡ false → is_never (selection_of every name) ≡ true
+      → (IsUtf8 name → ⊥) → wanted ≡ true → IsWanted Knows every path wanted name
+  not_selected : is_dots name ≡ false → is_never (selection_of every name) ≡ true
+      → IsUtf8 name → MayBeDirectory Knows (path_in path name) wanted
+      → IsWanted Knows every path wanted name
+
+-- ---- all names
+
+-- The names that these bytes hold, after the front of the first name. A zero byte ends each name.
+unfoldable pub names_after : (front bytes : List ℕ) → List (List ℕ)
+names_after front [] = []
+names_after front (byte ∷ bytes) =
+    if byte == 0 then front ∷ names_after [] bytes else names_after (front ++ byte ∷ []) bytes
+
+-- the directory itself and the one that it is in are not counted
+abbrev pub passed_over : List ℕ → ℕ
+passed_over name = if is_dots name then 0 else 1
+
+-- of all names, those that an audit goes to, and how many it passes over
+pub data AreWanted (Knows : Fact → Type 0) (every : Bool) (path : List ℕ)
+    : List (List ℕ) → List (Vec ℕ) → ℕ → Type 0 where
+  no_name : AreWanted Knows every path [] [] 0
+  taken : (name : Vec ℕ) (names : List (List ℕ)) (wanted : List (Vec ℕ)) (skipped : ℕ)
+      → IsWanted Knows every path true name.items
+      → AreWanted Knows every path names wanted skipped
+      → AreWanted Knows every path (name.items ∷ names) (name ∷ wanted) skipped
+  left_out : (name : List ℕ) (names : List (List ℕ)) (wanted : List (Vec ℕ)) (skipped : ℕ)
+      → IsWanted Knows every path false name
+      → AreWanted Knows every path names wanted skipped
+      → AreWanted Knows every path (name ∷ names) wanted (skipped + passed_over name)
+
+-- a count that stops at its maximum
+abbrev pub capped : ℕ → ℕ
+capped count = min count (2 ^ 64 - 1)
+
+-- the same of the names that some bytes hold, in order
+pub record IsListed (Knows : Fact → Type 0) (every : Bool) (path bytes : List ℕ)
+    (names : List (Vec ℕ)) (skipped : ℕ) : Type 0 where
+  pub wanted : List (Vec ℕ)
+  pub count : ℕ
+  pub are_wanted : AreWanted Knows every path (names_after [] bytes) wanted count
+  pub same : IsPermutation wanted names
+  pub ordered : IsSorted (λ (x y : Vec ℕ). slice_cmp nat_cmp x.items y.items) names
+  pub skipped_is : capped skipped ≡ capped count
+
+-- the most bytes of names that are read
+abbrev pub most_bytes : ℕ
+most_bytes = 2 ^ 64 - 1
+
+-- The result of reading a directory by a reader that has these bytes left and failed or not: it
+-- fails, or there are more bytes than are read, or all names that the bytes hold are known.
+abbrev pub IsListing : (Fact → Type 0) → (every : Bool) → List ℕ → Option (List ℕ)
+    → (failed : Bool) → Option Listing → Type 0
+IsListing Knows every path left failed (Some listing) = IfSome left (λ bytes.
+    IsListed Knows every path bytes listing.names.items listing.skipped)
+IsListing Knows every path left failed None =
+    (failed ≡ true) ⊎ IfSome left (λ bytes. most_bytes ≤ length bytes)
+
+-- Some of the names that an audit goes to are found, and some names passed over: those of the bytes
+-- that are left complete them, as those of all bytes complete the ones that were found before.
+pub record Continues (Knows : Fact → Type 0) (every : Bool) (path front bytes : List ℕ)
+    (names : List (Vec ℕ)) (before : ℕ) (later left : List ℕ) (found : List (Vec ℕ)) (now : ℕ)
+    : Type 0 where
+  pub completed : (wanted : List (Vec ℕ)) (more : ℕ)
+      → AreWanted Knows every path (names_after later left) wanted more
+      → (all : List (Vec ℕ)) × (count : ℕ)
+      × ((found ++ wanted ≡ names ++ all) × (capped (now + more) ≡ capped (before + count))
+      × AreWanted Knows every path (names_after front bytes) all count)

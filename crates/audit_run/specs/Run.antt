@@ -1,0 +1,136 @@
+-- The whole audit, from a list that was read and what a tree states to the text and the status.
+use Rattle.std.specs.Prelude.{◌≡◌, ℕ, ◌<◌, Bool, true, false, List, [], ◌∷◌, ◌++◌, codes}
+use Rattle.std.specs.Prelude.{Option, Some, None, Result, Ok, Err}
+use Rattle.std.specs.Borrow.{Bor}
+use Rattle.json_lines.specs.Field.{json_line}
+use Rattle.key_files.specs.RunFault.{RunFault, output_run_fault, run_fault_of}
+use Rattle.key_files.specs.declared.cause.Cause.TheVariants.{File, NoMemory}
+use Rattle.key_files.specs.declared.file_fault.FileFault.{FileFault}
+use Rattle.key_listing.specs.Carries.{Reaches}
+use Rattle.key_listing.specs.Printer.{HasSaid}
+use Rattle.key_listing.specs.Run.{Item, Passed, Stopped, said_of}
+use Rattle.krl_types.specs.Entry.{Entry}
+use Rattle.krl_entries.specs.Reasons.{reasons_of}
+use Rattle.krl_entries.specs.Revocations.{Means}
+use Rattle.krl_audit.specs.Audit.{EndsAudit}
+use Rattle.krl_audit.specs.Objects.{done_object}
+use Rattle.audit_tree.specs.declared.summary.Summary.{Summary}
+use Rattle.audit_run.specs.Fact.{Fact}
+use Rattle.audit_run.specs.Named.{AreNamed, IsOnNames}
+use Rattle.audit_run.specs.Visits.{AreTimely, State, Tally, Visit, all_tallied, no_files}
+use Rattle.audit_run.specs.Visits.{visits_items}
+use Rattle.audit_run.specs.declared.run.Order.{Order}
+use Rattle.audit_run.specs.declared.run.Queried.{Queried}
+use Rattle.audit_run.specs.declared.stop.Stop.{Stop}
+use Rattle.audit_run.specs.declared.stop.Stop.TheVariants as stops
+
+-- ---- what is audited
+
+-- the bytes of the names that are given, as far as their reader knows them
+abbrev pub given_names : {N : Type 0} → (N → Option (List ℕ)) → Option (Result N FileFault)
+    → Option (Result (Option (List ℕ)) FileFault)
+given_names left None = None
+given_names left (Some (Ok names)) = Some (Ok (left names))
+given_names left (Some (Err fault)) = Some (Err fault)
+
+-- First what the names lead to that a reader gives, and then what those lead to that the command
+-- names.
+pub data AreGiven (Knows : Fact → Type 0) (every whole : Bool)
+    (names : Option (Result (Option (List ℕ)) FileFault)) (paths : List (Bor (List ℕ)))
+    (visits : List Visit) : Type 0 where
+  no_list : names ≡ None → AreNamed Knows every whole paths visits
+      → AreGiven Knows every whole names paths visits
+  unopened : (fault : FileFault) → names ≡ Some (Err fault) → whole ≡ false → visits ≡ []
+      → AreGiven Knows every whole names paths visits
+  in_names : (left : Option (List ℕ)) → names ≡ Some (Ok left) → whole ≡ false
+      → IsOnNames Knows every false left visits → AreGiven Knows every whole names paths visits
+  after_names : (left : Option (List ℕ)) (first rest : List Visit) → names ≡ Some (Ok left)
+      → IsOnNames Knows every true left first → AreNamed Knows every whole paths rest
+      → visits ≡ first ++ rest → AreGiven Knows every whole names paths visits
+
+-- ---- what is printed
+
+-- the last object, which has the SHA-256 of the list
+abbrev pub last_if : Option (List ℕ) → (name : List ℕ) → Queried → Tally → List Item
+last_if None name queried tally = []
+last_if (Some sha256) name queried tally =
+    said_of name (json_line (done_object tally.files.counts tally.counts (record {
+      name = record { ref_ptr = (0, 0); now = name };
+      stated = queried.stated;
+      sha256 = sha256;
+    }))) ∷ []
+
+abbrev pub last_items : (name : List ℕ) → Queried → Tally → List Item
+last_items name queried tally = last_if queried.sha256 name queried tally
+
+-- the fault of an audit that was stopped, if it is one
+abbrev pub stop_fault : (names_from : List ℕ) → Stop → Option RunFault
+stop_fault from stops.Revoked = None
+stop_fault from stops.NoMemory = Some (run_fault_of (codes "memory") NoMemory)
+stop_fault from (stops.Lost count) = Some (output_run_fault count)
+stop_fault from (stops.NoNames fault) = Some (run_fault_of from (File fault))
+
+-- What is printed of this, and the end of an audit that printed it: all of it, and the last object;
+-- that up to the first file with a revoked key, where no finding is asked for; what was printed when
+-- an allocation or the output failed; or that up to where no name could be read.
+pub data IsRunOf (order : Order) (items last : List Item) (whole : Bool) (tally : Tally)
+    (stop : Option RunFault) (run : List Item) : Type 0 where
+  all_audited : whole ≡ true → run ≡ items ++ last → IsRunOf order items last whole tally stop run
+  ended_at_revoked : order.shown.revoked ≡ false → 0 < tally.counts.revoked → stop ≡ None
+      → run ≡ items → IsRunOf order items last whole tally stop run
+  ran_out : (said later : List Item) → items ≡ said ++ later
+      → stop ≡ Some (run_fault_of (codes "memory") NoMemory)
+      → run ≡ said ++ Passed (codes "memory") ∷ [] → IsRunOf order items last whole tally stop run
+  lost : (count : ℕ) → stop ≡ Some (output_run_fault count) → run ≡ items
+      → IsRunOf order items last whole tally stop run
+  no_names : (fault : FileFault) → whole ≡ false
+      → stop ≡ Some (run_fault_of order.names_from.now (File fault))
+      → run ≡ items ++ Stopped (run_fault_of order.names_from.now (File fault)) ∷ []
+      → IsRunOf order items last whole tally stop run
+
+-- An audit by these entries meets this, with each file once, and prints it.
+pub record IsAudit (Knows : Fact → Type 0) (order : Order) (queried : Queried)
+    (names : Option (Result (Option (List ℕ)) FileFault)) (entries : List Entry) (old tally : Tally)
+    (stop : Option RunFault) (run : List Item) : Type 0 where
+  pub visits : List Visit
+  pub whole : Bool
+  pub given : AreGiven Knows order.every_file whole names order.paths.now visits
+  pub timely : AreTimely (reasons_of entries) old visits
+  pub is_run : IsRunOf order (visits_items (reasons_of entries) order.shown visits)
+      (last_items order.list.now queried tally) whole tally stop run
+  pub tally_is : stop ≡ None → tally ≡ all_tallied (reasons_of entries) old visits
+
+-- All was audited after nothing was printed, or the audit was stopped.
+abbrev pub AuditsAll : (Fact → Type 0) → Order → Queried
+    → Option (Result (Option (List ℕ)) FileFault) → Option RunFault → State → State → Type 0
+AuditsAll Knows order queried names stop old new =
+    (entries : List Entry) (before : Option (List ℕ)) → Means old.judge.list.now entries
+    → old.judge.shown ≡ order.shown → HasSaid before [] old.printer
+    → (run : List Item)
+    × (IsAudit Knows order queried names entries old.tally new.tally stop run
+    × (Reaches before run stop new.printer × (new.printer.writer ≡ old.printer.writer)))
+
+-- no file was audited
+abbrev pub nothing_tallied : Tally
+nothing_tallied =
+    record { counts = record { keys = 0; revoked = 0; unread = 0 }; files = no_files }
+
+abbrev pub summary_of : Tally → Queried → Summary
+summary_of tally queried = record {
+  files = tally.files.counts;
+  revoked_files = tally.files.revoked;
+  counts = tally.counts;
+  stated = queried.stated;
+}
+
+-- The end of an audit. One that was stopped has a fault.
+pub record EndsAuditBy (Knows : Fact → Type 0) (order : Order) (queried : Queried)
+    (names : Option (Result (Option (List ℕ)) FileFault)) (before after : Option (List ℕ))
+    (failed : Bool) (summary : Summary) (status : ℕ) (fault : Option RunFault) : Type 0 where
+  pub tally : Tally
+  pub summary_is : summary ≡ summary_of tally queried
+  pub ends : (entries : List Entry) → Means queried.list.now entries
+      → (stop : Option RunFault) × (run : List Item)
+      × (IsAudit Knows order queried names entries nothing_tallied tally stop run
+      × (EndsAudit run tally.counts before after failed status fault
+      × (fault ≡ None → stop ≡ None)))

@@ -1,0 +1,239 @@
+-- What an audit meets, one after another, and what it prints and counts of it.
+use Rattle.std.specs.Prelude.{◌≡◌, ℕ, ◌+◌, ◌-◌, ◌^◌, ◌<◌, ◌||◌, nat_lt, min, Bool, true, false, is_ok, List}
+use Rattle.std.specs.Prelude.{[], ◌∷◌, ◌++◌, Option, Some, None, Result, Ok, Err, ◌⊎◌}
+use Rattle.std.specs.BTreeSet.{contains, insert_key}
+use Rattle.std.specs.Cmp.Lexicographic.{slice_cmp}
+use Rattle.std.specs.List.{flat_map}
+use Rattle.std.specs.Ordering.{nat_cmp}
+use Rattle.std.specs.Result.{result_err}
+use Rattle.key_files.specs.RunFault.{output_run_fault}
+use Rattle.key_files.specs.declared.cause.Cause.{Cause}
+use Rattle.key_files.specs.declared.cause.Cause.TheVariants.{Output}
+use Rattle.key_listing.specs.Carries.{IsLost}
+use Rattle.key_listing.specs.Printer.{HasSaid, Printer}
+use Rattle.key_listing.specs.Run.{Item}
+use Rattle.krl_types.specs.Subject.{Subject}
+use Rattle.krl_types.specs.Entry.{Entry}
+use Rattle.krl_entries.specs.Reasons.{reasons_of}
+use Rattle.krl_entries.specs.Revocations.{Means}
+use Rattle.krl_entries.specs.declared.reasons.Reasons.{Reasons}
+use Rattle.krl_audit.specs.Audit.{file_items, file_kinds, said_if}
+use Rattle.krl_audit.specs.Counts.{all_counted, one_more}
+use Rattle.krl_audit.specs.Same.{same_said}
+use Rattle.krl_audit.specs.declared.counts.Counts.{Counts}
+use Rattle.krl_audit.specs.declared.judge.Judge.{Judge}
+use Rattle.krl_audit.specs.declared.judge.Shown.{Shown}
+use Rattle.krl_audit.specs.declared.why.Refusal.{Refusal}
+use Rattle.audit_run.specs.declared.files.Files.{Files}
+use Rattle.audit_run.specs.declared.files.Since.{Since}
+use Rattle.audit_run.specs.declared.stop.Stop.{Stop}
+use Rattle.audit_run.specs.declared.stop.Stop.TheVariants as stops
+
+-- What an audit meets.
+pub data Visit : Type 0 where
+  -- a file is audited, by its bytes or why there are none; a regular one that was opened has a key
+  Audited : (key : Option (List ℕ)) (name : List ℕ) → Result (List ℕ) Refusal → Visit
+  -- a name leads to a file that was audited before
+  Same : (key name : List ℕ) → Visit
+  -- this many names of a directory are passed over
+  Skipped : ℕ → Visit
+
+abbrev pub refused : List ℕ → Refusal → List Visit
+refused name refusal = Audited None name (Err refusal) ∷ []
+
+-- ---- what is printed
+
+abbrev pub visit_items : (Subject → Reasons) → Shown → Visit → List Item
+visit_items reasons shown (Audited key name content) = file_items reasons shown name content
+visit_items reasons shown (Same key name) =
+    said_if shown.revoked name (same_said shown.form name) ∷ []
+visit_items reasons shown (Skipped count) = []
+
+unfoldable pub visits_items : (Subject → Reasons) → Shown → List Visit → List Item
+visits_items reasons shown visits = flat_map (visit_items reasons shown) visits
+
+-- ---- what is counted
+
+-- The counts of lines and of files, and the keys of the files that were audited.
+pub record Tally : Type 0 where
+  pub counts : Counts
+  pub files : Files
+
+-- no file
+abbrev pub no_files : Files
+no_files = record {
+  counts = record { audited = 0; same = 0; skipped = 0 };
+  revoked = 0;
+  seen = record { keys = [] };
+}
+
+abbrev pub with_key : Option (List ℕ) → Files → Files
+with_key None files = files
+with_key (Some key) files =
+    record files { seen = record { keys = insert_key (slice_cmp nat_cmp) files.seen.keys key } }
+
+-- with a file that was audited, in which a key is revoked or not
+abbrev pub with_audited : Bool → Files → Files
+with_audited revoked files = record files {
+  counts = record files.counts { audited = one_more files.counts.audited true };
+  revoked = one_more files.revoked revoked;
+}
+
+abbrev pub with_same : Files → Files
+with_same files =
+    record files { counts = record files.counts { same = one_more files.counts.same true } }
+
+abbrev pub with_skipped : ℕ → Files → Files
+with_skipped count files = record files {
+  counts = record files.counts { skipped = min (files.counts.skipped + count) (2 ^ 64 - 1) };
+}
+
+abbrev pub tally_with : Option (List ℕ) → Tally → Counts → Tally
+tally_with key tally counts = record {
+  counts = counts;
+  files = with_audited (nat_lt tally.counts.revoked counts.revoked) (with_key key tally.files);
+}
+
+abbrev pub tallied : (Subject → Reasons) → Tally → Visit → Tally
+tallied reasons tally (Audited key name content) =
+    tally_with key tally (all_counted tally.counts (file_kinds reasons name content))
+tallied reasons tally (Same key name) =
+    record { counts = tally.counts; files = with_same tally.files }
+tallied reasons tally (Skipped count) =
+    record { counts = tally.counts; files = with_skipped count tally.files }
+
+abbrev pub all_tallied : (Subject → Reasons) → Tally → List Visit → Tally
+all_tallied reasons tally [] = tally
+all_tallied reasons tally (visit ∷ visits) =
+    all_tallied reasons (tallied reasons tally visit) visits
+
+-- ---- a file is audited once
+
+abbrev pub is_seen : Files → List ℕ → Bool
+is_seen files key = contains (slice_cmp nat_cmp) files.seen key
+
+-- A file with a key is audited exactly if none with this key was.
+abbrev pub IsTimely : Tally → Visit → Type 0
+IsTimely tally (Audited None name content) = Unit {0}
+IsTimely tally (Audited (Some key) name content) = is_seen tally.files key ≡ false
+IsTimely tally (Same key name) = is_seen tally.files key ≡ true
+IsTimely tally (Skipped count) = Unit {0}
+
+abbrev pub AreTimely : (Subject → Reasons) → Tally → List Visit → Type 0
+AreTimely reasons tally [] = Unit {0}
+AreTimely reasons tally (visit ∷ visits) =
+    IsTimely tally visit × AreTimely reasons (tallied reasons tally visit) visits
+
+-- ---- how far an audit is
+
+-- The list and which findings are printed, the printer, the tally, and what was met since a
+-- directory that is named was entered.
+pub record State : Type 0 where
+  pub judge : Judge
+  pub printer : Printer
+  pub tally : Tally
+  pub since : Since
+
+-- All of the first items were printed.
+pub record IsFront (before : Option (List ℕ)) (items : List Item) (now : Printer) : Type 0 where
+  pub said : List Item
+  pub later : List Item
+  pub parts : items ≡ said ++ later
+  pub has_said : HasSaid before said now
+
+-- the reason that an audit stops, by the cause that a file gives
+abbrev pub stop_for : Cause → Stop
+stop_for (Output count) = stops.Lost count
+stop_for cause = stops.NoMemory
+
+-- An audit was stopped: after all of these items, as a key is revoked and no finding is asked for,
+-- or as no name could be read; or within them.
+abbrev pub IsStopped : Option (List ℕ) → List Item → Stop → State → Type 0
+IsStopped before items stops.Revoked now =
+    HasSaid before items now.printer
+    × ((now.judge.shown.revoked ≡ false) × (0 < now.tally.counts.revoked))
+IsStopped before items stops.NoMemory now = IsFront before items now.printer
+IsStopped before items (stops.NoNames fault) now = HasSaid before items now.printer
+IsStopped before items (stops.Lost count) now =
+    IsLost before items count (output_run_fault count) now.printer
+
+-- All of these items were printed, or the audit was stopped.
+abbrev pub Says : Option (List ℕ) → List Item → Option Stop → State → Type 0
+Says before items None now = HasSaid before items now.printer
+Says before items (Some stop) now = IsStopped before items stop now
+
+abbrev pub IsTallied : (Subject → Reasons) → List Visit → Option Stop → Tally → Tally → Type 0
+IsTallied reasons visits None old new = new ≡ all_tallied reasons old visits
+IsTallied reasons visits (Some stops.Revoked) old new = new ≡ all_tallied reasons old visits
+IsTallied reasons visits (Some stops.NoMemory) old new = Unit {0}
+IsTallied reasons visits (Some (stops.Lost count)) old new = Unit {0}
+IsTallied reasons visits (Some (stops.NoNames fault)) old new = Unit {0}
+
+-- This was met after whatever was met before: it was printed and counted, or the audit was stopped
+-- within it. Each file is audited once.
+pub record Audits (reasons : Subject → Reasons) (visits : List Visit) (stop : Option Stop)
+    (old new : State) : Type 0 where
+  pub says : (before : Option (List ℕ)) (said : List Item) → HasSaid before said old.printer
+      → Says before (said ++ visits_items reasons old.judge.shown visits) stop new
+  pub tallies : IsTallied reasons visits stop old.tally new.tally
+  pub timely : AreTimely reasons old.tally visits
+  pub writer : new.printer.writer ≡ old.printer.writer
+
+-- The same by a list, for each row of entries that it means.
+pub record AuditsBy (visits : List Visit) (stop : Option Stop) (old new : State) : Type 0 where
+  pub judge : new.judge ≡ old.judge
+  pub audits : (entries : List Entry) → Means old.judge.list.now entries
+      → Audits (reasons_of entries) visits stop old new
+
+-- ---- since a directory that is named was entered
+
+abbrev pub gives_one : Visit → Bool
+gives_one (Audited key name content) = true
+gives_one (Same key name) = true
+gives_one (Skipped count) = false
+
+-- some file is audited, or was before
+abbrev pub gives : List Visit → Bool
+gives [] = false
+gives (visit ∷ visits) = gives_one visit || gives visits
+
+abbrev pub passes_one : Visit → Bool
+passes_one (Audited key name content) = false
+passes_one (Same key name) = false
+passes_one (Skipped count) = nat_lt 0 count
+
+-- some name is passed over
+abbrev pub passes : List Visit → Bool
+passes [] = false
+passes (visit ∷ visits) = passes_one visit || passes visits
+
+abbrev pub IsSince : List Visit → Option Stop → Since → Since → Type 0
+IsSince visits None old new =
+    (new.gave ≡ old.gave || gives visits) × (new.passed ≡ old.passed || passes visits)
+IsSince visits (Some stop) old new = Unit {0}
+
+-- The same, and what was met since a directory that is named was entered.
+pub record Meets (visits : List Visit) (stop : Option Stop) (old new : State) : Type 0 where
+  pub audits : AuditsBy visits stop old new
+  pub since : IsSince visits stop old.since new.since
+
+-- ---- what holds of a part of an audit
+
+-- It was done, or had been begun at most when an audit stopped.
+abbrev pub Begun : {A : Type 0} → Result A Stop → (A → List Visit → Type 0) → List Visit → Type 0
+Begun (Ok value) Is visits = Is value visits
+Begun {A} (Err stop) Is visits = ((value : A) × Is value visits) ⊎ (visits ≡ [])
+
+-- Something that is so was met.
+pub record Goes {A : Type 0} (result : Result A Stop) (Is : A → List Visit → Type 0)
+    (old new : State) : Type 0 where
+  pub visits : List Visit
+  pub is : Begun result Is visits
+  pub meets : Meets visits (result_err result) old new
+
+-- Something that is so, whole or not, was audited.
+pub record Went {A : Type 0} (Is : (whole : Bool) → List Visit → Type 0) (result : Result A Stop)
+    (old new : State) : Type 0 where
+  pub visits : List Visit
+  pub is : Is (is_ok result) visits
+  pub audits : AuditsBy visits (result_err result) old new

@@ -1,0 +1,296 @@
+//! What the names of a directory lead to.
+
+ghost use Rattle.std.specs.Prelude.{◌≡◌, ◌∷◌, [], IfOk, IfSome, None, Some, true, false, is_some};
+ghost use Rattle.std.specs.Prelude.{string_bytes};
+ghost use Rattle.std.specs.Result.{result_err};
+ghost use Rattle.krl_audit.specs.Audit.{content_of};
+ghost use Rattle.audit_tree.specs.Paths.{path_in};
+ghost use Rattle.audit_run.specs.Entries.{IsEntry, IsFileBy, IsFound, IsLink, IsBehind, IsLooked};
+ghost use Rattle.audit_run.specs.Entries.{IsOpened, IsPrivate, IsPrivateIf, IsRead, IsRegular};
+ghost use Rattle.audit_run.specs.Entries.{irregular, is_directory, is_expected, key_of};
+ghost use Rattle.audit_run.specs.Entries.{IsRegularBy, IsPrivateBy, IsPrivateFront};
+ghost use Rattle.audit_run.specs.Fact.{read_as};
+ghost use Rattle.audit_run.specs.Visits.{Goes, Meets, is_seen};
+
+use crate::files::{Key, key_of};
+use crate::kind::{Found, Kind, Opened, What};
+use crate::names::{Place, is_never};
+use crate::round::{Round, Screen};
+use crate::stop::Stop;
+use crate::tree::Tree;
+use audit_tree::{Selection, path_in, reads_every, selection_of, shown_path};
+use key_text::is_container;
+use krl_audit::Refusal;
+use std::{mem, str};
+
+/// A path in a directory: whether a file there is read by its name, and whether sshd or ssh reads a
+/// file of this name.
+#[derive(Clone, Copy)]
+pub(crate) struct Entry<'p> {
+    path: &'p str,
+    selection: Selection,
+    expected: bool,
+}
+
+/// Audits what a name of a directory leads to. Answers its path where that is a directory that is
+/// entered.
+pub(crate) fn audit_entry<T: Tree, W: Screen>(
+    tree: &T,
+    round: &mut Round<'_, '_, W>,
+    place: Place<'_>,
+    name: &[u8],
+) -> Result<Option<String>, Stop>
+    ensures entry { Goes result (λ below. IsEntry (T.states tree.now) place.entry.every
+        place.entry.path.now name.now (is_some below)) round.old round.new }
+    ensures below { IfOk result (λ below. IfSome below (λ path.
+        string_bytes path ≡ path_in place.entry.path.now name.now)) }
+{
+    let alloc = round.auditor.run.alloc;
+    let Ok(text) = str::from_utf8(name) else {
+        let shown = shown_path(alloc, place.path, name)?;
+        round.audit(None, shown.as_str(), Err(Refusal::Open))?;
+        return Ok(None);
+    };
+    let path = path_in(alloc, place.path, text)?;
+    let selection = selection_of(place.every, name);
+    if is_never(selection) {
+        return Ok(Some(path));
+    }
+    let found = tree.look(path.as_str(), false);
+    if is_directory(found) {
+        return Ok(Some(path));
+    }
+    let entry = Entry {
+        path: path.as_str(),
+        selection,
+        expected: is_expected(place.path.as_bytes(), name),
+    };
+    audit_looked(tree, round, entry, found)?;
+    Ok(None)
+}
+
+/// Whether a directory was found.
+pub(crate) fn is_directory(found: Result<Found, Refusal>) -> bool
+    ensures { result ≡ is_directory found }
+{
+    match found {
+        Ok(found) => found.kind.is_directory(),
+        Err(_) => false,
+    }
+}
+
+// Whether sshd or ssh reads a file of this name in this directory.
+fn is_expected(directory: &[u8], name: &[u8]) -> bool
+    ensures { result ≡ is_expected directory.now name.now }
+{
+    match selection_of(reads_every(directory), name) {
+        Selection::Always => true,
+        Selection::IfPrivate | Selection::Never => false,
+    }
+}
+
+// Audits what was found in a directory, or says why it cannot be looked at.
+fn audit_looked<T: Tree, W: Screen>(
+    tree: &T,
+    round: &mut Round<'_, '_, W>,
+    entry: Entry<'_>,
+    looked: Result<Found, Refusal>,
+) -> Result<(), Stop>
+    ensures { Goes result (λ _. IsLooked (T.states tree.now) entry.entry.path.now
+        entry.entry.selection entry.entry.expected looked) round.old round.new }
+{
+    match looked {
+        Ok(found) if found.kind.is_link() => audit_link(tree, round, entry),
+        Ok(found) => audit_found(tree, round, entry, found),
+        Err(refusal) => round.audit(None, entry.path, Err(refusal)),
+    }
+}
+
+// Audits what a link leads to that was found in a directory.
+fn audit_link<T: Tree, W: Screen>(
+    tree: &T,
+    round: &mut Round<'_, '_, W>,
+    entry: Entry<'_>,
+) -> Result<(), Stop>
+    ensures { Goes result (λ _. IsLink (T.states tree.now) entry.entry.path.now
+        entry.entry.selection entry.entry.expected) round.old round.new }
+{
+    let behind = tree.look(entry.path, true);
+    audit_behind(tree, round, entry, behind)
+}
+
+// Audits what is behind a link. A link to a directory is not followed.
+fn audit_behind<T: Tree, W: Screen>(
+    tree: &T,
+    round: &mut Round<'_, '_, W>,
+    entry: Entry<'_>,
+    behind: Result<Found, Refusal>,
+) -> Result<(), Stop>
+    ensures { Goes result (λ _. IsBehind (T.states tree.now) entry.entry.path.now
+        entry.entry.selection entry.entry.expected behind) round.old round.new }
+{
+    match behind {
+        Ok(found) if found.kind.is_directory() => {
+            round.audit(None, entry.path, Err(Refusal::DirectoryLink))
+        }
+        Ok(found) => audit_found(tree, round, entry, found),
+        Err(refusal) => round.audit(None, entry.path, Err(refusal)),
+    }
+}
+
+// Audits what was found. A pipe, a socket or a device is not opened.
+fn audit_found<T: Tree, W: Screen>(
+    tree: &T,
+    round: &mut Round<'_, '_, W>,
+    entry: Entry<'_>,
+    found: Found,
+) -> Result<(), Stop>
+    ensures { Goes result (λ _. IsFound found.kind (T.states tree.now) entry.entry.path.now
+        entry.entry.selection entry.entry.expected found) round.old round.new }
+{
+    match found.kind {
+        Kind::File => audit_file(tree, round, entry, found),
+        Kind::Directory | Kind::Link | Kind::Other => {
+            refuse_irregular(round, entry.path, entry.expected)
+        }
+    }
+}
+
+// Says that this is no regular file, where sshd or ssh reads a file of this name.
+fn refuse_irregular<W: Screen>(
+    round: &mut Round<'_, '_, W>,
+    path: &str,
+    expected: bool,
+) -> Result<(), Stop>
+    ensures { Meets (irregular expected path.now) (result_err result) round.old round.new }
+{
+    if expected {
+        round.audit(None, path, Err(Refusal::Irregular))
+    } else {
+        round.skip(1);
+        Ok(())
+    }
+}
+
+// Audits a regular file, by its name.
+fn audit_file<T: Tree, W: Screen>(
+    tree: &T,
+    round: &mut Round<'_, '_, W>,
+    entry: Entry<'_>,
+    found: Found,
+) -> Result<(), Stop>
+    ensures { Goes result (λ _. IsFileBy entry.entry.selection (T.states tree.now)
+        entry.entry.path.now found) round.old round.new }
+{
+    match entry.selection {
+        Selection::Always => audit_regular(tree, round, entry.path, found),
+        Selection::IfPrivate | Selection::Never => audit_private(tree, round, entry.path, found),
+    }
+}
+
+/// Audits a file that was a regular one when it was looked at.
+pub(crate) fn audit_regular<T: Tree, W: Screen>(
+    tree: &T,
+    round: &mut Round<'_, '_, W>,
+    path: &str,
+    found: Found,
+) -> Result<(), Stop>
+    ensures { Goes result (λ _. IsRegular (T.states tree.now) path.now found) round.old
+        round.new }
+{
+    let opened = tree.open(path, Some(found))?;
+    match opened {
+        Ok(opened) if opened.is_file => audit_opened(tree, round, path, opened),
+        Ok(_) => round.audit(None, path, Err(Refusal::Irregular)),
+        Err(refusal) => round.audit(None, path, Err(refusal)),
+    }
+}
+
+// The same where it is audited only if it is a private key file.
+fn audit_private<T: Tree, W: Screen>(
+    tree: &T,
+    round: &mut Round<'_, '_, W>,
+    path: &str,
+    found: Found,
+) -> Result<(), Stop>
+    ensures { Goes result (λ _. IsPrivate (T.states tree.now) path.now found) round.old
+        round.new }
+{
+    let opened = tree.open(path, Some(found))?;
+    match opened {
+        Ok(opened) if opened.is_file => audit_if_private(tree, round, path, opened),
+        Ok(_) => round.audit(None, path, Err(Refusal::Irregular)),
+        Err(refusal) => round.audit(None, path, Err(refusal)),
+    }
+}
+
+// Audits an open file if it begins as a private key file.
+fn audit_if_private<T: Tree, W: Screen>(
+    tree: &T,
+    round: &mut Round<'_, '_, W>,
+    path: &str,
+    opened: Opened,
+) -> Result<(), Stop>
+    ensures { Goes result (λ _. IsPrivateIf true (T.states tree.now) path.now opened) round.old
+        round.new }
+{
+    let mut front = mem::replace(&mut round.text, Vec::new(round.auditor.run.alloc));
+    let read = tree.read(What::Front, path, &mut front)?;
+    let is_private = is_container(front.as_slice());
+    round.text = front;
+    match read {
+        Ok(()) if is_private => audit_opened(tree, round, path, opened),
+        Ok(()) => {
+            round.skip(1);
+            Ok(())
+        }
+        Err(refusal) => round.audit(None, path, Err(refusal)),
+    }
+}
+
+/// Audits an open regular file, unless it was audited before.
+pub(crate) fn audit_opened<T: Tree, W: Screen>(
+    tree: &T,
+    round: &mut Round<'_, '_, W>,
+    path: &str,
+    opened: Opened,
+) -> Result<(), Stop>
+    ensures { Goes result (λ _. IsOpened (T.states tree.now) path.now opened) round.old
+        round.new }
+{
+    let key = key_of(path.as_bytes(), opened.identity);
+    if round.files.has(key) {
+        round.say_same(key, path)
+    } else {
+        audit_read(tree, round, What::Whole, path, Some(key))
+    }
+}
+
+/// Audits what is read, or says why there is nothing.
+pub(crate) fn audit_read<T: Tree, W: Screen>(
+    tree: &T,
+    round: &mut Round<'_, '_, W>,
+    what: What,
+    path: &str,
+    key: Option<Key>,
+) -> Result<(), Stop>
+    requires { IfSome key (λ new. is_seen round.old.tally.files new ≡ false) }
+    ensures { Goes result (λ _. IsRead (T.states tree.now) what path.now key) round.old
+        round.new }
+{
+    let mut text = mem::replace(&mut round.text, Vec::new(round.auditor.run.alloc));
+    let read = tree.read(what, path, &mut text)?;
+    let done = round.audit(key, path, content_of(read, text.as_slice()));
+    round.text = text;
+    done
+}
+
+// The bytes that were read, or why there are none.
+fn content_of(read: Result<(), Refusal>, text: &[u8]) -> Result<&[u8], Refusal>
+    ensures { content_of result ≡ read_as read text.now }
+{
+    match read {
+        Ok(()) => Ok(text),
+        Err(refusal) => Err(refusal),
+    }
+}

@@ -1,0 +1,87 @@
+//! What a path leads to, and what is read there.
+
+ghost use Rattle.std.specs.Prelude.{◌≡◌};
+ghost use Rattle.audit_run.specs.Names.{is_directory_kind, is_file_kind, is_link_kind};
+
+/// What a path leads to.
+#[derive(Clone, Copy, PartialEq, Eq)]
+pub enum Kind {
+    /// A directory.
+    Directory,
+    /// A regular file.
+    File,
+    /// A symbolic link that was not followed.
+    Link,
+    /// A pipe, a socket or a device.
+    Other,
+}
+
+impl Kind {
+    /// Whether it is a directory.
+    pub(crate) fn is_directory(self) -> bool
+        ensures { result ≡ is_directory_kind self }
+    {
+        match self {
+            Kind::Directory => true,
+            Kind::File | Kind::Link | Kind::Other => false,
+        }
+    }
+
+    /// Whether it is a regular file.
+    pub(crate) fn is_file(self) -> bool
+        ensures { result ≡ is_file_kind self }
+    {
+        match self {
+            Kind::File => true,
+            Kind::Directory | Kind::Link | Kind::Other => false,
+        }
+    }
+
+    /// Whether it is a link that was not followed.
+    pub(crate) fn is_link(self) -> bool
+        ensures { result ≡ is_link_kind self }
+    {
+        match self {
+            Kind::Link => true,
+            Kind::Directory | Kind::File | Kind::Other => false,
+        }
+    }
+}
+
+/// What was found at a path.
+#[derive(Clone, Copy)]
+pub struct Found {
+    /// What it is.
+    pub kind: Kind,
+    /// Its owner, by number.
+    pub owner: u32,
+}
+
+/// A file, whatever names it has.
+#[derive(Clone, Copy)]
+pub struct Identity {
+    /// The device that it is on.
+    pub device: u64,
+    /// Its number there.
+    pub number: u64,
+}
+
+/// What is open.
+#[derive(Clone, Copy)]
+pub struct Opened {
+    /// Whether it is a regular file.
+    pub is_file: bool,
+    /// Which file it is.
+    pub identity: Identity,
+}
+
+/// What is read.
+#[derive(Clone, Copy, PartialEq, Eq)]
+pub enum What {
+    /// The bytes of standard input.
+    Input,
+    /// The first bytes of a file, which show whether it begins as a private key file.
+    Front,
+    /// The bytes of a file.
+    Whole,
+}

@@ -1,0 +1,18 @@
+//! An audit of files and directories by a list, as one run.
+#![tactic(auto)]
+
+mod entries;
+mod files;
+mod kind;
+mod named;
+mod names;
+mod round;
+mod run;
+mod stop;
+mod tree;
+mod walk;
+
+pub use kind::{Found, Identity, Kind, Opened, What};
+pub use round::Screen;
+pub use run::{Audited, Given, Order, Queried, audit_by};
+pub use tree::Tree;

@@ -1,0 +1,245 @@
+//! The files and directories that are named.
+
+ghost use Rattle.std.specs.Prelude.{◌≡◌, ◌+◌, ◌∷◌, ◌++◌, [], ℕ, List, true, false, is_ok, take, OnOk};
+ghost use Rattle.std.specs.Prelude.{◌<◌, ◌≤◌, length, nat_lt};
+ghost use Rattle.std.specs.Result.{result_err};
+ghost use Rattle.krl_audit.specs.Visible.{visible_bytes};
+ghost use Rattle.audit_run.specs.Named.{AreNamed, Each, IsNamed, IsOnList, IsOnNames, IsWaiting};
+ghost use Rattle.audit_run.specs.Named.{is_file, irregular_at, most_name, names_to, rest_after};
+ghost use Rattle.audit_run.specs.Names.{names_after};
+ghost use Rattle.audit_run.specs.Visits.{Goes, Meets, Went, refused};
+
+use crate::entries::{audit_opened, audit_read, audit_regular, is_directory};
+use crate::kind::What;
+use crate::round::{Round, Screen};
+use crate::stop::Stop;
+use crate::tree::Tree;
+use crate::walk::audit_directory;
+use byte_streams::Source;
+use key_files::FileFault;
+use krl_audit::{Refusal, visible_name};
+use std::alloc::AllocError;
+use std::str;
+
+// How many bytes of names are read at a time.
+const BUFFER: usize = 8_192;
+// The most bytes of a name. Linux opens no path of more.
+const NAME_LIMIT: usize = 4_096;
+
+const UNREAD: Stop = Stop::NoNames {
+    fault: FileFault::Read,
+};
+
+/// Audits the files and directories that the command names.
+pub(crate) fn audit_paths<T: Tree, W: Screen>(
+    tree: &T,
+    round: &mut Round<'_, '_, W>,
+    every: bool,
+    paths: &[&str],
+) -> Result<(), Stop>
+    ensures { Went (λ whole. AreNamed (T.states tree.now) every whole paths.now) result round.old
+        round.new }
+{
+    for path in paths {
+        audit_named(tree, round, every, *path)?;
+    }
+    Ok(())
+}
+
+// Audits a file or a directory that the command names. A pipe is waited for.
+fn audit_named<T: Tree, W: Screen>(
+    tree: &T,
+    round: &mut Round<'_, '_, W>,
+    every: bool,
+    path: &str,
+) -> Result<(), Stop>
+    ensures { Went (λ whole. IsNamed (T.states tree.now) every whole path.now) result round.old
+        round.new }
+{
+    if path == "-" {
+        return audit_read(tree, round, What::Input, path, None);
+    }
+    let found = tree.look(path, true);
+    if is_directory(found) {
+        return audit_directory(tree, round, every, path);
+    }
+    match found {
+        Ok(found) if found.kind.is_file() => audit_regular(tree, round, path, found),
+        Ok(_) => audit_waiting(tree, round, path),
+        Err(_) => audit_waiting(tree, round, path),
+    }
+}
+
+// Audits what the command names and is no regular file, as a pipe, or says why it cannot.
+fn audit_waiting<T: Tree, W: Screen>(
+    tree: &T,
+    round: &mut Round<'_, '_, W>,
+    path: &str,
+) -> Result<(), Stop>
+    ensures { Goes result (λ _. IsWaiting (T.states tree.now) path.now) round.old round.new }
+{
+    let opened = tree.open(path, None)?;
+    match opened {
+        Ok(opened) if opened.is_file => audit_opened(tree, round, path, opened),
+        Ok(_) => audit_read(tree, round, What::Whole, path, None),
+        Err(refusal) => round.audit(None, path, Err(refusal)),
+    }
+}
+
+/// Audits the files and directories whose names a reader gives, each ended by a zero byte. No pipe
+/// is waited for.
+pub(crate) fn audit_listed<T: Tree, N: Source, W: Screen>(
+    tree: &T,
+    round: &mut Round<'_, '_, W>,
+    every: bool,
+    names: &mut N,
+) -> Result<(), Stop>
+    requires { N.has_failed names.old ≡ false }
+    ensures { Went (λ whole. IsOnNames (T.states tree.now) every whole (N.left names.old)) result
+        round.old round.new }
+{
+    let mut name = Vec::new(round.auditor.run.alloc);
+    let mut batch = [0; BUFFER];
+    // A bound that no reader reaches, so that this ends whatever the system returns.
+    'batches: for _part in 0..u64::MAX {
+        let Ok(count) = names.read(&mut batch) else {
+            return Err(UNREAD);
+        };
+        if count == 0 {
+            return end_listed(tree, round, every, name.as_slice());
+        }
+        take_listed(tree, round, every, &batch[..count], &mut name)?;
+    }
+    Err(UNREAD)
+}
+
+// Audits the names that end in these bytes, of which the first one may have begun before.
+fn take_listed<T: Tree, W: Screen>(
+    tree: &T,
+    round: &mut Round<'_, '_, W>,
+    every: bool,
+    bytes: &[u8],
+    name: &mut Vec<u8>,
+) -> Result<(), Stop>
+    ensures names { (front : List ℕ) → name.old.items ≡ take (most_name + 1) front
+        → Went (λ whole. Each (IsOnList (T.states tree.now) every) whole
+        (names_after front bytes.now)) result round.old round.new }
+    ensures name { (front : List ℕ) → name.old.items ≡ take (most_name + 1) front
+        → OnOk result (name.new.items ≡ take (most_name + 1) (rest_after front bytes.now)) }
+{
+    for byte in bytes {
+        if *byte != 0 {
+            keep_byte(name, *byte)?;
+            continue;
+        }
+        audit_one_listed(tree, round, every, name.as_slice())?;
+        name.clear();
+    }
+    Ok(())
+}
+
+// Audits the last name, if it lacks its zero byte.
+fn end_listed<T: Tree, W: Screen>(
+    tree: &T,
+    round: &mut Round<'_, '_, W>,
+    every: bool,
+    name: &[u8],
+) -> Result<(), Stop>
+    ensures { (front : List ℕ) → name.now ≡ take (most_name + 1) front
+        → Went (λ whole. Each (IsOnList (T.states tree.now) every) whole (names_to front))
+        result round.old round.new }
+{
+    if is_begun(name) {
+        audit_one_listed(tree, round, every, name)
+    } else {
+        Ok(())
+    }
+}
+
+// Audits a file or a directory of a list of names.
+fn audit_one_listed<T: Tree, W: Screen>(
+    tree: &T,
+    round: &mut Round<'_, '_, W>,
+    every: bool,
+    name: &[u8],
+) -> Result<(), Stop>
+    ensures { (full : List ℕ) → name.now ≡ take (most_name + 1) full
+        → Went (λ whole. IsOnList (T.states tree.now) every whole full) result round.old
+        round.new }
+{
+    if is_too_long(name) {
+        return refuse_name(round, front_of(name), Refusal::LongName);
+    }
+    let Ok(text) = str::from_utf8(name) else {
+        return refuse_name(round, name, Refusal::Open);
+    };
+    audit_text(tree, round, every, text)
+}
+
+// Audits a file or a directory of a list of names, whose name can be that of a file.
+fn audit_text<T: Tree, W: Screen>(
+    tree: &T,
+    round: &mut Round<'_, '_, W>,
+    every: bool,
+    path: &str,
+) -> Result<(), Stop>
+    ensures { length path.now ≤ most_name
+        → Went (λ whole. IsOnList (T.states tree.now) every whole path.now) result round.old
+        round.new }
+{
+    let found = tree.look(path, true);
+    if is_directory(found) {
+        return audit_directory(tree, round, every, path);
+    }
+    match found {
+        Ok(found) if found.kind.is_file() => audit_regular(tree, round, path, found),
+        Ok(_) => round.audit(None, path, Err(Refusal::Irregular)),
+        Err(refusal) => round.audit(None, path, Err(refusal)),
+    }
+}
+
+// Whether a name has a byte.
+fn is_begun(name: &[u8]) -> bool
+    ensures { result ≡ nat_lt 0 (length name.now) }
+{
+    !name.is_empty()
+}
+
+// Whether a name is longer than that of a file.
+fn is_too_long(name: &[u8]) -> bool
+    ensures { result ≡ nat_lt most_name (length name.now) }
+{
+    name.len() > NAME_LIMIT
+}
+
+// The front of a name that is too long.
+fn front_of(name: &[u8]) -> &[u8]
+    requires { most_name < length name.now }
+    ensures { result.now ≡ take most_name name.now }
+{
+    &name[..NAME_LIMIT]
+}
+
+// Says that a name cannot be opened, as the audit shows names that are not UTF-8.
+fn refuse_name<W: Screen>(
+    round: &mut Round<'_, '_, W>,
+    name: &[u8],
+    refusal: Refusal,
+) -> Result<(), Stop>
+    ensures { Goes result (λ _ visits. visits ≡ refused (visible_bytes false name.now) refusal)
+        round.old round.new }
+{
+    let shown = visible_name(round.auditor.run.alloc, name)?;
+    round.audit(None, shown.as_str(), Err(refusal))
+}
+
+// Keeps a byte of a name. A name that is too long keeps only its front, with one byte more.
+fn keep_byte(name: &mut Vec<u8>, byte: u8) -> Result<(), AllocError>
+    ensures { (front : List ℕ) → name.old.items ≡ take (most_name + 1) front
+        → OnOk result (name.new.items ≡ take (most_name + 1) (front ++ byte ∷ [])) }
+{
+    if !is_too_long(name.as_slice()) {
+        name.push(byte)?;
+    }
+    Ok(())
+}

@@ -1,0 +1,134 @@
+//! The auditor of files, and what was met so far.
+
+ghost use Rattle.std.specs.Prelude.{◌≡◌, ◌&&◌, ◌∷◌, [], IfSome, None, not, true, false};
+ghost use Rattle.std.specs.Result.{result_err};
+ghost use Rattle.krl_audit.specs.Audit.{content_of};
+ghost use Rattle.audit_run.specs.Visits.{Audited, Meets, Same, Skipped, is_seen, stop_for};
+
+use crate::files::{Files, Key, Since};
+use crate::stop::Stop;
+use audit_tree::Summary;
+use byte_streams::Sink;
+use key_files::{Cause, RunFault};
+use krl_audit::{Auditor, Refusal, Shown, Stated};
+use std::alloc::AllocError;
+use std::marker::Model;
+
+/// Where findings are printed, and how far the audit is may be shown.
+pub trait Screen: Sink {
+    /// Shows how far the audit is, beside what was written.
+    fn show(&mut self, summary: &Summary)
+        ensures taken { Self.Sink.taken self.new ≡ Self.Sink.taken self.old }
+        ensures failed { Self.Sink.has_failed self.new ≡ Self.Sink.has_failed self.old };
+}
+
+/// The auditor of files, and what was met so far.
+#[derive(Drop)]
+pub(crate) struct Round<'q, 'w, W: Screen> {
+    pub(crate) auditor: Auditor<'q, 'w, W>,
+    pub(crate) files: Files,
+    pub(crate) since: Since,
+    /// The version and the date of the list. A plain list has none.
+    pub(crate) stated: Option<Stated>,
+    /// The buffer for the bytes of a file.
+    pub(crate) text: Vec<u8>,
+}
+
+impl<'q, 'w, W: Screen> Model for Round<'q, 'w, W> {
+    ghost use Rattle.audit_run.specs.Visits.{State};
+
+    ghost Value = { State };
+
+    ghost view = { λ round. record {
+      judge = round.auditor.judge;
+      printer = round.auditor.run.printer;
+      tally = record { counts = round.auditor.counts; files = round.files };
+      since = round.since;
+    } };
+}
+
+impl<'q, 'w, W: Screen> Round<'q, 'w, W> {
+    /// The counts so far.
+    pub(crate) fn summary(&self) -> Summary {
+        Summary {
+            files: self.files.counts,
+            revoked_files: self.files.revoked,
+            counts: self.auditor.counts,
+            stated: self.stated,
+        }
+    }
+
+    /// Shows the counts so far.
+    pub(crate) fn show(&mut self)
+        ensures { self.new ≡ self.old }
+    {
+        let summary = self.summary();
+        self.auditor.run.printer.out.show(&summary);
+    }
+
+    /// Audits the bytes of a file, or says why there are none, and counts it. One with a key was
+    /// not audited before.
+    pub(crate) fn audit(
+        &mut self,
+        key: Option<Key>,
+        name: &str,
+        content: Result<&[u8], Refusal>,
+    ) -> Result<(), Stop>
+        requires { IfSome key (λ new. is_seen self.old.tally.files new ≡ false) }
+        ensures { Meets (Audited key name.now (content_of content.entry) ∷ [])
+            (result_err result) self.old self.new }
+    {
+        self.files.keep(key)?;
+        let before = self.auditor.counts.revoked;
+        if let Err(fault) = self.auditor.audit_file(name, content) {
+            return Err(stop_by(&fault));
+        }
+        let revoked = self.auditor.counts.revoked > before;
+        self.files.count(revoked);
+        self.since.gave = true;
+        if ends_at(self.auditor.judge.shown, revoked) {
+            return Err(Stop::Revoked);
+        }
+        self.show();
+        Ok(())
+    }
+
+    /// Says that a file was audited before, and counts its name.
+    pub(crate) fn say_same(&mut self, key: Key, name: &str) -> Result<(), Stop>
+        requires { is_seen self.old.tally.files key ≡ true }
+        ensures { Meets (Same key name.now ∷ []) (result_err result) self.old self.new }
+    {
+        if let Err(fault) = self.auditor.say_same(name) {
+            return Err(stop_by(&fault));
+        }
+        self.files.count_same();
+        self.since.gave = true;
+        self.show();
+        Ok(())
+    }
+
+    /// Counts names that are passed over.
+    pub(crate) fn skip(&mut self, count: u64)
+        ensures { Meets (Skipped count ∷ []) None self.old self.new }
+    {
+        self.files.count_skipped(count);
+        self.since.passed |= count > 0;
+    }
+}
+
+// The output failed, or memory ran out within a file.
+fn stop_by(fault: &RunFault<'_>) -> Stop
+    ensures { result ≡ stop_for fault.now.cause }
+{
+    match fault.cause {
+        Cause::Output { count } => Stop::Lost { count },
+        _ => Stop::NoMemory,
+    }
+}
+
+// Whether the audit ends at a file in which a key is revoked or not: no finding is asked for.
+fn ends_at(shown: Shown, revoked: bool) -> bool
+    ensures { result ≡ revoked && not shown.revoked }
+{
+    revoked && !shown.revoked
+}

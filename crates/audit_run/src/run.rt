@@ -1,0 +1,226 @@
+//! The whole audit.
+
+ghost use Rattle.std.specs.Prelude.{◌≡◌, List, Option, Some, Ok, false, IfSome, IfOk};
+ghost use Rattle.std.specs.Result.{result_err};
+ghost use Rattle.krl_types.specs.Entry.{Entry};
+ghost use Rattle.krl_entries.specs.Revocations.{Means};
+ghost use Rattle.key_listing.specs.Carries.{Carries};
+ghost use Rattle.audit_run.specs.Run.{AreGiven, AuditsAll, EndsAuditBy, given_names, last_items};
+ghost use Rattle.audit_run.specs.Run.{stop_fault};
+ghost use Rattle.audit_run.specs.Visits.{Went};
+
+use crate::files::{Files, Since};
+use crate::named::{audit_listed, audit_paths};
+use crate::round::{Round, Screen};
+use crate::stop::Stop;
+use crate::tree::Tree;
+use audit_tree::Summary;
+use byte_streams::Source;
+use key_files::{Cause, FileFault, RunFault};
+use key_listing::{Done, Printer, Run};
+use krl_audit::{Auditor, Counts, Form, Judge, ListFacts, Shown, Stated};
+use krl_entries::Revocations;
+use span_sets::Held;
+use std::alloc::Global;
+
+/// What the command asks for.
+#[derive(Clone, Copy)]
+pub struct Order<'a> {
+    /// The name of the list.
+    pub list: &'a str,
+    /// Which findings are printed, and how.
+    pub shown: Shown,
+    /// Whether every regular file of a directory is read, whatever its name.
+    pub every_file: bool,
+    /// The file of names of files, if there is one.
+    pub names_from: &'a str,
+    /// The files and directories that are named.
+    pub paths: &'a [&'a str],
+}
+
+/// A list that was read.
+#[derive(Clone, Copy)]
+pub struct Queried<'q> {
+    /// What it revokes.
+    pub list: &'q Revocations<Held>,
+    /// Its version and its date. A plain list has none.
+    pub stated: Option<Stated>,
+    /// The SHA-256 of its bytes, if the last object has it.
+    pub sha256: Option<[u8; 32]>,
+}
+
+/// Where files are found, and a reader of names of files, or why it cannot be had.
+#[derive(Drop)]
+pub struct Given<'t, T: Tree, N: Source + Drop> {
+    pub tree: &'t T,
+    pub names: Option<Result<N, FileFault>>,
+}
+
+/// The end of an audit, and what was counted.
+#[derive(Drop)]
+pub struct Audited<'a> {
+    pub done: Done<'a>,
+    pub summary: Summary,
+}
+
+/// Audits what the command asks for, by a list that was read.
+pub fn audit_by<'a, T: Tree, N: Source + Drop, W: Screen>(
+    alloc: Global,
+    order: &Order<'a>,
+    queried: &Queried<'_>,
+    given: Given<'_, T, N>,
+    out: &mut W,
+) -> Audited<'a>
+    requires read { (entries : List Entry) × Means queried.now.list.now entries }
+    requires working { W.Sink.has_failed out.old ≡ false }
+    requires names { IfSome given.names (λ names. IfOk names (λ names.
+        N.has_failed names ≡ false)) }
+    ensures { EndsAuditBy (T.states given.entry.tree.now) order.now queried.now
+        (given_names N.left given.entry.names) (W.Sink.taken out.old)
+        (W.Sink.taken out.new) (W.Sink.has_failed out.new) result.summary result.done.status
+        result.done.fault }
+{
+    let mut buffer = Vec::new(alloc);
+    let auditor = Auditor {
+        judge: Judge {
+            list: queried.list,
+            shown: order.shown,
+        },
+        run: Run {
+            alloc,
+            printer: Printer::new(&mut buffer, out),
+            line: Vec::new(alloc),
+        },
+        counts: Counts::NONE,
+    };
+    let mut round = Round {
+        auditor,
+        files: Files::new(alloc),
+        since: Since::NOTHING,
+        stated: queried.stated,
+        text: Vec::new(alloc),
+    };
+    let Given { tree, names } = given;
+    let stop = audit_all(tree, &mut round, order, queried, names);
+    let summary = Summary {
+        files: round.files.counts,
+        revoked_files: round.files.revoked,
+        counts: round.auditor.counts,
+        stated: queried.stated,
+    };
+    let Round {
+        auditor,
+        files: _files,
+        text: _text,
+        ..
+    } = round;
+    let Auditor { run, .. } = auditor;
+    let Run {
+        mut printer,
+        line: _line,
+        ..
+    } = run;
+    let fault = printer.finish(stop).fault;
+    let Printer { out: _out, .. } = printer;
+    Audited {
+        done: Done {
+            status: summary.counts.status(fault.is_some()),
+            fault,
+        },
+        summary,
+    }
+}
+
+// Audits all, and prints the last object if there is one. Answers why it was stopped.
+fn audit_all<'a, T: Tree, N: Source + Drop, W: Screen>(
+    tree: &T,
+    round: &mut Round<'_, '_, W>,
+    order: &Order<'a>,
+    queried: &Queried<'_>,
+    names: Option<Result<N, FileFault>>,
+) -> Option<RunFault<'a>>
+    requires read { (entries : List Entry) × Means round.old.judge.list.now entries }
+    requires names { IfSome names (λ names. IfOk names (λ names.
+        N.has_failed names ≡ false)) }
+    ensures all { AuditsAll (T.states tree.now) order.now queried.now (given_names N.left names)
+        result round.old round.new }
+    ensures writer { round.new.printer.writer ≡ round.old.printer.writer }
+{
+    match audit_given(tree, round, order, names) {
+        Ok(()) => say_last(round, order, queried).err(),
+        Err(stop) => stop_fault(order, stop),
+    }
+}
+
+// Audits all files, first those whose names a reader gives.
+fn audit_given<T: Tree, N: Source + Drop, W: Screen>(
+    tree: &T,
+    round: &mut Round<'_, '_, W>,
+    order: &Order<'_>,
+    names: Option<Result<N, FileFault>>,
+) -> Result<(), Stop>
+    requires names { IfSome names (λ names. IfOk names (λ names.
+        N.has_failed names ≡ false)) }
+    ensures { Went (λ whole. AreGiven (T.states tree.now) order.now.every_file whole
+        (given_names N.left names) order.now.paths.now) result round.old round.new }
+{
+    let Some(names) = names else {
+        return audit_paths(tree, round, order.every_file, order.paths);
+    };
+    match names {
+        Ok(names) => audit_both(tree, round, order, names),
+        Err(fault) => Err(Stop::NoNames { fault }),
+    }
+}
+
+// Audits the files whose names a reader gives, and then those that the command names.
+fn audit_both<T: Tree, N: Source + Drop, W: Screen>(
+    tree: &T,
+    round: &mut Round<'_, '_, W>,
+    order: &Order<'_>,
+    names: N,
+) -> Result<(), Stop>
+    requires names { N.has_failed names ≡ false }
+    ensures { Went (λ whole. AreGiven (T.states tree.now) order.now.every_file whole
+        (Some (Ok (N.left names))) order.now.paths.now) result round.old round.new }
+{
+    let mut names = names;
+    audit_listed(tree, round, order.every_file, &mut names)?;
+    audit_paths(tree, round, order.every_file, order.paths)
+}
+
+// The fault of an audit that was stopped, if it is one.
+fn stop_fault<'a>(order: &Order<'a>, stop: Stop) -> Option<RunFault<'a>>
+    ensures { result ≡ stop_fault order.now.names_from.now stop }
+{
+    match stop {
+        Stop::Revoked => None,
+        Stop::NoMemory => Some(RunFault::whole("memory", Cause::NoMemory)),
+        Stop::Lost { count } => Some(RunFault::whole("output", Cause::Output { count })),
+        Stop::NoNames { fault } => Some(RunFault::whole(order.names_from, Cause::File(fault))),
+    }
+}
+
+// Prints the last object, if there is one.
+fn say_last<'a, W: Screen>(
+    round: &mut Round<'_, '_, W>,
+    order: &Order<'a>,
+    queried: &Queried<'_>,
+) -> Result<(), RunFault<'a>>
+    ensures carries { Carries (last_items order.now.list.now queried.now round.old.tally) result
+        round.old.printer round.new.printer }
+    ensures judge { round.new.judge ≡ round.old.judge }
+    ensures tally { round.new.tally ≡ round.old.tally }
+{
+    match queried.sha256 {
+        None => Ok(()),
+        Some(sha256) => {
+            let facts = ListFacts {
+                name: order.list,
+                stated: queried.stated,
+                sha256,
+            };
+            round.auditor.say_done(round.files.counts, &facts)
+        }
+    }
+}
