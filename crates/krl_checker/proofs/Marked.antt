@@ -2,21 +2,18 @@
 use Rattle.std.proofs.Common.{◌≡◌, ℕ, ◌+◌, ◌<◌, ◌^◌, ◌∙◌, ap, arith, Bool, false, inl, inr, length, List, None, Ok, Option, refl, Some, subst, suc, sym, true, [], ◌∷◌}
 use Rattle.std.specs.List.{AllByRecursion}
 use Rattle.key_text.specs.Armour.{begins_container}
-use Rattle.key_text.specs.declared.marker.Marker.{Marker}
 use Rattle.key_text.specs.declared.marker.Marker.TheVariants as markers
 use Rattle.krl_types.specs.Subject.{Subject}
 use Rattle.krl_entries.specs.declared.reasons.Reasons.{Reasons}
-use Rattle.krl_audit.specs.Audit.{file_kinds, file_lines, key_kind, keyless, kind_of, kinds_of, or_whole, text_lines}
+use Rattle.krl_audit.specs.Audit.{file_kinds, file_lines, keyless, kind_of, kinds_of, or_whole, text_lines}
 use Rattle.krl_audit.specs.Counts.{all_counted}
 use Rattle.krl_audit.specs.Front.{fronts_of}
 use Rattle.krl_audit.specs.Keyless.{keyless_lines, keyless_unless}
 use Rattle.krl_audit.specs.Outcome.{Empty, Found, Key, Outcome, Outcomes, Placed, Unread, plain_lines}
-use Rattle.krl_audit.specs.declared.counts.Counts.{Counts}
 use Rattle.krl_audit.specs.declared.counts.LineKind.{LineKind}
 use Rattle.krl_audit.specs.declared.counts.LineKind.TheVariants as kinds
 use Rattle.krl_checker.specs.Check.{counts_of, none_counted, with_unread}
-use Rattle.krl_checker.specs.Role.{AreMarked, AreMet, HasKey, IsMarked, MayBe, is_met}
-use Rattle.krl_checker.specs.declared.role.Role.{Role}
+use Rattle.krl_checker.specs.Role.{AreMarked, HasKey, IsMarked, MayBe, is_met}
 use Rattle.krl_checker.specs.declared.role.Role.TheVariants as roles
 use Rattle.krl_checker.proofs.Counting.{law}
 

@@ -1,6 +1,5 @@
 -- The first difference is printed.
-use Rattle.std.proofs.Common.{◌≡◌, ◌||◌, ◌∙◌, ap, Bool, List, None, Option, Some, subst, ℕ}
-use Rattle.std.specs.Prelude.{is_some}
+use Rattle.std.proofs.Common.{◌≡◌, ◌∙◌, ap, List, Option, Some, subst, ℕ}
 use Rattle.key_listing.specs.Carries.{Carries}
 use Rattle.krl_format.specs.Front.{start}
 use Rattle.krl_openssh.specs.Difference.{first_difference}
