@@ -1,3 +1,2 @@
 pub mod Loading
 pub mod Ending
-pub mod Whole
