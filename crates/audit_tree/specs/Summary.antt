@@ -3,12 +3,8 @@ use Rattle.std.specs.Prelude.{ℕ, ◌==◌, List, [], ◌++◌, codes, decimal,
 use Rattle.std.specs.Prelude.{None}
 use Rattle.cert_listing.specs.Time.{instant_text}
 use Rattle.krl_audit.specs.declared.done.Stated.{Stated}
+use Rattle.krl_audit.specs.Amount.{amount_text}
 use Rattle.audit_tree.specs.declared.summary.Summary.{Summary}
-
--- a number, and the noun that it counts
-abbrev pub amount_text : ℕ → List ℕ → List ℕ
-amount_text count word =
-    decimal count ++ (codes " " ++ (word ++ (if count == 1 then [] else codes "s")))
 
 -- the version and the date of a list
 abbrev pub stated_text : Stated → List ℕ

@@ -1,11 +1,11 @@
 //! The last line of an audit.
 
 ghost use Rattle.std.specs.Prelude.{◌≡◌, ◌++◌, OnOk};
-ghost use Rattle.audit_tree.specs.Summary.{amount_text, findings_text, inputs_text, list_text};
+ghost use Rattle.audit_tree.specs.Summary.{findings_text, inputs_text, list_text};
 ghost use Rattle.audit_tree.specs.Summary.{names_text, others_text, summary_text};
 
 use cert_listing::time_text;
-use krl_audit::{Counts, FileCounts, Stated};
+use krl_audit::{Amount, Counts, FileCounts, Stated};
 use line_pieces::{Printed, Words, put};
 use std::alloc::{AllocError, Global};
 
@@ -20,19 +20,6 @@ pub struct Summary {
     pub counts: Counts,
     /// The version and the date of the list. A plain list has none.
     pub stated: Option<Stated>,
-}
-
-// A number, and the noun that it counts.
-#[derive(Clone, Copy)]
-struct Amount<'a>(u64, &'a [u8]);
-
-impl<'a> Printed for Amount<'a> {
-    ghost text = { λ amount. amount_text amount.0 amount.1.now };
-
-    fn push_to(&self, out: &mut Vec<u8>) -> Result<(), AllocError> {
-        let plural: &[u8] = if self.0 == 1 { b"" } else { b"s" };
-        put!(out; self.0, b" ", Words(self.1), Words(plural))
-    }
 }
 
 // The number of names that were not audited, if there are any, and why.

@@ -1,5 +1,7 @@
 pub mod Front
+pub mod Amount
 pub mod Why
+pub mod Causes
 pub mod Outcome
 pub mod Counts
 pub mod Visible

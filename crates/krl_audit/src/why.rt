@@ -73,7 +73,7 @@ impl Printed for Told {
                 let said = fault.to_string(self.alloc)?;
                 put!(out; b"the private key file is cut or misspelt: ", Words(said.as_bytes()))
             }
-            Why::File(refusal) => put!(out; Words(refusal_why(refusal))),
+            Why::File(refusal) => put!(out; Words(refusal_words(refusal))),
             Why::NoKeys(lines) => put!(out; b"none of its ", lines, b" lines is a key"),
             Why::More(lines) => put!(out; b"and ", lines, Words(more_words(lines == 1))),
         }
@@ -92,7 +92,7 @@ fn more_words(one: bool) -> &'static [u8]
 }
 
 // The words for a line without a key.
-fn line_why(fault: LineFault) -> &'static [u8]
+pub(crate) fn line_why(fault: LineFault) -> &'static [u8]
     ensures { result.now ≡ line_why fault }
 {
     match fault {
@@ -103,8 +103,8 @@ fn line_why(fault: LineFault) -> &'static [u8]
     }
 }
 
-// The words for a file that is not read.
-fn refusal_why(refusal: Refusal) -> &'static [u8]
+/// The words for a file that is not read.
+pub fn refusal_words(refusal: Refusal) -> &'static [u8]
     ensures { result.now ≡ refusal_why refusal }
 {
     match refusal {

@@ -1,7 +1,8 @@
 -- The lines that are printed for a condition that fails, and why it fails.
-use Rattle.std.specs.Prelude.{ℕ, ◌-◌, ◌/◌, false, nat_lt, if◌then◌else◌, List, [], ◌∷◌, ◌++◌}
+use Rattle.std.specs.Prelude.{ℕ, ◌-◌, ◌/◌, false, nat_lt, if◌then◌else◌, ◌==◌, List, [], ◌∷◌, ◌++◌}
 use Rattle.std.specs.Prelude.{codes, decimal}
 use Rattle.cert_listing.specs.Time.{instant_text}
+use Rattle.krl_audit.specs.Amount.{amount_text}
 use Rattle.krl_audit.specs.Visible.{visible}
 use Rattle.krl_audit.specs.declared.counts.Counts.{Counts}
 use Rattle.krl_openssh.specs.Difference.{difference_words}
@@ -50,13 +51,18 @@ abbrev pub age_line : List ℕ → (generated now : ℕ) → List ℕ
 age_line name generated now =
     dated_line name (instant_text generated) (distance_text generated now)
 
+-- a number of things, as the subject of a sentence, with its verb
+abbrev pub subject_text : ℕ → List ℕ → List ℕ
+subject_text count word =
+    amount_text count word ++ (if count == 1 then codes " is" else codes " are")
+
 abbrev pub file_line : Role → List ℕ → Counts → List ℕ
 file_line role name counts =
     role_word role ++ (visible false name
     ++ (codes ": " ++ (decimal counts.revoked
-    ++ (codes " of " ++ (decimal counts.keys
-    ++ (codes " keys are revoked, " ++ (decimal counts.unread
-    ++ codes " lines are not read\n")))))))
+    ++ (codes " of " ++ (subject_text counts.keys (codes "key")
+    ++ (codes " revoked, " ++ (subject_text counts.unread (codes "line")
+    ++ codes " not read\n")))))))
 
 abbrev pub plain_word : PlainRefusal → List ℕ
 plain_word refusals.NoVersion = codes "version: "

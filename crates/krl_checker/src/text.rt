@@ -3,12 +3,13 @@
 ghost use Rattle.std.specs.Prelude.{◌≡◌, OnOk};
 ghost use Rattle.krl_checker.specs.Text.{age_line, dated_line, difference_line, distance_text};
 ghost use Rattle.krl_checker.specs.Text.{empty_line, file_line, plain_line, span_text};
+ghost use Rattle.krl_checker.specs.Text.{subject_text};
 ghost use Rattle.krl_checker.specs.Text.{version_line};
 
 use crate::plain::PlainRefusal;
 use crate::role::Role;
 use cert_listing::time_text;
-use krl_audit::{Counts, Visible};
+use krl_audit::{Amount, Counts, Visible};
 use krl_openssh::Difference;
 use line_pieces::{Printed, Words, put};
 use std::alloc::{AllocError, Global};
@@ -125,6 +126,19 @@ impl Printed for Span {
     }
 }
 
+// A number of things, as the subject of a sentence, with its verb.
+#[derive(Clone, Copy)]
+struct Subject<'a>(u64, &'a [u8]);
+
+impl<'a> Printed for Subject<'a> {
+    ghost text = { λ subject. subject_text subject.0 subject.1.now };
+
+    fn push_to(&self, out: &mut Vec<u8>) -> Result<(), AllocError> {
+        let verb: &[u8] = if self.0 == 1 { b" is" } else { b" are" };
+        put!(out; Amount(self.0, self.1), Words(verb))
+    }
+}
+
 /// Makes the line for a file whose keys do not meet the condition, or are not all read.
 pub(crate) fn write_file(
     line: &mut Vec<u8>,
@@ -136,5 +150,5 @@ pub(crate) fn write_file(
 {
     line.clear();
     put!(line; Words(role.word()), Visible(name.as_bytes(), false), b": ", counts.revoked, b" of ",
-        counts.keys, b" keys are revoked, ", counts.unread, b" lines are not read\n")
+        Subject(counts.keys, b"key"), b" revoked, ", Subject(counts.unread, b"line"), b" not read\n")
 }

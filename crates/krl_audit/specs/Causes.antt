@@ -1,0 +1,47 @@
+-- The words for why a run stops.
+use Rattle.std.specs.Prelude.{ℕ, List, codes}
+use Rattle.krl_types.specs.declared.krl_fault.KrlFault.{KrlFault}
+use Rattle.krl_types.specs.declared.krl_fault.KrlFault.TheVariants as lists
+use Rattle.key_files.specs.declared.cause.Cause.{Cause}
+use Rattle.key_files.specs.declared.cause.Cause.TheVariants as causes
+use Rattle.key_files.specs.declared.file_fault.FileFault.{FileFault}
+use Rattle.key_files.specs.declared.file_fault.FileFault.TheVariants as files
+use Rattle.krl_audit.specs.Why.{line_why}
+
+abbrev pub file_words : FileFault → List ℕ
+file_words files.Open = codes "it cannot be opened"
+file_words files.Read = codes "it cannot be read to its end"
+file_words files.TooLong = codes "it has more than 16 MiB"
+file_words files.NoMemory = codes "out of memory"
+file_words files.NoKeys = codes "it has no key"
+file_words files.NoCertificate = codes "it has no certificate"
+file_words files.Locked = codes "another update of it does not end"
+
+abbrev pub krl_words : KrlFault → List ℕ
+krl_words lists.Magic = codes "it does not begin as a revocation list"
+krl_words lists.FormatVersion = codes "a format of lists other than version 1"
+krl_words lists.EndsEarly = codes "truncated, in its header or within a section"
+krl_words lists.UnknownSection = codes "a section of an unknown type"
+krl_words lists.UnknownCertSection = codes "a section of certificates has a part of an unknown type"
+krl_words lists.Length = codes "a length and the bytes that it counts do not agree"
+krl_words lists.RangeReversed = codes "a range of serial numbers ends below its first one"
+krl_words lists.BitmapNegative = codes "a bitmap of serial numbers is a negative number"
+krl_words lists.BitmapWraps = codes "a bitmap names serial numbers above the largest one"
+krl_words lists.HashLength = codes "a hash of a wrong length"
+krl_words lists.AfterSignature = codes "bytes that are no signature after its signature"
+krl_words lists.TooLong = codes "it has more than 64 MiB"
+krl_words lists.Read = codes "it cannot be read to its end"
+krl_words lists.NoMemory = codes "out of memory"
+krl_words lists.CriticalExtension = codes "a critical extension, which this program does not know"
+
+abbrev pub cause_words : Cause → List ℕ
+cause_words (causes.File fault) = file_words fault
+cause_words (causes.Krl fault) = krl_words fault
+cause_words (causes.Line fault) = line_why fault
+cause_words (causes.Subject fault) = codes "the key is cut or misspelt"
+cause_words (causes.Private fault) = codes "the private key file is cut or misspelt"
+cause_words (causes.Spec fault) = codes "no line of a specification file"
+cause_words causes.NoMemory = codes "out of memory"
+cause_words causes.VersionFull = codes "its version is the largest that there is"
+cause_words causes.TextTooLong = codes "it would be longer than 64 MiB"
+cause_words (causes.Output count) = codes "it takes no more bytes"
