@@ -422,9 +422,14 @@ judge 'a name of 200 MB in 100 MB' "$(differs status 3 $?
   differs 'its line' "$long_name: unread: its name has more than 4,096 bytes" \
     "$(head -n 1 "$scratch/output")")"
 audits 'no name' 0 '0 files, 0 keys: 0 revoked in 0 files, 0 unread' '' --files0-from empty
-expect 'names that cannot be opened' 255 '' $'krl: none/names: file 1 Open\n' audit -f r.krl \
+missing=$'No such file or directory [file 1 Open]\n'
+unfinished=$'it cannot be read to its end [file 2 Read]\n'
+keyless=$'no key type stands there [line 1 NoKey]\n'
+cut_short=$'truncated, in its header or within a section [krl 3 EndsEarly]\n'
+full='it takes no more bytes [output 1 Write after 0 bytes]'
+expect 'names that cannot be opened' 255 '' "krl: none/names: $missing" audit -f r.krl \
   --files0-from none/names
-expect 'names that cannot be read' 255 '' $'krl: nothing: file 2 Read\n' audit -f r.krl \
+expect 'names that cannot be read' 255 '' "krl: nothing: $unfinished" audit -f r.krl \
   --files0-from nothing
 
 # Options and statuses.
@@ -435,14 +440,14 @@ audits 'quietly, up to the first revoked key' 1 '2 files, 1 key: 1 revoked in 1 
   -aq gone marked home
 audits 'quietly, where nothing is revoked' 3 '2 files, 1 key: 0 revoked in 0 files, 1 unread' '' \
   -q gone home/a/x.pub
-expect 'a list that is not there' 255 '' $'krl: no.krl: file 1 Open\n' audit -f no.krl marked
-expect 'a list that is none' 255 '' $'krl: marked: line 1: line 1 NoKey\n' audit -f marked marked
+expect 'a list that is not there' 255 '' "krl: no.krl: $missing" audit -f no.krl marked
+expect 'a list that is none' 255 '' "krl: marked: line 1: $keyless" audit -f marked marked
 bytes "$H" 02 >cut.krl
-expect 'a list that is cut' 255 '' $'krl: cut.krl: krl 3 EndsEarly\n' audit -f cut.krl gone
-expect 'a list of a name that moves the terminal' 255 '' $'krl: \\x1b[2J: file 1 Open\n' audit \
+expect 'a list that is cut' 255 '' "krl: cut.krl: $cut_short" audit -f cut.krl gone
+expect 'a list of a name that moves the terminal' 255 '' "krl: \\x1b[2J: $missing" audit \
   -f $'\e[2J' a
 expect 'a list of a name with a control character past ASCII' 255 '' \
-  $'krl: \\x9b2J: file 1 Open\n' audit -f $'\xc2\x9b2J' a
+  "krl: \\x9b2J: $missing" audit -f $'\xc2\x9b2J' a
 # A CA that is no key, or a key in another spelling, which sshd may read otherwise.
 for it in 00 "${A}00"; do
   bytes "$H" 01 "$(string "$(string "$it")$(string '')20$(string 0000000000000005)")" >other.krl
@@ -455,7 +460,8 @@ expect_text 'serial numbers of all CAs' 0 error audit -qf all.krl home/a/x.pub
 # A list of more than 64 MiB has the fault of its first field that has one, as ssh-keygen says it.
 { bytes "$H" 02 && head -c 67108865 /dev/zero; } >long.krl
 said=$("$keygen" -Q -f long.krl home/a/x.pub 2>&1)
-expect "a list of more than 64 MiB: ${said##*: }" 255 '' "krl: ${said#*: }"$'\n' \
+expect "a list of more than 64 MiB: ${said##*: }" 255 '' \
+  "krl: long.krl: a section of an unknown type [${said##*: }]"$'\n' \
   audit -f long.krl marked
 rm long.krl
 echo "$a" >plain
@@ -482,7 +488,7 @@ for it in /dev/full closed; do
     "$program" audit -f r.krl marked >$it 2>"$scratch/error"
   fi
   judge "an output that is $it" "$(differs status 255 $?
-    differs 'standard error' 'krl: output: output 1 Write after 0 bytes' "$(cat "$scratch/error")")"
+    differs 'standard error' "krl: output: $full" "$(cat "$scratch/error")")"
 done
 "$program" audit -f r.krl marked 2>&- >"$scratch/output"
 judge 'an error output that is closed' \
@@ -525,7 +531,7 @@ shows 'one terminal for both streams' 12 1 "$(painted "$plain")"$'\n'"$summary" 
 shows 'no colour on standard error' 2 1 "$summary" "$plain" audit -a -f r.krl $'\e[7mkeys'
 line ssh-ed25519 "$G" >g.pub
 shows 'no colour of krl check' 1 1 "g.pub:1: $by_g
-keep: g.pub: 1 of 1 keys are revoked, 0 lines are not read" '' check --keep g.pub r.krl
+keep: g.pub: 1 of 1 key is revoked, 0 lines are not read" '' check --keep g.pub r.krl
 for it in NO_COLOR=1 NO_COLOR=0 NO_COLOR=$'\xff' TERM=dumb; do
   setting=("$it")
   shows "no colour with $(printf %q "$it")" 1 1 "$plain" "$summary" audit -a -f r.krl $'\e[7mkeys'
@@ -602,7 +608,7 @@ shows 'how far it is is said at a terminal alone' 1 1 "$(painted "$found")" "$su
 slowly marked gone | python3 "$tests/lib/terminal.py" "$scratch/terminal" 2 \
   "$program" audit -f r.krl --files0-from - >/dev/full
 judge 'how far it is, wiped before a fault' "$(differs status 255 $?
-  differs 'standard error' "$(far '2 files' '1 key' 1 1)krl: output: output 1 Write after 0 bytes" \
+  differs 'standard error' "$(far '2 files' '1 key' 1 1)krl: output: $full" \
     "$(cat "$scratch/terminal")")"
 # In its first second nothing is said. On a machine that is too busy for that it is tried again.
 for _ in 1 2 3 4 5 6 7 8 9; do

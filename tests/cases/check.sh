@@ -22,9 +22,9 @@ checks 'a key to be kept' 0 '' --keep b.pub r.krl
 checks 'two files to be kept' 0 '' --keep b.pub --keep b.pub r.krl
 checks 'a canary' 0 '' --canary a.pub r.krl
 checks 'a key to be kept that is revoked' 1 "g.pub:1: $by_g
-keep: g.pub: 1 of 1 keys are revoked, $zeros" --keep b.pub --keep g.pub r.krl
+keep: g.pub: 1 of 1 key is revoked, $zeros" --keep b.pub --keep g.pub r.krl
 checks 'a canary that is not revoked' 1 "b.pub:1: ok: ssh-ed25519 $(fingerprint "$B"): bob
-canary: b.pub: 0 of 1 keys are revoked, $zeros" --canary b.pub r.krl
+canary: b.pub: 0 of 1 key is revoked, $zeros" --canary b.pub r.krl
 cat b.pub g.pub >both
 checks 'a file with one revoked key of two' 1 "both:2: $by_g
 keep: both: 1 of 2 keys are revoked, $zeros" --keep both r.krl
@@ -35,17 +35,17 @@ cat g.pub a.pub >two
 checks 'a canary of two keys' 0 '' --canary two r.krl
 checks 'two canaries' 0 '' --canary a.pub --canary g.pub r.krl
 not_b="b.pub:1: ok: ssh-ed25519 $(fingerprint "$B"): bob
-canary: b.pub: 0 of 1 keys are revoked, $zeros"
+canary: b.pub: 0 of 1 key is revoked, $zeros"
 checks 'two canaries, of which the first is not revoked' 1 "$not_b" \
   --canary b.pub --canary a.pub r.krl
 checks 'two canaries, of which the second is not revoked' 1 "$not_b" \
   --canary a.pub --canary b.pub r.krl
 { cat b.pub && echo garbage; } >wrong
 checks 'a file with a line that is not read' 1 "wrong:2: unread: no key type stands there
-keep: wrong: 0 of 1 keys are revoked, 1 lines are not read" --keep wrong r.krl
+keep: wrong: 0 of 1 key is revoked, 1 line is not read" --keep wrong r.krl
 { cat a.pub && echo garbage; } >wrong
 checks 'a canary with a line that is not read' 1 'wrong:2: unread: no key type stands there
-canary: wrong: 1 of 1 keys are revoked, 1 lines are not read' --canary wrong r.krl
+canary: wrong: 1 of 1 key is revoked, 1 line is not read' --canary wrong r.krl
 printf 'garbage\n# none\nmore\n\nand more\n' >bad
 for word in keep canary; do
   checks "a file of --$word with three lines that are no keys" 1 \
@@ -55,27 +55,27 @@ done
 # A control character of two bytes in each name.
 cp r.krl $'r\u9b.krl' && cp g.pub $'g\u9b.pub'
 checks 'a control character in a name' 1 "g\\x9b.pub:1: $by_g
-keep: g\\x9b.pub: 1 of 1 keys are revoked, $zeros" --keep $'g\u9b.pub' r.krl
+keep: g\\x9b.pub: 1 of 1 key is revoked, $zeros" --keep $'g\u9b.pub' r.krl
 echo '# nobody' >none
 for word in keep canary; do
   checks "no key in the file of --$word" 1 "$word: none: 0 of 0 keys are revoked, $zeros" \
     --$word none r.krl
 done
 printf '@revoked * %s\n' "$(cat g.pub)" >marked
-checks 'a canary that its line calls revoked' 1 "canary: marked: 0 of 1 keys are revoked, $zeros" \
+checks 'a canary that its line calls revoked' 1 "canary: marked: 0 of 1 key is revoked, $zeros" \
   --canary marked r.krl
 checks 'a file that is missing' 255 "gone: unread: No such file or directory
-keep: gone: 0 of 0 keys are revoked, 1 lines are not read
+keep: gone: 0 of 0 keys are revoked, 1 line is not read
 gone: unread: No such file or directory
-canary: gone: 0 of 0 keys are revoked, 1 lines are not read" --keep gone --canary gone r.krl
+canary: gone: 0 of 0 keys are revoked, 1 line is not read" --keep gone --canary gone r.krl
 # A condition that fails is said too, and 255 wins over 1.
 checks 'a file that is missing and a key to be kept that is revoked' 255 "g.pub:1: $by_g
-keep: g.pub: 1 of 1 keys are revoked, $zeros
+keep: g.pub: 1 of 1 key is revoked, $zeros
 gone: unread: No such file or directory
-canary: gone: 0 of 0 keys are revoked, 1 lines are not read" --canary gone --keep g.pub r.krl
+canary: gone: 0 of 0 keys are revoked, 1 line is not read" --canary gone --keep g.pub r.krl
 mkdir folder
 expect 'a folder to be kept' 255 'folder: unread: it cannot be read to its end
-keep: folder: 0 of 0 keys are revoked, 1 lines are not read
+keep: folder: 0 of 0 keys are revoked, 1 line is not read
 ' '' check --keep folder r.krl
 
 # Versions.
@@ -96,10 +96,12 @@ checks 'the version of another list' 0 7 --print-version 7.krl
 
 # Lists that are not read.
 bytes "${H:0:80}00000001" >cut.krl
-expect 'a list that is cut' 255 '' $'krl: cut.krl: krl 3 EndsEarly\n' check cut.krl
-expect 'its version' 255 '' $'krl: cut.krl: krl 3 EndsEarly\n' check --print-version cut.krl
-expect 'a list that is missing' 255 '' $'krl: no.krl: file 1 Open\n' check no.krl
-expect 'another list that is missing' 255 '' $'krl: no.krl: file 1 Open\n' check \
+missing=$'No such file or directory [file 1 Open]\n'
+cut_short=$'truncated, in its header or within a section [krl 3 EndsEarly]\n'
+expect 'a list that is cut' 255 '' "krl: cut.krl: $cut_short" check cut.krl
+expect 'its version' 255 '' "krl: cut.krl: $cut_short" check --print-version cut.krl
+expect 'a list that is missing' 255 '' "krl: no.krl: $missing" check no.krl
+expect 'another list that is missing' 255 '' "krl: no.krl: $missing" check \
   --newer-than no.krl r.krl
 
 # Ages.
@@ -155,9 +157,9 @@ empty: zero.krl: it revokes nobody' zero.krl
 # Plain lists. tests/cases/plain_lists.sh has each form of a line.
 checks 'a plain list' 0 '' --keep b.pub --canary a.pub two
 checks 'a plain list that revokes a key to be kept' 1 "g.pub:1: $by_g
-keep: g.pub: 1 of 1 keys are revoked, $zeros" --keep g.pub two
+keep: g.pub: 1 of 1 key is revoked, $zeros" --keep g.pub two
 checks 'a plain list without the canary' 1 "b.pub:1: ok: ssh-ed25519 $(fingerprint "$B"): bob
-canary: b.pub: 0 of 1 keys are revoked, $zeros" --canary b.pub two
+canary: b.pub: 0 of 1 key is revoked, $zeros" --canary b.pub two
 nobody='it revokes nobody'
 : >empty
 # One that lost its magic begins with a zero byte, which ends its only line.
@@ -168,9 +170,9 @@ for it in empty none magicless; do
 done
 checks 'an empty list and a canary' 1 "empty: empty: $nobody
 a.pub:1: ok: ssh-ed25519 $(fingerprint "$A"): alice
-canary: a.pub: 0 of 1 keys are revoked, $zeros" --canary a.pub empty
+canary: a.pub: 0 of 1 key is revoked, $zeros" --canary a.pub empty
 { cat two && echo garbage; } >wrong
-no_key=$'krl: wrong: line 3: line 1 NoKey\n'
+no_key=$'krl: wrong: line 3: no key type stands there [line 1 NoKey]\n'
 expect 'a plain list with a line that is no key' 255 '' "$no_key" check wrong
 expect 'the same, and keys to be kept' 255 '' "$no_key" check --keep b.pub wrong
 unversioned='a plain list has no version'

@@ -73,7 +73,7 @@ refused() {
       "$krl" $it >"$scratch/output" 2>"$scratch/error"
       differs "status of krl ${it%% *}" 255 $?
       differs 'standard output' '' "$(cat "$scratch/output")"
-      grep -qE '^krl: [^ ]+: (line [0-9]+: (line|subject)|krl) [0-9]' "$scratch/error" ||
+      grep -qE '^krl: [^ ]+: .+ \[(line|subject|krl) [0-9]' "$scratch/error" ||
         differs 'standard error' 'a fault of the list' "$(cat "$scratch/error")"
     done
     differs libkrl "${numbers:1}" "$(library_says "${keys[@]}")"

@@ -8,9 +8,11 @@ abbrev pub words_line : (name why : List ℕ) → List ℕ
 words_line name why =
     codes "krl: " ++ (visible false name ++ (codes ": " ++ (why ++ codes "\n")))
 
--- the line about a fault: the name is shown as in findings
-abbrev pub fault_line : RunFault → List ℕ
-fault_line fault =
+-- The line about a fault, with this reason. The name is shown as in findings, and the fault by its
+-- number.
+abbrev pub fault_line : List ℕ → RunFault → List ℕ
+fault_line reason fault =
     codes "krl: "
     ++ (visible false fault.name
-    ++ (codes ": " ++ (line_part fault.line ++ (cause_text fault.cause ++ codes "\n"))))
+    ++ (codes ": " ++ (line_part fault.line
+    ++ (reason ++ (codes " [" ++ (cause_text fault.cause ++ codes "]\n"))))))

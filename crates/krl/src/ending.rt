@@ -2,14 +2,16 @@
 
 ghost use Rattle.std.specs.Prelude.{◌≡◌, ◌⊎◌, IfOk};
 ghost use Rattle.key_files.specs.RunFault.{line_part};
+ghost use Rattle.krl_audit.specs.Causes.{cause_words};
 ghost use Rattle.krl.specs.Ending.{fault_line, words_line};
 ghost use Rattle.krl_arguments.specs.Command.{command_fault_status};
 
+use crate::loading::why_unopened;
 use byte_streams::{ToWrite, send};
-use key_files::{Cause, RunFault};
+use key_files::{Cause, FileFault, RunFault};
 use key_listing::{Done, FAILED};
 use krl_arguments::CommandFault;
-use krl_audit::Visible;
+use krl_audit::{Visible, cause_words, refusal_words};
 use line_pieces::{Printed, Words, put};
 use std::alloc::{AllocError, Global};
 
@@ -36,7 +38,7 @@ pub fn end(rt: &HostRuntime, done: &Done) -> u8
     ensures { result ≡ done.now.status }
 {
     if let Some(fault) = &done.fault
-        && let Ok(line) = fault_line(rt.alloc(), fault)
+        && let Ok(line) = fault_line(rt.alloc(), reason_of(rt, fault), fault)
     {
         print_line(rt, line.as_slice());
     }
@@ -123,13 +125,24 @@ fn words_line(alloc: Global, name: &str, why: &[u8]) -> Result<Vec<u8>, AllocErr
     Ok(text)
 }
 
-// The line about a fault. The name is shown as in findings.
-fn fault_line(alloc: Global, fault: &RunFault) -> Result<Vec<u8>, AllocError>
-    ensures { IfOk result (λ text. text.items ≡ fault_line fault.now) }
+// Why the run stopped, in words. For a file that cannot be opened they are the system's reason.
+fn reason_of(rt: &HostRuntime, fault: &RunFault) -> &'static [u8]
+    ensures { ¬ (fault.now.cause ≡ Cause.File FileFault.Open)
+        → result.now ≡ cause_words fault.now.cause }
+{
+    match fault.cause {
+        Cause::File(FileFault::Open) => refusal_words(why_unopened(rt, fault.name)),
+        cause => cause_words(cause),
+    }
+}
+
+// The line about a fault, with this reason. The name is shown as in findings.
+fn fault_line(alloc: Global, reason: &[u8], fault: &RunFault) -> Result<Vec<u8>, AllocError>
+    ensures { IfOk result (λ text. text.items ≡ fault_line reason.now fault.now) }
 {
     let cause = fault.cause.to_string(alloc)?;
     let mut text = Vec::new(alloc);
     put!(&mut text; b"krl: ", Visible(fault.name.as_bytes(), false), b": ", Line(fault.line),
-        Words(cause.as_bytes()), b"\n")?;
+        Words(reason), b" [", Words(cause.as_bytes()), b"]\n")?;
     Ok(text)
 }

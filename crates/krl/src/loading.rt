@@ -28,6 +28,15 @@ pub fn refusal_of(error: &io::Error) -> Refusal {
     }
 }
 
+/// Why a file could not be opened, which is asked once more where it is a regular file by now.
+pub fn why_unopened(rt: &HostRuntime, path: &str) -> Refusal {
+    match fs::metadata(rt, path) {
+        Ok(found) if found.is_file() => open(rt, path).err().unwrap_or(Refusal::Open),
+        Ok(_) => Refusal::Open,
+        Err(error) => refusal_of(&error),
+    }
+}
+
 /// Opens a file.
 pub fn open(rt: &HostRuntime, path: &str) -> Result<File, Refusal> {
     match fs::open(rt, path) {

@@ -173,14 +173,14 @@ const CHECKS: [(Asked<'static>, &[u8], u8); 31] = [
     (
         Asked::Keys(Role::Keep, "f", Ok(GITHUB_LINE)),
         b"f:1: revoked: ssh-ed25519 SHA256:+DiY3wvvV6TuJJhbpZisF/zLDA0zPMSvHdkr4UvCOqU by its key
-keep: f: 1 of 1 keys are revoked, 0 lines are not read\n",
+keep: f: 1 of 1 key is revoked, 0 lines are not read\n",
         1,
     ),
     (
         Asked::Keys(Role::Keep, "id", Ok(CONTAINER)),
         b"id:1: revoked: ssh-ed25519 SHA256:+DiY3wvvV6TuJJhbpZisF/zLDA0zPMSvHdkr4UvCOqU \
 by its key: a
-keep: id: 1 of 1 keys are revoked, 0 lines are not read\n",
+keep: id: 1 of 1 key is revoked, 0 lines are not read\n",
         1,
     ),
     (
@@ -196,13 +196,13 @@ keep: id: 1 of 1 keys are revoked, 0 lines are not read\n",
     (
         Asked::Keys(Role::Keep, "f", Ok(b"x\n")),
         b"f:1: unread: no key type stands there
-keep: f: 0 of 0 keys are revoked, 1 lines are not read\n",
+keep: f: 0 of 0 keys are revoked, 1 line is not read\n",
         1,
     ),
     (
         Asked::Keys(Role::Canary, "f", Ok(b"x\n")),
         b"f:1: unread: no key type stands there
-canary: f: 0 of 0 keys are revoked, 1 lines are not read\n",
+canary: f: 0 of 0 keys are revoked, 1 line is not read\n",
         1,
     ),
     // A file without a key is reported as a whole, and its lines are counted one by one.
@@ -222,13 +222,13 @@ canary: f\\x9b: 0 of 0 keys are revoked, 2 lines are not read\n",
     (
         Asked::Keys(Role::Keep, "gone", Err(Refusal::Missing)),
         b"gone: unread: No such file or directory
-keep: gone: 0 of 0 keys are revoked, 1 lines are not read\n",
+keep: gone: 0 of 0 keys are revoked, 1 line is not read\n",
         255,
     ),
     (
         Asked::Keys(Role::Canary, "gone", Err(Refusal::Missing)),
         b"gone: unread: No such file or directory
-canary: gone: 0 of 0 keys are revoked, 1 lines are not read\n",
+canary: gone: 0 of 0 keys are revoked, 1 line is not read\n",
         255,
     ),
     (

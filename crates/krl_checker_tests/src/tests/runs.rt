@@ -119,9 +119,9 @@ empty: l: it revokes nobody
 version: l: 1 is below 7
 age: l: generated 1970-01-01T00:00:00Z, 498801h ago
 none: unread: No such file or directory
-keep: none: 0 of 0 keys are revoked, 1 lines are not read
+keep: none: 0 of 0 keys are revoked, 1 line is not read
 other:1: ok: ssh-ed25519 SHA256:SQfC+vTbLURn9cTkVxIS8fGQ3FKNAJWeB0o139+gV4M
-canary: other: 0 of 1 keys are revoked, 0 lines are not read\n",
+canary: other: 0 of 1 key is revoked, 0 lines are not read\n",
         255,
         None,
     ),
@@ -132,7 +132,7 @@ canary: other: 0 of 1 keys are revoked, 0 lines are not read\n",
             ..NOTHING
         },
         b"key:1: revoked: ssh-ed25519 SHA256:+DiY3wvvV6TuJJhbpZisF/zLDA0zPMSvHdkr4UvCOqU by its key
-keep: key: 1 of 1 keys are revoked, 0 lines are not read\n",
+keep: key: 1 of 1 key is revoked, 0 lines are not read\n",
         1,
         None,
     ),

@@ -23,7 +23,7 @@ const SIGNED: &[u8] = b"SSHKRL\n\0\0\0\0\x01\0\0\0\0\0\0\0\x01\0\0\0\0\0\0\0\0\
 const SAID: &[u8] = b"openssh: r.krl: it has a signature
 version: p: a plain list has no version
 f:1: revoked: ssh-ed25519 SHA256:+DiY3wvvV6TuJJhbpZisF/zLDA0zPMSvHdkr4UvCOqU by its key
-keep: f: 1 of 1 keys are revoked, 0 lines are not read
+keep: f: 1 of 1 key is revoked, 0 lines are not read
 ";
 
 // The files of keys: the published key in `f`, and another one in other files.
