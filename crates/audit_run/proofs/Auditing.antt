@@ -93,11 +93,11 @@ same_since old new visit gave passed gives_is passes_is is was =
 since_then : (xs ys : List Visit) (stop : Option Stop) (old mid new : Since) → IsSince xs None old mid → IsSince ys stop mid new
     → IsSince (xs ++ ys) stop old new
 since_then xs ys None old mid new first second = (
-    second.0 ∙ ap (λ (b : Bool). b || gives ys) first.0 ∙ or_assoc old.gave (gives xs) (gives ys)
-    ∙ ap (λ (b : Bool). old.gave || b) (sym (gives_append xs ys)),
-    second.1 ∙ ap (λ (b : Bool). b || passes ys) first.1 ∙ or_assoc old.passed (passes xs) (passes ys)
-    ∙ ap (λ (b : Bool). old.passed || b) (sym (passes_append xs ys)),
-  )
+  second.0 ∙ ap (λ (b : Bool). b || gives ys) first.0 ∙ or_assoc old.gave (gives xs) (gives ys)
+      ∙ ap (λ (b : Bool). old.gave || b) (sym (gives_append xs ys)),
+  second.1 ∙ ap (λ (b : Bool). b || passes ys) first.1 ∙ or_assoc old.passed (passes xs) (passes ys)
+      ∙ ap (λ (b : Bool). old.passed || b) (sym (passes_append xs ys)),
+)
 since_then xs ys (Some stop) old mid new first second = tt
 
 -- ---- one file
@@ -280,15 +280,15 @@ skipped_meets count old new judge printer tally gave passed = record {
   audits = record {
     judge = judge;
     audits = λ entries means. record {
-        says = λ before said has.
-            let kept : HasSaid before said new.printer = subst (λ (p : Printer). HasSaid before said p) (sym printer) has in
-            let none = items_one (reasons_of entries) old.judge.shown (Skipped count) in
-            subst (λ (items : List Item). HasSaid before items new.printer)
-            (sym (ap (λ (items : List Item). said ++ items) none ∙ append-nil said)) kept;
-        tallies = tally;
-        timely = (tt, tt);
-        writer = ap (λ (p : Printer). p.writer) printer;
-      };
+      says = λ before said has.
+          let kept : HasSaid before said new.printer = subst (λ (p : Printer). HasSaid before said p) (sym printer) has in
+          let none = items_one (reasons_of entries) old.judge.shown (Skipped count) in
+          subst (λ (items : List Item). HasSaid before items new.printer)
+          (sym (ap (λ (items : List Item). said ++ items) none ∙ append-nil said)) kept;
+      tallies = tally;
+      timely = (tt, tt);
+      writer = ap (λ (p : Printer). p.writer) printer;
+    };
   };
   since = (gave ∙ or_false old.since.gave, passed ∙ ap (λ (b : Bool). old.since.passed || b) (or_false (nat_lt 0 count)));
 }
@@ -300,13 +300,13 @@ nothing_met now = record {
   audits = record {
     judge = refl;
     audits = λ entries means. record {
-        says = λ before said has.
-            subst (λ (items : List Item). HasSaid before items now.printer)
-            (sym (ap (λ (items : List Item). said ++ items) (items_none (reasons_of entries) now.judge.shown) ∙ append-nil said)) has;
-        tallies = refl;
-        timely = tt;
-        writer = refl;
-      };
+      says = λ before said has.
+          subst (λ (items : List Item). HasSaid before items now.printer)
+          (sym (ap (λ (items : List Item). said ++ items) (items_none (reasons_of entries) now.judge.shown) ∙ append-nil said)) has;
+      tallies = refl;
+      timely = tt;
+      writer = refl;
+    };
   };
   since = (or_false now.since.gave, or_false now.since.passed);
 }
@@ -316,16 +316,16 @@ nothing_begun now = record {
   audits = record {
     judge = refl;
     audits = λ entries means. record {
-        says = λ before said has. record {
-            said = said;
-            later = [];
-            parts = ap (λ (items : List Item). said ++ items) (items_none (reasons_of entries) now.judge.shown);
-            has_said = has;
-          };
-        tallies = tt;
-        timely = tt;
-        writer = refl;
+      says = λ before said has. record {
+        said = said;
+        later = [];
+        parts = ap (λ (items : List Item). said ++ items) (items_none (reasons_of entries) now.judge.shown);
+        has_said = has;
       };
+      tallies = tt;
+      timely = tt;
+      writer = refl;
+    };
   };
   since = tt;
 }
@@ -334,13 +334,13 @@ pub nothing_named : (fault : FileFault) (now : State) → AuditsBy [] (Some (sto
 nothing_named fault now = record {
   judge = refl;
   audits = λ entries means. record {
-      says = λ before said has.
-          subst (λ (items : List Item). HasSaid before items now.printer)
-          (sym (ap (λ (items : List Item). said ++ items) (items_none (reasons_of entries) now.judge.shown) ∙ append-nil said)) has;
-      tallies = tt;
-      timely = tt;
-      writer = refl;
-    };
+    says = λ before said has.
+        subst (λ (items : List Item). HasSaid before items now.printer)
+        (sym (ap (λ (items : List Item). said ++ items) (items_none (reasons_of entries) now.judge.shown) ∙ append-nil said)) has;
+    tallies = tt;
+    timely = tt;
+    writer = refl;
+  };
 }
 
 tallied_then : (reasons : Subject → Reasons) (xs ys : List Visit) (stop : Option Stop) (old mid new : Tally)
@@ -359,12 +359,12 @@ audits_then reasons xs ys stop old mid new judge first second = record {
   says = λ before said has.
       let there = second.says before (said ++ visits_items reasons old.judge.shown xs) (first.says before said has) in
       let same : visits_items reasons mid.judge.shown ys ≡ visits_items reasons old.judge.shown ys =
-          ap (λ (j : Judge). visits_items reasons j.shown ys) judge in
+      ap (λ (j : Judge). visits_items reasons j.shown ys) judge in
       let all : (said ++ visits_items reasons old.judge.shown xs) ++ visits_items reasons mid.judge.shown ys
-          ≡ said ++ visits_items reasons old.judge.shown (xs ++ ys) =
-          append_assoc said _ _
-          ∙ ap (λ (items : List Item). said ++ (visits_items reasons old.judge.shown xs ++ items)) same
-          ∙ ap (λ (items : List Item). said ++ items) (sym (items_append reasons old.judge.shown xs ys)) in
+      ≡ said ++ visits_items reasons old.judge.shown (xs ++ ys) =
+      append_assoc said _ _
+      ∙ ap (λ (items : List Item). said ++ (visits_items reasons old.judge.shown xs ++ items)) same
+      ∙ ap (λ (items : List Item). said ++ items) (sym (items_append reasons old.judge.shown xs ys)) in
       subst (λ (items : List Item). Says before items stop new) all there;
   tallies = tallied_then reasons xs ys stop old.tally mid.tally new.tally first.tallies second.tallies;
   timely = timely_append reasons old.tally xs ys first.timely

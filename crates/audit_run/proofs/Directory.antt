@@ -70,8 +70,8 @@ directory_walked Knows every path count levels result old mid new ends was meets
     let met = was.first ++ was.rest in
     let more = no_file every path (gives met) (passes met) in
     let same : no_file every path mid.since.gave mid.since.passed ≡ more =
-        ap (λ (b : Bool). no_file every path b mid.since.passed) was.meets.since.0
-        ∙ ap (λ (b : Bool). no_file every path (gives met) b) was.meets.since.1 in
+    ap (λ (b : Bool). no_file every path b mid.since.passed) was.meets.since.0
+    ∙ ap (λ (b : Bool). no_file every path (gives met) b) was.meets.since.1 in
     let last : Meets more (result_err result) mid new = subst (λ (v : List Visit). Meets v (result_err result) mid new) same meets in
     let turns = subst (λ (l : List Level). Turns Knows every was.start count l was.rest) ends was.turns in
     record {

@@ -20,13 +20,13 @@ pub entry_here : (Knows : Fact → Type 0) (every : Bool) (directory name at oth
     → IsLooked Knows other selection expected found visits → IsEntry Knows every directory name false visits
 entry_here Knows every directory name at other selection expected found visits utf8 at_is other_is chosen wants never looked is leads =
     let looked_at : Knows (Leads (path_in directory name) false found) =
-        subst (λ (p : List ℕ). Knows (Leads p false found)) at_is looked in
+    subst (λ (p : List ℕ). Knows (Leads p false found)) at_is looked in
     let by_path : IsLooked Knows (path_in directory name) selection expected found visits =
-        subst (λ (p : List ℕ). IsLooked Knows p selection expected found visits) other_is leads in
+    subst (λ (p : List ℕ). IsLooked Knows p selection expected found visits) other_is leads in
     let by_name : IsLooked Knows (path_in directory name) (selection_of every name) expected found visits =
-        subst (λ (s : Selection). IsLooked Knows (path_in directory name) s expected found visits) chosen by_path in
+    subst (λ (s : Selection). IsLooked Knows (path_in directory name) s expected found visits) chosen by_path in
     let all : IsLooked Knows (path_in directory name) (selection_of every name) (is_expected directory name) found visits =
-        subst (λ (e : Bool). IsLooked Knows (path_in directory name) (selection_of every name) e found visits) wants by_name in
+    subst (λ (e : Bool). IsLooked Knows (path_in directory name) (selection_of every name) e found visits) wants by_name in
     here found utf8 (subst (λ (s : Selection). is_never s ≡ false) chosen never) looked_at is refl all
 
 -- an audit that stopped had begun this at most

@@ -72,9 +72,9 @@ pub name_stopped : (Knows : Fact → Type 0) (every : Bool) (front bytes : List 
     → Went {A = Unit {0}} (λ whole. Each (IsOnList Knows every) whole (names_after front bytes)) (Err stop) old new
 name_stopped Knows every front bytes at name more stop old mid new lt ends was is audits =
     let both = each_then (IsOnList Knows every) false (names_after front (take at bytes)) (rest_after front (take at bytes) ∷ [])
-        was.visits more was.is (each_one (IsOnList Knows every) false (rest_after front (take at bytes)) more is) in
+    was.visits more was.is (each_one (IsOnList Knows every) false (rest_after front (take at bytes)) more is) in
     let here : Each (IsOnList Knows every) false (names_after front (take (at + 1) bytes)) (was.visits ++ more) =
-        subst (λ (n : List (List ℕ)). Each (IsOnList Knows every) false n (was.visits ++ more)) (sym (ended_names front bytes at lt ends)) both in
+    subst (λ (n : List (List ℕ)). Each (IsOnList Knows every) false n (was.visits ++ more)) (sym (ended_names front bytes at lt ends)) both in
     record {
       visits = was.visits ++ more;
       is = names_cut Knows every false front bytes (at + 1) (was.visits ++ more) here;

@@ -158,7 +158,7 @@ pub names_cut : (Knows : Fact → Type 0) (every whole : Bool) (front bytes : Li
     → Each (IsOnList Knows every) false (names_after front bytes) visits
 names_cut Knows every whole front bytes at visits each =
     let all = sym (names_append front (take at bytes) (drop at bytes))
-        ∙ ap (λ (b : List ℕ). names_after front b) (take-append-drop at bytes) in
+    ∙ ap (λ (b : List ℕ). names_after front b) (take-append-drop at bytes) in
     subst (λ (n : List (List ℕ)). Each (IsOnList Knows every) false n visits) all
     (each_cut (IsOnList Knows every) whole (names_after front (take at bytes))
     (names_after (rest_after front (take at bytes)) (drop at bytes)) visits (λ name. before_name refl refl) each)
@@ -188,10 +188,9 @@ more_listed Knows every (Some all) (Some old) None bytes front visits more was c
 more_listed Knows every (Some all) (Some old) (Some new) bytes front visits more was comes each =
     let came = was.0 in
     let here : Each (IsOnList Knows every) true (names_after (rest_after [] came) bytes) more =
-        subst (λ (f : List ℕ). Each (IsOnList Knows every) true (names_after f bytes) more) was.1.2 each in
+    subst (λ (f : List ℕ). Each (IsOnList Knows every) true (names_after f bytes) more) was.1.2 each in
     let both = each_then (IsOnList Knows every) true (names_after [] came) (names_after (rest_after [] came) bytes) visits more
-        was.1.1 here in
-    (
+    was.1.1 here in (
       came ++ bytes,
       (
         was.1.0 ∙ ap (λ (b : List ℕ). came ++ b) comes ∙ sym (append_assoc came bytes new),
@@ -210,10 +209,9 @@ cut_listed Knows every (Some all) (Some old) None bytes front visits more was co
 cut_listed Knows every (Some all) (Some old) (Some new) bytes front visits more was comes each =
     let came = was.0 in
     let here : Each (IsOnList Knows every) false (names_after (rest_after [] came) bytes) more =
-        subst (λ (f : List ℕ). Each (IsOnList Knows every) false (names_after f bytes) more) was.1.2 each in
+    subst (λ (f : List ℕ). Each (IsOnList Knows every) false (names_after f bytes) more) was.1.2 each in
     let both = each_then (IsOnList Knows every) false (names_after [] came) (names_after (rest_after [] came) bytes) visits more
-        was.1.1 here in
-    (
+    was.1.1 here in (
       came ++ bytes,
       new,
       (
@@ -228,14 +226,14 @@ pub lost_listed : (Knows : Fact → Type 0) (every : Bool) (all old : Option (Li
 lost_listed Knows every None old front visits was = tt
 lost_listed Knows every (Some all) None front visits was = absurd was
 lost_listed Knows every (Some all) (Some old) front visits was = (
-    was.0,
-    old,
-    (
-      was.1.0,
-      inl (subst (λ (n : List (List ℕ)). Each (IsOnList Knows every) false n visits) (append-nil (names_after [] was.0))
-      (each_cut (IsOnList Knows every) true (names_after [] was.0) [] visits (λ name. before_name refl refl) was.1.1)),
-    ),
-  )
+  was.0,
+  old,
+  (
+    was.1.0,
+    inl (subst (λ (n : List (List ℕ)). Each (IsOnList Knows every) false n visits) (append-nil (names_after [] was.0))
+        (each_cut (IsOnList Knows every) true (names_after [] was.0) [] visits (λ name. before_name refl refl) was.1.1)),
+  ),
+)
 
 -- all names were audited, or the audit was stopped within the last one
 pub all_listed : (Knows : Fact → Type 0) (every whole : Bool) (all old new : Option (List ℕ)) (front : List ℕ)
@@ -248,20 +246,19 @@ all_listed Knows every true (Some all) (Some old) (Some new) front visits more w
     let came = was.0 in
     let is : all ≡ came = was.1.0 ∙ ap (λ (b : List ℕ). came ++ b) (comes ∙ end) ∙ append-nil came in
     let last : Each (IsOnList Knows every) true (names_to (rest_after [] came)) more =
-        subst (λ (f : List ℕ). Each (IsOnList Knows every) true (names_to f) more) was.1.2 each in
+    subst (λ (f : List ℕ). Each (IsOnList Knows every) true (names_to f) more) was.1.2 each in
     subst (λ (b : List ℕ). Each (IsOnList Knows every) true (names_of b) (visits ++ more)) (sym is)
     (each_then (IsOnList Knows every) true (names_after [] came) (names_to (rest_after [] came)) visits more was.1.1 last)
 all_listed Knows every false (Some all) (Some old) (Some new) front visits more was comes end each =
     let came = was.0 in
     let is : all ≡ came = was.1.0 ∙ ap (λ (b : List ℕ). came ++ b) (comes ∙ end) ∙ append-nil came in
     let last : Each (IsOnList Knows every) false (names_to (rest_after [] came)) more =
-        subst (λ (f : List ℕ). Each (IsOnList Knows every) false (names_to f) more) was.1.2 each in
-    (
+    subst (λ (f : List ℕ). Each (IsOnList Knows every) false (names_to f) more) was.1.2 each in (
       came,
       [],
       (
         is ∙ sym (append-nil came),
         inr (subst (λ (b : List ℕ). Each (IsOnList Knows every) false (names_of b) (visits ++ more)) (sym is)
-        (each_then (IsOnList Knows every) false (names_after [] came) (names_to (rest_after [] came)) visits more was.1.1 last)),
+            (each_then (IsOnList Knows every) false (names_after [] came) (names_to (rest_after [] came)) visits more was.1.1 last)),
       ),
     )

@@ -35,7 +35,7 @@ pub each_more : {X : Type 0} (Is : Bool → X → List Visit → Type 0) (xs : L
     → Each Is true (take (i + 1) xs) (visits ++ more)
 each_more {X} Is xs i x visits more lt item each is =
     let taken : take (i + 1) xs ≡ take i xs ++ x ∷ [] =
-        take_more xs i x lt ∙ ap (λ (y : X). take i xs ++ y ∷ []) (sym item) in
+    take_more xs i x lt ∙ ap (λ (y : X). take i xs ++ y ∷ []) (sym item) in
     subst (λ (ys : List X). Each Is true ys (visits ++ more)) (sym taken)
     (each_then Is true (take i xs) (x ∷ []) visits more each (each_one Is true x more is))
 
@@ -44,10 +44,10 @@ pub each_stops : {X : Type 0} (Is : Bool → X → List Visit → Type 0) (xs : 
     → Each Is false xs (visits ++ more)
 each_stops {X} Is xs i x visits more lt item each is =
     let taken : take (i + 1) xs ≡ take i xs ++ x ∷ [] =
-        take_more xs i x lt ∙ ap (λ (y : X). take i xs ++ y ∷ []) (sym item) in
+    take_more xs i x lt ∙ ap (λ (y : X). take i xs ++ y ∷ []) (sym item) in
     let rest = drop (i + 1) xs in
     let all : take i xs ++ x ∷ rest ≡ xs =
-        sym (append_assoc (take i xs) (x ∷ []) rest) ∙ ap (λ (ys : List X). ys ++ rest) (sym taken)
-        ∙ take-append-drop (i + 1) xs in
+    sym (append_assoc (take i xs) (x ∷ []) rest) ∙ ap (λ (ys : List X). ys ++ rest) (sym taken)
+    ∙ take-append-drop (i + 1) xs in
     subst (λ (ys : List X). Each Is false ys (visits ++ more)) all
     (each_then Is false (take i xs) (x ∷ rest) visits more each (stopped x rest more refl is))

@@ -1,6 +1,7 @@
 -- The end of a whole audit.
 use Rattle.std.proofs.Common.{◌≡◌, ℕ, Bool, true, false, List, [], ◌∷◌, ◌++◌, codes, Option, Some, None, Result}
 use Rattle.std.proofs.Common.{refl, sym, ap, subst, ◌∙◌, append_assoc}
+use Rattle.std.specs.Prelude.{IsTrue, not, ◌↔◌}
 use Rattle.std.specs.Result.{result_err}
 use Rattle.key_files.specs.RunFault.{RunFault, EndedBy, ByInput, ByMemory, ByOutput, ended_by, run_fault_of}
 use Rattle.key_files.specs.declared.cause.Cause.TheVariants as causes
@@ -48,18 +49,20 @@ ended_all Knows order queried names entries before visits result old mid new giv
     let items = visits_items (reasons_of entries) order.shown visits in
     let has : HasSaid before items mid.printer = said_so order entries visits None before old mid shown audits said in
     let last : Carries (last_items order.list.now queried new.tally) result mid.printer new.printer =
-        subst (λ (t : Tally). Carries (last_items order.list.now queried t) result mid.printer new.printer) (sym same) carries in
-    (items ++ last_items order.list.now queried new.tally, (
-      record {
-        visits = visits;
-        whole = true;
-        given = given;
-        timely = audits.timely;
-        is_run = all_audited refl refl;
-        tally_is = λ none. same ∙ audits.tallies;
-      },
-      (last.says before items has, last.writer ∙ audits.writer),
-    ))
+    subst (λ (t : Tally). Carries (last_items order.list.now queried t) result mid.printer new.printer) (sym same) carries in (
+      items ++ last_items order.list.now queried new.tally,
+      (
+        record {
+          visits = visits;
+          whole = true;
+          given = given;
+          timely = audits.timely;
+          is_run = all_audited refl refl;
+          tally_is = λ none. same ∙ audits.tallies;
+        },
+        (last.says before items has, last.writer ∙ audits.writer),
+      ),
+    )
 
 some_is : {A : Type 0} (x : A) → Some x ≡ None → ⊥
 some_is x is = cc
@@ -73,72 +76,80 @@ pub ended_stopped : (Knows : Fact → Type 0) (order : Order) (queried : Queried
 ended_stopped Knows order queried names entries before visits stops.Revoked old new given audits judge shown said =
     let at = said_so order entries visits (Some stops.Revoked) before old new shown audits said in
     let kept : new.judge.shown ≡ order.shown = ap (λ (j : Judge). j.shown) judge ∙ shown in
-    let quiet : order.shown.revoked ≡ false = subst (λ (s : Shown). s.revoked ≡ false) kept at.1.0 in
-    (visits_items (reasons_of entries) order.shown visits, (
-      record {
-        visits = visits;
-        whole = false;
-        given = given;
-        timely = audits.timely;
-        is_run = ended_at_revoked quiet at.1.1 refl refl;
-        tally_is = λ none. audits.tallies;
-      },
-      (at.0, audits.writer),
-    ))
-ended_stopped Knows order queried names entries before visits stops.NoMemory old new given audits judge shown said =
-    let front = said_so order entries visits (Some stops.NoMemory) before old new shown audits said in
-    (front.said ++ Passed (codes "memory") ∷ [], (
-      record {
-        visits = visits;
-        whole = false;
-        given = given;
-        timely = audits.timely;
-        is_run = ran_out front.said front.later front.parts refl refl;
-        tally_is = λ none. absurd (some_is _ none);
-      },
+    let quiet : order.shown.revoked ≡ false = subst (λ (s : Shown). s.revoked ≡ false) kept at.1.0 in (
+      visits_items (reasons_of entries) order.shown visits,
       (
         record {
-          said = front.said;
-          runs_out = record { next = Passed (codes "memory"); later = []; parts = refl; named = refl };
-          has_said = front.has_said;
+          visits = visits;
+          whole = false;
+          given = given;
+          timely = audits.timely;
+          is_run = ended_at_revoked quiet at.1.1 refl refl;
+          tally_is = λ none. audits.tallies;
         },
-        audits.writer,
+        (at.0, audits.writer),
       ),
-    ))
-ended_stopped Knows order queried names entries before visits (stops.Lost count) old new given audits judge shown said =
-    (visits_items (reasons_of entries) order.shown visits, (
-      record {
-        visits = visits;
-        whole = false;
-        given = given;
-        timely = audits.timely;
-        is_run = lost count refl refl;
-        tally_is = λ none. absurd (some_is _ none);
-      },
-      (said_so order entries visits (Some (stops.Lost count)) before old new shown audits said, audits.writer),
-    ))
+    )
+ended_stopped Knows order queried names entries before visits stops.NoMemory old new given audits judge shown said =
+    let front = said_so order entries visits (Some stops.NoMemory) before old new shown audits said in (
+      front.said ++ Passed (codes "memory") ∷ [],
+      (
+        record {
+          visits = visits;
+          whole = false;
+          given = given;
+          timely = audits.timely;
+          is_run = ran_out front.said front.later front.parts refl refl;
+          tally_is = λ none. absurd (some_is _ none);
+        },
+        (
+          record {
+            said = front.said;
+            runs_out = record { next = Passed (codes "memory"); later = []; parts = refl; named = refl };
+            has_said = front.has_said;
+          },
+          audits.writer,
+        ),
+      ),
+    )
+ended_stopped Knows order queried names entries before visits (stops.Lost count) old new given audits judge shown said = (
+  visits_items (reasons_of entries) order.shown visits,
+  (
+    record {
+      visits = visits;
+      whole = false;
+      given = given;
+      timely = audits.timely;
+      is_run = lost count refl refl;
+      tally_is = λ none. absurd (some_is _ none);
+    },
+    (said_so order entries visits (Some (stops.Lost count)) before old new shown audits said, audits.writer),
+  ),
+)
 ended_stopped Knows order queried names entries before visits (stops.NoNames fault) old new given audits judge shown said =
     let items = visits_items (reasons_of entries) order.shown visits in
-    let end = run_fault_of order.names_from.now (causes.File fault) in
-    (items ++ Stopped end ∷ [], (
-      record {
-        visits = visits;
-        whole = false;
-        given = given;
-        timely = audits.timely;
-        is_run = no_names fault refl refl refl;
-        tally_is = λ none. absurd (some_is _ none);
-      },
+    let end = run_fault_of order.names_from.now (causes.File fault) in (
+      items ++ Stopped end ∷ [],
       (
         record {
-          said = items;
-          later = [];
-          parts = refl;
-          has_said = said_so order entries visits (Some (stops.NoNames fault)) before old new shown audits said;
+          visits = visits;
+          whole = false;
+          given = given;
+          timely = audits.timely;
+          is_run = no_names fault refl refl refl;
+          tally_is = λ none. absurd (some_is _ none);
         },
-        audits.writer,
+        (
+          record {
+            said = items;
+            later = [];
+            parts = refl;
+            has_said = said_so order entries visits (Some (stops.NoNames fault)) before old new shown audits said;
+          },
+          audits.writer,
+        ),
       ),
-    ))
+    )
 
 -- the final state of the printer's writer is that of the writer
 pub ends_there : (run : List Item) (counts : Counts) (before taken taken' : Option (List ℕ)) (failed failed' : Bool) (status : ℕ)
@@ -190,3 +201,12 @@ stop_is_kept (Some stop) run before taken mid failed status None reaches ends is
     let more = ended_more (ended_by stop.cause) before run (Stopped stop ∷ []) stop mid reaches in
     absurd (never_none run stop (ends before (run ++ Stopped stop ∷ []) more).0.reported)
 stop_is_kept (Some stop) run before taken mid failed status (Some fault) reaches ends is = absurd (some_is fault is)
+
+-- ---- the certificate authorities of a list
+
+never_true : IsTrue false → ⊥
+never_true is = cc
+
+pub not_iff : (result : Bool) (P : Type 0) → (IsTrue result ↔ P) → (not result ≡ false) ↔ P
+not_iff true P iff = (λ is. iff.0 refl, λ holds. refl)
+not_iff false P iff = (λ is. absurd (cc), λ holds. absurd (never_true (iff.1 holds)))

@@ -66,9 +66,9 @@ pub down_turn : (Knows : Fact → Type 0) (every : Bool) (levels : List Level) (
 down_turn Knows every levels last left name first visits path deeper names is at enters =
     let nothing = down_nothing Knows last.every last.path name.items first is in
     let there : IsEntered Knows every false (path_in last.path name.items) visits deeper =
-        subst (λ (p : List ℕ). IsEntered Knows every false p visits deeper) at enters in
+    subst (λ (p : List ℕ). IsEntered Knows every false p visits deeper) at enters in
     let entry : IsEntry Knows last.every last.path name.items true [] =
-        subst (λ (v : List Visit). IsEntry Knows last.every last.path name.items true v) nothing is in
+    subst (λ (v : List Visit). IsEntry Knows last.every last.path name.items true v) nothing is in
     subst (λ (v : List Visit). Turn Knows every (levels ++ last ∷ []) (v ++ visits) ((levels ++ (record last { names = left }) ∷ []) ++ deeper))
     (sym nothing) (goes_down levels last left name visits deeper names entry there)
 
@@ -164,12 +164,18 @@ turn_in : (Knows : Fact → Type 0) (every : Bool) (start levels now : List Leve
     → (next : List Level) × (n : ℕ) × Turns Knows every start n next (rest ++ more)
 turn_in Knows every start levels now count rest more stop turns (inl (done, inl (other, turn))) =
     (other, count + 1, turned count levels other rest more turns turn)
-turn_in Knows every start levels now count rest more stop turns (inl (done, inr nothing)) =
-    (levels, count, subst (λ (v : List Visit). Turns Knows every start count levels v)
-    (sym (ap (λ (v : List Visit). rest ++ v) nothing ∙ append-nil rest)) turns)
-turn_in Knows every start levels now count rest more stop turns (inr nothing) =
-    (levels, count, subst (λ (v : List Visit). Turns Knows every start count levels v)
-    (sym (ap (λ (v : List Visit). rest ++ v) nothing ∙ append-nil rest)) turns)
+turn_in Knows every start levels now count rest more stop turns (inl (done, inr nothing)) = (
+  levels,
+  count,
+  subst (λ (v : List Visit). Turns Knows every start count levels v)
+      (sym (ap (λ (v : List Visit). rest ++ v) nothing ∙ append-nil rest)) turns,
+)
+turn_in Knows every start levels now count rest more stop turns (inr nothing) = (
+  levels,
+  count,
+  subst (λ (v : List Visit). Turns Knows every start count levels v)
+      (sym (ap (λ (v : List Visit). rest ++ v) nothing ∙ append-nil rest)) turns,
+)
 
 pub walk_stopped : (Knows : Fact → Type 0) (every : Bool) (path : List ℕ) (count : ℕ) (levels now : List Level) (more : List Visit)
     (stop : Stop) (old mid new : State) → Walked Knows every path count levels old mid
@@ -178,8 +184,7 @@ pub walk_stopped : (Knows : Fact → Type 0) (every : Bool) (path : List ℕ) (c
     → (visits : List Visit) × IsDirectory Knows every false path visits × Meets visits (Some stop) old new
 walk_stopped Knows every path count levels now more stop old mid new walked is meets =
     let there = turn_in Knows every walked.start levels now count walked.rest more stop walked.turns is in
-    let all = append_assoc walked.first walked.rest more in
-    (
+    let all = append_assoc walked.first walked.rest more in (
       (walked.first ++ walked.rest) ++ more,
       stopped walked.first (walked.rest ++ more) walked.start there.0 there.1 refl walked.enters there.2 all,
       meets_then (walked.first ++ walked.rest) more (Some stop) old mid new walked.meets meets,

@@ -1,6 +1,6 @@
 -- The whole audit, from a list that was read and what a tree states to the text and the status.
 use Rattle.std.specs.Prelude.{◌≡◌, ℕ, ◌<◌, Bool, true, false, List, [], ◌∷◌, ◌++◌, codes}
-use Rattle.std.specs.Prelude.{Option, Some, None, Result, Ok, Err}
+use Rattle.std.specs.Prelude.{Option, Some, None, Result, Ok, Err, is_some, ◌↔◌}
 use Rattle.std.specs.Borrow.{Bor}
 use Rattle.json_lines.specs.Field.{json_line}
 use Rattle.key_files.specs.RunFault.{RunFault, output_run_fault, run_fault_of}
@@ -15,10 +15,21 @@ use Rattle.krl_entries.specs.Revocations.{Means}
 use Rattle.krl_audit.specs.Audit.{EndsAudit}
 use Rattle.krl_audit.specs.Objects.{done_object}
 use Rattle.audit_tree.specs.declared.summary.Summary.{Summary}
+use Rattle.any_list.specs.List.{IsListFault, IsReadList}
+use Rattle.any_list.specs.declared.list.List.{List as ReadList}
+use Rattle.key_listing.specs.declared.done.Done.{Done}
+use Rattle.krl_audit.specs.declared.judge.Form.{Form}
+use Rattle.krl_audit.specs.declared.judge.Form.TheVariants as forms
+use Rattle.krl_audit.specs.declared.judge.Shown.{Shown}
+use Rattle.krl_authority.specs.Authority.{AuthoritiesAreKeys}
+use Rattle.krl_format.specs.Krl.{SpelledSection, Spells}
+use Rattle.krl_format.specs.declared.header.Header.{Header}
 use Rattle.audit_run.specs.Fact.{Fact}
 use Rattle.audit_run.specs.Named.{AreNamed, IsOnNames}
 use Rattle.audit_run.specs.Visits.{AreTimely, State, Tally, Visit, all_tallied, no_files}
 use Rattle.audit_run.specs.Visits.{visits_items}
+use Rattle.audit_run.specs.declared.run.Audited.{Audited}
+use Rattle.audit_run.specs.declared.run.Audited.TheVariants as ends
 use Rattle.audit_run.specs.declared.run.Order.{Order}
 use Rattle.audit_run.specs.declared.run.Queried.{Queried}
 use Rattle.audit_run.specs.declared.stop.Stop.{Stop}
@@ -134,3 +145,49 @@ pub record EndsAuditBy (Knows : Fact → Type 0) (order : Order) (queried : Quer
       × (IsAudit Knows order queried names entries nothing_tallied tally stop run
       × (EndsAudit run tally.counts before after failed status fault
       × (fault ≡ None → stop ≡ None)))
+
+-- ---- the bytes of the list
+
+-- whether the last object is printed, which has the SHA-256 of the list
+abbrev pub hashed_if : Form → Bool → Bool
+hashed_if forms.Json revoked = revoked
+hashed_if forms.Text revoked = false
+hashed_if forms.Colour revoked = false
+
+abbrev pub is_hashed : Shown → Bool
+is_hashed shown = hashed_if shown.form shown.revoked
+
+-- Whether a list that was read from these bytes is a key revocation list with a certificate
+-- authority that is no key in its one spelling.
+pub data HasOther (list : ReadList) (bytes : List ℕ) (other : Bool) : Type 0 where
+  plain : list.stated ≡ None → other ≡ false → HasOther list bytes other
+  whole : is_some list.stated ≡ true
+      → ((header : Header) (sections : List SpelledSection) → Spells bytes header sections
+      → (other ≡ false) ↔ AuthoritiesAreKeys sections)
+      → HasOther list bytes other
+
+-- an audit by a list that was read from these bytes
+pub record AuditsRead (Knows : Fact → Type 0) (order : Order) (bytes : List ℕ)
+    (names : Option (Result (Option (List ℕ)) FileFault)) (before after : Option (List ℕ))
+    (failed : Bool) (done : Done) (summary : Summary) : Type 0 where
+  pub list : ReadList
+  pub queried : Queried
+  pub is_read : IsReadList (is_hashed order.shown) bytes list
+  pub fine : HasOther list bytes false
+  pub revocations : queried.list.now ≡ list.revocations
+  pub stated : queried.stated ≡ list.stated
+  pub sha256 : queried.sha256 ≡ list.sha256
+  pub ends : EndsAuditBy Knows order queried names before after failed summary done.status done.fault
+
+-- The end of an audit by a list with these bytes. Where no audit is made nothing is printed.
+abbrev pub EndsAuditRun : (Fact → Type 0) → Order → (bytes : List ℕ)
+    → Option (Result (Option (List ℕ)) FileFault) → (before after : Option (List ℕ)) → Bool
+    → Audited → Type 0
+EndsAuditRun Knows order bytes names before after failed (ends.Ended done summary) =
+    AuditsRead Knows order bytes names before after failed done summary
+EndsAuditRun Knows order bytes names before after failed ends.OtherAuthority =
+    (list : ReadList)
+    × (IsReadList (is_hashed order.shown) bytes list × (HasOther list bytes true
+    × ((after ≡ before) × (failed ≡ false))))
+EndsAuditRun Knows order bytes names before after failed (ends.Refused stop) =
+    IsListFault order.list.now bytes stop × ((after ≡ before) × (failed ≡ false))

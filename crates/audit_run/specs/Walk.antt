@@ -66,20 +66,20 @@ pub data IsEntered (Knows : Fact → Type 0) (every named : Bool) (path : List �
 
 -- The next name of the directory that was entered last leads to this, or it has no name left.
 pub data Turn (Knows : Fact → Type 0) (every : Bool) : List Level → List Visit → List Level → Type 0
-    where
-  leaves : (levels : List Level) (last : Level) → last.names ≡ []
-      → Turn Knows every (levels ++ last ∷ []) [] levels
-  goes : (levels : List Level) (last : Level) (left : List (Vec ℕ)) (name : Vec ℕ)
-      (visits : List Visit) → last.names ≡ left ++ name ∷ []
-      → IsEntry Knows last.every last.path name.items false visits
-      → Turn Knows every (levels ++ last ∷ []) visits
-      (levels ++ (record last { names = left }) ∷ [])
-  goes_down : (levels : List Level) (last : Level) (left : List (Vec ℕ)) (name : Vec ℕ)
-      (visits : List Visit) (below : List Level) → last.names ≡ left ++ name ∷ []
-      → IsEntry Knows last.every last.path name.items true []
-      → IsEntered Knows every false (path_in last.path name.items) visits below
-      → Turn Knows every (levels ++ last ∷ []) visits
-      ((levels ++ (record last { names = left }) ∷ []) ++ below)
+  where
+    leaves : (levels : List Level) (last : Level) → last.names ≡ []
+        → Turn Knows every (levels ++ last ∷ []) [] levels
+    goes : (levels : List Level) (last : Level) (left : List (Vec ℕ)) (name : Vec ℕ)
+        (visits : List Visit) → last.names ≡ left ++ name ∷ []
+        → IsEntry Knows last.every last.path name.items false visits
+        → Turn Knows every (levels ++ last ∷ []) visits
+        (levels ++ (record last { names = left }) ∷ [])
+    goes_down : (levels : List Level) (last : Level) (left : List (Vec ℕ)) (name : Vec ℕ)
+        (visits : List Visit) (below : List Level) → last.names ≡ left ++ name ∷ []
+        → IsEntry Knows last.every last.path name.items true []
+        → IsEntered Knows every false (path_in last.path name.items) visits below
+        → Turn Knows every (levels ++ last ∷ []) visits
+        ((levels ++ (record last { names = left }) ∷ []) ++ below)
 
 -- so many steps, from these directories to those
 pub data Turns (Knows : Fact → Type 0) (every : Bool) (start : List Level)

@@ -14,5 +14,5 @@ mod walk;
 
 pub use kind::{Found, Identity, Kind, Opened, What};
 pub use round::Screen;
-pub use run::{Audited, Given, Order, Queried, audit_by};
+pub use run::{Audited, Given, Order, audit_run};
 pub use tree::Tree;

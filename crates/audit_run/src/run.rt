@@ -5,8 +5,8 @@ ghost use Rattle.std.specs.Result.{result_err};
 ghost use Rattle.krl_types.specs.Entry.{Entry};
 ghost use Rattle.krl_entries.specs.Revocations.{Means};
 ghost use Rattle.key_listing.specs.Carries.{Carries};
-ghost use Rattle.audit_run.specs.Run.{AreGiven, AuditsAll, EndsAuditBy, given_names, last_items};
-ghost use Rattle.audit_run.specs.Run.{stop_fault};
+ghost use Rattle.audit_run.specs.Run.{AreGiven, AuditsAll, EndsAuditBy, EndsAuditRun, HasOther};
+ghost use Rattle.audit_run.specs.Run.{given_names, is_hashed, last_items, stop_fault};
 ghost use Rattle.audit_run.specs.Visits.{Went};
 
 use crate::files::{Files, Since};
@@ -14,13 +14,16 @@ use crate::named::{audit_listed, audit_paths};
 use crate::round::{Round, Screen};
 use crate::stop::Stop;
 use crate::tree::Tree;
+use any_list::{List as ReadList, read_list};
 use audit_tree::Summary;
 use byte_streams::Source;
 use key_files::{Cause, FileFault, RunFault};
 use key_listing::{Done, Printer, Run};
 use krl_audit::{Auditor, Counts, Form, Judge, ListFacts, Shown, Stated};
+use krl_authority::authorities_are_keys;
 use krl_entries::Revocations;
 use span_sets::Held;
+use ssh_wire::Bytes;
 use std::alloc::Global;
 
 /// What the command asks for.
@@ -38,15 +41,15 @@ pub struct Order<'a> {
     pub paths: &'a [&'a str],
 }
 
-/// A list that was read.
+// A list that was read.
 #[derive(Clone, Copy)]
-pub struct Queried<'q> {
-    /// What it revokes.
-    pub list: &'q Revocations<Held>,
-    /// Its version and its date. A plain list has none.
-    pub stated: Option<Stated>,
-    /// The SHA-256 of its bytes, if the last object has it.
-    pub sha256: Option<[u8; 32]>,
+struct Queried<'q> {
+    // What it revokes.
+    list: &'q Revocations<Held>,
+    // Its version and its date. A plain list has none.
+    stated: Option<Stated>,
+    // The SHA-256 of its bytes, if the last object has it.
+    sha256: Option<[u8; 32]>,
 }
 
 /// Where files are found, and a reader of names of files, or why it cannot be had.
@@ -56,21 +59,85 @@ pub struct Given<'t, T: Tree, N: Source + Drop> {
     pub names: Option<Result<N, FileFault>>,
 }
 
-/// The end of an audit, and what was counted.
+/// The end of an audit.
 #[derive(Drop)]
-pub struct Audited<'a> {
-    pub done: Done<'a>,
-    pub summary: Summary,
+pub enum Audited<'a> {
+    /// The audit came to an end, and this was counted.
+    Ended { done: Done<'a>, summary: Summary },
+    /// The list names a certificate authority that is no key in its one spelling.
+    OtherAuthority,
+    /// The list is refused.
+    Refused(RunFault<'a>),
 }
 
-/// Audits what the command asks for, by a list that was read.
-pub fn audit_by<'a, T: Tree, N: Source + Drop, W: Screen>(
+// The end of an audit by a list that was read, and what was counted.
+#[derive(Drop)]
+struct Counted<'a> {
+    done: Done<'a>,
+    summary: Summary,
+}
+
+/// Audits what the command asks for, given the bytes of the list. No audit is made by a list whose
+/// certificate authorities sshd may read otherwise. The status of an audit that came to an end is
+/// 255 if it was stopped, otherwise 1 if a key is revoked, otherwise 3 if something was not read,
+/// otherwise 0.
+pub fn audit_run<'a, T: Tree, N: Source + Drop, W: Screen>(
+    alloc: Global,
+    order: &Order<'a>,
+    list: Bytes,
+    given: Given<'_, T, N>,
+    out: &mut W,
+) -> Audited<'a>
+    requires working { W.Sink.has_failed out.old ≡ false }
+    requires names { IfSome given.names (λ names. IfOk names (λ names.
+        N.has_failed names ≡ false)) }
+    ensures { EndsAuditRun (T.states given.entry.tree.now) order.now list
+        (given_names N.left given.entry.names) (W.Sink.taken out.old) (W.Sink.taken out.new)
+        (W.Sink.has_failed out.new) result }
+{
+    let read = match read_list(alloc, order.list, list.as_slice(), is_hashed(order.shown)) {
+        Ok(read) => read,
+        Err(fault) => return Audited::Refused(fault),
+    };
+    if has_other_authority(&read, list.as_slice()) {
+        return Audited::OtherAuthority;
+    }
+    drop(list);
+    let queried = Queried {
+        list: &read.revocations,
+        stated: read.stated,
+        sha256: read.sha256,
+    };
+    let Counted { done, summary } = audit_by(alloc, order, &queried, given, out);
+    Audited::Ended { done, summary }
+}
+
+// Whether the last object is printed, which has the SHA-256 of the list.
+fn is_hashed(shown: Shown) -> bool
+    ensures { result ≡ is_hashed shown }
+{
+    match shown.form {
+        Form::Json => shown.revoked,
+        Form::Text | Form::Colour => false,
+    }
+}
+
+// Whether a list names a certificate authority by other bytes than those of a key in its one
+// spelling. sshd compares such an authority as a key, and an audit compares bytes.
+fn has_other_authority(list: &ReadList, bytes: &[u8]) -> bool
+    ensures { HasOther list.now bytes.now result }
+{
+    list.stated.is_some() && !authorities_are_keys(bytes)
+}
+
+// Audits what the command asks for, by a list that was read.
+fn audit_by<'a, T: Tree, N: Source + Drop, W: Screen>(
     alloc: Global,
     order: &Order<'a>,
     queried: &Queried<'_>,
     given: Given<'_, T, N>,
     out: &mut W,
-) -> Audited<'a>
+) -> Counted<'a>
     requires read { (entries : List Entry) × Means queried.now.list.now entries }
     requires working { W.Sink.has_failed out.old ≡ false }
     requires names { IfSome given.names (λ names. IfOk names (λ names.
@@ -122,7 +189,7 @@ pub fn audit_by<'a, T: Tree, N: Source + Drop, W: Screen>(
     } = run;
     let fault = printer.finish(stop).fault;
     let Printer { out: _out, .. } = printer;
-    Audited {
+    Counted {
         done: Done {
             status: summary.counts.status(fault.is_some()),
             fault,

@@ -23,11 +23,7 @@ pub trait Tree {
 
     /// Opens what is at a path, or says why not: what a look has found, or, without one, what the
     /// command names, which is waited for. Fails only if an allocation fails.
-    fn open(
-        &self,
-        path: &str,
-        looked: Option<Found>,
-    ) -> Result<Result<Opened, Refusal>, AllocError>
+    fn open(&self, path: &str, looked: Option<Found>) -> Result<Result<Opened, Refusal>, AllocError>
         ensures { IfOk result (λ opened. states self.now (Opens path.now looked opened)) };
 
     /// Reads what was opened at a path last, or standard input, into a vector, or says why not.

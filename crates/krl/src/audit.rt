@@ -4,69 +4,47 @@ ghost use Rattle.std.specs.Prelude.{◌≡◌, false, IfOk, IfSome};
 
 use crate::disk::Disk;
 use crate::ending::{end, fail_by, fail_in_words, print_line};
-use crate::list::{ListFile, read_list};
+use crate::loading::bytes_of;
 use crate::screen::{Screen, has_colours};
-use audit_run::{Given, Order, Queried, audit_by};
+use audit_run::{Audited, Given, Order, audit_run};
 use audit_tree::{Summary, push_summary};
 use byte_streams::{FromRead, Source};
-use key_files::FileFault;
+use key_files::{FileFault, RunFault};
 use krl_arguments::Audit;
 use krl_audit::{Form, Shown};
-use krl_authority::authorities_are_keys;
+use ssh_wire::Bytes;
 use std::fs::{self, File};
 
 // Why no audit is made by a list whose authorities OpenSSH compares otherwise.
 const OTHER_AUTHORITY: &[u8] = b"a certificate authority in it is no key in its one spelling, and \
 sshd may read it otherwise";
 
-/// Audits what the task names. Answers the exit status. Text has no last object, and quietly nothing
-/// is printed, so no SHA-256 is needed then.
+/// Audits what the task names. Answers the exit status.
 pub fn audit(rt: &HostRuntime, task: &Audit) -> u8 {
-    match read_list(rt, task.list, task.json && !task.quiet) {
-        Ok(file) if has_other_authority(&file) => fail_in_words(rt, task.list, OTHER_AUTHORITY),
-        Ok(file) => audit_list(rt, task, file),
-        Err(fault) => fail_by(rt, fault),
-    }
-}
-
-// Whether a list names a certificate authority by other bytes than those of a key in its one
-// spelling. sshd compares such an authority as a key, and an audit compares bytes.
-fn has_other_authority(file: &ListFile) -> bool {
-    file.list.stated.is_some() && !authorities_are_keys(file.bytes.as_slice())
-}
-
-// Audits what the task names by this list, of which the bytes are dropped first.
-fn audit_list(rt: &HostRuntime, task: &Audit, file: ListFile) -> u8 {
-    let ListFile { bytes, list } = file;
-    drop(bytes);
-    let queried = Queried {
-        list: &list.revocations,
-        stated: list.stated,
-        sha256: list.sha256,
+    let list = match bytes_of(rt, task.list) {
+        Ok(list) => list,
+        Err(cause) => return fail_by(rt, RunFault::whole(task.list, cause)),
     };
     match task.names_from {
-        None => audit_given(
-            rt,
-            task,
-            &queried,
-            None::<Result<FromRead<File>, FileFault>>,
-        ),
-        Some("-") => audit_given(rt, task, &queried, Some(Ok(FromRead::new(rt.stdin())))),
-        Some(from) => match fs::open(rt, from) {
-            Ok(names) => audit_given(rt, task, &queried, Some(Ok(FromRead::new(names)))),
-            Err(_) => {
-                let names: Option<Result<FromRead<File>, FileFault>> = Some(Err(FileFault::Open));
-                audit_given(rt, task, &queried, names)
-            }
-        },
+        None => audit_by(rt, task, list, None::<Result<FromRead<File>, FileFault>>),
+        Some("-") => audit_by(rt, task, list, Some(Ok(FromRead::new(rt.stdin())))),
+        Some(from) => audit_by(rt, task, list, Some(names_in(rt, from))),
     }
 }
 
-// The same, with the names that a reader gives, if there is one.
-fn audit_given<N: Source + Drop>(
+// A reader of the names of files in a file.
+fn names_in(rt: &HostRuntime, from: &str) -> Result<FromRead<File>, FileFault> {
+    match fs::open(rt, from) {
+        Ok(names) => Ok(FromRead::new(names)),
+        Err(_) => Err(FileFault::Open),
+    }
+}
+
+// Audits what the task names by a list with these bytes, first what a reader names.
+fn audit_by<N: Source + Drop>(
     rt: &HostRuntime,
     task: &Audit,
-    queried: &Queried,
+    list: Bytes,
     names: Option<Result<N, FileFault>>,
 ) -> u8
     requires { IfSome names (λ names. IfOk names (λ names. N.has_failed names ≡ false)) }
@@ -81,12 +59,18 @@ fn audit_given<N: Source + Drop>(
     let disk = Disk::new(rt);
     let given = Given { tree: &disk, names };
     let mut screen = Screen::new(rt);
-    let audited = audit_by(rt.alloc(), &order, queried, given, &mut screen);
+    let audited = audit_run(rt.alloc(), &order, list, given, &mut screen);
     screen.wipe();
-    if audited.done.fault.is_none() {
-        print_summary(rt, &audited.summary);
+    match audited {
+        Audited::Ended { done, summary } => {
+            if done.fault.is_none() {
+                print_summary(rt, &summary);
+            }
+            end(rt, &done)
+        }
+        Audited::OtherAuthority => fail_in_words(rt, task.list, OTHER_AUTHORITY),
+        Audited::Refused(fault) => fail_by(rt, fault),
     }
-    end(rt, &audited.done)
 }
 
 // Which findings the task prints, and how.

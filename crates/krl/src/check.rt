@@ -1,8 +1,8 @@
 //! `krl check`: a list, checked before it is put in force.
 
-use crate::ending::{end, fail_by, fail_in_words};
-use crate::list::{bytes_of, read_list};
-use crate::loading::{open, read};
+use crate::ending::{end, fail, fail_by, fail_in_words};
+use crate::loading::{bytes_of, open, read};
+use any_list::read_list;
 use byte_streams::{FromRead, ToWrite};
 use check_run::{AgeLimit, Conditions, Files, ListFile, check_run};
 use key_files::Cause;
@@ -108,11 +108,15 @@ fn check_lists<'a, 'l>(
 
 // Prints the version of the list of this name, if it has one.
 fn print_version(rt: &HostRuntime, name: &str) -> u8 {
-    let list = match read_list(rt, name, false) {
-        Ok(file) => file.list,
+    let bytes = match bytes_of(rt, name) {
+        Ok(bytes) => bytes,
+        Err(cause) => return fail(rt, name, cause),
+    };
+    let stated = match read_list(rt.alloc(), name, bytes.as_slice(), false) {
+        Ok(list) => list.stated,
         Err(fault) => return fail_by(rt, fault),
     };
-    let Some(stated) = list.stated else {
+    let Some(stated) = stated else {
         return fail_in_words(rt, name, b"a plain list has no version");
     };
     let mut out = ToWrite::new(rt.stdout());

@@ -3,7 +3,7 @@
 use crate::loading::{open, read, read_front, refusal_of};
 use audit_run::{Found, Identity, Kind, Opened, Tree, What};
 use audit_tree::path_in;
-use byte_streams::FromRead;
+use byte_streams::{Failed, FromRead, Source};
 use krl_audit::Refusal;
 use std::alloc::AllocError;
 use std::cell::Cell;
@@ -20,6 +20,39 @@ const PATIENCE: u64 = 5;
 struct Held {
     path: String,
     file: File,
+}
+
+/// A reader of the names of a directory.
+#[derive(Drop)]
+pub struct Names {
+    reader: FromRead<<HostRuntime as Files>::Dir>,
+}
+
+impl Source for Names {
+    ghost left = { λ names.
+        ⟦<FromRead<<HostRuntime as Files>::Dir> as Source>⟧.left names.reader };
+
+    ghost has_failed = { λ names.
+        ⟦<FromRead<<HostRuntime as Files>::Dir> as Source>⟧.has_failed names.reader };
+
+    ghost buffered = { λ names.
+        ⟦<FromRead<<HostRuntime as Files>::Dir> as Source>⟧.buffered names.reader };
+
+    fn read(&mut self, into: &mut [u8]) -> Result<usize, Failed> {
+        self.reader.read(into)
+    }
+
+    fn failed(&self) -> bool {
+        self.reader.failed()
+    }
+
+    fn buffer(&self) -> &[u8] {
+        self.reader.buffer()
+    }
+
+    fn consume(&mut self, count: usize) {
+        self.reader.consume(count)
+    }
 }
 
 /// The file system, of which nothing is claimed.
@@ -132,9 +165,9 @@ impl<'a> Disk<'a> {
 impl<'a> Tree for Disk<'a> {
     ghost use Rattle.audit_run.specs.Fact.{Fact};
 
-    type Names = FromRead<<HostRuntime as Files>::Dir>;
+    type Names = Names;
 
-    ghost states = { λ _ _. ⊤ };
+    ghost states = { λ _ _. Unit {0} };
 
     fn look(&self, path: &str, followed: bool) -> Result<Found, Refusal> {
         let found = if followed {
@@ -192,7 +225,9 @@ impl<'a> Tree for Disk<'a> {
         let with_slash = path_in(self.rt.alloc(), path, "")?;
         let opened = if named { with_slash.as_str() } else { path };
         match self.rt.open_dir(opened) {
-            Ok(directory) => Ok(Ok(FromRead::new(directory))),
+            Ok(directory) => Ok(Ok(Names {
+                reader: FromRead::new(directory),
+            })),
             Err(error) if named => Ok(Err(refusal_of(&error))),
             Err(error) => Ok(Err(self.why_closed(path, refusal_of(&error)))),
         }

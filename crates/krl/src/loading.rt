@@ -5,11 +5,14 @@ ghost use Rattle.std.specs.Prelude.{vec_capacity, vec_len};
 ghost use Rattle.std.specs.Io.KnownBytes.{Consumes};
 ghost use Rattle.krl.specs.Loading.{IsRead};
 
-use byte_streams::{FromRead, Source};
+use byte_streams::{FromRead, Pull, Source};
+use key_files::{Cause, FileFault, cause_of};
 use krl_audit::Refusal;
+use krl_core::{KrlFault, LIMIT as LIST_LIMIT};
+use ssh_wire::Bytes;
 use std::alloc::AllocError;
 use std::fs::{self, File};
-use std::io::{self, ErrorKind, Seek, SeekFrom};
+use std::io::{self, ErrorKind, Read, Seek, SeekFrom};
 
 // The most bytes that a file may have.
 const LIMIT: u64 = 16_777_216;
@@ -105,4 +108,17 @@ fn fill_front<R: Source>(reader: &mut R, front: &mut [u8; FRONT]) -> Result<usiz
         count += more;
     }
     Ok(count)
+}
+
+/// The bytes of a list's file: of a longer one, one byte more than a list may have, so that it has
+/// its first fault.
+pub fn bytes_of(rt: &HostRuntime, name: &str) -> Result<Bytes, Cause> {
+    let Ok(file) = fs::open(rt, name) else {
+        return Err(Cause::File(FileFault::Open));
+    };
+    let most = LIST_LIMIT + 1;
+    match Pull::new(FromRead::new(file.take(most)), most).rest(rt.alloc()) {
+        Ok(bytes) => Ok(bytes),
+        Err(fault) => Err(cause_of(KrlFault::from(fault))),
+    }
 }

@@ -5,7 +5,6 @@ mod audit;
 mod check;
 mod disk;
 mod ending;
-mod list;
 mod loading;
 mod screen;
 

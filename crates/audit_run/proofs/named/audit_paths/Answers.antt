@@ -31,8 +31,7 @@ loop-path-preserved g c =
     let named = c.in_ok-audit_named.ensures in
     let nothing : Bor (List ℕ) = record { ref_ptr = (0, 0); now = [] } in
     let path = get_or c.args.paths.now c.loop-path.path-index nothing in
-    let is = get_or_default c.args.paths.now c.loop-path.path-index nothing path c.loop-path-test.true in
-    (
+    let is = get_or_default c.args.paths.now c.loop-path.path-index nothing path c.loop-path-test.true in (
       walked.0 ++ named.visits,
       (
         each_more _ c.args.paths.now c.loop-path.path-index path walked.0 named.visits c.loop-path-test.true is walked.1.0 named.is,

@@ -24,11 +24,11 @@ pub returns-in_err-audit_one_listed-clause-names : goal.returns-in_err-audit_one
 returns-in_err-audit_one_listed-clause-names g c =
     let p = err_from_is_err_and c.from_residual-in_err-audit_one_listed.result c.from_residual-in_err-audit_one_listed.ensures.1 in
     rw (p.1, p.2) (λ front held.
-        let was = c.loop-byte.invariant front held in
-        let full = rest_after front (take c.loop-byte.byte-index c.args.bytes.now) in
-        let went = c.in_err-audit_one_listed.ensures full (c.as_slice.ensures.value ∙ was.name_is) in
-        name_stopped _ _ front c.args.bytes.now c.loop-byte.byte-index _ went.visits c.in_err-audit_one_listed.field-0.0 _ _ _
-        c.loop-byte-test.true c.if-byte-ne0.false was went.is went.audits)
+    let was = c.loop-byte.invariant front held in
+    let full = rest_after front (take c.loop-byte.byte-index c.args.bytes.now) in
+    let went = c.in_err-audit_one_listed.ensures full (c.as_slice.ensures.value ∙ was.name_is) in
+    name_stopped _ _ front c.args.bytes.now c.loop-byte.byte-index _ went.visits c.in_err-audit_one_listed.field-0.0 _ _ _
+    c.loop-byte-test.true c.if-byte-ne0.false was went.is went.audits)
 
 pub loop-byte-preserved : goal.loop-byte-preserved
 loop-byte-preserved g c = λ front held.

@@ -24,7 +24,7 @@ returns-in_err-audit-in-Err g c =
 pub returns-in-Ok : goal.returns-in-Ok
 returns-in-Ok g c =
     let opens = rw (c.in-Ok.is, c.as_str-2.ensures.value, c.every_in-every.ensures, c.as_str.ensures.value)
-        at c.in_ok-names.ensures.names in
+    at c.in_ok-names.ensures.names in
     record {
       visits = Skipped c.in-Ok.listing.skipped ∷ [];
       is = entered c.in-Ok.listing.names.items c.in-Ok.listing.skipped opens refl

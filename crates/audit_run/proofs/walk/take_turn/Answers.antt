@@ -37,9 +37,12 @@ returns-in_err-push_entered g c =
     let was = rw (c.as_slice.ensures.value, c.as_str.ensures.value) at c.in_ok-below.ensures.entry in
     rw (p.1, p.2) (record {
       visits = was.visits;
-      is = inl (tt, entry_turn (g.T.Tree.states c.args.tree.now) c.args.every (levels_of c.args.entered.now.items) []
-          (level_of c.args.last) c.pop.new.self.items c.in-Some.name (is_some c.in_ok-below.below) was.visits
-          c.in-Some.ensures.items was.is);
+      is = inl (
+        tt,
+        entry_turn (g.T.Tree.states c.args.tree.now) c.args.every (levels_of c.args.entered.now.items) []
+            (level_of c.args.last) c.pop.new.self.items c.in-Some.name (is_some c.in_ok-below.below) was.visits
+            c.in-Some.ensures.items was.is,
+      );
       meets = met_then_out was.visits _ _ was.meets;
     })
 
@@ -76,9 +79,15 @@ returns-in_err-push_below g c =
     let more = c.in_ok-next.ensures in
     rw (p.1, p.2) (record {
       visits = was.visits ++ more.visits;
-      is = inl (tt, inl (_, down_turn (g.T.Tree.states c.args.tree.now) c.args.every (levels_of c.args.entered.now.items)
-          (level_of c.args.last) c.pop.new.self.items c.in-Some.name was.visits more.visits _ (level_in c.in_ok-next.next)
-          c.in-Some.ensures.items was.is path more.is));
+      is = inl (
+        tt,
+        inl (
+          _,
+          down_turn (g.T.Tree.states c.args.tree.now) c.args.every (levels_of c.args.entered.now.items)
+              (level_of c.args.last) c.pop.new.self.items c.in-Some.name was.visits more.visits _ (level_in c.in_ok-next.next)
+              c.in-Some.ensures.items was.is path more.is,
+        ),
+      );
       meets = met_then_out (was.visits ++ more.visits) _ _ (meets_then was.visits more.visits None _ _ _ was.meets more.meets);
     })
 

@@ -18,7 +18,7 @@ returns-in_default g c = λ begun was.
     c.end_directory.result begun _ _ ends (c.turns.invariant begun was) c.end_directory.ensures
 
 pub returns-in_err-take_turn : goal.returns-in_err-take_turn
-returns-in_err-take_turn g c = 
+returns-in_err-take_turn g c =
     let p = err_from_is_err_and c.from_residual.result c.from_residual.ensures.1 in
     let held = ap (λ (all : List Entered). levels_of all) c.in-Some.ensures.items ∙ levels_more c.pop.new.self.items c.in-Some.last in
     rw (p.1, p.2) (λ begun was.
