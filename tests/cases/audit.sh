@@ -427,7 +427,7 @@ unfinished=$'it cannot be read to its end [file 2 Read]\n'
 keyless=$'no key type stands there [line 1 NoKey]\n'
 cut_short=$'truncated, in its header or within a section [krl 3 EndsEarly]\n'
 full='it takes no more bytes [output 1 Write after 0 bytes]'
-expect 'names that cannot be opened' 255 '' "krl: none/names: $missing" audit -f r.krl \
+expect 'names that cannot be opened' 255 '' "krl: none/names: it cannot be opened [file 1 Open]"$'\n' audit -f r.krl \
   --files0-from none/names
 expect 'names that cannot be read' 255 '' "krl: nothing: $unfinished" audit -f r.krl \
   --files0-from nothing
