@@ -33,7 +33,9 @@ pub fn audit(rt: &HostRuntime, task: &Audit) -> u8 {
 }
 
 // A reader of the names of files in a file.
-fn names_in(rt: &HostRuntime, from: &str) -> Result<FromRead<File>, FileFault> {
+fn names_in(rt: &HostRuntime, from: &str) -> Result<FromRead<File>, FileFault>
+    ensures { IfOk result (λ names. ⟦<FromRead<File> as Source>⟧.has_failed names ≡ false) }
+{
     match fs::open(rt, from) {
         Ok(names) => Ok(FromRead::new(names)),
         Err(_) => Err(FileFault::Open),

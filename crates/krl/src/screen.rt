@@ -1,6 +1,6 @@
 //! What a terminal shows of an audit: colours, and a line that says how far it is.
 
-ghost use Rattle.std.specs.Prelude.{◌≡◌};
+ghost use Rattle.std.specs.Prelude.{◌≡◌, false};
 
 use audit_run::Screen as Shows;
 use audit_tree::{Summary, push_progress, push_wipe};
@@ -51,7 +51,9 @@ pub struct Screen<'a> {
 
 impl<'a> Screen<'a> {
     /// A screen that shows no line yet.
-    pub fn new(rt: &'a HostRuntime) -> Self {
+    pub fn new(rt: &'a HostRuntime) -> Self
+        ensures { ⟦<ToWrite<Stdout> as Sink>⟧.has_failed result.out ≡ false }
+    {
         let next = if rt.stderr().is_terminal() {
             first(rt)
         } else {
