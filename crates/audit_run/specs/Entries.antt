@@ -174,8 +174,8 @@ abbrev pub is_directory : Result Found Refusal → Bool
 is_directory (Ok found) = is_directory_kind found.kind
 is_directory (Err refusal) = false
 
--- A name that an audit goes to, of a directory of which every file is read or not, leads to this: to
--- a directory that is entered, or not.
+-- A name that an audit goes to, of a directory of which every file is read or not, leads to this:
+-- to a directory that is entered, or not.
 pub data IsEntry (Knows : Fact → Type 0) (every : Bool) (directory name : List ℕ) (down : Bool)
     (visits : List Visit) : Type 0 where
   no_text : (IsUtf8 name → ⊥) → down ≡ false

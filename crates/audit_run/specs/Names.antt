@@ -1,6 +1,8 @@
 -- The names of a directory that an audit goes to.
-use Rattle.std.specs.Prelude.{◌≡◌, ℕ, ◌+◌, ◌-◌, ◌^◌, ◌≤◌, ◌==◌, ◌||◌, ◌⊎◌, if◌then◌else◌, Bool, true, false}
-use Rattle.std.specs.Prelude.{List, [], ◌∷◌, ◌++◌, codes, IsPermutation, length, min, Option, Some, None, IfSome}
+use Rattle.std.specs.Prelude.{◌≡◌, ℕ, ◌+◌, ◌-◌, ◌^◌, ◌≤◌, ◌==◌, ◌||◌, ◌⊎◌, if◌then◌else◌, Bool}
+use Rattle.std.specs.Prelude.{true, false}
+use Rattle.std.specs.Prelude.{List, [], ◌∷◌, ◌++◌, codes, IsPermutation, length, min, Option, Some}
+use Rattle.std.specs.Prelude.{None, IfSome}
 use Rattle.std.specs.Prelude.{Result, Ok, Err}
 use Rattle.std.specs.Cmp.Lexicographic.{slice_cmp}
 use Rattle.std.specs.Global.{Vec}

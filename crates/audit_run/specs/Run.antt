@@ -82,8 +82,8 @@ stop_fault from (stops.Lost count) = Some (output_run_fault count)
 stop_fault from (stops.NoNames fault) = Some (run_fault_of from (File fault))
 
 -- What is printed of this, and the end of an audit that printed it: all of it, and the last object;
--- that up to the first file with a revoked key, where no finding is asked for; what was printed when
--- an allocation or the output failed; or that up to where no name could be read.
+-- that up to the first file with a revoked key, where no finding is asked for; what was printed
+-- when an allocation or the output failed; or that up to where no name could be read.
 pub data IsRunOf (order : Order) (items last : List Item) (whole : Bool) (tally : Tally)
     (stop : Option RunFault) (run : List Item) : Type 0 where
   all_audited : whole ≡ true → run ≡ items ++ last → IsRunOf order items last whole tally stop run
@@ -177,7 +177,8 @@ pub record AuditsRead (Knows : Fact → Type 0) (order : Order) (bytes : List �
   pub revocations : queried.list.now ≡ list.revocations
   pub stated : queried.stated ≡ list.stated
   pub sha256 : queried.sha256 ≡ list.sha256
-  pub ends : EndsAuditBy Knows order queried names before after failed summary done.status done.fault
+  pub ends : EndsAuditBy Knows order queried names before after failed summary done.status
+      done.fault
 
 -- The end of an audit by a list with these bytes. Where no audit is made nothing is printed.
 abbrev pub EndsAuditRun : (Fact → Type 0) → Order → (bytes : List ℕ)

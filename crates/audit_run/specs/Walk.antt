@@ -1,7 +1,9 @@
 -- Which directories an audit enters, and in which order. None is entered within another call: those
 -- that were entered, and their names that are left, are a list.
-use Rattle.std.specs.Prelude.{◌≡◌, ℕ, ◌+◌, ◌-◌, ◌^◌, ◌≤◌, ◌||◌, ◌&&◌, ◌⊎◌, not, Bool, true, false, if◌then◌else◌}
-use Rattle.std.specs.Prelude.{List, [], ◌∷◌, ◌++◌, length, map, reverse, Option, Some, None, IfSome, Result, Ok, Err}
+use Rattle.std.specs.Prelude.{◌≡◌, ℕ, ◌+◌, ◌-◌, ◌^◌, ◌≤◌, ◌||◌, ◌&&◌, ◌⊎◌, not, Bool, true, false}
+use Rattle.std.specs.Prelude.{if◌then◌else◌}
+use Rattle.std.specs.Prelude.{List, [], ◌∷◌, ◌++◌, length, map, reverse, Option, Some, None, IfSome}
+use Rattle.std.specs.Prelude.{Result, Ok, Err}
 use Rattle.std.specs.Prelude.{string_bytes}
 use Rattle.std.specs.Global.{Vec}
 use Rattle.audit_tree.specs.Names.{reads_every}
@@ -29,8 +31,8 @@ every_in every path = every || reads_every path
 
 -- ---- one step
 
--- Why the names of a directory at this path, which is named or was found, are not known: it cannot be
--- entered, its reader failed, or there are more bytes than are read.
+-- Why the names of a directory at this path, which is named or was found, are not known: it cannot
+-- be entered, its reader failed, or there are more bytes than are read.
 pub data IsClosed (Knows : Fact → Type 0) (path : List ℕ) (named : Bool) (refusal : Refusal)
     : Type 0 where
   closed : Knows (Lists path named (Err refusal)) → IsClosed Knows path named refusal

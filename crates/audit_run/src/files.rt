@@ -10,9 +10,9 @@ use krl_audit::{FileCounts, Fronts, is_read_by_lines};
 use std::alloc::{AllocError, Global};
 use std::collections::BTreeSet;
 
-/// A file by its device, its number there, and how its path says that it is read. A file with several
-/// names is audited once for each of these ways, since a link would otherwise hide how sshd or ssh
-/// reads it.
+/// A file by its device, its number there, and how its path says that it is read. A file with
+/// several names is audited once for each of these ways, since a link would otherwise hide how sshd
+/// or ssh reads it.
 pub(crate) type Key = [u64; 3];
 
 /// The counts of files, and which files were audited.

@@ -1,6 +1,7 @@
 //! The files and directories that are named.
 
-ghost use Rattle.std.specs.Prelude.{◌≡◌, ◌+◌, ◌∷◌, ◌++◌, [], ℕ, List, true, false, is_ok, take, OnOk};
+ghost use Rattle.std.specs.Prelude.{◌≡◌, ◌+◌, ◌∷◌, ◌++◌, [], ℕ, List, true, false, is_ok, take};
+ghost use Rattle.std.specs.Prelude.{OnOk};
 ghost use Rattle.std.specs.Prelude.{◌<◌, ◌≤◌, length, nat_lt};
 ghost use Rattle.std.specs.Result.{result_err};
 ghost use Rattle.krl_audit.specs.Visible.{visible_bytes};
