@@ -1,4 +1,4 @@
--- What a name of a directory leads to.
+-- The kinds of files that a name of a directory leads to.
 use Rattle.std.proofs.Common.{◌≡◌, ℕ, Bool, false, List, Option, None, Result, Err, refl, subst, inl, inr}
 use Rattle.std.specs.Str.{IsUtf8}
 use Rattle.audit_tree.specs.Names.{selection_of}

@@ -1,4 +1,4 @@
--- What a path leads to, by what a tree states about it.
+-- Where a path leads, by the facts that a tree states about it.
 use Rattle.std.specs.Prelude.{◌≡◌, ℕ, Bool, true, false, List, [], ◌∷◌}
 use Rattle.std.specs.Prelude.{Option, Some, Result, Ok, Err}
 use Rattle.std.specs.Str.{IsUtf8}
@@ -126,7 +126,7 @@ abbrev pub irregular : (expected : Bool) → List ℕ → List Visit
 irregular true path = refused path refusals.Irregular
 irregular false path = Skipped 1 ∷ []
 
--- What was found, or what a link that was found leads to, which is no directory.
+-- A file that was found, or to which a link leads that was found. It is no directory.
 abbrev pub IsFound : Kind → (Fact → Type 0) → (path : List ℕ) → Selection → (expected : Bool)
     → Found → List Visit → Type 0
 IsFound kinds.File Knows path selection expected found visits =

@@ -1,4 +1,4 @@
--- What a tree of files may state about a path.
+-- The facts that a tree of files may state about a path.
 use Rattle.std.specs.Prelude.{ℕ, Bool, List, Option, Result, Ok, Err}
 use Rattle.krl_audit.specs.declared.why.Refusal.{Refusal}
 use Rattle.audit_run.specs.declared.kind.Found.{Found}

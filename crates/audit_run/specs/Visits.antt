@@ -1,4 +1,4 @@
--- What an audit meets, one after another, and what it prints and counts of it.
+-- The visits of an audit, one after another, and what it prints and counts of each.
 use Rattle.std.specs.Prelude.{◌≡◌, ℕ, ◌+◌, ◌-◌, ◌^◌, ◌<◌, ◌||◌, nat_lt, min, Bool, true, false}
 use Rattle.std.specs.Prelude.{is_ok, List}
 use Rattle.std.specs.Prelude.{[], ◌∷◌, ◌++◌, Option, Some, None, Result, Ok, Err, ◌⊎◌}
@@ -30,7 +30,7 @@ use Rattle.audit_run.specs.declared.files.Since.{Since}
 use Rattle.audit_run.specs.declared.stop.Stop.{Stop}
 use Rattle.audit_run.specs.declared.stop.Stop.TheVariants as stops
 
--- What an audit meets.
+-- A visit of an audit.
 pub data Visit : Type 0 where
   -- a file is audited, by its bytes or why there are none; a regular one that was opened has a key
   Audited : (key : Option (List ℕ)) (name : List ℕ) → Result (List ℕ) Refusal → Visit

@@ -26,7 +26,7 @@ pub struct Files {
     pub(crate) seen: BTreeSet<Key>,
 }
 
-/// What was met since a directory that is named was entered.
+/// The visits since a directory that is named was entered.
 #[derive(Clone, Copy)]
 pub struct Since {
     /// Whether a file was audited, now or before.

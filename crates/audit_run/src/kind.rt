@@ -3,7 +3,7 @@
 ghost use Rattle.std.specs.Prelude.{◌≡◌};
 ghost use Rattle.audit_run.specs.Names.{is_directory_kind, is_file_kind, is_link_kind};
 
-/// What a path leads to.
+/// The kind of file that a path leads to.
 #[derive(Clone, Copy, PartialEq, Eq)]
 pub enum Kind {
     /// A directory.
@@ -48,10 +48,10 @@ impl Kind {
     }
 }
 
-/// What was found at a path.
+/// A file that was found at a path.
 #[derive(Clone, Copy)]
 pub struct Found {
-    /// What it is.
+    /// Its kind.
     pub kind: Kind,
     /// Its owner, by number.
     pub owner: u32,
@@ -66,7 +66,7 @@ pub struct Identity {
     pub number: u64,
 }
 
-/// What is open.
+/// A file that is open.
 #[derive(Clone, Copy)]
 pub struct Opened {
     /// Whether it is a regular file.
@@ -75,7 +75,7 @@ pub struct Opened {
     pub identity: Identity,
 }
 
-/// What is read.
+/// The part of a file that is read.
 #[derive(Clone, Copy, PartialEq, Eq)]
 pub enum What {
     /// The bytes of standard input.

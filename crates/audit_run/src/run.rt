@@ -26,7 +26,7 @@ use span_sets::Held;
 use ssh_wire::Bytes;
 use std::alloc::Global;
 
-/// What the command asks for.
+/// The task that the command asks for.
 #[derive(Clone, Copy)]
 pub struct Order<'a> {
     /// The name of the list.
@@ -44,7 +44,7 @@ pub struct Order<'a> {
 // A list that was read.
 #[derive(Clone, Copy)]
 struct Queried<'q> {
-    // What it revokes.
+    // The entries that it revokes by.
     list: &'q Revocations<Held>,
     // Its version and its date. A plain list has none.
     stated: Option<Stated>,

@@ -17,7 +17,7 @@ pub trait Tree {
     // the facts that it may state
     ghost states: { Self → Fact → Type 0 };
 
-    /// What a path leads to. A link is followed or not.
+    /// Looks where a path leads. A link is followed or not.
     fn look(&self, path: &str, followed: bool) -> Result<Found, Refusal>
         ensures { states self.now (Leads path.now followed result) };
 

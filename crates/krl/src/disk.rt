@@ -242,7 +242,7 @@ impl<'a> Tree for Disk<'a> {
     }
 }
 
-// What was found at a path.
+// The file that was found at a path.
 fn kind_of(found: &Metadata) -> Kind {
     if found.is_dir() {
         Kind::Directory

@@ -1,4 +1,4 @@
--- Each step goes on with the walk, or stops it.
+-- Each step continues the walk, or stops it.
 use Rattle.std.proofs.Common.{[], ◌∷◌, ◌∙◌, ◌++◌, ap, List}
 use Rattle.std.proofs.lemmas.Result.{err_from_is_err_and}
 use Rattle.audit_run.specs.Walk.{level_of, levels_of}
