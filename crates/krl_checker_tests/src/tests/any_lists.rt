@@ -4,16 +4,7 @@ use any_list::read_list;
 use key_files::Cause;
 use key_text::{LineFault, sha256_of};
 use krl_types::KrlFault;
-use std::alloc::Global;
 use test_fixtures::{GITHUB_LINE, HEADER};
-
-/// The version of a list that these bytes are, if they are one that has a version.
-fn version_of(alloc: Global, bytes: &[u8]) -> Option<u64> {
-    match read_list(alloc, "revoked.krl", bytes, false) {
-        Ok(list) => Some(list.stated?.version),
-        Err(_) => None,
-    }
-}
 
 // The bytes of a list, and how many keys it revokes, or the number of its line and why it is
 // refused.
@@ -43,6 +34,4 @@ fn either_form(rt: HostRuntime) {
         };
         assert!(rt; right, "in case {i}");
     }
-    assert!(rt; version_of(alloc, &HEADER) == Some(1));
-    assert!(rt; version_of(alloc, GITHUB_LINE).is_none());
 }

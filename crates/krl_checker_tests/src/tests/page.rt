@@ -1,14 +1,20 @@
-//! The caller of the page.
+//! The callers of the pages.
+
+ghost use Rattle.std.specs.Prelude.{◌≡◌, false};
 
 use crate::tests::checks::checker_of;
+use crate::tests::runs::{SEVEN, Shelf};
+use any_list::read_list;
 use byte_streams::{FromRead, Sink, ToWrite};
+use check_run::{Conditions, Files, ListFile, check_run};
 use key_files::{RunFault, cause_of};
 use key_listing::Printer;
 use krl_checker::{Checker, Role};
 use krl_core::read_krl;
 use krl_entries::Revocations;
 use span_sets::Held;
-use test_fixtures::{FIVE, GITHUB, GITHUB_LINE, OTHER_LINE, Taker, list_of};
+use std::alloc::Global;
+use test_fixtures::{FIVE, GITHUB, GITHUB_LINE, HEADER, OTHER_LINE, Taker, list_of};
 
 /// Whether a list of these bytes, which the auditor has, does all that it must: the exit status.
 fn status_of<W: Sink>(
@@ -27,8 +33,31 @@ fn status_of<W: Sink>(
     Ok(checker.finish(None).status)
 }
 
+/// The version of a list that these bytes are, if they are one that has a version.
+fn version_of(alloc: Global, bytes: &[u8]) -> Option<u64> {
+    match read_list(alloc, "revoked.krl", bytes, false) {
+        Ok(list) => Some(list.stated?.version),
+        Err(_) => None,
+    }
+}
+
+/// Whether a list may be put in force: sshd reads it, it revokes somebody, and no administrator.
+fn may_be_used<F: Files, W: Sink>(alloc: Global, list: &[u8], files: &F, out: &mut W) -> bool
+    requires { W.has_failed out.old ≡ false }
+{
+    let list = ListFile {
+        name: "revoked.krl",
+        content: Ok(list),
+    };
+    let conditions = Conditions {
+        keep: &["admins.pub"],
+        ..Conditions::NONE
+    };
+    check_run(alloc, list, &conditions, files, out).status == 0
+}
+
 #[test]
-fn the_caller_of_the_page(rt: HostRuntime) {
+fn the_callers_of_the_pages(rt: HostRuntime) {
     let bytes = list_of(rt.alloc(), FIVE).expect(&rt, "there is memory");
     let mut list: Revocations<Held> = Revocations::new(rt.alloc());
     list.add_key(GITHUB).expect(&rt, "there is memory");
@@ -38,4 +67,8 @@ fn the_caller_of_the_page(rt: HostRuntime) {
     let mut checker = checker_of(rt.alloc(), &list, Printer::new(&mut buffer, &mut out));
     let status = status_of(&mut checker, &bytes, OTHER_LINE, GITHUB_LINE);
     assert!(rt; status.expect(&rt, "there is memory") == 0);
+    assert!(rt; version_of(rt.alloc(), &HEADER) == Some(1));
+    assert!(rt; version_of(rt.alloc(), GITHUB_LINE).is_none());
+    let mut said = Taker::whole(rt.alloc());
+    assert!(rt; !may_be_used(rt.alloc(), SEVEN, &Shelf, &mut ToWrite::new(&mut said)));
 }

@@ -1,20 +1,18 @@
 //! Whole checks, over a few files in memory.
 
-ghost use Rattle.std.specs.Prelude.{◌≡◌, false};
-
 use crate::tests::checks::{NINE, SERIAL_ZERO};
-use byte_streams::{Sink, ToWrite};
+use byte_streams::ToWrite;
 use check_run::{AgeLimit, Conditions, Files, ListFile, check_run};
 use key_files::{Cause, FileFault};
 use key_text::LineFault;
 use krl_audit::Refusal;
 use krl_types::KrlFault;
-use std::alloc::{AllocError, Global};
+use std::alloc::AllocError;
 use test_fixtures::{GITHUB_LINE, OTHER_LINE, Taker};
 
 // Files in memory: the published key in `key`, another one in `other`, and nothing in other files.
 // There is no memory for `large`.
-struct Shelf;
+pub struct Shelf;
 
 impl Files for Shelf {
     ghost states = { λ _ _ _. Unit {0} };
@@ -31,23 +29,8 @@ impl Files for Shelf {
     }
 }
 
-/// Whether a list may be put in force: sshd reads it, it revokes somebody, and no administrator.
-fn may_be_used<F: Files, W: Sink>(alloc: Global, list: &[u8], files: &F, out: &mut W) -> bool
-    requires { W.has_failed out.old ≡ false }
-{
-    let list = ListFile {
-        name: "revoked.krl",
-        content: Ok(list),
-    };
-    let conditions = Conditions {
-        keep: &["admins.pub"],
-        ..Conditions::NONE
-    };
-    check_run(alloc, list, &conditions, files, out).status == 0
-}
-
 // A list of version 7 that revokes the published key.
-const SEVEN: &[u8] = b"SSHKRL\n\0\0\0\0\x01\0\0\0\0\0\0\0\x07\0\0\0\0\0\0\0\0\
+pub const SEVEN: &[u8] = b"SSHKRL\n\0\0\0\0\x01\0\0\0\0\0\0\0\x07\0\0\0\0\0\0\0\0\
 \0\0\0\0\0\0\0\0\0\0\0\0\0\0\0\0\
 \x02\0\0\0\x37\0\0\0\x33\0\0\0\x0bssh-ed25519\0\0\0\x20\
 \xe3\x2a\xaa\x79\x15\xce\xb9\xb4\x49\xd1\xba\x50\xea\x2a\x28\xbb\
@@ -259,11 +242,7 @@ fn each_row(rt: HostRuntime) {
 }
 
 #[test]
-fn the_caller_of_the_page_of_runs(rt: HostRuntime) {
-    let mut taker = Taker::whole(rt.alloc());
-    let mut out = ToWrite::new(&mut taker);
-    assert!(rt; !may_be_used(rt.alloc(), SEVEN, &Shelf, &mut out));
-    // The output fails.
+fn an_output_that_fails_ends_a_check(rt: HostRuntime) {
     let mut broken = Taker::new(rt.alloc(), 9, 0);
     let mut lost = ToWrite::new(&mut broken);
     let conditions = Conditions {
