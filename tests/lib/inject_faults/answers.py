@@ -5,12 +5,21 @@ Each function returns None, or what is wrong."""
 
 import re
 
-# The lines of a fault, after the name of the program.
-NO_MEMORY = re.compile(rb"(?:usage 3 NoMemory|[^\n]+: (?:file 4|run 1) NoMemory)\n")
-READ = re.compile(rb"[^\n]+: (?:file 2|krl 13) Read\n")
-WRITE = b"%s: output 1 Write after %d bytes\n"
-OPEN = b"made.krl: file 1 Open\n"
 UNREAD = b"it cannot be read to its end"
+
+
+def fault_lines(words, fault):
+    """Matches the lines of a fault, after the name of the program. krl says it in words first."""
+    return rb"[^\n]+: (?:%s|%s \[%s\])\n" % (fault, words, fault)
+
+
+NO_MEMORY = re.compile(
+    rb"usage 3 NoMemory\n|" + fault_lines(b"out of memory", rb"(?:file 4|run 1) NoMemory")
+)
+READ = re.compile(fault_lines(UNREAD, rb"(?:file 2|krl 13) Read"))
+WRITE = b"%s: output 1 Write after %d bytes\n"
+KRL_WRITE = b"%s: it takes no more bytes [output 1 Write after %d bytes]\n"
+OPEN = b"made.krl: file 1 Open\n"
 DONE = b'{"status":"done",'
 FAULT = 255
 REVOKED, UNKNOWN = 1, 3
@@ -94,7 +103,8 @@ def after_write(run, ample, got):
         return "standard output"
     if descriptor != OUTPUT:
         return unwritten(run, ample, got)
-    if got.error != WRITE % (b"output", len(got.output)):
+    line = KRL_WRITE if run.audits() else WRITE
+    if got.error != line % (b"output", len(got.output)):
         return "standard error"
     return None if got.status == FAULT else "the status"
 
