@@ -7,12 +7,12 @@ use audit_run::{
     Audited, Found, Given, Identity, Kind, Opened, Order, Screen, Tree, What, audit_run,
 };
 use audit_tree::Summary;
-use byte_streams::{Failed, Lent, Sink, ToWrite};
+use byte_streams::{Failed, FromRead, Lent, Sink, ToWrite};
 use key_files::FileFault;
 use krl_audit::{Form, Refusal, Shown};
 use ssh_wire::Bytes;
 use std::alloc::{AllocError, Global};
-use test_fixtures::Taker;
+use test_fixtures::{Giver, Taker};
 
 const NOTHING: Shown = Shown {
     revoked: false,
@@ -67,7 +67,7 @@ impl<'a> Shelf<'a> {
 }
 
 impl<'a> Tree for Shelf<'a> {
-    type Names = Lent<'a>;
+    type Names = FromRead<Giver<'a>>;
 
     ghost states = { λ _ _. Unit {0} };
 
@@ -114,14 +114,18 @@ impl<'a> Tree for Shelf<'a> {
         }
     }
 
-    fn enter(&self, path: &str, _named: bool) -> Result<Result<Lent<'a>, Refusal>, AllocError> {
+    fn enter(
+        &self,
+        path: &str,
+        _named: bool,
+    ) -> Result<Result<FromRead<Giver<'a>>, Refusal>, AllocError> {
         match self.at(path) {
-            Ok(item) => Ok(Ok(Lent::new(item.2))),
+            Ok(item) => Ok(Ok(FromRead::new(Giver::whole(item.2)))),
             Err(refusal) => Ok(Err(refusal)),
         }
     }
 
-    fn why_broken(&self, _path: &str, _named: bool, _names: &Lent<'a>) -> Refusal {
+    fn why_broken(&self, _path: &str, _named: bool, _names: &FromRead<Giver<'a>>) -> Refusal {
         Refusal::Read
     }
 }
