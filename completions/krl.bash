@@ -4,7 +4,9 @@ _krl() {
   local offered word=${COMP_WORDS[COMP_CWORD]} before=${COMP_WORDS[COMP_CWORD - 1]}
   COMPREPLY=()
   if [ "$COMP_CWORD" = 1 ]; then
-    offered=$(compgen -W 'audit check --help --version' -- "$word")
+    offered=$(compgen -W 'audit check help --help --version' -- "$word")
+  elif [ "${COMP_WORDS[1]}" = help ]; then
+    offered=$(compgen -W 'audit check' -- "$word")
   elif [ "$before" = --max-age ]; then
     offered=$(compgen -W '90m 24h 7d' -- "$word")
   elif [[ $word != -* || $before == -*f ||

@@ -7,6 +7,7 @@ complete -c krl -f
 complete -c krl -n "not $audits; and not $checks" -a audit -d 'Find revoked keys in files'
 complete -c krl -n "not $audits; and not $checks" -a check \
   -d 'Check a list before it is put in force'
+complete -c krl -n "not $audits; and not $checks" -a help -d 'Print the options of a task'
 complete -c krl -s h -l help -d 'Print the options'
 complete -c krl -s V -l version -d 'Print the name and version'
 complete -c krl -n "$audits" -F

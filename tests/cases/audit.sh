@@ -476,6 +476,11 @@ expect_text 'nothing to audit' 2 error audit -f r.krl
 expect_text 'an option that is not known' 2 error audit -f r.krl -Q marked
 expect_text 'help' 0 output -h
 expect_text 'help for audit' 0 output audit --help
+wanted=$("$program" audit --help)
+expect 'help for audit, as a task' 0 "$wanted"$'\n' '' help audit
+wanted=$("$program" --help)
+expect 'help, as a task' 0 "$wanted"$'\n' '' help
+expect_text 'help for a task that is not known' 2 error help other
 expect 'the version' 0 "krl $("$keygen" --version | sed 's/.* //')"$'\n' '' --version
 run audit -f r.krl $'--\e[2J'
 judge 'no word of a refusal moves the terminal' "$(differs status 2 $got_status

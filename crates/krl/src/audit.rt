@@ -3,7 +3,7 @@
 ghost use Rattle.std.specs.Prelude.{◌≡◌, false, IfOk, IfSome};
 
 use crate::disk::Disk;
-use crate::ending::{end, fail_by, fail_in_words, print_line};
+use crate::ending::{end, fail_by, fail_in_words};
 use crate::loading::bytes_of;
 use crate::screen::{Screen, has_colours};
 use audit_run::{Audited, Given, Order, audit_run};
@@ -12,6 +12,7 @@ use byte_streams::{FromRead, Source};
 use key_files::{FileFault, RunFault};
 use krl_arguments::Audit;
 use krl_audit::{Form, Shown};
+use program_edge::print_line;
 use ssh_wire::Bytes;
 use std::fs::{self, File};
 

@@ -10,48 +10,49 @@ mod screen;
 
 use crate::audit::audit;
 use crate::check::check;
-use crate::ending::{fail, print_refusal, refuse};
-use key_files::{Cause, FileFault};
-use krl_arguments::{CommandFault, Task, task_of};
-use krl_system::{NOTHING, open_placeholders};
-use std::env;
-use std::io::{self, ErrorKind};
+use crate::ending::{fault_line, reason_of};
+use key_files::RunFault;
+use krl_arguments::{Task, task_of};
+use option_table::CommandFault;
+use program_edge::{Lines, Program, refuse, run};
+use std::alloc::AllocError;
 use std::process::ExitCode;
 
-// Runs the program, with placeholders for closed standard streams.
-fn main(rt: HostRuntime) -> ExitCode {
-    let status = match open_placeholders(&rt) {
-        Ok(placeholders) => {
-            let status = run(&rt);
-            drop(placeholders);
-            status
+// The name with which its lines on standard error begin.
+const NAME: &str = "krl";
+
+/// The program.
+#[derive(Clone, Copy)]
+struct Krl;
+
+impl Lines for Krl {
+    fn name(&self) -> &'static str {
+        NAME
+    }
+
+    fn fault_line(&self, rt: &HostRuntime, fault: &RunFault) -> Result<Vec<u8>, AllocError> {
+        fault_line(rt.alloc(), reason_of(rt, fault), fault)
+    }
+
+    fn print_refusal(&self, rt: &HostRuntime, fault: &CommandFault) {
+        let why = match fault {
+            CommandFault::Usage | CommandFault::Words { .. } => "a word is not UTF-8",
+            CommandFault::NoMemory => "memory: out of memory [run 1 NoMemory]",
+        };
+        let _ = rt.eprintln(format_args!("{NAME}: {why}"));
+    }
+}
+
+impl Program for Krl {
+    fn run(&self, rt: &HostRuntime, words: &[String]) -> u8 {
+        match task_of(rt.alloc(), words) {
+            Ok(Task::Audit(task)) => audit(rt, &task),
+            Ok(Task::Check(task)) => check(rt, &task),
+            Err(fault) => refuse(rt, self, &fault),
         }
-        Err(_) => fail(&rt, NOTHING, Cause::File(FileFault::Open)),
-    };
-    ExitCode::from(status)
-}
-
-// Reads the words and does the task that they ask for. Answers the exit status.
-fn run(rt: &HostRuntime) -> u8 {
-    let words = match env::args(rt) {
-        Ok(words) => words,
-        Err(error) => return refuse_words(rt, &error),
-    };
-    let Ok(words) = words.collect::<Vec<String>>(rt.alloc()) else {
-        return refuse(rt, &CommandFault::NoMemory);
-    };
-    match task_of(rt.alloc(), words.as_slice()) {
-        Ok(Task::Audit(task)) => audit(rt, &task),
-        Ok(Task::Check(task)) => check(rt, &task),
-        Err(fault) => refuse(rt, &fault),
     }
 }
 
-// Words that are not text are a misuse; otherwise memory ran out.
-fn refuse_words(rt: &HostRuntime, error: &io::Error) -> u8 {
-    if error.kind() == ErrorKind::OutOfMemory {
-        refuse(rt, &CommandFault::NoMemory)
-    } else {
-        print_refusal(rt, "a word is not UTF-8")
-    }
+fn main(rt: HostRuntime) -> ExitCode {
+    run(&rt, &Krl)
 }

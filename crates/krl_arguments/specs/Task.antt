@@ -1,10 +1,11 @@
 -- The tasks that words ask for (krl(1), SYNOPSIS).
-use Rattle.std.specs.Prelude.{ℕ, ◌&&◌, ◌||◌, Bool, false, not, List, [], codes, is_some, map, Option}
-use Rattle.std.specs.Prelude.{Some, None, option_and_then, option_map, unwrap_or, if◌then◌else◌}
+use Rattle.std.specs.Prelude.{ℕ, ◌&&◌, ◌||◌, Bool, false, not, List, codes, is_some, map, Option}
+use Rattle.std.specs.Prelude.{Some, None, option_and_then, option_map, if◌then◌else◌}
 use Rattle.std.specs.Option.{option_map_or}
 use Rattle.std.specs.Str.{bytes_eq}
 use Rattle.clap.specs.Simple.{subcommand_of}
-use Rattle.clap.specs.Walk.{Row, all_of, first_of, is_empty}
+use Rattle.clap.specs.Walk.{Row, first_of, is_empty}
+use Rattle.option_table.specs.Value.{is_set, values_in}
 use Rattle.krl_arguments.specs.Duration.{duration_of}
 use Rattle.krl_arguments.specs.Options.{program}
 use Rattle.krl_arguments.specs.declared.task.Audit.{Audit as AuditOf}
@@ -38,12 +39,6 @@ pub data Task : Type 0 where
 
 -- ---- the values of the words
 
-abbrev pub is_set : List ℕ → List Row → Bool
-is_set id rows = option_map_or (λ text. bytes_eq text (codes "true")) (first_of id rows) false
-
-abbrev pub values_of : List ℕ → List Row → List (List ℕ)
-values_of id rows = unwrap_or (all_of id rows) []
-
 abbrev pub audit_with : List Row → List ℕ → Audit
 audit_with rows list = record {
   list = list;
@@ -52,7 +47,7 @@ audit_with rows list = record {
   quiet = is_set (codes "quiet") rows;
   json = is_set (codes "json") rows;
   names_from = first_of (codes "files0-from") rows;
-  files = values_of (codes "files") rows;
+  files = values_in (codes "files") rows;
 }
 
 -- The audit, if a file, a directory or a file of names is given.
@@ -78,8 +73,8 @@ check_with rows list = record {
   list = list;
   newer_than = first_of (codes "newer-than") rows;
   max_age = max_age_of rows;
-  keep = values_of (codes "keep") rows;
-  canary = values_of (codes "canary") rows;
+  keep = values_in (codes "keep") rows;
+  canary = values_in (codes "canary") rows;
   allow_empty = is_set (codes "allow-empty") rows;
   print_version = is_set (codes "print-version") rows;
 }

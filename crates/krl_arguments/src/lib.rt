@@ -8,5 +8,5 @@ mod shown;
 mod task;
 mod tasks;
 
-pub use command::{CommandFault, task_of};
+pub use command::task_of;
 pub use task::{Audit, Check, Task};

@@ -10,7 +10,7 @@ use crate::options::program;
 use crate::tasks::has_wrong_age;
 use clap::ArgMatches;
 use clap::error::ErrorKind;
-use krl_words::shown_words;
+use option_table::shown_words;
 use std::alloc::{AllocError, Global};
 use std::convert::AsStr;
 

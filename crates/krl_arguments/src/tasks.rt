@@ -1,16 +1,17 @@
 //! The task of words that can be parsed.
 
-ghost use Rattle.std.specs.Prelude.{◌≡◌, IfOk, [], map, option_map, unwrap_or};
+ghost use Rattle.std.specs.Prelude.{◌≡◌, IfOk, option_map};
 ghost use Rattle.clap.specs.Matches.{found_of};
 ghost use Rattle.clap.specs.Simple.{subcommand_rows_of};
-ghost use Rattle.clap.specs.Walk.{all_of, rows_of};
+ghost use Rattle.clap.specs.Walk.{rows_of};
 ghost use Rattle.krl_arguments.specs.Task.{audit_by, audit_of, audit_with, check_by, check_of};
 ghost use Rattle.krl_arguments.specs.Task.{check_with, has_only_version, has_wrong_age, if_any};
-ghost use Rattle.krl_arguments.specs.Task.{if_whole, is_set, max_age_of, named_task, task_by, task_in};
+ghost use Rattle.krl_arguments.specs.Task.{if_whole, max_age_of, named_task, task_by, task_in};
 
 use crate::duration::duration_of;
 use crate::task::{Audit, Check, Task};
 use clap::ArgMatches;
+use option_table::{is_set, value_of, values_of};
 use std::alloc::{AllocError, Global};
 
 /// The task of these matches, or `None` if the options do not go together.
@@ -47,7 +48,7 @@ fn audit_in<'a>(alloc: Global, found: &ArgMatches<'a>) -> Result<Option<Audit<'a
     ensures { IfOk result (λ audit.
         option_map audit_by audit ≡ audit_of (rows_of (found_of found.now))) }
 {
-    match found.get_str("list") {
+    match value_of(found, "list") {
         Some(list) => Ok(if_any(audit_with(alloc, found, list)?)),
         None => Ok(None),
     }
@@ -62,14 +63,14 @@ fn audit_with<'a>(
     ensures { IfOk result (λ audit.
         audit_by audit ≡ audit_with (rows_of (found_of found.now)) list.now) }
 {
-    let files = values_in(alloc, found, "files")?;
+    let files = values_of(alloc, found, "files")?;
     Ok(Audit {
         list,
         all: is_set(found, "fine"),
         every_file: is_set(found, "all"),
         quiet: is_set(found, "quiet"),
         json: is_set(found, "json"),
-        names_from: found.get_str("files0-from"),
+        names_from: value_of(found, "files0-from"),
         files,
     })
 }
@@ -90,7 +91,7 @@ fn check_in<'a>(alloc: Global, found: &ArgMatches<'a>) -> Result<Option<Check<'a
     ensures { IfOk result (λ check.
         option_map check_by check ≡ check_of (rows_of (found_of found.now))) }
 {
-    match found.get_str("list") {
+    match value_of(found, "list") {
         Some(list) => Ok(if_whole(has_wrong_age(found), check_with(alloc, found, list)?)),
         None => Ok(None),
     }
@@ -105,11 +106,11 @@ fn check_with<'a>(
     ensures { IfOk result (λ check.
         check_by check ≡ check_with (rows_of (found_of found.now)) list.now) }
 {
-    let keep = values_in(alloc, found, "keep")?;
-    let canary = values_in(alloc, found, "canary")?;
+    let keep = values_of(alloc, found, "keep")?;
+    let canary = values_of(alloc, found, "canary")?;
     Ok(Check {
         list,
-        newer_than: found.get_str("newer-than"),
+        newer_than: value_of(found, "newer-than"),
         max_age: max_age_of(found),
         keep,
         canary,
@@ -122,7 +123,7 @@ fn check_with<'a>(
 fn max_age_of(found: &ArgMatches<'_>) -> Option<u64>
     ensures { result ≡ max_age_of (rows_of (found_of found.now)) }
 {
-    match found.get_str("max-age") {
+    match value_of(found, "max-age") {
         Some(text) => duration_of(text),
         None => None,
     }
@@ -132,7 +133,7 @@ fn max_age_of(found: &ArgMatches<'_>) -> Option<u64>
 pub fn has_wrong_age(found: &ArgMatches<'_>) -> bool
     ensures { result ≡ has_wrong_age (rows_of (found_of found.now)) }
 {
-    match found.get_str("max-age") {
+    match value_of(found, "max-age") {
         Some(text) => duration_of(text).is_none(),
         None => false,
     }
@@ -158,29 +159,4 @@ fn has_only_version(check: &Check<'_>) -> bool
         && check.keep.is_empty()
         && check.canary.is_empty()
         && !check.allow_empty
-}
-
-// Returns true if an option without a value is given.
-fn is_set(found: &ArgMatches<'_>, id: &str) -> bool
-    ensures { result ≡ is_set id.now (rows_of (found_of found.now)) }
-{
-    match found.get_str(id) {
-        Some(text) => text == "true",
-        None => false,
-    }
-}
-
-// The values of an option that may be given more than once, or the words by themselves.
-fn values_in<'a>(
-    alloc: Global,
-    found: &ArgMatches<'a>,
-    id: &str,
-) -> Result<Vec<&'a str>, AllocError>
-    ensures { IfOk result (λ values. map (λ value. value.now) values.items
-        ≡ unwrap_or (all_of id.now (rows_of (found_of found.now))) []) }
-{
-    match found.get_strs(id) {
-        Some(values) => Vec::from_slice(alloc, values),
-        None => Ok(Vec::new(alloc)),
-    }
 }

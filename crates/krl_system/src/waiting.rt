@@ -4,7 +4,7 @@ ghost use Rattle.std.specs.Prelude.{◌≡◌, ◌≤◌, ◌↔◌, IsErr};
 
 use byte_streams::{ToWrite, send};
 use key_files::{Cause, FileFault};
-use line_pieces::{Escaped, put};
+use line_pieces::{Escaped, Words, put};
 use std::alloc::{AllocError, Global};
 use std::thread::sleep;
 use std::time::Duration;
@@ -19,16 +19,21 @@ const SECOND: u32 = 100;
 /// How long an update has waited for others.
 #[derive(Drop)]
 pub struct Waiting<'a> {
+    program: &'static str,
     name: &'a str,
     turns: u32,
 }
 
 impl<'a> Waiting<'a> {
-    /// An update of the list with this name, which has not waited yet.
-    pub fn new(name: &'a str) -> Waiting<'a>
+    /// An update by this program of the list with this name, which has not waited yet.
+    pub fn new(program: &'static str, name: &'a str) -> Waiting<'a>
         ensures { result.turns ≡ 0 }
     {
-        Waiting { name, turns: 0 }
+        Waiting {
+            program,
+            name,
+            turns: 0,
+        }
     }
 
     /// Waits for a turn. After a second it prints a line on standard error, once. Fails after the
@@ -40,7 +45,7 @@ impl<'a> Waiting<'a> {
             return Err(Cause::File(FileFault::Locked));
         }
         if self.turns == SECOND {
-            announce(rt, self.name);
+            announce(rt, self.program, self.name);
         }
         self.turns += 1;
         sleep(rt, Duration::from_millis(TURN));
@@ -50,15 +55,16 @@ impl<'a> Waiting<'a> {
 
 // Prints on standard error that an update waits. If the line cannot be allocated, nothing is
 // printed, and a fault of standard error cannot be reported.
-fn announce(rt: &HostRuntime, name: &str) {
-    if let Ok(line) = waiting_text(rt.alloc(), name) {
+fn announce(rt: &HostRuntime, program: &str, name: &str) {
+    if let Ok(line) = waiting_text(rt.alloc(), program, name) {
         let _ = send(&mut ToWrite::new(rt.stderr()), line.as_slice());
     }
 }
 
 // The line that is printed.
-fn waiting_text(alloc: Global, name: &str) -> Result<Vec<u8>, AllocError> {
+fn waiting_text(alloc: Global, program: &str, name: &str) -> Result<Vec<u8>, AllocError> {
     let mut text = Vec::new(alloc);
-    put!(&mut text; b"ssh-keygen: waiting for another update of ", Escaped(name.as_bytes()), b"\n")?;
+    put!(&mut text; Words(program.as_bytes()), b": waiting for another update of ",
+        Escaped(name.as_bytes()), b"\n")?;
     Ok(text)
 }

@@ -1,57 +1,53 @@
 //! Lists keys, and makes, prints and queries key revocation lists, as ssh-keygen(1) does.
 #![tactic(auto)]
 
-mod ending;
-mod making;
-
-use crate::ending::{end, failed, refuse};
-use crate::making::make_list;
 use byte_streams::{FromBuffer, ToWrite};
-use key_files::{Cause, FileFault};
+use key_files::{Cause, RunFault, fault_text};
 use key_listing::{ListMode, list_run};
 use krl_job::{Job, Mode};
 use krl_runs::query_run;
-use krl_system::{NOTHING, moment, open, open_list, open_or_input, open_placeholders};
-use krl_words::{CommandFault, command_of};
-use std::env;
-use std::io::{self, ErrorKind};
+use krl_system::{moment, open, open_list, open_or_input};
+use krl_words::command_of;
+use list_making::make_list;
+use option_table::CommandFault;
+use program_edge::{Lines, Program, end, refuse, run, stop};
+use std::alloc::AllocError;
 use std::process::ExitCode;
 
-// Runs the program, with the file descriptors of closed standard streams occupied.
-fn main(rt: HostRuntime) -> ExitCode {
-    let status = match open_placeholders(&rt) {
-        Ok(placeholders) => {
-            let status = run(&rt);
-            drop(placeholders);
-            status
+// The name with which its lines on standard error begin.
+const NAME: &str = "ssh-keygen";
+
+// The program.
+#[derive(Clone, Copy)]
+struct Tool;
+
+impl Lines for Tool {
+    fn name(&self) -> &'static str {
+        NAME
+    }
+
+    fn fault_line(&self, rt: &HostRuntime, fault: &RunFault) -> Result<Vec<u8>, AllocError> {
+        let mut line = fault_text(rt.alloc(), NAME.as_bytes(), fault)?;
+        line.push(b'\n')?;
+        Ok(line)
+    }
+
+    fn print_refusal(&self, rt: &HostRuntime, fault: &CommandFault) {
+        let _ = rt.eprintln(format_args!("{NAME}: {fault}"));
+    }
+}
+
+impl Program for Tool {
+    fn run(&self, rt: &HostRuntime, words: &[String]) -> u8 {
+        match command_of(rt.alloc(), words) {
+            Ok(job) => run_job(rt, &job),
+            Err(fault) => refuse(rt, self, &fault),
         }
-        Err(_) => end(&rt, &failed(NOTHING, Cause::File(FileFault::Open))),
-    };
-    ExitCode::from(status)
-}
-
-// Parses the command line and does its job. Returns the exit status.
-fn run(rt: &HostRuntime) -> u8 {
-    let words = match env::args(rt) {
-        Ok(words) => words,
-        Err(error) => return refuse(rt, &fault_of_words(&error)),
-    };
-    let Ok(words) = words.collect::<Vec<String>>(rt.alloc()) else {
-        return refuse(rt, &CommandFault::NoMemory);
-    };
-    match command_of(rt.alloc(), words.as_slice()) {
-        Ok(job) => run_job(rt, &job),
-        Err(fault) => refuse(rt, &fault),
     }
 }
 
-// Words that are not text are a misuse. The only other error is a failed allocation.
-fn fault_of_words(error: &io::Error) -> CommandFault {
-    if error.kind() == ErrorKind::OutOfMemory {
-        CommandFault::NoMemory
-    } else {
-        CommandFault::Usage
-    }
+fn main(rt: HostRuntime) -> ExitCode {
+    run(&rt, &Tool)
 }
 
 // Does the job. Returns the exit status.
@@ -59,7 +55,7 @@ fn run_job(rt: &HostRuntime, job: &Job) -> u8 {
     match job.mode {
         Mode::Keys => list_file(rt, job, ListMode::Keys),
         Mode::Certs => list_file(rt, job, ListMode::Certs),
-        Mode::Make => make_list(rt, job),
+        Mode::Make => make_list(rt, &Tool, job),
         Mode::Query => ask_list(rt, job),
     }
 }
@@ -69,10 +65,8 @@ fn list_file(rt: &HostRuntime, job: &Job, mode: ListMode) -> u8 {
     let file = open_or_input(rt, job.file);
     let mut out = ToWrite::new(rt.stdout());
     let moment = moment(rt);
-    end(
-        rt,
-        &list_run(rt.alloc(), mode, job.hash, &file, moment, &mut out),
-    )
+    let done = list_run(rt.alloc(), mode, job.hash, &file, moment, &mut out);
+    end(rt, &Tool, &done)
 }
 
 // `-Q`: prints the contents of the list, if `-l` requests it, and queries it for the keys of the
@@ -80,12 +74,12 @@ fn list_file(rt: &HostRuntime, job: &Job, mode: ListMode) -> u8 {
 fn ask_list(rt: &HostRuntime, job: &Job) -> u8 {
     let krl = match open_list(rt, job.file) {
         Ok(krl) => krl,
-        Err(cause) => return end(rt, &failed(job.file, cause)),
+        Err(cause) => return stop(rt, &Tool, &RunFault::whole(job.file, cause)),
     };
     let mut files = Vec::new(rt.alloc());
     for name in &job.files {
         if files.push(open(rt, name)).is_err() {
-            return end(rt, &failed(name, Cause::NoMemory));
+            return stop(rt, &Tool, &RunFault::whole(name, Cause::NoMemory));
         }
     }
     let mut out = ToWrite::new(rt.stdout());
@@ -97,5 +91,5 @@ fn ask_list(rt: &HostRuntime, job: &Job) -> u8 {
         files.as_slice(),
         &mut out,
     );
-    end(rt, &done)
+    end(rt, &Tool, &done)
 }

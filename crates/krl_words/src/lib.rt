@@ -8,8 +8,5 @@ mod options;
 mod order;
 mod shown;
 mod usage;
-mod version;
 
-pub use command::{CommandFault, command_of};
-pub use shown::shown_words;
-pub use version::VERSION;
+pub use command::command_of;

@@ -3,6 +3,7 @@
 use crate::options::program;
 use crate::usage::{command_name, examples_of, usage_of};
 use clap::error::ErrorKind;
+use option_table::shown_words;
 use std::alloc::{AllocError, Global};
 use std::convert::AsStr;
 
@@ -15,15 +16,6 @@ const REFUSED: &str = "ssh-keygen: usage 2 Words\n";
 pub fn text_for<S: AsStr>(alloc: Global, words: &[S]) -> Result<String, AllocError> {
     let shown = shown_words(alloc, words)?;
     said_of(alloc, shown.as_slice())
-}
-
-/// The words with their control characters escaped.
-pub fn shown_words<S: AsStr>(alloc: Global, words: &[S]) -> Result<Vec<String>, AllocError> {
-    let mut shown = Vec::new(alloc);
-    for word in words {
-        shown.push(shown_word(alloc, word.as_str())?)?;
-    }
-    Ok(shown)
 }
 
 // The library's text for words without control characters.
@@ -39,28 +31,4 @@ fn said_of(alloc: Global, words: &[String]) -> Result<String, AllocError> {
         Err(error) if error.kind() == ErrorKind::OutOfMemory => Err(AllocError),
         Err(error) => error.to_string(alloc),
     }
-}
-
-// The word with each byte of a control character as `\x` and two hexadecimal digits, as names are
-// printed. Control characters outside ASCII are included.
-fn shown_word(alloc: Global, word: &str) -> Result<String, AllocError> {
-    let mut shown = String::new(alloc);
-    for letter in word.chars() {
-        if letter.is_control() {
-            push_digits(alloc, &mut shown, letter)?;
-        } else {
-            shown.push(letter)?;
-        }
-    }
-    Ok(shown)
-}
-
-// Appends the bytes of the letter as digits.
-fn push_digits(alloc: Global, shown: &mut String, letter: char) -> Result<(), AllocError> {
-    let mut bytes = [0u8; 4];
-    for byte in letter.encode_utf8(&mut bytes).bytes() {
-        let digits = format!(in alloc; "\\x{byte:02x}")?;
-        shown.push_str(digits.as_str())?;
-    }
-    Ok(())
 }

@@ -1,6 +1,7 @@
 //! The caller of the page of `krl_arguments`.
 
-use krl_arguments::{CommandFault, Task, task_of};
+use krl_arguments::{Task, task_of};
+use option_table::CommandFault;
 use std::alloc::Global;
 
 /// The list of the task that words ask for, the program's name before them.

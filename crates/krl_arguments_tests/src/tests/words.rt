@@ -1,6 +1,7 @@
 //! The words of the command line.
 
-use krl_arguments::{Audit, Check, CommandFault, Task, task_of};
+use krl_arguments::{Audit, Check, Task, task_of};
+use option_table::CommandFault;
 use std::alloc::Global;
 use std::test::Fail;
 
@@ -154,8 +155,10 @@ fn refusals(rt: HostRuntime) -> Result<(), Fail> {
 
 #[test]
 fn helps(rt: HostRuntime) -> Result<(), Fail> {
-    let asked: [&[&str]; 6] = [
+    let asked: [&[&str]; 8] = [
         &["krl", "-h"],
+        &["krl", "help"],
+        &["krl", "help", "audit"],
         &["krl", "--version"],
         &["krl", "audit", "--help"],
         &["krl", "audit", "--version"],

@@ -1,19 +1,25 @@
-//! The callers of the pages of `krl_spec`, `key_files`, `key_listing`, `krl_system`, `krl_make` and
-//! `krl_runs`.
+//! The callers of the pages of `krl_spec`, `key_files`, `key_listing`, `krl_system`, `krl_make`,
+//! `krl_runs`, `program_edge` and `list_making`.
+
+ghost use Rattle.std.specs.Prelude.{◌≡◌};
 
 use crate::tests::runs::holding;
 use byte_streams::{FromRead, ToWrite};
-use key_files::{Cause, Named, RunFault, keys_of};
+use key_files::{Cause, FileFault, Named, RunFault, fault_text, keys_of};
 use key_listing::{Done, ListMode, list_run};
 use key_text::Hash;
 use krl_core::Revocations;
+use krl_job::{Job, Mode};
 use krl_make::{AuthorityOption, Old, make_run};
 use krl_runs::query_run;
 use krl_spec::{SpecFault, Under, read_spec};
 use krl_system::{MadeOf, Waiting, Written, lock_target, release, write_list};
+use list_making::make_list;
+use option_table::CommandFault;
+use program_edge::{Lines, stop};
 use span_sets::Held;
 use ssh_cert::subject;
-use std::alloc::Global;
+use std::alloc::{AllocError, Global};
 use test_fixtures::{GITHUB, GITHUB_LINE};
 
 /// The entries of a specification file, under all authorities.
@@ -42,7 +48,7 @@ fn key_lines<'a>(alloc: Global, file: &'a Named<'a>, text: &mut Vec<u8>) -> Done
 
 /// Writes a list under a name, once no other update holds the list that is there.
 fn written(rt: &HostRuntime, name: &str, text: &[u8]) -> Result<Written, Cause> {
-    let mut waiting = Waiting::new(name);
+    let mut waiting = Waiting::new("ssh-keygen", name);
     match lock_target(rt, name, MadeOf::Lines, &mut waiting)? {
         Some(mut locked) => {
             let written = write_list(rt, name, &mut locked, text);
@@ -80,6 +86,57 @@ fn asked<'a>(alloc: Global, list: &[u8], files: &'a [Named<'a>], text: &mut Vec<
         &mut out,
     );
     done
+}
+
+/// The exit status of a run whose file cannot be opened.
+fn stop_without<L: Lines>(rt: &HostRuntime, program: &L, name: &str) -> u8
+    ensures { result ≡ 255 }
+{
+    let cause = Cause::File(FileFault::Open);
+    stop(rt, program, &RunFault::whole(name, cause))
+}
+
+// The lines of a program that does nothing.
+#[derive(Clone, Copy)]
+struct Idle;
+
+impl Lines for Idle {
+    fn name(&self) -> &'static str {
+        "idle"
+    }
+
+    fn fault_line(&self, rt: &HostRuntime, fault: &RunFault) -> Result<Vec<u8>, AllocError> {
+        fault_text(rt.alloc(), b"idle", fault)
+    }
+
+    fn print_refusal(&self, _rt: &HostRuntime, _fault: &CommandFault) {}
+}
+
+/// Makes the list that words ask for, and gives the exit status.
+fn make_by<L: Lines>(rt: &HostRuntime, program: &L, job: &Job) -> u8 {
+    make_list(rt, program, job)
+}
+
+#[test]
+fn a_list_without_its_lines_is_not_made(rt: HostRuntime) {
+    let mut files = Vec::new(rt.alloc());
+    files.push("/dev/none").expect(&rt, "there is memory");
+    let job = Job {
+        mode: Mode::Make,
+        file: "/dev/null",
+        hash: Hash::Sha256,
+        dump: false,
+        update: false,
+        authority: krl_job::AuthorityOption::All,
+        version: None,
+        files,
+    };
+    assert!(rt; make_by(&rt, &Idle, &job) == 255);
+}
+
+#[test]
+fn a_run_without_its_file_stops(rt: HostRuntime) {
+    assert!(rt; stop_without(&rt, &Idle, "none") == 255);
 }
 
 #[test]

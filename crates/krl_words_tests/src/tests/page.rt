@@ -1,12 +1,14 @@
-//! The callers of the pages of `krl_words` and of `krl_job`.
+//! The callers of the pages of `krl_words`, `krl_job` and `option_table`.
 
 ghost use Rattle.std.specs.Prelude.{◌≡◌, option_map};
 ghost use Rattle.krl_job.specs.Given.{given_by};
 ghost use Rattle.krl_job.specs.Job.{job_of};
 
+use clap::Command;
 use krl_job::{Given, Mode, job_of};
-use krl_words::{CommandFault, command_of};
-use std::alloc::Global;
+use krl_words::command_of;
+use option_table::{Argument, CommandFault, Form, is_set, with_arguments};
+use std::alloc::{AllocError, Global};
 
 /// The mode of the job that words ask for, the program's name before them.
 fn mode_of<'a>(alloc: Global, words: &'a [&'a str]) -> Result<Mode, CommandFault> {
@@ -20,6 +22,29 @@ fn mode_given(given: Given) -> Option<Mode>
 {
     let job = job_of(given)?;
     Some(job.mode)
+}
+
+const VERBOSE: [Argument; 1] = [Argument {
+    id: "verbose",
+    form: Form::Letter('v'),
+    help: "Say more",
+}];
+
+/// A command with one option.
+fn command<'a>(alloc: Global) -> Result<Command<'a>, AllocError> {
+    with_arguments(alloc, Command::new(alloc, "look"), &VERBOSE)
+}
+
+#[test]
+fn a_letter_is_given(rt: HostRuntime) {
+    for (words, wanted) in [(["look", "-v"].as_slice(), true), (["look"].as_slice(), false)] {
+        let look = command(rt.alloc()).ok().expect(&rt, "there is memory");
+        let matches = look
+            .try_get_matches_from(words)
+            .ok()
+            .expect(&rt, "the words can be parsed");
+        assert!(rt; is_set(&matches, "verbose") == wanted);
+    }
 }
 
 #[test]

@@ -2,7 +2,8 @@
 
 use key_text::Hash;
 use krl_job::{AuthorityOption, Job, Mode};
-use krl_words::{CommandFault, command_of};
+use krl_words::command_of;
+use option_table::CommandFault;
 use std::alloc::{AllocError, Global};
 use std::test::Fail;
 

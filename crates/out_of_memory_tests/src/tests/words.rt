@@ -1,9 +1,10 @@
 //! The words of the command line.
 
 use crate::tests::answered::ran_out;
-use krl_arguments::{Audit, CommandFault as TaskFault, Task, task_of};
+use krl_arguments::{Audit, Task, task_of};
 use krl_job::{Job, Mode};
-use krl_words::{CommandFault, command_of};
+use krl_words::command_of;
+use option_table::CommandFault;
 
 #[test]
 fn a_command(rt: HostRuntime) {
@@ -64,7 +65,7 @@ fn a_task(rt: HostRuntime) {
                 },
             ),
         ) => assert!(rt; list == "r.krl" && all && json && files.len() == 2),
-        Err(TaskFault::NoMemory) => ran_out(&rt),
+        Err(CommandFault::NoMemory) => ran_out(&rt),
         _ => assert!(rt; false, "the words ask for an audit"),
     }
 }
@@ -74,8 +75,8 @@ fn a_task(rt: HostRuntime) {
 fn a_task_that_is_refused(rt: HostRuntime) {
     let words = ["krl", "check", "--print-version", "--canary", "c", "r.krl"];
     match task_of(rt.alloc(), &words) {
-        Err(TaskFault::Words { help, text }) => assert!(rt; !help && !text.is_empty()),
-        Err(TaskFault::NoMemory) => ran_out(&rt),
+        Err(CommandFault::Words { help, text }) => assert!(rt; !help && !text.is_empty()),
+        Err(CommandFault::NoMemory) => ran_out(&rt),
         _ => assert!(rt; false, "the words are refused"),
     }
 }

@@ -11,4 +11,4 @@ returns-in-Ok g c =
 pub returns-in-Err : goal.returns-in-Err
 returns-in-Err g c =
     let words = map g.S.AsStr.text c.args.words.now in
-    not_read words c.in-Err.error c.words_fault.result (fails_by _ words c.in-Err.error c.in_ok-program.ensures c.in-Err.ensures.kinds) c.words_fault.ensures
+    not_read words c.in-Err.error c.fault_of.result (fails_by _ words c.in-Err.error c.in_ok-program.ensures c.in-Err.ensures.kinds) c.fault_of.ensures

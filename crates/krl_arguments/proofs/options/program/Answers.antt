@@ -10,8 +10,7 @@ returns c =
     let named = ap app_of_fields c.about.ensures ∙ c.new.ensures.app in
     let versioned = ap app_of_fields c.version.ensures ∙ ap (on_top (λ s. record s { has_version = true })) named in
     let passed = ap app_of_fields c.propagate_version.ensures ∙ ap (on_top (λ s. record s { propagate_version = true })) versioned in
-    let helpless = ap app_of_fields c.disable_help_subcommand.ensures ∙ ap (on_top (λ s. record s { disable_help_subcommand = true })) passed in
     let whole : app_of c.subcommand_required-bare.result ≡ bare =
-    ap app_of_fields c.subcommand_required-bare.ensures ∙ ap (on_top (λ s. record s { subcommand_required = true })) helpless in
+    ap app_of_fields c.subcommand_required-bare.ensures ∙ ap (on_top (λ s. record s { subcommand_required = true })) passed in
     let first = c.in_ok-subcommand.ensures.shape c.in_ok-audit.ensures.local ∙ ap₂ with_subcommand whole c.in_ok-audit.ensures.shape in
     IfOk-weaker c.subcommand-2.result _ _ (λ command adds. adds.shape c.in_ok-check.ensures.local ∙ ap₂ with_subcommand first c.in_ok-check.ensures.shape) c.subcommand-2.ensures

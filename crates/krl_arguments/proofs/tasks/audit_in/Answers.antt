@@ -1,9 +1,8 @@
 -- The list that was found is the one of the words.
-use Rattle.std.proofs.Common.{◌∙◌, ℕ, List, Option, None, ap, codes}
+use Rattle.std.proofs.Common.{◌∙◌, ℕ, List, Option, None, ap}
 use Rattle.std.specs.Prelude.{option_and_then}
 use Rattle.clap.specs.Matches.{found_of}
 use Rattle.clap.specs.Walk.{rows_of}
-use Rattle.krl_arguments.proofs.Reading.{value_by}
 use Rattle.krl_arguments.specs.Task.{audit_with, if_any}
 use Rattle.krl_arguments.proofs.tasks.audit_in.Goals as goal
 
@@ -11,9 +10,9 @@ pub returns-in_ok-audit_with-in-Some : goal.returns-in_ok-audit_with-in-Some
 returns-in_ok-audit_with-in-Some c =
     let f = found_of c.args.found.now in
     c.if_any.ensures ∙ ap if_any c.in_ok-audit_with-in-Some.ensures
-    ∙ ap (λ (o : Option (List ℕ)). option_and_then (λ list. if_any (audit_with (rows_of f) list)) o) (value_by f (codes "list") _ c.in-Some.ensures)
+    ∙ ap (λ (o : Option (List ℕ)). option_and_then (λ list. if_any (audit_with (rows_of f) list)) o) c.in-Some.ensures
 
 pub returns-in-None : goal.returns-in-None
 returns-in-None c =
     let f = found_of c.args.found.now in
-    ap (λ (o : Option (List ℕ)). option_and_then (λ list. if_any (audit_with (rows_of f) list)) o) (value_by f (codes "list") None c.in-None.ensures)
+    ap (λ (o : Option (List ℕ)). option_and_then (λ list. if_any (audit_with (rows_of f) list)) o) c.in-None.ensures

@@ -1,20 +1,16 @@
 -- The value that was found is no duration.
-use Rattle.std.proofs.Common.{◌≡◌, rules, ◌∙◌, ℕ, Bool, false, not, List, Option, Some, None, ap, codes}
+use Rattle.std.proofs.Common.{◌≡◌, rules, ◌∙◌, ℕ, Bool, false, not, List, Option, Some, None, ap}
 use Rattle.std.specs.Prelude.{is_some}
 use Rattle.std.specs.Option.{option_map_or}
-use Rattle.clap.specs.Matches.{found_of}
-use Rattle.krl_arguments.proofs.Reading.{value_by}
 use Rattle.krl_arguments.specs.Duration.{duration_of}
 use Rattle.krl_arguments.proofs.tasks.has_wrong_age.Goals as goal
 
 pub returns-in-Some : goal.returns-in-Some
 returns-in-Some c =
-    let f = found_of c.args.found.now in
     let told : c.is_none.result ≡ not (is_some c.duration_of.result) = search rules in
     told ∙ ap (λ (o : Option ℕ). not (is_some o)) c.duration_of.ensures
-    ∙ ap (λ (o : Option (List ℕ)). option_map_or (λ text. not (is_some (duration_of text))) o false) (value_by f (codes "max-age") (Some c.in-Some.text.now) c.in-Some.ensures)
+    ∙ ap (λ (o : Option (List ℕ)). option_map_or (λ text. not (is_some (duration_of text))) o false) c.in-Some.ensures
 
 pub returns-in-None : goal.returns-in-None
 returns-in-None c =
-    let f = found_of c.args.found.now in
-    ap (λ (o : Option (List ℕ)). option_map_or (λ text. not (is_some (duration_of text))) o false) (value_by f (codes "max-age") None c.in-None.ensures)
+    ap (λ (o : Option (List ℕ)). option_map_or (λ text. not (is_some (duration_of text))) o false) c.in-None.ensures

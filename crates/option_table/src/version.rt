@@ -1,4 +1,4 @@
-//! The version of the program.
+//! The version of the programs.
 
 /// The version that `--version` prints.
 pub const VERSION: &str = "1.0.0";

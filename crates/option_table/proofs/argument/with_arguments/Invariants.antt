@@ -2,8 +2,8 @@
 use Rattle.std.proofs.Common.{◌≡◌, false, map, take}
 use Rattle.clap.specs.Simple.{app_of}
 use Rattle.clap.specs.declared.builder.command.Command.TheViews.{out-Command}
-use Rattle.krl_arguments.specs.Options.{rule_by, with_rules}
-use Rattle.krl_arguments.proofs.options.with_arguments.Given as goal
+use Rattle.option_table.specs.Argument.{rule_by, with_rules}
+use Rattle.option_table.proofs.argument.with_arguments.Given as goal
 
 abbrev pub invariant-loop-argument : goal.invariant-loop-argument
 invariant-loop-argument l =

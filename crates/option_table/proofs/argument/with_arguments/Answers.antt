@@ -1,7 +1,7 @@
 -- Each argument is added in its turn.
 use Rattle.std.proofs.Common.{◌∙◌, ap₂, ◌||◌}
-use Rattle.krl_arguments.proofs.Reading.{one_more, one_more_rule}
-use Rattle.krl_arguments.proofs.options.with_arguments.Goals as goal
+use Rattle.option_table.proofs.Reading.{one_more, one_more_rule}
+use Rattle.option_table.proofs.argument.with_arguments.Goals as goal
 
 pub loop-argument-preserved : goal.loop-argument-preserved
 loop-argument-preserved c =

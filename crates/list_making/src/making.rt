@@ -3,7 +3,6 @@
 ghost use Rattle.std.specs.Prelude.{◌≡◌, false};
 ghost use Rattle.std.specs.Option.{ForSome};
 
-use crate::ending::{end, failed, stopped};
 use byte_streams::{FromBuffer, Source};
 use key_files::{Cause, FileFault, Named, RunFault};
 use krl_job::{AuthorityOption, Job};
@@ -12,6 +11,7 @@ use krl_system::{
     Locked, MadeOf, Target, Waiting, Written, buffered, date, lock_target, open_authority,
     open_inputs, release, write_list,
 };
+use program_edge::{Lines, stop};
 use std::fs::{self, File};
 
 // How often a list is opened again because its name now belongs to another file. Each of several
@@ -47,15 +47,15 @@ struct Inputs<'a> {
 }
 
 /// `-k`: makes a list, from the old one if `-u` is given. Returns the exit status.
-pub fn make_list(rt: &HostRuntime, job: &Job) -> u8 {
+pub fn make_list<L: Lines>(rt: &HostRuntime, program: &L, job: &Job) -> u8 {
     let base = match base_of(rt, job) {
         Ok(base) => base,
-        Err(cause) => return end(rt, &failed(job.file, cause)),
+        Err(cause) => return stop(rt, program, &RunFault::whole(job.file, cause)),
     };
     let authority = open_authority(rt, &job.authority);
     let files = match open_inputs(rt, job.files.as_slice()) {
         Ok(files) => files,
-        Err(fault) => return end(rt, &stopped(fault)),
+        Err(fault) => return stop(rt, program, &fault),
     };
     let inputs = Inputs {
         name: job.file,
@@ -63,7 +63,7 @@ pub fn make_list(rt: &HostRuntime, job: &Job) -> u8 {
         authority,
         files,
     };
-    make_of(rt, base, &inputs)
+    make_of(rt, program, base, &inputs)
 }
 
 // Finds the old list. An old list that cannot be opened is reported before any file is read.
@@ -82,21 +82,25 @@ fn base_of(rt: &HostRuntime, job: &Job) -> Result<Base, Cause> {
 }
 
 // Makes the list and writes it, after the lines are read. Returns the exit status.
-fn make_of(rt: &HostRuntime, base: Base, inputs: &Inputs) -> u8 {
+fn make_of<L: Lines>(rt: &HostRuntime, program: &L, base: Base, inputs: &Inputs) -> u8 {
     let made = match made_of(rt, base, inputs) {
         Ok(made) => made,
-        Err(fault) => return end(rt, &stopped(fault)),
+        Err(fault) => return stop(rt, program, &fault),
     };
-    let mut waiting = Waiting::new(inputs.name);
+    let mut waiting = Waiting::new(program.name(), inputs.name);
     for _ in 0..TRIES {
         match write_once(rt, &made, inputs, &mut waiting) {
             Ok(Written::Whole) => return 0,
             // A list of the lines alone has nothing of the old one, and is written once more.
             Ok(Written::Elsewhere | Written::Changed) => {}
-            Err(fault) => return end(rt, &stopped(fault)),
+            Err(fault) => return stop(rt, program, &fault),
         }
     }
-    end(rt, &failed(inputs.name, Cause::Output { count: 0 }))
+    stop(
+        rt,
+        program,
+        &RunFault::whole(inputs.name, Cause::Output { count: 0 }),
+    )
 }
 
 // Makes the bytes before the list is held, unless they are made from the regular file there.

@@ -1,0 +1,3 @@
+pub mod Argument
+pub mod Fault
+pub mod Value
