@@ -3,11 +3,11 @@ use Rattle.std.specs.Prelude.{◌≡◌, ℕ, Bool, true, false, List, [], ◌�
 use Rattle.std.specs.Prelude.{Option, Some, Result, Ok, Err}
 use Rattle.std.specs.Str.{IsUtf8}
 use Rattle.key_text.specs.Armour.{begins_container}
-use Rattle.audit_tree.specs.Names.{reads_every, selection_of}
+use Rattle.audit_tree.specs.Names.{selection_of}
 use Rattle.audit_tree.specs.Paths.{path_in}
 use Rattle.audit_tree.specs.declared.names.Selection.{Selection}
 use Rattle.audit_tree.specs.declared.names.Selection.TheVariants as selections
-use Rattle.krl_audit.specs.Front.{fronts_of, is_read_by_lines}
+use Rattle.krl_audit.specs.Front.{fronts_of, is_read_by_lines, reads_every}
 use Rattle.krl_audit.specs.Visible.{visible_bytes}
 use Rattle.krl_audit.specs.declared.front.Fronts.{Fronts}
 use Rattle.krl_audit.specs.declared.front.Fronts.TheVariants as fronts

@@ -18,9 +18,9 @@ use crate::names::{Place, is_never};
 use crate::round::{Round, Screen};
 use crate::stop::Stop;
 use crate::tree::Tree;
-use audit_tree::{Selection, path_in, reads_every, selection_of, shown_path};
+use audit_tree::{Selection, path_in, selection_of, shown_path};
 use key_text::is_container;
-use krl_audit::Refusal;
+use krl_audit::{Refusal, reads_every};
 use std::{mem, str};
 
 /// A path in a directory: whether a file there is read by its name, and whether sshd or ssh reads a

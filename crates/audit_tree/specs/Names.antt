@@ -22,14 +22,6 @@ abbrev pub is_private_name : List ℕ → Bool
 is_private_name name =
     starts_with nat_eq name (codes "id_") || starts_with nat_eq name (codes "ssh_host_")
 
--- Each file of a directory with this path is read, whatever its name.
-abbrev pub reads_every : List ℕ → Bool
-reads_every path =
-    bytes_eq path (codes "authorized_keys.d")
-    || (bytes_eq path (codes "authorized_keys.d/")
-    || (ends_with nat_eq path (codes "/authorized_keys.d")
-    || ends_with nat_eq path (codes "/authorized_keys.d/")))
-
 -- whether a file of this name is read, where each file of its directory is or not
 abbrev pub selection_of : (every : Bool) → List ℕ → Selection
 selection_of every name =

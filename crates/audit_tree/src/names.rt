@@ -1,8 +1,7 @@
 //! Which files of a directory are read (krl(1), FILES THAT ARE READ).
 
 ghost use Rattle.std.specs.Prelude.{◌≡◌};
-ghost use Rattle.audit_tree.specs.Names.{is_audited, is_key_name, is_private_name, reads_every};
-ghost use Rattle.audit_tree.specs.Names.{selection_of};
+ghost use Rattle.audit_tree.specs.Names.{is_audited, is_key_name, is_private_name, selection_of};
 
 use key_text::is_container;
 
@@ -15,17 +14,6 @@ pub enum Selection {
     IfPrivate,
     /// It is not read.
     Never,
-}
-
-/// Returns true if each file of a directory with this path is read, whatever its name: the
-/// directory is named `authorized_keys.d`.
-pub fn reads_every(path: &[u8]) -> bool
-    ensures { result ≡ reads_every path.now }
-{
-    path == b"authorized_keys.d".as_slice()
-        || path == b"authorized_keys.d/".as_slice()
-        || path.ends_with(b"/authorized_keys.d")
-        || path.ends_with(b"/authorized_keys.d/")
 }
 
 /// Returns whether a file of this name is read, where each file of its directory is or not.

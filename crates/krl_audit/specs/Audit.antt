@@ -1,7 +1,8 @@
 -- Auditing files: the findings of their lines, and the counts.
 use Rattle.std.specs.Borrow.{Bor}
 use Rattle.std.specs.Prelude.{◌≡◌, ℕ, ◌+◌, ◌-◌, ◌&&◌, Bool, true, false, not, List, [], ◌∷◌, ◌++◌}
-use Rattle.std.specs.Prelude.{IfOk, is_some, map, nat_lt, OnOk, Option, Some, None, Result, Ok, Err, if◌then◌else◌}
+use Rattle.std.specs.Prelude.{IfOk, is_some, map, nat_lt, OnOk, Option, Some, None, Result, Ok, Err}
+use Rattle.std.specs.Prelude.{if◌then◌else◌}
 use Rattle.key_text.specs.declared.marker.Marker.{Marker}
 use Rattle.key_text.specs.declared.marker.Marker.TheVariants as markers
 use Rattle.krl_types.specs.Subject.{Subject}
@@ -219,14 +220,16 @@ content_of (Err refusal) = Err refusal
 abbrev pub JudgesAs : Judge → (Subject → Reasons) → Type 0
 JudgesAs judge reasons = (asked : Subject) → held_reasons judge.list.now asked ≡ reasons asked
 
--- The line was printed if it is to be printed, and this is its kind; or the audit was stopped at it.
+-- The line was printed if it is to be printed, and this is its kind; or the audit was stopped at
+-- it.
 pub record SaysLine (reasons : Subject → Reasons) (shown : Shown) (name : List ℕ) (line : Placed)
     (result : Result LineKind RunFault) (old new : Printer) : Type 0 where
   pub carries : Carries (line_item reasons shown name line.number line.outcome ∷ []) result old new
   pub kind_is : IfOk result (λ kind. kind ≡ kind_of reasons line.outcome)
 
 -- Exactly the items of these lines were printed after the earlier ones, and all lines were counted;
--- or the audit was stopped within them. Before them this number of lines of their file was not read.
+-- or the audit was stopped within them. Before them this number of lines of their file was not
+-- read.
 pub record Told (reasons : Subject → Reasons) (shown : Shown) (name : List ℕ) (unread : ℕ)
     (lines : List Placed) (result : Result ℕ RunFault) (old new : Printer) (before after : Counts)
     : Type 0 where

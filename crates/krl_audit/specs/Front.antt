@@ -38,9 +38,9 @@ last_part path = drop (length path - suffix_len is_no_slash path) path
 unfoldable pub before_slashes : List ℕ → List ℕ
 before_slashes path = take (length path - suffix_len is_slash path) path
 
--- the name of the folder that a file is in
-abbrev pub folder_part : List ℕ → List ℕ
-folder_part path = last_part (before_slashes (to_slash path))
+-- Each file of a directory with this path is read, whatever its name.
+unfoldable pub reads_every : List ℕ → Bool
+reads_every path = bytes_eq (last_part (before_slashes path)) (codes "authorized_keys.d")
 
 -- whether the lines of a file with this name are of known hosts
 unfoldable pub is_known_hosts : List ℕ → Bool
@@ -54,7 +54,7 @@ unfoldable pub is_authorized_keys : List ℕ → Bool
 is_authorized_keys name =
     bytes_eq (last_part name) (codes "authorized_keys")
     || (bytes_eq (last_part name) (codes "authorized_keys2")
-    || bytes_eq (folder_part name) (codes "authorized_keys.d"))
+    || reads_every (to_slash name))
 
 -- whether ssh or sshd reads each line of a file with this name, whatever its first line is
 unfoldable pub is_read_by_lines : List ℕ → Bool

@@ -1,6 +1,6 @@
 -- The outcomes of each line of a file of keys: nothing, a key, or why it is not read.
-use Rattle.std.specs.Prelude.{◌≡◌, ◌⊎◌, ℕ, ◌+◌, Bool, true, false, List, [], ◌∷◌, ◌++◌, drop, map, nat_eq}
-use Rattle.std.specs.Prelude.{Option, Some, None, Result, Ok, Err, if◌then◌else◌}
+use Rattle.std.specs.Prelude.{◌≡◌, ◌⊎◌, ℕ, ◌+◌, Bool, true, false, List, [], ◌∷◌, ◌++◌, drop, map}
+use Rattle.std.specs.Prelude.{nat_eq, Option, Some, None, Result, Ok, Err, if◌then◌else◌}
 use Rattle.std.specs.Borrow.{Bor}
 use Rattle.std.specs.List.{slice_split, starts_with}
 use Rattle.std.specs.Str.{bytes_eq}
@@ -31,8 +31,8 @@ use Rattle.krl_audit.specs.declared.outcome.Outcomes.{Outcomes as Read}
 use Rattle.krl_audit.specs.declared.why.Why.{Why}
 use Rattle.krl_audit.specs.declared.why.Why.TheVariants as whys
 
--- A key: its marker, whether the text before it is host names, that text, its bytes, its comment, and
--- the query for it.
+-- A key: its marker, whether the text before it is host names, that text, its bytes, its comment,
+-- and the query for it.
 pub record Found : Type 0 where
   pub marker : Option Marker
   pub hosts : Bool
@@ -137,7 +137,8 @@ bare_outcomes None fronts.Either line = by_either line
 -- the outcomes of a line, by what the field before its key is
 unfoldable pub outcomes_of : Fronts → List ℕ → Outcomes
 outcomes_of kind text =
-    if has_key text then bare_outcomes (marker_of text) kind (trimmed (unmarked text)) else one Empty
+    if has_key text then bare_outcomes (marker_of text) kind (trimmed (unmarked text))
+    else one Empty
 
 -- the text before the key of a line of authorized keys, and of a line of known hosts
 abbrev pub options_of : List ℕ → List ℕ
@@ -228,8 +229,7 @@ LeadsBehind kind None lines = lines ≡ []
 LeadsBehind kind (Some (passed, rest)) lines =
     lines ≡ placed_from (passed + 1) (read_all kind (slice_split is_newline rest.now))
 
--- Whatever stands behind a private key is read as lines, and all of a file that ssh or sshd reads by
--- lines.
+-- The lines behind a private key are read, and all lines of a file that ssh or sshd reads by lines.
 abbrev pub placed_beside : Fronts → Bool → List (List ℕ) → List Placed
 placed_beside kind true lines = placed_from 1 (read_all kind lines)
 placed_beside kind false lines = placed_behind kind 1 lines
@@ -268,7 +268,8 @@ GivesOutcome (given.Unread why) outcome = outcome ≡ Unread why
 
 abbrev pub GivesSecond : Option Given → Option Outcome → Type 0
 GivesSecond None second = second ≡ None
-GivesSecond (Some read) second = (other : Outcome) × ((GivesOutcome read other) × (second ≡ Some other))
+GivesSecond (Some read) second =
+    (other : Outcome) × ((GivesOutcome read other) × (second ≡ Some other))
 
 -- The outcomes are these.
 pub record GivesOutcomes (read : Read) (outcomes : Outcomes) : Type 0 where

@@ -308,7 +308,8 @@ impl<'q, 'w, W: Sink> Auditor<'q, 'w, W> {
         self.say(Location { name, number: 0 }, 0, &Outcome::Unread(why))
     }
 
-    // Prints how many lines of a file are not read beyond those that were printed, if there are any.
+    // Prints how many lines of a file are not read beyond those that were printed, if there are
+    // any.
     fn say_rest<'a>(&mut self, name: &'a str, unread: u64) -> Result<(), RunFault<'a>>
         ensures said { (reasons : SubjectOf → ReasonsOf) → JudgesAs self.old.judge reasons
             → Carries (rest_items reasons self.old.judge.shown name.now unread) result

@@ -21,7 +21,8 @@ pub(crate) fn fault_text(alloc: Global, why: Why) -> Result<String, AllocError>
     }
 }
 
-/// The fault of a file that is not read. One that is refused before its first byte cannot be opened.
+/// The fault of a file that is not read. One that is refused before its first byte cannot be
+/// opened.
 pub fn refusal_fault(refusal: Refusal) -> FileFault
     ensures { result ≡ refusal_fault refusal }
 {

@@ -1,10 +1,10 @@
 //! The field before the key of a line.
 
 ghost use Rattle.std.specs.Prelude.{◌≡◌, ◌-◌, length, take};
-ghost use Rattle.krl_audit.specs.Front.{before_blanks, before_slashes, folder_part, front_before};
-ghost use Rattle.krl_audit.specs.Front.{fronts_of, is_authorized_keys, is_known_hosts};
-ghost use Rattle.krl_audit.specs.Front.{is_no_slash, is_read_by_lines, is_slash};
-ghost use Rattle.krl_audit.specs.Front.{last_part, to_slash};
+ghost use Rattle.krl_audit.specs.Front.{before_blanks, before_slashes, front_before, fronts_of};
+ghost use Rattle.krl_audit.specs.Front.{is_authorized_keys, is_known_hosts, is_no_slash};
+ghost use Rattle.krl_audit.specs.Front.{is_read_by_lines, is_slash, last_part, reads_every};
+ghost use Rattle.krl_audit.specs.Front.{to_slash};
 
 use key_text::is_blank;
 
@@ -58,10 +58,19 @@ fn is_authorized_keys(name: &[u8]) -> bool
     ensures { result ≡ is_authorized_keys name.now }
 {
     let (folder, last) = split_path(name);
-    let (_, folder) = split_path(before_slashes(folder));
     last == b"authorized_keys".as_slice()
         || last == b"authorized_keys2".as_slice()
-        || folder == b"authorized_keys.d".as_slice()
+        || reads_every(folder)
+}
+
+/// Returns true if each file of a directory with this path is read, whatever its name: the
+/// directory is named `authorized_keys.d`.
+#[tactic(auto, unfolding(crate::specs::Front::reads_every))]
+pub fn reads_every(path: &[u8]) -> bool
+    ensures { result ≡ reads_every path.now }
+{
+    let (_, name) = split_path(before_slashes(path));
+    name == b"authorized_keys.d".as_slice()
 }
 
 // A path up to its last slash, and the name behind it.

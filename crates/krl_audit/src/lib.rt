@@ -31,7 +31,7 @@ pub use causes::cause_words;
 pub use counts::{Counts, LineKind};
 pub use done::{FileCounts, ListFacts, Stated};
 pub use fault_text::refusal_fault;
-pub use front::{Fronts, is_read_by_lines};
+pub use front::{Fronts, is_read_by_lines, reads_every};
 pub use judge::{Form, Judge, Shown};
 pub use keyless::keyless_lines;
 pub use outcome::{Found, Outcome, Outcomes, read_outcomes};

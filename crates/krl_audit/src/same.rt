@@ -16,8 +16,8 @@ use line_pieces::put;
 use std::alloc::{AllocError, Global};
 
 impl<'q, 'w, W: Sink> Auditor<'q, 'w, W> {
-    /// Prints, if revoked keys are printed, that a name leads to a file that was audited before. It is
-    /// no finding: nothing is counted, and the status stays as it is.
+    /// Prints, if revoked keys are printed, that a name leads to a file that was audited before. It
+    /// is no finding: nothing is counted, and the status stays unchanged.
     pub fn say_same<'a>(&mut self, name: &'a str) -> Result<(), RunFault<'a>>
         ensures said { Carries (said_if self.old.judge.shown.revoked name.now
             (same_said self.old.judge.shown.form name.now) ∷ []) result self.old.run.printer

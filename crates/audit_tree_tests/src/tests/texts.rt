@@ -1,7 +1,7 @@
 //! The order and the paths of names, how far an audit is, and its last line.
 
 use audit_tree::{
-    Summary, path_in, push_progress, push_summary, push_wipe, reads_every, shown_path, sort_names,
+    Summary, path_in, push_progress, push_summary, push_wipe, shown_path, sort_names,
 };
 use krl_audit::{Counts, FileCounts, Stated};
 use std::test::Fail;
@@ -37,64 +37,69 @@ fn a_path_that_is_not_utf8(rt: HostRuntime) -> Result<(), Fail> {
     Ok(())
 }
 
-#[test]
-fn files_of_directories(rt: HostRuntime) {
-    for (path, every) in [
-        ("authorized_keys.d", true),
-        ("etc/authorized_keys.d/", true),
-        ("/authorized_keys.d", true),
-        ("my_authorized_keys.d", false),
-        ("authorized_keys.d/bob", false),
-    ] {
-        assert!(rt; reads_every(path.as_bytes()) == every);
+// The counts of an audit by a list with this version and date, or by a plain list.
+fn summary(files: FileCounts, keys: u64, revoked_files: u64, stated: Option<Stated>) -> Summary {
+    Summary {
+        files,
+        revoked_files,
+        counts: Counts {
+            keys,
+            revoked: 5,
+            unread: 1,
+        },
+        stated,
     }
 }
 
+const LIST: Option<Stated> = Some(Stated {
+    version: 12,
+    generated: 1_795_734_911,
+});
+
+const FOUR: FileCounts = FileCounts {
+    audited: 4,
+    same: 0,
+    skipped: 0,
+};
+
+const ONE: FileCounts = FileCounts {
+    audited: 1,
+    same: 3,
+    skipped: 12,
+};
+
 #[test]
 fn last_lines(rt: HostRuntime) -> Result<(), Fail> {
-    let counts = Counts {
-        keys: 8,
-        revoked: 5,
-        unread: 1,
-    };
-    let mut summary = Summary {
-        files: FileCounts {
-            audited: 4,
-            same: 0,
-            skipped: 0,
-        },
-        revoked_files: 3,
-        counts,
-        stated: Some(Stated {
-            version: 12,
-            generated: 1_795_734_911,
-        }),
-    };
+    let cases: [(Summary, &[u8]); 3] = [
+        (
+            summary(FOUR, 8, 3, LIST),
+            b"krl audit: 4 files, 8 keys: 5 revoked in 3 files, 1 unread \
+(list version 12, 2026-11-26T23:15:11Z)\n",
+        ),
+        (
+            summary(ONE, 1, 1, LIST),
+            b"krl audit: 1 file, 1 key: 5 revoked in 1 file, 1 unread, 12 skipped, \
+3 audited before (list version 12, 2026-11-26T23:15:11Z)\n",
+        ),
+        (
+            summary(FOUR, 8, 3, None),
+            b"krl audit: 4 files, 8 keys: 5 revoked in 3 files, 1 unread (plain list)\n",
+        ),
+    ];
+    for (summary, wanted) in &cases {
+        let mut text = Vec::new(rt.alloc());
+        push_summary(rt.alloc(), summary, &mut text)?;
+        assert!(rt; text.as_slice() == *wanted);
+    }
+    Ok(())
+}
+
+#[test]
+fn how_far_an_audit_is(rt: HostRuntime) -> Result<(), Fail> {
     let mut text = Vec::new(rt.alloc());
-    push_summary(rt.alloc(), &summary, &mut text)?;
-    let wanted = b"krl audit: 4 files, 8 keys: 5 revoked in 3 files, 1 unread \
-(list version 12, 2026-11-26T23:15:11Z)\n";
-    assert!(rt; text.as_slice() == wanted.as_slice());
-    text.clear();
-    push_progress(&summary, &mut text)?;
+    push_progress(&summary(FOUR, 8, 3, LIST), &mut text)?;
     push_wipe(3, &mut text)?;
     let wanted = b"\rkrl audit: 4 files, 8 keys: 5 revoked, 1 unread\r   \r";
     assert!(rt; text.as_slice() == wanted.as_slice());
-    summary.files.audited = 1;
-    summary.files.same = 3;
-    summary.files.skipped = 12;
-    summary.counts.keys = 1;
-    summary.revoked_files = 1;
-    text.clear();
-    push_summary(rt.alloc(), &summary, &mut text)?;
-    let wanted = b"krl audit: 1 file, 1 key: 5 revoked in 1 file, 1 unread, 12 skipped, \
-3 audited before (";
-    assert!(rt; text.starts_with(wanted));
-    summary.files.same = 0;
-    summary.files.skipped = 0;
-    summary.stated = None;
-    text.clear();
-    push_summary(rt.alloc(), &summary, &mut text)?;
-    assert!(rt; text.ends_with(b" 1 unread (plain list)\n"));
     Ok(())
 }

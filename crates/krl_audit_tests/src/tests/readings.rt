@@ -3,6 +3,7 @@
 
 use crate::tests::keys::{ALICE, ALICE_PRINT, AUTHORITY, AUTHORITY_PRINT};
 use crate::tests::made::{ALL, alice_and_bob, said_of};
+use krl_audit::reads_every;
 
 // The name of a file, whether Alice's key is found in a line that has it between quotes, and
 // whether the key of the authority is found, which is behind them.
@@ -49,6 +50,22 @@ fn each_name_has_its_reading(rt: HostRuntime) {
         assert_eq!(rt; found.text.as_slice(), wanted.as_bytes(), "{name}");
         assert!(rt; found.counts.keys == u64::from(is_alice) + u64::from(is_authority));
         assert!(rt; found.counts.unread == 0);
+    }
+}
+
+#[test]
+fn each_file_of_some_directories_is_read(rt: HostRuntime) {
+    for (path, every) in [
+        ("authorized_keys.d", true),
+        ("etc/authorized_keys.d/", true),
+        ("/authorized_keys.d", true),
+        ("authorized_keys.d//", true),
+        ("my_authorized_keys.d", false),
+        ("authorized_keys.d/bob", false),
+        ("/", false),
+        ("", false),
+    ] {
+        assert!(rt; reads_every(path.as_bytes()) == every, "{path}");
     }
 }
 
