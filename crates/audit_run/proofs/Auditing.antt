@@ -8,7 +8,6 @@ use Rattle.std.proofs.lemmas.List.{append-nil}
 use Rattle.std.proofs.lemmas.List.Concat.{flat_map-append}
 use Rattle.key_files.specs.RunFault.{RunFault, ended_by}
 use Rattle.key_files.specs.declared.cause.Cause.{Cause}
-use Rattle.key_files.specs.declared.file_fault.FileFault.{FileFault}
 use Rattle.key_files.specs.declared.cause.Cause.TheVariants as causes
 use Rattle.key_listing.specs.Carries.{Carries, IsEnded}
 use Rattle.key_listing.specs.Printer.{HasSaid, Printer}
@@ -330,8 +329,8 @@ nothing_begun now = record {
   since = tt;
 }
 
-pub nothing_named : (fault : FileFault) (now : State) → AuditsBy [] (Some (stops.NoNames fault)) now now
-nothing_named fault now = record {
+pub nothing_named : (now : State) → AuditsBy [] (Some stops.NoNames) now now
+nothing_named now = record {
   judge = refl;
   audits = λ entries means. record {
     says = λ before said has.
@@ -351,7 +350,7 @@ tallied_then reasons xs ys (Some stops.Revoked) old mid new first second =
     second ∙ ap (λ (t : Tally). all_tallied reasons t ys) first ∙ sym (tallied_append reasons old xs ys)
 tallied_then reasons xs ys (Some stops.NoMemory) old mid new first second = tt
 tallied_then reasons xs ys (Some (stops.Lost count)) old mid new first second = tt
-tallied_then reasons xs ys (Some (stops.NoNames fault)) old mid new first second = tt
+tallied_then reasons xs ys (Some stops.NoNames) old mid new first second = tt
 
 audits_then : (reasons : Subject → Reasons) (xs ys : List Visit) (stop : Option Stop) (old mid new : State) → mid.judge ≡ old.judge
     → Audits reasons xs None old mid → Audits reasons ys stop mid new → Audits reasons (xs ++ ys) stop old new

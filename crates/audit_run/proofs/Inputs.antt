@@ -4,14 +4,13 @@ use Rattle.std.proofs.Common.{Result, Ok, Err, sym, ap, subst, inl, inr, ◌∙�
 use Rattle.std.specs.Io.KnownBytes.{Consumes, IsAtEnd}
 use Rattle.std.specs.Result.{result_err}
 use Rattle.std.specs.Prelude.{is_ok}
-use Rattle.key_files.specs.declared.file_fault.FileFault.{FileFault}
 use Rattle.audit_run.specs.Fact.{Fact}
 use Rattle.audit_run.specs.Named.{Each, IsOnList, IsOnNames, names_to, none, rest_after}
 use Rattle.audit_run.specs.Names.{names_after}
 use Rattle.audit_run.specs.Visits.{AuditsBy, Begun, Goes, Meets, State, Visit, Went}
 use Rattle.audit_run.specs.declared.stop.Stop.{Stop}
 use Rattle.audit_run.specs.declared.stop.Stop.TheVariants as stops
-use Rattle.audit_run.proofs.Auditing.{by_then, nothing_begun, nothing_met, nothing_named}
+use Rattle.audit_run.proofs.Auditing.{by_then, nothing_begun, nothing_met}
 use Rattle.audit_run.proofs.Naming.{Listed, all_listed, cut_listed, ended_names, ended_rest, lost_listed, more_listed, more_names}
 use Rattle.audit_run.proofs.Naming.{more_rest, names_cut, names_none, none_listed, rest_none}
 use Rattle.audit_run.proofs.Rows.{each_one, each_then}
@@ -143,14 +142,14 @@ listed_all Knows every all old new name result begun mid now was comes end went 
 }
 
 -- no more names could be read
-pub listed_lost : (Knows : Fact → Type 0) (every : Bool) (all old : Option (List ℕ)) (name : List ℕ) (fault : FileFault)
-    (begun now : State) → HasListed Knows every all old name begun now → AuditsBy [] (Some (stops.NoNames fault)) now now
-    → Went {A = Unit {0}} (λ whole. IsOnNames Knows every whole all) (Err (stops.NoNames fault)) begun now
-listed_lost Knows every all old name fault begun now was stopped = record {
+pub listed_lost : (Knows : Fact → Type 0) (every : Bool) (all old : Option (List ℕ)) (name : List ℕ) (begun now : State)
+    → HasListed Knows every all old name begun now → AuditsBy [] (Some stops.NoNames) now now
+    → Went {A = Unit {0}} (λ whole. IsOnNames Knows every whole all) (Err stops.NoNames) begun now
+listed_lost Knows every all old name begun now was stopped = record {
   visits = was.visits;
   is = lost_listed Knows every all old was.front was.visits was.is;
-  audits = subst (λ (v : List Visit). AuditsBy v (Some (stops.NoNames fault)) begun now) (append-nil was.visits)
-      (by_then was.visits [] (Some (stops.NoNames fault)) begun now now was.audits stopped);
+  audits = subst (λ (v : List Visit). AuditsBy v (Some stops.NoNames) begun now) (append-nil was.visits)
+      (by_then was.visits [] (Some stops.NoNames) begun now now was.audits stopped);
 }
 
 -- ---- what was met is audited
@@ -184,7 +183,3 @@ went_as result Is Also old new goes was =
 pub went_nothing : (Also : Bool → List Visit → Type 0) (now : State) → Also false []
     → Went {A = Unit {0}} Also (Err stops.NoMemory) now now
 went_nothing Also now nothing = record { visits = []; is = nothing; audits = (nothing_begun now).audits }
-
-pub went_no_names : (Also : Bool → List Visit → Type 0) (fault : FileFault) (now : State) → Also false []
-    → Went {A = Unit {0}} Also (Err (stops.NoNames fault)) now now
-went_no_names Also fault now nothing = record { visits = []; is = nothing; audits = nothing_named fault now }

@@ -3,9 +3,7 @@ use Rattle.std.proofs.Common.{◌≡◌, ℕ, Bool, true, false, List, [], ◌�
 use Rattle.std.proofs.Common.{refl, sym, ap, subst, ◌∙◌, append_assoc}
 use Rattle.std.specs.Prelude.{IsTrue, not, ◌↔◌}
 use Rattle.std.specs.Result.{result_err}
-use Rattle.key_files.specs.RunFault.{RunFault, EndedBy, ByInput, ByMemory, ByOutput, ended_by, run_fault_of}
-use Rattle.key_files.specs.declared.cause.Cause.TheVariants as causes
-use Rattle.key_files.specs.declared.file_fault.FileFault.{FileFault}
+use Rattle.key_files.specs.RunFault.{RunFault, EndedBy, ByInput, ByMemory, ByOutput, ended_by}
 use Rattle.key_listing.specs.Carries.{Carries, IsEnded, Reaches}
 use Rattle.key_listing.specs.Done.{Ends}
 use Rattle.key_listing.specs.Printer.{HasSaid, Printer}
@@ -17,7 +15,7 @@ use Rattle.krl_audit.specs.declared.counts.Counts.{Counts}
 use Rattle.krl_audit.specs.declared.judge.Judge.{Judge}
 use Rattle.krl_audit.specs.declared.judge.Shown.{Shown}
 use Rattle.audit_run.specs.Fact.{Fact}
-use Rattle.audit_run.specs.Run.{AreGiven, IsAudit, all_audited, ended_at_revoked, last_items, lost, no_names, ran_out, stop_fault}
+use Rattle.audit_run.specs.Run.{AreGiven, IsAudit, all_audited, ended_at_revoked, last_items, lost, names_fault, no_names, ran_out, stop_fault}
 use Rattle.audit_run.specs.Visits.{Audits, Says, State, Tally, Visit, visits_items}
 use Rattle.audit_run.specs.declared.run.Order.{Order}
 use Rattle.audit_run.specs.declared.run.Queried.{Queried}
@@ -25,7 +23,7 @@ use Rattle.audit_run.specs.declared.stop.Stop.{Stop}
 use Rattle.audit_run.specs.declared.stop.Stop.TheVariants as stops
 
 -- An audit came to an end: what it printed, and how far it came.
-abbrev pub Ended : (Fact → Type 0) → Order → Queried → Option (Result (Option (List ℕ)) FileFault) → List Entry → Option (List ℕ)
+abbrev pub Ended : (Fact → Type 0) → Order → Queried → Option (Option (List ℕ)) → List Entry → Option (List ℕ)
     → Option RunFault → State → State → Type 0
 Ended Knows order queried names entries before stop old new =
     (run : List Item)
@@ -39,7 +37,7 @@ said_so : (order : Order) (entries : List Entry) (visits : List Visit) (stop : O
 said_so order entries visits stop before old new shown audits said =
     subst (λ (s : Shown). Says before (visits_items (reasons_of entries) s visits) stop new) shown (audits.says before [] said)
 
-pub ended_all : (Knows : Fact → Type 0) (order : Order) (queried : Queried) (names : Option (Result (Option (List ℕ)) FileFault))
+pub ended_all : (Knows : Fact → Type 0) (order : Order) (queried : Queried) (names : Option (Option (List ℕ)))
     (entries : List Entry) (before : Option (List ℕ)) (visits : List Visit) (result : Result (Unit {0}) RunFault) (old mid new : State)
     → AreGiven Knows order.every_file true names order.paths.now visits → Audits (reasons_of entries) visits None old mid
     → Carries (last_items order.list.now queried mid.tally) result mid.printer new.printer → new.tally ≡ mid.tally
@@ -68,7 +66,7 @@ some_is : {A : Type 0} (x : A) → Some x ≡ None → ⊥
 some_is x is = cc
 
 -- an audit was stopped
-pub ended_stopped : (Knows : Fact → Type 0) (order : Order) (queried : Queried) (names : Option (Result (Option (List ℕ)) FileFault))
+pub ended_stopped : (Knows : Fact → Type 0) (order : Order) (queried : Queried) (names : Option (Option (List ℕ)))
     (entries : List Entry) (before : Option (List ℕ)) (visits : List Visit) (stop : Stop) (old new : State)
     → AreGiven Knows order.every_file false names order.paths.now visits → Audits (reasons_of entries) visits (Some stop) old new
     → new.judge ≡ old.judge → old.judge.shown ≡ order.shown → HasSaid before [] old.printer
@@ -126,9 +124,9 @@ ended_stopped Knows order queried names entries before visits (stops.Lost count)
     (said_so order entries visits (Some (stops.Lost count)) before old new shown audits said, audits.writer),
   ),
 )
-ended_stopped Knows order queried names entries before visits (stops.NoNames fault) old new given audits judge shown said =
+ended_stopped Knows order queried names entries before visits stops.NoNames old new given audits judge shown said =
     let items = visits_items (reasons_of entries) order.shown visits in
-    let end = run_fault_of order.names_from.now (causes.File fault) in (
+    let end = names_fault order.names_from.now in (
       items ++ Stopped end ∷ [],
       (
         record {
@@ -136,7 +134,7 @@ ended_stopped Knows order queried names entries before visits (stops.NoNames fau
           whole = false;
           given = given;
           timely = audits.timely;
-          is_run = no_names fault refl refl refl;
+          is_run = no_names refl refl refl;
           tally_is = λ none. absurd (some_is _ none);
         },
         (
@@ -144,7 +142,7 @@ ended_stopped Knows order queried names entries before visits (stops.NoNames fau
             said = items;
             later = [];
             parts = refl;
-            has_said = said_so order entries visits (Some (stops.NoNames fault)) before old new shown audits said;
+            has_said = said_so order entries visits (Some stops.NoNames) before old new shown audits said;
           },
           audits.writer,
         ),

@@ -5,3 +5,4 @@ pub mod Entries
 pub mod Walk
 pub mod Named
 pub mod Run
+pub mod Options

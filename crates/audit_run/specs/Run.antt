@@ -1,11 +1,11 @@
 -- The whole audit, from a list that was read and what a tree states to the text and the status.
 use Rattle.std.specs.Prelude.{◌≡◌, ℕ, ◌<◌, Bool, true, false, List, [], ◌∷◌, ◌++◌, codes}
-use Rattle.std.specs.Prelude.{Option, Some, None, Result, Ok, Err, is_some, ◌↔◌}
+use Rattle.std.specs.Prelude.{Option, Some, None, is_some, ◌↔◌}
 use Rattle.std.specs.Borrow.{Bor}
 use Rattle.json_lines.specs.Field.{json_line}
 use Rattle.key_files.specs.RunFault.{RunFault, output_run_fault, run_fault_of}
 use Rattle.key_files.specs.declared.cause.Cause.TheVariants.{File, NoMemory}
-use Rattle.key_files.specs.declared.file_fault.FileFault.{FileFault}
+use Rattle.key_files.specs.declared.file_fault.FileFault.TheVariants.{Read}
 use Rattle.key_listing.specs.Carries.{Reaches}
 use Rattle.key_listing.specs.Printer.{HasSaid}
 use Rattle.key_listing.specs.Run.{Item, Passed, Stopped, said_of}
@@ -26,7 +26,7 @@ use Rattle.krl_format.specs.Krl.{SpelledSection, Spells}
 use Rattle.krl_format.specs.declared.header.Header.{Header}
 use Rattle.audit_run.specs.Fact.{Fact}
 use Rattle.audit_run.specs.Named.{AreNamed, IsOnNames}
-use Rattle.audit_run.specs.Visits.{AreTimely, State, Tally, Visit, all_tallied, no_files}
+use Rattle.audit_run.specs.Visits.{AreTimely, State, Tally, Visit, all_tallied, nothing_tallied}
 use Rattle.audit_run.specs.Visits.{visits_items}
 use Rattle.audit_run.specs.declared.run.Audited.{Audited}
 use Rattle.audit_run.specs.declared.run.Audited.TheVariants as ends
@@ -37,25 +37,22 @@ use Rattle.audit_run.specs.declared.stop.Stop.TheVariants as stops
 
 -- ---- what is audited
 
--- the bytes of the names that are given, as far as their reader knows them
-abbrev pub given_names : {N : Type 0} → (N → Option (List ℕ)) → Option (Result N FileFault)
-    → Option (Result (Option (List ℕ)) FileFault)
+-- the bytes of the names that a reader gives, if there is one, as far as it knows them
+abbrev pub given_names : {N : Type 0} → (N → Option (List ℕ)) → Option N
+    → Option (Option (List ℕ))
 given_names left None = None
-given_names left (Some (Ok names)) = Some (Ok (left names))
-given_names left (Some (Err fault)) = Some (Err fault)
+given_names left (Some names) = Some (left names)
 
 -- First what the names lead to that a reader gives, and then what those lead to that the command
 -- names.
 pub data AreGiven (Knows : Fact → Type 0) (every whole : Bool)
-    (names : Option (Result (Option (List ℕ)) FileFault)) (paths : List (Bor (List ℕ)))
+    (names : Option (Option (List ℕ))) (paths : List (Bor (List ℕ)))
     (visits : List Visit) : Type 0 where
   no_list : names ≡ None → AreNamed Knows every whole paths visits
       → AreGiven Knows every whole names paths visits
-  unopened : (fault : FileFault) → names ≡ Some (Err fault) → whole ≡ false → visits ≡ []
-      → AreGiven Knows every whole names paths visits
-  in_names : (left : Option (List ℕ)) → names ≡ Some (Ok left) → whole ≡ false
+  in_names : (left : Option (List ℕ)) → names ≡ Some left → whole ≡ false
       → IsOnNames Knows every false left visits → AreGiven Knows every whole names paths visits
-  after_names : (left : Option (List ℕ)) (first rest : List Visit) → names ≡ Some (Ok left)
+  after_names : (left : Option (List ℕ)) (first rest : List Visit) → names ≡ Some left
       → IsOnNames Knows every true left first → AreNamed Knows every whole paths rest
       → visits ≡ first ++ rest → AreGiven Knows every whole names paths visits
 
@@ -74,16 +71,21 @@ last_if (Some sha256) name queried tally =
 abbrev pub last_items : (name : List ℕ) → Queried → Tally → List Item
 last_items name queried tally = last_if queried.sha256 name queried tally
 
+-- the fault of a reader of names that failed
+abbrev pub names_fault : (names_from : List ℕ) → RunFault
+names_fault from = run_fault_of from (File Read)
+
 -- the fault of an audit that was stopped, if it is one
 abbrev pub stop_fault : (names_from : List ℕ) → Stop → Option RunFault
 stop_fault from stops.Revoked = None
 stop_fault from stops.NoMemory = Some (run_fault_of (codes "memory") NoMemory)
 stop_fault from (stops.Lost count) = Some (output_run_fault count)
-stop_fault from (stops.NoNames fault) = Some (run_fault_of from (File fault))
+stop_fault from stops.NoNames = Some (names_fault from)
 
--- What is printed of this, and the end of an audit that printed it: all of it, and the last object;
--- that up to the first file with a revoked key, where no finding is asked for; what was printed
--- when an allocation or the output failed; or that up to where no name could be read.
+-- The items that an audit of this prints, by its end: all of them, and the last object; those up to
+-- the first file with a revoked key, where no finding is asked for; those that were printed when an
+-- allocation or the output failed; or those up to where the reader of names failed, whose fault ends
+-- the audit.
 pub data IsRunOf (order : Order) (items last : List Item) (whole : Bool) (tally : Tally)
     (stop : Option RunFault) (run : List Item) : Type 0 where
   all_audited : whole ≡ true → run ≡ items ++ last → IsRunOf order items last whole tally stop run
@@ -94,14 +96,13 @@ pub data IsRunOf (order : Order) (items last : List Item) (whole : Bool) (tally 
       → run ≡ said ++ Passed (codes "memory") ∷ [] → IsRunOf order items last whole tally stop run
   lost : (count : ℕ) → stop ≡ Some (output_run_fault count) → run ≡ items
       → IsRunOf order items last whole tally stop run
-  no_names : (fault : FileFault) → whole ≡ false
-      → stop ≡ Some (run_fault_of order.names_from.now (File fault))
-      → run ≡ items ++ Stopped (run_fault_of order.names_from.now (File fault)) ∷ []
+  no_names : whole ≡ false → stop ≡ Some (names_fault order.names_from.now)
+      → run ≡ items ++ Stopped (names_fault order.names_from.now) ∷ []
       → IsRunOf order items last whole tally stop run
 
 -- An audit by these entries meets this, with each file once, and prints it.
 pub record IsAudit (Knows : Fact → Type 0) (order : Order) (queried : Queried)
-    (names : Option (Result (Option (List ℕ)) FileFault)) (entries : List Entry) (old tally : Tally)
+    (names : Option (Option (List ℕ))) (entries : List Entry) (old tally : Tally)
     (stop : Option RunFault) (run : List Item) : Type 0 where
   pub visits : List Visit
   pub whole : Bool
@@ -113,18 +114,13 @@ pub record IsAudit (Knows : Fact → Type 0) (order : Order) (queried : Queried)
 
 -- All was audited after nothing was printed, or the audit was stopped.
 abbrev pub AuditsAll : (Fact → Type 0) → Order → Queried
-    → Option (Result (Option (List ℕ)) FileFault) → Option RunFault → State → State → Type 0
+    → Option (Option (List ℕ)) → Option RunFault → State → State → Type 0
 AuditsAll Knows order queried names stop old new =
     (entries : List Entry) (before : Option (List ℕ)) → Means old.judge.list.now entries
     → old.judge.shown ≡ order.shown → HasSaid before [] old.printer
     → (run : List Item)
     × (IsAudit Knows order queried names entries old.tally new.tally stop run
     × (Reaches before run stop new.printer × (new.printer.writer ≡ old.printer.writer)))
-
--- no file was audited
-abbrev pub nothing_tallied : Tally
-nothing_tallied =
-    record { counts = record { keys = 0; revoked = 0; unread = 0 }; files = no_files }
 
 abbrev pub summary_of : Tally → Queried → Summary
 summary_of tally queried = record {
@@ -134,12 +130,18 @@ summary_of tally queried = record {
   stated = queried.stated;
 }
 
--- The end of an audit. One that was stopped has a fault.
+-- the summary of an audit that no fault stopped
+abbrev pub summary_unless : Option RunFault → Summary → Option Summary
+summary_unless None summary = Some summary
+summary_unless (Some fault) summary = None
+
+-- The end of an audit. One that was stopped has a fault, and no summary.
 pub record EndsAuditBy (Knows : Fact → Type 0) (order : Order) (queried : Queried)
-    (names : Option (Result (Option (List ℕ)) FileFault)) (before after : Option (List ℕ))
-    (failed : Bool) (summary : Summary) (status : ℕ) (fault : Option RunFault) : Type 0 where
+    (names : Option (Option (List ℕ))) (before after : Option (List ℕ))
+    (failed : Bool) (summary : Option Summary) (status : ℕ) (fault : Option RunFault)
+    : Type 0 where
   pub tally : Tally
-  pub summary_is : summary ≡ summary_of tally queried
+  pub summary_is : summary ≡ summary_unless fault (summary_of tally queried)
   pub ends : (entries : List Entry) → Means queried.list.now entries
       → (stop : Option RunFault) × (run : List Item)
       × (IsAudit Knows order queried names entries nothing_tallied tally stop run
@@ -168,8 +170,8 @@ pub data HasOther (list : ReadList) (bytes : List ℕ) (other : Bool) : Type 0 w
 
 -- an audit by a list that was read from these bytes
 pub record AuditsRead (Knows : Fact → Type 0) (order : Order) (bytes : List ℕ)
-    (names : Option (Result (Option (List ℕ)) FileFault)) (before after : Option (List ℕ))
-    (failed : Bool) (done : Done) (summary : Summary) : Type 0 where
+    (names : Option (Option (List ℕ))) (before after : Option (List ℕ))
+    (failed : Bool) (done : Done) (summary : Option Summary) : Type 0 where
   pub list : ReadList
   pub queried : Queried
   pub is_read : IsReadList (is_hashed order.shown) bytes list
@@ -182,7 +184,7 @@ pub record AuditsRead (Knows : Fact → Type 0) (order : Order) (bytes : List �
 
 -- The end of an audit by a list with these bytes. Where no audit is made nothing is printed.
 abbrev pub EndsAuditRun : (Fact → Type 0) → Order → (bytes : List ℕ)
-    → Option (Result (Option (List ℕ)) FileFault) → (before after : Option (List ℕ)) → Bool
+    → Option (Option (List ℕ)) → (before after : Option (List ℕ)) → Bool
     → Audited → Type 0
 EndsAuditRun Knows order bytes names before after failed (ends.Ended done summary) =
     AuditsRead Knows order bytes names before after failed done summary

@@ -89,6 +89,11 @@ with_skipped count files = record files {
   counts = record files.counts { skipped = min (files.counts.skipped + count) (2 ^ 64 - 1) };
 }
 
+-- no file was audited
+abbrev pub nothing_tallied : Tally
+nothing_tallied =
+    record { counts = record { keys = 0; revoked = 0; unread = 0 }; files = no_files }
+
 abbrev pub tally_with : Option (List ℕ) → Tally → Counts → Tally
 tally_with key tally counts = record {
   counts = counts;
@@ -135,6 +140,15 @@ pub record State : Type 0 where
   pub tally : Tally
   pub since : Since
 
+-- nothing was met yet
+abbrev pub at_start : Judge → Printer → State
+at_start judge printer = record {
+  judge = judge;
+  printer = printer;
+  tally = nothing_tallied;
+  since = record { gave = false; passed = false };
+}
+
 -- All of the first items were printed.
 pub record IsFront (before : Option (List ℕ)) (items : List Item) (now : Printer) : Type 0 where
   pub said : List Item
@@ -154,7 +168,7 @@ IsStopped before items stops.Revoked now =
     HasSaid before items now.printer
     × ((now.judge.shown.revoked ≡ false) × (0 < now.tally.counts.revoked))
 IsStopped before items stops.NoMemory now = IsFront before items now.printer
-IsStopped before items (stops.NoNames fault) now = HasSaid before items now.printer
+IsStopped before items stops.NoNames now = HasSaid before items now.printer
 IsStopped before items (stops.Lost count) now =
     IsLost before items count (output_run_fault count) now.printer
 
@@ -168,7 +182,7 @@ IsTallied reasons visits None old new = new ≡ all_tallied reasons old visits
 IsTallied reasons visits (Some stops.Revoked) old new = new ≡ all_tallied reasons old visits
 IsTallied reasons visits (Some stops.NoMemory) old new = Unit {0}
 IsTallied reasons visits (Some (stops.Lost count)) old new = Unit {0}
-IsTallied reasons visits (Some (stops.NoNames fault)) old new = Unit {0}
+IsTallied reasons visits (Some stops.NoNames) old new = Unit {0}
 
 -- This was met after whatever was met before: it was printed and counted, or the audit was stopped
 -- within it. Each file is audited once.

@@ -6,6 +6,7 @@ mod files;
 mod kind;
 mod named;
 mod names;
+mod options;
 mod round;
 mod run;
 mod stop;
@@ -13,6 +14,7 @@ mod tree;
 mod walk;
 
 pub use kind::{Found, Identity, Kind, Opened, What};
+pub use options::Options;
 pub use round::Screen;
 pub use run::{Audited, Given, Order, audit_run};
 pub use tree::Tree;

@@ -17,7 +17,6 @@ use crate::stop::Stop;
 use crate::tree::Tree;
 use crate::walk::audit_directory;
 use byte_streams::Source;
-use key_files::FileFault;
 use krl_audit::{Refusal, visible_name};
 use std::alloc::AllocError;
 use std::str;
@@ -26,10 +25,6 @@ use std::str;
 const BUFFER: usize = 8_192;
 // The most bytes of a name. Linux opens no path of more.
 const NAME_LIMIT: usize = 4_096;
-
-const UNREAD: Stop = Stop::NoNames {
-    fault: FileFault::Read,
-};
 
 /// Audits the files and directories that the command names.
 pub(crate) fn audit_paths<T: Tree, W: Screen>(
@@ -104,14 +99,14 @@ pub(crate) fn audit_listed<T: Tree, N: Source, W: Screen>(
     // A bound that no reader reaches, so that this ends whatever the system returns.
     'batches: for _part in 0..u64::MAX {
         let Ok(count) = names.read(&mut batch) else {
-            return Err(UNREAD);
+            return Err(Stop::NoNames);
         };
         if count == 0 {
             return end_listed(tree, round, every, name.as_slice());
         }
         take_listed(tree, round, every, &batch[..count], &mut name)?;
     }
-    Err(UNREAD)
+    Err(Stop::NoNames)
 }
 
 // Audits the names that end in these bytes, of which the first one may have begun before.

@@ -3,15 +3,17 @@
 ghost use Rattle.std.specs.Prelude.{◌≡◌, ◌&&◌, ◌∷◌, [], IfSome, None, not, true, false};
 ghost use Rattle.std.specs.Result.{result_err};
 ghost use Rattle.krl_audit.specs.Audit.{content_of};
-ghost use Rattle.audit_run.specs.Visits.{Audited, Meets, Same, Skipped, is_seen, stop_for};
+ghost use Rattle.audit_run.specs.Visits.{Audited, Meets, Same, Skipped, at_start, is_seen};
+ghost use Rattle.audit_run.specs.Visits.{stop_for};
 
 use crate::files::{Files, Key, Since};
 use crate::stop::Stop;
 use audit_tree::Summary;
 use byte_streams::Sink;
 use key_files::{Cause, RunFault};
-use krl_audit::{Auditor, Refusal, Shown, Stated};
-use std::alloc::AllocError;
+use key_listing::{Printer, Run};
+use krl_audit::{Auditor, Counts, Judge, Refusal, Shown, Stated};
+use std::alloc::{AllocError, Global};
 use std::marker::Model;
 
 /// Where findings are printed, and how far the audit is may be shown.
@@ -48,6 +50,33 @@ impl<'q, 'w, W: Screen> Model for Round<'q, 'w, W> {
 }
 
 impl<'q, 'w, W: Screen> Round<'q, 'w, W> {
+    /// A round in which nothing was met yet.
+    pub(crate) fn new(
+        alloc: Global,
+        judge: Judge<'q>,
+        printer: Printer<'w, W>,
+        stated: Option<Stated>,
+    ) -> Self
+        ensures { result ≡ at_start judge.entry printer.entry }
+    {
+        let run = Run {
+            alloc,
+            printer,
+            line: Vec::new(alloc),
+        };
+        Round {
+            auditor: Auditor {
+                judge,
+                run,
+                counts: Counts::NONE,
+            },
+            files: Files::new(alloc),
+            since: Since::NOTHING,
+            stated,
+            text: Vec::new(alloc),
+        }
+    }
+
     /// The counts so far.
     pub(crate) fn summary(&self) -> Summary {
         Summary {

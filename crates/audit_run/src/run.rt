@@ -1,15 +1,15 @@
 //! The whole audit.
 
-ghost use Rattle.std.specs.Prelude.{◌≡◌, List, Option, Some, Ok, false, IfSome, IfOk};
+ghost use Rattle.std.specs.Prelude.{◌≡◌, List, Option, Some, false, IfSome};
 ghost use Rattle.std.specs.Result.{result_err};
 ghost use Rattle.krl_types.specs.Entry.{Entry};
 ghost use Rattle.krl_entries.specs.Revocations.{Means};
 ghost use Rattle.key_listing.specs.Carries.{Carries};
 ghost use Rattle.audit_run.specs.Run.{AreGiven, AuditsAll, EndsAuditBy, EndsAuditRun, HasOther};
 ghost use Rattle.audit_run.specs.Run.{given_names, is_hashed, last_items, stop_fault};
+ghost use Rattle.audit_run.specs.Run.{summary_of, summary_unless};
 ghost use Rattle.audit_run.specs.Visits.{Went};
 
-use crate::files::{Files, Since};
 use crate::named::{audit_listed, audit_paths};
 use crate::round::{Round, Screen};
 use crate::stop::Stop;
@@ -19,7 +19,7 @@ use audit_tree::Summary;
 use byte_streams::Source;
 use key_files::{Cause, FileFault, RunFault};
 use key_listing::{Done, Printer, Run};
-use krl_audit::{Auditor, Counts, Form, Judge, ListFacts, Shown, Stated};
+use krl_audit::{Auditor, Form, Judge, ListFacts, Shown, Stated};
 use krl_authority::authorities_are_keys;
 use krl_entries::Revocations;
 use span_sets::Held;
@@ -52,18 +52,21 @@ struct Queried<'q> {
     sha256: Option<[u8; 32]>,
 }
 
-/// Where files are found, and a reader of names of files, or why it cannot be had.
+/// Where files are found, and a reader of names of files, if there is one.
 #[derive(Drop)]
 pub struct Given<'t, T: Tree, N: Source + Drop> {
     pub tree: &'t T,
-    pub names: Option<Result<N, FileFault>>,
+    pub names: Option<N>,
 }
 
 /// The end of an audit.
 #[derive(Drop)]
 pub enum Audited<'a> {
-    /// The audit came to an end, and this was counted.
-    Ended { done: Done<'a>, summary: Summary },
+    /// The audit came to an end. One that no fault stopped has a summary.
+    Ended {
+        done: Done<'a>,
+        summary: Option<Summary>,
+    },
     /// The list names a certificate authority that is no key in its one spelling.
     OtherAuthority,
     /// The list is refused.
@@ -74,7 +77,7 @@ pub enum Audited<'a> {
 #[derive(Drop)]
 struct Counted<'a> {
     done: Done<'a>,
-    summary: Summary,
+    summary: Option<Summary>,
 }
 
 /// Audits what the command asks for, given the bytes of the list. No audit is made by a list whose
@@ -89,8 +92,7 @@ pub fn audit_run<'a, T: Tree, N: Source + Drop, W: Screen>(
     out: &mut W,
 ) -> Audited<'a>
     requires working { W.Sink.has_failed out.old ≡ false }
-    requires names { IfSome given.names (λ names. IfOk names (λ names.
-        N.has_failed names ≡ false)) }
+    requires names { IfSome given.names (λ names. N.has_failed names ≡ false) }
     ensures { EndsAuditRun (T.states given.entry.tree.now) order.now list
         (given_names N.left given.entry.names) (W.Sink.taken out.old) (W.Sink.taken out.new)
         (W.Sink.has_failed out.new) result }
@@ -140,41 +142,22 @@ fn audit_by<'a, T: Tree, N: Source + Drop, W: Screen>(
 ) -> Counted<'a>
     requires read { (entries : List Entry) × Means queried.now.list.now entries }
     requires working { W.Sink.has_failed out.old ≡ false }
-    requires names { IfSome given.names (λ names. IfOk names (λ names.
-        N.has_failed names ≡ false)) }
+    requires names { IfSome given.names (λ names. N.has_failed names ≡ false) }
     ensures { EndsAuditBy (T.states given.entry.tree.now) order.now queried.now
         (given_names N.left given.entry.names) (W.Sink.taken out.old)
         (W.Sink.taken out.new) (W.Sink.has_failed out.new) result.summary result.done.status
         result.done.fault }
 {
     let mut buffer = Vec::new(alloc);
-    let auditor = Auditor {
-        judge: Judge {
-            list: queried.list,
-            shown: order.shown,
-        },
-        run: Run {
-            alloc,
-            printer: Printer::new(&mut buffer, out),
-            line: Vec::new(alloc),
-        },
-        counts: Counts::NONE,
+    let printer = Printer::new(&mut buffer, out);
+    let judge = Judge {
+        list: queried.list,
+        shown: order.shown,
     };
-    let mut round = Round {
-        auditor,
-        files: Files::new(alloc),
-        since: Since::NOTHING,
-        stated: queried.stated,
-        text: Vec::new(alloc),
-    };
+    let mut round = Round::new(alloc, judge, printer, queried.stated);
     let Given { tree, names } = given;
     let stop = audit_all(tree, &mut round, order, queried, names);
-    let summary = Summary {
-        files: round.files.counts,
-        revoked_files: round.files.revoked,
-        counts: round.auditor.counts,
-        stated: queried.stated,
-    };
+    let summary = summary_of(&round, queried);
     let Round {
         auditor,
         files: _files,
@@ -189,12 +172,31 @@ fn audit_by<'a, T: Tree, N: Source + Drop, W: Screen>(
     } = run;
     let fault = printer.finish(stop).fault;
     let Printer { out: _out, .. } = printer;
-    Counted {
-        done: Done {
-            status: summary.counts.status(fault.is_some()),
-            fault,
-        },
-        summary,
+    let status = summary.counts.status(fault.is_some());
+    let summary = summary_unless(&fault, summary);
+    let done = Done { status, fault };
+    Counted { done, summary }
+}
+
+// The counts of an audit, and the list that it queried.
+fn summary_of<W: Screen>(round: &Round<'_, '_, W>, queried: &Queried<'_>) -> Summary
+    ensures { result ≡ summary_of round.now.tally queried.now }
+{
+    Summary {
+        files: round.files.counts,
+        revoked_files: round.files.revoked,
+        counts: round.auditor.counts,
+        stated: queried.stated,
+    }
+}
+
+// The summary of an audit that no fault stopped.
+fn summary_unless(fault: &Option<RunFault>, summary: Summary) -> Option<Summary>
+    ensures { result ≡ summary_unless fault.now summary }
+{
+    match fault {
+        None => Some(summary),
+        Some(_) => None,
     }
 }
 
@@ -204,11 +206,10 @@ fn audit_all<'a, T: Tree, N: Source + Drop, W: Screen>(
     round: &mut Round<'_, '_, W>,
     order: &Order<'a>,
     queried: &Queried<'_>,
-    names: Option<Result<N, FileFault>>,
+    names: Option<N>,
 ) -> Option<RunFault<'a>>
     requires read { (entries : List Entry) × Means round.old.judge.list.now entries }
-    requires names { IfSome names (λ names. IfOk names (λ names.
-        N.has_failed names ≡ false)) }
+    requires names { IfSome names (λ names. N.has_failed names ≡ false) }
     ensures all { AuditsAll (T.states tree.now) order.now queried.now (given_names N.left names)
         result round.old round.new }
     ensures writer { round.new.printer.writer ≡ round.old.printer.writer }
@@ -224,19 +225,15 @@ fn audit_given<T: Tree, N: Source + Drop, W: Screen>(
     tree: &T,
     round: &mut Round<'_, '_, W>,
     order: &Order<'_>,
-    names: Option<Result<N, FileFault>>,
+    names: Option<N>,
 ) -> Result<(), Stop>
-    requires names { IfSome names (λ names. IfOk names (λ names.
-        N.has_failed names ≡ false)) }
+    requires names { IfSome names (λ names. N.has_failed names ≡ false) }
     ensures { Went (λ whole. AreGiven (T.states tree.now) order.now.every_file whole
         (given_names N.left names) order.now.paths.now) result round.old round.new }
 {
-    let Some(names) = names else {
-        return audit_paths(tree, round, order.every_file, order.paths);
-    };
     match names {
-        Ok(names) => audit_both(tree, round, order, names),
-        Err(fault) => Err(Stop::NoNames { fault }),
+        Some(names) => audit_both(tree, round, order, names),
+        None => audit_paths(tree, round, order.every_file, order.paths),
     }
 }
 
@@ -249,7 +246,7 @@ fn audit_both<T: Tree, N: Source + Drop, W: Screen>(
 ) -> Result<(), Stop>
     requires names { N.has_failed names ≡ false }
     ensures { Went (λ whole. AreGiven (T.states tree.now) order.now.every_file whole
-        (Some (Ok (N.left names))) order.now.paths.now) result round.old round.new }
+        (Some (N.left names)) order.now.paths.now) result round.old round.new }
 {
     let mut names = names;
     audit_listed(tree, round, order.every_file, &mut names)?;
@@ -264,7 +261,10 @@ fn stop_fault<'a>(order: &Order<'a>, stop: Stop) -> Option<RunFault<'a>>
         Stop::Revoked => None,
         Stop::NoMemory => Some(RunFault::whole("memory", Cause::NoMemory)),
         Stop::Lost { count } => Some(RunFault::whole("output", Cause::Output { count })),
-        Stop::NoNames { fault } => Some(RunFault::whole(order.names_from, Cause::File(fault))),
+        Stop::NoNames => {
+            let cause = Cause::File(FileFault::Read);
+            Some(RunFault::whole(order.names_from, cause))
+        }
     }
 }
 

@@ -3,7 +3,6 @@
 ghost use Rattle.std.specs.Prelude.{◌≡◌};
 ghost use Rattle.audit_run.specs.declared.stop.Stop.TheVariants.{NoMemory};
 
-use key_files::FileFault;
 use std::alloc::AllocError;
 
 /// Why an audit ends before all is read.
@@ -16,7 +15,7 @@ pub(crate) enum Stop {
     /// The output failed after this many bytes.
     Lost { count: u64 },
     /// The names of files cannot be read to their end.
-    NoNames { fault: FileFault },
+    NoNames,
 }
 
 impl From<AllocError> for Stop {

@@ -1,3 +1,9 @@
-//! What no contract says: an audit of a tree in memory.
+//! What no contract says: audits of trees in memory.
 
+mod audits;
+mod deep;
+mod entries;
+mod lists;
+mod names;
 mod page;
+mod shelf;

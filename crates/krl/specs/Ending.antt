@@ -1,6 +1,8 @@
 -- The lines of standard error.
 use Rattle.std.specs.Prelude.{ℕ, false, List, ◌++◌, codes}
 use Rattle.key_files.specs.RunFault.{RunFault, cause_text, line_part}
+use Rattle.audit_run.specs.declared.run.Audited.{Audited}
+use Rattle.audit_run.specs.declared.run.Audited.TheVariants as ends
 use Rattle.krl_audit.specs.Visible.{visible}
 
 -- a line about a file, in words
@@ -16,3 +18,9 @@ fault_line reason fault =
     ++ (visible false fault.name
     ++ (codes ": " ++ (line_part fault.line
     ++ (reason ++ (codes " [" ++ (cause_text fault.cause ++ codes "]\n"))))))
+
+-- the status after an audit: that of the run, or 255 if none was made
+abbrev pub audit_status : Audited → ℕ
+audit_status (ends.Ended done summary) = done.status
+audit_status ends.OtherAuthority = 255
+audit_status (ends.Refused stop) = 255

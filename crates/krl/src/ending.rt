@@ -3,16 +3,22 @@
 ghost use Rattle.std.specs.Prelude.{◌≡◌, IfOk};
 ghost use Rattle.key_files.specs.RunFault.{line_part};
 ghost use Rattle.krl_audit.specs.Causes.{cause_words};
-ghost use Rattle.krl.specs.Ending.{fault_line, words_line};
+ghost use Rattle.krl.specs.Ending.{audit_status, fault_line, words_line};
 
 use crate::Krl;
 use crate::loading::why_unopened;
+use audit_run::Audited;
+use audit_tree::{Summary, push_summary};
 use key_files::{Cause, FileFault, RunFault};
-use key_listing::{Done, FAILED};
+use key_listing::FAILED;
 use krl_audit::{Visible, cause_words, refusal_words};
 use line_pieces::{Printed, Words, put};
-use program_edge::{print_line, stop};
+use program_edge::{end, print_line, stop};
 use std::alloc::{AllocError, Global};
+
+// Why no audit is made by a list whose authorities OpenSSH compares otherwise.
+const OTHER_AUTHORITY: &[u8] = b"a certificate authority in it is no key in its one spelling, and \
+sshd may read it otherwise";
 
 // The number of a line, if there is one.
 #[derive(Clone, Copy)]
@@ -29,27 +35,6 @@ impl Printed for Line {
     }
 }
 
-/// Reports why the run stopped, if it did, and gives its status.
-pub fn end(rt: &HostRuntime, done: &Done) -> u8
-    ensures { result ≡ done.now.status }
-{
-    program_edge::end(rt, &Krl, done)
-}
-
-/// Ends a run that a file stopped before it began.
-pub fn fail(rt: &HostRuntime, name: &str, cause: Cause) -> u8
-    ensures { result ≡ 255 }
-{
-    stop(rt, &Krl, &RunFault::whole(name, cause))
-}
-
-/// Ends a run that this fault stopped before it began.
-pub fn fail_by(rt: &HostRuntime, fault: RunFault) -> u8
-    ensures { result ≡ 255 }
-{
-    stop(rt, &Krl, &fault)
-}
-
 /// Ends a run that cannot do what it was asked about this file, and says why.
 pub fn fail_in_words(rt: &HostRuntime, name: &str, why: &[u8]) -> u8
     ensures { result ≡ 255 }
@@ -58,6 +43,31 @@ pub fn fail_in_words(rt: &HostRuntime, name: &str, why: &[u8]) -> u8
         print_line(rt, line.as_slice());
     }
     FAILED
+}
+
+/// Ends an audit by the list of this name. Where none was made by it, the line says why.
+pub fn end_audit(rt: &HostRuntime, list: &str, audited: Audited) -> u8
+    ensures { result ≡ audit_status audited }
+{
+    match audited {
+        Audited::Ended { done, summary } => {
+            if let Some(summary) = summary {
+                print_summary(rt, &summary);
+            }
+            end(rt, &Krl, &done)
+        }
+        Audited::OtherAuthority => fail_in_words(rt, list, OTHER_AUTHORITY),
+        Audited::Refused(fault) => stop(rt, &Krl, &fault),
+    }
+}
+
+// Prints the last line of an audit on standard error. Where there is no memory for the line, nothing
+// is printed.
+fn print_summary(rt: &HostRuntime, summary: &Summary) {
+    let mut line = Vec::new(rt.alloc());
+    if push_summary(rt.alloc(), summary, &mut line).is_ok() {
+        print_line(rt, line.as_slice());
+    }
 }
 
 // The line about a file, in words.

@@ -13,7 +13,7 @@ batches-init g c = record {
 }
 
 pub returns-in_default : goal.returns-in_default
-returns-in_default g c = listed_lost _ _ _ _ _ _ _ _ c.batches.invariant.listed (nothing_named _ _)
+returns-in_default g c = listed_lost _ _ _ _ _ _ _ c.batches.invariant.listed (nothing_named _)
 
 pub returns-then-count-eq0 : goal.returns-then-count-eq0
 returns-then-count-eq0 g c =
@@ -42,4 +42,4 @@ batches-preserved g c =
     }
 
 pub returns : goal.returns
-returns g c = listed_lost _ _ _ _ _ _ _ _ c.batches.invariant.listed (nothing_named _ _)
+returns g c = listed_lost _ _ _ _ _ _ _ c.batches.invariant.listed (nothing_named _)

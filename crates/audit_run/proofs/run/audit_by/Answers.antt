@@ -9,10 +9,11 @@ returns g c =
     let inside = c.round.inside in
     record {
       tally = record { counts = inside.auditor.counts; files = inside.files };
-      summary_is = refl;
+      summary_is = search rules;
       ends = λ entries means.
           let taken = g.W.Sink.taken c.args.out.now in
-          let was = c.audit_all-stop.ensures.all entries taken means refl (rw (c.new.ensures, c.requires.working) (begun taken _)) in
-          let all = rw (c.new-3.ensures, sym c.round.view_is) at was in
+          let audits = rw c.new-round.ensures at c.audit_all-stop.ensures.all in
+          let was = audits entries taken means refl (rw (c.new-printer.ensures, c.requires.working) (begun taken _)) in
+          let all = rw (sym c.round.view_is) at was in
           (c.audit_all-stop.result, all.0, (all.1.0, (ends_there all.0 inside.auditor.counts taken _ _ _ _ _ _ (record { plain = c.finish.result.status; ends = c.finish.ensures.ends taken all.0 all.1.1.0; status_is = search rules }) (search rules) (search rules), stop_is_kept c.audit_all-stop.result all.0 taken _ _ _ _ _ all.1.1.0 c.finish.ensures.ends)));
     }

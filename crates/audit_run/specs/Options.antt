@@ -1,0 +1,21 @@
+-- Which findings are printed, and how, by the options of the command.
+use Rattle.std.specs.Prelude.{◌&&◌, Bool, true, false, not}
+use Rattle.krl_audit.specs.declared.judge.Form.{Form}
+use Rattle.krl_audit.specs.declared.judge.Form.TheVariants as forms
+use Rattle.krl_audit.specs.declared.judge.Shown.{Shown}
+use Rattle.audit_run.specs.declared.options.Options.{Options}
+
+-- No object is in colour, since programs read them.
+abbrev pub form_by : (json colours : Bool) → Form
+form_by true colours = forms.Json
+form_by false true = forms.Colour
+form_by false false = forms.Text
+
+-- Nothing is printed with -q, and keys that are not revoked are printed only with -a.
+abbrev pub shown_by : Options → Shown
+shown_by options = record {
+  revoked = not options.quiet;
+  unread = not options.quiet;
+  fine = options.all && not options.quiet;
+  form = form_by options.json options.colours;
+}

@@ -1,0 +1,44 @@
+//! Which findings are printed, and how, by the options of the command.
+
+ghost use Rattle.std.specs.Prelude.{◌≡◌};
+ghost use Rattle.audit_run.specs.Options.{form_by, shown_by};
+
+use krl_audit::{Form, Shown};
+
+/// The options of the command that say which findings are printed, and how.
+#[derive(Clone, Copy)]
+pub struct Options {
+    /// True if nothing is printed on standard output.
+    pub quiet: bool,
+    /// True if keys that are not revoked are printed too.
+    pub all: bool,
+    /// True if findings are printed as JSON objects.
+    pub json: bool,
+    /// True if standard output shows colours.
+    pub colours: bool,
+}
+
+impl Options {
+    /// Which findings are printed, and how.
+    pub fn shown(self) -> Shown
+        ensures { result ≡ shown_by self }
+    {
+        Shown {
+            revoked: !self.quiet,
+            unread: !self.quiet,
+            fine: self.all && !self.quiet,
+            form: form_by(self.json, self.colours),
+        }
+    }
+}
+
+// The form of the findings. No object is in colour, since programs read them.
+fn form_by(json: bool, colours: bool) -> Form
+    ensures { result ≡ form_by json colours }
+{
+    match (json, colours) {
+        (true, _) => Form::Json,
+        (false, true) => Form::Colour,
+        (false, false) => Form::Text,
+    }
+}
