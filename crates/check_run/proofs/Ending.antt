@@ -1,18 +1,26 @@
 -- The end of a check.
-use Rattle.std.proofs.Common.{◌≡◌, ℕ, ◌||◌, Bool, List, [], ◌∷◌, ◌++◌, Option, Some, None, Result, Ok, Err, refl, ap, ◌∙◌}
+use Rattle.std.proofs.Common.{◌≡◌, ℕ, ◌||◌, Bool, true, false, List, [], ◌∷◌, ◌++◌, Option, Some, None, Result, Ok, Err, refl, ap, ◌∙◌}
 use Rattle.std.specs.Prelude.{OnOk, is_some}
 use Rattle.std.specs.Result.{result_err}
 use Rattle.key_files.specs.RunFault.{RunFault}
 use Rattle.key_listing.specs.Carries.{Carries, Reaches}
+use Rattle.key_listing.specs.Done.{Ends}
 use Rattle.key_listing.specs.Printer.{HasSaid, Printer}
 use Rattle.key_listing.specs.Run.{Answered, Item, Passed, Stopped, outcome_of}
 use Rattle.key_listing.proofs.RunParts.{carries_more}
-use Rattle.krl_audit.specs.declared.why.Refusal.{Refusal}
+use Rattle.key_listing.specs.declared.done.Done.{Done}
+use Rattle.krl_arguments.specs.declared.task.Check.{Check}
+use Rattle.krl_format.specs.declared.header.Header.{Header}
+use Rattle.krl_types.specs.Entry.{Entry}
+use Rattle.plain_list.specs.Any.{Names}
 use Rattle.krl_checker.specs.Check.{EndsCheck, check_status}
+use Rattle.check_run.specs.Fact.{Fact}
 use Rattle.check_run.specs.Files.{Named}
-use Rattle.check_run.specs.Run.{ChecksAll, EndsChecked}
-use Rattle.check_run.specs.declared.given.Conditions.{Conditions}
-use Rattle.check_run.specs.declared.lists.Other.{Other}
+use Rattle.check_run.specs.Lists.{stated_by}
+use Rattle.check_run.specs.Run.{ChecksAll, EndsBeside, EndsChecked, EndsIf}
+use Rattle.check_run.specs.Version.{PrintsVersion}
+use Rattle.check_run.specs.declared.limits.Unanswered.{Unanswered}
+use Rattle.check_run.specs.declared.limits.Limits.{Limits}
 
 some_is : {A : Type 0} (x : A) → Some x ≡ None → ⊥
 some_is x is = cc
@@ -53,9 +61,9 @@ all_reached : (result : Result (Unit {0}) RunFault) (later : List Named) → res
 all_reached (Ok done) later is all = all
 all_reached (Err stop) later is all = absurd (some_is stop is)
 
-pub ended : (Knows : List ℕ → Result (List ℕ) Refusal → Type 0) (name bytes : List ℕ) (conditions : Conditions) (other : Option Other) (result : Result (Unit {0}) RunFault) (old mid : Printer) (before taken : Option (List ℕ)) (refused unread failed : Bool) (status : ℕ) (fault : Option RunFault)
-    → ChecksAll Knows name bytes conditions other result old mid refused unread → HasSaid before [] old → EndsAny result mid refused unread taken failed status fault → EndsChecked Knows name bytes conditions other before taken failed status fault
-ended Knows name bytes conditions other result old mid before taken refused unread failed status fault all has ends =
+pub ended : (Knows : Fact → Type 0) (name bytes : List ℕ) (task : Check) (limits : Limits) (result : Result (Unit {0}) RunFault) (old mid : Printer) (before taken : Option (List ℕ)) (refused unread failed : Bool) (status : ℕ) (fault : Option RunFault)
+    → ChecksAll Knows name bytes task limits result old mid refused unread → HasSaid before [] old → EndsAny result mid refused unread taken failed status fault → EndsChecked Knows name bytes task limits before taken failed status fault
+ended Knows name bytes task limits result old mid before taken refused unread failed status fault all has ends =
     let kept : fault ≡ None → result_err result ≡ None = stop_is_kept all.items result old mid before taken refused unread failed status fault all.checks.carries has ends in
     record {
       items = all.items;
@@ -68,6 +76,20 @@ ended Knows name bytes conditions other result old mid before taken refused unre
     }
 
 -- The final state of the printer's writer is that of the writer.
-pub ended_there : (Knows : List ℕ → Result (List ℕ) Refusal → Type 0) (name bytes : List ℕ) (conditions : Conditions) (other : Option Other) (before taken taken' : Option (List ℕ)) (failed failed' : Bool) (status : ℕ) (fault : Option RunFault)
-    → EndsChecked Knows name bytes conditions other before taken failed status fault → taken' ≡ taken → failed' ≡ failed → EndsChecked Knows name bytes conditions other before taken' failed' status fault
-ended_there Knows name bytes conditions other before taken taken' failed failed' status fault ends is_taken is_failed = rw (is_taken, is_failed) ends
+pub ended_there : (Knows : Fact → Type 0) (name bytes : List ℕ) (task : Check) (limits : Limits) (before taken taken' : Option (List ℕ)) (failed failed' : Bool) (status : ℕ) (fault : Option RunFault)
+    → EndsChecked Knows name bytes task limits before taken failed status fault → taken' ≡ taken → failed' ≡ failed → EndsChecked Knows name bytes task limits before taken' failed' status fault
+ended_there Knows name bytes task limits before taken taken' failed failed' status fault ends is_taken is_failed = rw (is_taken, is_failed) ends
+
+pub ends_there : (items : List Item) (before taken taken' : Option (List ℕ)) (failed failed' : Bool) (status : ℕ) (fault : Option RunFault)
+    → Ends items before taken failed status fault → taken' ≡ taken → failed' ≡ failed → Ends items before taken' failed' status fault
+ends_there items before taken taken' failed failed' status fault ends is_taken is_failed = rw (is_taken, is_failed) ends
+
+-- ---- the list is read
+
+pub ends_version : (only : Bool) (Knows : Fact → Type 0) (name bytes : List ℕ) (task : Check) (before after : Option (List ℕ)) (failed : Bool) (result : Result Done Unanswered) (header : Option Header) (entries : List Entry)
+    → only ≡ true → Names bytes header entries → PrintsVersion name (stated_by header) before after failed result → EndsIf only Knows name bytes task before after failed result
+ends_version only Knows name bytes task before after failed result header entries is names prints = rw is (header, entries, (names, prints))
+
+pub ends_beside : (only : Bool) (Knows : Fact → Type 0) (name bytes : List ℕ) (task : Check) (before after : Option (List ℕ)) (failed : Bool) (result : Result Done Unanswered)
+    → only ≡ false → EndsBeside Knows name bytes task before after failed result → EndsIf only Knows name bytes task before after failed result
+ends_beside only Knows name bytes task before after failed result is ends = rw is ends

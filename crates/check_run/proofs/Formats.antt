@@ -16,7 +16,7 @@ use Rattle.plain_list.specs.Any.{NamesIf, begins_list}
 use Rattle.any_list.specs.List.{IsReadList, stated_in}
 use Rattle.any_list.specs.declared.list.List.{List as ReadList}
 use Rattle.check_run.specs.Lists.{ChecksFormat, IsDifferenceIf}
-use Rattle.check_run.proofs.Checking.{checks_none, on_ok}
+use Rattle.check_run.proofs.Steps.{checks_none, on_ok}
 
 -- A list that states a version begins as a key revocation list, and has no fault.
 pub record IsWhole (bytes : List ℕ) : Type 0 where

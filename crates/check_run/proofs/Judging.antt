@@ -8,94 +8,94 @@ use Rattle.krl_types.specs.Entry.{Entry}
 use Rattle.krl_entries.specs.Reasons.{reasons_of}
 use Rattle.krl_entries.specs.Revocations.{Revocations}
 use Rattle.krl_audit.specs.declared.done.Stated.{Stated}
-use Rattle.krl_audit.specs.declared.why.Refusal.{Refusal}
+use Rattle.krl_arguments.specs.declared.task.Check.{Check}
 use Rattle.krl_checker.specs.Check.{NamesNobody, difference_items, names_nobody}
 use Rattle.any_list.specs.List.{IsReadList}
 use Rattle.any_list.specs.declared.list.List.{List as ReadList}
-use Rattle.check_run.specs.Files.{ChecksFiles, reads_fail, reads_items, some_unread}
+use Rattle.check_run.specs.Fact.{Fact}
+use Rattle.check_run.specs.Files.{ChecksFiles, files_of, reads_fail, reads_items, some_unread}
 use Rattle.check_run.specs.Lists.{Checks, ChecksFormat, ages_fail, ages_items, empty_fails, empty_said, version_of, versions_fail, versions_items}
-use Rattle.check_run.specs.Run.{ChecksAll, ChecksList, files_of, list_fails, list_items}
-use Rattle.check_run.specs.declared.given.Conditions.{Conditions}
-use Rattle.check_run.specs.declared.lists.Other.{Other}
-use Rattle.check_run.proofs.Checking.{checks_more, checks_then}
+use Rattle.check_run.specs.Run.{ChecksAll, ChecksList, list_fails, list_items}
+use Rattle.check_run.specs.declared.limits.Limits.{Limits}
+use Rattle.check_run.proofs.Steps.{checks_more, checks_then}
 
-abbrev EmptyChecks : (name : List ℕ) → Revocations → Conditions → Result (Unit {0}) RunFault → Printer → Printer → Bool → Bool → Type 0
-EmptyChecks name held conditions = Checks (empty_said name (names_nobody held) conditions.allow_empty) (empty_fails (names_nobody held) conditions.allow_empty)
+abbrev EmptyChecks : (name : List ℕ) → Revocations → Check → Result (Unit {0}) RunFault → Printer → Printer → Bool → Bool → Type 0
+EmptyChecks name held task = Checks (empty_said name (names_nobody held) task.allow_empty) (empty_fails (names_nobody held) task.allow_empty)
 
-abbrev VersionChecks : (name : List ℕ) → Option Stated → Option Other → Result (Unit {0}) RunFault → Printer → Printer → Bool → Bool → Type 0
-VersionChecks name stated other = Checks (versions_items name (version_of stated) other) (versions_fail (version_of stated) other)
+abbrev VersionChecks : (name : List ℕ) → Option Stated → Limits → Result (Unit {0}) RunFault → Printer → Printer → Bool → Bool → Type 0
+VersionChecks name stated limits = Checks (versions_items name (version_of stated) limits.other) (versions_fail (version_of stated) limits.other)
 
-abbrev AgeChecks : (name : List ℕ) → Option Stated → Conditions → Result (Unit {0}) RunFault → Printer → Printer → Bool → Bool → Type 0
-AgeChecks name stated conditions = Checks (ages_items name stated conditions.limit) (ages_fail stated conditions.limit)
+abbrev AgeChecks : (name : List ℕ) → Option Stated → Limits → Result (Unit {0}) RunFault → Printer → Printer → Bool → Bool → Type 0
+AgeChecks name stated limits = Checks (ages_items name stated limits.age) (ages_fail stated limits.age)
 
 -- ---- the list itself
 
-abbrev from_version : List ℕ → Option Stated → Option Other → Conditions → List Item
-from_version name stated other conditions = versions_items name (version_of stated) other ++ ages_items name stated conditions.limit
+abbrev from_version : List ℕ → Option Stated → Limits → List Item
+from_version name stated limits = versions_items name (version_of stated) limits.other ++ ages_items name stated limits.age
 
-abbrev from_empty : List ℕ → Option Stated → Revocations → Option Other → Conditions → List Item
-from_empty name stated held other conditions = empty_said name (names_nobody held) conditions.allow_empty ++ from_version name stated other conditions
+abbrev from_empty : List ℕ → Option Stated → Revocations → Check → Limits → List Item
+from_empty name stated held task limits = empty_said name (names_nobody held) task.allow_empty ++ from_version name stated limits
 
-pub list_checked : (name bytes : List ℕ) (stated : Option Stated) (held : Revocations) (conditions : Conditions) (other : Option Other) (u v w : Unit {0}) (result : Result (Unit {0}) RunFault) (p q r s t : Printer) (a b c d e : Bool)
-    → ChecksFormat name bytes (Ok u) p q a b → EmptyChecks name held conditions (Ok v) q r b c → VersionChecks name stated other (Ok w) r s c d → AgeChecks name stated conditions result s t d e
-    → ChecksList name bytes stated held conditions other result p t a e
-list_checked name bytes stated held conditions other u v w result p q r s t a b c d e format empty version age =
-    let three = checks_then (versions_items name (version_of stated) other) (ages_items name stated conditions.limit) (versions_fail (version_of stated) other) (ages_fail stated conditions.limit) w result r s t c d e version age in
-    let two = checks_then (empty_said name (names_nobody held) conditions.allow_empty) (from_version name stated other conditions) (empty_fails (names_nobody held) conditions.allow_empty) (versions_fail (version_of stated) other || ages_fail stated conditions.limit) v result q r t b c e empty three in
+pub list_checked : (name bytes : List ℕ) (stated : Option Stated) (held : Revocations) (task : Check) (limits : Limits) (u v w : Unit {0}) (result : Result (Unit {0}) RunFault) (p q r s t : Printer) (a b c d e : Bool)
+    → ChecksFormat name bytes (Ok u) p q a b → EmptyChecks name held task (Ok v) q r b c → VersionChecks name stated limits (Ok w) r s c d → AgeChecks name stated limits result s t d e
+    → ChecksList name bytes stated held task limits result p t a e
+list_checked name bytes stated held task limits u v w result p q r s t a b c d e format empty version age =
+    let three = checks_then (versions_items name (version_of stated) limits.other) (ages_items name stated limits.age) (versions_fail (version_of stated) limits.other) (ages_fail stated limits.age) w result r s t c d e version age in
+    let two = checks_then (empty_said name (names_nobody held) task.allow_empty) (from_version name stated limits) (empty_fails (names_nobody held) task.allow_empty) (versions_fail (version_of stated) limits.other || ages_fail stated limits.age) v result q r t b c e empty three in
     record {
-      list = record { difference = format.difference; nobody = names_nobody held; stated = stated; other = other };
+      list = record { difference = format.difference; nobody = names_nobody held; stated = stated; limits = limits };
       is_difference = format.is;
       nobody_is = refl;
       stated_is = refl;
-      other_is = refl;
-      checks = checks_then (difference_items name format.difference) (from_empty name stated held other conditions) (is_some format.difference) (empty_fails (names_nobody held) conditions.allow_empty || (versions_fail (version_of stated) other || ages_fail stated conditions.limit)) u result p q t a b e format.checks two;
+      limits_are = refl;
+      checks = checks_then (difference_items name format.difference) (from_empty name stated held task limits) (is_some format.difference) (empty_fails (names_nobody held) task.allow_empty || (versions_fail (version_of stated) limits.other || ages_fail stated limits.age)) u result p q t a b e format.checks two;
     }
 
-pub format_stops : (name bytes : List ℕ) (stated : Option Stated) (held : Revocations) (conditions : Conditions) (other : Option Other) (stop : RunFault) (p q : Printer) (a b e : Bool)
-    → ChecksFormat name bytes (Err stop) p q a b → ChecksList name bytes stated held conditions other (Err stop) p q a e
-format_stops name bytes stated held conditions other stop p q a b e format =
-    let fails : Bool = is_some format.difference || (empty_fails (names_nobody held) conditions.allow_empty || (versions_fail (version_of stated) other || ages_fail stated conditions.limit)) in
+pub format_stops : (name bytes : List ℕ) (stated : Option Stated) (held : Revocations) (task : Check) (limits : Limits) (stop : RunFault) (p q : Printer) (a b e : Bool)
+    → ChecksFormat name bytes (Err stop) p q a b → ChecksList name bytes stated held task limits (Err stop) p q a e
+format_stops name bytes stated held task limits stop p q a b e format =
+    let fails : Bool = is_some format.difference || (empty_fails (names_nobody held) task.allow_empty || (versions_fail (version_of stated) limits.other || ages_fail stated limits.age)) in
     record {
-      list = record { difference = format.difference; nobody = names_nobody held; stated = stated; other = other };
+      list = record { difference = format.difference; nobody = names_nobody held; stated = stated; limits = limits };
       is_difference = format.is;
       nobody_is = refl;
       stated_is = refl;
-      other_is = refl;
-      checks = checks_more (difference_items name format.difference) (from_empty name stated held other conditions) (is_some format.difference) fails stop p q a b e format.checks;
+      limits_are = refl;
+      checks = checks_more (difference_items name format.difference) (from_empty name stated held task limits) (is_some format.difference) fails stop p q a b e format.checks;
     }
 
-pub empty_stops : (name bytes : List ℕ) (stated : Option Stated) (held : Revocations) (conditions : Conditions) (other : Option Other) (u : Unit {0}) (stop : RunFault) (p q r : Printer) (a b c e : Bool)
-    → ChecksFormat name bytes (Ok u) p q a b → EmptyChecks name held conditions (Err stop) q r b c → ChecksList name bytes stated held conditions other (Err stop) p r a e
-empty_stops name bytes stated held conditions other u stop p q r a b c e format empty =
-    let rest : Bool = versions_fail (version_of stated) other || ages_fail stated conditions.limit in
-    let fails : Bool = empty_fails (names_nobody held) conditions.allow_empty || rest in
-    let two : Checks (from_empty name stated held other conditions) fails (Err stop) q r b e =
-    checks_more (empty_said name (names_nobody held) conditions.allow_empty) (from_version name stated other conditions) (empty_fails (names_nobody held) conditions.allow_empty) fails stop q r b c e empty in
+pub empty_stops : (name bytes : List ℕ) (stated : Option Stated) (held : Revocations) (task : Check) (limits : Limits) (u : Unit {0}) (stop : RunFault) (p q r : Printer) (a b c e : Bool)
+    → ChecksFormat name bytes (Ok u) p q a b → EmptyChecks name held task (Err stop) q r b c → ChecksList name bytes stated held task limits (Err stop) p r a e
+empty_stops name bytes stated held task limits u stop p q r a b c e format empty =
+    let rest : Bool = versions_fail (version_of stated) limits.other || ages_fail stated limits.age in
+    let fails : Bool = empty_fails (names_nobody held) task.allow_empty || rest in
+    let two : Checks (from_empty name stated held task limits) fails (Err stop) q r b e =
+    checks_more (empty_said name (names_nobody held) task.allow_empty) (from_version name stated limits) (empty_fails (names_nobody held) task.allow_empty) fails stop q r b c e empty in
     record {
-      list = record { difference = format.difference; nobody = names_nobody held; stated = stated; other = other };
+      list = record { difference = format.difference; nobody = names_nobody held; stated = stated; limits = limits };
       is_difference = format.is;
       nobody_is = refl;
       stated_is = refl;
-      other_is = refl;
-      checks = checks_then (difference_items name format.difference) (from_empty name stated held other conditions) (is_some format.difference) fails u (Err stop) p q r a b e format.checks two;
+      limits_are = refl;
+      checks = checks_then (difference_items name format.difference) (from_empty name stated held task limits) (is_some format.difference) fails u (Err stop) p q r a b e format.checks two;
     }
 
-pub version_stops : (name bytes : List ℕ) (stated : Option Stated) (held : Revocations) (conditions : Conditions) (other : Option Other) (u v : Unit {0}) (stop : RunFault) (p q r s : Printer) (a b c d e : Bool)
-    → ChecksFormat name bytes (Ok u) p q a b → EmptyChecks name held conditions (Ok v) q r b c → VersionChecks name stated other (Err stop) r s c d → ChecksList name bytes stated held conditions other (Err stop) p s a e
-version_stops name bytes stated held conditions other u v stop p q r s a b c d e format empty version =
-    let rest : Bool = versions_fail (version_of stated) other || ages_fail stated conditions.limit in
-    let fails : Bool = empty_fails (names_nobody held) conditions.allow_empty || rest in
-    let three : Checks (from_version name stated other conditions) rest (Err stop) r s c e =
-    checks_more (versions_items name (version_of stated) other) (ages_items name stated conditions.limit) (versions_fail (version_of stated) other) rest stop r s c d e version in
-    let two : Checks (from_empty name stated held other conditions) fails (Err stop) q s b e =
-    checks_then (empty_said name (names_nobody held) conditions.allow_empty) (from_version name stated other conditions) (empty_fails (names_nobody held) conditions.allow_empty) rest v (Err stop) q r s b c e empty three in
+pub version_stops : (name bytes : List ℕ) (stated : Option Stated) (held : Revocations) (task : Check) (limits : Limits) (u v : Unit {0}) (stop : RunFault) (p q r s : Printer) (a b c d e : Bool)
+    → ChecksFormat name bytes (Ok u) p q a b → EmptyChecks name held task (Ok v) q r b c → VersionChecks name stated limits (Err stop) r s c d → ChecksList name bytes stated held task limits (Err stop) p s a e
+version_stops name bytes stated held task limits u v stop p q r s a b c d e format empty version =
+    let rest : Bool = versions_fail (version_of stated) limits.other || ages_fail stated limits.age in
+    let fails : Bool = empty_fails (names_nobody held) task.allow_empty || rest in
+    let three : Checks (from_version name stated limits) rest (Err stop) r s c e =
+    checks_more (versions_items name (version_of stated) limits.other) (ages_items name stated limits.age) (versions_fail (version_of stated) limits.other) rest stop r s c d e version in
+    let two : Checks (from_empty name stated held task limits) fails (Err stop) q s b e =
+    checks_then (empty_said name (names_nobody held) task.allow_empty) (from_version name stated limits) (empty_fails (names_nobody held) task.allow_empty) rest v (Err stop) q r s b c e empty three in
     record {
-      list = record { difference = format.difference; nobody = names_nobody held; stated = stated; other = other };
+      list = record { difference = format.difference; nobody = names_nobody held; stated = stated; limits = limits };
       is_difference = format.is;
       nobody_is = refl;
       stated_is = refl;
-      other_is = refl;
-      checks = checks_then (difference_items name format.difference) (from_empty name stated held other conditions) (is_some format.difference) fails u (Err stop) p q s a b e format.checks two;
+      limits_are = refl;
+      checks = checks_then (difference_items name format.difference) (from_empty name stated held task limits) (is_some format.difference) fails u (Err stop) p q s a b e format.checks two;
     }
 
 -- ---- the list and the files
@@ -103,14 +103,14 @@ version_stops name bytes stated held conditions other u v stop p q r s a b c d e
 nobody_as : (nobody : Bool) (held : Revocations) (entries : List Entry) → nobody ≡ names_nobody held → (names_nobody held ≡ true ↔ NamesNobody entries) → (nobody ≡ true ↔ NamesNobody entries)
 nobody_as nobody held entries is law = subst (λ (b : Bool). b ≡ true ↔ NamesNobody entries) (sym is) law
 
-pub all_checked : (Knows : List ℕ → Result (List ℕ) Refusal → Type 0) (name bytes : List ℕ) (list : ReadList) (held : Revocations) (conditions : Conditions) (other : Option Other) (value : Unit {0}) (result : Result (Unit {0}) RunFault) (p q r : Printer) (b c u w : Bool)
-    → (read : IsReadList false bytes list) → (names_nobody held ≡ true ↔ NamesNobody read.entries) → ChecksList name bytes list.stated held conditions other (Ok value) p q false b
-    → ChecksFiles Knows (reasons_of read.entries) (files_of conditions) result q r b c u w → u ≡ false → ChecksAll Knows name bytes conditions other result p r c w
-all_checked Knows name bytes list held conditions other value result p q r b c u w read law first files working =
+pub all_checked : (Knows : Fact → Type 0) (name bytes : List ℕ) (list : ReadList) (held : Revocations) (task : Check) (limits : Limits) (value : Unit {0}) (result : Result (Unit {0}) RunFault) (p q r : Printer) (b c u w : Bool)
+    → (read : IsReadList false bytes list) → (names_nobody held ≡ true ↔ NamesNobody read.entries) → ChecksList name bytes list.stated held task limits (Ok value) p q false b
+    → ChecksFiles Knows (reasons_of read.entries) (files_of task) result q r b c u w → u ≡ false → ChecksAll Knows name bytes task limits result p r c w
+all_checked Knows name bytes list held task limits value result p q r b c u w read law first files working =
     let reasons = reasons_of read.entries in
     record {
-      items = list_items name first.list conditions ++ reads_items reasons files.reads files.later;
-      fails = list_fails first.list conditions || reads_fail reasons files.reads;
+      items = list_items name first.list task ++ reads_items reasons files.reads files.later;
+      fails = list_fails first.list task || reads_fail reasons files.reads;
       some = some_unread files.reads;
       later = files.later;
       is = record {
@@ -121,26 +121,26 @@ all_checked Knows name bytes list held conditions other value result p q r b c u
         is_difference = first.is_difference;
         is_nobody = nobody_as first.list.nobody held read.entries first.nobody_is law;
         stated_is = first.stated_is ∙ read.stated_is;
-        other_is = first.other_is;
+        limits_are = first.limits_are;
         reads = files.reads;
         are_read = files.are_read;
         items_are = refl;
         fails_is = refl;
         unread_is = refl;
       };
-      checks = checks_then (list_items name first.list conditions) (reads_items reasons files.reads files.later) (list_fails first.list conditions) (reads_fail reasons files.reads) value result p q r false b c first.checks files.checks;
+      checks = checks_then (list_items name first.list task) (reads_items reasons files.reads files.later) (list_fails first.list task) (reads_fail reasons files.reads) value result p q r false b c first.checks files.checks;
       unread_is = subst (λ (x : Bool). OnOk result (w ≡ (x || some_unread files.reads))) working files.unread;
       all = files.all;
     }
 
-pub list_stops : (Knows : List ℕ → Result (List ℕ) Refusal → Type 0) (name bytes : List ℕ) (list : ReadList) (held : Revocations) (conditions : Conditions) (other : Option Other) (stop : RunFault) (p q : Printer) (b c w : Bool)
-    → (read : IsReadList false bytes list) → (names_nobody held ≡ true ↔ NamesNobody read.entries) → ChecksList name bytes list.stated held conditions other (Err stop) p q false b → ChecksAll Knows name bytes conditions other (Err stop) p q c w
-list_stops Knows name bytes list held conditions other stop p q b c w read law first =
+pub list_stops : (Knows : Fact → Type 0) (name bytes : List ℕ) (list : ReadList) (held : Revocations) (task : Check) (limits : Limits) (stop : RunFault) (p q : Printer) (b c w : Bool)
+    → (read : IsReadList false bytes list) → (names_nobody held ≡ true ↔ NamesNobody read.entries) → ChecksList name bytes list.stated held task limits (Err stop) p q false b → ChecksAll Knows name bytes task limits (Err stop) p q c w
+list_stops Knows name bytes list held task limits stop p q b c w read law first =
     let reasons = reasons_of read.entries in
-    let files = files_of conditions in
+    let files = files_of task in
     record {
-      items = list_items name first.list conditions ++ reads_items reasons [] files;
-      fails = list_fails first.list conditions || reads_fail reasons [];
+      items = list_items name first.list task ++ reads_items reasons [] files;
+      fails = list_fails first.list task || reads_fail reasons [];
       some = some_unread [];
       later = files;
       is = record {
@@ -151,14 +151,14 @@ list_stops Knows name bytes list held conditions other stop p q b c w read law f
         is_difference = first.is_difference;
         is_nobody = nobody_as first.list.nobody held read.entries first.nobody_is law;
         stated_is = first.stated_is ∙ read.stated_is;
-        other_is = first.other_is;
+        limits_are = first.limits_are;
         reads = [];
         are_read = record { files_are = refl; known = tt };
         items_are = refl;
         fails_is = refl;
         unread_is = refl;
       };
-      checks = checks_more (list_items name first.list conditions) (reads_items reasons [] files) (list_fails first.list conditions) (list_fails first.list conditions || reads_fail reasons []) stop p q false b c first.checks;
+      checks = checks_more (list_items name first.list task) (reads_items reasons [] files) (list_fails first.list task) (list_fails first.list task || reads_fail reasons []) stop p q false b c first.checks;
       unread_is = tt;
       all = tt;
     }

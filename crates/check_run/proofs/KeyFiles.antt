@@ -16,9 +16,10 @@ use Rattle.krl_entries.specs.declared.reasons.Reasons.{Reasons}
 use Rattle.krl_audit.specs.declared.why.Refusal.{Refusal}
 use Rattle.krl_checker.specs.Check.{ChecksFile}
 use Rattle.krl_checker.specs.declared.role.Role.{Role}
+use Rattle.check_run.specs.Fact.{Fact, FileOf}
 use Rattle.check_run.specs.Files.{AreRead, ChecksFiles, Named, Read, is_unread, named, named_all, passed, read_fails, read_items, reads_fail, reads_items, some_unread}
 use Rattle.check_run.specs.Lists.{Checks}
-use Rattle.check_run.proofs.Checking.{checks_none, checks_then, on_ok, on_ok_or, or_assoc, or_false}
+use Rattle.check_run.proofs.Steps.{checks_none, checks_then, on_ok, on_ok_or, or_assoc, or_false}
 
 -- ---- rows of files
 
@@ -29,16 +30,16 @@ all_append P (x ∷ xs) ys here there = (here.0, all_append P xs ys here.1 there
 abbrev file_of : Read → Named
 file_of read = read.file
 
-read_then : (Knows : List ℕ → Result (List ℕ) Refusal → Type 0) (files others : List Named) (reads more : List Read) (later : List Named) → AreRead Knows files reads [] → AreRead Knows others more later → AreRead Knows (files ++ others) (reads ++ more) later
+read_then : (Knows : Fact → Type 0) (files others : List Named) (reads more : List Read) (later : List Named) → AreRead Knows files reads [] → AreRead Knows others more later → AreRead Knows (files ++ others) (reads ++ more) later
 read_then Knows files others reads more later first second = record {
   files_are =
       let front : files ≡ map file_of reads = first.files_are ∙ append-nil (map file_of reads) in
       ap (λ (fs : List Named). fs ++ others) front ∙ (ap (λ (fs : List Named). map file_of reads ++ fs) second.files_are
       ∙ (sym (append_assoc (map file_of reads) (map file_of more) later) ∙ ap (λ (fs : List Named). fs ++ later) (sym (map-append file_of reads more))));
-  known = all_append (λ (read : Read). Knows read.file.name read.content) reads more first.known second.known;
+  known = all_append (λ (read : Read). Knows (FileOf read.file.name read.content)) reads more first.known second.known;
 }
 
-read_stops : (Knows : List ℕ → Result (List ℕ) Refusal → Type 0) (files others : List Named) (reads : List Read) (later : List Named) → AreRead Knows files reads later → AreRead Knows (files ++ others) reads (later ++ others)
+read_stops : (Knows : Fact → Type 0) (files others : List Named) (reads : List Read) (later : List Named) → AreRead Knows files reads later → AreRead Knows (files ++ others) reads (later ++ others)
 read_stops Knows files others reads later first = record {
   files_are = ap (λ (fs : List Named). fs ++ others) first.files_are ∙ append_assoc (map file_of reads) later others;
   known = first.known;
@@ -68,7 +69,7 @@ unread_then reads more = sym (list_any-append is_unread reads more)
 
 -- ---- checks of rows of files
 
-pub no_file : (Knows : List ℕ → Result (List ℕ) Refusal → Type 0) (reasons : Subject → Reasons) (now : Printer) (refused unread : Bool) → ChecksFiles Knows reasons [] (Ok tt) now now refused refused unread unread
+pub no_file : (Knows : Fact → Type 0) (reasons : Subject → Reasons) (now : Printer) (refused unread : Bool) → ChecksFiles Knows reasons [] (Ok tt) now now refused refused unread unread
 unfolding reads_items reads_fail some_unread
 no_file Knows reasons now refused unread = record {
   reads = [];
@@ -79,7 +80,7 @@ no_file Knows reasons now refused unread = record {
   all = refl;
 }
 
-pub files_then : (Knows : List ℕ → Result (List ℕ) Refusal → Type 0) (reasons : Subject → Reasons) (files others : List Named) (value : Unit {0}) (result : Result (Unit {0}) RunFault) (old mid new : Printer) (a b c u v w : Bool)
+pub files_then : (Knows : Fact → Type 0) (reasons : Subject → Reasons) (files others : List Named) (value : Unit {0}) (result : Result (Unit {0}) RunFault) (old mid new : Printer) (a b c u v w : Bool)
     → ChecksFiles Knows reasons files (Ok value) old mid a b u v → ChecksFiles Knows reasons others result mid new b c v w → ChecksFiles Knows reasons (files ++ others) result old new a c u w
 files_then Knows reasons files others value result old mid new a b c u v w first second =
     let xs : List Item = reads_items reasons first.reads [] in
@@ -98,7 +99,7 @@ files_then Knows reasons files others value result old mid new a b c u v w first
       all = second.all;
     }
 
-pub files_stop : (Knows : List ℕ → Result (List ℕ) Refusal → Type 0) (reasons : Subject → Reasons) (files others : List Named) (stop : RunFault) (old new : Printer) (a b c u v w : Bool)
+pub files_stop : (Knows : Fact → Type 0) (reasons : Subject → Reasons) (files others : List Named) (stop : RunFault) (old new : Printer) (a b c u v w : Bool)
     → ChecksFiles Knows reasons files (Err stop) old new a b u v → ChecksFiles Knows reasons (files ++ others) (Err stop) old new a c u w
 files_stop Knows reasons files others stop old new a b c u v w first = record {
   reads = first.reads;
@@ -130,8 +131,8 @@ on_ok_all : (result : Result (Unit {0}) RunFault) (later : List Named) → later
 on_ok_all (Ok done) later is = is
 on_ok_all (Err stop) later is = tt
 
-pub file_checked : (Knows : List ℕ → Result (List ℕ) Refusal → Type 0) (reasons : Subject → Reasons) (role : Role) (name : List ℕ) (content : Result (List ℕ) Refusal) (result : Result (Unit {0}) RunFault) (old new : Printer) (a b u w : Bool)
-    → Knows name content → ChecksFile role reasons name content result old new a b → w ≡ (u || is_err content) → ChecksFiles Knows reasons (named role name ∷ []) result old new a b u w
+pub file_checked : (Knows : Fact → Type 0) (reasons : Subject → Reasons) (role : Role) (name : List ℕ) (content : Result (List ℕ) Refusal) (result : Result (Unit {0}) RunFault) (old new : Printer) (a b u w : Bool)
+    → Knows (FileOf name content) → ChecksFile role reasons name content result old new a b → w ≡ (u || is_err content) → ChecksFiles Knows reasons (named role name ∷ []) result old new a b u w
 file_checked Knows reasons role name content result old new a b u w knows checks unread =
     let read : Read = record { file = named role name; content = content } in
     record {
@@ -147,7 +148,7 @@ file_checked Knows reasons role name content result old new a b u w knows checks
     }
 
 -- An allocation for the content of a file failed.
-pub file_not_reached : (Knows : List ℕ → Result (List ℕ) Refusal → Type 0) (reasons : Subject → Reasons) (role : Role) (name : List ℕ) (now : Printer) (a b u w : Bool)
+pub file_not_reached : (Knows : Fact → Type 0) (reasons : Subject → Reasons) (role : Role) (name : List ℕ) (now : Printer) (a b u w : Bool)
     → ChecksFiles Knows reasons (named role name ∷ []) (Err (run_fault_of name NoMemory)) now now a b u w
 unfolding reads_items
 file_not_reached Knows reasons role name now a b u w = record {

@@ -1,4 +1,4 @@
-pub mod Checking
+pub mod Steps
 pub mod KeyFiles
 pub mod Formats
 pub mod Judging

@@ -1,7 +1,6 @@
 -- The conditions for the keys of files.
 use Rattle.std.specs.Borrow.{Bor}
-use Rattle.std.specs.Prelude.{◌≡◌, ℕ, ◌||◌, not, Bool, List, [], ◌++◌, map, OnOk, Result, Ok}
-use Rattle.std.specs.Prelude.{Err, is_err}
+use Rattle.std.specs.Prelude.{◌≡◌, ℕ, ◌||◌, not, Bool, List, [], ◌++◌, map, OnOk, Result, is_err}
 use Rattle.std.specs.List.{AllByRecursion, flat_map, list_any}
 use Rattle.key_files.specs.RunFault.{RunFault}
 use Rattle.key_listing.specs.Printer.{Printer}
@@ -9,9 +8,12 @@ use Rattle.key_listing.specs.Run.{Item, Passed}
 use Rattle.krl_types.specs.Subject.{Subject}
 use Rattle.krl_entries.specs.declared.reasons.Reasons.{Reasons}
 use Rattle.krl_audit.specs.declared.why.Refusal.{Refusal}
+use Rattle.krl_arguments.specs.declared.task.Check.{Check}
 use Rattle.krl_checker.specs.Check.{counts_of, keys_items}
 use Rattle.krl_checker.specs.Role.{is_met}
 use Rattle.krl_checker.specs.declared.role.Role.{Role}
+use Rattle.krl_checker.specs.declared.role.Role.TheVariants.{Canary, Keep}
+use Rattle.check_run.specs.Fact.{Fact, FileOf}
 use Rattle.check_run.specs.Lists.{Checks}
 
 -- a file that the user names, and what the list must do to its keys
@@ -25,21 +27,20 @@ named role name = record { role = role; name = name }
 unfoldable pub named_all : Role → List (Bor (List ℕ)) → List Named
 named_all role names = map (λ (name : Bor (List ℕ)). named role name.now) names
 
+-- the files of keys that a task names, in their order
+abbrev pub files_of : Check → List Named
+files_of task = named_all Keep task.keep.items ++ named_all Canary task.canary.items
+
 -- A file that was read: its content, or why it has none.
 pub record Read : Type 0 where
   pub file : Named
   pub content : Result (List ℕ) Refusal
 
--- what was read into a buffer
-abbrev pub content_read : Result (Unit {0}) Refusal → List ℕ → Result (List ℕ) Refusal
-content_read (Ok done) text = Ok text
-content_read (Err refusal) text = Err refusal
-
 -- The files up to some file were read, and these are their contents. The later ones were not read.
-pub record AreRead (Knows : List ℕ → Result (List ℕ) Refusal → Type 0) (files : List Named)
-    (reads : List Read) (later : List Named) : Type 0 where
+pub record AreRead (Knows : Fact → Type 0) (files : List Named) (reads : List Read)
+    (later : List Named) : Type 0 where
   pub files_are : files ≡ map (λ (read : Read). read.file) reads ++ later
-  pub known : AllByRecursion (λ (read : Read). Knows read.file.name read.content) reads
+  pub known : AllByRecursion (λ (read : Read). Knows (FileOf read.file.name read.content)) reads
 
 -- ---- what is printed, and what fails
 
@@ -67,8 +68,8 @@ unfoldable pub some_unread : List Read → Bool
 some_unread reads = list_any is_unread reads
 
 -- The keys of the files were checked, or the check was stopped within them.
-pub record ChecksFiles (Knows : List ℕ → Result (List ℕ) Refusal → Type 0)
-    (reasons : Subject → Reasons) (files : List Named) (result : Result (Unit {0}) RunFault)
+pub record ChecksFiles (Knows : Fact → Type 0) (reasons : Subject → Reasons)
+    (files : List Named) (result : Result (Unit {0}) RunFault)
     (old new : Printer) (before after : Bool) (unread_before unread_after : Bool) : Type 0 where
   pub reads : List Read
   pub later : List Named

@@ -1,3 +1,6 @@
+pub mod Fact
 pub mod Lists
+pub mod Limits
 pub mod Files
+pub mod Version
 pub mod Run

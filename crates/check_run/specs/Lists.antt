@@ -20,10 +20,10 @@ use Rattle.krl_checker.specs.Text.{empty_line, plain_line}
 use Rattle.krl_checker.specs.declared.plain.PlainRefusal.TheVariants as refusals
 use Rattle.plain_list.specs.Any.{Names, begins_list}
 use Rattle.any_list.specs.List.{IsListFault, IsReadList, stated_in}
+use Rattle.check_run.specs.Fact.{Fact, ListOf}
+use Rattle.check_run.specs.declared.limits.AgeLimit.{AgeLimit}
 use Rattle.check_run.specs.declared.lists.Given.{Given}
 use Rattle.check_run.specs.declared.lists.Other.{Other}
-use Rattle.check_run.specs.declared.given.AgeLimit.{AgeLimit}
-use Rattle.check_run.specs.declared.given.ListFile.{ListFile}
 
 abbrev pub version_of : Option Stated → Option ℕ
 version_of (Some stated) = Some stated.version
@@ -32,41 +32,44 @@ version_of None = None
 -- ---- a list, by the content of its file
 
 -- The bytes were not read for this cause, or are refused as a list for this fault.
-abbrev pub IsRefusedAs : List ℕ → Result (Bor (List ℕ)) Cause → RunFault → Type 0
-IsRefusedAs name (Ok bytes) stop = IsListFault name bytes.now stop
+abbrev pub IsRefusedAs : List ℕ → Result (List ℕ) Cause → RunFault → Type 0
+IsRefusedAs name (Ok bytes) stop = IsListFault name bytes stop
 IsRefusedAs name (Err cause) stop = stop ≡ run_fault_of name cause
 
-abbrev pub IsRefused : ListFile → RunFault → Type 0
-IsRefused file = IsRefusedAs file.name.now file.content
+-- The list of this name is refused.
+pub record IsRefused (Knows : Fact → Type 0) (name : List ℕ) (stop : RunFault) : Type 0 where
+  pub content : Result (List ℕ) Cause
+  pub known : Knows (ListOf name content)
+  pub refused_as : IsRefusedAs name content stop
 
--- The list was read from these bytes of its file.
-pub record IsGiven (file : ListFile) (given : Given) : Type 0 where
-  pub name_is : given.name.now ≡ file.name.now
-  pub content_is : file.content ≡ Ok given.bytes
-  pub read : IsReadList false given.bytes.now given.list
+-- The list of this name was read from its bytes.
+pub record IsGiven (Knows : Fact → Type 0) (name : List ℕ) (given : Given) : Type 0 where
+  pub name_is : given.name.now ≡ name
+  pub known : Knows (ListOf name (Ok given.bytes))
+  pub read : IsReadList false given.bytes given.list
 
 -- the version and the date of a list; a plain list has neither
 abbrev pub stated_by : Option Header → Option Stated
 stated_by header = option_map stated_in header
 
 -- The other list has this name and this version.
-pub record IsOther (file : ListFile) (other : Other) : Type 0 where
-  pub bytes : Bor (List ℕ)
+pub record IsOther (Knows : Fact → Type 0) (name : List ℕ) (other : Other) : Type 0 where
+  pub bytes : List ℕ
   pub header : Option Header
   pub entries : List Entry
-  pub content_is : file.content ≡ Ok bytes
-  pub names : Names bytes.now header entries
-  pub name_is : other.name.now ≡ file.name.now
+  pub known : Knows (ListOf name (Ok bytes))
+  pub names : Names bytes header entries
+  pub name_is : other.name.now ≡ name
   pub version_is : other.version ≡ version_of (stated_by header)
 
-abbrev pub IsOtherOf : Option ListFile → Option Other → Type 0
-IsOtherOf None other = other ≡ None
-IsOtherOf (Some file) None = ⊥
-IsOtherOf (Some file) (Some other) = IsOther file other
+abbrev pub IsOtherOf : (Fact → Type 0) → Option (Bor (List ℕ)) → Option Other → Type 0
+IsOtherOf Knows None other = other ≡ None
+IsOtherOf Knows (Some name) None = ⊥
+IsOtherOf Knows (Some name) (Some other) = IsOther Knows name.now other
 
-abbrev pub IsOtherRefused : Option ListFile → RunFault → Type 0
-IsOtherRefused None stop = ⊥
-IsOtherRefused (Some file) stop = IsRefused file stop
+abbrev pub IsOtherRefused : (Fact → Type 0) → Option (Bor (List ℕ)) → RunFault → Type 0
+IsOtherRefused Knows None stop = ⊥
+IsOtherRefused Knows (Some name) stop = IsRefused Knows name.now stop
 
 -- ---- a condition
 

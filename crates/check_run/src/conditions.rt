@@ -7,7 +7,7 @@ ghost use Rattle.check_run.specs.Lists.{empty_fails, empty_said, version_of, ver
 ghost use Rattle.check_run.specs.Lists.{versions_items};
 ghost use Rattle.any_list.specs.List.{IsReadList};
 
-use crate::given::AgeLimit;
+use crate::limits::AgeLimit;
 use crate::lists::{Given, Other};
 use byte_streams::Sink;
 use key_files::RunFault;
@@ -18,10 +18,10 @@ use krl_openssh::laws::read_lists_have_fields;
 /// Checks that OpenSSH reads a list alike. A plain list that was read is read alike.
 pub(crate) fn check_format<'a, W: Sink>(
     checker: &mut Checker<'_, '_, W>,
-    given: &Given<'a, '_>,
+    given: &Given<'a>,
 ) -> Result<(), RunFault<'a>>
-    requires { IsReadList false given.now.bytes.now given.now.list }
-    ensures checks { ChecksFormat given.now.name.now given.now.bytes.now result
+    requires { IsReadList false given.now.bytes given.now.list }
+    ensures checks { ChecksFormat given.now.name.now given.now.bytes result
         checker.old.auditor.run.printer checker.new.auditor.run.printer checker.old.refused
         checker.new.refused }
     ensures unread { checker.new.unread ≡ checker.old.unread }
@@ -30,7 +30,7 @@ pub(crate) fn check_format<'a, W: Sink>(
     match given.list.stated {
         Some(_) => {
             read_lists_have_fields();
-            checker.check_openssh(given.name, given.bytes)
+            checker.check_openssh(given.name, given.bytes.as_slice())
         }
         None => Ok(()),
     }

@@ -1,12 +1,15 @@
 //! The check of a list before it is put in force, as one run.
 #![tactic(auto)]
 
+mod checking;
 mod conditions;
 mod files;
-mod given;
+mod host;
+mod limits;
 mod lists;
 mod run;
+mod version;
 
-pub use files::Files;
-pub use given::{AgeLimit, Conditions, ListFile};
+pub use host::Host;
+pub use limits::Unanswered;
 pub use run::check_run;

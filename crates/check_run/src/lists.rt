@@ -4,17 +4,18 @@ ghost use Rattle.std.specs.Prelude.{◌≡◌, IfErr, IfOk};
 ghost use Rattle.check_run.specs.Lists.{IsGiven, IsOtherOf, IsOtherRefused, IsRefused};
 ghost use Rattle.check_run.specs.Lists.{version_of};
 
-use crate::given::ListFile;
+use crate::host::Host;
 use any_list::{List as ReadList, read_list};
 use key_files::RunFault;
 use krl_audit::Stated;
+use ssh_wire::Bytes;
 use std::alloc::Global;
 
 /// A list that was read: the name of its file, its bytes, and what they say.
 #[derive(Drop)]
-pub(crate) struct Given<'a, 'l> {
+pub(crate) struct Given<'a> {
     pub(crate) name: &'a str,
-    pub(crate) bytes: &'l [u8],
+    pub(crate) bytes: Bytes,
     pub(crate) list: ReadList,
 }
 
@@ -26,36 +27,38 @@ pub(crate) struct Other<'a> {
 }
 
 /// Reads a list, or says why it is refused.
-pub(crate) fn read_file<'a, 'l>(
+pub(crate) fn read_file<'a, H: Host>(
     alloc: Global,
-    file: ListFile<'a, 'l>,
-) -> Result<Given<'a, 'l>, RunFault<'a>>
-    ensures found { IfOk result (λ given. IsGiven file.entry given) }
-    ensures fault { IfErr result (λ stop. IsRefused file.entry stop) }
+    host: &H,
+    name: &'a str,
+) -> Result<Given<'a>, RunFault<'a>>
+    ensures found { IfOk result (λ given. IsGiven (H.states host.now) name.now given) }
+    ensures fault { IfErr result (λ stop. IsRefused (H.states host.now) name.now stop) }
 {
-    let ListFile { name, content } = file;
-    match content {
-        Ok(bytes) => match read_list(alloc, name, bytes, false) {
-            Ok(list) => Ok(Given { name, bytes, list }),
-            Err(fault) => Err(fault),
-        },
-        Err(cause) => Err(RunFault::whole(name, cause)),
+    let bytes = match host.list(name) {
+        Ok(bytes) => bytes,
+        Err(cause) => return Err(RunFault::whole(name, cause)),
+    };
+    match read_list(alloc, name, bytes.as_slice(), false) {
+        Ok(list) => Ok(Given { name, bytes, list }),
+        Err(fault) => Err(fault),
     }
 }
 
 /// Reads the list whose version the checked one must not be below, if there is one, or says why it
 /// is refused.
-pub(crate) fn read_other<'a>(
+pub(crate) fn read_other<'a, H: Host>(
     alloc: Global,
-    file: Option<ListFile<'a, '_>>,
+    host: &H,
+    name: Option<&'a str>,
 ) -> Result<Option<Other<'a>>, RunFault<'a>>
-    ensures found { IfOk result (λ other. IsOtherOf file.entry other) }
-    ensures fault { IfErr result (λ stop. IsOtherRefused file.entry stop) }
+    ensures found { IfOk result (λ other. IsOtherOf (H.states host.now) name.entry other) }
+    ensures fault { IfErr result (λ stop. IsOtherRefused (H.states host.now) name.entry stop) }
 {
-    let Some(file) = file else {
+    let Some(name) = name else {
         return Ok(None);
     };
-    match read_file(alloc, file) {
+    match read_file(alloc, host, name) {
         Ok(given) => Ok(Some(Other {
             name: given.name,
             version: version_of(given.list.stated),

@@ -55,7 +55,12 @@ HasKey (line ∷ lines) = IsTrue (is_key line) ⊎ HasKey lines
 abbrev pub AreMet : Role → List LineKind → Type 0
 AreMet role lines = AllByRecursion (MayBe role) lines × HasKey lines
 
--- ---- files whose keys are all marked as revoked
+-- ---- keys that are marked as revoked
+
+abbrev pub IsMarkedKey : Outcome → Type 0
+IsMarkedKey Empty = ⊥
+IsMarkedKey (Key found) = found.marker ≡ Some markers.Revoked
+IsMarkedKey (Unread why) = ⊥
 
 -- The line is read, and marks its key as revoked if it has one.
 abbrev pub IsMarked : Outcome → Type 0
@@ -65,3 +70,8 @@ IsMarked (Unread why) = ⊥
 
 abbrev pub AreMarked : List Placed → Type 0
 AreMarked lines = AllByRecursion (λ (line : Placed). IsMarked line.outcome) lines
+
+-- Some line has a key that it marks as revoked.
+abbrev pub SomeMarked : List Placed → Type 0
+SomeMarked [] = ⊥
+SomeMarked (line ∷ lines) = IsMarkedKey line.outcome ⊎ SomeMarked lines

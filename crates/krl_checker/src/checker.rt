@@ -1,7 +1,7 @@
 //! Checking a list, one condition after the other.
 
 ghost use Rattle.std.specs.Prelude.{◌≡◌, ◌∷◌, [], ◌||◌, nat_lt, not, true, ℕ, List, Option, OnOk};
-ghost use Rattle.std.specs.Prelude.{IfOk, None, is_err, is_some};
+ghost use Rattle.std.specs.Prelude.{IfOk, None, false, is_err, is_some};
 ghost use Rattle.key_listing.specs.Carries.{Carries, Reaches};
 ghost use Rattle.key_listing.specs.Run.{Item, said_of};
 ghost use Rattle.krl_format.specs.Front.{IsFirstFault, start};
@@ -24,8 +24,8 @@ use crate::text::{
 };
 use byte_streams::Sink;
 use key_files::{Cause, RunFault};
-use key_listing::Done;
-use krl_audit::{Auditor, Counts, Refusal, keyless_lines};
+use key_listing::{Done, Printer, Run};
+use krl_audit::{Auditor, Counts, Judge, Refusal, keyless_lines};
 use krl_entries::Revocations;
 use krl_openssh::first_difference;
 use krl_openssh::laws::read_lists_have_fields;
@@ -48,6 +48,30 @@ pub struct Checker<'q, 'w, W: Sink> {
 }
 
 impl<'q, 'w, W: Sink> Checker<'q, 'w, W> {
+    /// A checker of a list, which has checked nothing.
+    pub fn new(alloc: Global, list: &'q Revocations<Held>, printer: Printer<'w, W>) -> Self
+        ensures list { result.auditor.judge.list ≡ list.entry }
+        ensures printer { result.auditor.run.printer ≡ printer.entry }
+        ensures refused { result.refused ≡ false }
+        ensures unread { result.unread ≡ false }
+    {
+        let shown = Role::Keep.shown();
+        let line = Vec::new(alloc);
+        Checker {
+            auditor: Auditor {
+                judge: Judge { list, shown },
+                run: Run {
+                    alloc,
+                    printer,
+                    line,
+                },
+                counts: Counts::NONE,
+            },
+            refused: false,
+            unread: false,
+        }
+    }
+
     /// Checks that OpenSSH also reads a list, and reads the same names. `list` is the bytes of the
     /// list, which has no fault.
     pub fn check_openssh<'a>(&mut self, name: &'a str, list: &[u8]) -> Result<(), RunFault<'a>>

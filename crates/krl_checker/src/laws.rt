@@ -13,7 +13,7 @@ ghost use Rattle.krl_types.specs.Subject.{Subject};
 ghost use Rattle.krl_entries.specs.Revocations.{Means, Revocations};
 ghost use Rattle.krl_entries.specs.declared.reasons.Reasons.{Reasons};
 ghost use Rattle.krl_checker.specs.Check.{NamesNobody, counts_of, names_nobody, none_counted};
-ghost use Rattle.krl_checker.specs.Role.{AreMarked, AreMet, HasKey, is_met};
+ghost use Rattle.krl_checker.specs.Role.{AreMarked, AreMet, HasKey, SomeMarked, is_met};
 ghost use Rattle.krl_checker.specs.declared.role.Role.{Role};
 ghost use Rattle.krl_checker.specs.declared.role.Role.TheVariants as roles;
 
@@ -32,14 +32,17 @@ pub fn counts_are_met_by_lines()
 
 /// A key that its line marks with `@revoked` counts as a key of the file and never as revoked,
 /// whatever the list revokes. So a file in which all keys are marked passes as one of keys to be
-/// kept, and not as one of canaries.
+/// kept, and one with such a key does not pass as one of canaries.
 pub fn marked_keys_count_as_keys()
     ensures kind { (reasons : Subject → Reasons) (found : Found)
         → found.marker ≡ Some markers.Revoked
         → kind_of reasons (Key found) ≡ kinds.Distrusted }
-    ensures alone { (reasons : Subject → Reasons) (name text : List ℕ)
+    ensures keep { (reasons : Subject → Reasons) (name text : List ℕ)
         → length (file_lines name (Ok text)) + 1 < 2 ^ 64
         → AreMarked (file_lines name (Ok text)) → HasKey (file_kinds reasons name (Ok text))
-        → (is_met roles.Keep (counts_of reasons name (Ok text)) ≡ true)
-        × (is_met roles.Canary (counts_of reasons name (Ok text)) ≡ false) }
+        → is_met roles.Keep (counts_of reasons name (Ok text)) ≡ true }
+    ensures canary { (reasons : Subject → Reasons) (name text : List ℕ)
+        → length (file_lines name (Ok text)) + 1 < 2 ^ 64
+        → SomeMarked (file_lines name (Ok text))
+        → is_met roles.Canary (counts_of reasons name (Ok text)) ≡ false }
 {}

@@ -29,7 +29,8 @@ impl Role {
         }
     }
 
-    /// The lines that are printed: keys that do not meet the condition, and lines that are not read.
+    /// The lines that are printed: keys that do not meet the condition, and lines that are not
+    /// read.
     pub(crate) fn shown(self) -> Shown
         ensures { result ≡ shown_for self }
     {

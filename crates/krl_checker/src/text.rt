@@ -37,7 +37,8 @@ pub(crate) fn write_version(
     ensures { OnOk result (line.new.items ≡ version_line name.now version other) }
 {
     line.clear();
-    put!(line; b"version: ", Visible(name.as_bytes(), false), b": ", version, b" is below ", other, b"\n")
+    put!(line; b"version: ", Visible(name.as_bytes(), false), b": ", version, b" is below ", other,
+        b"\n")
 }
 
 /// Makes the line for a plain list.
@@ -86,7 +87,8 @@ fn write_dated(
         (distance_text distance.instant distance.now)) }
 {
     line.clear();
-    put!(line; b"age: ", Visible(name.as_bytes(), false), b": generated ", Words(date), b", ", distance, b"\n")
+    put!(line; b"age: ", Visible(name.as_bytes(), false), b": generated ", Words(date), b", ",
+        distance, b"\n")
 }
 
 // How far an instant is from the present one, in seconds since 1970.
@@ -150,5 +152,6 @@ pub(crate) fn write_file(
 {
     line.clear();
     put!(line; Words(role.word()), Visible(name.as_bytes(), false), b": ", counts.revoked, b" of ",
-        Subject(counts.keys, b"key"), b" revoked, ", Subject(counts.unread, b"line"), b" not read\n")
+        Subject(counts.keys, b"key"), b" revoked, ", Subject(counts.unread, b"line"),
+        b" not read\n")
 }

@@ -2,8 +2,8 @@
 
 use byte_streams::{FromRead, Sink, ToWrite};
 use key_files::{RunFault, cause_of};
-use key_listing::{Printer, Run};
-use krl_audit::{Auditor, Counts, Form, Judge, Refusal, Shown};
+use key_listing::Printer;
+use krl_audit::Refusal;
 use krl_checker::{Checker, PlainRefusal, Role};
 use krl_core::read_krl;
 use krl_entries::Revocations;
@@ -73,39 +73,11 @@ fn said_into<W: Sink>(
     out: &mut W,
 ) -> u8 {
     let mut buffer = Vec::new(alloc);
-    let mut checker = checker_of(alloc, list, Printer::new(&mut buffer, out));
+    let mut checker = Checker::new(alloc, list, Printer::new(&mut buffer, out));
     for condition in asked {
         check(&mut checker, *condition).expect(rt, "there is memory");
     }
     checker.finish(None).status
-}
-
-/// A checker of the list.
-pub fn checker_of<'q, 'w, W: Sink>(
-    alloc: Global,
-    list: &'q Revocations<Held>,
-    printer: Printer<'w, W>,
-) -> Checker<'q, 'w, W> {
-    let shown = Shown {
-        revoked: true,
-        unread: true,
-        fine: false,
-        form: Form::Text,
-    };
-    let run = Run {
-        alloc,
-        printer,
-        line: Vec::new(alloc),
-    };
-    Checker {
-        auditor: Auditor {
-            judge: Judge { list, shown },
-            run,
-            counts: Counts::NONE,
-        },
-        refused: false,
-        unread: false,
-    }
 }
 
 // One condition, what is said, and the status.

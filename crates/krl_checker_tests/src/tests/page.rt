@@ -2,13 +2,13 @@
 
 ghost use Rattle.std.specs.Prelude.{◌≡◌, false};
 
-use crate::tests::checks::checker_of;
 use crate::tests::runs::{SEVEN, Shelf};
 use any_list::read_list;
 use byte_streams::{FromRead, Sink, ToWrite};
-use check_run::{Conditions, Files, ListFile, check_run};
+use check_run::{Host, check_run};
 use key_files::{RunFault, cause_of};
 use key_listing::Printer;
+use krl_arguments::Check;
 use krl_checker::{Checker, Role};
 use krl_core::read_krl;
 use krl_entries::Revocations;
@@ -41,19 +41,14 @@ fn version_of(alloc: Global, bytes: &[u8]) -> Option<u64> {
     }
 }
 
-/// Whether a list may be put in force: sshd reads it, it revokes somebody, and no administrator.
-fn may_be_used<F: Files, W: Sink>(alloc: Global, list: &[u8], files: &F, out: &mut W) -> bool
+/// Whether a list may be put in force by these conditions: nothing is printed if it may.
+fn may_be_used<H: Host, W: Sink>(alloc: Global, task: &Check, host: &H, out: &mut W) -> bool
     requires { W.has_failed out.old ≡ false }
 {
-    let list = ListFile {
-        name: "revoked.krl",
-        content: Ok(list),
-    };
-    let conditions = Conditions {
-        keep: &["admins.pub"],
-        ..Conditions::NONE
-    };
-    check_run(alloc, list, &conditions, files, out).status == 0
+    match check_run(alloc, task, host, out) {
+        Ok(done) => done.status == 0,
+        Err(_) => false,
+    }
 }
 
 #[test]
@@ -64,11 +59,27 @@ fn the_callers_of_the_pages(rt: HostRuntime) {
     let mut taker = Taker::whole(rt.alloc());
     let mut buffer = Vec::new(rt.alloc());
     let mut out = ToWrite::new(&mut taker);
-    let mut checker = checker_of(rt.alloc(), &list, Printer::new(&mut buffer, &mut out));
+    let printer = Printer::new(&mut buffer, &mut out);
+    let mut checker = Checker::new(rt.alloc(), &list, printer);
     let status = status_of(&mut checker, &bytes, OTHER_LINE, GITHUB_LINE);
     assert!(rt; status.expect(&rt, "there is memory") == 0);
     assert!(rt; version_of(rt.alloc(), &HEADER) == Some(1));
     assert!(rt; version_of(rt.alloc(), GITHUB_LINE).is_none());
+    let task = Check {
+        list: "l",
+        newer_than: None,
+        max_age: None,
+        keep: Vec::new(rt.alloc()),
+        canary: Vec::new(rt.alloc()),
+        allow_empty: false,
+        print_version: false,
+    };
+    let shelf = Shelf {
+        alloc: rt.alloc(),
+        list: Ok(SEVEN),
+        other: Ok(SEVEN),
+        moment: None,
+    };
     let mut said = Taker::whole(rt.alloc());
-    assert!(rt; !may_be_used(rt.alloc(), SEVEN, &Shelf, &mut ToWrite::new(&mut said)));
+    assert!(rt; may_be_used(rt.alloc(), &task, &shelf, &mut ToWrite::new(&mut said)));
 }

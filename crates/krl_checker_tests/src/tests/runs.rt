@@ -1,21 +1,42 @@
 //! Whole checks, over a few files in memory.
 
+ghost use Rattle.std.specs.Prelude.{◌≡◌, false};
+
 use crate::tests::checks::{NINE, SERIAL_ZERO};
-use byte_streams::ToWrite;
-use check_run::{AgeLimit, Conditions, Files, ListFile, check_run};
+use byte_streams::{Sink, ToWrite};
+use check_run::{Host, Unanswered, check_run};
 use key_files::{Cause, FileFault};
+use key_listing::Done;
 use key_text::LineFault;
+use krl_arguments::Check;
 use krl_audit::Refusal;
 use krl_types::KrlFault;
-use std::alloc::AllocError;
+use ssh_wire::Bytes;
+use std::alloc::{AllocError, Global};
 use test_fixtures::{GITHUB_LINE, OTHER_LINE, Taker};
 
-// Files in memory: the published key in `key`, another one in `other`, and nothing in other files.
-// There is no memory for `large`.
-pub struct Shelf;
+/// A list that is named `l`, or `o`, and the time of the clock. As files of keys there are the
+/// published key in `key` and another one in `other`. There is no memory for `large`.
+#[derive(Drop)]
+pub struct Shelf {
+    pub alloc: Global,
+    pub list: Result<&'static [u8], Cause>,
+    pub other: Result<&'static [u8], Cause>,
+    pub moment: Option<u64>,
+}
 
-impl Files for Shelf {
-    ghost states = { λ _ _ _. Unit {0} };
+impl Host for Shelf {
+    ghost use Rattle.check_run.specs.Fact.{Fact};
+
+    ghost states = { λ _ _. Unit {0} };
+
+    fn list(&self, name: &str) -> Result<Bytes, Cause> {
+        let bytes = if name == "l" { self.list? } else { self.other? };
+        match Vec::from_slice(self.alloc, bytes) {
+            Ok(bytes) => Ok(Bytes::from_vec(bytes)),
+            Err(_) => Err(Cause::NoMemory),
+        }
+    }
 
     fn read(&self, name: &str, text: &mut Vec<u8>) -> Result<Result<(), Refusal>, AllocError> {
         text.clear();
@@ -27,6 +48,10 @@ impl Files for Shelf {
         }
         Ok(Ok(()))
     }
+
+    fn moment(&self) -> Option<u64> {
+        self.moment
+    }
 }
 
 // A list of version 7 that revokes the published key.
@@ -36,30 +61,31 @@ pub const SEVEN: &[u8] = b"SSHKRL\n\0\0\0\0\x01\0\0\0\0\0\0\0\x07\0\0\0\0\0\0\0\
 \xe3\x2a\xaa\x79\x15\xce\xb9\xb4\x49\xd1\xba\x50\xea\x2a\x28\xbb\
 \x1a\x6e\x01\xf9\x0b\xda\x24\x5a\x2d\x1d\x87\x69\x7d\x18\xa2\x65";
 
-// A list named `l`, the list named `o` that it must not be older than, when it is now and how old it
-// may be, and the files of keys that it must not revoke, and must revoke.
+// A list, the one that it must not be older than, the time of the clock, the largest age, and the
+// files of keys that it must not revoke, and must revoke.
 #[derive(Clone, Copy)]
 struct Asked {
     list: Result<&'static [u8], Cause>,
     other: Option<Result<&'static [u8], Cause>>,
-    age: Option<AgeLimit>,
+    moment: Option<u64>,
+    max_age: Option<u64>,
     keep: &'static [&'static str],
     canary: &'static [&'static str],
+    allow_empty: bool,
+    print_version: bool,
 }
 
 // Nothing but that a list revokes somebody.
 const NOTHING: Asked = Asked {
     list: Ok(SEVEN),
     other: None,
-    age: None,
+    moment: None,
+    max_age: None,
     keep: &[],
     canary: &[],
+    allow_empty: false,
+    print_version: false,
 };
-
-const AT_NINE: Option<AgeLimit> = Some(AgeLimit {
-    now: NINE,
-    max_age: 60,
-});
 
 const NO_FILE: Cause = Cause::File(FileFault::Open);
 
@@ -71,15 +97,13 @@ type Row = (
     Option<(&'static str, Option<u64>, Cause)>,
 );
 
-const ROWS: [Row; 12] = [
+const ROWS: [Row; 14] = [
     (NOTHING, b"", 0, None),
     (
         Asked {
             other: Some(Ok(SEVEN)),
-            age: Some(AgeLimit {
-                now: 60,
-                max_age: 60,
-            }),
+            moment: Some(60),
+            max_age: Some(60),
             keep: &["other"],
             canary: &["key"],
             ..NOTHING
@@ -93,9 +117,11 @@ const ROWS: [Row; 12] = [
         Asked {
             list: Ok(SERIAL_ZERO),
             other: Some(Ok(SEVEN)),
-            age: AT_NINE,
+            moment: Some(NINE),
+            max_age: Some(60),
             keep: &["none", "other"],
             canary: &["other"],
+            ..NOTHING
         },
         b"openssh: l: it names serial number 0
 empty: l: it revokes nobody
@@ -124,7 +150,8 @@ keep: key: 1 of 1 key is revoked, 0 lines are not read\n",
         Asked {
             list: Ok(GITHUB_LINE),
             other: Some(Ok(SEVEN)),
-            age: AT_NINE,
+            moment: Some(NINE),
+            max_age: Some(60),
             ..NOTHING
         },
         b"version: l: a plain list has no version\nage: l: a plain list has no date\n",
@@ -201,33 +228,64 @@ keep: key: 1 of 1 key is revoked, 0 lines are not read\n",
         255,
         Some(("large", None, Cause::NoMemory)),
     ),
+    // The version alone.
+    (
+        Asked {
+            list: Ok(SEVEN),
+            print_version: true,
+            ..NOTHING
+        },
+        b"7\n",
+        0,
+        None,
+    ),
+    (
+        Asked {
+            list: Ok(b"SSHKRL\n\0"),
+            print_version: true,
+            ..NOTHING
+        },
+        b"",
+        255,
+        Some(("l", None, Cause::Krl(KrlFault::EndsEarly))),
+    ),
 ];
 
-// A list by its name.
-fn file_of(
-    name: &'static str,
-    content: Result<&'static [u8], Cause>,
-) -> ListFile<'static, 'static> {
-    ListFile { name, content }
+// Checks a list by these conditions.
+fn checked<W: Sink>(
+    alloc: Global,
+    asked: &Asked,
+    out: &mut W,
+) -> Result<Result<Done<'static>, Unanswered>, AllocError>
+    requires { W.has_failed out.old ≡ false }
+{
+    let shelf = Shelf {
+        alloc,
+        list: asked.list,
+        other: asked.other.unwrap_or(Err(NO_FILE)),
+        moment: asked.moment,
+    };
+    let task = Check {
+        list: "l",
+        newer_than: asked.other.is_some().then_some("o"),
+        max_age: asked.max_age,
+        keep: Vec::from_slice(alloc, asked.keep)?,
+        canary: Vec::from_slice(alloc, asked.canary)?,
+        allow_empty: asked.allow_empty,
+        print_version: asked.print_version,
+    };
+    Ok(check_run(alloc, &task, &shelf, out))
 }
 
 #[test]
 fn each_row(rt: HostRuntime) {
     for (i, (asked, said, status, wanted)) in ROWS.iter().enumerate() {
-        let conditions = Conditions {
-            allow_empty: false,
-            newer_than: match asked.other {
-                Some(content) => Some(file_of("o", content)),
-                None => None,
-            },
-            limit: asked.age,
-            keep: asked.keep,
-            canary: asked.canary,
-        };
         let mut taker = Taker::whole(rt.alloc());
         let mut out = ToWrite::new(&mut taker);
-        let list = file_of("l", asked.list);
-        let done = check_run(rt.alloc(), list, &conditions, &Shelf, &mut out);
+        let ended = checked(rt.alloc(), asked, &mut out).expect(&rt, "there is memory");
+        let Ok(done) = ended else {
+            panic!(rt; "row {i} has no end");
+        };
         let right = match (&done.fault, wanted) {
             (Some(fault), Some((name, line, cause))) => {
                 fault.name == *name && fault.line == *line && fault.cause == *cause
@@ -241,21 +299,50 @@ fn each_row(rt: HostRuntime) {
     }
 }
 
+// A task for a list that can be read, why nothing is said about it, and the words for that.
+const UNANSWERED: [(Asked, Unanswered, &[u8]); 2] = [
+    (
+        Asked {
+            list: Ok(SERIAL_ZERO),
+            max_age: Some(60),
+            keep: &["none"],
+            ..NOTHING
+        },
+        Unanswered::Clock,
+        b"the clock of this host cannot be read",
+    ),
+    (
+        Asked {
+            list: Ok(GITHUB_LINE),
+            print_version: true,
+            ..NOTHING
+        },
+        Unanswered::Version,
+        b"a plain list has no version",
+    ),
+];
+
+#[test]
+fn nothing_is_said(rt: HostRuntime) {
+    for (i, (asked, wanted, words)) in UNANSWERED.iter().enumerate() {
+        let mut taker = Taker::whole(rt.alloc());
+        let mut out = ToWrite::new(&mut taker);
+        let ended = checked(rt.alloc(), asked, &mut out).expect(&rt, "there is memory");
+        assert!(rt; ended.err() == Some(*wanted), "row {i}");
+        assert_eq!(rt; wanted.words(), *words, "row {i}");
+        assert!(rt; taker.taken.is_empty(), "row {i}");
+    }
+}
+
 #[test]
 fn an_output_that_fails_ends_a_check(rt: HostRuntime) {
+    let asked = Asked {
+        keep: &["key"],
+        allow_empty: true,
+        ..NOTHING
+    };
     let mut broken = Taker::new(rt.alloc(), 9, 0);
     let mut lost = ToWrite::new(&mut broken);
-    let conditions = Conditions {
-        allow_empty: true,
-        keep: &["key"],
-        ..Conditions::NONE
-    };
-    let done = check_run(
-        rt.alloc(),
-        file_of("l", Ok(SEVEN)),
-        &conditions,
-        &Shelf,
-        &mut lost,
-    );
-    assert!(rt; done.status == 255);
+    let ended = checked(rt.alloc(), &asked, &mut lost).expect(&rt, "there is memory");
+    assert!(rt; matches!(ended, Ok(done) if done.status == 255));
 }

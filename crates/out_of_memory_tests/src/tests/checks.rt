@@ -5,9 +5,12 @@ ghost use Rattle.std.specs.Prelude.{◌≡◌, false};
 use crate::tests::answered::ran_out;
 use crate::tests::buffer::Buffer;
 use byte_streams::{Sink, ToWrite};
-use check_run::{Conditions, Files, ListFile, check_run};
-use key_files::{Cause, RunFault};
+use check_run::{Host, check_run};
+use key_files::Cause;
+use key_listing::Done;
+use krl_arguments::Check;
 use krl_audit::Refusal;
+use ssh_wire::Bytes;
 use std::alloc::{AllocError, Global};
 use test_fixtures::{GITHUB_LINE, OTHER_LINE};
 
@@ -26,49 +29,79 @@ f:1: revoked: ssh-ed25519 SHA256:+DiY3wvvV6TuJJhbpZisF/zLDA0zPMSvHdkr4UvCOqU by 
 keep: f: 1 of 1 key is revoked, 0 lines are not read
 ";
 
-// The files of keys: the published key in `f`, and another one in other files.
-struct Shelf;
+// The files: the list in `r.krl`, a plain list in `p`, the published key in `f`, and another one in
+// other files.
+#[derive(Drop)]
+struct Shelf {
+    alloc: Global,
+}
 
-impl Files for Shelf {
-    ghost states = { λ _ _ _. Unit {0} };
+impl Host for Shelf {
+    ghost use Rattle.check_run.specs.Fact.{Fact};
+
+    ghost states = { λ _ _. Unit {0} };
+
+    fn list(&self, name: &str) -> Result<Bytes, Cause> {
+        let bytes = if name == "r.krl" { SIGNED } else { OTHER_LINE };
+        match Vec::from_slice(self.alloc, bytes) {
+            Ok(bytes) => Ok(Bytes::from_vec(bytes)),
+            Err(_) => Err(Cause::NoMemory),
+        }
+    }
 
     fn read(&self, name: &str, text: &mut Vec<u8>) -> Result<Result<(), Refusal>, AllocError> {
         let line = if name == "f" { GITHUB_LINE } else { OTHER_LINE };
         text.extend_from_slice(line)?;
         Ok(Ok(()))
     }
+
+    fn moment(&self) -> Option<u64> {
+        None
+    }
 }
 
-// Checks the list beside a plain one.
-fn checked<W: Sink>(alloc: Global, out: &mut W) -> Option<RunFault<'static>>
+// Checks the list beside a plain one, or prints its version. Says whether an allocation failed.
+fn runs_out<W: Sink>(alloc: Global, print_version: bool, out: &mut W) -> Result<bool, AllocError>
     requires { W.has_failed out.old ≡ false }
 {
-    let list = ListFile {
-        name: "r.krl",
-        content: Ok(SIGNED),
+    let task = Check {
+        list: "r.krl",
+        newer_than: Some("p"),
+        max_age: None,
+        keep: Vec::from_slice(alloc, &["f", "g"])?,
+        canary: Vec::new(alloc),
+        allow_empty: false,
+        print_version,
     };
-    let plain = ListFile {
-        name: "p",
-        content: Ok(OTHER_LINE),
-    };
-    let conditions = Conditions {
-        newer_than: Some(plain),
-        keep: &["f", "g"],
-        ..Conditions::NONE
-    };
-    check_run(alloc, list, &conditions, &Shelf, out).fault
+    match check_run(alloc, &task, &Shelf { alloc }, out) {
+        Ok(
+            Done {
+                fault: Some(stop),
+                ..
+            },
+        ) => Ok(stop.cause == Cause::NoMemory),
+        _ => Ok(false),
+    }
+}
+
+// Whether all of a text is printed, or, where an allocation failed, a part of it.
+fn prints(rt: &HostRuntime, print_version: bool, text: &[u8]) -> bool {
+    let mut said = Buffer::new();
+    match runs_out(rt.alloc(), print_version, &mut ToWrite::new(&mut said)) {
+        Ok(false) => said.text() == text,
+        _ => {
+            ran_out(rt);
+            text.starts_with(said.text())
+        }
+    }
 }
 
 #[test]
 fn each_condition_is_checked(rt: HostRuntime) {
-    let mut said = Buffer::new();
-    let stop = checked(rt.alloc(), &mut ToWrite::new(&mut said));
-    match stop {
-        None => assert!(rt; said.text() == SAID),
-        Some(stop) => {
-            // The output before memory ran out is right.
-            assert!(rt; stop.cause == Cause::NoMemory && SAID.starts_with(said.text()));
-            ran_out(&rt);
-        }
-    }
+    assert!(rt; prints(&rt, false, SAID));
+}
+
+#[test]
+fn the_version_is_printed(rt: HostRuntime) {
+    assert!(rt; prints(&rt, true, b"1\n"));
 }

@@ -5,10 +5,10 @@ use Rattle.check_run.proofs.conditions.check_format.Goals as goal
 pub returns-in-Some-clause-checks : goal.returns-in-Some-clause-checks
 returns-in-Some-clause-checks g c =
     let given = c.args.given.now in
-    let whole = states_whole given.bytes.now given.list c.in-Some.field-0 c.requires c.in-Some.is in
-    format_of_whole given.name.now given.bytes.now _ _ _ _ _ whole c.check_openssh.ensures.carries c.check_openssh.ensures.refused (c.read_lists_have_fields.ensures.some given.bytes.now whole.no_fault)
+    let whole = states_whole given.bytes given.list c.in-Some.field-0 c.requires c.in-Some.is in
+    format_of_whole given.name.now given.bytes _ _ _ _ _ whole (rw c.as_slice.ensures at c.check_openssh.ensures.carries) (rw c.as_slice.ensures at c.check_openssh.ensures.refused) (c.read_lists_have_fields.ensures.some given.bytes whole.no_fault)
 
 pub returns-in-None-clause-checks : goal.returns-in-None-clause-checks
 returns-in-None-clause-checks g c =
     let given = c.args.given.now in
-    format_of_lines given.name.now given.bytes.now given.list _ _ c.requires c.in-None.is
+    format_of_lines given.name.now given.bytes given.list _ _ c.requires c.in-None.is

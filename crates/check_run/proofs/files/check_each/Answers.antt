@@ -13,12 +13,12 @@ abbrev nobody : Bor (List ℕ)
 nobody = record { ref_ptr = (0, 0); now = [] }
 
 pub loop-name-init : goal.loop-name-init
-loop-name-init g c = record { checks = λ entries means. rw (named_none c.args.role) (no_file (g.F.Files.states c.args.files.now) (reasons_of entries) _ _ _); list = refl }
+loop-name-init g c = record { checks = λ entries means. rw (named_none c.args.role) (no_file (g.H.Host.states c.args.host.now) (reasons_of entries) _ _ _); list = refl }
 
 pub returns-in_err-check_file-clause-checks : goal.returns-in_err-check_file-clause-checks
 returns-in_err-check_file-clause-checks g c =
     let p = err_from_is_err_and c.from_residual.result c.from_residual.ensures.1 in
-    let Knows = g.F.Files.states c.args.files.now in
+    let Knows = g.H.Host.states c.args.host.now in
     let role = c.args.role in
     let names = c.args.names.now in
     let i = c.loop-name.name-index in
@@ -33,7 +33,7 @@ returns-in_err-check_file-clause-checks g c =
 
 pub loop-name-preserved : goal.loop-name-preserved
 loop-name-preserved g c =
-    let Knows = g.F.Files.states c.args.files.now in
+    let Knows = g.H.Host.states c.args.host.now in
     let role = c.args.role in
     let names = c.args.names.now in
     let i = c.loop-name.name-index in

@@ -10,9 +10,9 @@ pub returns-in_err-check_each : goal.returns-in_err-check_each
 returns-in_err-check_each g c =
     let p = err_from_is_err_and c.from_residual.result c.from_residual.ensures.1 in
     rw (p.1, p.2) (λ entries means.
-    files_stop (g.F.Files.states c.args.files.now) (reasons_of entries) (named_all Keep c.args.keep.now) (named_all Canary c.args.canary.now) c.in_err-check_each.field-0.0 _ _ _ _ _ _ _ _ (c.in_err-check_each.ensures.checks entries means))
+    files_stop (g.H.Host.states c.args.host.now) (reasons_of entries) (named_all Keep c.args.task.now.keep.items) (named_all Canary c.args.task.now.canary.items) c.in_err-check_each.field-0.0 _ _ _ _ _ _ _ _ (rw c.as_slice.ensures.value at (c.in_err-check_each.ensures.checks entries means)))
 
 pub returns : goal.returns
 returns g c = λ entries means.
     let second = rw c.in_ok-check_each.ensures.list at c.check_each-2.ensures.checks in
-    files_then (g.F.Files.states c.args.files.now) (reasons_of entries) (named_all Keep c.args.keep.now) (named_all Canary c.args.canary.now) (tt {0}) _ _ _ _ _ _ _ _ _ _ (c.in_ok-check_each.ensures.checks entries means) (second entries means)
+    files_then (g.H.Host.states c.args.host.now) (reasons_of entries) (named_all Keep c.args.task.now.keep.items) (named_all Canary c.args.task.now.canary.items) (tt {0}) _ _ _ _ _ _ _ _ _ _ (rw c.as_slice.ensures.value at (c.in_ok-check_each.ensures.checks entries means)) (rw c.as_slice-2.ensures.value at (second entries means))

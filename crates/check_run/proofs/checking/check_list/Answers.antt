@@ -1,7 +1,7 @@
 -- Each condition for the list itself is checked, or the check is stopped.
 use Rattle.std.proofs.lemmas.Result.{err_from_is_err_and}
 use Rattle.check_run.proofs.Judging.{empty_stops, format_stops, list_checked, version_stops}
-use Rattle.check_run.proofs.run.check_list.Goals as goal
+use Rattle.check_run.proofs.checking.check_list.Goals as goal
 
 pub returns-in_err-check_format-clause-checks : goal.returns-in_err-check_format-clause-checks
 returns-in_err-check_format-clause-checks g c =

@@ -2,31 +2,31 @@
 use Rattle.std.proofs.Common.{◌∙◌}
 use Rattle.std.proofs.lemmas.Result.{err_from_is_err_and}
 use Rattle.check_run.proofs.Judging.{all_checked, list_stops}
-use Rattle.check_run.proofs.run.check_all.Goals as goal
+use Rattle.check_run.proofs.checking.check_all.Goals as goal
 
 pub returns-in_err-check_list-clause-all : goal.returns-in_err-check_list-clause-all
 returns-in_err-check_list-clause-all g c =
     let p = err_from_is_err_and c.from_residual.result c.from_residual.ensures.1 in
-    let given = c.args.task.given.now in
+    let given = c.args.job.given.now in
     let held = c.args.checker.now.auditor.judge.list.now in
     let read = c.requires.read in
     let law = c.nobody_is_named.ensures held read.entries (rw c.requires.judge read.means) in
     let list = rw c.requires.refused at c.in_err-check_list.ensures.checks in
-    rw (p.1, p.2) (list_stops (g.F.Files.states c.args.files.now) given.name.now given.bytes.now given.list held c.args.task.conditions.now c.args.task.other c.in_err-check_list.field-0.0 _ _ _ _ _ read law list)
+    rw (p.1, p.2) (list_stops (g.H.Host.states c.args.host.now) given.name.now given.bytes given.list held c.args.job.task.now c.args.job.limits c.in_err-check_list.field-0.0 _ _ _ _ _ read law list)
 
 pub returns-in_err-check_list-clause-writer : goal.returns-in_err-check_list-clause-writer
 returns-in_err-check_list-clause-writer g c = c.in_err-check_list.ensures.checks.checks.carries.writer
 
 pub returns-clause-all : goal.returns-clause-all
 returns-clause-all g c =
-    let given = c.args.task.given.now in
+    let given = c.args.job.given.now in
     let held = c.args.checker.now.auditor.judge.list.now in
     let read = c.requires.read in
     let law = c.nobody_is_named.ensures held read.entries (rw c.requires.judge read.means) in
     let list = rw c.requires.refused at c.in_ok-check_list.ensures.checks in
     let all = rw c.in_ok-check_list.ensures.judge at c.check_files.ensures in
     let files = all read.entries (rw c.requires.judge read.means) in
-    all_checked (g.F.Files.states c.args.files.now) given.name.now given.bytes.now given.list held c.args.task.conditions.now c.args.task.other (tt {0}) c.check_files.result _ _ _ _ _ _ _ read law list files (c.in_ok-check_list.ensures.unread ∙ c.requires.unread)
+    all_checked (g.H.Host.states c.args.host.now) given.name.now given.bytes given.list held c.args.job.task.now c.args.job.limits (tt {0}) c.check_files.result _ _ _ _ _ _ _ read law list files (c.in_ok-check_list.ensures.unread ∙ c.requires.unread)
 
 pub returns-clause-writer : goal.returns-clause-writer
 returns-clause-writer g c =

@@ -1,0 +1,99 @@
+//! The check of a list that was read: one condition after the other, and the end.
+
+ghost use Rattle.std.specs.Prelude.{◌≡◌, false};
+ghost use Rattle.any_list.specs.List.{IsReadList};
+ghost use Rattle.check_run.specs.Run.{ChecksAll, ChecksList, EndsChecked};
+
+use crate::conditions::{check_age, check_empty, check_format, check_version};
+use crate::files::check_files;
+use crate::host::Host;
+use crate::limits::Limits;
+use crate::lists::{Given, version_of};
+use byte_streams::Sink;
+use key_files::RunFault;
+use key_listing::{Done, Printer, Run};
+use krl_arguments::Check;
+use krl_audit::Auditor;
+use krl_checker::Checker;
+use krl_checker::laws::nobody_is_named;
+use std::alloc::Global;
+
+/// A list that was read, its limits, and the task.
+#[derive(Clone, Copy)]
+pub(crate) struct Job<'a, 'l> {
+    pub(crate) given: &'l Given<'a>,
+    pub(crate) limits: Limits<'a>,
+    pub(crate) task: &'l Check<'a>,
+}
+
+/// Checks a list that was read, by its limits.
+pub(crate) fn check_by<'a, H: Host, W: Sink>(
+    alloc: Global,
+    job: Job<'a, '_>,
+    host: &H,
+    out: &mut W,
+) -> Done<'a>
+    requires read { IsReadList false job.given.now.bytes job.given.now.list }
+    requires working { W.has_failed out.old ≡ false }
+    ensures { EndsChecked (H.states host.now) job.entry.given.now.name.now
+        job.entry.given.now.bytes job.entry.task.now job.entry.limits (W.taken out.old)
+        (W.taken out.new) (W.has_failed out.new) result.status result.fault }
+{
+    let mut buffer = Vec::new(alloc);
+    let printer = Printer::new(&mut buffer, out);
+    let mut checker = Checker::new(alloc, &job.given.list.revocations, printer);
+    let stop = check_all(&mut checker, job, host);
+    let done = checker.finish(stop.err());
+    let Checker { auditor, .. } = checker;
+    let Auditor { run, .. } = auditor;
+    let Run {
+        printer,
+        line: _line,
+        ..
+    } = run;
+    let Printer { out: _out, .. } = printer;
+    done
+}
+
+// Checks each condition.
+fn check_all<'a, H: Host, W: Sink>(
+    checker: &mut Checker<'_, '_, W>,
+    job: Job<'a, '_>,
+    host: &H,
+) -> Result<(), RunFault<'a>>
+    requires read { IsReadList false job.given.now.bytes job.given.now.list }
+    requires judge { checker.old.auditor.judge.list.now ≡ job.given.now.list.revocations }
+    requires refused { checker.old.refused ≡ false }
+    requires unread { checker.old.unread ≡ false }
+    ensures all { ChecksAll (H.states host.now) job.entry.given.now.name.now
+        job.entry.given.now.bytes job.entry.task.now job.entry.limits result
+        checker.old.auditor.run.printer checker.new.auditor.run.printer checker.new.refused
+        checker.new.unread }
+    ensures writer { checker.new.auditor.run.printer.writer
+        ≡ checker.old.auditor.run.printer.writer }
+{
+    nobody_is_named();
+    check_list(checker, job)?;
+    check_files(checker, host, job.task)
+}
+
+// Checks each condition for the list itself.
+fn check_list<'a, W: Sink>(
+    checker: &mut Checker<'_, '_, W>,
+    job: Job<'a, '_>,
+) -> Result<(), RunFault<'a>>
+    requires { IsReadList false job.given.now.bytes job.given.now.list }
+    ensures checks { ChecksList job.entry.given.now.name.now job.entry.given.now.bytes
+        job.entry.given.now.list.stated checker.old.auditor.judge.list.now
+        job.entry.task.now job.entry.limits result checker.old.auditor.run.printer
+        checker.new.auditor.run.printer checker.old.refused checker.new.refused }
+    ensures unread { checker.new.unread ≡ checker.old.unread }
+    ensures judge { checker.new.auditor.judge ≡ checker.old.auditor.judge }
+{
+    let name = job.given.name;
+    let stated = job.given.list.stated;
+    check_format(checker, job.given)?;
+    check_empty(checker, name, job.task.allow_empty)?;
+    check_version(checker, name, version_of(stated), job.limits.other)?;
+    check_age(checker, name, stated, job.limits.age)
+}

@@ -1,0 +1,62 @@
+//! The limits of a list: the version of another one, and an age.
+
+ghost use Rattle.std.specs.Prelude.{◌≡◌, IfErr, IfOk};
+ghost use Rattle.check_run.specs.Limits.{IsAgeLimit, IsClockless, unanswered_words};
+
+use crate::host::Host;
+use crate::lists::Other;
+
+/// The largest age of a list.
+#[derive(Clone, Copy)]
+pub(crate) struct AgeLimit {
+    /// The present moment, in seconds since 1970.
+    pub(crate) now: u64,
+    /// The largest number of seconds since the list was made.
+    pub(crate) max_age: u64,
+}
+
+/// The list whose version must not be higher, if there is one, and the largest age, if there is
+/// one.
+#[derive(Clone, Copy)]
+pub(crate) struct Limits<'a> {
+    pub(crate) other: Option<Other<'a>>,
+    pub(crate) age: Option<AgeLimit>,
+}
+
+/// Why nothing is said about a list that was read.
+#[derive(Clone, Copy, PartialEq, Eq)]
+pub enum Unanswered {
+    /// Its age is limited, and the clock cannot be read.
+    Clock,
+    /// Its version is wanted, and it is a plain list.
+    Version,
+}
+
+impl Unanswered {
+    /// The words for people.
+    pub fn words(self) -> &'static [u8]
+        ensures { result.now ≡ unanswered_words self }
+    {
+        match self {
+            Unanswered::Clock => b"the clock of this host cannot be read",
+            Unanswered::Version => b"a plain list has no version",
+        }
+    }
+}
+
+/// The limit of the age of a list, if there is one, by the clock of a host.
+pub(crate) fn age_limit<H: Host>(
+    host: &H,
+    max_age: Option<u64>,
+) -> Result<Option<AgeLimit>, Unanswered>
+    ensures limit { IfOk result (λ limit. IsAgeLimit (H.states host.now) max_age limit) }
+    ensures clock { IfErr result (λ why. IsClockless (H.states host.now) max_age why) }
+{
+    let Some(max_age) = max_age else {
+        return Ok(None);
+    };
+    match host.moment() {
+        Some(now) => Ok(Some(AgeLimit { now, max_age })),
+        None => Err(Unanswered::Clock),
+    }
+}

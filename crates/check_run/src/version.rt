@@ -1,0 +1,70 @@
+//! The version of a list, printed alone.
+
+ghost use Rattle.std.specs.Prelude.{◌≡◌, ◌∷◌, [], false};
+ghost use Rattle.key_listing.specs.Carries.{Carries};
+ghost use Rattle.key_listing.specs.Done.{Ends};
+ghost use Rattle.key_listing.specs.Run.{said_of};
+ghost use Rattle.check_run.specs.Version.{PrintsVersion, version_text};
+
+use crate::limits::Unanswered;
+use crate::lists::Given;
+use byte_streams::Sink;
+use key_files::RunFault;
+use key_listing::{Done, Printer, Run};
+use line_pieces::put;
+use std::alloc::Global;
+
+/// Prints the version of a list that was read, if it has one.
+pub(crate) fn print_version<'a, W: Sink>(
+    alloc: Global,
+    given: &Given<'a>,
+    out: &mut W,
+) -> Result<Done<'a>, Unanswered>
+    requires { W.has_failed out.old ≡ false }
+    ensures { PrintsVersion given.now.name.now given.now.list.stated (W.taken out.old)
+        (W.taken out.new) (W.has_failed out.new) result }
+{
+    match given.list.stated {
+        Some(stated) => Ok(say_version(alloc, given.name, stated.version, out)),
+        None => Err(Unanswered::Version),
+    }
+}
+
+// Prints the version of the list of this name, and ends the run.
+fn say_version<'a, W: Sink>(alloc: Global, name: &'a str, version: u64, out: &mut W) -> Done<'a>
+    requires { W.has_failed out.old ≡ false }
+    ensures { Ends (said_of name.now (version_text version) ∷ []) (W.taken out.old)
+        (W.taken out.new) (W.has_failed out.new) result.status result.fault }
+{
+    let mut buffer = Vec::new(alloc);
+    let printer = Printer::new(&mut buffer, out);
+    let line = Vec::new(alloc);
+    let mut run = Run {
+        alloc,
+        printer,
+        line,
+    };
+    let stop = say_line(&mut run, name, version);
+    let done = run.printer.finish(stop.err());
+    let Run {
+        printer,
+        line: _line,
+        ..
+    } = run;
+    let Printer { out: _out, .. } = printer;
+    done
+}
+
+// Prints the line of a version.
+fn say_line<'a, W: Sink>(
+    run: &mut Run<'_, W>,
+    name: &'a str,
+    version: u64,
+) -> Result<(), RunFault<'a>>
+    ensures { Carries (said_of name.now (version_text version) ∷ []) result run.old.printer
+        run.new.printer }
+{
+    run.line.clear();
+    let made = put!(&mut run.line; version, b"\n");
+    run.say_line(name, made)
+}
