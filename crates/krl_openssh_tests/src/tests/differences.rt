@@ -139,8 +139,8 @@ fn sizes_of_rsa_keys(rt: HostRuntime) {
     }
 }
 
-// Authorities with a long exponent, and with a point that is on no curve, since all of its bytes are
-// 4.
+// Authorities with a long exponent, and with a point that is on no curve, since each of its bytes
+// is 4.
 #[test]
 fn keys_that_openssh_refuses(rt: HostRuntime) {
     let alloc = rt.alloc();

@@ -1,4 +1,5 @@
-//! The callers on the pages of `ssh_cert`, `cert_listing` and `line_pieces`, and the subject of a certificate.
+//! The callers on the pages of `ssh_cert`, `cert_listing` and `line_pieces`, and the subject of a
+//! certificate.
 
 ghost use Rattle.std.specs.Prelude.{◌≡◌, ◌++◌, ◌∷◌, [], IfOk, IsTrue, OnOk, codes, decimal};
 ghost use Rattle.cert_listing.specs.Listing.{listing_of};
