@@ -47,7 +47,7 @@ pub fn fail_in_words(rt: &HostRuntime, name: &str, why: &[u8]) -> u8
 
 /// Ends an audit by the list of this name. Where none was made by it, the line says why.
 pub fn end_audit(rt: &HostRuntime, list: &str, audited: Audited) -> u8
-    ensures { result ≡ audit_status audited }
+    ensures { result ≡ audit_status audited.entry }
 {
     match audited {
         Audited::Ended { done, summary } => {
@@ -61,8 +61,8 @@ pub fn end_audit(rt: &HostRuntime, list: &str, audited: Audited) -> u8
     }
 }
 
-// Prints the last line of an audit on standard error. Where there is no memory for the line, nothing
-// is printed.
+// Prints the last line of an audit on standard error. Where there is no memory for the line,
+// nothing is printed.
 fn print_summary(rt: &HostRuntime, summary: &Summary) {
     let mut line = Vec::new(rt.alloc());
     if push_summary(rt.alloc(), summary, &mut line).is_ok() {
