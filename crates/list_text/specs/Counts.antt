@@ -1,0 +1,25 @@
+-- How many facts were printed.
+use Rattle.std.specs.Prelude.{ℕ, ◌+◌, ◌-◌, ◌^◌, List, [], ◌∷◌, min}
+use Rattle.list_text.specs.declared.counts.Counts.{Counts}
+use Rattle.list_text.specs.Facts.{Fact, ListFact, AuthorityFact, SerialsFact, IdFact, KeyFact}
+use Rattle.list_text.specs.Facts.{Sha1Fact, Sha256Fact}
+
+-- this many more, but at most 2^64-1
+abbrev pub plus : (count more : ℕ) → ℕ
+plus count more = min (count + more) (2 ^ 64 - 1)
+
+-- the counts after one more fact; a span counts as its serial numbers
+abbrev pub counted : Counts → Fact → Counts
+counted counts (ListFact name header) = record counts { lists = plus counts.lists 1 }
+counted counts (AuthorityFact authority) =
+    record counts { authorities = plus counts.authorities 1 }
+counted counts (SerialsFact authority span) =
+    record counts { serials = plus (plus counts.serials (span.hi - span.lo)) 1 }
+counted counts (IdFact authority id) = record counts { ids = plus counts.ids 1 }
+counted counts (KeyFact blob) = record counts { keys = plus counts.keys 1 }
+counted counts (Sha1Fact hash) = record counts { hashes = plus counts.hashes 1 }
+counted counts (Sha256Fact hash) = record counts { hashes = plus counts.hashes 1 }
+
+abbrev pub counted_all : Counts → List Fact → Counts
+counted_all counts [] = counts
+counted_all counts (fact ∷ facts) = counted_all (counted counts fact) facts

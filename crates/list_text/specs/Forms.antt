@@ -1,0 +1,18 @@
+-- The lines of lists in each form.
+use Rattle.std.specs.Prelude.{ℕ, List, []}
+use Rattle.list_text.specs.declared.counts.Counts.{Counts}
+use Rattle.list_text.specs.declared.form.Form.{Form}
+use Rattle.list_text.specs.declared.form.Form.TheVariants.{Text, Json}
+use Rattle.list_text.specs.Facts.{Fact}
+use Rattle.list_text.specs.Objects.{done_line, object_line}
+use Rattle.list_text.specs.Text.{fact_line}
+
+-- the line of a fact
+abbrev pub form_line : Form → Fact → List ℕ
+form_line Text fact = fact_line fact
+form_line Json fact = object_line fact
+
+-- the line after all facts
+abbrev pub last_line : Form → Counts → List ℕ
+last_line Text counts = []
+last_line Json counts = done_line counts

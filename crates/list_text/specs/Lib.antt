@@ -1,0 +1,5 @@
+pub mod Facts
+pub mod Text
+pub mod Objects
+pub mod Counts
+pub mod Forms

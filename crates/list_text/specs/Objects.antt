@@ -1,0 +1,70 @@
+-- The facts about a list as JSON objects (krl(1), KRL SHOW).
+use Rattle.std.specs.Prelude.{ℕ, ◌==◌, if◌then◌else◌, List, [], ◌∷◌, codes, decimal, length, Option}
+use Rattle.std.specs.Prelude.{Some, None}
+use Rattle.json.specs.Json.{Json, number}
+use Rattle.json_lines.specs.Field.{Field, array_of, digits_field, field, json_line, number_field}
+use Rattle.json_lines.specs.Field.{object_of, text_field, word_field}
+use Rattle.serial_set.specs.declared.span.Span.{Span}
+use Rattle.key_text.specs.Fingerprints.{fingerprint_text}
+use Rattle.key_text.specs.declared.hash.Hash.TheVariants.{Sha256}
+use Rattle.cert_listing.specs.Time.{instant_text}
+use Rattle.krl_format.specs.declared.header.Header.{Header}
+use Rattle.list_text.specs.declared.counts.Counts.{Counts}
+use Rattle.list_text.specs.Facts.{Fact, ListFact, AuthorityFact, SerialsFact, IdFact, KeyFact}
+use Rattle.list_text.specs.Facts.{Sha1Fact, Sha256Fact}
+use Rattle.list_text.specs.Text.{hash_text}
+
+-- all authorities, or one by the fingerprint of its bytes
+abbrev pub authority_text : List ℕ → List ℕ
+authority_text authority =
+    if length authority == 0 then codes "all" else fingerprint_text Sha256 authority
+
+abbrev pub authority_field : List ℕ → Field
+authority_field authority = text_field (codes "ca") (authority_text authority)
+
+-- the first and the last serial number
+abbrev pub serials_field : Span → Field
+serials_field span = field (codes "serial")
+    (array_of (number (decimal span.lo) ∷ number (decimal span.hi) ∷ []))
+
+abbrev pub hash_field : (label hash : List ℕ) → Field
+hash_field label hash = text_field (codes "hash") (hash_text label hash)
+
+-- the version, the date and the comment of a list; a plain list has none
+abbrev pub header_fields : Option Header → List Field
+header_fields None = []
+header_fields (Some header) =
+    digits_field (codes "version") header.version
+    ∷ text_field (codes "generated") (instant_text header.date)
+    ∷ text_field (codes "comment") header.comment ∷ []
+
+-- the fields of the object of a fact
+abbrev pub fact_fields : Fact → List Field
+fact_fields (ListFact name header) = word_field (codes "list") name ∷ header_fields header
+fact_fields (AuthorityFact authority) = authority_field authority ∷ []
+fact_fields (SerialsFact authority span) = authority_field authority ∷ serials_field span ∷ []
+fact_fields (IdFact authority id) =
+    authority_field authority ∷ text_field (codes "id") id ∷ []
+fact_fields (KeyFact blob) =
+    text_field (codes "key") (fingerprint_text Sha256 blob) ∷ []
+fact_fields (Sha1Fact hash) = hash_field (codes "SHA1:") hash ∷ []
+fact_fields (Sha256Fact hash) = hash_field (codes "SHA256:") hash ∷ []
+
+-- The line of a fact. An authority has no line of its own: it is in those of its facts.
+unfoldable pub object_line : Fact → List ℕ
+object_line (AuthorityFact authority) = []
+object_line fact = json_line (object_of (fact_fields fact))
+
+abbrev pub count_fields : Counts → List Field
+count_fields counts =
+    number_field (codes "lists") counts.lists
+    ∷ number_field (codes "cas") counts.authorities
+    ∷ number_field (codes "serials") counts.serials
+    ∷ number_field (codes "ids") counts.ids
+    ∷ number_field (codes "keys") counts.keys
+    ∷ number_field (codes "hashes") counts.hashes ∷ []
+
+-- the last object: how many facts were printed
+abbrev pub done_line : Counts → List ℕ
+done_line counts =
+    json_line (object_of (word_field (codes "status") (codes "done") ∷ count_fields counts))

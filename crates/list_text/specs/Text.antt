@@ -1,0 +1,109 @@
+-- The text of a list: a line for each fact (krl(1), THE TEXT OF A LIST).
+use Rattle.std.specs.Prelude.{ℕ, ◌==◌, ◌&&◌, ◌||◌, nat_eq, nat_le, not, Bool, false, List, []}
+use Rattle.std.specs.Prelude.{◌∷◌, ◌++◌, codes, decimal, length, map, Option, Some, None, Result}
+use Rattle.std.specs.Prelude.{Ok, Err, if◌then◌else◌}
+use Rattle.std.specs.List.{concat, ends_with, list_all, starts_with}
+use Rattle.base64.specs.Engines.{standard}
+use Rattle.base64.specs.GeneralPurpose.{encode_of}
+use Rattle.hex.specs.Hex.{encode_lower}
+use Rattle.serial_set.specs.declared.span.Span.{Span}
+use Rattle.ssh_key.specs.Key.{PublicKey}
+use Rattle.ssh_key.specs.KeyReading.{key_at}
+use Rattle.ssh_key.specs.Kind.{type_name}
+use Rattle.ssh_key.specs.declared.fault.KeyFault.{KeyFault}
+use Rattle.key_text.specs.Fingerprints.{fingerprint_text, unpadded}
+use Rattle.key_text.specs.declared.hash.Hash.TheVariants.{Sha256}
+use Rattle.cert_listing.specs.Time.{instant_text}
+use Rattle.krl_audit.specs.Visible.{visible}
+use Rattle.krl_entries.specs.Revocations.{Revocations}
+use Rattle.krl_format.specs.declared.header.Header.{Header}
+use Rattle.list_text.specs.Facts.{Fact, ListFact, AuthorityFact, SerialsFact, IdFact, KeyFact}
+use Rattle.list_text.specs.Facts.{Sha1Fact, Sha256Fact, facts_of}
+
+-- ---- keys and certificate authorities
+
+-- A key, as in the line of a .pub file, and its fingerprint as a comment; or bytes that are no plain
+-- key. A key has one blob, so other bytes for the same key are no key.
+abbrev pub named_line : (label blob : List ℕ) → Result PublicKey KeyFault → List ℕ
+named_line label blob (Ok key) =
+    label ++ (codes ": " ++ (type_name key.kind ++ (codes " " ++ (encode_of standard blob
+    ++ (codes " # " ++ (fingerprint_text Sha256 blob ++ codes "\n"))))))
+named_line label blob (Err fault) =
+    label ++ (codes "-blob: " ++ (encode_of standard blob ++ codes "\n"))
+
+-- all authorities, or one
+abbrev pub authority_line : List ℕ → List ℕ
+authority_line authority =
+    if length authority == 0 then codes "ca: all\n"
+    else named_line (codes "ca") authority (key_at authority)
+
+abbrev pub key_line : List ℕ → List ℕ
+key_line blob = named_line (codes "key") blob (key_at blob)
+
+-- ---- serial numbers
+
+-- one serial number, or the first and the last of several
+abbrev pub serials_line : Span → List ℕ
+serials_line span =
+    if span.lo == span.hi then codes "serial: " ++ (decimal span.lo ++ codes "\n")
+    else codes "serial: " ++ (decimal span.lo ++ (codes "-" ++ (decimal span.hi ++ codes "\n")))
+
+-- ---- key IDs
+
+-- ASCII without control characters and without `#`
+abbrev pub is_text_byte : ℕ → Bool
+is_text_byte byte = nat_le 32 byte && (nat_le byte 126 && not (byte == 35))
+
+abbrev pub has_blank_end : List ℕ → Bool
+has_blank_end id =
+    starts_with nat_eq id (codes " ") || ends_with nat_eq id (codes " ")
+
+-- A line can have the key ID as it is: it is not empty, neither end is a blank, and each byte is one
+-- of a text.
+abbrev pub is_text : List ℕ → Bool
+is_text id =
+    not (length id == 0) && (not (has_blank_end id) && list_all is_text_byte id)
+
+abbrev pub id_line : List ℕ → List ℕ
+id_line id =
+    if is_text id then codes "id: " ++ (id ++ codes "\n")
+    else codes "id-hex: " ++ (encode_lower id ++ codes "\n")
+
+-- ---- hashes
+
+-- the name of the hash and a colon, and the hash in base64 without padding, as in fingerprints
+abbrev pub hash_text : (label hash : List ℕ) → List ℕ
+hash_text label hash = label ++ unpadded hash
+
+abbrev pub hash_line : (label hash : List ℕ) → List ℕ
+hash_line label hash = codes "hash: " ++ (label ++ (unpadded hash ++ codes "\n"))
+
+-- ---- lists
+
+abbrev pub comment_part : List ℕ → List ℕ
+comment_part comment =
+    if length comment == 0 then [] else codes ", " ++ visible false comment
+
+-- The comment about a list: the name of its file, and its version, its date and its own comment,
+-- which a plain list does not have.
+abbrev pub list_line : List ℕ → Option Header → List ℕ
+list_line name (Some header) =
+    codes "# " ++ (visible false name ++ (codes ": version " ++ (decimal header.version
+    ++ (codes ", " ++ (instant_text header.date ++ (comment_part header.comment ++ codes "\n"))))))
+list_line name None = codes "# " ++ (visible false name ++ codes ": a plain list\n")
+
+-- ---- all facts
+
+-- the line of a fact
+unfoldable pub fact_line : Fact → List ℕ
+fact_line (ListFact name header) = list_line name header
+fact_line (AuthorityFact authority) = authority_line authority
+fact_line (SerialsFact authority span) = serials_line span
+fact_line (IdFact authority id) = id_line id
+fact_line (KeyFact blob) = key_line blob
+fact_line (Sha1Fact hash) = hash_line (codes "SHA1:") hash
+fact_line (Sha256Fact hash) = hash_line (codes "SHA256:") hash
+
+-- the text of what is held
+abbrev pub text_of : Revocations → List ℕ
+text_of held = concat (map fact_line (facts_of held))

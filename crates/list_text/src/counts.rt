@@ -1,0 +1,53 @@
+//! The number of facts that were printed.
+
+ghost use Rattle.std.specs.Prelude.{◌≡◌};
+ghost use Rattle.list_text.specs.Counts.{counted};
+ghost use Rattle.list_text.specs.Facts.{fact_of};
+
+use crate::fact::Fact;
+
+/// How many facts were printed. Each number is at most 2^64-1.
+#[derive(Clone, Copy)]
+pub struct Counts {
+    /// Lists.
+    pub lists: u64,
+    /// Certificate authorities, in each list. All authorities count as one.
+    pub authorities: u64,
+    /// Serial numbers.
+    pub serials: u64,
+    /// Key IDs.
+    pub ids: u64,
+    /// Keys.
+    pub keys: u64,
+    /// Hashes of keys.
+    pub hashes: u64,
+}
+
+impl Counts {
+    /// Nothing.
+    pub const NONE: Counts = Counts {
+        lists: 0,
+        authorities: 0,
+        serials: 0,
+        ids: 0,
+        keys: 0,
+        hashes: 0,
+    };
+
+    /// Counts a fact.
+    pub fn add(&mut self, fact: Fact<'_>)
+        ensures { self.new ≡ counted self.old (fact_of fact.entry) }
+    {
+        match fact {
+            Fact::List(..) => self.lists = self.lists.saturating_add(1),
+            Fact::Authority(_) => self.authorities = self.authorities.saturating_add(1),
+            Fact::Serials(_, span) => {
+                let between = span.hi.saturating_sub(span.lo);
+                self.serials = self.serials.saturating_add(between).saturating_add(1);
+            }
+            Fact::Id(..) => self.ids = self.ids.saturating_add(1),
+            Fact::Key(_) => self.keys = self.keys.saturating_add(1),
+            Fact::Sha1(_) | Fact::Sha256(_) => self.hashes = self.hashes.saturating_add(1),
+        }
+    }
+}

@@ -1,0 +1,12 @@
+//! The text of a revocation list: what it names, a line for each fact, or a JSON object.
+#![tactic(auto)]
+
+mod counts;
+mod fact;
+mod form;
+mod line;
+mod object;
+
+pub use counts::Counts;
+pub use fact::Fact;
+pub use form::Form;

@@ -1,0 +1,172 @@
+//! The lines of the text of a list (krl(1), THE TEXT OF A LIST).
+
+ghost use Rattle.std.specs.Prelude.{◌≡◌, IfOk, OnOk, option_map};
+ghost use Rattle.std.specs.List.{list_all};
+ghost use Rattle.ssh_key.specs.KeyReading.{key_at};
+ghost use Rattle.list_text.specs.Facts.{fact_of};
+ghost use Rattle.list_text.specs.Text.{authority_line, fact_line, hash_line, hash_text, id_line};
+ghost use Rattle.list_text.specs.Text.{comment_part, has_blank_end, is_text, is_text_byte};
+ghost use Rattle.list_text.specs.Text.{list_line, named_line, serials_line};
+
+use crate::fact::Fact;
+use base64::engine::general_purpose::{STANDARD, STANDARD_NO_PAD};
+use cert_listing::time_text;
+use key_text::{Hash, fingerprint};
+use krl_audit::Visible;
+use krl_format::Header;
+use line_pieces::{Printed, Words, pieces, put};
+use serial_set::Span;
+use ssh_key::read_key;
+use std::alloc::{AllocError, Global};
+
+/// Makes the line of a fact.
+#[tactic(auto, unfolding(crate::specs::Text::fact_line))]
+pub(crate) fn write_line(
+    alloc: Global,
+    fact: Fact<'_>,
+    line: &mut Vec<u8>,
+) -> Result<(), AllocError>
+    ensures { OnOk result (line.new.items ≡ fact_line (fact_of fact.entry)) }
+{
+    match fact {
+        Fact::List(name, header) => write_list(alloc, name, header, line),
+        Fact::Authority(authority) => write_authority(alloc, authority, line),
+        Fact::Serials(_, span) => write_serials(span, line),
+        Fact::Id(_, id) => write_id(alloc, id, line),
+        Fact::Key(blob) => write_named(alloc, b"key", blob, line),
+        Fact::Sha1(hash) => write_hash(alloc, b"SHA1:", hash, line),
+        Fact::Sha256(hash) => write_hash(alloc, b"SHA256:", hash, line),
+    }
+}
+
+// The comment of a list, if it has one, after a comma.
+#[derive(Clone, Copy)]
+struct Comment<'a>(&'a [u8]);
+
+impl<'a> Printed for Comment<'a> {
+    ghost text = { λ comment. comment_part comment.0.now };
+
+    fn push_to(&self, out: &mut Vec<u8>) -> Result<(), AllocError> {
+        if self.0.is_empty() {
+            return Ok(());
+        }
+        put!(out; b", ", Visible(self.0, false))
+    }
+}
+
+// Makes the comment about a list.
+fn write_list(
+    alloc: Global,
+    name: &str,
+    header: Option<&Header>,
+    line: &mut Vec<u8>,
+) -> Result<(), AllocError>
+    ensures { OnOk result (line.new.items
+        ≡ list_line name.now (option_map (λ header. header.now) header.entry)) }
+{
+    line.clear();
+    let name = Visible(name.as_bytes(), false);
+    let Some(header) = header else {
+        return put!(line; b"# ", name, b": a plain list\n");
+    };
+    let date = time_text(alloc, header.date)?;
+    put!(line; b"# ", name, b": version ", header.version, b", ", Words(&date),
+        Comment(header.comment.as_slice()), b"\n")
+}
+
+// Makes the line of an authority.
+fn write_authority(alloc: Global, authority: &[u8], line: &mut Vec<u8>) -> Result<(), AllocError>
+    ensures { OnOk result (line.new.items ≡ authority_line authority.now) }
+{
+    if authority.is_empty() {
+        line.clear();
+        return put!(line; b"ca: all\n");
+    }
+    write_named(alloc, b"ca", authority, line)
+}
+
+// Makes the line of a key, or of bytes that are no key.
+fn write_named(
+    alloc: Global,
+    label: &[u8],
+    blob: &[u8],
+    line: &mut Vec<u8>,
+) -> Result<(), AllocError>
+    ensures { OnOk result (line.new.items ≡ named_line label.now blob.now (key_at blob.now)) }
+{
+    line.clear();
+    let encoded = STANDARD.encode(alloc, blob)?;
+    let encoded = Words(encoded.as_bytes());
+    let Ok(key) = read_key(blob) else {
+        return put!(line; Words(label), b"-blob: ", encoded, b"\n");
+    };
+    let print = fingerprint(alloc, Hash::Sha256, blob)?;
+    let kind = Words(key.kind().name().as_bytes());
+    put!(line; Words(label), b": ", kind, b" ", encoded, b" # ", Words(&print), b"\n")
+}
+
+// Makes the line of serial numbers: of one, or of the first and the last.
+fn write_serials(span: Span, line: &mut Vec<u8>) -> Result<(), AllocError>
+    ensures { OnOk result (line.new.items ≡ serials_line span) }
+{
+    line.clear();
+    if span.lo == span.hi {
+        return put!(line; b"serial: ", span.lo, b"\n");
+    }
+    put!(line; b"serial: ", span.lo, b"-", span.hi, b"\n")
+}
+
+// Makes the line of a key ID.
+fn write_id(alloc: Global, id: &[u8], line: &mut Vec<u8>) -> Result<(), AllocError>
+    ensures { OnOk result (line.new.items ≡ id_line id.now) }
+{
+    line.clear();
+    if is_text(id) {
+        return put!(line; b"id: ", Words(id), b"\n");
+    }
+    let digits = hex::encode(alloc, id)?;
+    put!(line; b"id-hex: ", Words(digits.as_bytes()), b"\n")
+}
+
+// Whether a line can have a key ID as it is.
+fn is_text(id: &[u8]) -> bool
+    ensures { result ≡ is_text id.now }
+{
+    !id.is_empty() && !has_blank_end(id) && are_text_bytes(id)
+}
+
+// Whether a line can have each byte as it is, and none is a `#`.
+fn are_text_bytes(id: &[u8]) -> bool
+    ensures { result ≡ list_all is_text_byte id.now }
+{
+    id.iter().all(|byte| is_text_byte(*byte))
+}
+
+// Whether a key ID begins or ends with a blank.
+fn has_blank_end(id: &[u8]) -> bool
+    ensures { result ≡ has_blank_end id.now }
+{
+    id.starts_with(b" ") || id.ends_with(b" ")
+}
+
+// Whether a line can have a byte as it is, and it is no `#`.
+fn is_text_byte(byte: u8) -> bool
+    ensures { result ≡ is_text_byte byte }
+{
+    32 <= byte && byte <= 126 && byte != b'#'
+}
+
+// Makes the line of a hash.
+#[tactic(auto, unfolding(key_text::specs::Fingerprints::unpadded))]
+fn write_hash(
+    alloc: Global,
+    label: &[u8],
+    hash: &[u8],
+    line: &mut Vec<u8>,
+) -> Result<(), AllocError>
+    ensures { OnOk result (line.new.items ≡ hash_line label.now hash.now) }
+{
+    line.clear();
+    let text = STANDARD_NO_PAD.encode(alloc, hash)?;
+    put!(line; b"hash: ", Words(label), Words(text.as_bytes()), b"\n")
+}

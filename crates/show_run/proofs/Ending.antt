@@ -1,0 +1,15 @@
+-- The end of a run.
+use Rattle.show_run.proofs.Common.{[], ◌++◌, ◌∷◌, ◌≡◌, counted_all, Fact, fact_items, false, Form, line_item, List, lists_facts, refl, ℕ}
+use Rattle.key_listing.specs.Run.{outcome_of}
+use Rattle.list_text.specs.Forms.{last_line}
+use Rattle.show_run.specs.Run.{nothing_shown, run_items}
+use Rattle.show_run.specs.declared.lists.Given.{Given}
+
+-- No line reports a revoked key.
+plain_items : (form : Form) (facts : List Fact) (last : List ℕ) → (outcome_of (fact_items form facts ++ line_item last ∷ [])).revoked ≡ false
+plain_items form [] last = refl
+plain_items form (fact ∷ facts) last = plain_items form facts last
+
+pub plain_run : (form : Form) (lists : List Given) → (outcome_of (run_items form lists)).revoked ≡ false
+unfolding run_items
+plain_run form lists = plain_items form (lists_facts lists) (last_line form (counted_all nothing_shown (lists_facts lists)))

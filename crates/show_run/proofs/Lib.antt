@@ -1,0 +1,4 @@
+pub mod Common
+pub mod Showing
+pub mod Reading
+pub mod Ending

@@ -1,0 +1,7 @@
+-- The lists so far were read.
+use Rattle.show_run.proofs.Common.{take}
+use Rattle.show_run.specs.Lists.{AreGiven}
+use Rattle.show_run.proofs.lists.read_lists.Given as goal
+
+abbrev pub invariant-loop-name : goal.invariant-loop-name
+invariant-loop-name g l = AreGiven (g.L.Lists.states l.lists) (take l.name-index l.names) l.all.items

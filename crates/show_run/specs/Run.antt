@@ -1,0 +1,43 @@
+-- A whole run that shows lists: what it prints, and how it ends.
+use Rattle.std.specs.Borrow.{Bor}
+use Rattle.std.specs.Prelude.{◌≡◌, ℕ, Bool, false, List, [], ◌∷◌, ◌++◌, Option, Some, Result}
+use Rattle.key_files.specs.RunFault.{RunFault}
+use Rattle.key_files.specs.declared.cause.Cause.{Cause}
+use Rattle.key_listing.specs.Done.{Ends}
+use Rattle.key_listing.specs.Run.{Item, outcome_of}
+use Rattle.list_text.specs.Counts.{counted_all}
+use Rattle.list_text.specs.Forms.{last_line}
+use Rattle.list_text.specs.declared.counts.Counts.{Counts}
+use Rattle.list_text.specs.declared.form.Form.{Form}
+use Rattle.show_run.specs.Lists.{AreGiven, IsFirstRefused}
+use Rattle.show_run.specs.Showing.{fact_items, line_item, lists_facts}
+use Rattle.show_run.specs.declared.lists.Given.{Given}
+
+abbrev pub nothing_shown : Counts
+nothing_shown =
+    record { lists = 0; authorities = 0; serials = 0; ids = 0; keys = 0; hashes = 0 }
+
+-- the lines of lists, and the last line
+unfoldable pub run_items : Form → List Given → List Item
+run_items form lists =
+    fact_items form (lists_facts lists)
+    ++ line_item (last_line form (counted_all nothing_shown (lists_facts lists))) ∷ []
+
+-- The run printed the lines of these lists, or was stopped within them. The status is 0, or 255 if
+-- the run was stopped, since no line reports a revoked key.
+pub record EndsShown (form : Form) (lists : List Given) (before after : Option (List ℕ))
+    (failed : Bool) (status : ℕ) (fault : Option RunFault) : Type 0 where
+  pub plain : (outcome_of (run_items form lists)).revoked ≡ false
+  pub ends : Ends (run_items form lists) before after failed status fault
+
+-- All lists of these names were read, and the run came to an end; or one was not read, and nothing
+-- was printed.
+pub data EndsShowRun (Knows : List ℕ → Result (List ℕ) Cause → Type 0)
+    (names : List (Bor (List ℕ))) (form : Form) (before after : Option (List ℕ)) (failed : Bool)
+    (status : ℕ) (fault : Option RunFault) : Type 0 where
+  shown : (lists : List Given) → AreGiven Knows names lists
+      → EndsShown form lists before after failed status fault
+      → EndsShowRun Knows names form before after failed status fault
+  refused : (stop : RunFault) → IsFirstRefused Knows names stop → fault ≡ Some stop
+      → status ≡ 255 → after ≡ before → failed ≡ false
+      → EndsShowRun Knows names form before after failed status fault

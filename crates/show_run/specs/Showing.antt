@@ -1,0 +1,46 @@
+-- Facts that were shown.
+use Rattle.std.specs.Prelude.{◌≡◌, ℕ, List, [], ◌∷◌, map, Option, OnOk, Result, codes}
+use Rattle.std.specs.List.{flat_map}
+use Rattle.key_files.specs.RunFault.{RunFault}
+use Rattle.key_listing.specs.Carries.{Carries}
+use Rattle.key_listing.specs.Printer.{Printer}
+use Rattle.key_listing.specs.Run.{Item, said_of}
+use Rattle.list_text.specs.Counts.{counted_all}
+use Rattle.list_text.specs.Facts.{Fact, IdFact, KeyFact, ListFact, Sha1Fact, Sha256Fact, facts_of}
+use Rattle.list_text.specs.Forms.{form_line}
+use Rattle.list_text.specs.declared.counts.Counts.{Counts}
+use Rattle.list_text.specs.declared.form.Form.{Form}
+use Rattle.show_run.specs.declared.lists.Given.{Given}
+use Rattle.show_run.specs.declared.walk.Kind.{Kind}
+use Rattle.show_run.specs.declared.walk.Kind.TheVariants as kinds
+
+-- the item of a line; the name is that of its fault if there is no memory for it
+abbrev pub line_item : List ℕ → Item
+line_item text = said_of (codes "memory") text
+
+abbrev pub fact_item : Form → Fact → Item
+fact_item form fact = line_item (form_line form fact)
+
+abbrev pub fact_items : Form → List Fact → List Item
+fact_items form facts = map (fact_item form) facts
+
+-- Exactly the lines of these facts were printed, and the facts were counted; or the run was stopped
+-- within them.
+pub record Shows (form : Form) (facts : List Fact) (result : Result (Unit {0}) RunFault)
+    (old new : Printer) (before after : Counts) : Type 0 where
+  pub carries : Carries (fact_items form facts) result old new
+  pub count : OnOk result (after ≡ counted_all before facts)
+
+-- some bytes as a fact
+abbrev pub kind_fact : Kind → List ℕ → Fact
+kind_fact (kinds.Id authority) bytes = IdFact authority.now bytes
+kind_fact kinds.Key bytes = KeyFact bytes
+kind_fact kinds.Sha1 bytes = Sha1Fact bytes
+kind_fact kinds.Sha256 bytes = Sha256Fact bytes
+
+-- a list: its name and header, and what it names
+unfoldable pub given_facts : Given → List Fact
+given_facts given = ListFact given.name.now given.header ∷ facts_of given.revocations
+
+unfoldable pub lists_facts : List Given → List Fact
+lists_facts lists = flat_map given_facts lists

@@ -1,0 +1,10 @@
+//! Revocation lists that are shown as texts, as one run.
+#![tactic(auto)]
+
+mod lists;
+mod run;
+mod shower;
+mod walk;
+
+pub use lists::Lists;
+pub use run::show_run;

@@ -1,0 +1,126 @@
+//! The lists that a run shows.
+
+ghost use Rattle.std.specs.Prelude.{◌≡◌, ℕ, IfErr, IfOk, List, Result, false, option_map, true};
+ghost use Rattle.any_list.specs.List.{IsListFault, IsWholeFault};
+ghost use Rattle.key_files.specs.declared.cause.Cause.{Cause as CauseOf};
+ghost use Rattle.plain_list.specs.Any.{begins_list};
+ghost use Rattle.show_run.specs.Lists.{AreGiven, IsFirstRefused, IsGiven, IsGivenBy, IsRefused};
+
+use any_list::read_list;
+use byte_streams::Lent;
+use key_files::{Cause, RunFault, cause_of};
+use krl_core::{Header, MAGIC, Revocations, read_krl};
+use span_sets::Held;
+use ssh_wire::Bytes;
+use std::alloc::Global;
+
+/// The files of lists that a run may read.
+pub trait Lists {
+    // the facts that it may state: the bytes of the file of a name, or why they are not read
+    ghost states: { Self → List ℕ → Result (List ℕ) CauseOf → Type 0 };
+
+    /// The bytes of the file of this name. The first 67,108,865 of a list that is too long are
+    /// enough.
+    fn read(&self, alloc: Global, name: &str) -> Result<Bytes, Cause>
+        ensures { states self.now name.now result };
+}
+
+/// A list that was read: the name of its file, its header unless it is a plain list, and what it
+/// names.
+#[derive(Drop)]
+pub(crate) struct Given<'a> {
+    pub(crate) name: &'a str,
+    pub(crate) header: Option<Header>,
+    pub(crate) revocations: Revocations<Held>,
+}
+
+impl<'a> Given<'a> {
+    /// The header, if there is one.
+    pub(crate) fn header(&self) -> Option<&Header>
+        ensures { option_map (λ header. header.now) result ≡ self.now.header }
+    {
+        match &self.header {
+            Some(header) => Some(header),
+            None => None,
+        }
+    }
+}
+
+/// Reads the lists of these names, or says why the first one that cannot be read is refused.
+pub(crate) fn read_lists<'a, L: Lists>(
+    alloc: Global,
+    lists: &L,
+    names: &[&'a str],
+) -> Result<Vec<Given<'a>>, RunFault<'a>>
+    ensures found { IfOk result (λ read. AreGiven (L.states lists.now) names.now read.items) }
+    ensures fault { IfErr result (λ stop. IsFirstRefused (L.states lists.now) names.now stop) }
+{
+    let mut all = Vec::new(alloc);
+    for name in names {
+        let given = read_given(alloc, lists, *name)?;
+        let Ok(()) = all.push(given) else {
+            return Err(RunFault::whole(*name, Cause::NoMemory));
+        };
+    }
+    Ok(all)
+}
+
+// Reads the list of this name.
+fn read_given<'a, L: Lists>(
+    alloc: Global,
+    lists: &L,
+    name: &'a str,
+) -> Result<Given<'a>, RunFault<'a>>
+    ensures found { IfOk result (λ given. IsGiven (L.states lists.now) name.now given) }
+    ensures fault { IfErr result (λ stop. IsRefused (L.states lists.now) name.now stop) }
+{
+    match lists.read(alloc, name) {
+        Ok(bytes) => read_bytes(alloc, name, bytes.as_slice()),
+        Err(cause) => Err(RunFault::whole(name, cause)),
+    }
+}
+
+// Reads a list from its bytes.
+fn read_bytes<'a>(alloc: Global, name: &'a str, bytes: &[u8]) -> Result<Given<'a>, RunFault<'a>>
+    ensures found { IfOk result (λ given. IsGivenBy name.now bytes.now given) }
+    ensures fault { IfErr result (λ stop. IsListFault name.now bytes.now stop) }
+{
+    if bytes.starts_with(MAGIC) {
+        read_whole(alloc, name, bytes)
+    } else {
+        read_lines(alloc, name, bytes)
+    }
+}
+
+// Reads a key revocation list, with its header.
+fn read_whole<'a>(alloc: Global, name: &'a str, bytes: &[u8]) -> Result<Given<'a>, RunFault<'a>>
+    requires { begins_list bytes.now ≡ true }
+    ensures found { IfOk result (λ given. IsGivenBy name.now bytes.now given) }
+    ensures fault { IfErr result (λ stop. IsWholeFault name.now bytes.now stop) }
+{
+    let (read, _lent) = read_krl::<Held, _>(alloc, Lent::new(bytes));
+    match read {
+        Ok((header, revocations)) => Ok(Given {
+            name,
+            header: Some(header),
+            revocations,
+        }),
+        Err(fault) => Err(RunFault::whole(name, cause_of(fault))),
+    }
+}
+
+// Reads a plain list, which has no header.
+fn read_lines<'a>(alloc: Global, name: &'a str, bytes: &[u8]) -> Result<Given<'a>, RunFault<'a>>
+    requires { begins_list bytes.now ≡ false }
+    ensures found { IfOk result (λ given. IsGivenBy name.now bytes.now given) }
+    ensures fault { IfErr result (λ stop. IsListFault name.now bytes.now stop) }
+{
+    match read_list(alloc, name, bytes, false) {
+        Ok(list) => Ok(Given {
+            name,
+            header: None,
+            revocations: list.revocations,
+        }),
+        Err(fault) => Err(fault),
+    }
+}

@@ -1,0 +1,80 @@
+//! The whole run.
+
+ghost use Rattle.std.specs.Prelude.{◌≡◌, false};
+ghost use Rattle.key_listing.specs.Carries.{Carries};
+ghost use Rattle.show_run.specs.Run.{EndsShowRun, EndsShown, nothing_shown, run_items};
+
+use crate::lists::{Given, Lists, read_lists};
+use crate::shower::{Shower, show_last};
+use crate::walk::show_lists;
+use byte_streams::Sink;
+use key_files::RunFault;
+use key_listing::{Done, FAILED, Printer, Run};
+use list_text::{Counts, Form};
+use std::alloc::Global;
+
+/// Shows the lists of these names, one after the other. All of them are read before anything is
+/// printed, so that no list is missing from what is printed. The status is 255 if a list was not
+/// read or the run was stopped, otherwise 0.
+pub fn show_run<'a, L: Lists, W: Sink>(
+    alloc: Global,
+    lists: &L,
+    names: &[&'a str],
+    form: Form,
+    out: &mut W,
+) -> Done<'a>
+    requires { W.has_failed out.old ≡ false }
+    ensures { EndsShowRun (L.states lists.now) names.now form (W.taken out.old) (W.taken out.new)
+        (W.has_failed out.new) result.status result.fault }
+{
+    match read_lists(alloc, lists, names) {
+        Ok(read) => show_all(alloc, read.as_slice(), form, out),
+        Err(fault) => Done {
+            status: FAILED,
+            fault: Some(fault),
+        },
+    }
+}
+
+// Shows lists that were read.
+fn show_all<'a, W: Sink>(alloc: Global, lists: &[Given<'_>], form: Form, out: &mut W) -> Done<'a>
+    requires { W.has_failed out.old ≡ false }
+    ensures { EndsShown form lists.now (W.taken out.old) (W.taken out.new) (W.has_failed out.new)
+        result.status result.fault }
+{
+    let mut buffer = Vec::new(alloc);
+    let printer = Printer::new(&mut buffer, out);
+    let line = Vec::new(alloc);
+    let mut shower = Shower {
+        run: Run {
+            alloc,
+            printer,
+            line,
+        },
+        counts: Counts::NONE,
+    };
+    let stop = show_each(&mut shower, form, lists);
+    let done = shower.run.printer.finish(stop.err());
+    let Shower { run, .. } = shower;
+    let Run {
+        printer,
+        line: _line,
+        ..
+    } = run;
+    let Printer { out: _out, .. } = printer;
+    done
+}
+
+// Shows the lists and the last line.
+fn show_each<'a, W: Sink>(
+    shower: &mut Shower<'_, W>,
+    form: Form,
+    lists: &[Given<'_>],
+) -> Result<(), RunFault<'a>>
+    requires { shower.old.counts ≡ nothing_shown }
+    ensures { Carries (run_items form lists.now) result shower.old.run.printer
+        shower.new.run.printer }
+{
+    show_lists(shower, form, lists)?;
+    show_last(shower, form)
+}

@@ -1,0 +1,126 @@
+//! The lines of single facts.
+
+use list_text::{Counts, Fact, Form};
+use serial_set::Span;
+use test_fixtures::{GITHUB, GITHUB_LINE, GITHUB_PRINT, joined};
+
+// Key IDs, and their lines.
+const IDS: [(&[u8], &[u8]); 17] = [
+    (b"bob", b"id: bob\n"),
+    (
+        b"eve@example.com, desk 2: \"x\"",
+        b"id: eve@example.com, desk 2: \"x\"\n",
+    ),
+    (b"!", b"id: !\n"),
+    (b"~", b"id: ~\n"),
+    (b"a b", b"id: a b\n"),
+    (b"eve#1", b"id-hex: 6576652331\n"),
+    (b"", b"id-hex: \n"),
+    (b" ", b"id-hex: 20\n"),
+    (b" a", b"id-hex: 2061\n"),
+    (b"a ", b"id-hex: 6120\n"),
+    (b"a\tb", b"id-hex: 610962\n"),
+    (b"a\r", b"id-hex: 610d\n"),
+    (b"a\nb", b"id-hex: 610a62\n"),
+    (b"\x1f", b"id-hex: 1f\n"),
+    (b"\x7f", b"id-hex: 7f\n"),
+    (b"\x80\xff", b"id-hex: 80ff\n"),
+    (b"\0", b"id-hex: 00\n"),
+];
+
+#[test]
+fn key_ids(rt: HostRuntime) {
+    let mut line = Vec::new(rt.alloc());
+    for (i, (id, text)) in IDS.iter().enumerate() {
+        let made = Form::Text.write_fact(rt.alloc(), Fact::Id(b"", id), &mut line);
+        assert!(rt; made.is_ok() && line.as_slice() == *text, "in row {i}");
+    }
+}
+
+// Facts, and their lines as text and as JSON.
+const FACTS: [(Fact<'static>, &[u8], &[u8]); 9] = [
+    (Fact::Authority(b""), b"ca: all\n", b""),
+    (Fact::Authority(b"ssh"), b"ca-blob: c3No\n", b""),
+    (
+        Fact::Key(b"\0"),
+        b"key-blob: AA==\n",
+        b"{\"key\":\"SHA256:bjQLnP+zepicpUTmu3gKLHiQHT+zNzh2hRGjBhevoB0\"}\n",
+    ),
+    (
+        Fact::Serials(b"", Span { lo: 9, hi: 9 }),
+        b"serial: 9\n",
+        b"{\"ca\":\"all\",\"serial\":[9,9]}\n",
+    ),
+    (
+        Fact::Serials(b"", Span { lo: 100, hi: 199 }),
+        b"serial: 100-199\n",
+        b"{\"ca\":\"all\",\"serial\":[100,199]}\n",
+    ),
+    (
+        Fact::Serials(
+            b"",
+            Span {
+                lo: 1,
+                hi: 18_446_744_073_709_551_615,
+            },
+        ),
+        b"serial: 1-18446744073709551615\n",
+        b"{\"ca\":\"all\",\"serial\":[1,18446744073709551615]}\n",
+    ),
+    (
+        Fact::Id(b"", b"b\"b"),
+        b"id: b\"b\n",
+        b"{\"ca\":\"all\",\"id\":\"b\\\"b\"}\n",
+    ),
+    (
+        Fact::Sha1(&[0; 20]),
+        b"hash: SHA1:AAAAAAAAAAAAAAAAAAAAAAAAAAA\n",
+        b"{\"hash\":\"SHA1:AAAAAAAAAAAAAAAAAAAAAAAAAAA\"}\n",
+    ),
+    (
+        Fact::Sha256(&[0; 32]),
+        b"hash: SHA256:AAAAAAAAAAAAAAAAAAAAAAAAAAAAAAAAAAAAAAAAAAA\n",
+        b"{\"hash\":\"SHA256:AAAAAAAAAAAAAAAAAAAAAAAAAAAAAAAAAAAAAAAAAAA\"}\n",
+    ),
+];
+
+#[test]
+fn facts(rt: HostRuntime) {
+    let mut line = Vec::new(rt.alloc());
+    for (i, (fact, text, object)) in FACTS.iter().enumerate() {
+        let made = Form::Text.write_fact(rt.alloc(), *fact, &mut line);
+        assert!(rt; made.is_ok() && line.as_slice() == *text, "in row {i}");
+        let made = Form::Json.write_fact(rt.alloc(), *fact, &mut line);
+        assert!(rt;
+            made.is_ok() && line.as_slice() == *object,
+            "in row {i} as JSON"
+        );
+    }
+}
+
+// The published key, and its line as an authority.
+#[test]
+fn a_key_with_its_fingerprint(rt: HostRuntime) {
+    let mut line = Vec::new(rt.alloc());
+    let made = Form::Text.write_fact(rt.alloc(), Fact::Authority(GITHUB), &mut line);
+    let wanted = joined(
+        rt.alloc(),
+        &[b"ca: ", GITHUB_LINE, b" # ", GITHUB_PRINT, b"\n"],
+    );
+    assert!(rt; made.is_ok() && line == wanted.expect(&rt, "there is memory"));
+    let made = Form::Json.write_fact(rt.alloc(), Fact::Id(GITHUB, b"\xff"), &mut line);
+    let parts: &[&[u8]] = &[b"{\"ca\":\"", GITHUB_PRINT, b"\",\"id_base64\":\"/w==\"}\n"];
+    let wanted = joined(rt.alloc(), parts);
+    assert!(rt; made.is_ok() && line == wanted.expect(&rt, "there is memory"));
+}
+
+// A count stops at the largest number.
+#[test]
+fn the_largest_count(rt: HostRuntime) {
+    let most = 18_446_744_073_709_551_615;
+    let mut counts = Counts::NONE;
+    counts.add(Fact::Serials(b"", Span { lo: 1, hi: most }));
+    assert!(rt; counts.serials == most);
+    counts.add(Fact::Serials(b"", Span { lo: 1, hi: 1 }));
+    assert!(rt; counts.serials == most && counts.keys == 0);
+}

@@ -1,0 +1,37 @@
+//! The callers of the pages of `list_text` and `show_run`.
+
+ghost use Rattle.std.specs.Prelude.{◌≡◌, [], IfOk, false};
+ghost use Rattle.list_text.specs.Facts.{IdFact};
+ghost use Rattle.list_text.specs.Text.{fact_line};
+
+use crate::tests::runs::Shelf;
+use byte_streams::{Sink, ToWrite};
+use list_text::{Fact, Form};
+use show_run::{Lists, show_run};
+use std::alloc::{AllocError, Global};
+use test_fixtures::Taker;
+
+/// The line of a key ID in the text of a list.
+fn id_line(alloc: Global, id: &[u8]) -> Result<Vec<u8>, AllocError>
+    ensures { IfOk result (λ line. line.items ≡ fact_line (IdFact [] id.now)) }
+{
+    let mut line = Vec::new(alloc);
+    Form::Text.write_fact(alloc, Fact::Id(&[], id), &mut line)?;
+    Ok(line)
+}
+
+/// Whether the lists of these names can be read and printed as a text.
+fn are_shown<L: Lists, W: Sink>(alloc: Global, lists: &L, names: &[&str], out: &mut W) -> bool
+    requires { W.has_failed out.old ≡ false }
+{
+    show_run(alloc, lists, names, Form::Text, out).status == 0
+}
+
+#[test]
+fn the_callers_of_the_pages(rt: HostRuntime) {
+    let line = id_line(rt.alloc(), b"bob").expect(&rt, "there is memory");
+    assert!(rt; line.as_slice() == b"id: bob\n".as_slice());
+    let mut said = Taker::whole(rt.alloc());
+    assert!(rt; are_shown(rt.alloc(), &Shelf, &["five"], &mut ToWrite::new(&mut said)));
+    assert!(rt; !are_shown(rt.alloc(), &Shelf, &["gone"], &mut ToWrite::new(&mut said)));
+}

@@ -1,0 +1,152 @@
+//! Whole runs, over a few lists in memory.
+
+use byte_streams::ToWrite;
+use key_files::{Cause, FileFault};
+use krl_types::KrlFault;
+use list_text::Form;
+use show_run::{Lists, show_run};
+use ssh_wire::Bytes;
+use std::alloc::Global;
+use test_fixtures::{BITMAP, FIVE, GITHUB_LINE, ID_A, KEY_SECTION, SHA256_SECTION, Taker, list_of};
+
+// Lists in memory.
+pub struct Shelf;
+
+impl Lists for Shelf {
+    ghost states = { λ _ _ _. Unit {0} };
+
+    fn read(&self, alloc: Global, name: &str) -> Result<Bytes, Cause> {
+        let made = match name {
+            "five" => list_of(alloc, FIVE),
+            "odd" => list_of(alloc, BITMAP),
+            "id" => list_of(alloc, ID_A),
+            "key" => list_of(alloc, KEY_SECTION),
+            "hash" => list_of(alloc, SHA256_SECTION),
+            "plain" => Vec::from_slice(alloc, GITHUB_LINE),
+            "short" => Vec::from_slice(alloc, b"SSHKRL\n\0"),
+            "said" => Vec::from_slice(alloc, SAID),
+            _ => return Err(Cause::File(FileFault::Open)),
+        };
+        match made {
+            Ok(bytes) => Ok(Bytes::from_vec(bytes)),
+            Err(_) => Err(Cause::NoMemory),
+        }
+    }
+}
+
+// A list of version 7 with the comment `a`, a line feed and `b`.
+const SAID: &[u8] = b"SSHKRL\n\0\0\0\0\x01\0\0\0\0\0\0\0\x07\0\0\0\0\0\0\0\0\
+\0\0\0\0\0\0\0\0\0\0\0\0\0\0\0\x03a\nb";
+
+// The form of some lists, the text that is printed, the status, and the name and the cause of the
+// fault.
+type Row = (
+    Form,
+    &'static [&'static str],
+    &'static [u8],
+    u8,
+    Option<(&'static str, Cause)>,
+);
+
+const ROWS: [Row; 9] = [
+    (
+        Form::Text,
+        &["five"],
+        b"# five: version 1, 1970-01-01T00:00:00Z\nca: all\nserial: 5\n",
+        0,
+        None,
+    ),
+    // Several lists, one after the other.
+    (
+        Form::Text,
+        &["odd", "id"],
+        b"# odd: version 1, 1970-01-01T00:00:00Z\nca: all\nserial: 1\nserial: 3\nserial: 5\nserial: 7
+# id: version 1, 1970-01-01T00:00:00Z\nca: all\nid: a\n",
+        0,
+        None,
+    ),
+    (
+        Form::Text,
+        &["key", "plain"],
+        b"# key: version 1, 1970-01-01T00:00:00Z
+key: ssh-ed25519 AAAAC3NzaC1lZDI1NTE5AAAAIOMqqnkVzrm0SdG6UOoqKLsabgH5C9okWi0dh2l9GKJl \
+# SHA256:+DiY3wvvV6TuJJhbpZisF/zLDA0zPMSvHdkr4UvCOqU
+# plain: a plain list
+key: ssh-ed25519 AAAAC3NzaC1lZDI1NTE5AAAAIOMqqnkVzrm0SdG6UOoqKLsabgH5C9okWi0dh2l9GKJl \
+# SHA256:+DiY3wvvV6TuJJhbpZisF/zLDA0zPMSvHdkr4UvCOqU\n",
+        0,
+        None,
+    ),
+    (
+        Form::Text,
+        &["said", "hash"],
+        b"# said: version 7, 1970-01-01T00:00:00Z, a\\x0ab
+# hash: version 1, 1970-01-01T00:00:00Z
+hash: SHA256:+DiY3wvvV6TuJJhbpZisF/zLDA0zPMSvHdkr4UvCOqU\n",
+        0,
+        None,
+    ),
+    (
+        Form::Json,
+        &["said", "odd", "plain"],
+        b"{\"list\":\"said\",\"version\":\"7\",\"generated\":\"1970-01-01T00:00:00Z\",\"comment\":\"a\\nb\"}
+{\"list\":\"odd\",\"version\":\"1\",\"generated\":\"1970-01-01T00:00:00Z\",\"comment\":\"\"}
+{\"ca\":\"all\",\"serial\":[1,1]}
+{\"ca\":\"all\",\"serial\":[3,3]}
+{\"ca\":\"all\",\"serial\":[5,5]}
+{\"ca\":\"all\",\"serial\":[7,7]}
+{\"list\":\"plain\"}
+{\"key\":\"SHA256:+DiY3wvvV6TuJJhbpZisF/zLDA0zPMSvHdkr4UvCOqU\"}
+{\"status\":\"done\",\"lists\":3,\"cas\":1,\"serials\":4,\"ids\":0,\"keys\":1,\"hashes\":0}\n",
+        0,
+        None,
+    ),
+    (Form::Text, &[], b"", 0, None),
+    // Nothing is printed where one of them is not read.
+    (
+        Form::Text,
+        &["five", "gone", "short"],
+        b"",
+        255,
+        Some(("gone", Cause::File(FileFault::Open))),
+    ),
+    (
+        Form::Json,
+        &["five", "short"],
+        b"",
+        255,
+        Some(("short", Cause::Krl(KrlFault::EndsEarly))),
+    ),
+    (
+        Form::Text,
+        &["short", "gone"],
+        b"",
+        255,
+        Some(("short", Cause::Krl(KrlFault::EndsEarly))),
+    ),
+];
+
+#[test]
+fn each_row(rt: HostRuntime) {
+    for (i, (form, names, said, status, wanted)) in ROWS.iter().enumerate() {
+        let mut taker = Taker::whole(rt.alloc());
+        let mut out = ToWrite::new(&mut taker);
+        let done = show_run(rt.alloc(), &Shelf, names, *form, &mut out);
+        let right = match (&done.fault, wanted) {
+            (Some(fault), Some((name, cause))) => fault.name == *name && fault.cause == *cause,
+            (None, None) => true,
+            _ => false,
+        };
+        assert!(rt; right, "row {i}");
+        assert_eq!(rt; done.status, *status, "row {i}");
+        assert_eq!(rt; taker.taken.as_slice(), *said, "row {i}");
+    }
+}
+
+#[test]
+fn an_output_that_fails_ends_a_run(rt: HostRuntime) {
+    let mut broken = Taker::new(rt.alloc(), 9, 0);
+    let mut lost = ToWrite::new(&mut broken);
+    let done = show_run(rt.alloc(), &Shelf, &["five"], Form::Text, &mut lost);
+    assert!(rt; done.status == 255);
+}
