@@ -2,3 +2,4 @@ pub mod Common
 pub mod Showing
 pub mod Reading
 pub mod Ending
+pub mod OneText

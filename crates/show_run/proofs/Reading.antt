@@ -2,16 +2,14 @@
 use Rattle.std.specs.Borrow.{Bor}
 use Rattle.std.specs.Prelude.{Bool, IfErr}
 use Rattle.show_run.proofs.Common.{[], ◌++◌, ◌+◌, ◌<◌, ◌∙◌, ◌∷◌, ◌≡◌, add-one, ap, drop, drop-cons, Err, false}
-use Rattle.show_run.proofs.Common.{get_or, length, List, None, Ok, Option, refl, Result, RunFault, Some}
+use Rattle.show_run.proofs.Common.{get_or, length, List, None, Ok, Option, Result, RunFault, Some}
 use Rattle.show_run.proofs.Common.{subst, sym, take, take_more, true, ℕ}
 use Rattle.std.proofs.Common.{take-append-drop}
-use Rattle.any_list.specs.List.{IsListFault, IsReadList}
-use Rattle.any_list.specs.declared.list.List.{List as ReadList}
+use Rattle.any_list.specs.List.{IsListFault}
 use Rattle.key_files.specs.declared.cause.Cause.{Cause}
-use Rattle.krl_entries.specs.Revocations.{Means}
 use Rattle.krl_format.specs.declared.header.Header.{Header}
 use Rattle.krl_types.specs.Entry.{Entry}
-use Rattle.plain_list.specs.Any.{NamesIf, Names, NamesLines, NamesWhole, begins_list}
+use Rattle.plain_list.specs.Any.{NamesIf, Names, NamesWhole, begins_list}
 use Rattle.show_run.specs.Lists.{AreGiven, IsFirstRefused, IsGiven, IsRefused, refused_as}
 use Rattle.show_run.specs.declared.lists.Given.{Given}
 

@@ -1,5 +1,5 @@
 -- Facts that were shown.
-use Rattle.std.specs.Prelude.{◌≡◌, ℕ, List, [], ◌∷◌, map, Option, OnOk, Result, codes}
+use Rattle.std.specs.Prelude.{◌≡◌, ℕ, List, ◌∷◌, map, OnOk, Result, codes}
 use Rattle.std.specs.List.{flat_map}
 use Rattle.key_files.specs.RunFault.{RunFault}
 use Rattle.key_listing.specs.Carries.{Carries}

@@ -1,6 +1,7 @@
 //! Revocation lists that are shown as texts, as one run.
 #![tactic(auto)]
 
+pub mod laws;
 mod lists;
 mod run;
 mod shower;

@@ -1,5 +1,5 @@
 -- The bytes begin as a key revocation list, or they are a plain list.
-use Rattle.show_run.proofs.Common.{◌≡◌, false, sym, true}
+use Rattle.show_run.proofs.Common.{◌≡◌, sym, true}
 use Rattle.plain_list.specs.Any.{begins_list}
 use Rattle.show_run.proofs.lists.read_bytes.Goals as goal
 

@@ -1,5 +1,5 @@
 -- The list was read from bytes that were stated for its name, or is refused by what was stated.
-use Rattle.show_run.proofs.Common.{Err, Ok, refl}
+use Rattle.show_run.proofs.Common.{Err}
 use Rattle.std.proofs.lemmas.Result.{IfOk-weaker}
 use Rattle.show_run.proofs.Reading.{refused_by}
 use Rattle.show_run.specs.Lists.{refused_as}

@@ -1,6 +1,6 @@
 -- Each list is read, or is the first one that is not.
 use Rattle.std.specs.Borrow.{Bor}
-use Rattle.show_run.proofs.Common.{[], ◌++◌, ◌∷◌, err_from_is_err_and, get_or, List, refl, take_all, ℕ}
+use Rattle.show_run.proofs.Common.{[], err_from_is_err_and, List, ℕ}
 use Rattle.show_run.proofs.Reading.{given_more, refused_next}
 use Rattle.show_run.specs.Lists.{ran_out}
 use Rattle.show_run.proofs.lists.read_lists.Goals as goal

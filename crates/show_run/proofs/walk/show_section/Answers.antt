@@ -1,6 +1,6 @@
 -- Each part is shown, or ends the run.
 use Rattle.show_run.proofs.Common.{[], ◌++◌, ◌∷◌, AuthorityFact, Err, err_from_is_err_and, IdFact}
-use Rattle.show_run.proofs.Common.{List, map, section_facts, SerialsFact}
+use Rattle.show_run.proofs.Common.{map, section_facts, SerialsFact}
 use Rattle.show_run.proofs.Showing.{ids_shown, shows_stop, shows_then}
 use Rattle.show_run.proofs.walk.show_section.Goals as goal
 
