@@ -2,12 +2,16 @@
 
 set -l audits '__fish_seen_subcommand_from audit'
 set -l checks '__fish_seen_subcommand_from check'
+set -l shows '__fish_seen_subcommand_from show'
 
 complete -c krl -f
-complete -c krl -n "not $audits; and not $checks" -a audit -d 'Find revoked keys in files'
-complete -c krl -n "not $audits; and not $checks" -a check \
+complete -c krl -n "not $audits; and not $checks; and not $shows" -a audit -d 'Find revoked keys in files'
+complete -c krl -n "not $audits; and not $checks; and not $shows" -a check \
   -d 'Check a list before it is put in force'
-complete -c krl -n "not $audits; and not $checks" -a help -d 'Print the options of a task'
+complete -c krl -n "not $audits; and not $checks; and not $shows" -a show \
+  -d 'Print what lists name'
+complete -c krl -n "not $audits; and not $checks; and not $shows" -a help \
+  -d 'Print the options of a task'
 complete -c krl -s h -l help -d 'Print the options'
 complete -c krl -s V -l version -d 'Print the name and version'
 complete -c krl -n "$audits" -F
@@ -26,3 +30,5 @@ complete -c krl -n "$checks" -l canary -rF \
   -d 'Refuse a list that does not revoke each key of this file'
 complete -c krl -n "$checks" -l allow-empty -d 'Take a list that revokes nobody'
 complete -c krl -n "$checks" -l print-version -d 'Print the version of the list alone'
+complete -c krl -n "$shows" -F
+complete -c krl -n "$shows" -l json -d 'Print JSON objects'

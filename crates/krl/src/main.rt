@@ -1,4 +1,4 @@
-//! Finds revoked keys in files of keys, as krl(1) says.
+//! Finds revoked keys in files of keys, and checks and shows lists, as krl(1) says.
 #![tactic(auto)]
 
 mod audit;
@@ -7,10 +7,12 @@ mod disk;
 mod ending;
 mod loading;
 mod screen;
+mod show;
 
 use crate::audit::audit;
 use crate::check::check;
 use crate::ending::{fault_line, reason_of};
+use crate::show::show;
 use key_files::RunFault;
 use krl_arguments::{Task, task_of};
 use option_table::CommandFault;
@@ -48,6 +50,7 @@ impl Program for Krl {
         match task_of(rt.alloc(), words) {
             Ok(Task::Audit(task)) => audit(rt, &task),
             Ok(Task::Check(task)) => check(rt, &task),
+            Ok(Task::Show(task)) => show(rt, &task),
             Err(fault) => refuse(rt, self, &fault),
         }
     }

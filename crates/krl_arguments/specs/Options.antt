@@ -3,7 +3,8 @@ use Rattle.std.specs.Prelude.{ℕ, true, false, List, [], ◌∷◌, codes, map}
 use Rattle.clap.specs.Simple.{App, Shape, new_app, new_shape, with_subcommand}
 use Rattle.clap.specs.Walk.{Rule}
 use Rattle.option_table.specs.Argument.{letter_rule, long_rule, long_value_rule, long_values_rule}
-use Rattle.option_table.specs.Argument.{needed_rule, rule_by, with_rules, word_rule, words_rule}
+use Rattle.option_table.specs.Argument.{needed_rule, rule_by, some_words_rule, with_rules}
+use Rattle.option_table.specs.Argument.{word_rule, words_rule}
 use Rattle.krl_arguments.specs.declared.options.Subcommand.{Subcommand}
 
 -- krl audit: -f, -a, -q, --all, --json, --files0-from, and the files
@@ -28,6 +29,10 @@ check_rules =
     ∷ long_rule (codes "allow-empty")
     ∷ long_rule (codes "print-version") ∷ []
 
+-- krl show: --json, and the lists
+abbrev pub show_rules : List Rule
+show_rules = long_rule (codes "json") ∷ some_words_rule (codes "lists") ∷ []
+
 -- a subcommand of these arguments
 abbrev pub with_all : List ℕ → List Rule → Shape
 with_all name rules = (with_rules (new_app name) rules).top
@@ -50,5 +55,7 @@ bare = record {
 
 abbrev pub program : App
 program = with_subcommand
+    (with_subcommand
     (with_subcommand bare (with_all (codes "audit") audit_rules))
-    (with_all (codes "check") check_rules)
+    (with_all (codes "check") check_rules))
+    (with_all (codes "show") show_rules)

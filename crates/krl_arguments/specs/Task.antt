@@ -10,6 +10,7 @@ use Rattle.krl_arguments.specs.Duration.{duration_of}
 use Rattle.krl_arguments.specs.Options.{program}
 use Rattle.krl_arguments.specs.declared.task.Audit.{Audit as AuditOf}
 use Rattle.krl_arguments.specs.declared.task.Check.{Check as CheckOf}
+use Rattle.krl_arguments.specs.declared.task.Show.{Show as ShowOf}
 use Rattle.krl_arguments.specs.declared.task.Task.{Task as TaskOf}
 use Rattle.krl_arguments.specs.declared.task.Task.TheVariants as tasks
 
@@ -33,9 +34,15 @@ pub record Check : Type 0 where
   pub allow_empty : Bool
   pub print_version : Bool
 
+-- lists that are shown, and whether --json is given
+pub record Show : Type 0 where
+  pub lists : List (List ℕ)
+  pub json : Bool
+
 pub data Task : Type 0 where
   AuditTask : Audit → Task
   CheckTask : Check → Task
+  ShowTask : Show → Task
 
 -- ---- the values of the words
 
@@ -96,11 +103,16 @@ check_of rows = option_and_then
     (λ list. if_whole (has_wrong_age rows) (check_with rows list))
     (first_of (codes "list") rows)
 
+abbrev pub show_with : List Row → Show
+show_with rows =
+    record { lists = values_in (codes "lists") rows; json = is_set (codes "json") rows }
+
 -- the task of the subcommand of this name
 abbrev pub named_task : List ℕ → List Row → Option Task
 named_task name rows =
     if bytes_eq name (codes "audit") then option_map AuditTask (audit_of rows)
     else if bytes_eq name (codes "check") then option_map CheckTask (check_of rows)
+    else if bytes_eq name (codes "show") then Some (ShowTask (show_with rows))
     else None
 
 abbrev pub task_in : Option (List ℕ × List Row) → Option Task
@@ -135,6 +147,10 @@ check_by check = record {
   print_version = check.print_version;
 }
 
+abbrev pub show_by : ShowOf → Show
+show_by show = record { lists = map (λ name. name.now) show.lists.items; json = show.json }
+
 abbrev pub task_by : TaskOf → Task
 task_by (tasks.Audit audit) = AuditTask (audit_by audit)
 task_by (tasks.Check check) = CheckTask (check_by check)
+task_by (tasks.Show show) = ShowTask (show_by show)

@@ -9,4 +9,4 @@ mod task;
 mod tasks;
 
 pub use command::task_of;
-pub use task::{Audit, Check, Task};
+pub use task::{Audit, Check, Show, Task};

@@ -96,6 +96,19 @@ const CHECK: [Argument; 7] = [
     },
 ];
 
+const SHOW: [Argument; 2] = [
+    Argument {
+        id: "json",
+        form: Form::Long,
+        help: "Print one JSON object on a line for each entry",
+    },
+    Argument {
+        id: "lists",
+        form: Form::SomeWords("krl"),
+        help: "The revocation lists",
+    },
+];
+
 /// `krl audit`.
 pub const AUDITING: Subcommand = Subcommand {
     name: "audit",
@@ -110,19 +123,27 @@ pub const CHECKING: Subcommand = Subcommand {
     arguments: &CHECK,
 };
 
+/// `krl show`.
+pub const SHOWING: Subcommand = Subcommand {
+    name: "show",
+    about: "Prints revocation lists as a text that names the same",
+    arguments: &SHOW,
+};
+
 /// The program, for parsing its words. An option is refused if it is given twice, unless it may have
 /// several values.
 pub fn program<'a>(alloc: Global) -> Result<Command<'a>, AllocError>
     ensures { IfOk result (λ command. app_of command ≡ program) }
 {
     let bare = Command::new(alloc, NAME)
-        .about("Finds revoked keys, and checks revocation lists")
+        .about("Finds revoked keys, and checks and shows revocation lists")
         .version(VERSION)
         .propagate_version(true)
         .subcommand_required(true);
     let audit = subcommand_of(alloc, &AUDITING)?;
     let check = subcommand_of(alloc, &CHECKING)?;
-    bare.subcommand(audit)?.subcommand(check)
+    let show = subcommand_of(alloc, &SHOWING)?;
+    bare.subcommand(audit)?.subcommand(check)?.subcommand(show)
 }
 
 // The subcommand in the form of the library.

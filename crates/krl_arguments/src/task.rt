@@ -7,6 +7,8 @@ pub enum Task<'a> {
     Audit(Audit<'a>),
     /// `krl check`.
     Check(Check<'a>),
+    /// `krl show`.
+    Show(Show<'a>),
 }
 
 /// `krl audit`: the list, which findings are printed, and which files are audited.
@@ -45,4 +47,13 @@ pub struct Check<'a> {
     pub allow_empty: bool,
     /// True if only its version is printed, by `--print-version`.
     pub print_version: bool,
+}
+
+/// `krl show`: the lists, and how they are printed.
+#[derive(Drop)]
+pub struct Show<'a> {
+    /// The revocation lists.
+    pub lists: Vec<&'a str>,
+    /// True if they are printed as JSON, by `--json`.
+    pub json: bool,
 }

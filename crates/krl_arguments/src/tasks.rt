@@ -6,10 +6,11 @@ ghost use Rattle.clap.specs.Simple.{subcommand_rows_of};
 ghost use Rattle.clap.specs.Walk.{rows_of};
 ghost use Rattle.krl_arguments.specs.Task.{audit_by, audit_of, audit_with, check_by, check_of};
 ghost use Rattle.krl_arguments.specs.Task.{check_with, has_only_version, has_wrong_age, if_any};
-ghost use Rattle.krl_arguments.specs.Task.{if_whole, max_age_of, named_task, task_by, task_in};
+ghost use Rattle.krl_arguments.specs.Task.{if_whole, max_age_of, named_task, show_by, show_with};
+ghost use Rattle.krl_arguments.specs.Task.{task_by, task_in};
 
 use crate::duration::duration_of;
-use crate::task::{Audit, Check, Task};
+use crate::task::{Audit, Check, Show, Task};
 use clap::ArgMatches;
 use option_table::{is_set, value_of, values_of};
 use std::alloc::{AllocError, Global};
@@ -39,6 +40,9 @@ fn named_task<'a>(
     }
     if name == "check" {
         return Ok(check_in(alloc, found)?.map(Task::Check));
+    }
+    if name == "show" {
+        return Ok(Some(Task::Show(show_with(alloc, found)?)));
     }
     Ok(None)
 }
@@ -159,4 +163,15 @@ fn has_only_version(check: &Check<'_>) -> bool
         && check.keep.is_empty()
         && check.canary.is_empty()
         && !check.allow_empty
+}
+
+// The lists of these matches, and how they are shown.
+fn show_with<'a>(alloc: Global, found: &ArgMatches<'a>) -> Result<Show<'a>, AllocError>
+    ensures { IfOk result (λ show. show_by show ≡ show_with (rows_of (found_of found.now))) }
+{
+    let lists = values_of(alloc, found, "lists")?;
+    Ok(Show {
+        lists,
+        json: is_set(found, "json"),
+    })
 }

@@ -51,6 +51,15 @@ words_rule id = record (new_rule id) {
   value_names = 1;
 }
 
+-- one or more words by themselves
+abbrev pub some_words_rule : List ℕ → Rule
+some_words_rule id = record (new_rule id) {
+  action = Some Append;
+  range = Some (record { start_inclusive = 1; end_inclusive = usize_max });
+  value_names = 1;
+  required = true;
+}
+
 -- a long name that asks for the program's version
 abbrev pub version_rule : List ℕ → List ℕ → Rule
 version_rule id name = record (new_rule id) { long = Some name; action = Some AskVersion }
@@ -65,6 +74,7 @@ form_rule id (forms.LongValue name) = long_value_rule id
 form_rule id (forms.LongValues name) = long_values_rule id
 form_rule id (forms.Word name) = word_rule id
 form_rule id (forms.Words name) = words_rule id
+form_rule id (forms.SomeWords name) = some_words_rule id
 form_rule id (forms.Version name) = version_rule id name.now
 
 abbrev pub rule_by : Argument → Rule

@@ -39,6 +39,8 @@ pub enum Form {
     Word(&'static str),
     /// As any number of words by themselves.
     Words(&'static str),
+    /// As one or more words by themselves.
+    SomeWords(&'static str),
     /// By this long name, for the program's version.
     Version(&'static str),
 }
@@ -88,6 +90,11 @@ fn argument_of<'a>(alloc: Global, argument: &Argument) -> Arg<'a>
             .action(ArgAction::Append),
         Form::Word(name) => arg.value_name(name).required(true).action(ArgAction::Set),
         Form::Words(name) => arg.value_name(name).num_args(0..).action(ArgAction::Append),
+        Form::SomeWords(name) => arg
+            .value_name(name)
+            .num_args(1..)
+            .required(true)
+            .action(ArgAction::Append),
         Form::Version(name) => arg.long(name).action(ArgAction::Version),
     }
 }

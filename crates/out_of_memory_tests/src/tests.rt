@@ -12,6 +12,7 @@ mod puts;
 mod reading;
 mod runs;
 mod sets;
+mod shown;
 mod spec_files;
 mod texts;
 mod trees;

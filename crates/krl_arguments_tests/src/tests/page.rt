@@ -4,11 +4,13 @@ use krl_arguments::{Task, task_of};
 use option_table::CommandFault;
 use std::alloc::Global;
 
-/// The list of the task that words ask for, the program's name before them.
-fn list_of<'a>(alloc: Global, words: &'a [&'a str]) -> Result<&'a str, CommandFault> {
+/// The list of the task that words ask for, the program's name before them. `krl show` may have
+/// several.
+fn list_of<'a>(alloc: Global, words: &'a [&'a str]) -> Result<Option<&'a str>, CommandFault> {
     match task_of(alloc, words)? {
-        Task::Audit(audit) => Ok(audit.list),
-        Task::Check(check) => Ok(check.list),
+        Task::Audit(audit) => Ok(Some(audit.list)),
+        Task::Check(check) => Ok(Some(check.list)),
+        Task::Show(_) => Ok(None),
     }
 }
 
@@ -16,7 +18,7 @@ fn list_of<'a>(alloc: Global, words: &'a [&'a str]) -> Result<&'a str, CommandFa
 fn words_have_a_list(rt: HostRuntime) {
     let words = ["krl", "audit", "-f", "r.krl", "/etc/ssh"];
     let list = list_of(rt.alloc(), &words).expect(&rt, "the words ask for an audit");
-    assert!(rt; list == "r.krl");
+    assert!(rt; list == Some("r.krl"));
     let none = list_of(rt.alloc(), &["krl", "audit", "-f"])
         .err()
         .expect(&rt, "the list is missing");

@@ -1,6 +1,6 @@
 //! The words of the command line.
 
-use krl_arguments::{Audit, Check, Task, task_of};
+use krl_arguments::{Audit, Check, Show, Task, task_of};
 use option_table::CommandFault;
 use std::alloc::Global;
 use std::test::Fail;
@@ -18,6 +18,14 @@ fn check_by<'a>(alloc: Global, words: &'a [&'a str]) -> Result<Check<'a>, &'stat
     match task_of(alloc, words) {
         Ok(Task::Check(check)) => Ok(check),
         _ => Err("the words ask for a check"),
+    }
+}
+
+// The lists that the words ask to show.
+fn show_by<'a>(alloc: Global, words: &'a [&'a str]) -> Result<Show<'a>, &'static str> {
+    match task_of(alloc, words) {
+        Ok(Task::Show(show)) => Ok(show),
+        _ => Err("the words ask for lists"),
     }
 }
 
@@ -77,6 +85,15 @@ fn checks(rt: HostRuntime) -> Result<(), Fail> {
 }
 
 #[test]
+fn shows(rt: HostRuntime) -> Result<(), Fail> {
+    let show = show_by(rt.alloc(), &["krl", "show", "a", "--json", "b"])?;
+    assert!(rt; show.json && show.lists.as_slice() == ["a", "b"].as_slice());
+    let show = show_by(rt.alloc(), &["krl", "show", "--", "-a"])?;
+    assert!(rt; !show.json && show.lists.as_slice() == ["-a"].as_slice());
+    Ok(())
+}
+
+#[test]
 fn durations(rt: HostRuntime) -> Result<(), Fail> {
     let rows: [(&str, u64); 6] = [
         ("1s", 1),
@@ -114,7 +131,11 @@ fn durations(rt: HostRuntime) -> Result<(), Fail> {
 
 #[test]
 fn refusals(rt: HostRuntime) -> Result<(), Fail> {
-    let refused: [&[&str]; 24] = [
+    let refused: [&[&str]; 28] = [
+        &["krl", "show"],
+        &["krl", "show", "--json"],
+        &["krl", "show", "a", "--json", "--json"],
+        &["krl", "show", "a", "-f", "b"],
         &["krl"],
         &["krl", "-f", "k", "a"],
         &["krl", "other"],
@@ -155,7 +176,8 @@ fn refusals(rt: HostRuntime) -> Result<(), Fail> {
 
 #[test]
 fn helps(rt: HostRuntime) -> Result<(), Fail> {
-    let asked: [&[&str]; 8] = [
+    let asked: [&[&str]; 9] = [
+        &["krl", "show", "-h"],
         &["krl", "-h"],
         &["krl", "help"],
         &["krl", "help", "audit"],

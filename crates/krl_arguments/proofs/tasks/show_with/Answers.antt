@@ -1,0 +1,6 @@
+-- Each field is the value that was found.
+use Rattle.std.proofs.Common.{refl}
+use Rattle.krl_arguments.proofs.tasks.show_with.Goals as goal
+
+pub returns : goal.returns
+returns c = rw (c.is_set.ensures, c.in_ok-lists.ensures) refl

@@ -1,0 +1,225 @@
+# krl show: each kind of line, beside what OpenSSH prints of the list, and lists that are not read.
+
+keygen=$program
+program=$krl
+f=$(fingerprint "$G")
+g=$(line ssh-ed25519 "$G")
+head='version 1, 1970-01-01T00:00:00Z'
+
+# shows NAME LINES DIGITS..: of the list that the digits spell, after the line about it.
+shows() {
+  bytes "$H" "${@:3}" >made.krl
+  expect "$1" 0 "# made.krl: $head"$'\n'"$2" '' show made.krl
+}
+all='00000000 00000000'
+shows 'a list without sections' ''
+shows 'one serial number' $'ca: all\nserial: 5\n' 01 00000015 $all 20 00000008 0000000000000005
+shows 'a range from 0' $'ca: all\nserial: 1-3\n' \
+  01 0000001d $all 21 00000010 0000000000000000 0000000000000003
+shows 'a range to the last serial number' $'ca: all\nserial: 1-18446744073709551615\n' \
+  01 0000001d $all 21 00000010 0000000000000001 ffffffffffffffff
+shows 'a bitmap' $'ca: all\nserial: 1\nserial: 3\nserial: 5\nserial: 7\n' \
+  01 0000001a $all 22 0000000d 0000000000000001 00000001 55
+shows 'serial number 0 alone' '' 01 00000015 $all 20 00000008 0000000000000000
+# ids NAME LINE DIGITS: the line of a key ID.
+ids() {
+  shows "$1" $'ca: all\n'"$2"$'\n' "01$(string 0000000000000000 23 "$(string "$(string "$3")")")"
+}
+ids 'a key ID' 'id: bob' "$(text bob)"
+ids 'a key ID with a blank' 'id: a b' "$(text 'a b')"
+ids 'a key ID with a #' 'id-hex: 6576652331' "$(text 'eve#1')"
+ids 'an empty key ID' 'id-hex: ' ''
+ids 'a key ID that begins with a blank' 'id-hex: 2061' 2061
+ids 'a key ID that ends with a blank' 'id-hex: 6120' 6120
+ids 'a key ID with a tab' 'id-hex: 610962' 610962
+ids 'a key ID with a line feed' 'id-hex: 610a62' 610a62
+ids 'a key ID with DEL' 'id-hex: 7f' 7f
+ids 'a key ID of other bytes' 'id-hex: c3a9' c3a9
+shows 'a CA' "ca: $(line ssh-ed25519 "$A") # $(fingerprint "$A")"$'\nserial: 7\n' \
+  01 00000048 "$(string "$A")" 00000000 20 00000008 0000000000000007
+shows 'a CA of one byte' $'ca-blob: eA==\nid: a\n' \
+  01 00000013 00000001 78 00000000 23 00000005 00000001 61
+# The number 3 with a needless zero byte before it is another spelling.
+odd=$(rsa "$(string 0003)" "$(string 00"$(repeat 128 a1)")")
+right=$(rsa "$(string 03)" "$(string 00"$(repeat 128 a1)")")
+shows 'keys' "key: $(line ssh-rsa "$right") # $(fingerprint "$right")
+key-blob: $(bytes "$odd" | base64 -w0)
+key: $g # $f
+key-blob: AQ==
+" "$(section "$G" "$right" "$odd" 01)"
+shows 'a SHA-1' "hash: SHA1:$(bytes "$(repeat 20 ab)" | base64 | tr -d =)"$'\n' \
+  03 00000018 00000014 "$(repeat 20 ab)"
+shows 'a SHA-256' "hash: $f"$'\n' 05 00000024 00000020 "$(bytes "$G" | sha256sum | cut -c1-64)"
+shows 'a signature after a key' "key: $g # $f"$'\n' "$(section "$G")" 04 00000000 00000000
+
+# The line about a list.
+bytes "${H:0:24}" 0000000000000007 "${H:40:40}" "$(words $'of May\e\n')" >said.krl
+expect 'the version, the date and the comment' 0 \
+  '# said.krl: version 7, 1970-01-01T00:00:00Z, of May\x1b\x0a'$'\n' '' show said.krl
+echo "$g" >$'g\e.pub'
+expect 'a plain list, and a control character in its name' 0 \
+  '# g\x1b.pub: a plain list'$'\n'"key: $g # $f"$'\n' '' show $'g\e.pub'
+
+# Several lists, and JSON.
+bytes "$H" "$(section "$G")" >r.krl
+bytes "$H" "01$(string "$(string "$A")" 00000000 \
+  21 00000010 0000000000000064 00000000000000c7 23 "$(string "$(words bob)")")" >ca.krl
+ca="ca: $(line ssh-ed25519 "$A") # $(fingerprint "$A")"
+expect 'several lists' 0 "# ca.krl: $head
+$ca
+serial: 100-199
+id: bob
+# r.krl: $head
+key: $g # $f
+" '' show ca.krl r.krl
+printed='"generated":"1970-01-01T00:00:00Z","comment":""}'
+expect 'JSON' 0 '{"list":"ca.krl","version":"1",'"$printed"'
+{"ca":"'"$(fingerprint "$A")"'","serial":[100,199]}
+{"ca":"'"$(fingerprint "$A")"'","id":"bob"}
+{"list":"r.krl","version":"1",'"$printed"'
+{"key":"'"$f"'"}
+{"status":"done","lists":2,"cas":1,"serials":100,"ids":1,"keys":1,"hashes":0}
+' '' show --json ca.krl r.krl
+
+# Lists that are not read, and outputs that fail. Nothing is printed, not even of a list before.
+bytes "${H:0:80}00000001" >cut.krl
+cut_short=$'truncated, in its header or within a section [krl 3 EndsEarly]\n'
+expect 'a truncated list' 255 '' "krl: cut.krl: $cut_short" show cut.krl
+expect 'a truncated list after another' 255 '' "krl: cut.krl: $cut_short" show r.krl cut.krl r.krl
+expect 'a list that is missing' 255 '' \
+  $'krl: no.krl: No such file or directory [file 1 Open]\n' show r.krl no.krl cut.krl
+{ echo "$g" && echo garbage; } >wrong
+expect 'a file that is no list' 255 '' \
+  $'krl: wrong: line 2: no key type stands there [line 1 NoKey]\n' show wrong
+if [ -e /dev/full ]; then
+  "$program" show r.krl >/dev/full 2>"$scratch/error"
+  judge 'a list onto a full device' "$(
+    differs 'exit status' 255 $?
+    differs 'standard error' 1 "$(grep -c 'output 1 Write after 0 bytes' "$scratch/error")"
+  )"
+fi
+for words in '' --json '--json --json r.krl' '-f r.krl'; do
+  # shellcheck disable=SC2086
+  run show $words
+  judge "the words 'show $words'" "$(
+    differs 'exit status' 2 "$got_status"
+    differs 'standard output' '' "$got_output"
+  )"
+done
+
+# 64 MiB: one key of as many zero bytes as a list has room for.
+size=$((67108864 - 44 - 5 - 4))
+{ bytes "$H" 02 "$(printf %08x $((size + 4)))" "$(printf %08x $size)" && head -c $size /dev/zero; } \
+  >large.krl
+judge 'a list of 64 MiB' "$(
+  differs 'bytes' 67108864 "$(wc -c <large.krl)"
+  differs 'what is printed' "$({
+    printf '# large.krl: %s\nkey-blob: ' "$head"
+    head -c $size /dev/zero | base64 -w0
+    echo
+  } | sha256sum)" "$("$program" show large.krl | sha256sum)"
+)"
+echo >>large.krl
+run show large.krl
+judge 'a list of one byte more' "$(
+  differs 'exit status' 255 "$got_status"
+  differs 'standard output' '' "$got_output"
+)"
+
+# The facts of lists that OpenSSH makes, with the authority of each, as it prints them: the
+# fingerprint of a key, the digits of a hash.
+theirs() {
+  "$openssh" -Q -l -f "$1" | sed -nE '
+    s/^# Wildcard CA$/CA all/p
+    s/^# CA key [^ ]+ /CA /p
+    s/^hash: (SHA256:.{43}) # .*/key \1/p
+    s/^hash: SHA256:([0-9a-f]{64})$/sha256 \1/p
+    s/^# hash SHA1:/sha1 /p
+    /^(serial|id): /p' | under | sort
+}
+ours() {
+  local word text
+  "$program" show "$1" | while read -r word text; do
+    case $word in
+      ca:) echo "CA ${text##* }" ;;
+      key:) echo "key ${text##* }" ;;
+      hash:) echo "$(digits_name "$text") $(printf '%s=' "${text#*:}" | digits_of)" ;;
+      '#') ;;
+      *) echo "$word $text" ;;
+    esac
+  done | under | sort
+}
+digits_name() {
+  case $1 in
+    SHA1:*) echo sha1 ;;
+    *) echo sha256 ;;
+  esac
+}
+digits_of() {
+  basenc -d --base64 | od -An -v -tx1 | tr -d ' \n'
+}
+# puts the authority before each of its serial numbers and key IDs
+under() {
+  awk '/^CA /{ authority = $2 } /^(serial|id):/{ print authority, $0 } /^(key|sha)/'
+}
+# again TEXT LIST: the list that krl-keygen makes of the text, CA by CA.
+again() {
+  local part
+  rm -f "$2" parts.*
+  awk '/^#/ { next }
+    /^ca: / { n++; sub(/^ca: /, ""); print >("parts." n ".pub"); next }
+    /^(serial|id): / { print >("parts." n ".spec"); next }
+    { print >"parts.keys" }' "$1"
+  : >>parts.keys
+  "$keygen" -k -f "$2" parts.keys || return
+  for part in parts.*.pub; do
+    if grep -qx all "$part"; then
+      "$keygen" -k -u -f "$2" -s none "${part%.pub}.spec" || return
+    else
+      "$keygen" -k -u -f "$2" -s "$part" "${part%.pub}.spec" || return
+    fi
+  done
+}
+
+RANDOM=1312
+for name in key-one key-two ca-one ca-two ca-three; do
+  "$openssh" -q -t ed25519 -N '' -C "of $name" -f $name
+done
+lines_of() {
+  local i lo
+  for ((i = 0; i < $1; i++)); do
+    echo "serial: $((RANDOM % $2 + 1))"
+    lo=$((i * 100 + 5000))
+    [ $((RANDOM % 4)) != 0 ] || echo "serial: $lo-$((lo + RANDOM % 200))"
+    echo "id: id $((RANDOM % 50))"
+  done
+}
+for round in 1 2 3; do
+  lines_of $((round * 20)) $((10 ** (round + 1))) >spec
+  "$openssh" -q -k -f theirs.krl -s ca-one.pub -z $round spec 2>"$scratch/error"
+  lines_of 12 300 >spec
+  echo "key: $(cat key-one.pub)" >>spec
+  echo "sha256: $(cat key-two.pub)" >>spec
+  "$openssh" -q -k -u -f theirs.krl -s ca-two.pub spec 2>"$scratch/error"
+  lines_of 7 200 >spec
+  "$openssh" -q -k -u -f theirs.krl -s ca-three.pub spec 2>"$scratch/error"
+  lines_of 5 100 >spec
+  "$openssh" -q -k -u -f theirs.krl -s none spec 2>"$scratch/error"
+  judge "the facts of OpenSSH's list, $round" "$(
+    [ "$(theirs theirs.krl | wc -l)" -gt 50 ] || echo '  too few facts'
+    asks 0 diff <(theirs theirs.krl) <(ours theirs.krl)
+  )"
+  "$program" show theirs.krl >text
+  judge "the list that is made again of its text, $round" "$(
+    again text again.krl || echo '  the text is refused'
+    asks 0 diff <("$keygen" -Q -l -f theirs.krl | tail -n +3) \
+      <("$keygen" -Q -l -f again.krl | tail -n +3)
+  )"
+done
+judge "each fingerprint is OpenSSH's" "$(
+  differs 'lines with another fingerprint' '' \
+    "$(sed -n 's/^\(ca\|key\): ssh/ssh/p' text | while read -r key; do
+      [ "$("$openssh" -l -f /dev/stdin <<<"$key" | cut -d ' ' -f 2)" = "${key##* }" ] || echo "$key"
+    done)"
+  differs 'number of keys' 4 "$(grep -c '^\(ca\|key\): ssh' text)"
+)"
