@@ -12,6 +12,7 @@ use krl_arguments::Check;
 use krl_audit::Refusal;
 use ssh_wire::Bytes;
 use std::alloc::{AllocError, Global};
+use std::process::Abort;
 use test_fixtures::{GITHUB_LINE, OTHER_LINE};
 
 // A list of version 1 that revokes the published key, with a signature.
@@ -85,9 +86,14 @@ fn runs_out<W: Sink>(alloc: Global, print_version: bool, out: &mut W) -> Result<
 }
 
 // Whether all of a text is printed, or, where an allocation failed, a part of it.
-fn prints(rt: &HostRuntime, print_version: bool, text: &[u8]) -> bool {
+fn prints(
+    rt: &(impl AllocGlobal + Abort + Print),
+    alloc: Global,
+    print_version: bool,
+    text: &[u8],
+) -> bool {
     let mut said = Buffer::new();
-    match runs_out(rt.alloc(), print_version, &mut ToWrite::new(&mut said)) {
+    match runs_out(alloc, print_version, &mut ToWrite::new(&mut said)) {
         Ok(false) => said.text() == text,
         _ => {
             ran_out(rt);
@@ -98,10 +104,10 @@ fn prints(rt: &HostRuntime, print_version: bool, text: &[u8]) -> bool {
 
 #[test]
 fn each_condition_is_checked(rt: HostRuntime) {
-    assert!(rt; prints(&rt, false, SAID));
+    assert!(rt; prints(&rt, rt.alloc(), false, SAID));
 }
 
 #[test]
 fn the_version_is_printed(rt: HostRuntime) {
-    assert!(rt; prints(&rt, true, b"1\n"));
+    assert!(rt; prints(&rt, rt.alloc(), true, b"1\n"));
 }
