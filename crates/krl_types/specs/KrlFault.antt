@@ -1,6 +1,6 @@
 -- The numbers and the printed names of the faults of a revocation list, and how a fault of its
 -- reader is reported.
-use Rattle.std.specs.Prelude.{ℕ, List, codes}
+use Rattle.std.specs.Prelude.{ℕ, List, ◌++◌, codes, decimal}
 use Rattle.ssh_wire.specs.declared.pull_fault.PullFault.{PullFault}
 use Rattle.ssh_wire.specs.declared.pull_fault.PullFault.TheVariants as pulls
 use Rattle.krl_types.specs.declared.krl_fault.KrlFault.{KrlFault}
@@ -12,39 +12,38 @@ use Rattle.krl_types.specs.declared.krl_fault.KrlFault.TheVariants.{BitmapWraps,
 use Rattle.krl_types.specs.declared.krl_fault.KrlFault.TheVariants.{AfterSignature, TooLong, Read}
 use Rattle.krl_types.specs.declared.krl_fault.KrlFault.TheVariants.{NoMemory, CriticalExtension}
 
-abbrev pub fault_number : KrlFault → ℕ
-fault_number Magic = 1
-fault_number FormatVersion = 2
-fault_number EndsEarly = 3
-fault_number UnknownSection = 4
-fault_number UnknownCertSection = 5
-fault_number Length = 6
-fault_number RangeReversed = 7
-fault_number BitmapNegative = 8
-fault_number BitmapWraps = 9
-fault_number HashLength = 10
-fault_number AfterSignature = 11
-fault_number TooLong = 12
-fault_number Read = 13
-fault_number NoMemory = 14
-fault_number CriticalExtension = 15
+-- a fault's number and its name
+pub record FaultRow : Type 0 where
+  pub number : ℕ
+  pub name : List ℕ
 
+abbrev pub row : ℕ → List ℕ → FaultRow
+row number name = record { number = number; name = name }
+
+abbrev pub fault_row : KrlFault → FaultRow
+fault_row Magic = row 1 (codes "Magic")
+fault_row FormatVersion = row 2 (codes "FormatVersion")
+fault_row EndsEarly = row 3 (codes "EndsEarly")
+fault_row UnknownSection = row 4 (codes "UnknownSection")
+fault_row UnknownCertSection = row 5 (codes "UnknownCertSection")
+fault_row Length = row 6 (codes "Length")
+fault_row RangeReversed = row 7 (codes "RangeReversed")
+fault_row BitmapNegative = row 8 (codes "BitmapNegative")
+fault_row BitmapWraps = row 9 (codes "BitmapWraps")
+fault_row HashLength = row 10 (codes "HashLength")
+fault_row AfterSignature = row 11 (codes "AfterSignature")
+fault_row TooLong = row 12 (codes "TooLong")
+fault_row Read = row 13 (codes "Read")
+fault_row NoMemory = row 14 (codes "NoMemory")
+fault_row CriticalExtension = row 15 (codes "CriticalExtension")
+
+abbrev pub fault_number : KrlFault → ℕ
+fault_number fault = (fault_row fault).number
+
+-- its family, its number and its name
 abbrev pub fault_text : KrlFault → List ℕ
-fault_text Magic = codes "krl 1 Magic"
-fault_text FormatVersion = codes "krl 2 FormatVersion"
-fault_text EndsEarly = codes "krl 3 EndsEarly"
-fault_text UnknownSection = codes "krl 4 UnknownSection"
-fault_text UnknownCertSection = codes "krl 5 UnknownCertSection"
-fault_text Length = codes "krl 6 Length"
-fault_text RangeReversed = codes "krl 7 RangeReversed"
-fault_text BitmapNegative = codes "krl 8 BitmapNegative"
-fault_text BitmapWraps = codes "krl 9 BitmapWraps"
-fault_text HashLength = codes "krl 10 HashLength"
-fault_text AfterSignature = codes "krl 11 AfterSignature"
-fault_text TooLong = codes "krl 12 TooLong"
-fault_text Read = codes "krl 13 Read"
-fault_text NoMemory = codes "krl 14 NoMemory"
-fault_text CriticalExtension = codes "krl 15 CriticalExtension"
+fault_text fault =
+    codes "krl " ++ (decimal (fault_row fault).number ++ (codes " " ++ (fault_row fault).name))
 
 -- the fault of the list for a fault of its reader
 abbrev pub reported_as : PullFault → KrlFault

@@ -1,7 +1,7 @@
 //! Why a revocation list cannot be read.
 
 ghost use Rattle.std.specs.Prelude.{◌≡◌, Some};
-ghost use Rattle.krl_types.specs.KrlFault.{fault_number, fault_text, reported_as};
+ghost use Rattle.krl_types.specs.KrlFault.{fault_number, fault_row, fault_text, reported_as};
 ghost use Rattle.krl_types.specs.declared.krl_fault.KrlFault.TheVariants.{NoMemory};
 
 use ssh_wire::PullFault;
@@ -14,7 +14,7 @@ use std::fmt;
 #[derive(Clone, Copy, Debug, PartialEq, Eq)]
 pub enum KrlFault {
     /// The first eight bytes are not those of a revocation list.
-    Magic,
+    Magic = 1,
     /// The format version is not 1.
     FormatVersion,
     /// The bytes end where more are expected.
@@ -50,22 +50,29 @@ impl KrlFault {
     pub fn number(self) -> u8
         ensures { result ≡ fault_number self }
     {
+        self as u8
+    }
+
+    // The fault's name, that of its variant.
+    fn name(self) -> &'static str
+        ensures { result.now ≡ (fault_row self).name }
+    {
         match self {
-            KrlFault::Magic => 1,
-            KrlFault::FormatVersion => 2,
-            KrlFault::EndsEarly => 3,
-            KrlFault::UnknownSection => 4,
-            KrlFault::UnknownCertSection => 5,
-            KrlFault::Length => 6,
-            KrlFault::RangeReversed => 7,
-            KrlFault::BitmapNegative => 8,
-            KrlFault::BitmapWraps => 9,
-            KrlFault::HashLength => 10,
-            KrlFault::AfterSignature => 11,
-            KrlFault::TooLong => 12,
-            KrlFault::Read => 13,
-            KrlFault::NoMemory => 14,
-            KrlFault::CriticalExtension => 15,
+            KrlFault::Magic => "Magic",
+            KrlFault::FormatVersion => "FormatVersion",
+            KrlFault::EndsEarly => "EndsEarly",
+            KrlFault::UnknownSection => "UnknownSection",
+            KrlFault::UnknownCertSection => "UnknownCertSection",
+            KrlFault::Length => "Length",
+            KrlFault::RangeReversed => "RangeReversed",
+            KrlFault::BitmapNegative => "BitmapNegative",
+            KrlFault::BitmapWraps => "BitmapWraps",
+            KrlFault::HashLength => "HashLength",
+            KrlFault::AfterSignature => "AfterSignature",
+            KrlFault::TooLong => "TooLong",
+            KrlFault::Read => "Read",
+            KrlFault::NoMemory => "NoMemory",
+            KrlFault::CriticalExtension => "CriticalExtension",
         }
     }
 }
@@ -74,24 +81,8 @@ impl fmt::Display for KrlFault {
     ghost output = { λ fault. Some (fault_text fault) };
 
     fn fmt<W: fmt::Write>(&self, f: &mut fmt::Formatter<W>) -> fmt::Result {
-        let text = match self {
-            KrlFault::Magic => "krl 1 Magic",
-            KrlFault::FormatVersion => "krl 2 FormatVersion",
-            KrlFault::EndsEarly => "krl 3 EndsEarly",
-            KrlFault::UnknownSection => "krl 4 UnknownSection",
-            KrlFault::UnknownCertSection => "krl 5 UnknownCertSection",
-            KrlFault::Length => "krl 6 Length",
-            KrlFault::RangeReversed => "krl 7 RangeReversed",
-            KrlFault::BitmapNegative => "krl 8 BitmapNegative",
-            KrlFault::BitmapWraps => "krl 9 BitmapWraps",
-            KrlFault::HashLength => "krl 10 HashLength",
-            KrlFault::AfterSignature => "krl 11 AfterSignature",
-            KrlFault::TooLong => "krl 12 TooLong",
-            KrlFault::Read => "krl 13 Read",
-            KrlFault::NoMemory => "krl 14 NoMemory",
-            KrlFault::CriticalExtension => "krl 15 CriticalExtension",
-        };
-        f.write_str(text)
+        let (number, name) = (self.number(), self.name());
+        write!(f, "krl {number} {name}")
     }
 }
 
