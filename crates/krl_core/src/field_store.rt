@@ -19,7 +19,7 @@ ghost use Rattle.krl_core.specs.FieldStore.{held_with_open, stored_header};
 ghost use Rattle.krl_format.specs.Place.{item_entry, item_size};
 ghost use Rattle.krl_format.specs.FixedFields.{is_fixed};
 
-use krl_entries::{Revocations, Store};
+use krl_entries::{Item, Revocations, Store};
 use krl_format::{
     BitmapPlace, CertificatesPlace, Field, Header, ItemKind, ListPlace, Place, SerialsPlace,
 };
@@ -230,10 +230,10 @@ impl<T: Store> FieldStore<T> {
         ensures grows { GrowsAtMost (length item.now) self.old self.new }
     {
         match kind {
-            ItemKind::Key => self.store.store_key(item),
-            ItemKind::Sha1 => self.store.store_sha1(&array_of(item)),
-            ItemKind::Sha256 => self.store.store_sha256(&array_of(item)),
-            ItemKind::Id => self.store.store_id(self.authority.as_slice(), item),
+            ItemKind::Key => self.store.store(Item::Key(item)),
+            ItemKind::Sha1 => self.store.store(Item::Sha1(&array_of(item))),
+            ItemKind::Sha256 => self.store.store(Item::Sha256(&array_of(item))),
+            ItemKind::Id => self.store.store(Item::Id(self.authority.as_slice(), item)),
         }
     }
 

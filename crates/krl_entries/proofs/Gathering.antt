@@ -5,6 +5,9 @@ use Rattle.krl_entries.proofs.Common.{held, HoldsMore, inl, inr, IsNamed, IsOneC
 use Rattle.krl_entries.proofs.Common.{IsStoredAtMost, List, MatchResult, Means, MeansMore, Ok}
 use Rattle.krl_entries.proofs.Common.{OnErr, OnOk, refl, Result, Revocations, Section, Some, stored}
 use Rattle.krl_entries.proofs.Common.{subst, sym, TakesAddition, whole, with_section, ℕ}
+use Rattle.krl_entries.specs.Item.{LeavesAt}
+use Rattle.krl_entries.specs.declared.item.Item.{Item}
+use Rattle.krl_entries.specs.declared.item.Item.TheVariants as items
 use Rattle.krl_entries.proofs.Additions.{adds_mean, takes_listed}
 use Rattle.krl_entries.proofs.Amounts.{adds_held, adds_named, adds_stored, held_stays, named_stored}
 use Rattle.krl_entries.proofs.SeparateSections.{changed_orderly, in_order, place_of}
@@ -86,3 +89,12 @@ pub held_more : (addition : Addition) (a : List ℕ) (result : Result (Unit {0})
 held_more addition a (Ok done) old new u err =
     subst (λ r. HoldsMore addition (held old) (held r)) (sym u.same) (adds_held addition a old.sections new.sections u.adds)
 held_more addition a (Err fault) old new ok err = subst (λ r. HoldsMore addition (held old) (held r)) (sym err) (held_stays addition (held old))
+
+-- ---- the authority that is in force afterwards
+
+-- each authority is, if no section is kept apart
+pub leaves_anywhere : (Old New : List ℕ → Type 0) (item : Item) → ((authority : List ℕ) → New authority) → LeavesAt Old New item
+leaves_anywhere Old New (items.Id authority id) new = new authority.now
+leaves_anywhere Old New (items.Key blob) new = λ authority _. new authority
+leaves_anywhere Old New (items.Sha1 hash) new = λ authority _. new authority
+leaves_anywhere Old New (items.Sha256 hash) new = λ authority _. new authority

@@ -2,6 +2,7 @@ pub mod Changes
 pub mod Revocations
 pub mod Ids
 pub mod Inserting
+pub mod Item
 pub mod Named
 pub mod Revoked
 pub mod Scope

@@ -8,6 +8,7 @@ ghost use Rattle.krl_entries.specs.Revocations.{IsOrderly, nothing};
 
 use crate::addition::Addition;
 use crate::authority_entries::Apart;
+use crate::item::Item;
 use crate::revocations::Revocations;
 use crate::store::Store;
 use serial_set::{Span, Spans};
@@ -123,22 +124,11 @@ impl<S: Spans> Store for Gathered<S> {
         self.put(authority, Addition::Serials(near))
     }
 
-    fn store_id(&mut self, authority: &[u8], id: &[u8]) -> Result<(), AllocError> {
-        self.put(authority, Addition::Id(id))
-    }
-
-    fn store_key(&mut self, blob: &[u8]) -> Result<(), AllocError> {
+    fn store(&mut self, item: Item<'_>) -> Result<(), AllocError> {
+        if let Item::Id(authority, id) = item {
+            return self.put(authority, Addition::Id(id));
+        }
         settle(&mut self.rest, &mut self.apart);
-        self.rest.add_key(blob)
-    }
-
-    fn store_sha1(&mut self, hash: &[u8; 20]) -> Result<(), AllocError> {
-        settle(&mut self.rest, &mut self.apart);
-        self.rest.add_sha1(hash)
-    }
-
-    fn store_sha256(&mut self, hash: &[u8; 32]) -> Result<(), AllocError> {
-        settle(&mut self.rest, &mut self.apart);
-        self.rest.add_sha256(hash)
+        self.rest.add_item(item)
     }
 }

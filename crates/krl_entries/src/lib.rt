@@ -8,6 +8,7 @@ mod entries_by_authority;
 mod gathered;
 mod getters;
 mod ids;
+mod item;
 pub mod laws;
 mod listed;
 mod name;
@@ -17,6 +18,7 @@ mod store;
 mod texts;
 
 pub use gathered::Gathered;
+pub use item::Item;
 pub use listed::{Authorities, Listed};
 pub use name::Name;
 pub use reasons::{Reason, Reasons};

@@ -4,12 +4,14 @@ ghost use Rattle.std.specs.Prelude.{OnErr, Some};
 ghost use Rattle.krl_entries.specs.Changes.{HoldsMore, IsOneChange, MeansMore, added_entries};
 ghost use Rattle.krl_entries.specs.Changes.{bytes_in};
 ghost use Rattle.krl_entries.specs.Gathered.{HasPlace, TakesOut, whole};
+ghost use Rattle.krl_entries.specs.Item.{StoresItem, entry_in};
 ghost use Rattle.krl_entries.specs.Revocations.{IsNamed, IsOrderly, Means, nothing, held, stored};
 ghost use Rattle.krl_types.specs.Entry.{RangeEntry, IdEntry, KeyEntry, Sha1Entry, Sha256Entry};
 
 use crate::addition::Addition;
 use crate::authority_entries::Apart;
 use crate::entries_by_authority::EntriesByAuthority;
+use crate::item::Item;
 use crate::texts::put_text;
 use serial_set::{Span, Spans};
 use std::alloc::{AllocError, Global};
@@ -116,6 +118,21 @@ impl<S: Spans> Revocations<S> {
     {
         self.sections.add(authority, addition)?;
         Ok(())
+    }
+
+    /// Revokes what an item names. Fails only if an allocation fails, and then changes nothing.
+    pub fn add_item(&mut self, item: Item<'_>) -> Result<(), AllocError>
+        ensures means { OnOk result (MeansMore self.old self.new (entry_in item.entry ∷ [])) }
+        ensures refused { OnErr result (self.new ≡ self.old) }
+        ensures held { held self.new ≡ held self.old }
+        ensures stored { StoresItem item.entry self.old self.new }
+    {
+        match item {
+            Item::Id(authority, id) => self.add_id(authority, id),
+            Item::Key(blob) => self.add_key(blob),
+            Item::Sha1(hash) => self.add_sha1(hash),
+            Item::Sha256(hash) => self.add_sha256(hash),
+        }
     }
 
     /// Revokes a key by its blob. Fails only if an allocation fails, and then changes nothing.

@@ -6,12 +6,13 @@ ghost use Rattle.serial_set.specs.BitRuns.{IsInterval};
 ghost use Rattle.serial_set.specs.Near.{AreNear};
 ghost use Rattle.krl_entries.specs.Changes.{run_entries};
 ghost use Rattle.krl_entries.specs.Revocations.{IsStoredAtMost, held};
-ghost use Rattle.krl_types.specs.Entry.{IdEntry, KeyEntry, Sha1Entry, Sha256Entry};
+ghost use Rattle.krl_entries.specs.Item.{IsTakenAt, LeavesAt, StoresItem, entry_in};
 ghost use Rattle.krl_types.specs.Naming.{SerialOf};
 ghost use Rattle.krl_entries.specs.Scope.{AreOutOfScope, InScope, MeansMoreInScope, IsInScope};
 ghost use Rattle.krl_entries.specs.Scope.{stored_comment};
 
 use crate::addition::Addition;
+use crate::item::Item;
 use crate::revocations::Revocations;
 use serial_set::{Span, Spans};
 use std::alloc::AllocError;
@@ -72,59 +73,17 @@ pub trait Store: Drop {
             → IsStoredAtMost authority.now (contents self.old) n
             → IsStoredAtMost authority.now (contents self.new) n };
 
-    /// Takes a key ID under an authority, or under all authorities if it is empty.
-    fn store_id(&mut self, authority: &[u8], id: &[u8]) -> Result<(), AllocError>
-        requires { is_at self.old authority.now }
-        ensures at { is_at self.new authority.now }
+    /// Takes a key ID or a key.
+    fn store(&mut self, item: Item<'_>) -> Result<(), AllocError>
+        requires { IsTakenAt (is_at self.old) item }
+        ensures at { LeavesAt (is_at self.old) (is_at self.new) item.entry }
         ensures means { OnOk result (MeansMoreInScope (scope self.old) (contents self.old)
-            (contents self.new) (IdEntry authority.now id.now ∷ [])) }
+            (contents self.new) (entry_in item.entry ∷ [])) }
         ensures scope { scope self.new ≡ scope self.old }
         ensures within { IsInScope (scope self.old) (contents self.old)
             → IsInScope (scope self.new) (contents self.new) }
         ensures held { held (contents self.new) ≡ held (contents self.old) }
-        ensures stored { (n : ℕ)
-            → IsStoredAtMost authority.now (contents self.old) n
-            → IsStoredAtMost authority.now (contents self.new)
-            (n + length id.now) };
-
-    /// Takes a key by its blob.
-    fn store_key(&mut self, blob: &[u8]) -> Result<(), AllocError>
-        ensures at { (authority : List ℕ) → is_at self.old authority → is_at self.new authority }
-        ensures means { OnOk result (MeansMoreInScope (scope self.old) (contents self.old)
-            (contents self.new) (KeyEntry blob.now ∷ [])) }
-        ensures scope { scope self.new ≡ scope self.old }
-        ensures within { IsInScope (scope self.old) (contents self.old)
-            → IsInScope (scope self.new) (contents self.new) }
-        ensures held { held (contents self.new) ≡ held (contents self.old) }
-        ensures stored { (authority : List ℕ) (n : ℕ)
-            → IsStoredAtMost authority (contents self.old) n
-            → IsStoredAtMost authority (contents self.new) (n + length blob.now) };
-
-    /// Takes a key by the SHA-1 of its blob.
-    fn store_sha1(&mut self, hash: &[u8; 20]) -> Result<(), AllocError>
-        ensures at { (authority : List ℕ) → is_at self.old authority → is_at self.new authority }
-        ensures means { OnOk result (MeansMoreInScope (scope self.old) (contents self.old)
-            (contents self.new) (Sha1Entry hash.now ∷ [])) }
-        ensures scope { scope self.new ≡ scope self.old }
-        ensures within { IsInScope (scope self.old) (contents self.old)
-            → IsInScope (scope self.new) (contents self.new) }
-        ensures held { held (contents self.new) ≡ held (contents self.old) }
-        ensures stored { (authority : List ℕ) (n : ℕ)
-            → IsStoredAtMost authority (contents self.old) n
-            → IsStoredAtMost authority (contents self.new) (n + 20) };
-
-    /// Takes a key by the SHA-256 of its blob.
-    fn store_sha256(&mut self, hash: &[u8; 32]) -> Result<(), AllocError>
-        ensures at { (authority : List ℕ) → is_at self.old authority → is_at self.new authority }
-        ensures means { OnOk result (MeansMoreInScope (scope self.old) (contents self.old)
-            (contents self.new) (Sha256Entry hash.now ∷ [])) }
-        ensures scope { scope self.new ≡ scope self.old }
-        ensures within { IsInScope (scope self.old) (contents self.old)
-            → IsInScope (scope self.new) (contents self.new) }
-        ensures held { held (contents self.new) ≡ held (contents self.old) }
-        ensures stored { (authority : List ℕ) (n : ℕ)
-            → IsStoredAtMost authority (contents self.old) n
-            → IsStoredAtMost authority (contents self.new) (n + 32) };
+        ensures stored { StoresItem item.entry (contents self.old) (contents self.new) };
 }
 
 impl<S: Spans> Store for Revocations<S> {
@@ -154,19 +113,7 @@ impl<S: Spans> Store for Revocations<S> {
         self.add(authority, Addition::Serials(near))
     }
 
-    fn store_id(&mut self, authority: &[u8], id: &[u8]) -> Result<(), AllocError> {
-        self.add_id(authority, id)
-    }
-
-    fn store_key(&mut self, blob: &[u8]) -> Result<(), AllocError> {
-        self.add_key(blob)
-    }
-
-    fn store_sha1(&mut self, hash: &[u8; 20]) -> Result<(), AllocError> {
-        self.add_sha1(hash)
-    }
-
-    fn store_sha256(&mut self, hash: &[u8; 32]) -> Result<(), AllocError> {
-        self.add_sha256(hash)
+    fn store(&mut self, item: Item<'_>) -> Result<(), AllocError> {
+        self.add_item(item)
     }
 }

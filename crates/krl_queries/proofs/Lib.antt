@@ -8,6 +8,7 @@ pub mod TopicAdditions
 pub mod TopicAmounts
 pub mod KeyHashes
 pub mod QuestionAnswers
+mod AskedItems
 pub mod FoundReasons
 pub mod AddedFindings
 pub mod FirstSerials

@@ -1,16 +1,17 @@
 //! The findings: a store that takes from a list what the questions are about.
 
-ghost use Rattle.std.specs.Prelude.{◌≡◌, ◌+◌, ◌≤◌, ◌∷◌, [], ℕ, OnOk, ⊤};
+ghost use Rattle.std.specs.Prelude.{◌≡◌, ◌↔◌, ◌+◌, ◌≤◌, ◌∷◌, [], ℕ, IfOk, IsTrue, OnOk, ⊤};
+ghost use Rattle.krl_entries.specs.Item.{name_in};
 ghost use Rattle.serial_set.specs.BitRuns.{IsInterval};
 ghost use Rattle.krl_entries.specs.Revocations.{IsStoredAtMost, held};
 ghost use Rattle.krl_types.specs.Entry.{RangeEntry};
 ghost use Rattle.krl_queries.specs.Questions.{asked_in};
-ghost use Rattle.krl_entries.specs.Scope.{HoldsOnlyTopics, MeansMoreInScope};
+ghost use Rattle.krl_entries.specs.Scope.{HoldsOnlyTopics, IsTopic, MeansMoreInScope};
 
 use crate::key_hashes::asks_hash;
 use crate::questions::Questions;
 use crate::topics::{count_skipped, first_serial, may_have};
-use krl_entries::Store;
+use krl_entries::{Item, Store};
 use serial_set::{Span, Spans};
 use sha1::Sha1;
 use sha2::Sha256;
@@ -33,6 +34,31 @@ impl<S: Spans> Questions<S> {
         match first_serial(&self.topics, authority, span.lo, span.hi) {
             None => Ok(()),
             Some(first) => self.found.add_serials(authority, first, span.hi),
+        }
+    }
+
+    // Whether the item names what is asked about. Computes the hashes of the keys that are asked
+    // about at the first hash.
+    fn asks(&mut self, item: Item<'_>) -> Result<bool, AllocError>
+        ensures asked { IfOk result (λ asked.
+            IsTrue asked ↔ IsTopic self.old.topics (name_in item.entry)) }
+        ensures same { self.new ≡ self.old }
+    {
+        match item {
+            Item::Id(authority, id) => Ok(self.topics.has_id(authority, id)),
+            Item::Key(blob) => Ok(self.topics.has_blob(blob)),
+            Item::Sha1(hash) => asks_hash::<Sha1, S, 20>(
+                &self.topics,
+                &mut self.has_sha1s,
+                &mut self.sha1s,
+                hash,
+            ),
+            Item::Sha256(hash) => asks_hash::<Sha256, S, 32>(
+                &self.topics,
+                &mut self.has_sha256s,
+                &mut self.sha256s,
+                hash,
+            ),
         }
     }
 }
@@ -67,43 +93,11 @@ impl<S: Spans> Store for Questions<S> {
         Ok(())
     }
 
-    fn store_id(&mut self, authority: &[u8], id: &[u8]) -> Result<(), AllocError> {
-        if !self.topics.has_id(authority, id) {
-            return Ok(());
-        }
-        self.found.add_id(authority, id)
-    }
-
-    fn store_key(&mut self, blob: &[u8]) -> Result<(), AllocError> {
-        if !self.topics.has_blob(blob) {
-            return Ok(());
-        }
-        self.found.add_key(blob)
-    }
-
-    fn store_sha1(&mut self, hash: &[u8; 20]) -> Result<(), AllocError> {
-        let asked = asks_hash::<Sha1, S, 20>(
-            &self.topics,
-            &mut self.has_sha1s,
-            &mut self.sha1s,
-            hash,
-        )?;
+    fn store(&mut self, item: Item<'_>) -> Result<(), AllocError> {
+        let asked = self.asks(item)?;
         if !asked {
             return Ok(());
         }
-        self.found.add_sha1(hash)
-    }
-
-    fn store_sha256(&mut self, hash: &[u8; 32]) -> Result<(), AllocError> {
-        let asked = asks_hash::<Sha256, S, 32>(
-            &self.topics,
-            &mut self.has_sha256s,
-            &mut self.sha256s,
-            hash,
-        )?;
-        if !asked {
-            return Ok(());
-        }
-        self.found.add_sha256(hash)
+        self.found.add_item(item)
     }
 }

@@ -1,0 +1,13 @@
+use Rattle.krl_entries.proofs.revocations.Revocations.add_item.Goals as goal
+
+pub returns-in-Id-clause-means : goal.returns-in-Id-clause-means
+returns-in-Id-clause-means g c = rw c.in-Id.is c.add_id.ensures.means
+
+pub returns-in-Key-clause-means : goal.returns-in-Key-clause-means
+returns-in-Key-clause-means g c = rw c.in-Key.is c.add_key.ensures.means
+
+pub returns-in-Sha1-clause-means : goal.returns-in-Sha1-clause-means
+returns-in-Sha1-clause-means g c = rw c.in-Sha1.is c.add_sha1.ensures.means
+
+pub returns-in-Sha256-clause-means : goal.returns-in-Sha256-clause-means
+returns-in-Sha256-clause-means g c = rw c.in-Sha256.is c.add_sha256.ensures.means
