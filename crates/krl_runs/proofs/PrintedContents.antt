@@ -3,10 +3,10 @@ use Rattle.krl_runs.proofs.Common.{[], ◌++◌, ◌+◌, ◌<◌, ◌==◌, ◌
 use Rattle.krl_runs.proofs.Common.{append_assoc, arith, authority_line, carries_more}
 use Rattle.krl_runs.proofs.Common.{carries_none, carries_then, comment_line, comment_lines}
 use Rattle.krl_runs.proofs.Common.{contents_lines, date_line, drop, drop-cons, Err, fact_line}
-use Rattle.krl_runs.proofs.Common.{false, flat_map, get_or, Hash, Header, header_lines, Id}
+use Rattle.krl_runs.proofs.Common.{false, flat_map, get_or, Header, header_lines, Id}
 use Rattle.krl_runs.proofs.Common.{IsPiece, Item, Key, Known, known_lines, left, length, List}
 use Rattle.krl_runs.proofs.Common.{map, next_of, Ok, Option, refl, Result, Revocations, RunFault}
-use Rattle.krl_runs.proofs.Common.{said_of, Section, section_lines, serials_line, Sha1}
+use Rattle.krl_runs.proofs.Common.{said_of, Section, section_lines, serials_line, Sha1, Sha256}
 use Rattle.krl_runs.proofs.Common.{Some, subst, sym, true, version_line, ℕ}
 use Rattle.std.proofs.lemmas.List.{map-append}
 use Rattle.std.proofs.lemmas.Bool.Decides.{nat_tests}
@@ -62,7 +62,7 @@ last_said {B} name all lines result old mid new is carries =
 -- the lines of some authorities, and of the keys and the hashes
 abbrev pub held_lines : List Section → Revocations → List (List ℕ)
 held_lines sections r =
-    flat_map section_lines sections ++ (map (fact_line Key) r.keys ++ (map (fact_line Sha1) r.sha1s ++ map (fact_line Hash) r.sha256s))
+    flat_map section_lines sections ++ (map (fact_line Key) r.keys ++ (map (fact_line Sha1) r.sha1s ++ map (fact_line Sha256) r.sha256s))
 
 pub held_first : (name : List ℕ) (r : Revocations) (now : Printer) → IsSaid name (contents_lines r) (held_lines r.sections r) now now
 unfolding contents_lines
@@ -99,7 +99,7 @@ piece_next spans piece n before next r fits b p e =
 -- the lines of an authority and those of the others
 pub held_next : (section : Section) (rest : List Section) (r : Revocations) → held_lines (section ∷ rest) r ≡ section_lines section ++ held_lines rest r
 held_next section rest r =
-    append_assoc (section_lines section) (flat_map section_lines rest) (map (fact_line Key) r.keys ++ (map (fact_line Sha1) r.sha1s ++ map (fact_line Hash) r.sha256s))
+    append_assoc (section_lines section) (flat_map section_lines rest) (map (fact_line Key) r.keys ++ (map (fact_line Sha1) r.sha1s ++ map (fact_line Sha256) r.sha256s))
 
 pub section_started : (name : List ℕ) (section : Section) (now : Printer)
     → IsSaid name (section_lines section) (authority_line section.authority ∷ (map serials_line section.spans ++ map (fact_line Id) section.ids)) now now

@@ -12,8 +12,8 @@ use Rattle.ssh_cert.specs.Escape.{escaped}
 use Rattle.cert_listing.specs.Time.{instant_text}
 use Rattle.krl_entries.specs.Revocations.{Revocations, Section}
 use Rattle.krl_format.specs.declared.header.Header.{Header}
-use Rattle.krl_runs.specs.declared.contents.fact.Fact.{Fact}
-use Rattle.krl_runs.specs.declared.contents.fact.Fact.TheVariants.{Id, Key, Sha1, Hash}
+use Rattle.krl_format.specs.declared.place.list.ItemKind.{ItemKind}
+use Rattle.krl_format.specs.declared.place.list.ItemKind.TheVariants as kinds
 use Rattle.key_listing.specs.Run.{Item}
 use Rattle.key_listing.specs.Run.{said_of}
 
@@ -61,21 +61,21 @@ unfoldable pub serials_line : Span → List ℕ
 serials_line span = line (codes "serial: ") (serials_text span)
 
 -- the beginning of the line of a key ID, a key or a hash
-abbrev pub label_of : Fact → List ℕ
-label_of Id = codes "id: "
-label_of Key = codes "key: "
-label_of Sha1 = codes "sha1: "
-label_of Hash = codes "hash: SHA256:"
+abbrev pub label_of : ItemKind → List ℕ
+label_of kinds.Id = codes "id: "
+label_of kinds.Key = codes "key: "
+label_of kinds.Sha1 = codes "sha1: "
+label_of kinds.Sha256 = codes "hash: SHA256:"
 
 -- its bytes, as they are printed
-abbrev pub fact_text : Fact → List ℕ → List ℕ
-fact_text Id bytes = escaped bytes
-fact_text Key bytes = encode_of standard bytes
-fact_text Sha1 bytes = encode_lower bytes
-fact_text Hash bytes = unpadded bytes
+abbrev pub fact_text : ItemKind → List ℕ → List ℕ
+fact_text kinds.Id bytes = escaped bytes
+fact_text kinds.Key bytes = encode_of standard bytes
+fact_text kinds.Sha1 bytes = encode_lower bytes
+fact_text kinds.Sha256 bytes = unpadded bytes
 
-unfoldable pub fact_line : Fact → List ℕ → List ℕ
-fact_line fact bytes = line (label_of fact) (fact_text fact bytes)
+unfoldable pub fact_line : ItemKind → List ℕ → List ℕ
+fact_line kind bytes = line (label_of kind) (fact_text kind bytes)
 
 unfoldable pub header_lines : Header → List (List ℕ)
 header_lines header =
@@ -85,15 +85,15 @@ header_lines header =
 unfoldable pub section_lines : Section → List (List ℕ)
 section_lines section =
     authority_line section.authority
-    ∷ (map serials_line section.spans ++ map (fact_line Id) section.ids)
+    ∷ (map serials_line section.spans ++ map (fact_line kinds.Id) section.ids)
 
 -- all authorities, keys and hashes
 unfoldable pub contents_lines : Revocations → List (List ℕ)
 contents_lines contents =
     flat_map section_lines contents.sections
-    ++ (map (fact_line Key) contents.keys
-    ++ (map (fact_line Sha1) contents.sha1s
-    ++ map (fact_line Hash) contents.sha256s))
+    ++ (map (fact_line kinds.Key) contents.keys
+    ++ (map (fact_line kinds.Sha1) contents.sha1s
+    ++ map (fact_line kinds.Sha256) contents.sha256s))
 
 abbrev pub known_lines : Known → List (List ℕ)
 known_lines known = header_lines known.header ++ contents_lines known.contents

@@ -9,7 +9,7 @@ ghost use Rattle.krl_runs.specs.Contents.{serials_line};
 pub(crate) mod fact;
 pub(crate) mod lines;
 
-use crate::contents::fact::Fact;
+use crate::contents::fact::write_fact;
 use crate::contents::lines::{
     write_authority, write_comment, write_date, write_serials, write_version,
 };
@@ -17,6 +17,7 @@ use byte_streams::Sink;
 use key_files::RunFault;
 use key_listing::Run;
 use krl_core::{Header, Listed, Revocations, Texts};
+use krl_format::ItemKind;
 use serial_set::{Span, Spans};
 
 /// Prints the contents of a list: a line for each fact of its header, and then each authority with
@@ -78,9 +79,9 @@ fn print_held<'a, S: Spans, W: Sink>(
     for listed in list.iter_authorities() {
         print_section(run, name, &listed)?;
     }
-    print_texts(run, name, Fact::Key, list.iter_keys())?;
-    print_texts(run, name, Fact::Sha1, list.iter_sha1s())?;
-    print_texts(run, name, Fact::Hash, list.iter_sha256s())
+    print_texts(run, name, ItemKind::Key, list.iter_keys())?;
+    print_texts(run, name, ItemKind::Sha1, list.iter_sha1s())?;
+    print_texts(run, name, ItemKind::Sha256, list.iter_sha256s())
 }
 
 // Prints an authority, its serials and its key IDs.
@@ -95,7 +96,7 @@ fn print_section<'a, S: Spans, W: Sink>(
     let made = write_authority(run.alloc, listed.authority(), &mut run.line);
     run.say_line(name, made)?;
     print_spans(run, name, listed.spans())?;
-    print_texts(run, name, Fact::Id, listed.iter_ids())
+    print_texts(run, name, ItemKind::Id, listed.iter_ids())
 }
 
 // Prints spans of serials, some at a time.
@@ -136,14 +137,14 @@ fn print_piece<'a, W: Sink>(
 fn print_texts<'a, W: Sink>(
     run: &mut Run<W>,
     name: &'a str,
-    fact: Fact,
+    kind: ItemKind,
     texts: Texts<'_>,
 ) -> Result<(), RunFault<'a>>
-    ensures { Carries (all_said name.now (map (fact_line fact) texts.entry)) result
+    ensures { Carries (all_said name.now (map (fact_line kind) texts.entry)) result
         run.old.printer run.new.printer }
 {
     for bytes in texts {
-        let made = fact.write(run.alloc, bytes, &mut run.line);
+        let made = write_fact(run.alloc, kind, bytes, &mut run.line);
         run.say_line(name, made)?;
     }
     Ok(())

@@ -1,5 +1,5 @@
 -- Each part is printed, or ends the run.
-use Rattle.krl_runs.proofs.Common.{err_from_is_err_and, fact_line, Hash, Key, map, section_lines}
+use Rattle.krl_runs.proofs.Common.{err_from_is_err_and, fact_line, Key, map, section_lines, Sha256}
 use Rattle.krl_runs.proofs.Common.{Sha1}
 use Rattle.krl_runs.proofs.PrintedContents.{held_first, held_next, last_said, more_said}
 use Rattle.krl_runs.proofs.PrintedContents.{saying_stops}
@@ -41,4 +41,4 @@ returns g c =
     let sha1s = rw c.iter_sha1s.ensures at c.in_ok-print_texts-2.ensures in
     let hashes = rw c.iter_sha256s.ensures at c.print_texts-3.ensures in
     let rest = more_said _ _ (map (fact_line Sha1) c.args.list.now.sha1s) _ _ _ _ (more_said _ _ (map (fact_line Key) c.args.list.now.keys) _ _ _ _ is keys) sha1s in
-    last_said _ _ (map (fact_line Hash) c.args.list.now.sha256s) _ _ _ _ rest hashes
+    last_said _ _ (map (fact_line Sha256) c.args.list.now.sha256s) _ _ _ _ rest hashes

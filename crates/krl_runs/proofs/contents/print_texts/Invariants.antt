@@ -4,4 +4,4 @@ use Rattle.krl_runs.proofs.PrintedContents.{IsSaid}
 use Rattle.krl_runs.proofs.contents.print_texts.Given as goal
 
 abbrev pub invariant-loop-bytes : goal.invariant-loop-bytes
-invariant-loop-bytes g l = IsSaid l.name (map (fact_line l.fact) l.fn.texts) (map (fact_line l.fact) l.bytes-iterator) l.initial.run.printer l.run.printer
+invariant-loop-bytes g l = IsSaid l.name (map (fact_line l.kind) l.fn.texts) (map (fact_line l.kind) l.bytes-iterator) l.initial.run.printer l.run.printer
