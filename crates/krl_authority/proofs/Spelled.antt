@@ -12,17 +12,13 @@ use Rattle.krl_format.specs.Krl.{Certificates, Extension, Keys, Sha1s, Sha256s, 
 use Rattle.krl_format.specs.Place.{expected}
 use Rattle.krl_format.specs.declared.place.Place.{Place}
 use Rattle.krl_format.specs.declared.place.Place.TheVariants as places
-use Rattle.krl_format.specs.declared.place.bitmap.BitmapPlace.{BitmapPlace}
-use Rattle.krl_format.specs.declared.place.certificates.CertificatesPlace.{CertificatesPlace}
-use Rattle.krl_format.specs.declared.place.certificates.CertificatesPlace.TheVariants as certificates
-use Rattle.krl_format.specs.declared.place.extension.ExtensionPlace.{ExtensionPlace}
-use Rattle.krl_format.specs.declared.place.extension.ExtensionPlace.TheVariants as extensions
 use Rattle.krl_format.specs.declared.place.field.Field.{Field}
 use Rattle.krl_format.specs.declared.place.field.Field.TheVariants as fields
-use Rattle.krl_format.specs.declared.place.list.ItemKind.TheVariants as kinds
-use Rattle.krl_format.specs.declared.place.list.ListPlace.{ListPlace}
-use Rattle.krl_format.specs.declared.place.list.ListPlace.TheVariants as lists
-use Rattle.krl_format.specs.declared.place.serials.SerialsPlace.{SerialsPlace}
+use Rattle.krl_format.specs.Section.{signature_type}
+use Rattle.krl_format.specs.declared.section.ItemKind.{ItemKind}
+use Rattle.krl_format.specs.declared.section.Section.{Section as SectionKind}
+use Rattle.krl_format.specs.declared.section.Section.TheVariants as section_kinds
+use Rattle.krl_format.specs.declared.section.Subsection.{Subsection as SubsectionKind}
 use Rattle.krl_format.proofs.Judgements.{same_place}
 use Rattle.krl_format.proofs.OneSpelling.{section_type}
 use Rattle.krl_format.proofs.TableRows.{after_is, fields_at}
@@ -80,7 +76,7 @@ of_content section first is = record {
 
 abbrev pub begins_so : (section : SpelledSection) (first : List ℕ) → SpellsSection first section → BeginsSo section first
 begins_so Signature first (content, spelled, (values, (key, a, is_key, any_key, more))) =
-    record { content = key; after = a; parts = spelled ∙ ap (λ (x : List ℕ). 4 ∷ x) is_key.spelled; fits = is_key.is_part }
+    record { content = key; after = a; parts = spelled ∙ ap (λ (x : List ℕ). signature_type ∷ x) is_key.spelled; fits = is_key.is_part }
 begins_so section first is = of_content section first is
 
 -- reading a string that is spelled gives it and the bytes after it
@@ -90,12 +86,12 @@ Takes from content left = (text rest : List ℕ) → from ≡ string text ++ res
 -- ---- the place after its type byte
 
 abbrev pub place_of : SpelledSection → Place
-place_of (Certificates authority subsections) = places.Certificates certificates.SectionLength
-place_of (Keys blobs) = places.List (lists.SectionLength kinds.Key)
-place_of (Sha1s hashes) = places.List (lists.SectionLength kinds.Sha1)
-place_of (Sha256s hashes) = places.List (lists.SectionLength kinds.Sha256)
+place_of (Certificates authority subsections) = places.SectionLength section_kinds.Certificates
+place_of (Keys blobs) = places.SectionLength section_kinds.Keys
+place_of (Sha1s hashes) = places.SectionLength section_kinds.Sha1s
+place_of (Sha256s hashes) = places.SectionLength section_kinds.Sha256s
 place_of Signature = places.Field fields.SignatureKey 0 0
-place_of Extension = places.Extension extensions.SectionLength
+place_of Extension = places.SectionLength section_kinds.Extension
 
 typed : (section : SpelledSection) → (expected (places.SectionType false)).judged (section_type section ∷ []) ≡ Ok (place_of section)
 unfolding number_of
@@ -149,10 +145,10 @@ authority_front content body values (authority, a, is_authority, any_authority, 
     (a, subst (λ (v : List (List ℕ)). BeginsWithPart Text content (slice_index_or v 0 []) a) same is_authority)
 
 -- a section of certificates, judged by its authority
-pub judged_certificates : (section : SpelledSection) (first rest after content left : List ℕ) (fine : Bool) (next : Place) (at : CertificatesPlace) (spells : SpellsSection first section) → IsNext section first rest spells next after
-    → next ≡ places.Certificates at → Takes after content left → ((authority more : List ℕ) → content ≡ string authority ++ more → length authority < 2 ^ 32 → IsTrue fine ↔ IsKeyOrAll authority)
+pub judged_certificates : (section : SpelledSection) (first rest after content left : List ℕ) (fine : Bool) (next : Place) (spells : SpellsSection first section) → IsNext section first rest spells next after
+    → next ≡ places.SectionLength section_kinds.Certificates → Takes after content left → ((authority more : List ℕ) → content ≡ string authority ++ more → length authority < 2 ^ 32 → IsTrue fine ↔ IsKeyOrAll authority)
     → IsJudged section fine left rest
-judged_certificates (Certificates authority subsections) first rest after content left fine next at spells is here takes begins =
+judged_certificates (Certificates authority subsections) first rest after content left fine next spells is here takes begins =
     let so = begins_so (Certificates authority subsections) first spells in
     let taken = takes so.content (so.after ++ rest) is.after_is so.fits in
     let held = spells.content_is in
@@ -162,7 +158,7 @@ judged_certificates (Certificates authority subsections) first rest after conten
       judged = begins authority more (taken.0 ∙ begun.spelled) begun.is_part;
       left_is = λ _. taken.1;
     }
-judged_certificates section first rest after content left fine next at spells is here takes begins = let other = sym is.place_is ∙ here in absurd cc
+judged_certificates section first rest after content left fine next spells is here takes begins = let other = sym is.place_is ∙ here in absurd cc
 
 -- a signature, whose second string is skipped
 pub judged_signature : (section : SpelledSection) (first rest after content middle left : List ℕ) (fine : Bool) (next : Place) (row : Field) (size behind : ℕ) (spells : SpellsSection first section) → IsNext section first rest spells next after
@@ -179,13 +175,16 @@ judged_signature Signature first rest after content middle left fine next row si
 judged_signature section first rest after content middle left fine next row size behind spells is here takes skips = let other = sym is.place_is ∙ here in absurd cc
 
 abbrev pub IsPlain : Place → Type 0
-IsPlain (places.List at) = Unit {0}
-IsPlain (places.Extension at) = Unit {0}
+IsPlain (places.SectionLength section_kinds.Certificates) = ⊥
+IsPlain (places.SectionLength section) = Unit {0}
 IsPlain _ = ⊥
 
-pub is_plain : (next : Place) → ((at : ListPlace) × (next ≡ places.List at)) ⊎ ((at : ExtensionPlace) × (next ≡ places.Extension at)) → IsPlain next
-is_plain next (inl (at, is)) = subst IsPlain (sym is) tt
-is_plain next (inr (at, is)) = subst IsPlain (sym is) tt
+pub is_plain : (next : Place) (kind : SectionKind) → next ≡ places.SectionLength kind
+    → (kind ≡ section_kinds.Keys) ⊎ ((kind ≡ section_kinds.Sha1s) ⊎ ((kind ≡ section_kinds.Sha256s) ⊎ (kind ≡ section_kinds.Extension))) → IsPlain next
+is_plain next kind at (inl is) = subst IsPlain (sym (at ∙ ap (λ (k : SectionKind). places.SectionLength k) is)) tt
+is_plain next kind at (inr (inl is)) = subst IsPlain (sym (at ∙ ap (λ (k : SectionKind). places.SectionLength k) is)) tt
+is_plain next kind at (inr (inr (inl is))) = subst IsPlain (sym (at ∙ ap (λ (k : SectionKind). places.SectionLength k) is)) tt
+is_plain next kind at (inr (inr (inr is))) = subst IsPlain (sym (at ∙ ap (λ (k : SectionKind). places.SectionLength k) is)) tt
 
 -- a section of one string without an authority
 pub judged_plain : (section : SpelledSection) (first rest after content left : List ℕ) (next : Place) (spells : SpellsSection first section) → IsNext section first rest spells next after → IsPlain next → Takes after content left
@@ -202,18 +201,34 @@ judged_plain section first rest after content left next spells is plain takes =
 
 -- no section begins with such a place
 abbrev pub IsOther : Place → Type 0
-IsOther (places.Content row size left after) = Unit {0}
-IsOther (places.SectionType signed) = Unit {0}
-IsOther (places.Serials at) = Unit {0}
-IsOther (places.Bitmap at) = Unit {0}
-IsOther _ = ⊥
+IsOther (places.Field row left after) = ⊥
+IsOther (places.SectionLength section) = ⊥
+IsOther _ = Unit {0}
 
 pub is_other : (next : Place) → ((row : Field) × (size : ℕ) × (left : ℕ) × (after : ℕ) × (next ≡ places.Content row size left after))
-    ⊎ (((signed : Bool) × (next ≡ places.SectionType signed)) ⊎ (((at : SerialsPlace) × (next ≡ places.Serials at)) ⊎ ((at : BitmapPlace) × (next ≡ places.Bitmap at)))) → IsOther next
+    ⊎ (((signed : Bool) × (next ≡ places.SectionType signed))
+    ⊎ (((left : ℕ) × (next ≡ places.SubsectionType left))
+    ⊎ (((part : SubsectionKind) × (left : ℕ) × (next ≡ places.SubsectionLength part left))
+    ⊎ (((kind : ItemKind) × (left : ℕ) × (after : ℕ) × (next ≡ places.ItemLength kind left after))
+    ⊎ (((kind : ItemKind) × (size : ℕ) × (left : ℕ) × (after : ℕ) × (next ≡ places.Item kind size left after))
+    ⊎ (((left : ℕ) × (after : ℕ) × (next ≡ places.Serial left after))
+    ⊎ (((after : ℕ) × (next ≡ places.RangeMin after))
+    ⊎ (((min : ℕ) × (after : ℕ) × (next ≡ places.RangeMax min after))
+    ⊎ (((left : ℕ) × (after : ℕ) × (next ≡ places.Offset left after))
+    ⊎ (((offset : ℕ) × (left : ℕ) × (after : ℕ) × (next ≡ places.BitmapSize offset left after))
+    ⊎ ((offset : ℕ) × (size : ℕ) × (left : ℕ) × (after : ℕ) × (next ≡ places.Byte offset size left after)))))))))))) → IsOther next
 is_other next (inl (row, size, left, after, is)) = subst IsOther (sym is) tt
 is_other next (inr (inl (signed, is))) = subst IsOther (sym is) tt
-is_other next (inr (inr (inl (at, is)))) = subst IsOther (sym is) tt
-is_other next (inr (inr (inr (at, is)))) = subst IsOther (sym is) tt
+is_other next (inr (inr (inl (left, is)))) = subst IsOther (sym is) tt
+is_other next (inr (inr (inr (inl (part, left, is))))) = subst IsOther (sym is) tt
+is_other next (inr (inr (inr (inr (inl (kind, left, after, is)))))) = subst IsOther (sym is) tt
+is_other next (inr (inr (inr (inr (inr (inl (kind, size, left, after, is))))))) = subst IsOther (sym is) tt
+is_other next (inr (inr (inr (inr (inr (inr (inl (left, after, is)))))))) = subst IsOther (sym is) tt
+is_other next (inr (inr (inr (inr (inr (inr (inr (inl (after, is))))))))) = subst IsOther (sym is) tt
+is_other next (inr (inr (inr (inr (inr (inr (inr (inr (inl (min, after, is)))))))))) = subst IsOther (sym is) tt
+is_other next (inr (inr (inr (inr (inr (inr (inr (inr (inr (inl (left, after, is))))))))))) = subst IsOther (sym is) tt
+is_other next (inr (inr (inr (inr (inr (inr (inr (inr (inr (inr (inl (offset, left, after, is)))))))))))) = subst IsOther (sym is) tt
+is_other next (inr (inr (inr (inr (inr (inr (inr (inr (inr (inr (inr (offset, size, left, after, is)))))))))))) = subst IsOther (sym is) tt
 
 never_other : (section : SpelledSection) → IsOther (place_of section) → ⊥
 never_other (Certificates authority subsections) other = other

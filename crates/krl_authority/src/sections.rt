@@ -11,7 +11,7 @@ ghost use Rattle.openssh_keys.specs.Judgement.{judgement_of};
 ghost use Rattle.openssh_keys.specs.declared.judgement.Judgement.TheVariants.{Accepted};
 ghost use Rattle.krl_authority.specs.Authority.{AuthoritiesAreKeys, IsJudged, IsKeyOrAll};
 
-use krl_format::{Field, FieldPart, Place};
+use krl_format::{Field, FieldPart, Place, Section};
 use openssh_keys::{Judgement, judge};
 use ssh_key::laws::read_where_spelled;
 use ssh_key::{PublicKey, read_key};
@@ -116,12 +116,24 @@ fn section_is_fine<'a>(left: &mut Cursor<'a>) -> bool
         return false;
     };
     match next {
-        Place::Certificates(_) => begins_with_key(content),
+        Place::SectionLength { section } => match section {
+            Section::Certificates => begins_with_key(content),
+            Section::Keys | Section::Sha1s | Section::Sha256s | Section::Extension => true,
+        },
         // The key of a signature comes before the signature.
         Place::Field { .. } => skips_string(left),
-        Place::List(_) | Place::Extension(_) => true,
-        Place::Content { .. } | Place::SectionType { .. } | Place::Serials(_) | Place::Bitmap(_) =>
-            false,
+        Place::Content { .. }
+        | Place::SectionType { .. }
+        | Place::SubsectionType { .. }
+        | Place::SubsectionLength { .. }
+        | Place::ItemLength { .. }
+        | Place::Item { .. }
+        | Place::Serial { .. }
+        | Place::RangeMin { .. }
+        | Place::RangeMax { .. }
+        | Place::Offset { .. }
+        | Place::BitmapSize { .. }
+        | Place::Byte { .. } => false,
     }
 }
 

@@ -1,5 +1,5 @@
 -- The first fault of a list is never that of a reader.
-use Rattle.std.proofs.Common.{[], ◌%◌, ◌∷◌, ◌-◌, ◌≡◌, Bool, Err, false, List, Ok, Result, Some, subst, true, ℕ}
+use Rattle.std.proofs.Common.{◌-◌, ◌≡◌, Bool, Err, false, List, None, Ok, Option, Result, Some, subst, true, ℕ}
 use Rattle.std.specs.Prelude.{◌==◌, nat_le, nat_lt, not, if◌then◌else◌}
 use Rattle.ssh_wire.specs.Rows.{fault_unless, unless}
 use Rattle.ssh_wire.specs.Wire.{number_of}
@@ -7,17 +7,12 @@ use Rattle.krl_types.specs.declared.krl_fault.KrlFault.{KrlFault}
 use Rattle.krl_types.specs.declared.krl_fault.KrlFault.TheVariants as faults
 use Rattle.krl_format.specs.Field.{magic_number}
 use Rattle.krl_format.specs.Front.{IsFirstFault, Reported, ended, ends_early, no_room, refused, too_long}
-use Rattle.krl_format.specs.Place.{base_of, bits_within, expected, item_size, last_types, next_bits, next_item, next_serial, next_subsection, passes_end, place_after, place_of_type, section_types, subsection_types}
+use Rattle.krl_format.specs.Place.{base_of, bits_within, expected, item_size, next_bits, passes_end, place_after}
+use Rattle.krl_format.specs.Section.{Row, content_of, length_of, next_subsection, section_of, section_row, signature_type, subsection_of, subsection_row}
 use Rattle.krl_format.specs.declared.place.Place.{Place}
 use Rattle.krl_format.specs.declared.place.Place.TheVariants as places
-use Rattle.krl_format.specs.declared.place.bitmap.BitmapPlace.TheVariants as bitmaps
-use Rattle.krl_format.specs.declared.place.certificates.CertificatesPlace.TheVariants as certificates
-use Rattle.krl_format.specs.declared.place.extension.ExtensionPlace.TheVariants as extensions
 use Rattle.krl_format.specs.declared.place.field.Field.{Field}
 use Rattle.krl_format.specs.declared.place.field.Field.TheVariants as fields
-use Rattle.krl_format.specs.declared.place.list.ItemKind.TheVariants as kinds
-use Rattle.krl_format.specs.declared.place.list.ListPlace.TheVariants as lists
-use Rattle.krl_format.specs.declared.place.serials.SerialsPlace.TheVariants as serials
 
 abbrev pub NotRead : KrlFault → Type 0
 NotRead faults.Read = ⊥
@@ -36,9 +31,12 @@ unless_right : (right : Bool) (fault : KrlFault) (place : Place) → NotRead fau
 unless_right true fault place is = tt
 unless_right false fault place is = is
 
-of_type : (unknown : KrlFault) (types : List (ℕ × Place)) (n : ℕ) → NotRead unknown → OfField (place_of_type unknown types n)
-of_type unknown [] n is = is
-of_type unknown ((known, place) ∷ types) n is = either (n == known) (Ok place) (place_of_type unknown types n) tt (of_type unknown types n is)
+of_type : {X : Type 0} (unknown : KrlFault) (length_place : X → Place) (part : Option X) → NotRead unknown → OfField (length_of unknown length_place part)
+of_type unknown length_place None is = is
+of_type unknown length_place (Some part) is = tt
+
+of_content : (row : Row) (size after : ℕ) → OfField (content_of row size after)
+of_content row size after = either (row.may_have size) (Ok (row.first size after)) (Err faults.Length) tt tt
 
 of_bits : (offset size left after byte : ℕ) → OfField (bits_within offset size left after byte)
 of_bits offset size left after byte = either (not (passes_end (base_of offset left) byte)) (Ok (next_bits offset size (left - 1) after)) (Err faults.BitmapWraps) tt tt
@@ -57,6 +55,8 @@ of_row fields.Reserved left after field = tt
 of_row fields.Comment left after field = tt
 of_row fields.SignatureKey left after field = tt
 of_row fields.SignatureBytes left after field = tt
+of_row fields.Authority left after field = of_length left (number_of field) (Ok (places.Content fields.Authority (number_of field) (left - 4 - number_of field) after)) tt
+of_row fields.CertificatesReserved left after field = of_length left (number_of field) (Ok (places.Content fields.CertificatesReserved (number_of field) (left - 4 - number_of field) after)) tt
 of_row fields.ExtensionName left after field = of_length left (number_of field) (Ok (places.Content fields.ExtensionName (number_of field) (left - 4 - number_of field) after)) tt
 of_row fields.Critical left after field = unless_right (number_of field == 0) faults.CriticalExtension (place_after fields.Critical (left - 1) after) tt
 of_row fields.ExtensionContents left after field = either (number_of field == left - 4) (Ok (places.Content fields.ExtensionContents (number_of field) 0 after)) (Err faults.Length) tt tt
@@ -64,35 +64,27 @@ of_row fields.ExtensionContents left after field = either (number_of field == le
 judged : (place : Place) (field : List ℕ) → OfField ((expected place).judged field)
 judged (places.Field f left after) field = of_row f left after field
 judged (places.Content f size left after) field = tt
-judged (places.SectionType false) field = of_type faults.UnknownSection section_types (number_of field) tt
-judged (places.SectionType true) field = of_type faults.AfterSignature last_types (number_of field) tt
-judged (places.List (lists.SectionLength kind)) field = tt
-judged (places.List (lists.IdsLength left)) field = of_length left (number_of field) (Ok (next_item kinds.Id (number_of field) (left - 4 - number_of field))) tt
-judged (places.List (lists.ItemLength kind left after)) field =
-    of_length left (number_of field) _ (either (number_of field == item_size kind (number_of field)) (Ok (places.List (lists.Item kind (number_of field) (left - 4 - number_of field) after))) (Err faults.HashLength) tt tt)
-judged (places.List (lists.Item kind size left after)) field = tt
-judged (places.Certificates certificates.SectionLength) field = tt
-judged (places.Certificates (certificates.AuthorityLength left)) field = of_length left (number_of field) (Ok (places.Certificates (certificates.Authority (number_of field) (left - 4 - number_of field)))) tt
-judged (places.Certificates (certificates.Authority size after)) field = tt
-judged (places.Certificates (certificates.ReservedLength left)) field = of_length left (number_of field) (Ok (places.Certificates (certificates.Reserved (number_of field) (left - 4 - number_of field)))) tt
-judged (places.Certificates (certificates.Reserved size after)) field = tt
-judged (places.Certificates (certificates.SubsectionType left)) field = of_type faults.UnknownCertSection (subsection_types (left - 1)) (number_of field) tt
-judged (places.Serials (serials.SerialsLength left)) field =
-    of_length left (number_of field) _ (either (number_of field % 8 == 0) (Ok (next_serial (number_of field) (left - 4 - number_of field))) (Err faults.Length) tt tt)
-judged (places.Serials (serials.Serial left after)) field = tt
-judged (places.Serials (serials.RangeLength left)) field =
-    of_length left (number_of field) _ (either (number_of field == 16) (Ok (places.Serials (serials.RangeMin (left - 4 - number_of field)))) (Err faults.Length) tt tt)
-judged (places.Serials (serials.RangeMin after)) field = tt
-judged (places.Serials (serials.RangeMax min after)) field = either (nat_le min (number_of field)) (Ok (next_subsection after)) (Err faults.RangeReversed) tt tt
-judged (places.Bitmap (bitmaps.Length left)) field = of_length left (number_of field) (Ok (places.Bitmap (bitmaps.Offset (number_of field) (left - 4 - number_of field)))) tt
-judged (places.Bitmap (bitmaps.Offset left after)) field = tt
-judged (places.Bitmap (bitmaps.Size offset left after)) field = either (number_of field == left - 4) (Ok (next_bits offset (left - 4) (left - 4) after)) (Err faults.Length) tt tt
-judged (places.Bitmap (bitmaps.Byte offset size left after)) field =
+judged (places.SectionType signed) field =
+    let n = number_of field in
+    let typed : Result Place KrlFault = length_of faults.UnknownSection places.SectionLength (section_of n) in
+    either (n == signature_type) (Ok (places.Field fields.SignatureKey 0 0)) (if signed then Err faults.AfterSignature else typed) tt
+    (either signed (Err faults.AfterSignature) typed tt (of_type faults.UnknownSection places.SectionLength (section_of n) tt))
+judged (places.SectionLength section) field = of_content (section_row section) (number_of field) 0
+judged (places.SubsectionType left) field = of_type faults.UnknownCertSection (λ part. places.SubsectionLength part (left - 1)) (subsection_of (number_of field)) tt
+judged (places.SubsectionLength part left) field =
+    of_length left (number_of field) (content_of (subsection_row part) (number_of field) (left - 4 - number_of field)) (of_content (subsection_row part) (number_of field) (left - 4 - number_of field))
+judged (places.ItemLength kind left after) field =
+    of_length left (number_of field) _ (either (number_of field == item_size kind (number_of field)) (Ok (places.Item kind (number_of field) (left - 4 - number_of field) after)) (Err faults.HashLength) tt tt)
+judged (places.Item kind size left after) field = tt
+judged (places.Serial left after) field = tt
+judged (places.RangeMin after) field = tt
+judged (places.RangeMax min after) field = either (nat_le min (number_of field)) (Ok (next_subsection after)) (Err faults.RangeReversed) tt tt
+judged (places.Offset left after) field = tt
+judged (places.BitmapSize offset left after) field = either (number_of field == left - 4) (Ok (next_bits offset (left - 4) (left - 4) after)) (Err faults.Length) tt tt
+judged (places.Byte offset size left after) field =
     either (left == size) _ (bits_within offset size left after (number_of field))
     (either (nat_lt (number_of field) 128) (bits_within offset size left after (number_of field)) (Err faults.BitmapNegative) (of_bits offset size left after (number_of field)) tt)
     (of_bits offset size left after (number_of field))
-judged (places.Extension extensions.SectionLength) field = tt
-judged (places.Extension (extensions.SubsectionLength left)) field = of_length left (number_of field) (Ok (places.Field fields.ExtensionName (number_of field) (left - 4 - number_of field))) tt
 
 fault_is : (fault why : KrlFault) → Some fault ≡ Some why → NotRead why → NotRead fault
 fault_is fault why e is = let same : why ≡ fault = cc in subst NotRead same is

@@ -21,7 +21,6 @@ use Rattle.serial_set.proofs.RisingLists.{covers_append}
 use Rattle.krl_entries.proofs.Runs.{run_entries-name, run_entries-serials}
 use Rattle.krl_core.proofs.StoredEntries.{grows_one, open_entries, stored_same, stored_then}
 use Rattle.krl_format.specs.declared.place.Place.TheVariants as places
-use Rattle.krl_format.specs.declared.place.bitmap.BitmapPlace.TheVariants as bitmaps
 use Rattle.std.proofs.Math.Logic.Iff as Iff
 use Rattle.krl_format.proofs.PassingBits.{judged_parts, not_past_at}
 
@@ -186,9 +185,9 @@ bits_in_step before fed offset size (suc (suc left)) after is closed opened pos 
     subst (λ (n : ℕ). InStep (next_bits offset size n after) fed) (sym left_is) (omega arith, more ∙ all)
 
 pub stores_bits : (old new : FieldStore) (offset size left after byte : ℕ) (field : List ℕ) (next : Place)
-    → InStep (places.Bitmap (bitmaps.Byte offset size left after)) old.bitmap → byte ≡ number_of field
+    → InStep (places.Byte offset size left after) old.bitmap → byte ≡ number_of field
     → bits_judged offset size left after byte ≡ Ok next
-    → StoresBits byte (eqb left 1) old new → StoresField (places.Bitmap (bitmaps.Byte offset size left after)) field next old new
+    → StoresBits byte (eqb left 1) old new → StoresField (places.Byte offset size left after) field next old new
 stores_bits old new offset size left after byte field next step value judged h =
     let parts = judged_parts (eqb left size) (ltb byte 128) (passes_end (base_of offset left) byte) next (next_bits offset size (left - 1) after) judged in
     let bytes_left : old.bitmap.bytes_left ≡ left = ap (λ x. x.bytes_left) step.1 in

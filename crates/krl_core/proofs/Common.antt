@@ -37,7 +37,8 @@ pub use Rattle.serial_set.specs.declared.span.Span.{Span}
 pub use Rattle.krl_format.specs.Krl.{Spells}
 pub use Rattle.krl_types.proofs.Elements.{all_append, contains_cases, contains_none}
 pub use Rattle.krl_format.specs.Place.{authority_after, base_of, bits_judged, can_end, expected, header_after, highest_bit, item_entry}
-pub use Rattle.krl_format.specs.Place.{item_size, names, next_bits, next_serial, next_subsection, passes_end}
+pub use Rattle.krl_format.specs.Place.{item_size, names, next_bits, passes_end}
+pub use Rattle.krl_format.specs.Section.{next_serial, next_subsection}
 pub use Rattle.std.proofs.lemmas.Bool.{cases_Bool, false≢true, lt-leb}
 pub use Rattle.std.proofs.lemmas.List.Folds.{concat-append}
 pub use Rattle.krl_entries.specs.Canonical.{entries_in}

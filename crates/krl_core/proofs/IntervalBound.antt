@@ -20,11 +20,8 @@ use Rattle.krl_entries.proofs.Intervals.{length-intervals, most}
 use Rattle.krl_entries.proofs.OneMeaning.{section_authority, held_first, not_before_itself}
 use Rattle.krl_entries.proofs.OneMeaning.{above_named}
 use Rattle.std.proofs.Math.Logic.Iff as Iff
-use Rattle.krl_format.specs.declared.place.list.ItemKind.TheVariants as kinds
+use Rattle.krl_format.specs.declared.section.ItemKind.TheVariants as kinds
 use Rattle.krl_format.specs.declared.place.Place.TheVariants as places
-use Rattle.krl_format.specs.declared.place.list.ListPlace.TheVariants as lists
-use Rattle.krl_format.specs.declared.place.serials.SerialsPlace.TheVariants as serials
-use Rattle.krl_format.specs.declared.place.bitmap.BitmapPlace.TheVariants as bitmaps
 
 -- ---- the intervals of entries under one authority
 
@@ -154,10 +151,10 @@ held_few (x ∷ xs) entries small rise listed h =
 -- ---- fields
 
 field_few : (place next : Place) (authority field : List ℕ) → Passes place field next → sum_by most (names place authority field) ≤ 4 * length field
-field_few (places.Serials (serials.Serial left after)) next authority field p = omega (arith, p.whole)
-field_few (places.Serials (serials.RangeMax min after)) next authority field p = omega (arith, p.whole)
-field_few (places.Bitmap (bitmaps.Byte offset size left after)) next authority field p = omega (arith, p.whole)
-field_few (places.List (lists.Item kinds.Key size left after)) next authority field p = omega arith
+field_few (places.Serial left after) next authority field p = omega (arith, p.whole)
+field_few (places.RangeMax min after) next authority field p = omega (arith, p.whole)
+field_few (places.Byte offset size left after) next authority field p = omega (arith, p.whole)
+field_few (places.Item kinds.Key size left after) next authority field p = omega arith
 field_few place next authority field p = omega arith
 
 byte_number : (field : List ℕ) → length field ≡ 1 → IsBytes field → number_of field < 256
@@ -165,11 +162,11 @@ byte_number (byte ∷ []) size fits = omega (arith, number_of-one byte, fits 0)
 byte_number _ size fits = absurd (omega arith)
 
 field_bytes : (place next : Place) (authority field : List ℕ) → Passes place field next → IsBytes field → AllByRecursion IsByteOnly (names place authority field)
-field_bytes (places.Serials (serials.Serial left after)) next authority field p fits = (tt, tt)
-field_bytes (places.Serials (serials.RangeMax min after)) next authority field p fits = (tt, tt)
-field_bytes (places.Bitmap (bitmaps.Byte offset size left after)) next authority field p fits = (byte_number field p.whole fits, tt)
-field_bytes (places.List (lists.Item kinds.Key size left after)) next authority field p fits = (tt, tt)
-field_bytes (places.List (lists.Item kind size left after)) next authority field p fits = (tt, tt)
+field_bytes (places.Serial left after) next authority field p fits = (tt, tt)
+field_bytes (places.RangeMax min after) next authority field p fits = (tt, tt)
+field_bytes (places.Byte offset size left after) next authority field p fits = (byte_number field p.whole fits, tt)
+field_bytes (places.Item kinds.Key size left after) next authority field p fits = (tt, tt)
+field_bytes (places.Item kind size left after) next authority field p fits = (tt, tt)
 field_bytes place next authority field p fits = tt
 
 fields_few : (fields : List (List ℕ)) (state last : State) → Leads state fields last → sum_by most last.entries ≤ sum_by most state.entries + 4 * length (concat fields)

@@ -1,6 +1,7 @@
 mod Common
 pub mod StoredEntries
 pub mod Bits
+pub mod QuietPlaces
 pub mod Steps
 pub mod BufferedFields
 pub mod ListEnds

@@ -10,28 +10,26 @@ use Rattle.krl_core.proofs.SerialFields.{buffered_serials}
 use Rattle.krl_core.proofs.StoredEntries.{stored_same}
 use Rattle.krl_core.proofs.SkippedBits.{buffered_bits, stays_grow}
 use Rattle.krl_format.specs.declared.place.Place.TheVariants as places
-use Rattle.krl_format.specs.declared.place.bitmap.BitmapPlace.TheVariants as bitmaps
-use Rattle.krl_format.specs.declared.place.serials.SerialsPlace.TheVariants as serials
 
-pub serials_buffered : (bytes : List ℕ) (count : ℕ) (place next : Place) (stored : FieldStore) (left after : ℕ) → place ≡ places.Serials (serials.Serial left after) → next ≡ next_serial (left - count) after
+pub serials_buffered : (bytes : List ℕ) (count : ℕ) (place next : Place) (stored : FieldStore) (left after : ℕ) → place ≡ places.Serial left after → next ≡ next_serial (left - count) after
     → count ≤ length bytes → count ≤ left → count % 8 ≡ 0 → (count ≡ 0 → ⊥) → IsBytes bytes → InStep place stored.bitmap → AreOutOfScope stored.scope stored.authority bytes count
     → ReadsSome bytes count (Ok (tt {0})) place stored next stored
 serials_buffered bytes count place next stored left after at to there within whole some are step out_of_scope =
     let eights : 8 * (count / 8) ≡ count = omega arith in
     let none : stored.bitmap.pending ≡ None = subst (λ (p : Place). InStep p stored.bitmap) at step in
-    let all : ReadsBuffered (take (8 * (count / 8)) bytes) (places.Serials (serials.Serial left after)) stored (next_serial (left - 8 * (count / 8)) after) stored =
+    let all : ReadsBuffered (take (8 * (count / 8)) bytes) (places.Serial left after) stored (next_serial (left - 8 * (count / 8)) after) stored =
     buffered_serials (count / 8) stored left after bytes (omega (arith, some)) none are (omega (arith, eights)) (omega (arith, eights)) (subst (AreOutOfScope stored.scope stored.authority bytes) (sym eights) out_of_scope) in
-    let counted : ReadsBuffered (take count bytes) (places.Serials (serials.Serial left after)) stored (next_serial (left - count) after) stored =
-    subst (λ (n : ℕ). ReadsBuffered (take n bytes) (places.Serials (serials.Serial left after)) stored (next_serial (left - n) after) stored) eights all in
+    let counted : ReadsBuffered (take count bytes) (places.Serial left after) stored (next_serial (left - count) after) stored =
+    subst (λ (n : ℕ). ReadsBuffered (take n bytes) (places.Serial left after) stored (next_serial (left - n) after) stored) eights all in
     record {
       within = there;
-      ok = subst (λ (p : Place). ReadsBuffered (take count bytes) p stored next stored) (sym at) (subst (λ (p : Place). ReadsBuffered (take count bytes) (places.Serials (serials.Serial left after)) stored p stored) (sym to) counted);
+      ok = subst (λ (p : Place). ReadsBuffered (take count bytes) p stored next stored) (sym at) (subst (λ (p : Place). ReadsBuffered (take count bytes) (places.Serial left after) stored p stored) (sym to) counted);
       grows = stays_grow count stored stored (omega arith) (stored_same stored stored refl refl refl);
       none = λ z. absurd (some z);
     }
 
 pub bits_buffered : (bytes : List ℕ) (count : ℕ) (result : Result (Unit {0}) AllocError) (place next : Place) (old new : FieldStore) (offset size left after : ℕ)
-    → place ≡ places.Bitmap (bitmaps.Byte offset size left after) → next ≡ next_bits offset size (left - count) after → MaySkip old offset size left bytes count → (count ≡ 0 → ⊥) → IsBytes bytes
+    → place ≡ places.Byte offset size left after → next ≡ next_bits offset size (left - count) after → MaySkip old offset size left bytes count → (count ≡ 0 → ⊥) → IsBytes bytes
     → InStep place old.bitmap → OnOk result (Skips count old new) → held_with_open new ≤ held_with_open old → StoresNoMore old new → ReadsSome bytes count result place old next new
 bits_buffered bytes count result place next old new offset size left after at to may some are step skips held stays =
     let xs : List ℕ = take count bytes in
@@ -44,7 +42,7 @@ bits_buffered bytes count result place next old new offset size left after at to
     let lands : next_bits offset size (left - length xs) after ≡ next = ap (λ (n : ℕ). next_bits offset size (left - n) after) long ∙ sym to in
     record {
       within = may.there;
-      ok = on_ok_weaker result (λ s. subst (λ (p : Place). ReadsBuffered xs p old next new) (sym at) (subst (λ (p : Place). ReadsBuffered xs (places.Bitmap (bitmaps.Byte offset size left after)) old p new) lands (crosses s))) skips;
+      ok = on_ok_weaker result (λ s. subst (λ (p : Place). ReadsBuffered xs p old next new) (sym at) (subst (λ (p : Place). ReadsBuffered xs (places.Byte offset size left after) old p new) lands (crosses s))) skips;
       grows = stays_grow count old new held stays;
       none = λ z. absurd (some z);
     }

@@ -13,7 +13,6 @@ use Rattle.krl_core.proofs.StoredEntries.{header_stays}
 use Rattle.krl_core.proofs.SkippedBits.{skipped_stored}
 use Rattle.krl_format.proofs.Walks.{Leads-append, leads_after, leads_none, LeadsTo}
 use Rattle.krl_format.specs.declared.place.Place.TheVariants as places
-use Rattle.krl_format.specs.declared.place.serials.SerialsPlace.TheVariants as serials
 
 -- the first serial numbers, as fields
 eights : ℕ → List ℕ → List (List ℕ)
@@ -32,7 +31,7 @@ concat_eights (suc count) bytes =
     let all : 8 * suc count ≡ 8 + 8 * count = omega arith in
     ap (λ (l : List ℕ). take 8 bytes ++ l) (concat_eights count (drop 8 bytes)) ∙ sym (take-add 8 (8 * count) bytes) ∙ ap (λ (n : ℕ). take n bytes) (sym all)
 
-at_serial : (left after : ℕ) → 0 < left → places.Serials (serials.Serial left after) ≡ next_serial left after
+at_serial : (left after : ℕ) → 0 < left → places.Serial left after ≡ next_serial left after
 at_serial zero after pos = absurd (omega arith)
 at_serial (suc left) after pos = refl
 
@@ -44,11 +43,11 @@ leads_serials zero state a left after bytes at authority there within =
 leads_serials (suc count) state a left after bytes at authority there within =
     let field : List ℕ = take 8 bytes in
     let next : Place = next_serial (left - 8) after in
-    let here : state.place ≡ places.Serials (serials.Serial left after) = at ∙ sym (at_serial left after (omega arith)) in
+    let here : state.place ≡ places.Serial left after = at ∙ sym (at_serial left after (omega arith)) in
     let less : left - 8 - 8 * count ≡ left - 8 * suc count = omega arith in
     let more = leads_serials count (state_after state field next) a (left - 8) after (drop 8 bytes) refl (ap (λ (p : Place). authority_after p state.authority field) here ∙ authority)
     (omega (arith, length-drop 8 bytes)) (omega arith) in
-    leads_after state (places.Serials (serials.Serial left after)) next field (SerialsEntry a (number_of field ∷ [])) here
+    leads_after state (places.Serial left after) next field (SerialsEntry a (number_of field ∷ [])) here
     (record { room = omega arith; whole = length-take-le 8 bytes (omega arith); judged = refl }) refl refl (ap (λ (c : List ℕ). SerialsEntry c (number_of field ∷ []) ∷ []) authority)
     (subst (λ (n : ℕ). LeadsTo (state_after state field next) (eights count (drop 8 bytes)) (next_serial n after) (serial_entries a count (drop 8 bytes))) less more)
 
@@ -77,7 +76,7 @@ still (suc left) after bitmap none = none
 -- the serial numbers are read because none of them is in scope
 pub buffered_serials : (count : ℕ) (stored : FieldStore) (left after : ℕ) (bytes : List ℕ) → 0 < left → stored.bitmap.pending ≡ None → IsBytes bytes → 8 * count ≤ length bytes
     → 8 * count ≤ left → AreOutOfScope stored.scope stored.authority bytes (8 * count)
-    → ReadsBuffered (take (8 * count) bytes) (places.Serials (serials.Serial left after)) stored (next_serial (left - 8 * count) after) stored
+    → ReadsBuffered (take (8 * count) bytes) (places.Serial left after) stored (next_serial (left - 8 * count) after) stored
 buffered_serials count stored left after bytes pos none are there within out_of_scope = record {
   stores = λ fields h.
       let here : h.state.place ≡ next_serial left after = sym h.place_is ∙ at_serial left after pos in

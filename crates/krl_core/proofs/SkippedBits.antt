@@ -22,7 +22,6 @@ use Rattle.krl_core.proofs.Bits.{shut_in_step}
 use Rattle.krl_core.proofs.StoredEntries.{closes_run, header_stays, stored_wider}
 use Rattle.krl_format.proofs.Walks.{Leads-append, leads_after, leads_none, LeadsTo}
 use Rattle.krl_format.specs.declared.place.Place.TheVariants as places
-use Rattle.krl_format.specs.declared.place.bitmap.BitmapPlace.TheVariants as bitmaps
 
 -- each byte as a field
 abbrev singles : List ℕ → List (List ℕ)
@@ -60,7 +59,7 @@ leads_bits state a offset size (suc left) after (b ∷ bs) at authority le withi
     let one : left - length bs ≡ suc left - length (b ∷ bs) = omega arith in
     let judged = judged_on offset size (suc left) after (number_of field) (omega arith) sign_free fits ∙ ap (λ (n : ℕ). Ok (next_bits offset size n after)) fewer in
     let more = leads_bits then a offset size left after bs refl (ap (λ (p : Place). authority_after p state.authority field) at ∙ authority) (omega arith) (omega arith) (λ last. absurd (omega arith)) (omega arith) in
-    leads_after state (places.Bitmap (bitmaps.Byte offset size (suc left) after)) next field (BitmapEntry a (base_of offset (suc left)) (number_of field)) at
+    leads_after state (places.Byte offset size (suc left) after) next field (BitmapEntry a (base_of offset (suc left)) (number_of field)) at
     (record { room = tt; whole = refl; judged = judged }) refl refl (ap (λ (c : List ℕ). BitmapEntry c (base_of offset (suc left)) (number_of field) ∷ []) authority)
     (subst (λ (n : ℕ). LeadsTo then (singles bs) (next_bits offset size n after) (bit_entries a offset (suc left - 1) bs)) one
     (subst (λ (n : ℕ). LeadsTo then (singles bs) (next_bits offset size (left - length bs) after) (bit_entries a offset n bs)) (sym fewer) more))
@@ -116,12 +115,12 @@ concat_singles : (bytes : List ℕ) → concat (singles bytes) ≡ bytes
 concat_singles [] = refl
 concat_singles (b ∷ bs) = ap (λ (l : List ℕ). b ∷ l) (concat_singles bs)
 
-at_byte : (offset size left after : ℕ) → 0 < left → places.Bitmap (bitmaps.Byte offset size left after) ≡ next_bits offset size left after
+at_byte : (offset size left after : ℕ) → 0 < left → places.Byte offset size left after ≡ next_bits offset size left after
 at_byte offset size zero after pos = absurd (omega arith)
 at_byte offset size (suc left) after pos = refl
 
 -- at the next byte the bitmap is in step
-bits_in_step : (old stored : FieldStore) (offset size left after count : ℕ) → InStep (places.Bitmap (bitmaps.Byte offset size left after)) old.bitmap → Skips count old stored → InStep (next_bits offset size (left - count) after) stored.bitmap
+bits_in_step : (old stored : FieldStore) (offset size left after count : ℕ) → InStep (places.Byte offset size left after) old.bitmap → Skips count old stored → InStep (next_bits offset size (left - count) after) stored.bitmap
 bits_in_step old stored offset size left after count step skips =
     let was = step.1 in
     let is = skips.bitmap_is in
@@ -134,9 +133,9 @@ bits_in_step old stored offset size left after count step skips =
     in_step (suc n) at all none = (omega arith, all ∙ ap (λ (m : ℕ). record { offset = offset; len = size; bytes_left = m; pending = None; fault = None }) (sym at) ∙ ap (λ (o : Option Span). record { offset = offset; len = size; bytes_left = suc n; pending = o; fault = None }) (sym none))
 
 -- the bytes are read because none of their numbers is in scope
-pub buffered_bits : (old new : FieldStore) (offset size left after : ℕ) (bytes : List ℕ) → InStep (places.Bitmap (bitmaps.Byte offset size left after)) old.bitmap → IsBytes bytes
+pub buffered_bits : (old new : FieldStore) (offset size left after : ℕ) (bytes : List ℕ) → InStep (places.Byte offset size left after) old.bitmap → IsBytes bytes
     → length bytes ≤ left → left ≤ size → (left ≡ size → number_of (take 1 bytes) < 128) → offset + 8 * left ≤ 2 ^ 64 → AreBitsOutOfScope old offset left (length bytes)
-    → Skips (length bytes) old new → ReadsBuffered bytes (places.Bitmap (bitmaps.Byte offset size left after)) old (next_bits offset size (left - length bytes) after) new
+    → Skips (length bytes) old new → ReadsBuffered bytes (places.Byte offset size left after) old (next_bits offset size (left - length bytes) after) new
 buffered_bits old new offset size left after bytes step are le within sign_free fits bits_out_of_scope skips = record {
   stores = λ fields h.
       let c = skips.closes in

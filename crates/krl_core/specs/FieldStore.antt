@@ -8,7 +8,6 @@ use Rattle.serial_set.specs.BitRuns.{BitRuns, HasFault}
 use Rattle.krl_format.specs.declared.header.Header.{Header}
 use Rattle.krl_format.specs.declared.place.Place.{Place}
 use Rattle.krl_format.specs.declared.place.Place.TheVariants as places
-use Rattle.krl_format.specs.declared.place.bitmap.BitmapPlace.TheVariants as bitmaps
 use Rattle.krl_format.specs.declared.place.field.Field.TheVariants as fields
 use Rattle.krl_entries.specs.Changes.{run_entries}
 use Rattle.krl_entries.specs.Revocations.{Revocations, IsStoredAtMost, held}
@@ -49,7 +48,7 @@ pub record StoresEntries (stored : FieldStore) (entries : List Entry) : Type 0 w
 
 -- At a byte of a bitmap, the bytes before it were fed. At other places, no run is open.
 abbrev pub InStep : Place → BitRuns → Type 0
-InStep (places.Bitmap (bitmaps.Byte offset size left after)) bitmap =
+InStep (places.Byte offset size left after) bitmap =
     (0 < left)
     × (bitmap ≡ record {
       offset = offset;

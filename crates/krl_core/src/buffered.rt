@@ -7,9 +7,7 @@ ghost use Rattle.krl_core.specs.FieldStore.{InStep};
 
 use crate::field_store::FieldStore;
 use krl_entries::Store;
-use krl_format::{
-    BitmapPlace, CertificatesPlace, ListPlace, Place, SerialsPlace, next_bits, next_serial,
-};
+use krl_format::{Field, Place, next_bits, next_serial};
 use std::alloc::AllocError;
 
 // At most this many bytes of serial numbers or of a bitmap are skipped together.
@@ -65,7 +63,7 @@ fn skip_out_of_scope<T: Store>(
     ensures { ReadsSome bytes.now result.0 result.1 place.old stored.old place.new stored.new }
 {
     match *place {
-        Place::Serials(SerialsPlace::Serial { left, after }) => {
+        Place::Serial { left, after } => {
             let count = serials_out_of_scope(stored, left, bytes);
             if count == 0 {
                 return (0, Ok(()));
@@ -73,14 +71,12 @@ fn skip_out_of_scope<T: Store>(
             *place = next_serial(left - count as u32, after);
             (count, Ok(()))
         }
-        Place::Bitmap(
-            BitmapPlace::Byte {
-                offset,
-                size,
-                left,
-                after,
-            },
-        ) => {
+        Place::Byte {
+            offset,
+            size,
+            left,
+            after,
+        } => {
             let count = bits_out_of_scope(stored, offset, size, left, bytes);
             if count == 0 {
                 return (0, Ok(()));
@@ -180,16 +176,17 @@ fn read_each<T: Store>(
 // place, so that the compiler generates separate code for each field and does not test the place
 // again.
 macro_rules! read_named {
-    ($kind:ident($at:ident), $stored:ident, $bytes:ident, $empty:ident:
-        $($type:ident::$variant:ident $({ $($part:ident),* })?),* $(; _ => $rest:expr)?) => {
-        match $at {
-            $($type::$variant $({ $($part),* })? => read_whole(
-                Place::$kind($type::$variant $({ $($part),* })?),
+    ($place:ident, $stored:ident, $bytes:ident, $empty:ident:
+        $($kind:ident { $($part:ident $(: $type:ident::$variant:ident)?),* }),*;
+        $($rest:ident),*) => {
+        match $place {
+            $(Place::$kind { $($part $(: $type::$variant)?),* } => read_whole(
+                Place::$kind { $($part $(: $type::$variant)?),* },
                 $stored,
                 $bytes,
                 $empty,
             ),)*
-            $(_ => $rest,)?
+            $(Place::$rest { .. } => read_whole($place, $stored, $bytes, $empty),)*
         }
     };
 }
@@ -205,41 +202,24 @@ fn read_next<T: Store>(
     requires { InStep place stored.old.bitmap }
     ensures { ReadsNext bytes.now empty result place stored.old stored.new }
 {
-    match place {
-        Place::SectionType { signed } => {
-            read_whole(Place::SectionType { signed }, stored, bytes, empty)
-        }
-        Place::Certificates(at) => read_named! {
-            Certificates(at), stored, bytes, empty:
-            CertificatesPlace::SectionLength,
-            CertificatesPlace::AuthorityLength { left },
-            CertificatesPlace::Authority { size, after },
-            CertificatesPlace::ReservedLength { left },
-            CertificatesPlace::Reserved { size, after },
-            CertificatesPlace::SubsectionType { left }
-        },
-        Place::Serials(at) => read_named! {
-            Serials(at), stored, bytes, empty:
-            SerialsPlace::SerialsLength { left },
-            SerialsPlace::Serial { left, after },
-            SerialsPlace::RangeLength { left },
-            SerialsPlace::RangeMin { after },
-            SerialsPlace::RangeMax { min, after }
-        },
-        Place::Bitmap(at) => read_named! {
-            Bitmap(at), stored, bytes, empty:
-            BitmapPlace::Length { left },
-            BitmapPlace::Offset { left, after },
-            BitmapPlace::Size { offset, left, after };
-            _ => read_whole(place, stored, bytes, empty)
-        },
-        Place::List(at) => read_named! {
-            List(at), stored, bytes, empty:
-            ListPlace::ItemLength { kind, left, after },
-            ListPlace::Item { kind, size, left, after };
-            _ => read_whole(place, stored, bytes, empty)
-        },
-        _ => read_whole(place, stored, bytes, empty),
+    read_named! {
+        place, stored, bytes, empty:
+        SectionType { signed },
+        SectionLength { section },
+        SubsectionType { left },
+        SubsectionLength { subsection, left },
+        Field { field: Field::Authority, left, after },
+        Content { field: Field::Authority, size, left, after },
+        Field { field: Field::CertificatesReserved, left, after },
+        Content { field: Field::CertificatesReserved, size, left, after },
+        ItemLength { kind, left, after },
+        Item { kind, size, left, after },
+        Serial { left, after },
+        RangeMin { after },
+        RangeMax { min, after },
+        Offset { left, after },
+        BitmapSize { offset, left, after };
+        Field, Content, Byte
     }
 }
 
@@ -267,8 +247,5 @@ fn read_whole<T: Store>(
 // Whether the field at this place may be one of many that are skipped together.
 #[inline(always)]
 fn is_one_of_many(place: Place) -> bool {
-    matches!(
-        place,
-        Place::Serials(SerialsPlace::Serial { .. }) | Place::Bitmap(BitmapPlace::Byte { .. })
-    )
+    matches!(place, Place::Serial { .. } | Place::Byte { .. })
 }

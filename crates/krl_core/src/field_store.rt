@@ -20,9 +20,7 @@ ghost use Rattle.krl_format.specs.Place.{item_entry, item_size};
 ghost use Rattle.krl_format.specs.FixedFields.{is_fixed};
 
 use krl_entries::{Item, Revocations, Store};
-use krl_format::{
-    BitmapPlace, CertificatesPlace, Field, Header, ItemKind, ListPlace, Place, SerialsPlace,
-};
+use krl_format::{Field, Header, ItemKind, Place};
 use krl_types::{byte_of, u64_of};
 use serial_set::{BitRuns, Span, Spans, count_near};
 use ssh_wire::Bytes;
@@ -122,28 +120,30 @@ impl<T: Store> FieldStore<T> {
                 field: Field::Comment,
                 ..
             } => self.set_comment(field),
+            Place::Content {
+                field: Field::Authority,
+                ..
+            } => self.set_authority(field),
+            Place::Content { .. } => Ok(()),
             Place::SectionType { .. } => {
                 self.store.leave();
                 self.authority.clear();
                 Ok(())
             }
-            Place::Certificates(CertificatesPlace::Authority { .. }) => self.set_authority(field),
-            Place::Serials(SerialsPlace::Serial { .. }) => self.add_serial(u64_of(field)),
-            Place::Serials(SerialsPlace::RangeMax { min, .. }) => self.add_range(
-                min,
-                u64_of(field),
-            ),
-            Place::Bitmap(BitmapPlace::Size { offset, left, .. }) => {
+            Place::Serial { .. } => self.add_serial(u64_of(field)),
+            Place::RangeMax { min, .. } => self.add_range(min, u64_of(field)),
+            Place::BitmapSize { offset, left, .. } => {
                 self.bitmap = BitRuns::new(offset, left - 4);
                 Ok(())
             }
-            Place::Bitmap(BitmapPlace::Byte { left, .. }) => self.add_bits(
-                byte_of(field),
-                left == 1,
-            ),
-            Place::List(ListPlace::Item { kind, .. }) => self.add_item(kind, field),
-            // The other places name nothing. For a place that names something, this is not proved.
-            _ => Ok(()),
+            Place::Byte { left, .. } => self.add_bits(byte_of(field), left == 1),
+            Place::Item { kind, .. } => self.add_item(kind, field),
+            Place::SectionLength { .. }
+            | Place::SubsectionType { .. }
+            | Place::SubsectionLength { .. }
+            | Place::ItemLength { .. }
+            | Place::RangeMin { .. }
+            | Place::Offset { .. } => Ok(()),
         }
     }
 

@@ -5,7 +5,7 @@ use Rattle.krl_format.proofs.Common.{slice_index, slice_index_or, string, subst,
 use Rattle.ssh_wire.specs.Rows.{fault_unless}
 use Rattle.krl_format.specs.Field.{magic_number}
 use Rattle.krl_format.specs.Krl.{SpellsFields, magic}
-use Rattle.krl_format.specs.Layout.{BeginsWithAuthority, BeginsWithHeader, IsExtensionText, IsSignatureText}
+use Rattle.krl_format.specs.Layout.{BeginsWithAuthority, BeginsWithHeader, HaveTheseTypes, IsExtensionText, IsSignatureText}
 use Rattle.krl_types.specs.declared.krl_fault.KrlFault.TheVariants as faults
 
 pub magic_bytes : number 8 magic_number ≡ magic
@@ -195,3 +195,20 @@ authority_spells content authority rest is =
       ),
       refl,
     )
+
+-- ---- type bytes
+
+pub these_types : HaveTheseTypes
+these_types = record {
+  certificates = refl;
+  keys = refl;
+  sha1s = refl;
+  signature = refl;
+  sha256s = refl;
+  extension = refl;
+  serials = refl;
+  range = refl;
+  bitmap = refl;
+  ids = refl;
+  subsection_extension = refl;
+}

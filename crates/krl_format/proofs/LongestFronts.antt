@@ -13,13 +13,8 @@ use Rattle.krl_format.proofs.PlaceRows.{Goes, goes_from, goes_none, goes_one, go
 use Rattle.krl_format.proofs.Judgements.{done, same_place}
 use Rattle.krl_types.specs.declared.krl_fault.KrlFault.TheVariants as faults
 use Rattle.krl_format.specs.declared.place.Place.TheVariants as places
-use Rattle.krl_format.specs.declared.place.bitmap.BitmapPlace.TheVariants as bitmaps
-use Rattle.krl_format.specs.declared.place.serials.SerialsPlace.TheVariants as serials
-use Rattle.krl_format.specs.declared.place.list.ListPlace.TheVariants as lists
-use Rattle.krl_format.specs.declared.place.certificates.CertificatesPlace.TheVariants as certificates
 use Rattle.krl_format.specs.declared.place.field.Field.TheVariants as fields
 use Rattle.krl_format.specs.declared.place.field.Table.TheVariants as tables
-use Rattle.krl_format.specs.declared.place.extension.ExtensionPlace.TheVariants as extensions
 
 room_or_not : (size : ℕ) (room : Option ℕ) → IfSome room (λ left. size ≤ left) ⊎ (IfSome room (λ left. size ≤ left) → ⊥)
 room_or_not size None = inl tt
@@ -42,15 +37,12 @@ short_reported p rest false room short = elim (end_or_early p rest room short) [
 -- after a field that may be empty comes one that is not
 abbrev pub weight : Place → ℕ
 weight (places.Content field n m k) = 1
-weight (places.Certificates (certificates.Authority n m)) = 1
-weight (places.Certificates (certificates.Reserved n m)) = 1
-weight (places.List (lists.Item kind n m k)) = 1
+weight (places.Item kind n m k) = 1
 weight _ = 0
 
 pub weight_below : (p : Place) → weight p < 2
 weight_below (places.Content field n m k) = omega arith
-weight_below (places.Certificates (certificates.Authority n m)) = omega arith
-weight_below (places.List (lists.Item kind n m k)) = omega arith
+weight_below (places.Item kind n m k) = omega arith
 weight_below _ = omega arith
 
 weight-next_subsection : (left : ℕ) → weight (next_subsection left) ≡ 0
@@ -62,6 +54,7 @@ weight-next_item kind zero after = weight-next_subsection after
 weight-next_item kind (suc left) after = refl
 
 weight-place_in : (table : Table) (next : Option Field) (left after : ℕ) → weight (place_in table next left after) ≡ 0
+weight-place_in tables.Certificates None left after = weight-next_subsection left
 weight-place_in tables.Extension None left after = weight-next_subsection after
 weight-place_in _ None left after = refl
 weight-place_in table (Some field) left after = refl
@@ -78,12 +71,7 @@ same_weight {p} {q} e = ap weight (same_place p q e)
 pub nearer : (p q : Place) (field : List ℕ) → (expected p).judged field ≡ Ok q → weight q < 2 * (expected p).size + weight p
 nearer (places.Field f left after) q field e = omega (arith, field_size f left after, weight_below q)
 nearer (places.Content f n left after) q field e = omega (arith, same_weight e, weight-place_in (row_of f).table (row_of f).next left after)
-nearer (places.Certificates (certificates.Authority n m)) q field e = omega (arith, same_weight e)
-nearer (places.Certificates (certificates.Reserved n m)) q field e = omega (arith, same_weight e, weight-next_subsection m)
-nearer (places.List (lists.Item kind n m k)) q field e = omega (arith, same_weight e, weight-next_item kind m k)
-nearer (places.Extension extensions.SectionLength) q field e = omega (arith, weight_below q)
-nearer (places.Serials (serials.Serial n m)) q field e = omega (arith, weight_below q)
-nearer (places.Bitmap (bitmaps.Offset n m)) q field e = omega (arith, weight_below q)
+nearer (places.Item kind n m k) q field e = omega (arith, same_weight e, weight-next_item kind m k)
 nearer _ q field e = omega (arith, weight_below q)
 
 -- some fields lead to a place where something is reported

@@ -14,7 +14,9 @@ use Rattle.krl_format.proofs.Common.{SubsectionExtension, subst, sym, ℕ}
 use Rattle.ssh_wire.specs.Rows.{row_at}
 use Rattle.ssh_wire.specs.declared.fault.WireFault.{WireFault}
 use Rattle.ssh_wire.proofs.RowLaws.{row_again}
+use Rattle.krl_format.proofs.Common.{section_row, signature_type}
 use Rattle.krl_types.specs.declared.krl_fault.KrlFault.TheVariants as faults
+use Rattle.krl_format.specs.declared.section.Section.TheVariants as section_kinds
 use Rattle.krl_format.specs.Krl.{SpellsSignature}
 use Rattle.krl_format.proofs.Fronts.{append_same}
 
@@ -143,12 +145,12 @@ same_certificates content authority authority' subs subs' h k =
     ap (λ (a : List ℕ). Certificates a subs) same ∙ ap (λ (xs : List Subsection). Certificates authority' xs) more
 
 abbrev pub section_type : SpelledSection → ℕ
-section_type (Certificates authority subs) = 1
-section_type (Keys blobs) = 2
-section_type (Sha1s hashes) = 3
-section_type Signature = 4
-section_type (Sha256s hashes) = 5
-section_type Extension = 255
+section_type (Certificates authority subs) = (section_row section_kinds.Certificates).type_byte
+section_type (Keys blobs) = (section_row section_kinds.Keys).type_byte
+section_type (Sha1s hashes) = (section_row section_kinds.Sha1s).type_byte
+section_type (Sha256s hashes) = (section_row section_kinds.Sha256s).type_byte
+section_type Signature = signature_type
+section_type Extension = (section_row section_kinds.Extension).type_byte
 
 -- the text begins with the type byte of the section
 section_head : (x : SpelledSection) (text : List ℕ) → SpellsSection text x → (more : List ℕ) × (text ≡ section_type x ∷ more)
@@ -163,8 +165,8 @@ same_type x y text other rest rest' h k e =
 
 signature_front : {text other : List ℕ} (rest rest' : List ℕ) → SpellsSignature text → SpellsSignature other → text ++ rest ≡ other ++ rest' → rest ≡ rest'
 signature_front rest rest' (first, spelled, (values, h)) (first', spelled', (values', k)) same =
-    let whole : 4 ∷ (first ++ rest) ≡ 4 ∷ (first' ++ rest') = sym (ap (λ (t : List ℕ). t ++ rest) spelled) ∙ same ∙ ap (λ (t : List ℕ). t ++ rest') spelled' in
-    let e = append_cancel_left (4 ∷ []) (first ++ rest) (first' ++ rest') whole in
+    let whole : signature_type ∷ (first ++ rest) ≡ signature_type ∷ (first' ++ rest') = sym (ap (λ (t : List ℕ). t ++ rest) spelled) ∙ same ∙ ap (λ (t : List ℕ). t ++ rest') spelled' in
+    let e = append_cancel_left (signature_type ∷ []) (first ++ rest) (first' ++ rest') whole in
     (one_row signature_fields (first ++ rest) values values' rest rest' (leads_more signature_fields [] first values [] rest h)
     (subst (λ (b : List ℕ). LeadsRow signature_fields [] b values' rest') (sym e) (leads_more signature_fields [] first' values' [] rest' k))).1
 

@@ -1,24 +1,19 @@
 -- The rest of a list from each place on: its spelling, if a row of fields leads to the end of the
 -- list and uses up the bytes, and its entries.
 use Rattle.krl_format.proofs.Common.{[], ◌*◌, ◌++◌, ◌+◌, ◌-◌, ◌<◌, ◌^◌, ◌∷◌, ◌≡◌, ◌≤◌, AllByRecursion}
-use Rattle.krl_format.proofs.Common.{authority_fields, bit_at, BitmapEntry, Bool, drop, entries_of}
+use Rattle.krl_format.proofs.Common.{bit_at, BitmapEntry, Bool, entries_of}
 use Rattle.krl_format.proofs.Common.{Entry, Field, fields_after, false, flat_map, Header, header_from}
 use Rattle.krl_format.proofs.Common.{header_with, IsPositive, IsSignature, item_entry, item_size}
 use Rattle.krl_format.proofs.Common.{ItemKind, KrlFault, LeadsRow, length, List, map}
 use Rattle.krl_format.proofs.Common.{NamesSame, number, number_of, Place, RangeEntry, SerialsEntry}
-use Rattle.krl_format.proofs.Common.{None, Option, row_of, SignaturesLast, slice_index_or, Some}
+use Rattle.krl_format.proofs.Common.{None, Option, row_of, SignaturesLast, Some}
 use Rattle.krl_format.proofs.Common.{SpelledSection, steps_of, Table}
 use Rattle.krl_format.proofs.Common.{SpellsEach, SpellsSection, SpellsSubsection, Step, string}
 use Rattle.krl_format.proofs.Common.{Subsection, subsection_entries, subsection_type}
-use Rattle.krl_format.proofs.Common.{SubsectionContent, Text, true, ℕ}
+use Rattle.krl_format.proofs.Common.{section_row, subsection_row, SubsectionContent, Text, true, ℕ}
+use Rattle.krl_format.specs.Field.{authority_with}
 use Rattle.krl_format.specs.declared.place.Place.TheVariants as places
-use Rattle.krl_format.specs.declared.place.field.Field.TheVariants as fields
 use Rattle.krl_format.specs.declared.place.field.Table.TheVariants as tables
-use Rattle.krl_format.specs.declared.place.list.ListPlace.TheVariants as lists
-use Rattle.krl_format.specs.declared.place.certificates.CertificatesPlace.TheVariants as certificates
-use Rattle.krl_format.specs.declared.place.serials.SerialsPlace.TheVariants as serials
-use Rattle.krl_format.specs.declared.place.bitmap.BitmapPlace.TheVariants as bitmaps
-use Rattle.krl_format.specs.declared.place.extension.ExtensionPlace.TheVariants as extensions
 
 -- a property of the bytes that are left and of the entries of their fields
 abbrev pub Rest : Type 1
@@ -175,27 +170,36 @@ abbrev pub value_in : Table → Field → List ℕ → Header → Header
 value_in tables.Header field value h = header_with field value h
 value_in _ field value h = h
 
+-- the authority with the value of a field, if it is one of a section of certificates
+abbrev pub authority_in : Table → Field → List ℕ → List ℕ → List ℕ
+authority_in tables.Certificates field value a = authority_with field value a
+authority_in _ field value a = a
+
+-- the authority after the values of some fields
+abbrev pub authority_from : List Field → List ℕ → List (List ℕ) → List ℕ
+authority_from [] a values = a
+authority_from (field ∷ fields) a [] = a
+authority_from (field ∷ fields) a (value ∷ values) = authority_from fields (authority_with field value a) values
+
 -- The fields of a table, and what comes after it. `h` is the header so far, and `last` the one at the
 -- end of the list. An extension fills the part around it.
 abbrev pub FromTable : Table → Header → Header → List ℕ → List Field → (left after : ℕ) → Rest
 FromTable tables.Header last h a fields left after =
     FromRow (steps_of fields) (λ values. FromSections false (last ≡ header_from fields h values))
 FromTable tables.Signature last h a fields left after = FromRow (steps_of fields) (λ values. FromSections true (last ≡ h))
+FromTable tables.Certificates last h a fields left after =
+    InRoom left (steps_of fields) (λ values room. FromSubsections (last ≡ h) (authority_from fields a values) room)
 FromTable tables.Extension last h a fields left after =
     InRoom left (steps_of fields) (λ values room bytes more. (room ≡ 0) × FromSubsections (last ≡ h) a after bytes more)
 
 abbrev pub FromField : Header → Header → List ℕ → Field → (left after : ℕ) → Rest
 FromField last h a field left after = FromTable (row_of field).table last h a (field ∷ fields_after field) left after
 
--- the bytes that are left of the part around a table, after a field: none after the last
-abbrev pub room_in : Option Field → ℕ → ℕ
-room_in None left = 0
-room_in (Some next) left = left
-
--- the fields before the subsections after some values, and the subsections
-abbrev pub FromAuthority : Type 0 → List (List ℕ) → ℕ → Rest
-FromAuthority K values left =
-    InRoom left (drop (length values) authority_fields) (λ others after. FromSubsections K (slice_index_or (values ++ others) 0 []) after)
+-- the bytes that are left of the part around a table, after a field: none after an extension
+abbrev pub room_in : Table → Option Field → ℕ → ℕ
+room_in tables.Extension None left = 0
+room_in tables.Extension (Some next) left = left
+room_in _ next left = left
 
 -- ---- all places, under an authority; h is the header so far
 
@@ -203,28 +207,19 @@ abbrev pub Completes : Header → Header → List ℕ → Place → Rest
 Completes last h a (places.Field field left after) = FromField last h a field left after
 Completes last h a (places.Content field size left after) =
     FromContent size (λ text bytes more. (row_of field).step.part ≡ Text
-    → FromTable (row_of field).table last (value_in (row_of field).table field text h) a (fields_after field) (room_in (row_of field).next left) after bytes more)
+    → FromTable (row_of field).table last (value_in (row_of field).table field text h) (authority_in (row_of field).table field text a) (fields_after field)
+    (room_in (row_of field).table (row_of field).next left) after bytes more)
 Completes last h a (places.SectionType signed) = FromSections signed (last ≡ h)
-Completes last h a (places.List (lists.SectionLength kind)) = FromLength (λ n. Items (last ≡ h) kind a n 0)
-Completes last h a (places.List (lists.IdsLength left)) = FromPart (last ≡ h) a 0x23 left
-Completes last h a (places.List (lists.ItemLength kind left after)) = Items (last ≡ h) kind a left after
-Completes last h a (places.List (lists.Item kind size left after)) =
+Completes last h a (places.SectionLength section) = λ bytes more. FromSections false (last ≡ h) ((section_row section).type_byte ∷ bytes) more
+Completes last h a (places.SubsectionLength part left) = FromPart (last ≡ h) a (subsection_row part).type_byte left
+Completes last h a (places.ItemLength kind left after) = Items (last ≡ h) kind a left after
+Completes last h a (places.Item kind size left after) =
     FromItem (item_size kind size) (item_entry kind a) (Items (last ≡ h) kind a left after)
-Completes last h a (places.Certificates certificates.SectionLength) = FromLength (FromAuthority (last ≡ h) [])
-Completes last h a (places.Certificates (certificates.AuthorityLength left)) = FromAuthority (last ≡ h) [] left
-Completes last h a (places.Certificates (certificates.Authority size after)) = FromContent size (λ b. FromAuthority (last ≡ h) (b ∷ []) after)
-Completes last h a (places.Certificates (certificates.ReservedLength left)) = FromAuthority (last ≡ h) (a ∷ []) left
-Completes last h a (places.Certificates (certificates.Reserved size after)) = FromContent size (λ r. FromAuthority (last ≡ h) (a ∷ r ∷ []) after)
-Completes last h a (places.Certificates (certificates.SubsectionType left)) = FromSubsections (last ≡ h) a left
-Completes last h a (places.Serials (serials.SerialsLength left)) = FromPart (last ≡ h) a 0x20 left
-Completes last h a (places.Serials (serials.Serial left after)) = SerialItems (last ≡ h) a left after
-Completes last h a (places.Serials (serials.RangeLength left)) = FromPart (last ≡ h) a 0x21 left
-Completes last h a (places.Serials (serials.RangeMin after)) = FromNumber (λ min. FromMax (last ≡ h) a min after)
-Completes last h a (places.Serials (serials.RangeMax min after)) = FromMax (last ≡ h) a min after
-Completes last h a (places.Bitmap (bitmaps.Length left)) = FromPart (last ≡ h) a 0x22 left
-Completes last h a (places.Bitmap (bitmaps.Offset left after)) = FromOffset (last ≡ h) a left after
-Completes last h a (places.Bitmap (bitmaps.Size offset left after)) = FromBitmap (last ≡ h) a offset left after
-Completes last h a (places.Bitmap (bitmaps.Byte offset size left after)) =
+Completes last h a (places.SubsectionType left) = FromSubsections (last ≡ h) a left
+Completes last h a (places.Serial left after) = SerialItems (last ≡ h) a left after
+Completes last h a (places.RangeMin after) = FromNumber (λ min. FromMax (last ≡ h) a min after)
+Completes last h a (places.RangeMax min after) = FromMax (last ≡ h) a min after
+Completes last h a (places.Offset left after) = FromOffset (last ≡ h) a left after
+Completes last h a (places.BitmapSize offset left after) = FromBitmap (last ≡ h) a offset left after
+Completes last h a (places.Byte offset size left after) =
     λ bytes more. 0 < left → FromBits (last ≡ h) a offset size left after bytes more
-Completes last h a (places.Extension extensions.SectionLength) = FromLength (λ n. FromField last h a fields.ExtensionName n 0)
-Completes last h a (places.Extension (extensions.SubsectionLength left)) = FromPart (last ≡ h) a 0x39 left

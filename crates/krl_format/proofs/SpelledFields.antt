@@ -3,16 +3,16 @@ use Rattle.krl_format.proofs.Common.{[], ◌%◌, ◌*◌, ◌++◌, ◌+◌, �
 use Rattle.krl_format.proofs.Common.{AllByRecursion, ap, append_assoc, arith, base_of}
 use Rattle.krl_format.proofs.Common.{bit_at, bit_at_above, bit_at_cat_high, bit_at_cat_low, Bitmap}
 use Rattle.krl_format.proofs.Common.{bits_judged, cases_lt, eq-eqb}
-use Rattle.krl_format.proofs.Common.{Expected, expected, extension_fields, false, HasRoom}
+use Rattle.krl_format.proofs.Common.{extension_fields, false}
 use Rattle.krl_format.proofs.Common.{highest_bit, Ids, inl, inr, IsBytes, IsBytes-back}
 use Rattle.krl_format.proofs.Common.{IsBytes-front, IsBytes-in_string, IsPositive, item_size}
-use Rattle.krl_format.proofs.Common.{ItemKind, judge, KrlFault, le-leb, leading_zeros}
+use Rattle.krl_format.proofs.Common.{ItemKind, judge, le-leb, leading_zeros}
 use Rattle.krl_format.proofs.Common.{leads_more, length, length-append, length-number}
-use Rattle.krl_format.proofs.Common.{length-numbers, length-string, length_within, List, lt-leb}
+use Rattle.krl_format.proofs.Common.{length-numbers, length-string, List, lt-leb}
 use Rattle.krl_format.proofs.Common.{ne_eqb, next_bits, next_item, next_serial, next_subsection}
 use Rattle.krl_format.proofs.Common.{number, number_of-number, number_of}
 use Rattle.krl_format.proofs.Common.{number_of-one, numbers_text, Ok, passes_end, Place, Range, refl}
-use Rattle.krl_format.proofs.Common.{Result, Serials, SpellsEach, SpellsSubsection}
+use Rattle.krl_format.proofs.Common.{Serials, SpellsEach, SpellsSubsection}
 use Rattle.krl_format.proofs.Common.{string, strings, Subsection, SubsectionExtension, subst, suc}
 use Rattle.krl_format.proofs.Common.{sym, w8, within, zero, ℕ}
 use Rattle.krl_format.proofs.Bitmaps.{number_of-byte, low_more, low_none}
@@ -20,13 +20,12 @@ use Rattle.krl_format.proofs.PassingBits.{bits_pass}
 use Rattle.krl_format.proofs.PlaceRows.{Goes, goes_none, goes_one, goes_then, goes_from}
 use Rattle.krl_format.proofs.TableWalks.{content_goes, fields_go, judge_is, text_goes, within_is}
 use Rattle.krl_format.proofs.RestSpellings.{IsItem}
+use Rattle.krl_format.proofs.Judgements.{subsection_typed}
+use Rattle.krl_format.proofs.Common.{content_of, subsection_row, SubsectionKind, true}
 use Rattle.krl_types.specs.declared.krl_fault.KrlFault.TheVariants as faults
-use Rattle.krl_format.specs.declared.place.list.ItemKind.TheVariants as kinds
+use Rattle.krl_format.specs.declared.section.Subsection.TheVariants as subsection_kinds
+use Rattle.krl_format.specs.declared.section.ItemKind.TheVariants as kinds
 use Rattle.krl_format.specs.declared.place.Place.TheVariants as places
-use Rattle.krl_format.specs.declared.place.list.ListPlace.TheVariants as lists
-use Rattle.krl_format.specs.declared.place.certificates.CertificatesPlace.TheVariants as certificates
-use Rattle.krl_format.specs.declared.place.serials.SerialsPlace.TheVariants as serials
-use Rattle.krl_format.specs.declared.place.bitmap.BitmapPlace.TheVariants as bitmaps
 use Rattle.krl_format.specs.declared.place.field.Field.TheVariants as fields
 use Rattle.serial_set.proofs.Bits.{highest_bit as top_bit}
 
@@ -36,7 +35,7 @@ item_goes : (kind : ItemKind) (total left after : ℕ) (item rest : List ℕ) �
     → Goes (next_item kind total after) (string item ++ rest) (next_item kind left after) rest
 item_goes kind zero left after item rest e fits good = absurd (omega arith)
 item_goes kind (suc k) left after item rest e fits good =
-    let at : ℕ → ℕ → Place = λ size more. places.List (lists.Item kind size more after) in
+    let at : ℕ → ℕ → Place = λ size more. places.Item kind size more after in
     let left_is : suc k - 4 - length item ≡ left = omega arith in
     let room : 4 ≤ suc k = omega arith in
     text_goes (record { is_part = omega arith; spelled = refl }) room refl
@@ -119,31 +118,31 @@ bits_go (b ∷ bits) offset size after rest fits le sign within =
 -- ---- subsections
 
 -- the type byte of a subsection, the length of its content, and the content
-part_goes : (left type_byte : ℕ) (p q : Place) (text content rest : List ℕ) (next : (size after : ℕ) → Result Place KrlFault) → text ≡ type_byte ∷ string content → length text ≤ left → length content < 2 ^ 32
-    → (expected (places.Certificates (certificates.SubsectionType left))).judged (type_byte ∷ []) ≡ Ok p → expected p ≡ length_within (left - 1) (λ size. next size (left - 1 - 4 - size))
-    → next (length content) (left - length text) ≡ Ok q → Goes q (content ++ rest) (next_subsection (left - length text)) rest
-    → Goes (places.Certificates (certificates.SubsectionType left)) (text ++ rest) (next_subsection (left - length text)) rest
-part_goes left type_byte p q text content rest next spelled le fits typed is judged walk =
+part_goes : (left : ℕ) (part : SubsectionKind) (text content rest : List ℕ) → text ≡ (subsection_row part).type_byte ∷ string content → length text ≤ left → length content < 2 ^ 32
+    → (subsection_row part).may_have (length content) ≡ true
+    → Goes ((subsection_row part).first (length content) (left - length text)) (content ++ rest) (next_subsection (left - length text)) rest
+    → Goes (places.SubsectionType left) (text ++ rest) (next_subsection (left - length text)) rest
+part_goes left part text content rest spelled le fits good walk =
+    let row = subsection_row part in
     let size : length text ≡ 5 + length content = ap length spelled ∙ omega (arith, length-string content) in
     let after : left - 1 - 4 - length content ≡ left - length text = omega (arith, size) in
     let some : 1 ≤ left = omega (arith, size) in
     let room : 4 ≤ left - 1 = omega (arith, size) in
     goes_from (ap (λ (x : List ℕ). x ++ rest) spelled)
-    (goes_then (goes_one (type_byte ∷ []) some refl typed)
-    (content_goes content (subst (λ (d : Expected). HasRoom d) (sym is) room) (ap (λ (d : Expected). d.size) is) fits
-    (λ field e. ap (λ (d : Expected). d.judged field) is ∙ within_is (left - 1) (λ size. next size (left - 1 - 4 - size)) (number_of field) (length content) e (omega (arith, size))
-    ∙ ap (next (length content)) after ∙ judged) walk))
+    (goes_then (goes_one (row.type_byte ∷ []) some refl (subsection_typed part left))
+    (content_goes content room refl fits
+    (λ field e. within_is (left - 1) (λ size. content_of row size (left - 1 - 4 - size)) (number_of field) (length content) e (omega (arith, size))
+    ∙ ap (content_of row (length content)) after ∙ judge_is _ faults.Length (row.first (length content) (left - length text)) good) walk))
 
 subsection_goes : (left : ℕ) (sub : Subsection) (text rest : List ℕ) → SpellsSubsection text sub → length text ≤ left → IsBytes text
-    → Goes (places.Certificates (certificates.SubsectionType left)) (text ++ rest) (next_subsection (left - length text)) rest
+    → Goes (places.SubsectionType left) (text ++ rest) (next_subsection (left - length text)) rest
 unfolding number_of
 subsection_goes left (Serials numbers) text rest h le fits =
     let n = length h.content in
     let b = left - length text in
     let all : n ≡ length (numbers_text numbers) = ap length h.content_is.0 in
     let eight : n % 8 ≡ 0 = omega (arith, all ∙ length-numbers numbers) in
-    part_goes left 0x20 _ (next_serial n b) text h.content rest (λ size after. judge (size % 8 == 0) faults.Length (next_serial size after)) h.spelled le h.fits refl refl
-    (judge_is _ faults.Length (next_serial n b) (eq-eqb (n % 8) 0 eight))
+    part_goes left subsection_kinds.Serials text h.content rest h.spelled le h.fits (eq-eqb (n % 8) 0 eight)
     (goes_from (ap (λ (x : List ℕ). x ++ rest) h.content_is.0) (serials_go numbers n 0 b rest (omega (arith, all))))
 subsection_goes left (Range min max) text rest h le fits =
     let n = length h.content in
@@ -151,10 +150,9 @@ subsection_goes left (Range min max) text rest h le fits =
     let b = left - length text in
     let low : number_of (number 8 min) ≡ min = number_of-number 8 min (omega (arith, h.content_is.1, h.content_is.2)) in
     let high : number_of (number 8 max) ≡ max = number_of-number 8 max h.content_is.2 in
-    part_goes left 0x21 _ (places.Serials (serials.RangeMin b)) text h.content rest (λ size after. judge (size == 16) faults.Length (places.Serials (serials.RangeMin after))) h.spelled le h.fits refl refl
-    (judge_is _ faults.Length (places.Serials (serials.RangeMin b)) (eq-eqb n 16 all))
+    part_goes left subsection_kinds.Range text h.content rest h.spelled le h.fits (eq-eqb n 16 all)
     (goes_from (ap (λ (x : List ℕ). x ++ rest) h.content_is.0 ∙ append_assoc (number 8 min) (number 8 max) rest)
-    (goes_then (goes_one (number 8 min) tt (length-number 8 min) (ap (λ (m : ℕ). Ok (places.Serials (serials.RangeMax m b))) low))
+    (goes_then (goes_one (number 8 min) tt (length-number 8 min) (ap (λ (m : ℕ). Ok (places.RangeMax m b)) low))
     (goes_one (number 8 max) tt (length-number 8 max) (judge_is _ faults.RangeReversed (next_subsection b) (le-leb min (number_of (number 8 max)) (omega (arith, high, h.content_is.1)))))))
 subsection_goes left (Bitmap offset value) text rest h le fits =
     let n = length h.content in
@@ -162,28 +160,28 @@ subsection_goes left (Bitmap offset value) text rest h le fits =
     let bits = m.bytes in
     let b = left - length text in
     let all : n ≡ 8 + (4 + length bits) = ap length m.spelled ∙ omega (arith, length-append (number 8 offset) (string bits), length-number 8 offset, length-string bits) in
-    let content_bytes : IsBytes h.content = IsBytes-in_string h.content (IsBytes-back (0x22 ∷ []) (string h.content) (subst IsBytes h.spelled fits)) in
+    let content_bytes : IsBytes h.content = IsBytes-in_string h.content (IsBytes-back ((subsection_row subsection_kinds.Bitmap).type_byte ∷ []) (string h.content) (subst IsBytes h.spelled fits)) in
     let bits_bytes : IsBytes bits = IsBytes-in_string bits (IsBytes-back (number 8 offset) (string bits) (subst IsBytes m.spelled content_bytes)) in
     let fewer : n - 8 - 4 ≡ length bits = omega (arith, all) in
     let eight : 8 ≤ n = omega (arith, all) in
     let four : 4 ≤ n - 8 = omega (arith, all) in
     let within' : (k : ℕ) → bit_at (number_of bits) k ≡ 1 → offset + k < 2 ^ 64 = λ k set. m.within k (subst (λ (v : ℕ). bit_at v k ≡ 1) (sym m.value_is) set) in
-    part_goes left 0x22 _ (places.Bitmap (bitmaps.Offset n b)) text h.content rest (λ size after. Ok (places.Bitmap (bitmaps.Offset size after))) h.spelled le h.fits refl refl refl
+    part_goes left subsection_kinds.Bitmap text h.content rest h.spelled le h.fits refl
     (goes_from (ap (λ (x : List ℕ). x ++ rest) m.spelled ∙ append_assoc (number 8 offset) (string bits) rest)
-    (goes_then (goes_one (number 8 offset) eight (length-number 8 offset) (ap (λ (k : ℕ). Ok (places.Bitmap (bitmaps.Size k (n - 8) b))) (number_of-number 8 offset m.offset_fits)))
+    (goes_then (goes_one (number 8 offset) eight (length-number 8 offset) (ap (λ (k : ℕ). Ok (places.BitmapSize k (n - 8) b)) (number_of-number 8 offset m.offset_fits)))
     (content_goes bits four refl (omega (arith, all, h.fits))
     (λ field e. judge_is _ faults.Length (next_bits offset (n - 8 - 4) (n - 8 - 4) b) (eq-eqb (number_of field) (n - 8 - 4) (e ∙ sym fewer)) ∙ ap (λ (k : ℕ). Ok (next_bits offset k k b)) fewer)
     (bits_go bits offset (length bits) b rest bits_bytes (omega arith) (λ e. m.positive) within'))))
 subsection_goes left (Ids texts) text rest h le fits =
     let n = length h.content in
     let b = left - length text in
-    part_goes left 0x23 _ (next_item kinds.Id n b) text h.content rest (λ size after. Ok (next_item kinds.Id size after)) h.spelled le h.fits refl refl refl
+    part_goes left subsection_kinds.Ids text h.content rest h.spelled le h.fits refl
     (goes_from (ap (λ (x : List ℕ). x ++ rest) h.content_is) (items_go kinds.Id texts n 0 b rest (omega (arith, ap length h.content_is)) h.fits (any_size texts)))
 subsection_goes left SubsectionExtension text rest h le fits =
     let n = length h.content in
     let b = left - length text in
-    part_goes left 0x39 _ (places.Field fields.ExtensionName n b) text h.content rest (λ size after. Ok (places.Field fields.ExtensionName size after)) h.spelled le h.fits refl refl refl
-    (fields_go fields.ExtensionName n b h.content_is.0 (h.content ++ rest) rest (leads_more extension_fields [] h.content h.content_is.0 [] rest h.content_is.1) (length-append h.content rest))
+    part_goes left subsection_kinds.Extension text h.content rest h.spelled le h.fits refl
+    (fields_go fields.ExtensionName n 0 b h.content_is.0 (h.content ++ rest) rest (leads_more extension_fields [] h.content h.content_is.0 [] rest h.content_is.1) refl (omega (arith, length-append h.content rest)))
 
 pub subsections_go : (subs : List Subsection) (body rest : List ℕ) (total : ℕ) → SpellsEach SpellsSubsection body subs → total ≡ length body → IsBytes body
     → Goes (next_subsection total) (body ++ rest) (places.SectionType false) rest

@@ -7,20 +7,27 @@ use Rattle.krl_format.proofs.Common.{IsBytes, IsSignature, item_entry, ItemKind,
 use Rattle.krl_format.proofs.Common.{leads_front, leads_more, length, length-append}
 use Rattle.krl_format.proofs.Common.{length-number, length-string, List, ltb, ltb-false, map}
 use Rattle.krl_format.proofs.Common.{NamesSame, next_item, next_serial, next_subsection, None, Number}
-use Rattle.krl_format.proofs.Common.{number, number-number_of, number_of, Ok, passes, Place}
+use Rattle.krl_format.proofs.Common.{number, number-number_of, number_of, Ok, Place}
 use Rattle.krl_format.proofs.Common.{refl, Result, same_append, same_is, same_refl, same_then}
 use Rattle.krl_format.proofs.Common.{section_entries, SerialsEntry, Signature, signature_fields}
 use Rattle.krl_format.proofs.Common.{SignaturesLast, slice_index_or, SpelledSection, SpellsEach}
-use Rattle.krl_format.proofs.Common.{SpellsSection, SpellsSubsection, Step, step, string, strings}
+use Rattle.krl_format.proofs.Common.{SpellsSection, SpellsSubsection, Step, string, strings}
 use Rattle.krl_format.proofs.Common.{Subsection, subsection_entries, subst, suc, sym, Text, true}
 use Rattle.krl_format.proofs.Common.{within, zero, ℕ}
-use Rattle.krl_format.proofs.RestSpellings.{Completes, FromAuthority, FromContent, FromField}
+use Rattle.krl_format.proofs.RestSpellings.{Completes, FromContent, FromField}
 use Rattle.krl_format.proofs.RestSpellings.{FromItem, FromItems, FromLength, FromNumber, FromRow}
 use Rattle.krl_format.proofs.RestSpellings.{FromSections, FromSubsections, InRoom, IsItem, Items}
 use Rattle.krl_format.proofs.RestSpellings.{LastFor, Rest, SerialItems}
 use Rattle.krl_format.proofs.Judgements.{held_back}
+use Rattle.krl_format.proofs.RestSpellings.{authority_from}
+use Rattle.krl_format.proofs.Common.{fields_after, Keys, LeadsRow, Section, section_row, Sha1s, Sha256s, signature_type}
 use Rattle.krl_types.specs.declared.krl_fault.KrlFault.TheVariants as faults
+use Rattle.krl_format.specs.declared.section.ItemKind.TheVariants as kinds
+use Rattle.krl_format.specs.declared.section.Section.TheVariants as section_kinds
 use Rattle.krl_format.specs.declared.place.field.Field.TheVariants as fields
+
+abbrev byte_of : Section → ℕ
+byte_of section = (section_row section).type_byte
 
 -- ---- judgements that passed
 
@@ -83,12 +90,6 @@ begins_number field tail back = record { is_part = (refl, back.1); spelled = ap 
 pub begins_text : {Then : List ℕ → Rest} {more : List Entry} (field tail : List ℕ) → IsBytes field → length field ≡ 4 → (h : FromContent (number_of field) Then tail more) → BeginsWithPart Text (field ++ tail) h.content h.rest
 begins_text field tail fits whole h =
     record { is_part = omega (arith, h.size_is, (number-number_of 4 field whole fits).1); spelled = string_parts field tail h.content h.rest fits whole h.size_is h.parts }
-
-pub text_in : (left inner : ℕ) {steps : List (Step KrlFault)} {Then : List (List ℕ) → ℕ → Rest} {more : List Entry} (field tail : List ℕ) → IsBytes field → length field ≡ 4
-    → FromContent (number_of field) (λ text. InRoom inner steps (λ values. Then (text ∷ values))) tail more → left ≡ 4 + number_of field + inner → InRoom left (step Text passes ∷ steps) Then (field ++ tail) more
-text_in left inner field tail fits whole h total =
-    row_in left inner (begins_text field tail fits whole h) (λ before. refl) h.then_is
-    (omega (arith, total, whole, h.size_is, length-append field tail, ap length h.parts, length-append h.content h.rest))
 
 items_none : {X : Type 0} {spell : X → List ℕ} {Good : X → Type 0} {entry : X → Entry} {Then : Rest} {bytes : List ℕ} {more : List Entry} → Then bytes more → FromItems spell Good entry 0 Then bytes more
 items_none {bytes = bytes} {more} h = record { items = []; rest = bytes; others = more; parts = refl; size_is = refl; good = tt; named = refl; then_is = h }
@@ -171,12 +172,12 @@ sections_more K section text tail rest more others k parts spelled named last = 
 }
 
 -- a section of items of any kind
-pub items_section : (K : Type 0) (kind : ItemKind) (type_byte : ℕ) (section : List (List ℕ) → SpelledSection) (bytes : List ℕ) (more : List Entry)
+items_section : (K : Type 0) (a : List ℕ) (kind : ItemKind) (type_byte : ℕ) (section : List (List ℕ) → SpelledSection) (bytes : List ℕ) (more : List Entry)
     → ((items : List (List ℕ)) → AllByRecursion (IsItem kind) items → length (strings items) < 2 ^ 32 → SpellsSection (type_byte ∷ string (strings items)) (section items))
-    → ((items : List (List ℕ)) → section_entries (section items) ≡ map (item_entry kind []) items)
+    → ((items : List (List ℕ)) → section_entries (section items) ≡ map (item_entry kind a) items)
     → ((items : List (List ℕ)) (others : List SpelledSection) → SignaturesLast others → SignaturesLast (section items ∷ others))
-    → FromLength (λ n. Items K kind [] n 0) bytes more → FromSections false K (type_byte ∷ bytes) more
-items_section K kind type_byte section bytes more spelled names last l =
+    → FromLength (λ n. Items K kind a n 0) bytes more → FromSections false K (type_byte ∷ bytes) more
+items_section K a kind type_byte section bytes more spelled names last l =
     let h = l.then_is in
     let k = sections_from h.then_is in
     let content : List ℕ = strings h.items in
@@ -185,40 +186,66 @@ items_section K kind type_byte section bytes more spelled names last l =
     (spelled h.items h.good (omega (arith, l.fits, h.size_is)))
     (same_is more (section_entries (section h.items) ++ h.others) (h.named ∙ ap (λ (x : List Entry). x ++ h.others) (sym (names h.items)))) (last h.items k.sections k.last)
 
-pub certificates_section : (K : Type 0) (bytes : List ℕ) (more : List Entry) → FromLength (FromAuthority K []) bytes more → FromSections false K (1 ∷ bytes) more
-certificates_section K bytes more l =
+-- the authority is the first value
+authority_first : (a bytes rest : List ℕ) (values : List (List ℕ)) → LeadsRow authority_fields [] bytes values rest
+    → authority_from (fields.Authority ∷ fields_after fields.Authority) a values ≡ slice_index_or values 0 []
+authority_first a bytes rest values (authority, b, is_authority, _, (reserved, c, is_reserved, _, (all, end))) =
+    subst (λ (v : List (List ℕ)). authority_from (fields.Authority ∷ fields_after fields.Authority) a v ≡ slice_index_or v 0 []) all refl
+
+certificates_section : (last before : Header) (a bytes : List ℕ) (more : List Entry) → FromLength (λ n. FromField last before a fields.Authority n 0) bytes more
+    → FromSections false (last ≡ before) (byte_of section_kinds.Certificates ∷ bytes) more
+certificates_section last before a bytes more l =
+    let n = byte_of section_kinds.Certificates in
     let h = l.then_is in
     let s = h.then_is.2 in
+    let authority : List ℕ = authority_from (fields.Authority ∷ fields_after fields.Authority) a h.values in
     let front = leads_front authority_fields [] l.rest h.values h.rest (h.leads []) in
     let content : List ℕ = front.0 ++ s.body in
     let size : length content ≡ l.size = omega (arith, h.then_is.1, ap length front.1, length-append front.0 h.rest, length-append front.0 s.body, s.size_is) in
     let parts : l.rest ≡ content ++ s.rest = front.1 ∙ ap (λ (x : List ℕ). front.0 ++ x) s.parts ∙ sym (append_assoc front.0 s.body s.rest) in
     let fields = leads_more authority_fields [] front.0 h.values [] s.body front.2 in
-    sections_more K (Certificates (slice_index_or h.values 0 []) s.subsections) (1 ∷ string content) (1 ∷ bytes) s.rest more s.others s.then_is
-    (ap (λ (x : List ℕ). 1 ∷ x) (whole_string l.size content s.rest l.rest bytes l.parts parts size))
-    (record { content = content; spelled = refl; fits = omega (arith, l.fits, size); content_is = record { values = h.values; body = s.body; fields = fields; authority_is = refl; subsections_are = s.spelled } })
+    let first = sym (authority_first a l.rest h.rest h.values (h.leads [])) in
+    sections_more (last ≡ before) (Certificates authority s.subsections) (n ∷ string content) (n ∷ bytes) s.rest more s.others s.then_is
+    (ap (λ (x : List ℕ). n ∷ x) (whole_string l.size content s.rest l.rest bytes l.parts parts size))
+    (record { content = content; spelled = refl; fits = omega (arith, l.fits, size); content_is = record { values = h.values; body = s.body; fields = fields; authority_is = first; subsections_are = s.spelled } })
     s.named s.then_is.last
 
-pub extension_section : (last before : Header) (bytes : List ℕ) (more : List Entry) → FromLength (λ n. FromField last before [] fields.ExtensionName n 0) bytes more → FromSections false (last ≡ before) (255 ∷ bytes) more
-extension_section last before bytes more l =
+extension_section : (last before : Header) (a bytes : List ℕ) (more : List Entry) → FromLength (λ n. FromField last before a fields.ExtensionName n 0) bytes more → FromSections false (last ≡ before) (byte_of section_kinds.Extension ∷ bytes) more
+extension_section last before a bytes more l =
+    let n = byte_of section_kinds.Extension in
     let h = l.then_is in
     let k = sections_from h.then_is.2.1 in
     let front = leads_front extension_fields [] l.rest h.values h.rest (h.leads []) in
     let size : length front.0 ≡ l.size = omega (arith, h.then_is.1, h.then_is.2.0, ap length front.1, length-append front.0 h.rest) in
-    sections_more (last ≡ before) Extension (255 ∷ string front.0) (255 ∷ bytes) h.rest more more k (ap (λ (x : List ℕ). 255 ∷ x) (whole_string l.size front.0 h.rest l.rest bytes l.parts front.1 size))
+    sections_more (last ≡ before) Extension (n ∷ string front.0) (n ∷ bytes) h.rest more more k (ap (λ (x : List ℕ). n ∷ x) (whole_string l.size front.0 h.rest l.rest bytes l.parts front.1 size))
     (record { content = front.0; spelled = refl; fits = omega (arith, l.fits, size); content_is = (h.values, front.2) }) (same_refl more) k.last
+
+-- the length of a section and its content, after its type byte
+pub section_from : (last h : Header) (a : List ℕ) (section : Section) (field tail : List ℕ) (more : List Entry) → IsBytes field → length field ≡ 4
+    → Completes last h a ((section_row section).first (number_of field) 0) tail more → FromSections false (last ≡ h) (byte_of section ∷ (field ++ tail)) more
+section_from last h a section_kinds.Certificates field tail more fits whole k = certificates_section last h a (field ++ tail) more (length_front field tail fits whole k)
+section_from last h a section_kinds.Keys field tail more fits whole k =
+    items_section (last ≡ h) a kinds.Key (byte_of section_kinds.Keys) Keys (field ++ tail) more (λ items good fits. record { content = strings items; spelled = refl; fits = fits; content_is = refl })
+    (λ items. refl) (λ items others last. last) (length_front field tail fits whole (items_from kinds.Key (number_of field) k))
+section_from last h a section_kinds.Sha1s field tail more fits whole k =
+    items_section (last ≡ h) a kinds.Sha1 (byte_of section_kinds.Sha1s) Sha1s (field ++ tail) more (λ items good fits. record { content = strings items; spelled = refl; fits = fits; content_is = (refl, good) })
+    (λ items. refl) (λ items others last. last) (length_front field tail fits whole (items_from kinds.Sha1 (number_of field) k))
+section_from last h a section_kinds.Sha256s field tail more fits whole k =
+    items_section (last ≡ h) a kinds.Sha256 (byte_of section_kinds.Sha256s) Sha256s (field ++ tail) more (λ items good fits. record { content = strings items; spelled = refl; fits = fits; content_is = (refl, good) })
+    (λ items. refl) (λ items others last. last) (length_front field tail fits whole (items_from kinds.Sha256 (number_of field) k))
+section_from last h a section_kinds.Extension field tail more fits whole k = extension_section last h a (field ++ tail) more (length_front field tail fits whole k)
 
 signature_last : (signed : Bool) (sections : List SpelledSection) → AllByRecursion IsSignature sections → LastFor signed (Signature ∷ sections)
 signature_last true sections h = (tt, h)
 signature_last false sections h = h
 
-pub signature_section : (K : Type 0) (signed : Bool) (bytes : List ℕ) (more : List Entry) → FromRow signature_fields (λ values. FromSections true K) bytes more → FromSections signed K (4 ∷ bytes) more
+pub signature_section : (K : Type 0) (signed : Bool) (bytes : List ℕ) (more : List Entry) → FromRow signature_fields (λ values. FromSections true K) bytes more → FromSections signed K (signature_type ∷ bytes) more
 signature_section K signed bytes more h =
     let k = h.then_is in
     let front = leads_front signature_fields [] bytes h.values h.rest (h.leads []) in
     record {
       sections = Signature ∷ k.sections;
-      spelled = (4 ∷ front.0, (h.rest, (ap (λ (x : List ℕ). 4 ∷ x) front.1, (front.0, refl, (h.values, front.2)), k.spelled)));
+      spelled = (signature_type ∷ front.0, (h.rest, (ap (λ (x : List ℕ). signature_type ∷ x) front.1, (front.0, refl, (h.values, front.2)), k.spelled)));
       last = signature_last signed k.sections k.last;
       named = k.named;
       known = k.known;

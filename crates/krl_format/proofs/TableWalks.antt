@@ -5,7 +5,7 @@ use Rattle.krl_format.proofs.Common.{false, Field, HasRoom, judge, KrlFault, le-
 use Rattle.krl_format.proofs.Common.{leads_front, LeadsRow, length, length-append, length-number}
 use Rattle.krl_format.proofs.Common.{length-string, List, ltb, None, Number, number, number_of-number}
 use Rattle.krl_format.proofs.Common.{number_of, Ok, Option, Place, refl, Result, row_of, slice_index, Some}
-use Rattle.krl_format.proofs.Common.{steps_of, string, subst, suc, sym, Table, Text, true, within, zero, ℕ}
+use Rattle.krl_format.proofs.Common.{next_subsection, steps_of, string, subst, suc, sym, Table, Text, true, within, zero, ℕ}
 use Rattle.ssh_wire.specs.Rows.{Magnitude, Part, unless}
 use Rattle.krl_format.specs.Field.{table_of}
 use Rattle.krl_format.specs.Place.{length_judged, part_expected, place_after, place_in, table_end}
@@ -53,18 +53,22 @@ judge_is b why p e = ap (λ (x : Bool). judge x why p) e
 abbrev inner : Table → Option Field → (left size : ℕ) → ℕ
 inner tables.Extension None left size = 0
 inner tables.Extension (Some next) left size = left - 4 - size
+inner tables.Certificates next left size = left - 4 - size
 inner _ next left size = left
 
 -- the sizes of a text in a part
-abbrev Fits : Option Field → (left size : ℕ) → Type 0
-Fits None left size = left ≡ 4 + size
-Fits (Some next) left size = 4 + size ≤ left
+abbrev Fits : Table → Option Field → (left size : ℕ) → Type 0
+Fits tables.Extension None left size = left ≡ 4 + size
+Fits tables.Extension (Some next) left size = 4 + size ≤ left
+Fits _ next left size = 4 + size ≤ left
 
-length_passes : (field : Field) (table : Table) (next : Option Field) (left after size n : ℕ) → size ≡ n → InPart table (Fits next left n) → length_judged field table next left after size ≡ Ok (places.Content field n (inner table next left n) after)
+length_passes : (field : Field) (table : Table) (next : Option Field) (left after size n : ℕ) → size ≡ n → InPart table (Fits table next left n) → length_judged field table next left after size ≡ Ok (places.Content field n (inner table next left n) after)
 length_passes field tables.Extension None left after size n e fits =
     let all : size ≡ left - 4 = omega (arith, e, fits) in
     judge_is _ faults.Length (places.Content field size 0 after) (eq-eqb size (left - 4) all) ∙ ap (λ (m : ℕ). Ok (places.Content field m 0 after)) e
 length_passes field tables.Extension (Some next) left after size n e fits =
+    within_is left (λ m. Ok (places.Content field m (left - 4 - m) after)) size n e (omega (arith, fits))
+length_passes field tables.Certificates next left after size n e fits =
     within_is left (λ m. Ok (places.Content field m (left - 4 - m) after)) size n e (omega (arith, fits))
 length_passes field tables.Header next left after size n e fits = ap (λ (m : ℕ). Ok (places.Content field m left after)) e
 length_passes field tables.Signature next left after size n e fits = ap (λ (m : ℕ). Ok (places.Content field m left after)) e
@@ -83,23 +87,38 @@ tail_le : (next : Option Field) (tail rest : List ℕ) → TailFits next tail re
 tail_le None tail rest fits = omega (arith, fits)
 tail_le (Some next) tail rest fits = fits
 
-text_fits : (next : Option Field) (left size all : ℕ) (tail rest : List ℕ) → TailFits next tail rest → all ≡ 4 + size + length tail → all ≡ left + length rest → Fits next left size
-text_fits None left size all tail rest fits parts filled = omega (arith, fits, parts, filled)
-text_fits (Some next) left size all tail rest fits parts filled = omega (arith, fits, parts, filled)
+-- how many bytes of the part are left after the table
+abbrev pub Ends : Table → ℕ → Type 0
+Ends tables.Extension end = end ≡ 0
+Ends _ end = Unit {0}
 
-inner_fits : (table : Table) (next : Option Field) (left size all : ℕ) (tail rest : List ℕ) → TailFits next tail rest → all ≡ 4 + size + length tail → InPart table (all ≡ left + length rest)
-    → InPart table (length tail ≡ inner table next left size + length rest)
-inner_fits tables.Extension None left size all tail rest fits parts filled = omega (arith, fits)
-inner_fits tables.Extension (Some next) left size all tail rest fits parts filled = omega (arith, fits, parts, filled)
-inner_fits tables.Header next left size all tail rest fits parts filled = tt
-inner_fits tables.Signature next left size all tail rest fits parts filled = tt
+-- The fields of the table, and the bytes of the part after it, fill what is left of the part.
+abbrev Fill : (left end : ℕ) (bytes rest : List ℕ) → Type 0
+Fill left end bytes rest = length bytes + end ≡ left + length rest
+
+text_fits : (table : Table) (next : Option Field) (left end size : ℕ) (bytes tail rest : List ℕ) → Ends table end → TailFits next tail rest → length bytes ≡ 4 + size + length tail → Fill left end bytes rest → Fits table next left size
+text_fits tables.Extension None left end size bytes tail rest ends fits parts filled = omega (arith, ends, fits, parts, filled)
+text_fits tables.Extension (Some next) left end size bytes tail rest ends fits parts filled = omega (arith, ends, fits, parts, filled)
+text_fits _ next left end size bytes tail rest ends fits parts filled = omega (arith, tail_le next tail rest fits, parts, filled)
+
+inner_fits : (table : Table) (next : Option Field) (left end size : ℕ) (bytes tail rest : List ℕ) → Ends table end → TailFits next tail rest → length bytes ≡ 4 + size + length tail → InPart table (Fill left end bytes rest)
+    → InPart table (Fill (inner table next left size) end tail rest)
+inner_fits tables.Extension None left end size bytes tail rest ends fits parts filled = omega (arith, ends, fits)
+inner_fits tables.Extension (Some next) left end size bytes tail rest ends fits parts filled = omega (arith, ends, fits, parts, filled)
+inner_fits tables.Certificates next left end size bytes tail rest ends fits parts filled = omega (arith, tail_le next tail rest fits, parts, filled)
+inner_fits tables.Header next left end size bytes tail rest ends fits parts filled = tt
+inner_fits tables.Signature next left end size bytes tail rest ends fits parts filled = tt
+
+same_end : (table : Table) (left end after : ℕ) → InPart table (left ≡ end) → table_end table left after ≡ table_end table end after
+same_end tables.Certificates left end after e = ap next_subsection e
+same_end _ left end after e = refl
 
 -- the first field of the rest of a table
-row_goes : (f : Field) (part : Part) (left after : ℕ) (before : List (List ℕ)) (bytes value tail rest : List ℕ) → (row_of f).step.part ≡ part → BeginsWithPart (row_of f).step.part bytes value tail → (row_of f).step.judged before value ≡ None
-    → TailFits (row_of f).next tail rest → InPart (row_of f).table (length bytes ≡ left + length rest)
-    → ((left : ℕ) → InPart (row_of f).table (length tail ≡ left + length rest) → Goes (place_after f left after) tail (table_end (row_of f).table after) rest)
-    → Goes (places.Field f left after) bytes (table_end (row_of f).table after) rest
-row_goes f (Number size) left after before bytes value tail rest is begins passed fits filled walk =
+row_goes : (f : Field) (part : Part) (left end after : ℕ) (before : List (List ℕ)) (bytes value tail rest : List ℕ) → (row_of f).step.part ≡ part → BeginsWithPart (row_of f).step.part bytes value tail → (row_of f).step.judged before value ≡ None
+    → TailFits (row_of f).next tail rest → Ends (row_of f).table end → InPart (row_of f).table (Fill left end bytes rest)
+    → ((left : ℕ) → InPart (row_of f).table (Fill left end tail rest) → Goes (place_after f left after) tail (table_end (row_of f).table end after) rest)
+    → Goes (places.Field f left after) bytes (table_end (row_of f).table end after) rest
+row_goes f (Number size) left end after before bytes value tail rest is begins passed fits ends filled walk =
     let table = (row_of f).table in
     let b = subst (λ (part : Part). BeginsWithPart part bytes value tail) is begins in
     let n : ℕ = slice_index value 0 in
@@ -109,9 +128,9 @@ row_goes f (Number size) left after before bytes value tail rest is begins passe
     let le = tail_le (row_of f).next tail rest fits in
     goes_from b.spelled
     (goes_then (goes_as (part_expected f (Number size) left after) (number size n) (ap (λ (part : Part). part_expected f part left after) is)
-    (part_room table left _ (in_part table (λ (all : length bytes ≡ left + length rest). omega (arith, all, parts, le)) filled)) (length-number size n) (ap (λ o. unless o (place_after f (left - size) after)) passes))
-    (walk (left - size) (in_part table (λ (all : length bytes ≡ left + length rest). omega (arith, all, parts, le)) filled)))
-row_goes f Text left after before bytes value tail rest is begins passed fits filled walk =
+    (part_room table left _ (in_part table (λ (all : Fill left end bytes rest). omega (arith, all, parts, le)) filled)) (length-number size n) (ap (λ o. unless o (place_after f (left - size) after)) passes))
+    (walk (left - size) (in_part table (λ (all : Fill left end bytes rest). omega (arith, all, parts, le)) filled)))
+row_goes f Text left end after before bytes value tail rest is begins passed fits ends filled walk =
     let table = (row_of f).table in
     let next = (row_of f).next in
     let b = subst (λ (part : Part). BeginsWithPart part bytes value tail) is begins in
@@ -119,29 +138,32 @@ row_goes f Text left after before bytes value tail rest is begins passed fits fi
     let n = length value in
     let parts : length bytes ≡ 4 + n + length tail = ap length b.spelled ∙ omega (arith, length-append (string value) tail, length-string value) in
     let le = tail_le next tail rest fits in
-    let sizes : InPart table (Fits next left n) = in_part table (text_fits next left n (length bytes) tail rest fits parts) filled in
-    goes_then (text_goes b (subst HasRoom (sym same) (part_room table left _ (in_part table (λ (all : length bytes ≡ left + length rest). omega (arith, all, parts, le)) filled))) (ap (λ (e : Expected). e.size) same)
+    let sizes : InPart table (Fits table next left n) = in_part table (text_fits table next left end n bytes tail rest ends fits parts) filled in
+    goes_then (text_goes b (subst HasRoom (sym same) (part_room table left _ (in_part table (λ (all : Fill left end bytes rest). omega (arith, all, parts, le)) filled))) (ap (λ (e : Expected). e.size) same)
     (λ field e. ap (λ (x : Expected). x.judged field) same ∙ length_passes f table next left after (number_of field) n e sizes) tt refl refl)
-    (walk (inner table next left n) (inner_fits table next left n (length bytes) tail rest fits parts filled))
-row_goes f Magnitude left after before bytes value tail rest is begins passed fits filled walk = absurd (no_magnitude f is)
+    (walk (inner table next left n) (inner_fits table next left end n bytes tail rest ends fits parts filled))
+row_goes f Magnitude left end after before bytes value tail rest is begins passed fits ends filled walk = absurd (no_magnitude f is)
 
 -- the fields of a table from one on, of which there are fewer than `most`
-table_goes : (most : ℕ) (table : Table) (at : Option Field) (left after : ℕ) (before values : List (List ℕ)) (bytes rest : List ℕ) → length (fields_at at) < most → table_at table at ≡ table
-    → LeadsRow (steps_of (fields_at at)) before bytes values rest → InPart table (length bytes ≡ left + length rest) → Goes (place_in table at left after) bytes (table_end table after) rest
-table_goes most table None left after before values bytes rest lt same leads filled = goes_from leads.1 goes_none
-table_goes zero table (Some f) left after before values bytes rest lt same leads filled = absurd (omega (arith, lt))
-table_goes (suc most) table (Some f) left after before values bytes rest lt same (value, tail, begins, passed, later) filled =
+table_goes : (most : ℕ) (table : Table) (at : Option Field) (left end after : ℕ) (before values : List (List ℕ)) (bytes rest : List ℕ) → length (fields_at at) < most → table_at table at ≡ table
+    → LeadsRow (steps_of (fields_at at)) before bytes values rest → Ends table end → InPart table (Fill left end bytes rest) → Goes (place_in table at left after) bytes (table_end table end after) rest
+table_goes most table None left end after before values bytes rest lt same leads ends filled =
+    let here : InPart table (left ≡ end) = in_part table (λ (all : Fill left end bytes rest). omega (arith, all, ap length leads.1)) filled in
+    subst (λ (p : Place). Goes p bytes (table_end table end after) rest) (sym (same_end table left end after here)) (goes_from leads.1 goes_none)
+table_goes zero table (Some f) left end after before values bytes rest lt same leads ends filled = absurd (omega (arith, lt))
+table_goes (suc most) table (Some f) left end after before values bytes rest lt same (value, tail, begins, passed, later) ends filled =
     let next = (row_of f).next in
     let next_values : List (List ℕ) = before ++ value ∷ [] in
     let others = rw (after_is f) at later in
     let fewer : length (fields_at next) < most = omega (arith, lt, ap length (after_is f)) in
-    let walk = λ (left : ℕ) (filled : InPart (row_of f).table (length tail ≡ left + length rest)). table_goes most (row_of f).table next left after next_values values tail rest fewer (same_table f) others filled in
-    subst (λ (t : Table). Goes (places.Field f left after) bytes (table_end t after) rest) same
-    (row_goes f (row_of f).step.part left after before bytes value tail rest refl begins passed (tail_fits next next_values values tail rest others)
-    (subst (λ (t : Table). InPart t (length bytes ≡ left + length rest)) (sym same) filled) walk)
+    let ends' = subst (λ (t : Table). Ends t end) (sym same) ends in
+    let walk = λ (left : ℕ) (filled : InPart (row_of f).table (Fill left end tail rest)). table_goes most (row_of f).table next left end after next_values values tail rest fewer (same_table f) others ends' filled in
+    subst (λ (t : Table). Goes (places.Field f left after) bytes (table_end t end after) rest) same
+    (row_goes f (row_of f).step.part left end after before bytes value tail rest refl begins passed (tail_fits next next_values values tail rest others) ends'
+    (subst (λ (t : Table). InPart t (Fill left end bytes rest)) (sym same) filled) walk)
 
--- a whole table, whose values are any
-pub fields_go : (first : Field) (left after : ℕ) (values : List (List ℕ)) (bytes rest : List ℕ) → LeadsRow (table_of first) [] bytes values rest → InPart (row_of first).table (length bytes ≡ left + length rest)
-    → Goes (places.Field first left after) bytes (table_end (row_of first).table after) rest
-fields_go first left after values bytes rest leads filled =
-    table_goes (suc (length (fields_at (Some first)))) (row_of first).table (Some first) left after [] values bytes rest (omega arith) refl leads filled
+-- A whole table, whose values are any. The part around it has `end` bytes after the table.
+pub fields_go : (first : Field) (left end after : ℕ) (values : List (List ℕ)) (bytes rest : List ℕ) → LeadsRow (table_of first) [] bytes values rest → Ends (row_of first).table end
+    → InPart (row_of first).table (length bytes + end ≡ left + length rest) → Goes (places.Field first left after) bytes (table_end (row_of first).table end after) rest
+fields_go first left end after values bytes rest leads ends filled =
+    table_goes (suc (length (fields_at (Some first)))) (row_of first).table (Some first) left end after [] values bytes rest (omega arith) refl leads ends filled

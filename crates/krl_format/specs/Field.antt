@@ -1,4 +1,5 @@
--- The tables of fields in a list (PROTOCOL.krl): the header, a signature, and an extension.
+-- The tables of fields in a list (PROTOCOL.krl): the header, a signature, the beginning of a section
+-- of certificates, and an extension.
 use Rattle.std.specs.Prelude.{ℕ, zero, suc, ◌==◌, List, [], ◌∷◌, map, Option, Some, None}
 use Rattle.std.specs.Prelude.{slice_index}
 use Rattle.ssh_wire.specs.Rows.{Number, Part, Step, Text, fault_unless, passes, step}
@@ -32,8 +33,9 @@ abbrev pub magic_number : ℕ
 magic_number = 0x5353484b524c0a00
 
 -- The header has the magic, format version 1, the list's version and date, flags, a reserved string
--- and a comment. A signature has a key and the signature. An extension has a name, a zero byte for
--- "not critical", and contents.
+-- and a comment. A signature has a key and the signature. A section of certificates begins with
+-- an authority and a reserved string. An extension has a name, a zero byte for "not critical", and
+-- contents.
 abbrev pub row_of : Field → Row
 row_of fields.Magic =
     row tables.Header (Number 8) (must_be magic_number faults.Magic) (Some fields.FormatVersion)
@@ -46,6 +48,9 @@ row_of fields.Reserved = row tables.Header Text passes (Some fields.Comment)
 row_of fields.Comment = row tables.Header Text passes None
 row_of fields.SignatureKey = row tables.Signature Text passes (Some fields.SignatureBytes)
 row_of fields.SignatureBytes = row tables.Signature Text passes None
+row_of fields.Authority =
+    row tables.Certificates Text passes (Some fields.CertificatesReserved)
+row_of fields.CertificatesReserved = row tables.Certificates Text passes None
 row_of fields.ExtensionName = row tables.Extension Text passes (Some fields.Critical)
 row_of fields.Critical =
     row tables.Extension (Number 1) (must_be 0 faults.CriticalExtension)
@@ -92,3 +97,10 @@ header_from [] header values = header
 header_from (field ∷ fields) header [] = header
 header_from (field ∷ fields) header (value ∷ values) =
     header_from fields (header_with field value header) values
+
+-- ---- the authority of a section of certificates
+
+-- the authority in force after the value of a field
+abbrev pub authority_with : Field → (value authority : List ℕ) → List ℕ
+authority_with fields.Authority value authority = value
+authority_with _ value authority = authority

@@ -3,12 +3,16 @@ use Rattle.std.specs.Prelude.{◌≡◌, ℕ, ◌+◌, ◌<◌, ◌≤◌, ◌^�
 use Rattle.std.specs.Prelude.{slice_index_or}
 use Rattle.std.specs.List.{flat_map, AllByRecursion}
 use Rattle.std.specs.Int.{bit_at}
-use Rattle.ssh_wire.specs.Rows.{Leads, Step, Text, passes, step}
+use Rattle.ssh_wire.specs.Rows.{Leads, Step}
 use Rattle.ssh_wire.specs.Wire.{number, number_of, string, strings}
 use Rattle.krl_types.specs.declared.krl_fault.KrlFault.{KrlFault}
 use Rattle.krl_format.specs.Field.{empty_header, fields_after, header_from, table_of}
 use Rattle.krl_format.specs.declared.header.Header.{Header}
+use Rattle.krl_format.specs.Section.{section_row, signature_type, subsection_row}
 use Rattle.krl_format.specs.declared.place.field.Field.TheVariants as fields
+use Rattle.krl_format.specs.declared.section.Section.{Section}
+use Rattle.krl_format.specs.declared.section.Section.TheVariants as section_kinds
+use Rattle.krl_format.specs.declared.section.Subsection.TheVariants as subsection_kinds
 
 -- a subsection of a section of certificates
 pub data Subsection : Type 0 where
@@ -57,7 +61,7 @@ extension_fields = table_of fields.ExtensionName
 -- the fields before the subsections of a section of certificates: the authority and a reserved
 -- string
 abbrev pub authority_fields : List (Step KrlFault)
-authority_fields = step Text passes ∷ step Text passes ∷ []
+authority_fields = table_of fields.Authority
 
 -- The text is the fields of a table, with any values.
 abbrev pub SpellsFields : List (Step KrlFault) → List ℕ → Type 0
@@ -100,11 +104,11 @@ SubsectionContent content (Ids texts) = content ≡ strings texts
 SubsectionContent content SubsectionExtension = SpellsFields extension_fields content
 
 abbrev pub subsection_type : Subsection → ℕ
-subsection_type (Serials numbers) = 0x20
-subsection_type (Range min max) = 0x21
-subsection_type (Bitmap offset value) = 0x22
-subsection_type (Ids texts) = 0x23
-subsection_type SubsectionExtension = 0x39
+subsection_type (Serials numbers) = (subsection_row subsection_kinds.Serials).type_byte
+subsection_type (Range min max) = (subsection_row subsection_kinds.Range).type_byte
+subsection_type (Bitmap offset value) = (subsection_row subsection_kinds.Bitmap).type_byte
+subsection_type (Ids texts) = (subsection_row subsection_kinds.Ids).type_byte
+subsection_type SubsectionExtension = (subsection_row subsection_kinds.Extension).type_byte
 
 -- a type byte, and the content as a string
 pub record SpellsContent (type_byte : ℕ) (Content : List ℕ → Type 0) (text : List ℕ) : Type 0 where
@@ -135,18 +139,25 @@ SpellsHashes size content hashes =
 -- a signature's type byte, and its fields
 abbrev pub SpellsSignature : List ℕ → Type 0
 SpellsSignature text =
-    (content : List ℕ) × (text ≡ 4 ∷ content) × SpellsFields signature_fields content
+    (content : List ℕ) × (text ≡ signature_type ∷ content) × SpellsFields signature_fields content
+
+-- a section that has a length
+abbrev pub SpellsTyped : Section → (List ℕ → Type 0) → List ℕ → Type 0
+SpellsTyped section Content text = SpellsContent (section_row section).type_byte Content text
 
 abbrev pub SpellsSection : List ℕ → SpelledSection → Type 0
 SpellsSection text (Certificates authority subsections) =
-    SpellsContent 1 (λ content. SpellsCertificates content authority subsections) text
-SpellsSection text (Keys blobs) = SpellsContent 2 (λ content. content ≡ strings blobs) text
+    SpellsTyped section_kinds.Certificates
+    (λ content. SpellsCertificates content authority subsections) text
+SpellsSection text (Keys blobs) =
+    SpellsTyped section_kinds.Keys (λ content. content ≡ strings blobs) text
 SpellsSection text (Sha1s hashes) =
-    SpellsContent 3 (λ content. SpellsHashes 20 content hashes) text
-SpellsSection text Signature = SpellsSignature text
+    SpellsTyped section_kinds.Sha1s (λ content. SpellsHashes 20 content hashes) text
 SpellsSection text (Sha256s hashes) =
-    SpellsContent 5 (λ content. SpellsHashes 32 content hashes) text
-SpellsSection text Extension = SpellsContent 255 (SpellsFields extension_fields) text
+    SpellsTyped section_kinds.Sha256s (λ content. SpellsHashes 32 content hashes) text
+SpellsSection text Signature = SpellsSignature text
+SpellsSection text Extension =
+    SpellsTyped section_kinds.Extension (SpellsFields extension_fields) text
 
 abbrev pub IsSignature : SpelledSection → Type 0
 IsSignature Signature = Unit {0}

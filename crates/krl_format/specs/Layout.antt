@@ -6,7 +6,10 @@ use Rattle.std.specs.Prelude.{◌≡◌, ℕ, ◌<◌, ◌^◌, List, [], ◌∷
 use Rattle.std.specs.List.{concat}
 use Rattle.ssh_wire.specs.Wire.{number, string}
 use Rattle.krl_format.specs.Krl.{magic}
+use Rattle.krl_format.specs.Section.{section_row, signature_type, subsection_row}
 use Rattle.krl_format.specs.declared.header.Header.{Header}
+use Rattle.krl_format.specs.declared.section.Section.TheVariants as section_kinds
+use Rattle.krl_format.specs.declared.section.Subsection.TheVariants as subsection_kinds
 
 -- The header:
 --
@@ -65,3 +68,24 @@ pub record BeginsWithAuthority (content authority rest : List ℕ) : Type 0 wher
   pub spelled : content ≡ concat (string authority ∷ string reserved ∷ rest ∷ [])
   pub authority_fits : length authority < 2 ^ 32
   pub reserved_fits : length reserved < 2 ^ 32
+
+-- The type bytes of sections, and of the subsections of a section of certificates:
+--
+--     KRL_SECTION_CERTIFICATES        1      KRL_SECTION_CERT_SERIAL_LIST    0x20
+--     KRL_SECTION_EXPLICIT_KEY        2      KRL_SECTION_CERT_SERIAL_RANGE   0x21
+--     KRL_SECTION_FINGERPRINT_SHA1    3      KRL_SECTION_CERT_SERIAL_BITMAP  0x22
+--     KRL_SECTION_SIGNATURE           4      KRL_SECTION_CERT_KEY_ID         0x23
+--     KRL_SECTION_FINGERPRINT_SHA256  5      KRL_SECTION_CERT_EXTENSION      0x39
+--     KRL_SECTION_EXTENSION           255
+pub record HaveTheseTypes : Type 0 where
+  pub certificates : (section_row section_kinds.Certificates).type_byte ≡ 1
+  pub keys : (section_row section_kinds.Keys).type_byte ≡ 2
+  pub sha1s : (section_row section_kinds.Sha1s).type_byte ≡ 3
+  pub signature : signature_type ≡ 4
+  pub sha256s : (section_row section_kinds.Sha256s).type_byte ≡ 5
+  pub extension : (section_row section_kinds.Extension).type_byte ≡ 255
+  pub serials : (subsection_row subsection_kinds.Serials).type_byte ≡ 0x20
+  pub range : (subsection_row subsection_kinds.Range).type_byte ≡ 0x21
+  pub bitmap : (subsection_row subsection_kinds.Bitmap).type_byte ≡ 0x22
+  pub ids : (subsection_row subsection_kinds.Ids).type_byte ≡ 0x23
+  pub subsection_extension : (subsection_row subsection_kinds.Extension).type_byte ≡ 0x39

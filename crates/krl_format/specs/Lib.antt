@@ -1,5 +1,6 @@
 pub mod Field
 pub mod Krl
+pub mod Section
 pub mod Place
 pub mod Front
 pub mod Entries

@@ -1,6 +1,6 @@
 -- The places in a list where a field can be expected, and the table of what is expected at each
 -- (PROTOCOL.krl).
-use Rattle.std.specs.Prelude.{ℕ, zero, suc, ◌+◌, ◌-◌, ◌*◌, ◌%◌, ◌==◌, nat_lt, nat_le, if◌then◌else◌}
+use Rattle.std.specs.Prelude.{ℕ, zero, suc, ◌+◌, ◌-◌, ◌*◌, ◌==◌, nat_lt, nat_le, if◌then◌else◌}
 use Rattle.std.specs.Prelude.{Bool, true, false, not, List, [], ◌∷◌, Option, Some, None, Result, Ok}
 use Rattle.std.specs.Prelude.{Err}
 use Rattle.std.specs.Int.{leading_zeros, w8}
@@ -11,25 +11,16 @@ use Rattle.krl_types.specs.declared.krl_fault.KrlFault.TheVariants as faults
 use Rattle.krl_format.specs.declared.header.Header.{Header}
 use Rattle.krl_format.specs.declared.place.Place.{Place}
 use Rattle.krl_format.specs.declared.place.Place.TheVariants as places
-use Rattle.krl_format.specs.declared.place.bitmap.BitmapPlace.{BitmapPlace}
-use Rattle.krl_format.specs.declared.place.bitmap.BitmapPlace.TheVariants as bitmaps
-use Rattle.krl_format.specs.declared.place.certificates.CertificatesPlace.{CertificatesPlace}
-use Rattle.krl_format.specs.declared.place.certificates.CertificatesPlace.TheVariants as certificates
-use Rattle.krl_format.specs.declared.place.extension.ExtensionPlace.{ExtensionPlace}
-use Rattle.krl_format.specs.declared.place.extension.ExtensionPlace.TheVariants as extensions
 use Rattle.krl_format.specs.declared.place.field.Field.{Field}
-use Rattle.krl_format.specs.declared.place.field.Field.TheVariants as fields
 use Rattle.krl_format.specs.declared.place.field.Table.{Table}
 use Rattle.krl_format.specs.declared.place.field.Table.TheVariants as tables
-use Rattle.krl_format.specs.declared.place.list.ItemKind.{ItemKind}
-use Rattle.krl_format.specs.declared.place.list.ItemKind.TheVariants as kinds
-use Rattle.krl_format.specs.declared.place.list.ListPlace.{ListPlace}
-use Rattle.krl_format.specs.declared.place.list.ListPlace.TheVariants as lists
-use Rattle.krl_format.specs.declared.place.serials.SerialsPlace.{SerialsPlace}
-use Rattle.krl_format.specs.declared.place.serials.SerialsPlace.TheVariants as serials
+use Rattle.krl_format.specs.declared.section.ItemKind.{ItemKind}
+use Rattle.krl_format.specs.declared.section.ItemKind.TheVariants as kinds
 use Rattle.krl_types.specs.Entry.{Entry, SerialsEntry, RangeEntry, BitmapEntry, IdEntry, KeyEntry}
 use Rattle.krl_types.specs.Entry.{Sha1Entry, Sha256Entry}
-use Rattle.krl_format.specs.Field.{header_with, row_of}
+use Rattle.krl_format.specs.Field.{authority_with, header_with, row_of}
+use Rattle.krl_format.specs.Section.{content_of, judge, next_item, next_serial, next_subsection, section_row}
+use Rattle.krl_format.specs.Section.{section_of_type, subsection_of_type, subsection_row}
 
 -- An expected field: its size in bytes; the number of bytes that the part around it has left, if
 -- there is such a part and no earlier length has already set the field's size; and the judgement on
@@ -38,9 +29,6 @@ pub record Expected : Type 0 where
   pub size : ℕ
   pub room : Option ℕ
   pub judged : List ℕ → Result Place KrlFault
-
-abbrev pub judge : Bool → KrlFault → Place → Result Place KrlFault
-judge good fault next = if good then Ok next else Err fault
 
 -- ---- kinds of fields
 
@@ -56,10 +44,6 @@ any_number size judged = record {
   room = None;
   judged = λ field. judged (number_of field);
 }
-
--- the length of a string that is not inside another
-abbrev pub any_length : (ℕ → Place) → Expected
-any_length next = any_number 4 (λ size. Ok (next size))
 
 -- a length is good if it counts no more bytes than are left after it
 abbrev pub within : ℕ → (ℕ → Result Place KrlFault) → ℕ → Result Place KrlFault
@@ -96,25 +80,10 @@ byte_within left judged = record {
   judged = λ field. judged (number_of field);
 }
 
--- ---- the next place, if a subsection may be at its end
-
--- the next subsection, or the end of the section
-abbrev pub next_subsection : ℕ → Place
-next_subsection zero = places.SectionType false
-next_subsection (suc left) = places.Certificates (certificates.SubsectionType (suc left))
-
-abbrev pub next_item : ItemKind → (left after : ℕ) → Place
-next_item kind zero after = next_subsection after
-next_item kind (suc left) after = places.List (lists.ItemLength kind (suc left) after)
-
-abbrev pub next_serial : (left after : ℕ) → Place
-next_serial zero after = next_subsection after
-next_serial (suc left) after = places.Serials (serials.Serial (suc left) after)
-
 -- `left` of the `size` bytes of a bitmap are left
 abbrev pub next_bits : (offset size left after : ℕ) → Place
 next_bits offset size zero after = next_subsection after
-next_bits offset size (suc left) after = places.Bitmap (bitmaps.Byte offset size (suc left) after)
+next_bits offset size (suc left) after = places.Byte offset size (suc left) after
 
 -- ---- judgements
 
@@ -124,43 +93,6 @@ item_size kinds.Key size = size
 item_size kinds.Sha1 size = 20
 item_size kinds.Sha256 size = 32
 item_size kinds.Id size = size
-
--- the place after a type byte, if a table of types has it
-abbrev pub place_of_type : (unknown : KrlFault) → List (ℕ × Place) → ℕ → Result Place KrlFault
-place_of_type unknown [] type_byte = Err unknown
-place_of_type unknown ((known, place) ∷ types) type_byte =
-    if type_byte == known then Ok place else place_of_type unknown types type_byte
-
-abbrev pub section_types : List (ℕ × Place)
-section_types =
-    (1, places.Certificates certificates.SectionLength)
-    ∷ (2, places.List (lists.SectionLength kinds.Key))
-    ∷ (3, places.List (lists.SectionLength kinds.Sha1))
-    ∷ (4, places.Field fields.SignatureKey 0 0)
-    ∷ (5, places.List (lists.SectionLength kinds.Sha256))
-    ∷ (255, places.Extension extensions.SectionLength)
-    ∷ []
-
--- the types after a signature
-abbrev pub last_types : List (ℕ × Place)
-last_types = (4, places.Field fields.SignatureKey 0 0) ∷ []
-
-abbrev pub section_of_type : Bool → ℕ → Result Place KrlFault
-section_of_type false type_byte = place_of_type faults.UnknownSection section_types type_byte
-section_of_type true type_byte = place_of_type faults.AfterSignature last_types type_byte
-
--- the types in a section of certificates that has `left` bytes after the type byte
-abbrev pub subsection_types : ℕ → List (ℕ × Place)
-subsection_types left =
-    (0x20, places.Serials (serials.SerialsLength left))
-    ∷ (0x21, places.Serials (serials.RangeLength left))
-    ∷ (0x22, places.Bitmap (bitmaps.Length left))
-    ∷ (0x23, places.List (lists.IdsLength left))
-    ∷ (0x39, places.Extension (extensions.SubsectionLength left))
-    ∷ []
-
-abbrev pub subsection_of_type : ℕ → ℕ → Result Place KrlFault
-subsection_of_type left = place_of_type faults.UnknownCertSection (subsection_types left)
 
 -- the index of the highest set bit of a byte that is not 0
 abbrev pub highest_bit : ℕ → ℕ
@@ -191,21 +123,23 @@ bits_judged offset size left after byte =
 -- ---- the format as a table, section by section
 
 -- the place after a table; `after` bytes of a section are left after an extension
-abbrev pub table_end : Table → ℕ → Place
-table_end tables.Header after = places.SectionType false
-table_end tables.Signature after = places.SectionType true
-table_end tables.Extension after = next_subsection after
+abbrev pub table_end : Table → (left after : ℕ) → Place
+table_end tables.Header left after = places.SectionType false
+table_end tables.Signature left after = places.SectionType true
+table_end tables.Certificates left after = next_subsection left
+table_end tables.Extension left after = next_subsection after
 
 -- the place of the next field of a table, or the place after the table
 abbrev pub place_in : Table → Option Field → (left after : ℕ) → Place
-place_in table None left after = table_end table after
+place_in table None left after = table_end table left after
 place_in table (Some field) left after = places.Field field left after
 
 abbrev pub place_after : Field → (left after : ℕ) → Place
 place_after field left after = place_in (row_of field).table (row_of field).next left after
 
--- only an extension is in a part that has some bytes left
+-- whether the table is in a part that has some bytes left
 abbrev pub room_of : Table → ℕ → Option ℕ
+room_of tables.Certificates left = Some left
 room_of tables.Extension left = Some left
 room_of _ left = None
 
@@ -216,6 +150,8 @@ length_judged field tables.Extension (Some next) left after size =
     within left (λ size. Ok (places.Content field size (left - 4 - size) after)) size
 length_judged field tables.Extension None left after size =
     judge (size == left - 4) faults.Length (places.Content field size 0 after)
+length_judged field tables.Certificates next left after size =
+    within left (λ size. Ok (places.Content field size (left - 4 - size) after)) size
 length_judged field _ next left after size = Ok (places.Content field size left after)
 
 -- the size in bytes of a number, or of the length of a string
@@ -241,75 +177,31 @@ part_expected field part left after = record {
 abbrev pub row_expected : Field → (left after : ℕ) → Expected
 row_expected field left after = part_expected field (row_of field).step.part left after
 
-abbrev pub list_expected : ListPlace → Expected
-list_expected (lists.SectionLength kind) = any_length (λ size. next_item kind size 0)
-list_expected (lists.IdsLength left) =
-    length_within left (λ size. Ok (next_item kinds.Id size (left - 4 - size)))
-list_expected (lists.ItemLength kind left after) =
-    length_within left
-    (λ size. judge (size == item_size kind size) faults.HashLength
-    (places.List (lists.Item kind size (left - 4 - size) after)))
-list_expected (lists.Item kind size left after) =
-    any_bytes (item_size kind size) (next_item kind left after)
-
-abbrev pub certificates_expected : CertificatesPlace → Expected
-certificates_expected certificates.SectionLength =
-    any_length (λ size. places.Certificates (certificates.AuthorityLength size))
-certificates_expected (certificates.AuthorityLength left) =
-    length_within left
-    (λ size. Ok (places.Certificates (certificates.Authority size (left - 4 - size))))
-certificates_expected (certificates.Authority size after) =
-    any_bytes size (places.Certificates (certificates.ReservedLength after))
-certificates_expected (certificates.ReservedLength left) =
-    length_within left
-    (λ size. Ok (places.Certificates (certificates.Reserved size (left - 4 - size))))
-certificates_expected (certificates.Reserved size after) = any_bytes size (next_subsection after)
-certificates_expected (certificates.SubsectionType left) =
-    byte_within left (subsection_of_type (left - 1))
-
-abbrev pub serials_expected : SerialsPlace → Expected
-serials_expected (serials.SerialsLength left) =
-    length_within left
-    (λ size. judge (size % 8 == 0) faults.Length (next_serial size (left - 4 - size)))
-serials_expected (serials.Serial left after) =
-    number_within left (λ serial. next_serial (left - 8) after)
-serials_expected (serials.RangeLength left) =
-    length_within left
-    (λ size. judge (size == 16) faults.Length (places.Serials (serials.RangeMin (left - 4 - size))))
-serials_expected (serials.RangeMin after) =
-    any_number 8 (λ min. Ok (places.Serials (serials.RangeMax min after)))
-serials_expected (serials.RangeMax min after) =
-    any_number 8 (λ max. judge (nat_le min max) faults.RangeReversed (next_subsection after))
-
-abbrev pub bitmap_expected : BitmapPlace → Expected
-bitmap_expected (bitmaps.Length left) =
-    length_within left (λ size. Ok (places.Bitmap (bitmaps.Offset size (left - 4 - size))))
-bitmap_expected (bitmaps.Offset left after) =
-    number_within left (λ offset. places.Bitmap (bitmaps.Size offset (left - 8) after))
-bitmap_expected (bitmaps.Size offset left after) =
-    length_of_rest left (next_bits offset (left - 4) (left - 4) after)
-bitmap_expected (bitmaps.Byte offset size left after) =
-    any_number 1 (bits_judged offset size left after)
-
-abbrev pub extension_expected : ExtensionPlace → Expected
-extension_expected extensions.SectionLength =
-    any_length (λ size. places.Field fields.ExtensionName size 0)
-extension_expected (extensions.SubsectionLength left) =
-    length_within left (λ size. Ok (places.Field fields.ExtensionName size (left - 4 - size)))
-
 abbrev pub expected : Place → Expected
 expected (places.Field field left after) = row_expected field left after
 expected (places.Content field size left after) = any_bytes size (place_after field left after)
-expected (places.SectionType signed) = record {
-  size = 1;
-  room = None;
-  judged = λ field. section_of_type signed (number_of field);
-}
-expected (places.List at) = list_expected at
-expected (places.Certificates at) = certificates_expected at
-expected (places.Serials at) = serials_expected at
-expected (places.Bitmap at) = bitmap_expected at
-expected (places.Extension at) = extension_expected at
+expected (places.SectionType signed) = any_number 1 (section_of_type signed)
+expected (places.SectionLength section) =
+    any_number 4 (λ size. content_of (section_row section) size 0)
+expected (places.SubsectionType left) = byte_within left (subsection_of_type (left - 1))
+expected (places.SubsectionLength part left) =
+    length_within left (λ size. content_of (subsection_row part) size (left - 4 - size))
+expected (places.ItemLength kind left after) =
+    length_within left
+    (λ size. judge (size == item_size kind size) faults.HashLength
+    (places.Item kind size (left - 4 - size) after))
+expected (places.Item kind size left after) =
+    any_bytes (item_size kind size) (next_item kind left after)
+expected (places.Serial left after) =
+    number_within left (λ serial. next_serial (left - 8) after)
+expected (places.RangeMin after) = any_number 8 (λ min. Ok (places.RangeMax min after))
+expected (places.RangeMax min after) =
+    any_number 8 (λ max. judge (nat_le min max) faults.RangeReversed (next_subsection after))
+expected (places.Offset left after) =
+    number_within left (λ offset. places.BitmapSize offset (left - 8) after)
+expected (places.BitmapSize offset left after) =
+    length_of_rest left (next_bits offset (left - 4) (left - 4) after)
+expected (places.Byte offset size left after) = any_number 1 (bits_judged offset size left after)
 
 -- whether the list may end at this place
 abbrev pub can_end : Place → Bool
@@ -327,19 +219,20 @@ item_entry kinds.Id authority item = IdEntry authority item
 
 -- the entries of a field at a place, under the authority in force
 abbrev pub names : Place → (authority field : List ℕ) → List Entry
-names (places.List (lists.Item kind size left after)) authority field =
+names (places.Item kind size left after) authority field =
     item_entry kind authority field ∷ []
-names (places.Serials (serials.Serial left after)) authority field =
+names (places.Serial left after) authority field =
     SerialsEntry authority (number_of field ∷ []) ∷ []
-names (places.Serials (serials.RangeMax min after)) authority field =
+names (places.RangeMax min after) authority field =
     RangeEntry authority min (number_of field) ∷ []
-names (places.Bitmap (bitmaps.Byte offset size left after)) authority field =
+names (places.Byte offset size left after) authority field =
     BitmapEntry authority (base_of offset left) (number_of field) ∷ []
 names _ authority field = []
 
 -- The authority in force after a field. A section begins without an authority.
 abbrev pub authority_after : Place → (authority field : List ℕ) → List ℕ
-authority_after (places.Certificates (certificates.Authority size after)) authority field = field
+authority_after (places.Content field size left after) authority text =
+    authority_with field text authority
 authority_after (places.SectionType signed) authority field = []
 authority_after _ authority field = authority
 

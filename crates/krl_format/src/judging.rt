@@ -1,18 +1,19 @@
 //! The place after a field of a list, or why the field is refused.
 
-ghost use Rattle.std.specs.Prelude.{◌≡◌, ◌-◌, ◌<◌, ◌≤◌};
-ghost use Rattle.krl_format.specs.Place.{judge as judged_by, within as within_of, base_of};
+ghost use Rattle.std.specs.Prelude.{◌≡◌, ◌==◌, ◌-◌, ◌<◌, ◌≤◌};
+ghost use Rattle.krl_format.specs.Place.{base_of, item_size, within as within_of};
 ghost use Rattle.krl_format.specs.Place.{bits_judged as bits_judged_of, passes_end as passes_end_of};
 ghost use Rattle.krl_format.specs.Place.{next_bits as bits_after};
-ghost use Rattle.krl_format.specs.Place.{next_item as item_after, next_serial as serial_after};
-ghost use Rattle.krl_format.specs.Place.{next_subsection as subsection_after};
-ghost use Rattle.krl_format.specs.Place.{section_of_type as section_of};
-ghost use Rattle.krl_format.specs.Place.{subsection_of_type as subsection_of};
+ghost use Rattle.krl_format.specs.Section.{judge as judged_by, next_item as item_after};
+ghost use Rattle.krl_format.specs.Section.{next_serial as serial_after};
+ghost use Rattle.krl_format.specs.Section.{next_subsection as subsection_after};
+ghost use Rattle.krl_format.specs.Section.{section_of_type as section_of};
+ghost use Rattle.krl_format.specs.Section.{subsection_of_type as subsection_of};
+ghost use Rattle.krl_types.specs.declared.krl_fault.KrlFault.TheVariants as faults;
 ghost use Rattle.krl_format.specs.declared.place.Place.TheVariants as places;
 
-use crate::place::{
-    BitmapPlace, CertificatesPlace, ExtensionPlace, Field, ItemKind, ListPlace, Place, SerialsPlace,
-};
+use crate::place::{Field, Place};
+use crate::section::{ItemKind, SIGNATURE, Section, Subsection};
 use krl_types::KrlFault;
 
 // The place of the first field of a table that is not inside a part.
@@ -59,7 +60,7 @@ pub(crate) fn next_subsection(left: u32) -> Place
     if left == 0 {
         Place::SectionType { signed: false }
     } else {
-        Place::Certificates(CertificatesPlace::SubsectionType { left })
+        Place::SubsectionType { left }
     }
 }
 
@@ -70,7 +71,7 @@ pub(crate) fn next_item(kind: ItemKind, left: u32, after: u32) -> Place
     if left == 0 {
         next_subsection(after)
     } else {
-        Place::List(ListPlace::ItemLength { kind, left, after })
+        Place::ItemLength { kind, left, after }
     }
 }
 
@@ -81,7 +82,7 @@ pub fn next_serial(left: u32, after: u32) -> Place
     if left == 0 {
         next_subsection(after)
     } else {
-        Place::Serials(SerialsPlace::Serial { left, after })
+        Place::Serial { left, after }
     }
 }
 
@@ -92,54 +93,63 @@ pub fn next_bits(offset: u64, size: u32, left: u32, after: u32) -> Place
     if left == 0 {
         next_subsection(after)
     } else {
-        Place::Bitmap(BitmapPlace::Byte {
+        Place::Byte {
             offset,
             size,
             left,
             after,
-        })
+        }
     }
 }
 
-// The first place in the content of a section of this type.
+// The place after the type byte of a section. Only a signature may follow a signature.
 pub(crate) fn section_of_type(signed: bool, type_byte: u8) -> Result<Place, KrlFault>
     ensures { result ≡ section_of signed type_byte }
 {
-    if signed {
-        return match type_byte {
-            4 => Ok(first_field(Field::SignatureKey)),
-            _ => Err(KrlFault::AfterSignature),
-        };
+    if type_byte == SIGNATURE {
+        return Ok(first_field(Field::SignatureKey));
     }
-    match type_byte {
-        1 => Ok(Place::Certificates(CertificatesPlace::SectionLength)),
-        2 => Ok(Place::List(ListPlace::SectionLength {
-            kind: ItemKind::Key,
-        })),
-        3 => Ok(Place::List(ListPlace::SectionLength {
-            kind: ItemKind::Sha1,
-        })),
-        4 => Ok(first_field(Field::SignatureKey)),
-        5 => Ok(Place::List(ListPlace::SectionLength {
-            kind: ItemKind::Sha256,
-        })),
-        255 => Ok(Place::Extension(ExtensionPlace::SectionLength)),
-        _ => Err(KrlFault::UnknownSection),
+    if signed {
+        return Err(KrlFault::AfterSignature);
+    }
+    match Section::of_type(type_byte) {
+        Some(section) => Ok(Place::SectionLength { section }),
+        None => Err(KrlFault::UnknownSection),
     }
 }
 
-// The first place in the content of a subsection of this type.
+// The place after the type byte of a subsection.
 pub(crate) fn subsection_of_type(left: u32, type_byte: u8) -> Result<Place, KrlFault>
     ensures { result ≡ subsection_of left type_byte }
 {
-    match type_byte {
-        0x20 => Ok(Place::Serials(SerialsPlace::SerialsLength { left })),
-        0x21 => Ok(Place::Serials(SerialsPlace::RangeLength { left })),
-        0x22 => Ok(Place::Bitmap(BitmapPlace::Length { left })),
-        0x23 => Ok(Place::List(ListPlace::IdsLength { left })),
-        0x39 => Ok(Place::Extension(ExtensionPlace::SubsectionLength { left })),
-        _ => Err(KrlFault::UnknownCertSection),
+    match Subsection::of_type(type_byte) {
+        Some(subsection) => Ok(Place::SubsectionLength { subsection, left }),
+        None => Err(KrlFault::UnknownCertSection),
     }
+}
+
+// The place after the length of an item.
+pub(crate) fn after_item_length(
+    kind: ItemKind,
+    left: u32,
+    after: u32,
+    size: u32,
+) -> Result<Place, KrlFault>
+    requires { 4 ≤ left }
+    ensures { result ≡ within_of left (λ size. judged_by (size == item_size kind size)
+        faults.HashLength (places.Item kind size (left - 4 - size) after)) size }
+{
+    let next = Place::Item {
+        kind,
+        size,
+        left: rest(left, size),
+        after,
+    };
+    within(
+        left,
+        size,
+        judge(size == kind.size(size), KrlFault::HashLength, next),
+    )
 }
 
 // Judges a byte of a bitmap. The bitmap has `left` of its `size` bytes left, with this one.

@@ -6,10 +6,12 @@ mod header;
 mod judging;
 pub mod laws;
 mod place;
+mod section;
 
 pub use header::{Header, LIMIT, MAGIC, MAGIC_NUMBER};
 pub use judging::{next_bits, next_serial};
-pub use place::{
-    BitmapPlace, CertificatesPlace, ExtensionPlace, Field, FieldPart, ItemKind, ListPlace, Place,
-    SerialsPlace, Table,
+pub use place::{Field, FieldPart, Place, Table};
+pub use section::{
+    BITMAP, CERTIFICATES, EXTENSION, IDS, ItemKind, KEYS, RANGE, SERIALS, SHA1S, SHA256S,
+    SIGNATURE, SUBSECTION_EXTENSION, Section, Subsection,
 };

@@ -7,21 +7,15 @@ ghost use Rattle.krl_format.specs.Front.{HasRoom, Passes, start};
 ghost use Rattle.krl_format.specs.FixedFields.{is_fixed};
 ghost use Rattle.krl_format.specs.declared.place.Place.{Place as PlaceOf};
 
-mod bitmap;
-mod certificates;
-mod extension;
 mod field;
-mod list;
-mod serials;
 
-use crate::judging::{first_field, section_of_type};
-pub use bitmap::BitmapPlace;
-pub use certificates::CertificatesPlace;
-pub use extension::ExtensionPlace;
+use crate::judging::{
+    after_item_length, bits_judged, first_field, judge, next_bits, next_item, next_serial,
+    next_subsection, rest, section_of_type, subsection_of_type, within,
+};
+use crate::section::{ItemKind, Section, Subsection};
 pub use field::{Field, FieldPart, Table};
-use krl_types::{KrlFault, byte_of};
-pub use list::{ItemKind, ListPlace};
-pub use serials::SerialsPlace;
+use krl_types::{KrlFault, byte_of, u32_of, u64_of};
 
 /// The place of a walk in a list: the field that is expected next. A byte of a bitmap is a field.
 ///
@@ -47,11 +41,58 @@ pub enum Place {
     SectionType {
         signed: bool,
     },
-    List(ListPlace),
-    Certificates(CertificatesPlace),
-    Serials(SerialsPlace),
-    Bitmap(BitmapPlace),
-    Extension(ExtensionPlace),
+    /// The length of a section.
+    SectionLength {
+        section: Section,
+    },
+    /// The next subsection.
+    SubsectionType {
+        left: u32,
+    },
+    /// The length of a subsection.
+    SubsectionLength {
+        subsection: Subsection,
+        left: u32,
+    },
+    ItemLength {
+        kind: ItemKind,
+        left: u32,
+        after: u32,
+    },
+    Item {
+        kind: ItemKind,
+        size: u32,
+        left: u32,
+        after: u32,
+    },
+    Serial {
+        left: u32,
+        after: u32,
+    },
+    RangeMin {
+        after: u32,
+    },
+    RangeMax {
+        min: u64,
+        after: u32,
+    },
+    /// The first serial number of a bitmap.
+    Offset {
+        left: u32,
+        after: u32,
+    },
+    BitmapSize {
+        offset: u64,
+        left: u32,
+        after: u32,
+    },
+    /// One byte of a bitmap, with `left` of its `size` bytes left. The highest byte comes first.
+    Byte {
+        offset: u64,
+        size: u32,
+        left: u32,
+        after: u32,
+    },
 }
 
 impl Place {
@@ -64,12 +105,15 @@ impl Place {
         match self {
             Place::Field { field, left, .. } => field.size_and_room(left),
             Place::Content { size, .. } => (size, None),
-            Place::SectionType { .. } => (1, None),
-            Place::List(at) => at.size_and_room(),
-            Place::Certificates(at) => at.size_and_room(),
-            Place::Serials(at) => at.size_and_room(),
-            Place::Bitmap(at) => at.size_and_room(),
-            Place::Extension(at) => at.size_and_room(),
+            Place::SectionType { .. } | Place::Byte { .. } => (1, None),
+            Place::SectionLength { .. } => (4, None),
+            Place::SubsectionType { left } => (1, Some(left)),
+            Place::SubsectionLength { left, .. }
+            | Place::ItemLength { left, .. }
+            | Place::BitmapSize { left, .. } => (4, Some(left)),
+            Place::Item { kind, size, .. } => (kind.size(size), None),
+            Place::Serial { left, .. } | Place::Offset { left, .. } => (8, Some(left)),
+            Place::RangeMin { .. } | Place::RangeMax { .. } => (8, None),
         }
     }
 
@@ -140,11 +184,56 @@ impl Place {
                 ..
             } => Ok(expected.place_after(left, after)),
             Place::SectionType { signed } => section_of_type(signed, byte_of(field)),
-            Place::List(at) => at.after(field),
-            Place::Certificates(at) => at.after(field),
-            Place::Serials(at) => at.after(field),
-            Place::Bitmap(at) => at.after(field),
-            Place::Extension(at) => at.after(field),
+            Place::SectionLength { section } => section.after_length(u32_of(field)),
+            Place::SubsectionType { left } => subsection_of_type(left - 1, byte_of(field)),
+            Place::SubsectionLength { subsection, left } => {
+                let size = u32_of(field);
+                within(left, size, subsection.after_length(size, rest(left, size)))
+            }
+            Place::ItemLength { kind, left, after } => after_item_length(
+                kind,
+                left,
+                after,
+                u32_of(field),
+            ),
+            Place::Item {
+                kind,
+                left,
+                after,
+                ..
+            } => Ok(next_item(kind, left, after)),
+            Place::Serial { left, after } => Ok(next_serial(left - 8, after)),
+            Place::RangeMin { after } => Ok(Place::RangeMax {
+                min: u64_of(field),
+                after,
+            }),
+            Place::RangeMax { min, after } => {
+                judge(
+                    min <= u64_of(field),
+                    KrlFault::RangeReversed,
+                    next_subsection(after),
+                )
+            }
+            Place::Offset { left, after } => Ok(Place::BitmapSize {
+                offset: u64_of(field),
+                left: left - 8,
+                after,
+            }),
+            Place::BitmapSize {
+                offset,
+                left,
+                after,
+            } => {
+                let size = left - 4;
+                let next = next_bits(offset, size, size, after);
+                judge(u32_of(field) == size, KrlFault::Length, next)
+            }
+            Place::Byte {
+                offset,
+                size,
+                left,
+                after,
+            } => bits_judged(offset, size, left, after, byte_of(field)),
         }
     }
 

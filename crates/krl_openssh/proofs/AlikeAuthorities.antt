@@ -16,7 +16,9 @@ use Rattle.krl_format.specs.Krl.{Certificates, Extension, Keys, Sha1s, Sha256s, 
 use Rattle.krl_format.specs.Place.{can_end}
 use Rattle.krl_format.specs.declared.place.Place.{Place}
 use Rattle.krl_format.specs.declared.place.Place.TheVariants as places
-use Rattle.krl_format.specs.declared.place.certificates.CertificatesPlace.TheVariants as certificates
+use Rattle.krl_format.specs.Section.{section_row}
+use Rattle.krl_format.specs.declared.place.field.Field.TheVariants as fields
+use Rattle.krl_format.specs.declared.section.Section.TheVariants as section_kinds
 use Rattle.krl_format.proofs.Judgements.{held_back, same_place}
 use Rattle.krl_authority.specs.Authority.{AuthoritiesAreKeys, HasKeyOrAll, IsKeyOrAll}
 use Rattle.krl_openssh.specs.Difference.{authority_difference, judgement_difference, key_difference}
@@ -52,39 +54,42 @@ unfolding string
 string_front text rest = append_assoc (number 4 (length text)) text rest
 
 -- its bytes, in a place for it
-at_authority : (size after : ℕ) (authority rest : List ℕ) → size ≡ length authority → IsAlike (places.Certificates (certificates.Authority size after)) (authority ++ rest) → authority_difference authority ≡ None
-at_authority size after [] rest is alike = refl
-at_authority size after (byte ∷ bytes) rest is alike = (follow (byte ∷ bytes) rest alike (sym is) (omega arith)).fine
+at_authority : (size left after : ℕ) (authority rest : List ℕ) → size ≡ length authority → IsAlike (places.Content fields.Authority size left after) (authority ++ rest) → authority_difference authority ≡ None
+at_authority size left after [] rest is alike = refl
+at_authority size left after (byte ∷ bytes) rest is alike = (follow (byte ∷ bytes) rest alike (sym is) (omega arith)).fine
 
 -- its length
-at_length : (left : ℕ) (authority rest : List ℕ) → length authority < 2 ^ 32 → IsAlike (places.Certificates (certificates.AuthorityLength left)) (string authority ++ rest) → authority_difference authority ≡ None
-at_length left authority rest fits alike =
+at_length : (left after : ℕ) (authority rest : List ℕ) → length authority < 2 ^ 32 → IsAlike (places.Field fields.Authority left after) (string authority ++ rest) → authority_difference authority ≡ None
+at_length left after authority rest fits alike =
     let size : List ℕ = number 4 (length authority) in
     let one = follow size (authority ++ rest) (alike_from (string authority ++ rest) (size ++ (authority ++ rest)) (string_front authority rest) alike) (length-number 4 (length authority)) (omega (arith, length-number 4 (length authority))) in
     let n = number_of size in
-    let next = held_back (ltb (left - 4) n) faults.Length (Ok (places.Certificates (certificates.Authority n (left - 4 - n)))) one.next one.passes.judged in
-    at_authority n (left - 4 - n) authority rest (number_of-number 4 (length authority) fits)
-    (alike_at (sym (same_place (places.Certificates (certificates.Authority n (left - 4 - n))) one.next next.1)) one.alike)
+    let next = held_back (ltb (left - 4) n) faults.Length (Ok (places.Content fields.Authority n (left - 4 - n) after)) one.next one.passes.judged in
+    at_authority n (left - 4 - n) after authority rest (number_of-number 4 (length authority) fits)
+    (alike_at (sym (same_place (places.Content fields.Authority n (left - 4 - n) after) one.next next.1)) one.alike)
 
 -- the length of the section
-at_content : (content authority more rest : List ℕ) → content ≡ string authority ++ more → length authority < 2 ^ 32 → IsAlike (places.Certificates certificates.SectionLength) (string content ++ rest)
+at_content : (content authority more rest : List ℕ) → content ≡ string authority ++ more → length authority < 2 ^ 32 → IsAlike (places.SectionLength section_kinds.Certificates) (string content ++ rest)
     → authority_difference authority ≡ None
 at_content content authority more rest parts fits alike =
     let size : List ℕ = number 4 (length content) in
     let one = follow size (content ++ rest) (alike_from (string content ++ rest) (size ++ (content ++ rest)) (string_front content rest) alike) (length-number 4 (length content)) (omega (arith, length-number 4 (length content))) in
     let n = number_of size in
-    let at = alike_at (sym (same_place (places.Certificates (certificates.AuthorityLength n)) one.next one.passes.judged)) one.alike in
-    at_length n authority (more ++ rest) fits (alike_from (content ++ rest) (string authority ++ (more ++ rest)) (ap (λ (c : List ℕ). c ++ rest) parts ∙ append_assoc (string authority) more rest) at)
+    let at = alike_at (sym (same_place (places.Field fields.Authority n 0) one.next one.passes.judged)) one.alike in
+    at_length n 0 authority (more ++ rest) fits (alike_from (content ++ rest) (string authority ++ (more ++ rest)) (ap (λ (c : List ℕ). c ++ rest) parts ∙ append_assoc (string authority) more rest) at)
 
 -- its type
-at_section : (place : Place) (content authority more rest : List ℕ) → can_end place ≡ true → content ≡ string authority ++ more → length authority < 2 ^ 32 → IsAlike place ((1 ∷ string content) ++ rest)
+abbrev certificates_type : ℕ
+certificates_type = (section_row section_kinds.Certificates).type_byte
+
+at_section : (place : Place) (content authority more rest : List ℕ) → can_end place ≡ true → content ≡ string authority ++ more → length authority < 2 ^ 32 → IsAlike place ((certificates_type ∷ string content) ++ rest)
     → authority_difference authority ≡ None
 unfolding number_of
 at_section (places.SectionType false) content authority more rest may parts fits alike =
-    let one = follow (1 ∷ []) (string content ++ rest) alike refl (omega arith) in
-    at_content content authority more rest parts fits (alike_at (sym (same_place (places.Certificates certificates.SectionLength) one.next one.passes.judged)) one.alike)
+    let one = follow (certificates_type ∷ []) (string content ++ rest) alike refl (omega arith) in
+    at_content content authority more rest parts fits (alike_at (sym (same_place (places.SectionLength section_kinds.Certificates) one.next one.passes.judged)) one.alike)
 at_section (places.SectionType true) content authority more rest may parts fits alike =
-    let one = follow (1 ∷ []) (string content ++ rest) alike refl (omega arith) in
+    let one = follow (certificates_type ∷ []) (string content ++ rest) alike refl (omega arith) in
     let never = one.passes.judged in
     absurd cc
 at_section _ content authority more rest may parts fits alike = absurd cc
@@ -105,10 +110,10 @@ has_key (Certificates authority subsections) text rest is bytes spelled boundary
     let held = is.content_is in
     let (more, named) = authority_front is.content held.body held.values held.fields in
     let begins = subst (λ (a : List ℕ). BeginsWithPart Text is.content a more) held.authority_is named in
-    let content_bytes = IsBytes-in_string is.content (IsBytes-back (1 ∷ []) (string is.content) (subst IsBytes is.spelled bytes)) in
+    let content_bytes = IsBytes-in_string is.content (IsBytes-back (certificates_type ∷ []) (string is.content) (subst IsBytes is.spelled bytes)) in
     let authority_bytes = IsBytes-in_string authority (IsBytes-front (string authority) more (subst IsBytes begins.spelled content_bytes)) in
     is_key authority
-    (at_section boundary.place is.content authority more rest boundary.may_end begins.spelled begins.is_part (alike_from (text ++ rest) ((1 ∷ string is.content) ++ rest) (ap (λ (t : List ℕ). t ++ rest) is.spelled) boundary.alike))
+    (at_section boundary.place is.content authority more rest boundary.may_end begins.spelled begins.is_part (alike_from (text ++ rest) ((certificates_type ∷ string is.content) ++ rest) (ap (λ (t : List ℕ). t ++ rest) is.spelled) boundary.alike))
     (λ (key : PublicKey). spelled authority key authority_bytes)
 has_key (Keys blobs) text rest is bytes spelled boundary = tt
 has_key (Sha1s hashes) text rest is bytes spelled boundary = tt

@@ -15,20 +15,16 @@ use Rattle.krl_format.specs.Field.{row_of}
 use Rattle.krl_format.specs.Place.{expected}
 use Rattle.krl_format.specs.declared.place.Place.{Place}
 use Rattle.krl_format.specs.declared.place.Place.TheVariants as places
-use Rattle.krl_format.specs.declared.place.bitmap.BitmapPlace.{BitmapPlace}
-use Rattle.krl_format.specs.declared.place.bitmap.BitmapPlace.TheVariants as bitmaps
-use Rattle.krl_format.specs.declared.place.certificates.CertificatesPlace.{CertificatesPlace}
-use Rattle.krl_format.specs.declared.place.certificates.CertificatesPlace.TheVariants as certificates
 use Rattle.krl_format.specs.declared.place.field.Field.{Field}
 use Rattle.krl_format.specs.declared.place.field.Field.TheVariants as fields
 use Rattle.krl_format.specs.declared.place.field.Table.{Table}
 use Rattle.krl_format.specs.declared.place.field.Table.TheVariants as tables
-use Rattle.krl_format.specs.declared.place.list.ItemKind.{ItemKind}
-use Rattle.krl_format.specs.declared.place.list.ItemKind.TheVariants as kinds
-use Rattle.krl_format.specs.declared.place.list.ListPlace.{ListPlace}
-use Rattle.krl_format.specs.declared.place.list.ListPlace.TheVariants as lists
-use Rattle.krl_format.specs.declared.place.serials.SerialsPlace.{SerialsPlace}
-use Rattle.krl_format.specs.declared.place.serials.SerialsPlace.TheVariants as serials
+use Rattle.krl_format.specs.declared.section.ItemKind.{ItemKind}
+use Rattle.krl_format.specs.declared.section.ItemKind.TheVariants as kinds
+use Rattle.krl_format.specs.declared.section.Section.{Section}
+use Rattle.krl_format.specs.declared.section.Section.TheVariants as section_kinds
+use Rattle.krl_format.specs.declared.section.Subsection.{Subsection}
+use Rattle.krl_format.specs.declared.section.Subsection.TheVariants as subsection_kinds
 use Rattle.krl_openssh.specs.declared.difference.Difference.{Difference}
 use Rattle.krl_openssh.specs.declared.difference.Difference.TheVariants as differences
 
@@ -57,25 +53,19 @@ abbrev pub comment_difference : List ℕ → Option Difference
 comment_difference comment =
     found_if (has_zero (take (length comment - 1) comment)) differences.Comment
 
--- a string of a table
-abbrev pub text_difference : Field → List ℕ → Option Difference
-text_difference fields.Comment text = comment_difference text
-text_difference _ text = None
-
 -- a field of a table
 abbrev pub table_difference : Table → Option Difference
 table_difference tables.Header = None
 table_difference tables.Signature = Some differences.Signature
+table_difference tables.Certificates = None
 table_difference tables.Extension = Some differences.Extension
 
 -- a string of a list
 abbrev pub item_difference : ItemKind → List ℕ → Option Difference
+item_difference kinds.Key text = None
+item_difference kinds.Sha1 text = None
+item_difference kinds.Sha256 text = None
 item_difference kinds.Id text = found_if (has_zero text) differences.KeyId
-item_difference _ text = None
-
-abbrev pub list_difference : ListPlace → List ℕ → Option Difference
-list_difference (lists.Item kind size left after) field = item_difference kind field
-list_difference _ field = None
 
 abbrev pub judgement_difference : Judgement → Option Difference
 judgement_difference judgements.Accepted = None
@@ -92,16 +82,27 @@ abbrev pub authority_difference : List ℕ → Option Difference
 authority_difference [] = None
 authority_difference (byte ∷ bytes) = key_difference (key_at (byte ∷ bytes))
 
-abbrev pub certificates_difference : CertificatesPlace → List ℕ → Option Difference
-certificates_difference (certificates.Authority size after) field = authority_difference field
-certificates_difference _ field = None
+-- a string of a table
+abbrev pub text_difference : Field → List ℕ → Option Difference
+text_difference fields.Comment text = comment_difference text
+text_difference fields.Authority text = authority_difference text
+text_difference _ text = None
 
-abbrev pub serials_difference : SerialsPlace → List ℕ → Option Difference
-serials_difference (serials.Serial left after) field =
-    found_if (number_of field == 0) differences.SerialZero
-serials_difference (serials.RangeMin after) field =
-    found_if (number_of field == 0) differences.SerialZero
-serials_difference _ field = None
+-- a section of this kind
+abbrev pub section_difference : Section → Option Difference
+section_difference section_kinds.Certificates = None
+section_difference section_kinds.Keys = None
+section_difference section_kinds.Sha1s = None
+section_difference section_kinds.Sha256s = None
+section_difference section_kinds.Extension = Some differences.Extension
+
+-- a subsection of this kind
+abbrev pub subsection_difference : Subsection → Option Difference
+subsection_difference subsection_kinds.Serials = None
+subsection_difference subsection_kinds.Range = None
+subsection_difference subsection_kinds.Bitmap = None
+subsection_difference subsection_kinds.Ids = None
+subsection_difference subsection_kinds.Extension = Some differences.Extension
 
 -- OpenSSH reads at most 2,048 bytes of a bitmap, after an optional first byte that is zero.
 abbrev pub is_long : (size left byte : ℕ) → Bool
@@ -118,21 +119,25 @@ bits_difference offset size left byte =
     if is_long size left byte then Some differences.LongBitmap
     else found_if (names_zero offset left byte) differences.SerialZero
 
-abbrev pub bitmap_difference : BitmapPlace → List ℕ → Option Difference
-bitmap_difference (bitmaps.Byte offset size left after) field =
-    bits_difference offset size left (number_of field)
-bitmap_difference _ field = None
-
 -- a whole field at a place
 abbrev pub difference_at : Place → List ℕ → Option Difference
 difference_at (places.Field row left after) field = table_difference (row_of row).table
 difference_at (places.Content row size left after) field = text_difference row field
 difference_at (places.SectionType signed) field = None
-difference_at (places.List at) field = list_difference at field
-difference_at (places.Certificates at) field = certificates_difference at field
-difference_at (places.Serials at) field = serials_difference at field
-difference_at (places.Bitmap at) field = bitmap_difference at field
-difference_at (places.Extension at) field = Some differences.Extension
+difference_at (places.SectionLength section) field = section_difference section
+difference_at (places.SubsectionType left) field = None
+difference_at (places.SubsectionLength part left) field = subsection_difference part
+difference_at (places.ItemLength kind left after) field = None
+difference_at (places.Item kind size left after) field = item_difference kind field
+difference_at (places.Serial left after) field =
+    found_if (number_of field == 0) differences.SerialZero
+difference_at (places.RangeMin after) field =
+    found_if (number_of field == 0) differences.SerialZero
+difference_at (places.RangeMax min after) field = None
+difference_at (places.Offset left after) field = None
+difference_at (places.BitmapSize offset left after) field = None
+difference_at (places.Byte offset size left after) field =
+    bits_difference offset size left (number_of field)
 
 -- ---- all fields
 

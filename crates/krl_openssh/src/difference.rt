@@ -1,18 +1,15 @@
 //! The fields of a list for which OpenSSH refuses it, or reads other names.
 
 ghost use Rattle.std.specs.Prelude.{◌≡◌, length};
-ghost use Rattle.krl_format.specs.Place.{bitmap_expected, expected, serials_expected};
-ghost use Rattle.krl_openssh.specs.Difference.{authority_difference, bitmap_difference};
-ghost use Rattle.krl_openssh.specs.Difference.{bits_difference, certificates_difference};
+ghost use Rattle.krl_format.specs.Place.{expected};
+ghost use Rattle.krl_openssh.specs.Difference.{authority_difference, bits_difference};
 ghost use Rattle.krl_openssh.specs.Difference.{comment_difference, difference_at, difference_words};
 ghost use Rattle.krl_openssh.specs.Difference.{found_if, has_zero, is_long, item_difference};
-ghost use Rattle.krl_openssh.specs.Difference.{judgement_difference, list_difference, names_zero};
-ghost use Rattle.krl_openssh.specs.Difference.{serials_difference, table_difference};
-ghost use Rattle.krl_openssh.specs.Difference.{text_difference};
+ghost use Rattle.krl_openssh.specs.Difference.{judgement_difference, names_zero};
+ghost use Rattle.krl_openssh.specs.Difference.{section_difference, subsection_difference};
+ghost use Rattle.krl_openssh.specs.Difference.{table_difference, text_difference};
 
-use krl_format::{
-    BitmapPlace, CertificatesPlace, Field, ItemKind, ListPlace, Place, SerialsPlace, Table,
-};
+use krl_format::{Field, ItemKind, Place, Section, Subsection, Table};
 use krl_types::{byte_of, u64_of};
 use openssh_keys::{Judgement, judge};
 use ssh_key::read_key;
@@ -69,12 +66,44 @@ pub(crate) fn difference_at(place: Place, field: &[u8]) -> Option<Difference>
     match place {
         Place::Field { field: row, .. } => table_difference(row.row().0),
         Place::Content { field: row, .. } => text_difference(row, field),
-        Place::SectionType { .. } => None,
-        Place::List(at) => list_difference(at, field),
-        Place::Certificates(at) => certificates_difference(at, field),
-        Place::Serials(at) => serials_difference(at, field),
-        Place::Bitmap(at) => bitmap_difference(at, field),
-        Place::Extension(_) => Some(Difference::Extension),
+        Place::SectionLength { section } => section_difference(section),
+        Place::SubsectionLength { subsection, .. } => subsection_difference(subsection),
+        Place::Item { kind, .. } => item_difference(kind, field),
+        Place::Serial { .. } | Place::RangeMin { .. } => {
+            found_if(u64_of(field) == 0, Difference::SerialZero)
+        }
+        Place::Byte {
+            offset,
+            size,
+            left,
+            ..
+        } => bits_difference(offset, size, left, byte_of(field)),
+        Place::SectionType { .. }
+        | Place::SubsectionType { .. }
+        | Place::ItemLength { .. }
+        | Place::RangeMax { .. }
+        | Place::Offset { .. }
+        | Place::BitmapSize { .. } => None,
+    }
+}
+
+// The difference of a section of this kind.
+fn section_difference(section: Section) -> Option<Difference>
+    ensures { result ≡ section_difference section }
+{
+    match section {
+        Section::Extension => Some(Difference::Extension),
+        Section::Certificates | Section::Keys | Section::Sha1s | Section::Sha256s => None,
+    }
+}
+
+// The difference of a subsection of this kind.
+fn subsection_difference(subsection: Subsection) -> Option<Difference>
+    ensures { result ≡ subsection_difference subsection }
+{
+    match subsection {
+        Subsection::Extension => Some(Difference::Extension),
+        Subsection::Serials | Subsection::Range | Subsection::Bitmap | Subsection::Ids => None,
     }
 }
 
@@ -90,7 +119,7 @@ fn table_difference(table: Table) -> Option<Difference>
     ensures { result ≡ table_difference table }
 {
     match table {
-        Table::Header => None,
+        Table::Header | Table::Certificates => None,
         Table::Signature => Some(Difference::Signature),
         Table::Extension => Some(Difference::Extension),
     }
@@ -102,6 +131,7 @@ fn text_difference(row: Field, text: &[u8]) -> Option<Difference>
 {
     match row {
         Field::Comment => comment_difference(text),
+        Field::Authority => authority_difference(text),
         Field::Magic
         | Field::FormatVersion
         | Field::Version
@@ -110,6 +140,7 @@ fn text_difference(row: Field, text: &[u8]) -> Option<Difference>
         | Field::Reserved
         | Field::SignatureKey
         | Field::SignatureBytes
+        | Field::CertificatesReserved
         | Field::ExtensionName
         | Field::Critical
         | Field::ExtensionContents => None,
@@ -131,18 +162,6 @@ fn has_zero(text: &[u8]) -> bool
     text.contains(&0)
 }
 
-// The difference of a field of a list of strings.
-fn list_difference(at: ListPlace, field: &[u8]) -> Option<Difference>
-    ensures { result ≡ list_difference at field.now }
-{
-    match at {
-        ListPlace::Item { kind, .. } => item_difference(kind, field),
-        ListPlace::SectionLength { .. }
-        | ListPlace::IdsLength { .. }
-        | ListPlace::ItemLength { .. } => None,
-    }
-}
-
 // The difference of a string of a list.
 fn item_difference(kind: ItemKind, text: &[u8]) -> Option<Difference>
     ensures { result ≡ item_difference kind text.now }
@@ -150,20 +169,6 @@ fn item_difference(kind: ItemKind, text: &[u8]) -> Option<Difference>
     match kind {
         ItemKind::Id => found_if(has_zero(text), Difference::KeyId),
         ItemKind::Key | ItemKind::Sha1 | ItemKind::Sha256 => None,
-    }
-}
-
-// The difference of a field of a section of certificates.
-fn certificates_difference(at: CertificatesPlace, field: &[u8]) -> Option<Difference>
-    ensures { result ≡ certificates_difference at field.now }
-{
-    match at {
-        CertificatesPlace::Authority { .. } => authority_difference(field),
-        CertificatesPlace::SectionLength
-        | CertificatesPlace::AuthorityLength { .. }
-        | CertificatesPlace::ReservedLength { .. }
-        | CertificatesPlace::Reserved { .. }
-        | CertificatesPlace::SubsectionType { .. } => None,
     }
 }
 
@@ -189,37 +194,6 @@ fn judgement_difference(judgement: Judgement) -> Option<Difference>
         Judgement::Accepted => None,
         Judgement::Short | Judgement::Long => Some(Difference::KeySize),
         Judgement::Point => Some(Difference::Point),
-    }
-}
-
-// The difference of a serial number, or of the first one of a range.
-fn serials_difference(at: SerialsPlace, field: &[u8]) -> Option<Difference>
-    requires { length field.now ≡ (serials_expected at).size }
-    ensures { result ≡ serials_difference at field.now }
-{
-    match at {
-        SerialsPlace::Serial { .. } | SerialsPlace::RangeMin { .. } => {
-            found_if(u64_of(field) == 0, Difference::SerialZero)
-        }
-        SerialsPlace::SerialsLength { .. }
-        | SerialsPlace::RangeLength { .. }
-        | SerialsPlace::RangeMax { .. } => None,
-    }
-}
-
-// The difference of a field of a bitmap.
-fn bitmap_difference(at: BitmapPlace, field: &[u8]) -> Option<Difference>
-    requires { length field.now ≡ (bitmap_expected at).size }
-    ensures { result ≡ bitmap_difference at field.now }
-{
-    match at {
-        BitmapPlace::Byte {
-            offset,
-            size,
-            left,
-            ..
-        } => bits_difference(offset, size, left, byte_of(field)),
-        BitmapPlace::Length { .. } | BitmapPlace::Offset { .. } | BitmapPlace::Size { .. } => None,
     }
 }
 

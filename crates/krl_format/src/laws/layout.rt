@@ -7,7 +7,7 @@ ghost use Rattle.ssh_wire.specs.Wire.{number};
 ghost use Rattle.krl_format.specs.Field.{magic_number};
 ghost use Rattle.krl_format.specs.Krl.{SpellsFields, authority_fields, extension_fields};
 ghost use Rattle.krl_format.specs.Krl.{header_fields, header_of, magic, signature_fields};
-ghost use Rattle.krl_format.specs.Layout.{BeginsWithAuthority, BeginsWithHeader};
+ghost use Rattle.krl_format.specs.Layout.{BeginsWithAuthority, BeginsWithHeader, HaveTheseTypes};
 ghost use Rattle.krl_format.specs.Layout.{IsExtensionText, IsSignatureText};
 ghost use Rattle.krl_format.specs.declared.header.Header.{Header};
 
@@ -48,4 +48,9 @@ pub fn authority_is_these_bytes()
     ensures spells { (content authority rest : List ℕ) → BeginsWithAuthority content authority rest
         → (values : List (List ℕ)) × Leads authority_fields [] content values rest
         × (slice_index_or values 0 [] ≡ authority) }
+{}
+
+/// The rows of sections and subsections have these type bytes.
+pub fn types_are_these_bytes()
+    ensures { HaveTheseTypes }
 {}

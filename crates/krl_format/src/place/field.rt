@@ -13,11 +13,13 @@ use crate::judging::{judge, next_subsection, rest, within};
 use crate::place::Place;
 use krl_types::{KrlFault, byte_of, u32_of, u64_of};
 
-/// A table of fields. Only an extension is inside a part that has a length.
+/// A table of fields. The last two are inside a part that has a length: an extension fills its
+/// part, and subsections follow the fields of a section of certificates.
 #[derive(Clone, Copy)]
 pub enum Table {
     Header,
     Signature,
+    Certificates,
     Extension,
 }
 
@@ -33,6 +35,8 @@ pub enum Field {
     Comment,
     SignatureKey,
     SignatureBytes,
+    Authority,
+    CertificatesReserved,
     ExtensionName,
     Critical,
     ExtensionContents,
@@ -67,7 +71,7 @@ impl Field {
         ensures next { result.2 ≡ (row_of self).next }
     {
         use FieldPart::{Number, Text};
-        use Table::{Extension, Header, Signature};
+        use Table::{Certificates, Extension, Header, Signature};
         match self {
             Field::Magic => (Header, Number(8), Some(Field::FormatVersion)),
             Field::FormatVersion => (Header, Number(4), Some(Field::Version)),
@@ -78,6 +82,8 @@ impl Field {
             Field::Comment => (Header, Text, None),
             Field::SignatureKey => (Signature, Text, Some(Field::SignatureBytes)),
             Field::SignatureBytes => (Signature, Text, None),
+            Field::Authority => (Certificates, Text, Some(Field::CertificatesReserved)),
+            Field::CertificatesReserved => (Certificates, Text, None),
             Field::ExtensionName => (Extension, Text, Some(Field::Critical)),
             Field::Critical => (Extension, Number(1), Some(Field::ExtensionContents)),
             Field::ExtensionContents => (Extension, Text, None),
@@ -90,7 +96,7 @@ impl Field {
     {
         match self.row().0 {
             Table::Header => true,
-            _ => false,
+            Table::Signature | Table::Certificates | Table::Extension => false,
         }
     }
 
@@ -102,8 +108,8 @@ impl Field {
     {
         let (table, part, _) = self.row();
         match table {
-            Table::Extension => (part.size(), Some(left)),
-            _ => (part.size(), None),
+            Table::Certificates | Table::Extension => (part.size(), Some(left)),
+            Table::Header | Table::Signature => (part.size(), None),
         }
     }
 
@@ -119,6 +125,7 @@ impl Field {
         match table {
             Table::Header => Place::SectionType { signed: false },
             Table::Signature => Place::SectionType { signed: true },
+            Table::Certificates => next_subsection(left),
             Table::Extension => next_subsection(after),
         }
     }
@@ -163,16 +170,6 @@ impl Field {
         let (table, _, next) = self.row();
         let (field, inner) = (self, rest(left, size));
         match (table, next) {
-            (Table::Extension, Some(_)) => within(
-                left,
-                size,
-                Ok(Place::Content {
-                    field,
-                    size,
-                    left: inner,
-                    after,
-                }),
-            ),
             (Table::Extension, None) => judge(
                 size == left - 4,
                 KrlFault::Length,
@@ -183,7 +180,17 @@ impl Field {
                     after,
                 },
             ),
-            _ => Ok(Place::Content {
+            (Table::Certificates | Table::Extension, _) => within(
+                left,
+                size,
+                Ok(Place::Content {
+                    field,
+                    size,
+                    left: inner,
+                    after,
+                }),
+            ),
+            (Table::Header | Table::Signature, _) => Ok(Place::Content {
                 field,
                 size,
                 left,
