@@ -3,6 +3,8 @@ use Rattle.krl_plan.proofs.Common.{[], ◌++◌, ◌+◌, ◌-◌, ◌<◌, ◌�
 use Rattle.krl_plan.proofs.Common.{bitmap_of, first_of, get_or, length, length-append}
 use Rattle.krl_plan.proofs.Common.{length-number, length-string, List, number, reach, refl, Span}
 use Rattle.krl_plan.proofs.Common.{string, suc, sym, take, take_all, zero, ℕ}
+use Rattle.krl_plan.specs.Written.{type_byte}
+use Rattle.krl_plan.specs.declared.group.Sort.TheVariants as sorts
 use Rattle.krl_plan.proofs.Reach.{reach-take}
 
 pub first-get : (runs : List Span) (d : Span) → 0 < length runs
@@ -33,11 +35,11 @@ subsection_put out kind size content len =
     ∙ ap (λ (n : ℕ). out ++ kind ∷ (number 4 n ++ content)) (sym len)
 
 pub range_put : (out : List ℕ) (lo hi : ℕ)
-    → (((out ++ 0x21 ∷ []) ++ number 4 16) ++ number 8 lo) ++ number 8 hi ≡ out ++ 0x21 ∷ string
+    → (((out ++ type_byte sorts.Range ∷ []) ++ number 4 16) ++ number 8 lo) ++ number 8 hi ≡ out ++ type_byte sorts.Range ∷ string
     (number 8 lo ++ number 8 hi)
 range_put out lo hi =
-    append_assoc ((out ++ 0x21 ∷ []) ++ number 4 16) (number 8 lo) (number 8 hi)
-    ∙ subsection_put out 0x21 16 (number 8 lo ++ number 8 hi)
+    append_assoc ((out ++ type_byte sorts.Range ∷ []) ++ number 4 16) (number 8 lo) (number 8 hi)
+    ∙ subsection_put out (type_byte sorts.Range) 16 (number 8 lo ++ number 8 hi)
     (omega (
       arith,
       length-append (number 8 lo) (number 8 hi),
@@ -46,17 +48,17 @@ range_put out lo hi =
     ))
 
 pub bitmap_put : (out : List ℕ) (first size : ℕ) (bits : List ℕ) → length bits ≡ size
-    → ((((out ++ 0x22 ∷ []) ++ number 4 (12 + size)) ++ number 8 first) ++ number 4 size)
-    ++ bits ≡ out ++ 0x22 ∷ string (number 8 first ++ string bits)
+    → ((((out ++ type_byte sorts.Bitmap ∷ []) ++ number 4 (12 + size)) ++ number 8 first) ++ number 4 size)
+    ++ bits ≡ out ++ type_byte sorts.Bitmap ∷ string (number 8 first ++ string bits)
 unfolding string
 bitmap_put out first size bits len =
     let inner : number 4 size ++ bits ≡ string bits =
     ap (λ (n : ℕ). number 4 n ++ bits) (sym len) in
-    let before : List ℕ = (out ++ 0x22 ∷ []) ++ number 4 (12 + size) in
+    let before : List ℕ = (out ++ type_byte sorts.Bitmap ∷ []) ++ number 4 (12 + size) in
     append_assoc (before ++ number 8 first) (number 4 size) bits
     ∙ append_assoc before (number 8 first) (number 4 size ++ bits)
     ∙ ap (λ (t : List ℕ). before ++ (number 8 first ++ t)) inner
-    ∙ subsection_put out 0x22 (12 + size) (number 8 first ++ string bits)
+    ∙ subsection_put out (type_byte sorts.Bitmap) (12 + size) (number 8 first ++ string bits)
     (omega (
       arith,
       length-append (number 8 first) (string bits),

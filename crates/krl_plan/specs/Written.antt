@@ -6,6 +6,8 @@ use Rattle.std.specs.List.{flat_map}
 use Rattle.serial_set.specs.declared.span.Span.{Span}
 use Rattle.serial_set.specs.Span.{has}
 use Rattle.ssh_wire.specs.Wire.{number, string}
+use Rattle.krl_format.specs.Section.{subsection_row}
+use Rattle.krl_format.specs.declared.section.Subsection.TheVariants as subsection_kinds
 use Rattle.krl_plan.specs.declared.group.Sort.{Sort}
 use Rattle.krl_plan.specs.declared.group.Sort.TheVariants.{Serials, Range, Bitmap}
 use Rattle.krl_plan.specs.declared.group.Group.{Group}
@@ -45,9 +47,9 @@ bitmap_size runs = (reach runs + 1) / 8 + 1
 -- ---- groups
 
 abbrev pub type_byte : Sort → ℕ
-type_byte Serials = 0x20
-type_byte Range = 0x21
-type_byte Bitmap = 0x22
+type_byte Serials = (subsection_row subsection_kinds.Serials).type_byte
+type_byte Range = (subsection_row subsection_kinds.Range).type_byte
+type_byte Bitmap = (subsection_row subsection_kinds.Bitmap).type_byte
 
 -- the content of a subsection that names these runs
 abbrev pub content_of : Sort → List Span → List ℕ

@@ -11,6 +11,7 @@ ghost use Rattle.krl_plan.specs.Written.{group_text, serials_of};
 use crate::bitmap::put_bits;
 use crate::group::Sort;
 use crate::string::{begin_string, end_string};
+use krl_format::{BITMAP, RANGE, SERIALS};
 use serial_set::Span;
 use ssh_wire::{put_byte, put_u32, put_u64};
 use std::alloc::AllocError;
@@ -35,7 +36,7 @@ fn put_listed(out: &mut Vec<u8>, runs: &[Span]) -> Result<(), AllocError>
     requires allowed { Allows Serials runs.now }
     ensures { OnOk result (out.new.items ≡ out.old.items ++ group_text Serials runs.now) }
 {
-    let at = begin_string(out, 0x20)?;
+    let at = begin_string(out, SERIALS)?;
     for run in runs {
         put_serials(out, *run)?;
     }
@@ -63,7 +64,7 @@ fn put_range(out: &mut Vec<u8>, runs: &[Span]) -> Result<(), AllocError>
     requires allowed { Allows Range runs.now }
     ensures { OnOk result (out.new.items ≡ out.old.items ++ group_text Range runs.now) }
 {
-    put_byte(out, 0x21)?;
+    put_byte(out, RANGE)?;
     put_u32(out, 16)?;
     put_u64(out, runs[0].lo)?;
     put_u64(out, runs[0].hi)?;
@@ -78,7 +79,7 @@ fn put_bitmap(out: &mut Vec<u8>, runs: &[Span]) -> Result<(), AllocError>
     ensures { OnOk result (out.new.items ≡ out.old.items ++ group_text Bitmap runs.now) }
 {
     let size = (reach_of(runs) as u32 + 1) / 8 + 1;
-    put_byte(out, 0x22)?;
+    put_byte(out, BITMAP)?;
     put_u32(out, 12 + size)?;
     put_u64(out, runs[0].lo)?;
     put_u32(out, size)?;

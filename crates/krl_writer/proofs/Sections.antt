@@ -1,4 +1,5 @@
 -- The sections of a written list are spelled, one after another.
+use Rattle.krl_writer.specs.KrlText.{ids_type, keys_type, sha1s_type, sha256s_type}
 use Rattle.krl_writer.proofs.Common.{[], ◌++◌, ◌+◌, ◌<◌, ◌^◌, ◌∷◌, ◌≡◌, ◌≤◌, All, All-tail}
 use Rattle.krl_writer.proofs.Common.{arith, authorities_text}
 use Rattle.krl_writer.proofs.Common.{authority_content, authority_sections, authority_text}
@@ -19,14 +20,14 @@ use Rattle.krl_writer.proofs.Spelling.{each_append, listed_spelled, plan_spelled
 -- ---- an authority
 
 pub length-authority : (plan : List Group) (listed : Section) →
-    length (authority_content plan listed) ≡ 8 + length listed.authority + length (plan_text listed.spans plan) + length (listed_text 0x23 listed.ids)
+    length (authority_content plan listed) ≡ 8 + length listed.authority + length (plan_text listed.spans plan) + length (listed_text ids_type listed.ids)
 length-authority plan listed =
-    let subsections : List ℕ = plan_text listed.spans plan ++ listed_text 0x23 listed.ids in
+    let subsections : List ℕ = plan_text listed.spans plan ++ listed_text ids_type listed.ids in
     omega (
       arith,
       length-append (string listed.authority) (string [] ++ subsections),
       length-append (string []) subsections,
-      length-append (plan_text listed.spans plan) (listed_text 0x23 listed.ids),
+      length-append (plan_text listed.spans plan) (listed_text ids_type listed.ids),
       length-string listed.authority,
       length-string [],
     )
@@ -43,12 +44,12 @@ authority_spelled plan listed is p lt =
       fits = omega arith;
       content_is = record {
         values = listed.authority ∷ [] ∷ [];
-        body = plan_text listed.spans plan ++ listed_text 0x23 listed.ids;
+        body = plan_text listed.spans plan ++ listed_text ids_type listed.ids;
         fields = (listed.authority, _, record { is_part = omega arith; spelled = refl }, refl, ([], _, record { is_part = omega arith; spelled = refl }, refl, (refl, refl)));
         authority_is = refl;
-        subsections_are = each_append SpellsSubsection (plan_text listed.spans plan) (listed_text 0x23 listed.ids) (plan_subsections listed.spans plan) (listed_as Ids listed.ids)
+        subsections_are = each_append SpellsSubsection (plan_text listed.spans plan) (listed_text ids_type listed.ids) (plan_subsections listed.spans plan) (listed_as Ids listed.ids)
             (plan_spelled listed.spans plan is.runs is.serials p)
-            (listed_spelled SpellsSubsection 0x23 Ids listed.ids (λ fits. record { content = strings listed.ids; spelled = refl; fits = fits; content_is = refl }) (omega arith));
+            (listed_spelled SpellsSubsection ids_type Ids listed.ids (λ fits. record { content = strings listed.ids; spelled = refl; fits = fits; content_is = refl }) (omega arith));
       };
     }
 
@@ -109,11 +110,11 @@ text_spelled header plans r version date orderly each short =
     let values = header_values header in
     let fields : List ℕ = row_text header_fields values in
     let body : List ℕ = sections_text plans r in
-    let hashes : List ℕ = listed_text 3 r.sha1s ++ listed_text 5 r.sha256s in
+    let hashes : List ℕ = listed_text sha1s_type r.sha1s ++ listed_text sha256s_type r.sha256s in
     let whole = length-append head body in
-    let parts = length-append (authorities_text plans r.sections) (listed_text 2 r.keys ++ hashes) in
-    let keys = length-append (listed_text 2 r.keys) hashes in
-    let both = length-append (listed_text 3 r.sha1s) (listed_text 5 r.sha256s) in
+    let parts = length-append (authorities_text plans r.sections) (listed_text keys_type r.keys ++ hashes) in
+    let keys = length-append (listed_text keys_type r.keys) hashes in
+    let both = length-append (listed_text sha1s_type r.sha1s) (listed_text sha256s_type r.sha256s) in
     let comment = length-header header in
     record {
       values = values;
@@ -122,12 +123,12 @@ text_spelled header plans r version date orderly each short =
           (row_led header_fields [] values (search (arith, version, date, comment, short)));
       header_is = refl;
       sections_are =
-          each_append SpellsSection (authorities_text plans r.sections) (listed_text 2 r.keys ++ hashes) (authority_sections plans r.sections) (listed_as Keys r.keys ++ (listed_as Sha1s r.sha1s ++ listed_as Sha256s r.sha256s))
+          each_append SpellsSection (authorities_text plans r.sections) (listed_text keys_type r.keys ++ hashes) (authority_sections plans r.sections) (listed_as Keys r.keys ++ (listed_as Sha1s r.sha1s ++ listed_as Sha256s r.sha256s))
           (authorities_spelled plans r.sections orderly.listed each (omega arith))
-          (each_append SpellsSection (listed_text 2 r.keys) hashes (listed_as Keys r.keys) (listed_as Sha1s r.sha1s ++ listed_as Sha256s r.sha256s)
-          (listed_spelled SpellsSection 2 Keys r.keys (λ fits. record { content = strings r.keys; spelled = refl; fits = fits; content_is = refl }) (omega arith))
-          (each_append SpellsSection (listed_text 3 r.sha1s) (listed_text 5 r.sha256s) (listed_as Sha1s r.sha1s) (listed_as Sha256s r.sha256s)
-          (listed_spelled SpellsSection 3 Sha1s r.sha1s (λ fits. record { content = strings r.sha1s; spelled = refl; fits = fits; content_is = hashes_are 20 r.sha1s orderly.sha1_size }) (omega arith))
-          (listed_spelled SpellsSection 5 Sha256s r.sha256s (λ fits. record { content = strings r.sha256s; spelled = refl; fits = fits; content_is = hashes_are 32 r.sha256s orderly.sha256_size }) (omega arith))));
+          (each_append SpellsSection (listed_text keys_type r.keys) hashes (listed_as Keys r.keys) (listed_as Sha1s r.sha1s ++ listed_as Sha256s r.sha256s)
+          (listed_spelled SpellsSection keys_type Keys r.keys (λ fits. record { content = strings r.keys; spelled = refl; fits = fits; content_is = refl }) (omega arith))
+          (each_append SpellsSection (listed_text sha1s_type r.sha1s) (listed_text sha256s_type r.sha256s) (listed_as Sha1s r.sha1s) (listed_as Sha256s r.sha256s)
+          (listed_spelled SpellsSection sha1s_type Sha1s r.sha1s (λ fits. record { content = strings r.sha1s; spelled = refl; fits = fits; content_is = hashes_are 20 r.sha1s orderly.sha1_size }) (omega arith))
+          (listed_spelled SpellsSection sha256s_type Sha256s r.sha256s (λ fits. record { content = strings r.sha256s; spelled = refl; fits = fits; content_is = hashes_are 32 r.sha256s orderly.sha256_size }) (omega arith))));
       signatures_last = unsigned plans r.sections _ (rest_unsigned r);
     }

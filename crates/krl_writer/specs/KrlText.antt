@@ -10,9 +10,29 @@ use Rattle.krl_plan.specs.declared.group.Group.{Group}
 use Rattle.krl_entries.specs.Revocations.{Revocations, Section}
 use Rattle.krl_format.specs.Krl.{SpelledSection, Certificates, Keys, Sha1s, Sha256s, Subsection}
 use Rattle.krl_format.specs.Field.{magic_number}
+use Rattle.krl_format.specs.Section.{section_row, subsection_row}
+use Rattle.krl_format.specs.declared.section.Section.TheVariants as section_kinds
+use Rattle.krl_format.specs.declared.section.Subsection.TheVariants as subsection_kinds
 use Rattle.krl_format.specs.Krl.{Serials, Range, Bitmap, Ids, header_fields}
 use Rattle.krl_plan.specs.Plan.{IsLeastPlan, reach}
 use Rattle.krl_plan.specs.Written.{bitmap_size, bits_of, first_of, plan_text, serials_of}
+
+-- ---- type bytes
+
+abbrev pub certificates_type : ℕ
+certificates_type = (section_row section_kinds.Certificates).type_byte
+
+abbrev pub keys_type : ℕ
+keys_type = (section_row section_kinds.Keys).type_byte
+
+abbrev pub sha1s_type : ℕ
+sha1s_type = (section_row section_kinds.Sha1s).type_byte
+
+abbrev pub sha256s_type : ℕ
+sha256s_type = (section_row section_kinds.Sha256s).type_byte
+
+abbrev pub ids_type : ℕ
+ids_type = (subsection_row subsection_kinds.Ids).type_byte
 
 -- ---- texts
 
@@ -25,11 +45,11 @@ listed_text type_byte (text ∷ texts) = type_byte ∷ string (strings (text ∷
 abbrev pub authority_content : List Group → Section → List ℕ
 authority_content plan listed =
     string listed.authority
-    ++ (string [] ++ (plan_text listed.spans plan ++ listed_text 0x23 listed.ids))
+    ++ (string [] ++ (plan_text listed.spans plan ++ listed_text ids_type listed.ids))
 
 -- the section of an authority
 abbrev pub authority_text : List Group → Section → List ℕ
-authority_text plan listed = 1 ∷ string (authority_content plan listed)
+authority_text plan listed = certificates_type ∷ string (authority_content plan listed)
 
 -- the sections of authorities, with a plan for each
 abbrev pub authorities_text : List (List Group) → List Section → List ℕ
@@ -40,7 +60,7 @@ authorities_text (plan ∷ plans) (first ∷ listed) =
 
 -- the sections of keys and hashes
 abbrev pub texts_text : Revocations → List ℕ
-texts_text r = listed_text 2 r.keys ++ (listed_text 3 r.sha1s ++ listed_text 5 r.sha256s)
+texts_text r = listed_text keys_type r.keys ++ (listed_text sha1s_type r.sha1s ++ listed_text sha256s_type r.sha256s)
 
 -- all sections
 abbrev pub sections_text : List (List Group) → Revocations → List ℕ

@@ -7,6 +7,7 @@ ghost use Rattle.krl_writer.specs.InLimit.{AddsAuthorities, AddsAuthority};
 use crate::strings::{LIMIT, add_listed, add_string};
 use crate::text_fault::TextFault;
 use krl_entries::{Authorities, Texts};
+use krl_format::{CERTIFICATES, IDS};
 use krl_plan::{begin_string, end_string, put_least_plan};
 use serial_set::Spans;
 use ssh_wire::put_string;
@@ -40,14 +41,14 @@ fn add_authority<S: Spans>(
     ensures { AddsAuthority result out.old.items out.new.items
         (record { authority = authority.now; spans = S.spans spans.now; ids = ids.entry }) }
 {
-    let at = begin_string(out, 1)?;
+    let at = begin_string(out, CERTIFICATES)?;
     add_string(out, authority)?;
     put_string(out, b"")?;
     put_least_plan(alloc, out, spans)?;
     if out.len() > LIMIT {
         return Err(TextFault::TooLong);
     }
-    add_listed(out, 0x23, ids)?;
+    add_listed(out, IDS, ids)?;
     end_string(out, at);
     Ok(())
 }

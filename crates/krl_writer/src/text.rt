@@ -11,7 +11,7 @@ use crate::strings::{add_listed, add_string};
 use crate::text_fault::TextFault;
 use byte_streams::{Sink, send};
 use krl_entries::Revocations;
-use krl_format::{Header, LIMIT, MAGIC_NUMBER};
+use krl_format::{Header, KEYS, LIMIT, MAGIC_NUMBER, SHA1S, SHA256S};
 use serial_set::Spans;
 use ssh_wire::{put_string, put_u32, put_u64};
 use std::alloc::Global;
@@ -68,9 +68,9 @@ fn add_texts<S: Spans>(out: &mut Vec<u8>, revocations: &Revocations<S>) -> Resul
     requires { length out.old.items ≤ limit }
     ensures { AddsAtMost result out.old.items out.new.items (texts_text revocations.now) }
 {
-    add_listed(out, 2, revocations.iter_keys())?;
-    add_listed(out, 3, revocations.iter_sha1s())?;
-    add_listed(out, 5, revocations.iter_sha256s())?;
+    add_listed(out, KEYS, revocations.iter_keys())?;
+    add_listed(out, SHA1S, revocations.iter_sha1s())?;
+    add_listed(out, SHA256S, revocations.iter_sha256s())?;
     Ok(())
 }
 

@@ -3,6 +3,8 @@ use Rattle.krl_plan.proofs.Common.{number, runs_at, serials_of, Span, sym, take,
 use Rattle.krl_plan.proofs.ListTexts.{all_listed, length-begun, length-listed, listed_more}
 use Rattle.krl_plan.proofs.ListTexts.{small_few, string_ended}
 use Rattle.krl_plan.proofs.ZeroSpan.{zero_span}
+use Rattle.krl_plan.specs.Written.{type_byte}
+use Rattle.krl_plan.specs.declared.group.Sort.TheVariants as sorts
 use Rattle.krl_plan.proofs.group_text.put_listed.Goals as goal
 
 pub put_serials-requires-clause-ordered : goal.put_serials-requires-clause-ordered
@@ -22,7 +24,7 @@ pub end_string-requires-clause-within : goal.end_string-requires-clause-within
 end_string-requires-clause-within c =
     let content : List ℕ = flat_map (number 8) (serials_of c.args.runs.now) in
     let out = all_listed c.args.runs.now c.loop-run.run-index c.begin_string.new.out.items c.loop-run.out.items c.loop-run-test.false c.loop-run.invariant in
-    omega (arith, length-begun c.args.out.now.items c.begin_string.new.out.items content c.loop-run.out.items 0x20 c.in_ok-at.ensures.1 out, c.in_ok-at.ensures.0)
+    omega (arith, length-begun c.args.out.now.items c.begin_string.new.out.items content c.loop-run.out.items (type_byte sorts.Serials) c.in_ok-at.ensures.1 out, c.in_ok-at.ensures.0)
 
 pub end_string-requires-clause-fits : goal.end_string-requires-clause-fits
 end_string-requires-clause-fits c =
@@ -30,7 +32,7 @@ end_string-requires-clause-fits c =
     let out = all_listed c.args.runs.now c.loop-run.run-index c.begin_string.new.out.items c.loop-run.out.items c.loop-run-test.false c.loop-run.invariant in
     omega (
       arith,
-      length-begun c.args.out.now.items c.begin_string.new.out.items content c.loop-run.out.items 0x20 c.in_ok-at.ensures.1 out,
+      length-begun c.args.out.now.items c.begin_string.new.out.items content c.loop-run.out.items (type_byte sorts.Serials) c.in_ok-at.ensures.1 out,
       c.in_ok-at.ensures.0,
       length-listed c.args.runs.now,
       small_few c.args.runs.now c.requires.allowed.1,
@@ -41,4 +43,4 @@ pub returns : goal.returns
 returns c =
     let content : List ℕ = flat_map (number 8) (serials_of c.args.runs.now) in
     let out = all_listed c.args.runs.now c.loop-run.run-index c.begin_string.new.out.items c.loop-run.out.items c.loop-run-test.false c.loop-run.invariant in
-    c.end_string.ensures ∙ string_ended c.args.out.now.items c.begin_string.new.out.items content c.loop-run.out.items 0x20 _ c.in_ok-at.ensures.1 out c.in_ok-at.ensures.0
+    c.end_string.ensures ∙ string_ended c.args.out.now.items c.begin_string.new.out.items content c.loop-run.out.items (type_byte sorts.Serials) _ c.in_ok-at.ensures.1 out c.in_ok-at.ensures.0
