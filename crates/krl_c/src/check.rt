@@ -1,11 +1,10 @@
 //! Queries of a list for a blob while it is streamed: only the answers to the query are stored.
 
-ghost use Rattle.std.specs.Prelude.{◌≡◌, ◌⊎◌, ◌↔◌, List, IfOk, IfErr, IsTrue, OnOk};
+ghost use Rattle.std.specs.Prelude.{◌≡◌, ◌⊎◌, List, IfOk, IfErr, OnOk};
 ghost use Rattle.krl_types.specs.declared.krl_fault.KrlFault.TheVariants.{NoMemory};
 ghost use Rattle.krl_types.specs.Entry.{Entry};
 ghost use Rattle.krl_format.specs.Front.{IsFirstFault};
 ghost use Rattle.krl_queries.specs.Questions.{Asks, asked_in};
-ghost use Rattle.krl_entries.specs.Revoked.{Revoked};
 ghost use Rattle.krl_entries.specs.Scope.{MeansInScope};
 ghost use Rattle.plain_list.specs.Any.{IsListOf};
 ghost use Rattle.krl_c.specs.Answer.{Answers, AnswersOfLine, IsCompared, IsRefusal};
@@ -27,9 +26,14 @@ pub(crate) fn ask_list(alloc: Global, list: &[u8], blob: &[u8]) -> i32
     ensures { Answers list.now blob.now result }
 {
     match subject(alloc, blob) {
-        Ok(asked) => match revokes(alloc, list, &asked) {
-            Ok(true) => REVOKED,
-            Ok(false) => FINE,
+        Ok(asked) => match compared(alloc, list, &asked) {
+            Ok(questions) => {
+                if questions.answer(&asked) {
+                    REVOKED
+                } else {
+                    FINE
+                }
+            }
             Err(refusal) => of_list(refusal),
         },
         Err(fault) => match judge(alloc, list) {
@@ -52,16 +56,22 @@ pub(crate) fn ask_list_of_line(alloc: Global, list: &[u8], line: &[u8]) -> i32
     }
 }
 
-// Returns true if a list revokes the key of the query, or why it gives no answer.
-fn revokes(alloc: Global, list: &[u8], asked: &Subject) -> Result<bool, Refusal>
-    ensures answer { IfOk result (λ revoked. (entries : List Entry)
-        × IsCompared list.now entries × (IsTrue revoked ↔ Revoked entries asked.now)) }
+// Streams a list whose authorities can be compared, or returns why it gives no answer.
+pub(crate) fn compared(
+    alloc: Global,
+    list: &[u8],
+    asked: &Subject,
+) -> Result<Questions<Held>, Refusal>
+    ensures found { IfOk result (λ questions. (entries : List Entry)
+        × IsCompared list.now entries
+        × MeansInScope (asked_in questions) questions.found entries) }
+    ensures asked { IfOk result (λ questions. Asks questions.topics asked.now) }
     ensures refused { IfErr result (λ refusal. IsRefusal list.now refusal) }
 {
     match stream(alloc, list, asked) {
         Ok(questions) => {
             if authorities_are_keys(list) {
-                Ok(questions.answer(asked))
+                Ok(questions)
             } else {
                 Err(Refusal::Authority)
             }
@@ -71,11 +81,7 @@ fn revokes(alloc: Global, list: &[u8], asked: &Subject) -> Result<bool, Refusal>
 }
 
 // Streams a list, and stores only the answers to the query.
-pub(crate) fn stream(
-    alloc: Global,
-    list: &[u8],
-    asked: &Subject,
-) -> Result<Questions<Held>, KrlFault>
+fn stream(alloc: Global, list: &[u8], asked: &Subject) -> Result<Questions<Held>, KrlFault>
     ensures found { IfOk result (λ questions. (entries : List Entry)
         × IsListOf list.now entries × MeansInScope (asked_in questions) questions.found entries) }
     ensures asked { IfOk result (λ questions. Asks questions.topics asked.now) }

@@ -5,20 +5,20 @@ use Rattle.krl_c.proofs.Common.{sym, w32}
 use Rattle.krl_c.proofs.AnswerMeaning.{list_refused, refused, same}
 use Rattle.krl_c.proofs.check.ask_list.Goals as goal
 
-pub returns-in-Ok-true : goal.returns-in-Ok-true
-returns-in-Ok-true c =
-    let found = c.in-Ok-true.ensures.answer in
-    answered found.0 found.1 (said c.in-Ok.asked c.in-Ok.ensures.found (names (found.2.0 c.in-Ok-true.field-0-test) refl))
+pub returns-then-answer : goal.returns-then-answer
+returns-then-answer c =
+    let found = c.in-Ok-compared.ensures.found in
+    answered found.0 found.1 (said c.in-Ok.asked c.in-Ok.ensures.found (names ((c.answer.ensures.meant found.0 found.2).0 c.if-answer.true) refl))
 
-pub returns-in-Ok-false : goal.returns-in-Ok-false
-returns-in-Ok-false c =
-    let found = c.in-Ok-false.ensures.answer in
-    answered found.0 found.1 (said c.in-Ok.asked c.in-Ok.ensures.found (spares (λ is. false≢true (sym c.in-Ok-false.field-0-test ∙ found.2.1 is)) refl))
+pub returns-in-Ok-compared : goal.returns-in-Ok-compared
+returns-in-Ok-compared c =
+    let found = c.in-Ok-compared.ensures.found in
+    answered found.0 found.1 (said c.in-Ok.asked c.in-Ok.ensures.found (spares (λ is. false≢true (sym c.if-answer.false ∙ (c.answer.ensures.meant found.0 found.2).1 is)) refl))
 
 pub returns-in-Ok : goal.returns-in-Ok
 returns-in-Ok c =
     let fits : SFits w32 c.of_list.result = search rules in
-    list_refused c.args.list.now c.in-Err-revokes.refusal _ c.in-Err-revokes.ensures.refused (same c.of_list.result fits ∙ c.of_list.ensures)
+    list_refused c.args.list.now c.in-Err-compared.refusal _ c.in-Err-compared.ensures.refused (same c.of_list.result fits ∙ c.of_list.ensures)
 
 pub returns-in-Ok-judge : goal.returns-in-Ok-judge
 returns-in-Ok-judge c =

@@ -7,18 +7,18 @@ use Rattle.krl_c.proofs.ReasonBits.{has_reasons, unexplained}
 use Rattle.krl_c.proofs.AnswerMeaning.{list_refused, same}
 use Rattle.krl_c.proofs.why.explain_list.Goals as goal
 
-pub returns-in-Ok-explain : goal.returns-in-Ok-explain
-returns-in-Ok-explain c =
-    let found = c.in-Ok-explain.ensures.reasons in
-    let all = c.in-Ok-explain.reasons in
-    let has = has_reasons found.0 c.in-Ok.asked all c.in-Ok-explain.ensures.small found.2 in
+pub returns-in-Ok-compared : goal.returns-in-Ok-compared
+returns-in-Ok-compared c =
+    let found = c.in-Ok-compared.ensures.found in
+    let all = c.reasons.result in
+    let has = has_reasons found.0 c.in-Ok.asked all c.reasons.ensures.small (c.reasons.ensures.meant found.0 found.2) in
     let fits : all.bits < 2 ^ 31 = omega (arith, has.within) in
     answered found.0 found.1 (explained c.in-Ok.asked all.bits c.in-Ok.ensures.found has (to_z_pos w32 all.bits fits))
 
 pub returns-in-Ok : goal.returns-in-Ok
 returns-in-Ok c =
     let fits : SFits w32 c.of_list.result = search rules in
-    list_refused c.args.list.now c.in-Err-explain.refusal _ c.in-Err-explain.ensures.refused (same c.of_list.result fits ∙ c.of_list.ensures)
+    list_refused c.args.list.now c.in-Err-compared.refusal _ c.in-Err-compared.ensures.refused (same c.of_list.result fits ∙ c.of_list.ensures)
 
 pub returns-in-Ok-judge : goal.returns-in-Ok-judge
 returns-in-Ok-judge c =
