@@ -1,14 +1,11 @@
 -- The result of reading a file.
 use Rattle.std.specs.Prelude.{◌≡◌, ℕ, ◌≤◌, ◌<◌, Bool, true, false, List, Option, Result, Ok, Err}
 use Rattle.std.specs.Io.KnownBytes.{IsAtEnd}
+use Rattle.key_files.specs.Named.{file_limit}
 use Rattle.krl_audit.specs.declared.why.Refusal.{Refusal}
 use Rattle.krl_audit.specs.declared.why.Refusal.TheVariants.{Missing, Denied, Irregular, Loop}
 use Rattle.krl_audit.specs.declared.why.Refusal.TheVariants.{DirectoryLink, NoFile, LongName}
 use Rattle.krl_audit.specs.declared.why.Refusal.TheVariants.{Slow, Open, Read, TooLong}
-
--- the most bytes that a file may have
-abbrev pub file_limit : ℕ
-file_limit = 16777216
 
 -- This many bytes came from a reader that has these bytes left and failed or not: all that it had,
 -- or too many, or those before it failed.

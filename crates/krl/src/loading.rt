@@ -6,7 +6,7 @@ ghost use Rattle.std.specs.Io.KnownBytes.{Consumes};
 ghost use Rattle.krl.specs.Loading.{IsRead};
 
 use byte_streams::{FromRead, Pull, Source};
-use key_files::{Cause, FileFault, cause_of};
+use key_files::{Cause, FileFault, LIMIT, cause_of};
 use krl_audit::Refusal;
 use krl_core::{KrlFault, LIMIT as LIST_LIMIT};
 use ssh_wire::Bytes;
@@ -14,8 +14,6 @@ use std::alloc::AllocError;
 use std::fs::{self, File};
 use std::io::{self, ErrorKind, Read, Seek, SeekFrom};
 
-// The most bytes that a file may have.
-const LIMIT: u64 = 16_777_216;
 // How many bytes of a file are read at a time.
 const BATCH: usize = 8_192;
 // How many bytes of a file tell whether it begins as a private key file.

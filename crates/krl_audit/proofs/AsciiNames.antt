@@ -5,8 +5,8 @@ use Rattle.std.proofs.lemmas.Bool.{and_parts, cases_eq, cases_lt}
 use Rattle.std.proofs.lemmas.List.{get_or_past}
 use Rattle.std.proofs.lemmas.Str.{IsAscii-append, IsUtf8-from_ascii, encode_ascii}
 use Rattle.std.proofs.lemmas.Str.Ascii.{IsAscii-cons, IsAscii-nil}
-use Rattle.ssh_cert.specs.Escape.{hex_digit}
-use Rattle.krl_audit.specs.Visible.{numbered, visible_byte, visible_bytes, visible_char}
+use Rattle.ssh_cert.specs.Escape.{hex_digit, numbered}
+use Rattle.krl_audit.specs.Visible.{visible_byte, visible_bytes, visible_char}
 
 abbrev digits_below : ℕ → Bool
 digits_below zero = true

@@ -13,11 +13,11 @@ use Rattle.base64.specs.Engines.{standard_no_pad}
 use Rattle.base64.specs.GeneralPurpose.{engine_symbols}
 use Rattle.base64.specs.Rfc4648.{encode_group, encode_symbols}
 use Rattle.sha2.specs.Sha256.{sha256}
-use Rattle.ssh_cert.specs.Escape.{hex_digit}
+use Rattle.ssh_cert.specs.Escape.{hex_digit, numbered}
 use Rattle.key_text.specs.Fingerprints.{fingerprint_text, unpadded}
 use Rattle.key_text.specs.declared.hash.Hash.TheVariants.{Sha256}
 use Rattle.krl_audit.specs.Colour.{HasNoEscape}
-use Rattle.krl_audit.specs.Visible.{numbered, visible, visible_byte, visible_bytes, visible_char}
+use Rattle.krl_audit.specs.Visible.{visible, visible_byte, visible_bytes, visible_char}
 
 abbrev is_escape : ℕ → Bool
 is_escape byte = byte == 27

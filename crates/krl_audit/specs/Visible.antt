@@ -1,15 +1,11 @@
 -- Texts as they are shown: a control character is shown by its number, so a terminal does not obey
 -- it.
-use Rattle.std.specs.Prelude.{ℕ, ◌/◌, ◌%◌, ◌==◌, ◌||◌, ◌&&◌, Bool, List, [], ◌∷◌, nat_lt}
+use Rattle.std.specs.Prelude.{ℕ, ◌==◌, ◌||◌, ◌&&◌, Bool, List, [], ◌∷◌, nat_lt}
 use Rattle.std.specs.Prelude.{if◌then◌else◌}
 use Rattle.std.specs.Char.{encode_utf8, is_control}
 use Rattle.std.specs.List.{flat_map}
 use Rattle.std.specs.Str.{chars, is_utf8}
-use Rattle.ssh_cert.specs.Escape.{hex_digit}
-
--- `\x` and two hexadecimal digits
-abbrev pub numbered : ℕ → List ℕ
-numbered code = 92 ∷ 120 ∷ hex_digit (code / 16) ∷ hex_digit (code % 16) ∷ []
+use Rattle.ssh_cert.specs.Escape.{numbered}
 
 -- between quotes, a quote and a backslash have a backslash before them
 unfoldable pub visible_char : Bool → ℕ → List ℕ

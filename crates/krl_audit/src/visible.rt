@@ -3,14 +3,12 @@
 ghost use Rattle.std.specs.Prelude.{◌≡◌, ◌++◌, ◌<◌, IfOk, OnOk, false, string_bytes};
 ghost use Rattle.std.specs.List.{flat_map};
 ghost use Rattle.std.specs.Str.{chars};
-ghost use Rattle.krl_audit.specs.Visible.{numbered, visible, visible_byte, visible_bytes};
-ghost use Rattle.krl_audit.specs.Visible.{visible_char};
+ghost use Rattle.krl_audit.specs.Visible.{visible, visible_byte, visible_bytes, visible_char};
 
 use line_pieces::Printed;
+use ssh_cert::push_numbered;
 use std::alloc::{AllocError, Global};
 use std::str;
-
-const DIGITS: &[u8; 16] = b"0123456789abcdef";
 
 /// A text that anyone may have written, and whether it stands between quotes.
 #[derive(Clone, Copy)]
@@ -75,7 +73,7 @@ fn push_char(out: &mut Vec<u8>, character: char, quoted: bool) -> Result<(), All
     ensures { OnOk result (out.new.items ≡ out.old.items ++ visible_char quoted character) }
 {
     if character.is_control() {
-        return push_number(out, character as u32 as u8);
+        return push_numbered(out, character as u32 as u8);
     }
     if quoted && (character == '"' || character == '\\') {
         return out.extend_from_slice(&[b'\\', character as u32 as u8]);
@@ -92,19 +90,6 @@ fn push_byte(out: &mut Vec<u8>, byte: u8, quoted: bool) -> Result<(), AllocError
     if byte < 0x80 {
         push_char(out, char::from(byte), quoted)
     } else {
-        push_number(out, byte)
+        push_numbered(out, byte)
     }
-}
-
-// Appends `\x` and two hexadecimal digits.
-fn push_number(out: &mut Vec<u8>, byte: u8) -> Result<(), AllocError>
-    ensures { OnOk result (out.new.items ≡ out.old.items ++ numbered byte) }
-{
-    let digits = [
-        b'\\',
-        b'x',
-        DIGITS[(byte / 16) as usize],
-        DIGITS[(byte % 16) as usize],
-    ];
-    out.extend_from_slice(&digits)
 }

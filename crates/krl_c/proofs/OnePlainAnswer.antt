@@ -4,7 +4,8 @@ use Rattle.krl_c.proofs.Common.{Bool, Entry, false, get_or, inl, inr, length, le
 use Rattle.krl_c.proofs.Common.{no_memory, plain_number, sym, true, ℕ, ℤ}
 use Rattle.std.proofs.Math.Seq.{get_or-append_seam}
 use Rattle.std.proofs.Common.{subst}
-use Rattle.plain_list.specs.List.{AreRead, HasFault, IsFirstFault, limit, lines_of}
+use Rattle.krl_format.specs.Front.{limit}
+use Rattle.plain_list.specs.List.{AreRead, HasFault, IsFirstFault, lines_of}
 use Rattle.plain_list.specs.declared.fault.LineCause.{LineCause}
 use Rattle.plain_list.specs.declared.fault.PlainFault.{PlainFault}
 use Rattle.krl_c.specs.Any.{AnswersIf, AnswersPlain, no_plain, plain}

@@ -6,7 +6,8 @@ use Rattle.std.specs.Result.{IsOk}
 use Rattle.krl_entries.specs.Changes.{MeansMore}
 use Rattle.krl_entries.specs.Revocations.{Means, Revocations}
 use Rattle.plain_list.specs.Key.{Reports, line_key}
-use Rattle.plain_list.specs.List.{AreRead, HasFault, entries_of, limit, line_entries, lines_of}
+use Rattle.krl_format.specs.Front.{limit}
+use Rattle.plain_list.specs.List.{AreRead, HasFault, entries_of, line_entries, lines_of}
 use Rattle.plain_list.specs.declared.fault.PlainFault.{PlainFault}
 use Rattle.plain_list.specs.declared.fault.PlainFault.TheVariants as faults
 

@@ -7,8 +7,7 @@ use Rattle.krl_format.specs.Entries.{entries_of}
 use Rattle.krl_format.specs.Front.{IsFirstFault, limit}
 use Rattle.krl_format.specs.Krl.{SpelledSection, Spells, magic}
 use Rattle.krl_format.specs.declared.header.Header.{Header}
-use Rattle.plain_list.specs.List.{AreRead, lines_of}
-use Rattle.plain_list.specs.List.{entries_of as entries_of_lines, limit as limit_of_lines}
+use Rattle.plain_list.specs.List.{AreRead, entries_of as entries_of_lines, lines_of}
 
 -- A list that does not begin with the magic of a key revocation list is a plain list.
 abbrev pub begins_list : List ℕ → Bool
@@ -31,7 +30,7 @@ pub record NamesWhole (bytes : List ℕ) (header : Option Header) (entries : Lis
 
 -- Each line of a plain list is read, and the keys on the lines are the entries.
 pub record IsPlainOf (list : List ℕ) (entries : List Entry) : Type 0 where
-  pub within : length list ≤ limit_of_lines
+  pub within : length list ≤ limit
   pub are_read : AreRead (lines_of list)
   pub entries_are : entries ≡ entries_of_lines (lines_of list)
 

@@ -5,14 +5,11 @@ use Rattle.std.specs.List.{flat_map, slice_split}
 use Rattle.std.specs.Result.{IsOk}
 use Rattle.key_text.specs.Lines.{is_newline}
 use Rattle.krl_types.specs.Entry.{Entry, KeyEntry}
+use Rattle.krl_format.specs.Front.{limit}
 use Rattle.plain_list.specs.Key.{line_key}
 use Rattle.plain_list.specs.declared.fault.LineCause.{LineCause}
 use Rattle.plain_list.specs.declared.fault.PlainFault.{PlainFault}
 use Rattle.plain_list.specs.declared.fault.PlainFault.TheVariants as faults
-
--- the most bytes, as many as a key revocation list may have
-abbrev pub limit : ℕ
-limit = 67108864
 
 abbrev pub lines_of : List ℕ → List (List ℕ)
 lines_of text = slice_split is_newline text

@@ -5,8 +5,8 @@ ghost use Rattle.std.specs.Result.{IsOk};
 ghost use Rattle.krl_entries.specs.Changes.{MeansMore};
 ghost use Rattle.krl_entries.specs.Revocations.{Means};
 ghost use Rattle.plain_list.specs.Key.{Reports, line_key};
-ghost use Rattle.plain_list.specs.List.{AreRead, HasFault, entries_of, limit, line_entries};
-ghost use Rattle.plain_list.specs.List.{lines_of};
+ghost use Rattle.krl_format.specs.Front.{limit};
+ghost use Rattle.plain_list.specs.List.{AreRead, HasFault, entries_of, line_entries, lines_of};
 
 use crate::fault::PlainFault;
 use crate::key::key_of_line;
@@ -16,7 +16,7 @@ use serial_set::Spans;
 use std::alloc::Global;
 
 // The most bytes of a plain list, as many as a key revocation list may have.
-const LIMIT: usize = 67_108_864;
+const LIMIT: usize = krl_format::LIMIT as usize;
 
 /// Reads a plain list: what its lines revoke. The list is refused for its first line that is
 /// neither empty nor a comment nor a key, as sshd then refuses every key. `NoMemory` is returned

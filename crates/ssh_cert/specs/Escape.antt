@@ -7,11 +7,12 @@ use Rattle.std.specs.List.{flat_map}
 abbrev pub hex_digit : ℕ → ℕ
 hex_digit n = slice_index (codes "0123456789abcdef") n
 
+-- `\x` and two hexadecimal digits
+abbrev pub numbered : ℕ → List ℕ
+numbered code = 92 ∷ 120 ∷ hex_digit (code / 16) ∷ hex_digit (code % 16) ∷ []
+
 unfoldable pub escaped_byte : ℕ → List ℕ
-escaped_byte byte =
-    if nat_lt byte 32 || byte == 127
-    then 92 ∷ 120 ∷ hex_digit (byte / 16) ∷ hex_digit (byte % 16) ∷ []
-    else byte ∷ []
+escaped_byte byte = if nat_lt byte 32 || byte == 127 then numbered byte else byte ∷ []
 
 unfoldable pub escaped : List ℕ → List ℕ
 escaped text = flat_map escaped_byte text

@@ -1,7 +1,7 @@
 //! Printing text that others wrote.
 
 ghost use Rattle.std.specs.Prelude.{◌≡◌, ◌++◌, OnOk};
-ghost use Rattle.ssh_cert.specs.Escape.{escaped, escaped_byte};
+ghost use Rattle.ssh_cert.specs.Escape.{escaped, escaped_byte, numbered};
 
 use std::alloc::AllocError;
 
@@ -25,14 +25,21 @@ fn push_byte(out: &mut Vec<u8>, byte: u8) -> Result<(), AllocError>
     ensures { OnOk result (out.new.items ≡ out.old.items ++ escaped_byte byte) }
 {
     if byte < 0x20 || byte == 0x7f {
-        let digits = [
-            b'\\',
-            b'x',
-            DIGITS[(byte / 16) as usize],
-            DIGITS[(byte % 16) as usize],
-        ];
-        return out.extend_from_slice(&digits);
+        return push_numbered(out, byte);
     }
     out.push(byte)?;
     Ok(())
+}
+
+/// Appends a byte as `\x` and two hexadecimal digits.
+pub fn push_numbered(out: &mut Vec<u8>, byte: u8) -> Result<(), AllocError>
+    ensures { OnOk result (out.new.items ≡ out.old.items ++ numbered byte) }
+{
+    let digits = [
+        b'\\',
+        b'x',
+        DIGITS[(byte / 16) as usize],
+        DIGITS[(byte % 16) as usize],
+    ];
+    out.extend_from_slice(&digits)
 }

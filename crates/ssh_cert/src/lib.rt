@@ -16,7 +16,7 @@ mod validity;
 
 pub use any_key::{AnyKey, read_any};
 pub use cert::Cert;
-pub use escape::push_escaped;
+pub use escape::{push_escaped, push_numbered};
 pub use fault::CertFault;
 pub use krl_types::{CertNames, Subject};
 pub use options::{CertOption, Options};
