@@ -14,7 +14,7 @@ use Rattle.any_list.specs.List.{IsReadList}
 use Rattle.any_list.specs.declared.list.List.{List as ReadList}
 use Rattle.check_run.specs.Fact.{Fact}
 use Rattle.check_run.specs.Files.{ChecksFiles, files_of, reads_fail, reads_items, some_unread}
-use Rattle.check_run.specs.Lists.{Checks, ChecksFormat, ages_fail, ages_items, empty_fails, empty_said, version_of, versions_fail, versions_items}
+use Rattle.check_run.specs.Lists.{Checks, ChecksFormat, empty_fails, empty_said, stated_fail, stated_items}
 use Rattle.check_run.specs.Run.{ChecksAll, ChecksList, list_fails, list_items}
 use Rattle.check_run.specs.declared.limits.Limits.{Limits}
 use Rattle.check_run.proofs.Steps.{checks_more, checks_then}
@@ -22,39 +22,32 @@ use Rattle.check_run.proofs.Steps.{checks_more, checks_then}
 abbrev EmptyChecks : (name : List ℕ) → Revocations → Check → Result (Unit {0}) RunFault → Printer → Printer → Bool → Bool → Type 0
 EmptyChecks name held task = Checks (empty_said name (names_nobody held) task.allow_empty) (empty_fails (names_nobody held) task.allow_empty)
 
-abbrev VersionChecks : (name : List ℕ) → Option Stated → Limits → Result (Unit {0}) RunFault → Printer → Printer → Bool → Bool → Type 0
-VersionChecks name stated limits = Checks (versions_items name (version_of stated) limits.other) (versions_fail (version_of stated) limits.other)
-
-abbrev AgeChecks : (name : List ℕ) → Option Stated → Limits → Result (Unit {0}) RunFault → Printer → Printer → Bool → Bool → Type 0
-AgeChecks name stated limits = Checks (ages_items name stated limits.age) (ages_fail stated limits.age)
+abbrev StatedChecks : (name : List ℕ) → Option Stated → Limits → Result (Unit {0}) RunFault → Printer → Printer → Bool → Bool → Type 0
+StatedChecks name stated limits = Checks (stated_items name stated limits) (stated_fail stated limits)
 
 -- ---- the list itself
 
-abbrev from_version : List ℕ → Option Stated → Limits → List Item
-from_version name stated limits = versions_items name (version_of stated) limits.other ++ ages_items name stated limits.age
-
 abbrev from_empty : List ℕ → Option Stated → Revocations → Check → Limits → List Item
-from_empty name stated held task limits = empty_said name (names_nobody held) task.allow_empty ++ from_version name stated limits
+from_empty name stated held task limits = empty_said name (names_nobody held) task.allow_empty ++ stated_items name stated limits
 
-pub list_checked : (name bytes : List ℕ) (stated : Option Stated) (held : Revocations) (task : Check) (limits : Limits) (u v w : Unit {0}) (result : Result (Unit {0}) RunFault) (p q r s t : Printer) (a b c d e : Bool)
-    → ChecksFormat name bytes (Ok u) p q a b → EmptyChecks name held task (Ok v) q r b c → VersionChecks name stated limits (Ok w) r s c d → AgeChecks name stated limits result s t d e
-    → ChecksList name bytes stated held task limits result p t a e
-list_checked name bytes stated held task limits u v w result p q r s t a b c d e format empty version age =
-    let three = checks_then (versions_items name (version_of stated) limits.other) (ages_items name stated limits.age) (versions_fail (version_of stated) limits.other) (ages_fail stated limits.age) w result r s t c d e version age in
-    let two = checks_then (empty_said name (names_nobody held) task.allow_empty) (from_version name stated limits) (empty_fails (names_nobody held) task.allow_empty) (versions_fail (version_of stated) limits.other || ages_fail stated limits.age) v result q r t b c e empty three in
+pub list_checked : (name bytes : List ℕ) (stated : Option Stated) (held : Revocations) (task : Check) (limits : Limits) (u v : Unit {0}) (result : Result (Unit {0}) RunFault) (p q r s : Printer) (a b c d : Bool)
+    → ChecksFormat name bytes (Ok u) p q a b → EmptyChecks name held task (Ok v) q r b c → StatedChecks name stated limits result r s c d
+    → ChecksList name bytes stated held task limits result p s a d
+list_checked name bytes stated held task limits u v result p q r s a b c d format empty last =
+    let two = checks_then (empty_said name (names_nobody held) task.allow_empty) (stated_items name stated limits) (empty_fails (names_nobody held) task.allow_empty) (stated_fail stated limits) v result q r s b c d empty last in
     record {
       list = record { difference = format.difference; nobody = names_nobody held; stated = stated; limits = limits };
       is_difference = format.is;
       nobody_is = refl;
       stated_is = refl;
       limits_are = refl;
-      checks = checks_then (difference_items name format.difference) (from_empty name stated held task limits) (is_some format.difference) (empty_fails (names_nobody held) task.allow_empty || (versions_fail (version_of stated) limits.other || ages_fail stated limits.age)) u result p q t a b e format.checks two;
+      checks = checks_then (difference_items name format.difference) (from_empty name stated held task limits) (is_some format.difference) (empty_fails (names_nobody held) task.allow_empty || stated_fail stated limits) u result p q s a b d format.checks two;
     }
 
 pub format_stops : (name bytes : List ℕ) (stated : Option Stated) (held : Revocations) (task : Check) (limits : Limits) (stop : RunFault) (p q : Printer) (a b e : Bool)
     → ChecksFormat name bytes (Err stop) p q a b → ChecksList name bytes stated held task limits (Err stop) p q a e
 format_stops name bytes stated held task limits stop p q a b e format =
-    let fails : Bool = is_some format.difference || (empty_fails (names_nobody held) task.allow_empty || (versions_fail (version_of stated) limits.other || ages_fail stated limits.age)) in
+    let fails : Bool = is_some format.difference || (empty_fails (names_nobody held) task.allow_empty || stated_fail stated limits) in
     record {
       list = record { difference = format.difference; nobody = names_nobody held; stated = stated; limits = limits };
       is_difference = format.is;
@@ -67,10 +60,9 @@ format_stops name bytes stated held task limits stop p q a b e format =
 pub empty_stops : (name bytes : List ℕ) (stated : Option Stated) (held : Revocations) (task : Check) (limits : Limits) (u : Unit {0}) (stop : RunFault) (p q r : Printer) (a b c e : Bool)
     → ChecksFormat name bytes (Ok u) p q a b → EmptyChecks name held task (Err stop) q r b c → ChecksList name bytes stated held task limits (Err stop) p r a e
 empty_stops name bytes stated held task limits u stop p q r a b c e format empty =
-    let rest : Bool = versions_fail (version_of stated) limits.other || ages_fail stated limits.age in
-    let fails : Bool = empty_fails (names_nobody held) task.allow_empty || rest in
+    let fails : Bool = empty_fails (names_nobody held) task.allow_empty || stated_fail stated limits in
     let two : Checks (from_empty name stated held task limits) fails (Err stop) q r b e =
-    checks_more (empty_said name (names_nobody held) task.allow_empty) (from_version name stated limits) (empty_fails (names_nobody held) task.allow_empty) fails stop q r b c e empty in
+    checks_more (empty_said name (names_nobody held) task.allow_empty) (stated_items name stated limits) (empty_fails (names_nobody held) task.allow_empty) fails stop q r b c e empty in
     record {
       list = record { difference = format.difference; nobody = names_nobody held; stated = stated; limits = limits };
       is_difference = format.is;
@@ -78,24 +70,6 @@ empty_stops name bytes stated held task limits u stop p q r a b c e format empty
       stated_is = refl;
       limits_are = refl;
       checks = checks_then (difference_items name format.difference) (from_empty name stated held task limits) (is_some format.difference) fails u (Err stop) p q r a b e format.checks two;
-    }
-
-pub version_stops : (name bytes : List ℕ) (stated : Option Stated) (held : Revocations) (task : Check) (limits : Limits) (u v : Unit {0}) (stop : RunFault) (p q r s : Printer) (a b c d e : Bool)
-    → ChecksFormat name bytes (Ok u) p q a b → EmptyChecks name held task (Ok v) q r b c → VersionChecks name stated limits (Err stop) r s c d → ChecksList name bytes stated held task limits (Err stop) p s a e
-version_stops name bytes stated held task limits u v stop p q r s a b c d e format empty version =
-    let rest : Bool = versions_fail (version_of stated) limits.other || ages_fail stated limits.age in
-    let fails : Bool = empty_fails (names_nobody held) task.allow_empty || rest in
-    let three : Checks (from_version name stated limits) rest (Err stop) r s c e =
-    checks_more (versions_items name (version_of stated) limits.other) (ages_items name stated limits.age) (versions_fail (version_of stated) limits.other) rest stop r s c d e version in
-    let two : Checks (from_empty name stated held task limits) fails (Err stop) q s b e =
-    checks_then (empty_said name (names_nobody held) task.allow_empty) (from_version name stated limits) (empty_fails (names_nobody held) task.allow_empty) rest v (Err stop) q r s b c e empty three in
-    record {
-      list = record { difference = format.difference; nobody = names_nobody held; stated = stated; limits = limits };
-      is_difference = format.is;
-      nobody_is = refl;
-      stated_is = refl;
-      limits_are = refl;
-      checks = checks_then (difference_items name format.difference) (from_empty name stated held task limits) (is_some format.difference) fails u (Err stop) p q s a b e format.checks two;
     }
 
 -- ---- the list and the files

@@ -1,6 +1,6 @@
 -- The conditions for the list itself.
 use Rattle.std.specs.Borrow.{Bor}
-use Rattle.std.specs.Prelude.{◌≡◌, ℕ, ◌||◌, ◌&&◌, nat_lt, not, Bool, true, false, List, [], ◌∷◌}
+use Rattle.std.specs.Prelude.{◌≡◌, ℕ, ◌||◌, ◌&&◌, nat_lt, not, Bool, true, false, List, [], ◌∷◌, ◌++◌}
 use Rattle.std.specs.Prelude.{Option, Some, None, Result, Ok, Err, OnOk, is_some, option_map}
 use Rattle.key_files.specs.RunFault.{RunFault, run_fault_of}
 use Rattle.key_files.specs.declared.cause.Cause.{Cause}
@@ -22,6 +22,7 @@ use Rattle.plain_list.specs.Any.{Names, begins_list}
 use Rattle.any_list.specs.List.{IsListFault, IsReadList, stated_in}
 use Rattle.check_run.specs.Fact.{Fact, ListOf}
 use Rattle.check_run.specs.declared.limits.AgeLimit.{AgeLimit}
+use Rattle.check_run.specs.declared.limits.Limits.{Limits}
 use Rattle.check_run.specs.declared.lists.Given.{Given}
 use Rattle.check_run.specs.declared.lists.Other.{Other}
 
@@ -150,3 +151,13 @@ limit_fails None limit = true
 abbrev pub ages_fail : Option Stated → Option AgeLimit → Bool
 ages_fail stated None = false
 ages_fail stated (Some limit) = limit_fails stated limit
+
+-- ---- what a list states, by its limits
+
+abbrev pub stated_items : List ℕ → Option Stated → Limits → List Item
+stated_items name stated limits =
+    versions_items name (version_of stated) limits.other ++ ages_items name stated limits.age
+
+abbrev pub stated_fail : Option Stated → Limits → Bool
+stated_fail stated limits =
+    versions_fail (version_of stated) limits.other || ages_fail stated limits.age

@@ -19,8 +19,7 @@ use Rattle.check_run.specs.Files.{AreRead, Named, Read, files_of, reads_fail, re
 use Rattle.check_run.specs.Files.{some_unread}
 use Rattle.check_run.specs.Limits.{AreLimits, IsClockless}
 use Rattle.check_run.specs.Lists.{Checks, IsDifference, IsOtherRefused, IsRefused}
-use Rattle.check_run.specs.Lists.{ages_fail, ages_items, empty_fails, empty_said, stated_by}
-use Rattle.check_run.specs.Lists.{version_of, versions_fail, versions_items}
+use Rattle.check_run.specs.Lists.{empty_fails, empty_said, stated_by, stated_fail, stated_items}
 use Rattle.check_run.specs.Version.{PrintsVersion}
 use Rattle.check_run.specs.declared.limits.Limits.{Limits}
 use Rattle.check_run.specs.declared.limits.Unanswered.{Unanswered}
@@ -39,15 +38,12 @@ abbrev pub list_items : List ℕ → Judged → Check → List Item
 list_items name list task =
     difference_items name list.difference
     ++ (empty_said name list.nobody task.allow_empty
-    ++ (versions_items name (version_of list.stated) list.limits.other
-    ++ ages_items name list.stated list.limits.age))
+    ++ stated_items name list.stated list.limits)
 
 abbrev pub list_fails : Judged → Check → Bool
 list_fails list task =
     is_some list.difference
-    || (empty_fails list.nobody task.allow_empty
-    || (versions_fail (version_of list.stated) list.limits.other
-    || ages_fail list.stated list.limits.age))
+    || (empty_fails list.nobody task.allow_empty || stated_fail list.stated list.limits)
 
 -- A check of this list, by its limits, prints these items. It says whether a condition fails and
 -- whether a file was not read, and these files were not reached.

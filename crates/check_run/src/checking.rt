@@ -4,11 +4,11 @@ ghost use Rattle.std.specs.Prelude.{◌≡◌, false};
 ghost use Rattle.any_list.specs.List.{IsReadList};
 ghost use Rattle.check_run.specs.Run.{ChecksAll, ChecksList, EndsChecked};
 
-use crate::conditions::{check_age, check_empty, check_format, check_version};
+use crate::conditions::{check_empty, check_format, check_stated};
 use crate::files::check_files;
 use crate::host::Host;
 use crate::limits::Limits;
-use crate::lists::{Given, version_of};
+use crate::lists::Given;
 use byte_streams::Sink;
 use key_files::RunFault;
 use key_listing::{Done, Printer, Run};
@@ -94,6 +94,5 @@ fn check_list<'a, W: Sink>(
     let stated = job.given.list.stated;
     check_format(checker, job.given)?;
     check_empty(checker, name, job.task.allow_empty)?;
-    check_version(checker, name, version_of(stated), job.limits.other)?;
-    check_age(checker, name, stated, job.limits.age)
+    check_stated(checker, name, stated, job.limits)
 }

@@ -3,12 +3,12 @@
 ghost use Rattle.std.specs.Prelude.{◌≡◌, false};
 ghost use Rattle.krl_checker.specs.Check.{names_nobody};
 ghost use Rattle.check_run.specs.Lists.{Checks, ChecksFormat, ages_fail, ages_items};
-ghost use Rattle.check_run.specs.Lists.{empty_fails, empty_said, version_of, versions_fail};
-ghost use Rattle.check_run.specs.Lists.{versions_items};
+ghost use Rattle.check_run.specs.Lists.{empty_fails, empty_said, stated_fail, stated_items};
+ghost use Rattle.check_run.specs.Lists.{version_of, versions_fail, versions_items};
 ghost use Rattle.any_list.specs.List.{IsReadList};
 
-use crate::limits::AgeLimit;
-use crate::lists::{Given, Other};
+use crate::limits::{AgeLimit, Limits};
+use crate::lists::{Given, Other, version_of};
 use byte_streams::Sink;
 use key_files::RunFault;
 use krl_audit::Stated;
@@ -56,8 +56,26 @@ pub(crate) fn check_empty<'a, W: Sink>(
     }
 }
 
-/// Checks that the version of a list is not below that of the other one, if there is one.
-pub(crate) fn check_version<'a, W: Sink>(
+/// Checks the version and the date that a list states, by its limits.
+pub(crate) fn check_stated<'a, W: Sink>(
+    checker: &mut Checker<'_, '_, W>,
+    name: &'a str,
+    stated: Option<Stated>,
+    limits: Limits<'a>,
+) -> Result<(), RunFault<'a>>
+    ensures checks { Checks (stated_items name.now stated limits.entry)
+        (stated_fail stated limits.entry) result
+        checker.old.auditor.run.printer checker.new.auditor.run.printer checker.old.refused
+        checker.new.refused }
+    ensures unread { checker.new.unread ≡ checker.old.unread }
+    ensures judge { checker.new.auditor.judge ≡ checker.old.auditor.judge }
+{
+    check_version(checker, name, version_of(stated), limits.other)?;
+    check_age(checker, name, stated, limits.age)
+}
+
+// Checks that the version of a list is not below that of the other one, if there is one.
+fn check_version<'a, W: Sink>(
     checker: &mut Checker<'_, '_, W>,
     name: &'a str,
     version: Option<u64>,
@@ -80,8 +98,8 @@ pub(crate) fn check_version<'a, W: Sink>(
     }
 }
 
-/// Checks that a list is neither too old nor from the future, if its age is limited.
-pub(crate) fn check_age<'a, W: Sink>(
+// Checks that a list is neither too old nor from the future, if its age is limited.
+fn check_age<'a, W: Sink>(
     checker: &mut Checker<'_, '_, W>,
     name: &'a str,
     stated: Option<Stated>,

@@ -1,6 +1,6 @@
 -- Each condition for the list itself is checked, or the check is stopped.
 use Rattle.std.proofs.lemmas.Result.{err_from_is_err_and}
-use Rattle.check_run.proofs.Judging.{empty_stops, format_stops, list_checked, version_stops}
+use Rattle.check_run.proofs.Judging.{empty_stops, format_stops, list_checked}
 use Rattle.check_run.proofs.checking.check_list.Goals as goal
 
 pub returns-in_err-check_format-clause-checks : goal.returns-in_err-check_format-clause-checks
@@ -14,15 +14,7 @@ returns-in_err-check_empty-clause-checks g c =
     let empty = rw c.in_ok-check_format.ensures.judge at c.in_err-check_empty.ensures.checks in
     rw (p.1, p.2) (empty_stops _ _ _ _ _ _ _ _ _ _ _ _ _ _ _ c.in_ok-check_format.ensures.checks empty)
 
-pub returns-in_err-check_version-clause-checks : goal.returns-in_err-check_version-clause-checks
-returns-in_err-check_version-clause-checks g c =
-    let p = err_from_is_err_and c.from_residual-in_err-check_version.result c.from_residual-in_err-check_version.ensures.1 in
-    let empty = rw c.in_ok-check_format.ensures.judge at c.in_ok-check_empty.ensures.checks in
-    let version = rw c.version_of.ensures at c.in_err-check_version.ensures.checks in
-    rw (p.1, p.2) (version_stops _ _ _ _ _ _ _ _ _ _ _ _ _ _ _ _ _ _ c.in_ok-check_format.ensures.checks empty version)
-
 pub returns-clause-checks : goal.returns-clause-checks
 returns-clause-checks g c =
     let empty = rw c.in_ok-check_format.ensures.judge at c.in_ok-check_empty.ensures.checks in
-    let version = rw c.version_of.ensures at c.in_ok-check_version.ensures.checks in
-    list_checked _ _ _ _ _ _ _ _ _ _ _ _ _ _ _ _ _ _ _ _ c.in_ok-check_format.ensures.checks empty version c.check_age.ensures.checks
+    list_checked _ _ _ _ _ _ _ _ _ _ _ _ _ _ _ _ _ c.in_ok-check_format.ensures.checks empty c.check_stated.ensures.checks
