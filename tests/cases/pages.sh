@@ -1,7 +1,7 @@
 # The pages of the crates: each library and each program has one, and the map links to it. A crate
 # of tests proves and runs the caller that a library's page shows, in the same words. The program
-# prints the output that its page shows. The crates have the names that THEOREMS.md cites. The page
-# of the tests has a line for each part.
+# prints the output that its page shows. The crates have the names that THEOREMS.md cites, and each
+# lemma is cited. The page of the tests has a line for each part.
 
 # shown LANGUAGE PAGE: what the page shows in it.
 shown() {
@@ -44,6 +44,7 @@ judge 'the names that THEOREMS.md cites stand in the crates' \
   "$(asks 0 python3 -B "$tests/lib/pages/cited.py" "$top")"
 judge 'the files and names that the pages of the crates speak of are there' \
   "$(asks 0 python3 -B "$tests/lib/pages/modules.py" "$top")"
+judge 'each lemma is cited' "$(asks 0 python3 -B "$tests/lib/pages/uncited.py" "$top")"
 judge 'the page of the tests has a line for each part' \
   "$(asks 1 diff <(sed -n 's/^| `\([a-z_]*\)` .*/\1/p' "$tests/README.md" | sort) \
     <(printf '%s\n' "${!parts[@]}" | sort))"

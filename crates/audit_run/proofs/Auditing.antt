@@ -84,11 +84,6 @@ passes_append (Same key name ∷ xs) ys = passes_append xs ys
 passes_append (Skipped count ∷ xs) ys =
     ap (λ (b : Bool). nat_lt 0 count || b) (passes_append xs ys) ∙ sym (or_assoc (nat_lt 0 count) (passes xs) (passes ys))
 
-same_since : (old new : Since) (visit : Visit) (gave passed : Bool) → gives (visit ∷ []) ≡ gave → passes (visit ∷ []) ≡ passed
-    → new.gave ≡ old.gave || gave → new.passed ≡ old.passed || passed → IsSince (visit ∷ []) None old new
-same_since old new visit gave passed gives_is passes_is is was =
-    (is ∙ ap (λ (b : Bool). old.gave || b) (sym gives_is), was ∙ ap (λ (b : Bool). old.passed || b) (sym passes_is))
-
 since_then : (xs ys : List Visit) (stop : Option Stop) (old mid new : Since) → IsSince xs None old mid → IsSince ys stop mid new
     → IsSince (xs ++ ys) stop old new
 since_then xs ys None old mid new first second = (

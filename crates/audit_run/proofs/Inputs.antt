@@ -179,7 +179,3 @@ pub went_as : (result : Result (Unit {0}) Stop) (Is Also : Bool → List Visit �
     → Went {A = Unit {0}} Also result old new
 went_as result Is Also old new goes was =
     record { visits = was.visits; is = goes (is_ok result) was.visits was.is; audits = was.audits }
-
-pub went_nothing : (Also : Bool → List Visit → Type 0) (now : State) → Also false []
-    → Went {A = Unit {0}} Also (Err stops.NoMemory) now now
-went_nothing Also now nothing = record { visits = []; is = nothing; audits = (nothing_begun now).audits }

@@ -64,13 +64,6 @@ pub four_fields : (old one two three new : List Token) (a b c d : List Field) �
     → new ≡ old ++ fields_tokens (a ++ (b ++ (c ++ d)))
 four_fields old one two three new a b c d first second third fourth = two_fields old one new a (b ++ (c ++ d)) first (three_fields one two three new b c d second third fourth)
 
-pub two_values : (old one new : List Token) (a b : List Json) → one ≡ old ++ values_tokens a → new ≡ one ++ values_tokens b → new ≡ old ++ values_tokens (a ++ b)
-two_values old one new a b first second =
-    second ∙ ap (λ (ts : List Token). ts ++ values_tokens b) first ∙ append_assoc old (values_tokens a) (values_tokens b) ∙ ap (λ (ts : List Token). old ++ ts) (sym (values_append a b))
-
-pub three_values : (old one two new : List Token) (a b c : List Json) → one ≡ old ++ values_tokens a → two ≡ one ++ values_tokens b → new ≡ two ++ values_tokens c → new ≡ old ++ values_tokens (a ++ (b ++ c))
-three_values old one two new a b c first second third = two_values old one new a (b ++ c) first (two_values one two new b c second third)
-
 -- ---- values with brackets
 
 within : (old one two new a close : List Token) (begin : Token) → one ≡ old ++ begin ∷ [] → two ≡ one ++ a → new ≡ two ++ close → new ≡ old ++ (begin ∷ (a ++ close))

@@ -1,5 +1,5 @@
 -- The number of lines that are not read.
-use Rattle.std.proofs.Common.{◌≡◌, ℕ, ◌+◌, List, [], ◌∷◌, Option, Some, None, sym, ap, ◌∙◌, arith}
+use Rattle.std.proofs.Common.{◌≡◌, ℕ, ◌+◌, List, [], ◌∷◌, Option, Some, sym, ap, ◌∙◌, arith}
 use Rattle.std.specs.List.{slice_split}
 use Rattle.key_text.specs.Lines.{is_newline}
 use Rattle.krl_audit.specs.Audit.{more_unread, unread_alone, unread_with}
@@ -19,13 +19,6 @@ pub counted_on : (kind : Fronts) (all : Option ℕ) (count more : ℕ) (text lin
     → all ≡ more_unread more (unread_alone (read_all kind after))
 counted_on kind all count more text line after so_far split counts =
     so_far ∙ ap (λ (lines : List Outcomes). more_unread count (unread_alone lines)) (lines_of_split kind text line after split) ∙ counts (read_all kind after)
-
--- a key was found
-pub counted_none : (kind : Fronts) (all : Option ℕ) (count : ℕ) (text line : List ℕ) (after : List (List ℕ)) → all ≡ more_unread count (unread_alone (read_all kind (slice_split is_newline text)))
-    → slice_split is_newline text ≡ line ∷ after → ((lines : List Outcomes) → more_unread count (unread_alone (outcomes_of kind line ∷ lines)) ≡ unread_with None lines)
-    → None ≡ all
-counted_none kind all count text line after so_far split counts =
-    sym (so_far ∙ ap (λ (lines : List Outcomes). more_unread count (unread_alone lines)) (lines_of_split kind text line after split) ∙ counts (read_all kind after))
 
 -- the last line was counted
 pub counted_all : (kind : Fronts) (all : Option ℕ) (count more : ℕ) (text line : List ℕ) → all ≡ more_unread count (unread_alone (read_all kind (slice_split is_newline text)))

@@ -55,26 +55,10 @@ says_made reasons shown name number outcome kind said text value old new made ca
   kind_is = made.kind_is;
 }
 
-pub says_stopped : (reasons : Subject → Reasons) (shown : Shown) (name : List ℕ) (number : ℕ) (outcome : Outcome) (kind : LineKind) (said : Bool) (text : List ℕ) (stop : RunFault) (old new : Printer)
-    → IsMade reasons shown name number outcome kind said text → Carries {A = Unit {0}} (said_if said name text ∷ []) (Err stop) old new → SaysLine reasons shown name (place number outcome) (Err stop) old new
-says_stopped reasons shown name number outcome kind said text stop old new made carries = record {
-  carries = carries_as {A = Unit {0}} (line_item reasons shown name number outcome ∷ []) (Err stop) (Err stop) old new refl
-      (subst (λ (i : Item). Carries {A = Unit {0}} (i ∷ []) (Err stop) old new) (sym (item_is reasons shown name number outcome kind said text made)) carries);
-  kind_is = tt;
-}
-
 withheld : {A : Type 0} (item : Item) (name : List ℕ) (stop : RunFault) (now : Printer) → name_of item ≡ name → stop ≡ run_fault_of name causes.NoMemory → Carries {A = A} (item ∷ []) (Err stop) now now
 withheld {A} item name stop now is_named is =
     subst (λ (s : RunFault). Carries {A = A} (item ∷ []) (Err s) now now) (sym is)
     (carries_withheld item (run_fault_of name causes.NoMemory) now (ap (λ (n : List ℕ). run_fault_of n causes.NoMemory) (sym is_named)))
-
--- an allocation failed
-pub says_memory : (reasons : Subject → Reasons) (shown : Shown) (name : List ℕ) (number : ℕ) (outcome : Outcome) (stop : RunFault) (now : Printer)
-    → stop ≡ run_fault_of name causes.NoMemory → SaysLine reasons shown name (place number outcome) (Err stop) now now
-says_memory reasons shown name number outcome stop now is = record {
-  carries = withheld (line_item reasons shown name number outcome) name stop now (line_named reasons shown name number outcome) is;
-  kind_is = tt;
-}
 
 -- ---- one line, and the counts
 

@@ -1,7 +1,7 @@
 -- The end of a list after it was found.
 use Rattle.krl_core.proofs.Common.{[], ◌++◌, ◌∙◌, ◌≡◌, ap, append-nil, concat, Ends, EndsAfter}
 use Rattle.krl_core.proofs.Common.{FieldStore, HasRead, IsReached, left_of, List, None, Place, Pull}
-use Rattle.krl_core.proofs.Common.{refl, subst, sym, true, Walk, working, ℕ}
+use Rattle.krl_core.proofs.Common.{subst, sym, true, Walk, working, ℕ}
 use Rattle.krl_core.proofs.Steps.{at_end_none}
 
 -- a walk that found the end of the list
@@ -33,16 +33,6 @@ ends_now old pull place stored h = record {
   at_end = h.at_end;
   still = λ text fields read. let s = h.still text fields read in (has_read_ended pull place stored text fields s.0, s.1);
   scope_is = h.scope_is;
-}
-
-pub reached_end : (old : Walk) (pull : Pull) (place : Place) (stored : FieldStore) → IsReached (working pull place stored) → Ends old (working pull place stored)
-    → IsReached (at_its_end pull place stored)
-reached_end old pull place stored h ends = record {
-  in_step = h.in_step;
-  pull_faultless = h.pull_faultless;
-  works = h.works;
-  ends = λ _. record { may_end = ends.may_end; at_end = ends.at_end; faultless = refl };
-  bounded = h.bounded;
 }
 
 -- the end was found before

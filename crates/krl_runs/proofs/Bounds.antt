@@ -43,9 +43,6 @@ pub record LeavesRoom (size : ℕ) (left : List (Result FileKey RunFault)) (old 
   pub fits : room + keys_room left ≤ 3 * size
   pub asks : AsksAtMost room old new
 
-pub room_begins : (size : ℕ) (keys : List (Result FileKey RunFault)) (topics : Revocations) → keys_room keys ≤ 3 * size → LeavesRoom size keys topics topics
-room_begins size keys topics fits = record { room = 0; fits = omega (arith, fits); asks = asks_none 0 topics }
-
 pub room_next : (size : ℕ) (key : FileKey) (keys : List (Result FileKey RunFault)) (old mid new : Revocations) → LeavesRoom size (Ok key ∷ keys) old mid → AsksAtMost (blob_room key.line.blob) mid new
     → LeavesRoom size keys old new
 room_next size key keys old mid new before asks = record {
@@ -53,9 +50,6 @@ room_next size key keys old mid new before asks = record {
   fits = omega (arith, before.fits, sum_by-cons key_room (Ok key) keys);
   asks = asks_then before.room (blob_room key.line.blob) (before.room + blob_room key.line.blob) old mid new (omega arith) before.asks asks;
 }
-
-pub room_ends : (size : ℕ) (left : List (Result FileKey RunFault)) (old new : Revocations) → LeavesRoom size left old new → AsksAtMost (3 * size) old new
-room_ends size left old new within = asks_more within.room (3 * size) old new (omega (arith, within.fits)) within.asks
 
 -- The findings for files are few.
 pub few_found : (bytes : ℕ) (topics found : Revocations) → AsksAtMost (3 * bytes) nothing topics → IsSmall topics found → IsFewFor bytes found

@@ -1,7 +1,7 @@
 -- Keys that are expected are answered for.
 use Rattle.krl_runs.proofs.Common.{[], ◌+◌, ◌<◌, ◌∙◌, ◌∷◌, ◌≡◌, ◌≢◌, AreExpected, arith, Asks}
 use Rattle.krl_runs.proofs.Common.{AsksMore, ended_by, Err, FileKey, get_or, GivesKey}
-use Rattle.krl_runs.proofs.Common.{IfOk, inl, inr, IsErr, IsRefused, keys_of, length, List}
+use Rattle.krl_runs.proofs.Common.{IfOk, inl, inr, IsRefused, keys_of, length, List}
 use Rattle.krl_runs.proofs.Common.{Named, None, Ok, Option, refl, Result, Revocations, RunFault}
 use Rattle.krl_runs.proofs.Common.{Some, Subject, subst, sym, ℕ}
 use Rattle.std.proofs.lemmas.Bool.{cases_lt}
@@ -14,14 +14,6 @@ use Rattle.krl_entries.specs.Reasons.{name_asked}
 use Rattle.krl_queries.specs.Questions.{EachName, IsAsked}
 use Rattle.std.proofs.Math.Logic.{⊎_map}
 use Rattle.key_files.specs.declared.cause.Cause.TheVariants as causes
-
--- a key whose blob cannot be read is the last that counts
-pub unread_expected : (Expected : Subject → Type 0) (key : FileKey) (keys : List (Result FileKey RunFault)) → IsErr (subject_of key.line.blob) → AreExpected Expected (Ok key ∷ keys)
-unread_expected Expected key keys err = by (subject_of key.line.blob) err
-  where
-    by : (read : Result Subject SubjectFault) → IsErr read → IfOk read (λ asked. Expected asked × AreExpected Expected keys)
-    by (Ok asked) err = absurd (cc)
-    by (Err fault) err = tt
 
 -- so is a fault of the file
 pub fault_expected : (Expected : Subject → Type 0) (next : Result FileKey RunFault) (stop : RunFault) (keys : List (Result FileKey RunFault)) → GivesKey next (Err stop) → stop.cause ≢ causes.NoMemory → AreExpected Expected (next ∷ keys)

@@ -1,6 +1,5 @@
 -- One condition is checked after another, or the check is stopped.
 use Rattle.std.proofs.lemmas.Result.{err_from_is_err_and}
-use Rattle.check_run.specs.Lists.{ages_fail, ages_items, stated_fail, version_of, versions_fail, versions_items}
 use Rattle.check_run.proofs.Steps.{checks_more, checks_then}
 use Rattle.check_run.proofs.conditions.check_stated.Goals as goal
 
