@@ -84,8 +84,8 @@ stop_fault from stops.NoNames = Some (names_fault from)
 
 -- The items that an audit of this prints, by its end: all of them, and the last object; those up to
 -- the first file with a revoked key, where no finding is asked for; those that were printed when an
--- allocation or the output failed; or those up to where the reader of names failed, whose fault ends
--- the audit.
+-- allocation or the output failed; or those up to where the reader of names failed, whose fault
+-- ends the audit.
 pub data IsRunOf (order : Order) (items last : List Item) (whole : Bool) (tally : Tally)
     (stop : Option RunFault) (run : List Item) : Type 0 where
   all_audited : whole ≡ true → run ≡ items ++ last → IsRunOf order items last whole tally stop run
