@@ -37,7 +37,10 @@ fn command<'a>(alloc: Global) -> Result<Command<'a>, AllocError> {
 
 #[test]
 fn a_letter_is_given(rt: HostRuntime) {
-    for (words, wanted) in [(["look", "-v"].as_slice(), true), (["look"].as_slice(), false)] {
+    for (words, wanted) in [
+        (["look", "-v"].as_slice(), true),
+        (["look"].as_slice(), false),
+    ] {
         let look = command(rt.alloc()).ok().expect(&rt, "there is memory");
         let matches = look
             .try_get_matches_from(words)
