@@ -2,7 +2,7 @@
 pub use Rattle.std.specs.List.{AllByRecursion, concat}
 pub use Rattle.krl_types.proofs.SameNames.{AreSerials, mapped_name, same_append, same_is, same_nothing, same_refl, same_serials, same_then}
 pub use Rattle.ssh_wire.specs.Rows.{BeginsWithPart, Leads as LeadsRow, Number, Step, Text, passes, step}
-pub use Rattle.krl_format.specs.Krl.{Bitmap, Certificates, Extension, Ids, IsPositive, IsSignature, Keys, Range}
+pub use Rattle.krl_format.specs.Krl.{Bitmap, Certificates, Extension, Ids, IsNotNegative, IsSignature, Keys, Range}
 pub use Rattle.krl_format.specs.Krl.{Serials, Sha1s, Sha256s, Signature, SignaturesLast, SpelledSection, Spells, SpellsBitmap}
 pub use Rattle.krl_format.specs.Krl.{SpellsCertificates, SpellsContent, SpellsEach, SpellsSection, SpellsSubsection, Subsection, SubsectionContent, SubsectionExtension}
 pub use Rattle.krl_format.specs.Krl.{authority_fields, extension_fields, header_fields, header_of, numbers_text, signature_fields, subsection_type}

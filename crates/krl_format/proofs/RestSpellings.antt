@@ -3,7 +3,7 @@
 use Rattle.krl_format.proofs.Common.{[], ◌*◌, ◌++◌, ◌+◌, ◌-◌, ◌<◌, ◌^◌, ◌∷◌, ◌≡◌, ◌≤◌, AllByRecursion}
 use Rattle.krl_format.proofs.Common.{bit_at, BitmapEntry, Bool, entries_of}
 use Rattle.krl_format.proofs.Common.{Entry, Field, fields_after, false, flat_map, Header, header_from}
-use Rattle.krl_format.proofs.Common.{header_with, IsPositive, IsSignature, item_entry, item_size}
+use Rattle.krl_format.proofs.Common.{header_with, IsNotNegative, IsSignature, item_entry, item_size}
 use Rattle.krl_format.proofs.Common.{ItemKind, KrlFault, LeadsRow, length, List, map}
 use Rattle.krl_format.proofs.Common.{NamesSame, number, number_of, Place, RangeEntry, SerialsEntry}
 use Rattle.krl_format.proofs.Common.{None, Option, row_of, SignaturesLast, Some}
@@ -130,7 +130,7 @@ pub record FromBits (K : Type 0) (a : List ℕ) (offset size left after : ℕ) (
   pub parts : bytes ≡ bits ++ rest
   pub size_is : length bits ≡ left
   pub low : number_of bits < 2 ^ (8 * length bits)
-  pub positive : left ≡ size → IsPositive bits
+  pub positive : left ≡ size → IsNotNegative bits
   pub within : (bit : ℕ) → bit_at (number_of bits) bit ≡ 1 → offset + bit < 2 ^ 64
   pub named : NamesSame more (BitmapEntry a offset (number_of bits) ∷ others)
   pub then_is : FromSubsections K a after rest others
@@ -142,7 +142,7 @@ pub record FromBitmap (K : Type 0) (a : List ℕ) (offset left after : ℕ) (byt
   pub others : List Entry
   pub parts : bytes ≡ string bits ++ rest
   pub size_is : length (string bits) ≡ left
-  pub positive : IsPositive bits
+  pub positive : IsNotNegative bits
   pub within : (bit : ℕ) → bit_at (number_of bits) bit ≡ 1 → offset + bit < 2 ^ 64
   pub named : NamesSame more (BitmapEntry a offset (number_of bits) ∷ others)
   pub then_is : FromSubsections K a after rest others

@@ -5,7 +5,7 @@ use Rattle.krl_format.proofs.Common.{bit_at, bit_at_above, bit_at_cat_high, bit_
 use Rattle.krl_format.proofs.Common.{bits_judged, cases_lt, eq-eqb}
 use Rattle.krl_format.proofs.Common.{extension_fields, false}
 use Rattle.krl_format.proofs.Common.{highest_bit, Ids, inl, inr, IsBytes, IsBytes-back}
-use Rattle.krl_format.proofs.Common.{IsBytes-front, IsBytes-in_string, IsPositive, item_size}
+use Rattle.krl_format.proofs.Common.{IsBytes-front, IsBytes-in_string, IsNotNegative, item_size}
 use Rattle.krl_format.proofs.Common.{ItemKind, judge, le-leb, leading_zeros}
 use Rattle.krl_format.proofs.Common.{leads_more, length, length-append, length-number}
 use Rattle.krl_format.proofs.Common.{length-numbers, length-string, List, lt-leb}
@@ -88,7 +88,7 @@ low_bytes : (bits : List ℕ) → IsBytes bits → number_of bits < 2 ^ (8 * len
 low_bytes [] fits = low_none
 low_bytes (b ∷ bits) fits = low_more b bits (fits 0) (low_bytes bits (λ i. fits (suc i)))
 
-bits_go : (bits : List ℕ) (offset size after : ℕ) (rest : List ℕ) → IsBytes bits → length bits ≤ size → (length bits ≡ size → IsPositive bits)
+bits_go : (bits : List ℕ) (offset size after : ℕ) (rest : List ℕ) → IsBytes bits → length bits ≤ size → (length bits ≡ size → IsNotNegative bits)
     → ((k : ℕ) → bit_at (number_of bits) k ≡ 1 → offset + k < 2 ^ 64)
     → Goes (next_bits offset size (length bits) after) (bits ++ rest) (next_subsection after) rest
 bits_go [] offset size after rest fits le sign within = goes_none

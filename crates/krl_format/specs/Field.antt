@@ -1,5 +1,5 @@
--- The tables of fields in a list (PROTOCOL.krl): the header, a signature, the beginning of a section
--- of certificates, and an extension.
+-- The tables of fields in a list (PROTOCOL.krl): the header, a signature, the beginning of a
+-- section of certificates, and an extension.
 use Rattle.std.specs.Prelude.{ℕ, zero, suc, ◌==◌, List, [], ◌∷◌, map, Option, Some, None}
 use Rattle.std.specs.Prelude.{slice_index}
 use Rattle.ssh_wire.specs.Rows.{Number, Part, Step, Text, fault_unless, passes, step}

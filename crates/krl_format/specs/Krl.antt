@@ -79,16 +79,16 @@ abbrev pub numbers_text : List ℕ → List ℕ
 numbers_text numbers = flat_map (number 8) numbers
 
 -- the bytes of a bitmap are the two's complement of a number that is not negative
-abbrev pub IsPositive : List ℕ → Type 0
-IsPositive [] = Unit {0}
-IsPositive (byte ∷ bytes) = byte < 128
+abbrev pub IsNotNegative : List ℕ → Type 0
+IsNotNegative [] = Unit {0}
+IsNotNegative (byte ∷ bytes) = byte < 128
 
 -- A bitmap: an offset, and a number, which may begin with zero bytes. No set bit of it is the bit
 -- of a serial number past 2^64-1.
 pub record SpellsBitmap (content : List ℕ) (offset value : ℕ) : Type 0 where
   pub bytes : List ℕ
   pub spelled : content ≡ number 8 offset ++ string bytes
-  pub positive : IsPositive bytes
+  pub positive : IsNotNegative bytes
   pub value_is : value ≡ number_of bytes
   pub offset_fits : offset < 2 ^ 64
   pub within : (bit : ℕ) → bit_at value bit ≡ 1 → offset + bit < 2 ^ 64

@@ -1,5 +1,5 @@
-//! The format of key revocation lists (PROTOCOL.krl): the places in a list, what is expected at each,
-//! and the laws of spellings and of first faults.
+//! The format of key revocation lists (PROTOCOL.krl): the places in a list, what is expected at
+//! each, and the laws of spellings and of first faults.
 #![tactic(auto)]
 
 mod header;

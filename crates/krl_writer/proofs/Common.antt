@@ -5,7 +5,7 @@ pub use Rattle.std.proofs.Common.{flat_map, inl, inr, length, length-append, Lis
 pub use Rattle.std.proofs.Common.{refl, Result, subst, suc, sum_by, sym, take, zero, ℕ}
 pub use Rattle.krl_format.specs.Entries.{entries_of, subsection_entries}
 pub use Rattle.krl_format.specs.Front.{limit}
-pub use Rattle.krl_format.specs.Krl.{Certificates, Ids, IsPositive, Keys, Sha1s}
+pub use Rattle.krl_format.specs.Krl.{Certificates, Ids, IsNotNegative, Keys, Sha1s}
 pub use Rattle.krl_format.specs.Krl.{Sha256s, SignaturesLast, SpelledSection, Spells, SpellsBitmap}
 pub use Rattle.krl_format.specs.Krl.{SpellsEach, SpellsHashes, SpellsSection, SpellsSubsection}
 pub use Rattle.krl_format.specs.declared.header.Header.{Header}

@@ -4,7 +4,7 @@ use Rattle.krl_writer.proofs.Common.{◌≤◌, All-contains_itself, All-weaker,
 use Rattle.krl_writer.proofs.Common.{append_assoc, arith, bitmap_of, bitmap_size, bits_of, Contains}
 use Rattle.krl_writer.proofs.Common.{contains_append, contains_cons, contains_none, content_few}
 use Rattle.krl_writer.proofs.Common.{content_of, drop, first_of, Group, group_subsection}
-use Rattle.krl_writer.proofs.Common.{group_text, iff_or, inl, inr, IsGroup, IsPlan, IsPositive}
+use Rattle.krl_writer.proofs.Common.{group_text, iff_or, inl, inr, IsGroup, IsPlan, IsNotNegative}
 use Rattle.krl_writer.proofs.Common.{length, length-string, List, listed_as, listed_text}
 use Rattle.krl_writer.proofs.Common.{plan_subsections, plan_text, reach, recursion_from_All, refl}
 use Rattle.krl_writer.proofs.Common.{serials_from, serials_of, SpellsBitmap, SpellsEach}
@@ -47,7 +47,7 @@ all_serials runs r h =
 
 -- ---- a group
 
-positive : (runs : List Span) (first size : ℕ) → bits_of runs (first + 8 * size) 8 < 128 → IsPositive (bitmap_of runs first (suc size))
+positive : (runs : List Span) (first size : ℕ) → bits_of runs (first + 8 * size) 8 < 128 → IsNotNegative (bitmap_of runs first (suc size))
 positive runs first size lt = lt
 
 bitmap_spelled : (runs : List Span) → IsRuns runs → AreSerials runs → SpellsBitmap (content_of sorts.Bitmap runs) (first_of runs) (bits_of runs (first_of runs) (8 * bitmap_size runs))
@@ -58,7 +58,7 @@ bitmap_spelled runs r h =
     record {
       bytes = bitmap_of runs (first_of runs) (bitmap_size runs);
       spelled = refl;
-      positive = subst (λ (n : ℕ). IsPositive (bitmap_of runs (first_of runs) n)) (sym size) (positive runs (first_of runs) top (top_bit_clear runs top r (omega arith)));
+      positive = subst (λ (n : ℕ). IsNotNegative (bitmap_of runs (first_of runs) n)) (sym size) (positive runs (first_of runs) top (top_bit_clear runs top r (omega arith)));
       value_is = sym (number-bitmap runs (first_of runs) (bitmap_size runs));
       offset_fits = omega arith;
       within = λ bit e. (h (first_of runs + bit) ((bits_name runs (first_of runs) (8 * bitmap_size runs) bit).0 e).1).1;

@@ -60,7 +60,9 @@ authorities_text (plan ∷ plans) (first ∷ listed) =
 
 -- the sections of keys and hashes
 abbrev pub texts_text : Revocations → List ℕ
-texts_text r = listed_text keys_type r.keys ++ (listed_text sha1s_type r.sha1s ++ listed_text sha256s_type r.sha256s)
+texts_text r =
+    listed_text keys_type r.keys
+    ++ (listed_text sha1s_type r.sha1s ++ listed_text sha256s_type r.sha256s)
 
 -- all sections
 abbrev pub sections_text : List (List Group) → Revocations → List ℕ

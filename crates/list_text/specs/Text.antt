@@ -22,8 +22,8 @@ use Rattle.list_text.specs.Facts.{Sha1Fact, Sha256Fact, facts_of}
 
 -- ---- keys and certificate authorities
 
--- A key, as in the line of a .pub file, and its fingerprint as a comment; or bytes that are no plain
--- key. A key has one blob, so other bytes for the same key are no key.
+-- A key, as in the line of a .pub file, and its fingerprint as a comment; or bytes that are no
+-- plain key. A key has one blob, so other bytes for the same key are no key.
 abbrev pub named_line : (label blob : List ℕ) → Result PublicKey KeyFault → List ℕ
 named_line label blob (Ok key) =
     label ++ (codes ": " ++ (type_name key.kind ++ (codes " " ++ (encode_of standard blob
@@ -58,8 +58,8 @@ abbrev pub has_blank_end : List ℕ → Bool
 has_blank_end id =
     starts_with nat_eq id (codes " ") || ends_with nat_eq id (codes " ")
 
--- A line can have the key ID as it is: it is not empty, neither end is a blank, and each byte is one
--- of a text.
+-- A line can have the key ID as it is: it is not empty, neither end is a blank, and each byte is
+-- one of a text.
 abbrev pub is_text : List ℕ → Bool
 is_text id =
     not (length id == 0) && (not (has_blank_end id) && list_all is_text_byte id)

@@ -25,8 +25,8 @@ pub enum Judgement {
     Point,
 }
 
-/// Decides about a key as OpenSSH does: it looks at the length of each number of an RSA or DSA key, and at
-/// the point of a key of ECDSA. Does not allocate.
+/// Decides about a key as OpenSSH does: it looks at the length of each number of an RSA or DSA key,
+/// and at the point of a key of ECDSA. Does not allocate.
 #[tactic(auto, unfolding(crate::specs::Judgement::judgement_of))]
 pub fn judge(key: &PublicKey) -> Judgement
     ensures { result ≡ judgement_of key.now }

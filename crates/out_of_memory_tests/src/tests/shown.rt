@@ -32,7 +32,8 @@ hash: SHA256:+DiY3wvvV6TuJJhbpZisF/zLDA0zPMSvHdkr4UvCOqU
 ";
 
 const OBJECTS: &[u8] =
-    b"{\"list\":\"r.krl\",\"version\":\"1\",\"generated\":\"1970-01-01T00:00:00Z\",\"comment\":\"c\"}
+    b"{\"list\":\"r.krl\",\"version\":\"1\",\"generated\":\"1970-01-01T00:00:00Z\",\
+\"comment\":\"c\"}
 {\"ca\":\"all\",\"id\":\"a#\"}
 {\"key\":\"SHA256:+DiY3wvvV6TuJJhbpZisF/zLDA0zPMSvHdkr4UvCOqU\"}
 {\"hash\":\"SHA256:+DiY3wvvV6TuJJhbpZisF/zLDA0zPMSvHdkr4UvCOqU\"}

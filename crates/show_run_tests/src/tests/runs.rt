@@ -60,7 +60,8 @@ const ROWS: [Row; 9] = [
     (
         Form::Text,
         &["odd", "id"],
-        b"# odd: version 1, 1970-01-01T00:00:00Z\nca: all\nserial: 1\nserial: 3\nserial: 5\nserial: 7
+        b"# odd: version 1, 1970-01-01T00:00:00Z
+ca: all\nserial: 1\nserial: 3\nserial: 5\nserial: 7
 # id: version 1, 1970-01-01T00:00:00Z\nca: all\nid: a\n",
         0,
         None,
@@ -89,7 +90,8 @@ hash: SHA256:+DiY3wvvV6TuJJhbpZisF/zLDA0zPMSvHdkr4UvCOqU\n",
     (
         Form::Json,
         &["said", "odd", "plain"],
-        b"{\"list\":\"said\",\"version\":\"7\",\"generated\":\"1970-01-01T00:00:00Z\",\"comment\":\"a\\nb\"}
+        b"{\"list\":\"said\",\"version\":\"7\",\"generated\":\"1970-01-01T00:00:00Z\",\
+\"comment\":\"a\\nb\"}
 {\"list\":\"odd\",\"version\":\"1\",\"generated\":\"1970-01-01T00:00:00Z\",\"comment\":\"\"}
 {\"ca\":\"all\",\"serial\":[1,1]}
 {\"ca\":\"all\",\"serial\":[3,3]}
