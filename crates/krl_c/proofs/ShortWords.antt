@@ -1,6 +1,7 @@
 -- No words are longer than 64 bytes.
 use Rattle.std.proofs.Common.{◌+◌, ◌≤◌, arith, Bool, false, IfSome, length, length-append, List, negsuc, None, Option, pos, Some, suc, true, ℕ, ℤ}
 use Rattle.std.specs.Prelude.{◌/◌, ◌%◌, ◌==◌, codes, if◌then◌else◌}
+use Rattle.std.specs.Fmt.{digits}
 use Rattle.krl_c.specs.Words.{behind, cert_words, key_words, line_words, list_words, or_unknown, plain_words, refusal, words}
 
 -- there are no words, or they have at most this many bytes
@@ -19,6 +20,7 @@ row true one other is also = is
 row false one other is also = also
 
 of_list : (n : ℕ) → IsWithin 64 (list_words n)
+unfolding digits
 of_list n =
     row (n == 1) _ _ (some (omega arith)) (
     row (n == 2) _ _ (some (omega arith)) (

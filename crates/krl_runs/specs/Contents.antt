@@ -12,8 +12,8 @@ use Rattle.ssh_cert.specs.Escape.{escaped}
 use Rattle.cert_listing.specs.Time.{instant_text}
 use Rattle.krl_entries.specs.Revocations.{Revocations, Section}
 use Rattle.krl_format.specs.declared.header.Header.{Header}
-use Rattle.krl_format.specs.declared.place.list.ItemKind.{ItemKind}
-use Rattle.krl_format.specs.declared.place.list.ItemKind.TheVariants as kinds
+use Rattle.krl_format.specs.declared.section.ItemKind.{ItemKind}
+use Rattle.krl_format.specs.declared.section.ItemKind.TheVariants as kinds
 use Rattle.key_listing.specs.Run.{Item}
 use Rattle.key_listing.specs.Run.{said_of}
 
