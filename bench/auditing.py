@@ -70,6 +70,9 @@ def auditing():
         os.mkdir("many")
         for number in range(count):
             os.close(os.open("many/file %d" % number, os.O_CREAT))
+        # A directory of which no file is taken would be reported as unread.
+        with open("many/authorized_keys", "w") as out:
+            out.write(specs.key_line(1 << 60))
         taken = least([AUDIT, "audit", "-f", "list.krl", "many"])
         print(
             "%-48s %6s %s" % ("a directory of %d files that are not read" % count, "", own(taken)),
