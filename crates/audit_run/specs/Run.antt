@@ -21,7 +21,7 @@ use Rattle.key_listing.specs.declared.done.Done.{Done}
 use Rattle.krl_audit.specs.declared.judge.Form.{Form}
 use Rattle.krl_audit.specs.declared.judge.Form.TheVariants as forms
 use Rattle.krl_audit.specs.declared.judge.Shown.{Shown}
-use Rattle.krl_authority.specs.Authority.{AuthoritiesAreKeys}
+use Rattle.krl_openssh.specs.Authority.{AuthoritiesAreKeys}
 use Rattle.krl_format.specs.Krl.{SpelledSection, Spells}
 use Rattle.krl_format.specs.declared.header.Header.{Header}
 use Rattle.audit_run.specs.Fact.{Fact}

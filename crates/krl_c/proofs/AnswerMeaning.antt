@@ -13,7 +13,7 @@ use Rattle.krl_entries.specs.Revocations.{Revocations}
 use Rattle.krl_format.specs.Front.{IsFirstFault}
 use Rattle.krl_core.specs.Reading.{IsListAs}
 use Rattle.krl_format.specs.Faults.{failed_read, first}
-use Rattle.krl_authority.specs.Authority.{AuthoritiesAreKeys}
+use Rattle.krl_openssh.specs.Authority.{AuthoritiesAreKeys}
 use Rattle.krl_c.specs.declared.refusal.Refusal.{Refusal}
 use Rattle.ssh_cert.specs.declared.subject_fault.SubjectFault.TheVariants as subjects
 use Rattle.key_text.specs.LineFaults.{IsReportedFault as IsReportedLineFault}

@@ -11,7 +11,7 @@ use Rattle.krl_types.specs.Entry.{Entry}
 use Rattle.krl_format.specs.Front.{IsFirstFault}
 use Rattle.krl_entries.specs.Revoked.{Revoked}
 use Rattle.plain_list.specs.Any.{IsListOf}
-use Rattle.krl_authority.specs.Authority.{AuthoritiesAreKeys}
+use Rattle.krl_openssh.specs.Authority.{AuthoritiesAreKeys}
 use Rattle.krl_types.specs.declared.krl_fault.KrlFault.TheVariants.{NoMemory}
 use Rattle.krl_c.specs.declared.refusal.Refusal.{Refusal}
 use Rattle.krl_c.specs.declared.refusal.Refusal.TheVariants as refusals

@@ -20,7 +20,7 @@ use Rattle.krl_format.specs.Section.{section_row}
 use Rattle.krl_format.specs.declared.place.field.Field.TheVariants as fields
 use Rattle.krl_format.specs.declared.section.Section.TheVariants as section_kinds
 use Rattle.krl_format.proofs.Judgements.{held_back, same_place}
-use Rattle.krl_authority.specs.Authority.{AuthoritiesAreKeys, HasKeyOrAll, IsKeyOrAll}
+use Rattle.krl_openssh.specs.Authority.{AuthoritiesAreKeys, HasKeyOrAll, IsKeyOrAll}
 use Rattle.krl_openssh.specs.Difference.{authority_difference, judgement_difference, key_difference}
 use Rattle.krl_openssh.proofs.AlikeLists.{IsAlike, IsBoundary, follow, last_front, one_more}
 

@@ -1,2 +1,3 @@
+pub mod Authority
 pub mod Difference
 pub mod Fields

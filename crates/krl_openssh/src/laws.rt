@@ -5,7 +5,7 @@ ghost use Rattle.ssh_wire.specs.Wire.{IsBytes};
 ghost use Rattle.krl_format.specs.Front.{IsFirstFault};
 ghost use Rattle.krl_format.specs.Krl.{SpelledSection, Spells};
 ghost use Rattle.krl_format.specs.declared.header.Header.{Header};
-ghost use Rattle.krl_authority.specs.Authority.{AuthoritiesAreKeys};
+ghost use Rattle.krl_openssh.specs.Authority.{AuthoritiesAreKeys};
 ghost use Rattle.krl_openssh.specs.Fields.{HasFields, IsFirstDifference};
 
 use krl_format::laws::no_fault_where_spelled;

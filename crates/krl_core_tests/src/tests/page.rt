@@ -1,8 +1,7 @@
-//! The callers of the pages of `krl_entries`, `krl_format`, `krl_core`, `krl_queries`, `krl_types`,
-//! `krl_authority` and `krl_writer`.
+//! The callers of the pages of `krl_entries`, `krl_format`, `krl_core`, `krl_queries`, `krl_types`
+//! and `krl_writer`.
 
 use byte_streams::FromRead;
-use krl_authority::authorities_are_keys;
 use krl_core::{Header, Revocations, Walk, read_krl};
 use krl_format::Place;
 use krl_queries::Questions;
@@ -12,7 +11,6 @@ use span_sets::Held;
 use ssh_cert::{Subject, subject};
 use ssh_wire::Bytes;
 use std::alloc::{AllocError, Global};
-use std::process::Abort;
 use test_fixtures::{HEADER, PUBLISHED, joined, strings};
 
 /// Whether one revoked key is what is asked about, or its certificate's authority.
@@ -88,29 +86,6 @@ fn a_fault_is_of_the_list_or_not(rt: HostRuntime) {
     assert!(rt; !may_be_good(cut.err().expect(&rt, "a list that was cut is refused")));
     assert!(rt; may_be_good(KrlFault::Read));
     assert!(rt; may_be_good(KrlFault::NoMemory));
-}
-
-/// Whether a list can be read, and asked by comparing bytes.
-fn can_be_asked(alloc: Global, list: &[u8]) -> bool {
-    let (read, _reader) = read_krl::<Held, _>(alloc, FromRead::new(list));
-    read.is_ok() && authorities_are_keys(list)
-}
-
-// Whether a list with one section, under this authority, can be queried.
-fn can_be_asked_under(rt: &impl Abort, alloc: Global, authority: &[u8]) -> bool {
-    let content = strings(alloc, &[authority, b""]).expect(rt, "there is memory");
-    let section = strings(alloc, &[&content]).expect(rt, "there is memory");
-    let list = joined(alloc, &[&HEADER, &[1], &section]).expect(rt, "there is memory");
-    can_be_asked(alloc, &list)
-}
-
-#[test]
-fn authorities_are_looked_at(rt: HostRuntime) {
-    let key = strings(rt.alloc(), &[b"ssh-ed25519", &PUBLISHED]).expect(&rt, "there is memory");
-    let odd = strings(rt.alloc(), &[b"ssh-ed25519\0", &PUBLISHED]).expect(&rt, "there is memory");
-    assert!(rt; can_be_asked_under(&rt, rt.alloc(), &key));
-    assert!(rt; can_be_asked_under(&rt, rt.alloc(), b""));
-    assert!(rt; !can_be_asked_under(&rt, rt.alloc(), &odd));
 }
 
 /// The bytes of a list that revokes one key.

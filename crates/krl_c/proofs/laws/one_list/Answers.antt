@@ -1,6 +1,6 @@
 -- The list has one spelling and one first fault.
 use Rattle.krl_c.proofs.Common.{◌∙◌, ap, entries_of, None, Some, subst, sym}
-use Rattle.krl_authority.specs.Authority.{AuthoritiesAreKeys}
+use Rattle.krl_openssh.specs.Authority.{AuthoritiesAreKeys}
 use Rattle.krl_c.proofs.laws.one_list.Goals as goal
 
 pub returns : goal.returns

@@ -2,8 +2,8 @@
 use Rattle.std.proofs.Common.{[], ◌∙◌, subst, sym}
 use Rattle.std.proofs.lemmas.Bool.{false≢true}
 use Rattle.ssh_wire.specs.Rows.{BeginsWithPart}
-use Rattle.krl_authority.proofs.Spelled.{Leaves, leaves_field, leaves_next}
-use Rattle.krl_authority.proofs.sections.past_header.Goals as goal
+use Rattle.krl_openssh.proofs.Spelled.{Leaves, leaves_field, leaves_next}
+use Rattle.krl_openssh.proofs.authorities.past_header.Goals as goal
 
 pub loop-at-init : goal.loop-at-init
 loop-at-init c = λ header sections spells.

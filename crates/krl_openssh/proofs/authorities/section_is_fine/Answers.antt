@@ -2,8 +2,8 @@
 use Rattle.std.proofs.Common.{◌∙◌, ap, refl}
 use Rattle.krl_format.specs.declared.place.Place.TheVariants as places
 use Rattle.krl_format.specs.declared.section.Section.{Section as SectionKind}
-use Rattle.krl_authority.proofs.Spelled.{has_string, has_type, is_other, is_plain, judged_certificates, judged_never, judged_plain, judged_signature, next_is}
-use Rattle.krl_authority.proofs.sections.section_is_fine.Goals as goal
+use Rattle.krl_openssh.proofs.Spelled.{has_string, has_type, is_other, is_plain, judged_certificates, judged_never, judged_plain, judged_signature, next_is}
+use Rattle.krl_openssh.proofs.authorities.section_is_fine.Goals as goal
 
 pub returns-in_default-clause-judged : goal.returns-in_default-clause-judged
 returns-in_default-clause-judged c = λ section first rest spells parts.

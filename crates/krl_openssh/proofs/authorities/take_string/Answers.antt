@@ -3,8 +3,8 @@ use Rattle.std.proofs.Common.{ap, ◌∙◌, arith, length-append}
 use Rattle.ssh_wire.specs.Wire.{string}
 use Rattle.ssh_wire.specs.Reading.{string_at}
 use Rattle.ssh_wire.proofs.Fields.{length-string, string_again}
-use Rattle.krl_authority.proofs.Spelled.{not_both, taken_is}
-use Rattle.krl_authority.proofs.sections.take_string.Goals as goal
+use Rattle.krl_openssh.proofs.Spelled.{not_both, taken_is}
+use Rattle.krl_openssh.proofs.authorities.take_string.Goals as goal
 
 pub returns-in-Ok-clause-shorter : goal.returns-in-Ok-clause-shorter
 returns-in-Ok-clause-shorter c =

@@ -22,7 +22,7 @@ use Rattle.krl_format.specs.declared.section.Subsection.{Subsection as Subsectio
 use Rattle.krl_format.proofs.Judgements.{same_place}
 use Rattle.krl_format.proofs.OneSpelling.{section_type}
 use Rattle.krl_format.proofs.TableRows.{after_is, fields_at}
-use Rattle.krl_authority.specs.Authority.{AuthoritiesAreKeys, IsJudged, IsKeyOrAll}
+use Rattle.krl_openssh.specs.Authority.{AuthoritiesAreKeys, IsJudged, IsKeyOrAll}
 
 -- ---- what was read
 

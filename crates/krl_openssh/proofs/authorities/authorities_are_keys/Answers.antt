@@ -2,8 +2,8 @@
 use Rattle.std.proofs.Common.{refl, sym, subst, ◌∙◌}
 use Rattle.std.proofs.lemmas.Bool.{false≢true}
 use Rattle.krl_format.specs.Krl.{SpellsEach, SpellsSection}
-use Rattle.krl_authority.proofs.Spelled.{ends, goes_on, refuses}
-use Rattle.krl_authority.proofs.sections.authorities_are_keys.Goals as goal
+use Rattle.krl_openssh.proofs.Spelled.{ends, goes_on, refuses}
+use Rattle.krl_openssh.proofs.authorities.authorities_are_keys.Goals as goal
 
 pub returns-in_default : goal.returns-in_default
 returns-in_default c = λ header sections spells. absurd (c.in_default.ensures header sections spells)

@@ -5,8 +5,8 @@ use Rattle.std.proofs.lemmas.Bool.{false≢true}
 use Rattle.ssh_key.specs.Key.{PublicKey}
 use Rattle.ssh_key.specs.KeyReading.{key_at}
 use Rattle.openssh_keys.specs.Judgement.{judgement_of}
-use Rattle.krl_authority.proofs.Spelled.{not_both, one_read}
-use Rattle.krl_authority.proofs.sections.is_key_or_all.Goals as goal
+use Rattle.krl_openssh.proofs.Spelled.{not_both, one_read}
+use Rattle.krl_openssh.proofs.authorities.is_key_or_all.Goals as goal
 
 pub returns-in-Err : goal.returns-in-Err
 returns-in-Err c = (

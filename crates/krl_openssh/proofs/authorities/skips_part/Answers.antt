@@ -5,7 +5,7 @@ use Rattle.ssh_wire.specs.Rows.{BeginsWithPart}
 use Rattle.ssh_wire.specs.Wire.{number}
 use Rattle.ssh_wire.proofs.Fields.{length-number}
 use Rattle.krl_format.specs.Field.{part_of}
-use Rattle.krl_authority.proofs.sections.skips_part.Goals as goal
+use Rattle.krl_openssh.proofs.authorities.skips_part.Goals as goal
 
 pub returns-in-Number : goal.returns-in-Number
 returns-in-Number c = λ value rest begins.

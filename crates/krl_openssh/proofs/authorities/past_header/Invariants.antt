@@ -2,8 +2,8 @@ use Rattle.std.proofs.Common.{List, length}
 use Rattle.krl_format.specs.Krl.{SpelledSection, Spells}
 use Rattle.krl_format.specs.declared.header.Header.{Header}
 use Rattle.krl_format.proofs.TableRows.{fields_at}
-use Rattle.krl_authority.proofs.Spelled.{Leaves}
-use Rattle.krl_authority.proofs.sections.past_header.Given as goal
+use Rattle.krl_openssh.proofs.Spelled.{Leaves}
+use Rattle.krl_openssh.proofs.authorities.past_header.Given as goal
 
 -- the other fields and the sections are left
 abbrev pub invariant-loop-at : goal.invariant-loop-at

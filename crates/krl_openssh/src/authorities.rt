@@ -9,7 +9,7 @@ ghost use Rattle.krl_format.specs.Krl.{SpelledSection, Spells, SpellsSection};
 ghost use Rattle.krl_format.specs.declared.header.Header.{Header as HeaderOf};
 ghost use Rattle.openssh_keys.specs.Judgement.{judgement_of};
 ghost use Rattle.openssh_keys.specs.declared.judgement.Judgement.TheVariants.{Accepted};
-ghost use Rattle.krl_authority.specs.Authority.{AuthoritiesAreKeys, IsJudged, IsKeyOrAll};
+ghost use Rattle.krl_openssh.specs.Authority.{AuthoritiesAreKeys, IsJudged, IsKeyOrAll};
 
 use krl_format::{Field, FieldPart, Place, Section};
 use openssh_keys::{Judgement, judge};
@@ -36,9 +36,8 @@ pub fn authorities_are_keys(list: &[u8]) -> bool
     true
 }
 
-/// Whether an authority is a key in its one spelling that OpenSSH accepts, or empty. Does not
-/// allocate.
-pub fn is_key_or_all(authority: &[u8]) -> bool
+// Whether an authority is a key in its one spelling that OpenSSH accepts, or empty.
+fn is_key_or_all(authority: &[u8]) -> bool
     ensures { IsTrue result ↔ IsKeyOrAll authority.now }
 {
     read_where_spelled();
