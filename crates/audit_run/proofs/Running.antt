@@ -17,7 +17,7 @@ use Rattle.krl_audit.specs.declared.judge.Shown.{Shown}
 use Rattle.audit_run.specs.Fact.{Fact}
 use Rattle.audit_run.specs.Run.{AreGiven, IsAudit, all_audited, ended_at_revoked, last_items, lost, names_fault, no_names, ran_out, stop_fault}
 use Rattle.audit_run.specs.Visits.{Audits, Says, State, Tally, Visit, visits_items}
-use Rattle.audit_run.specs.declared.run.Order.{Order}
+use Rattle.audit_run.specs.declared.order.Order.{Order}
 use Rattle.audit_run.specs.declared.run.Queried.{Queried}
 use Rattle.audit_run.specs.declared.stop.Stop.{Stop}
 use Rattle.audit_run.specs.declared.stop.Stop.TheVariants as stops

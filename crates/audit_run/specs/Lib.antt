@@ -6,3 +6,4 @@ pub mod Walk
 pub mod Named
 pub mod Run
 pub mod Options
+pub mod Order

@@ -30,7 +30,7 @@ use Rattle.audit_run.specs.Visits.{AreTimely, State, Tally, Visit, all_tallied, 
 use Rattle.audit_run.specs.Visits.{visits_items}
 use Rattle.audit_run.specs.declared.run.Audited.{Audited}
 use Rattle.audit_run.specs.declared.run.Audited.TheVariants as ends
-use Rattle.audit_run.specs.declared.run.Order.{Order}
+use Rattle.audit_run.specs.declared.order.Order.{Order}
 use Rattle.audit_run.specs.declared.run.Queried.{Queried}
 use Rattle.audit_run.specs.declared.stop.Stop.{Stop}
 use Rattle.audit_run.specs.declared.stop.Stop.TheVariants as stops

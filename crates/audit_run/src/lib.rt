@@ -7,6 +7,7 @@ mod kind;
 mod named;
 mod names;
 mod options;
+mod order;
 mod round;
 mod run;
 mod stop;
@@ -15,6 +16,7 @@ mod walk;
 
 pub use kind::{Found, Identity, Kind, Opened, What};
 pub use options::Options;
+pub use order::Order;
 pub use round::Screen;
-pub use run::{Audited, Given, Order, audit_run};
+pub use run::{Audited, Given, audit_run};
 pub use tree::Tree;

@@ -11,6 +11,7 @@ ghost use Rattle.audit_run.specs.Run.{summary_of, summary_unless};
 ghost use Rattle.audit_run.specs.Visits.{Went};
 
 use crate::named::{audit_listed, audit_paths};
+use crate::order::Order;
 use crate::round::{Round, Screen};
 use crate::stop::Stop;
 use crate::tree::Tree;
@@ -25,21 +26,6 @@ use krl_openssh::authorities_are_keys;
 use span_sets::Held;
 use ssh_wire::Bytes;
 use std::alloc::Global;
-
-/// The task that the command asks for.
-#[derive(Clone, Copy)]
-pub struct Order<'a> {
-    /// The name of the list.
-    pub list: &'a str,
-    /// Which findings are printed, and how.
-    pub shown: Shown,
-    /// Whether every regular file of a directory is read, whatever its name.
-    pub every_file: bool,
-    /// The file of names of files, if there is one.
-    pub names_from: &'a str,
-    /// The files and directories that are named.
-    pub paths: &'a [&'a str],
-}
 
 // A list that was read.
 #[derive(Clone, Copy)]

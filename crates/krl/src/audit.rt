@@ -7,7 +7,7 @@ use crate::disk::Disk;
 use crate::ending::end_audit;
 use crate::loading::bytes_of;
 use crate::screen::{Screen, has_colours};
-use audit_run::{Given, Options, Order, audit_run};
+use audit_run::{Given, Order, audit_run};
 use byte_streams::{FromRead, Source};
 use key_files::{Cause, FileFault, RunFault};
 use krl_arguments::Audit;
@@ -21,19 +21,16 @@ pub fn audit(rt: &HostRuntime, task: &Audit) -> u8 {
         Ok(list) => list,
         Err(cause) => return stop(rt, &Krl, &RunFault::whole(task.list, cause)),
     };
-    let Some(from) = task.names_from else {
-        return audit_by(rt, task, list, None::<FromRead<File>>);
-    };
-    if from == "-" {
-        return audit_by(rt, task, list, Some(FromRead::new(rt.stdin())));
-    }
-    match fs::open(rt, from) {
-        Ok(names) => audit_by(rt, task, list, Some(FromRead::new(names))),
-        Err(_) => stop(
-            rt,
-            &Krl,
-            &RunFault::whole(from, Cause::File(FileFault::Open)),
-        ),
+    match task.names_from {
+        None => audit_by(rt, task, list, None::<FromRead<File>>),
+        Some("-") => audit_by(rt, task, list, Some(FromRead::new(rt.stdin()))),
+        Some(name) => match fs::open(rt, name) {
+            Ok(names) => audit_by(rt, task, list, Some(FromRead::new(names))),
+            Err(_) => {
+                let cause = Cause::File(FileFault::Open);
+                stop(rt, &Krl, &RunFault::whole(name, cause))
+            }
+        },
     }
 }
 
@@ -41,23 +38,10 @@ pub fn audit(rt: &HostRuntime, task: &Audit) -> u8 {
 fn audit_by<N: Source + Drop>(rt: &HostRuntime, task: &Audit, list: Bytes, names: Option<N>) -> u8
     requires { IfSome names (λ names. N.has_failed names ≡ false) }
 {
-    let options = Options {
-        quiet: task.quiet,
-        all: task.all,
-        json: task.json,
-        colours: has_colours(rt),
-    };
-    let order = Order {
-        list: task.list,
-        shown: options.shown(),
-        every_file: task.every_file,
-        names_from: task.names_from.unwrap_or(""),
-        paths: task.files.as_slice(),
-    };
-    let disk = Disk::new(rt);
-    let given = Given { tree: &disk, names };
+    let order = Order::of(task, has_colours(rt));
+    let tree = &Disk::new(rt);
     let mut screen = Screen::new(rt);
-    let audited = audit_run(rt.alloc(), &order, list, given, &mut screen);
+    let audited = audit_run(rt.alloc(), &order, list, Given { tree, names }, &mut screen);
     screen.wipe();
     end_audit(rt, task.list, audited)
 }
