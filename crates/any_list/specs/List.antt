@@ -9,13 +9,10 @@ use Rattle.krl_format.specs.declared.header.Header.{Header}
 use Rattle.krl_entries.specs.Revocations.{Means}
 use Rattle.plain_list.specs.Any.{Names, NamesLines, NamesWhole, begins_list}
 use Rattle.plain_list.specs.List.{HasFault}
-use Rattle.plain_list.specs.declared.fault.LineCause.{LineCause}
-use Rattle.plain_list.specs.declared.fault.LineCause.TheVariants as line_causes
 use Rattle.plain_list.specs.declared.fault.PlainFault.{PlainFault}
 use Rattle.plain_list.specs.declared.fault.PlainFault.TheVariants as plain_faults
 use Rattle.key_files.specs.Keys.{run_fault_at}
 use Rattle.key_files.specs.RunFault.{RunFault, krl_cause, run_fault_of}
-use Rattle.key_files.specs.declared.cause.Cause.{Cause}
 use Rattle.key_files.specs.declared.cause.Cause.TheVariants as causes
 use Rattle.krl_audit.specs.declared.done.Stated.{Stated}
 use Rattle.any_list.specs.declared.list.List.{List as ListOf}
@@ -59,13 +56,9 @@ pub data IsWholeFault (name bytes : List ℕ) (stop : RunFault) : Type 0 where
   whole_fault : (fault : KrlFault) → IsFirstFault bytes (Some fault)
       → stop ≡ run_fault_of name (krl_cause fault) → IsWholeFault name bytes stop
 
-abbrev pub line_run_cause : LineCause → Cause
-line_run_cause (line_causes.Line fault) = causes.Line fault
-line_run_cause (line_causes.Subject fault) = causes.Subject fault
-
 abbrev pub plain_run_fault : List ℕ → PlainFault → RunFault
 plain_run_fault name (plain_faults.Line number cause) =
-    run_fault_at name number (line_run_cause cause)
+    run_fault_at name number (causes.Key cause)
 plain_run_fault name plain_faults.TooLong = run_fault_of name (causes.Krl krl_faults.TooLong)
 plain_run_fault name plain_faults.NoMemory = run_fault_of name causes.NoMemory
 

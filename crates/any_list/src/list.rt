@@ -2,15 +2,14 @@
 
 ghost use Rattle.std.specs.Prelude.{◌≡◌, IfErr, IfOk};
 ghost use Rattle.any_list.specs.List.{IsLinesFault, IsListFault, IsReadLines, IsReadList};
-ghost use Rattle.any_list.specs.List.{IsReadWhole, IsWholeFault, line_run_cause};
-ghost use Rattle.any_list.specs.List.{plain_run_fault, sha256_if};
+ghost use Rattle.any_list.specs.List.{IsReadWhole, IsWholeFault, plain_run_fault, sha256_if};
 
 use byte_streams::Lent;
 use key_files::{Cause, RunFault, cause_of};
 use key_text::sha256_of;
 use krl_audit::Stated;
 use krl_core::{KrlFault, MAGIC, Revocations, read_krl};
-use plain_list::{LineCause, PlainFault, read_plain};
+use plain_list::{PlainFault, read_plain};
 use span_sets::Held;
 use std::alloc::Global;
 
@@ -98,18 +97,8 @@ fn plain_fault<'a>(name: &'a str, fault: PlainFault) -> RunFault<'a>
     ensures { result ≡ plain_run_fault name.now fault }
 {
     match fault {
-        PlainFault::Line { number, cause } => RunFault::at_line(name, number, line_cause(cause)),
+        PlainFault::Line { number, cause } => RunFault::at_line(name, number, Cause::Key(cause)),
         PlainFault::TooLong => RunFault::whole(name, Cause::Krl(KrlFault::TooLong)),
         PlainFault::NoMemory => RunFault::whole(name, Cause::NoMemory),
-    }
-}
-
-// The cause of a line that is refused.
-fn line_cause(cause: LineCause) -> Cause
-    ensures { result ≡ line_run_cause cause }
-{
-    match cause {
-        LineCause::Line(fault) => Cause::Line(fault),
-        LineCause::Subject(fault) => Cause::Subject(fault),
     }
 }

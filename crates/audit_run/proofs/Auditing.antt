@@ -115,11 +115,9 @@ stopped_by before all items (causes.File f) fault now is at =
     record { said = at.said; later = Stopped fault ∷ at.later; parts = is ∙ at.parts; has_said = at.has_said }
 stopped_by before all items (causes.Krl f) fault now is at =
     record { said = at.said; later = Stopped fault ∷ at.later; parts = is ∙ at.parts; has_said = at.has_said }
-stopped_by before all items (causes.Line f) fault now is at =
+stopped_by before all items (causes.Key f) fault now is at =
     record { said = at.said; later = Stopped fault ∷ at.later; parts = is ∙ at.parts; has_said = at.has_said }
 stopped_by before all items (causes.Private f) fault now is at =
-    record { said = at.said; later = Stopped fault ∷ at.later; parts = is ∙ at.parts; has_said = at.has_said }
-stopped_by before all items (causes.Subject f) fault now is at =
     record { said = at.said; later = Stopped fault ∷ at.later; parts = is ∙ at.parts; has_said = at.has_said }
 stopped_by before all items (causes.Spec f) fault now is at =
     record { said = at.said; later = Stopped fault ∷ at.later; parts = is ∙ at.parts; has_said = at.has_said }
@@ -134,9 +132,8 @@ not_tallied reasons visits (causes.Output count) old new = tt
 not_tallied reasons visits causes.NoMemory old new = tt
 not_tallied reasons visits (causes.File f) old new = tt
 not_tallied reasons visits (causes.Krl f) old new = tt
-not_tallied reasons visits (causes.Line f) old new = tt
+not_tallied reasons visits (causes.Key f) old new = tt
 not_tallied reasons visits (causes.Private f) old new = tt
-not_tallied reasons visits (causes.Subject f) old new = tt
 not_tallied reasons visits (causes.Spec f) old new = tt
 not_tallied reasons visits causes.VersionFull old new = tt
 not_tallied reasons visits causes.TextTooLong old new = tt

@@ -12,6 +12,7 @@ use Rattle.key_text.specs.declared.private_fault.PrivateFault.{PrivateFault}
 use Rattle.ssh_cert.specs.declared.subject_fault.SubjectFault.{SubjectFault}
 use Rattle.key_files.specs.declared.cause.Cause.{Cause}
 use Rattle.key_files.specs.declared.cause.Cause.TheVariants as causes
+use Rattle.keyed_lines.specs.declared.key_cause.KeyCause.TheVariants as keys
 use Rattle.key_files.specs.declared.file_fault.FileFault.{FileFault}
 use Rattle.key_text.specs.Lines.{is_newline}
 use Rattle.key_files.specs.RunFault.{RunFault, EndedBy, ByOutput, ByMemory, ByInput, ended_by}
@@ -42,7 +43,7 @@ held_by opened = content [] opened.blob opened.comment
 
 -- the key of a line that has one, or why the file stops there
 abbrev pub key_of_line : List ℕ → ℕ → Result KeyLine LineFault → Result FileKey RunFault
-key_of_line name number (Err fault) = Err (run_fault_at name number (causes.Line fault))
+key_of_line name number (Err fault) = Err (run_fault_at name number (causes.Key (keys.Line fault)))
 key_of_line name number (Ok line) = Ok (file_key_of name (Some number) line)
 
 abbrev pub key_of_container : List ℕ → Result Opened PrivateFault → Result FileKey RunFault
@@ -99,4 +100,4 @@ GivesNext left (Some given) later =
 -- a fault of a key's blob
 abbrev pub run_fault_in : FileKey → SubjectFault → RunFault
 run_fault_in key fault =
-    record { name = key.name; line = key.number; cause = causes.Subject fault }
+    record { name = key.name; line = key.number; cause = causes.Key (keys.Subject fault) }

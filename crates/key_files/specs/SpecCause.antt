@@ -1,10 +1,7 @@
 -- The numbers and the printed names of the faults of a specification file's line.
 use Rattle.std.specs.Prelude.{ℕ, List, ◌++◌, codes}
 use Rattle.key_text.specs.FingerprintFault.{fingerprint_fault_text}
-use Rattle.key_text.specs.LineFault.{fault_text}
-use Rattle.ssh_cert.specs.SubjectFault.{subject_fault_text}
-use Rattle.key_files.specs.declared.spec_cause.KeyCause.{KeyCause}
-use Rattle.key_files.specs.declared.spec_cause.KeyCause.TheVariants.{Line, Subject}
+use Rattle.keyed_lines.specs.KeyCause.{key_cause_text}
 use Rattle.key_files.specs.declared.spec_cause.SpecCause.{SpecCause}
 use Rattle.key_files.specs.declared.spec_cause.SpecCause.TheVariants.{Number, Zero, Reversed}
 use Rattle.key_files.specs.declared.spec_cause.SpecCause.TheVariants.{NoAuthority, EmptyId, Key}
@@ -19,10 +16,6 @@ spec_cause_number EmptyId = 5
 spec_cause_number (Key cause) = 6
 spec_cause_number (Fingerprint fault) = 7
 spec_cause_number NoMemory = 8
-
-abbrev pub key_cause_text : KeyCause → List ℕ
-key_cause_text (Line fault) = fault_text fault
-key_cause_text (Subject fault) = subject_fault_text fault
 
 abbrev pub spec_cause_text : SpecCause → List ℕ
 spec_cause_text Number = codes "spec 1 Number"

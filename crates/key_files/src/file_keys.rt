@@ -20,6 +20,7 @@ use key_text::{
     Line, LineFault, Private, PrivateFault, has_key, is_container, read_line, read_private,
     split_line,
 };
+use keyed_lines::KeyCause;
 use ssh_cert::{AnyKey, read_any};
 use std::alloc::Global;
 use std::marker::Model;
@@ -89,7 +90,7 @@ impl<'a> FileKey<'a> {
             Err(fault) => Err(RunFault {
                 name: self.name,
                 line: self.number,
-                cause: Cause::Subject(fault),
+                cause: Cause::Key(KeyCause::Subject(fault)),
             }),
         }
     }
@@ -253,6 +254,6 @@ fn key_of_line<'a>(
             text: KeyText::Line(line),
         }),
         Err(LineFault::NoMemory) => Err(RunFault::whole(name, Cause::NoMemory)),
-        Err(fault) => Err(RunFault::at_line(name, number, Cause::Line(fault))),
+        Err(fault) => Err(RunFault::at_line(name, number, Cause::Key(KeyCause::Line(fault)))),
     }
 }

@@ -11,6 +11,7 @@ mod spec_cause;
 pub use cause::{Cause, cause_of};
 pub use file_fault::FileFault;
 pub use file_keys::{FileKey, FileKeys, keys_of};
+pub use keyed_lines::KeyCause;
 pub use named::{LIMIT, Named, load};
 pub use run_fault::{RunFault, fault_text};
-pub use spec_cause::{KeyCause, SpecCause};
+pub use spec_cause::SpecCause;

@@ -1,34 +1,14 @@
 //! Why a line of a specification file is faulty.
 
 ghost use Rattle.std.specs.Prelude.{◌≡◌, Some};
-ghost use Rattle.key_files.specs.SpecCause.{key_cause_text, spec_cause_number, spec_cause_text};
+ghost use Rattle.key_files.specs.SpecCause.{spec_cause_number, spec_cause_text};
 ghost use Rattle.key_files.specs.declared.spec_cause.SpecCause.TheVariants.{NoMemory};
 
-use key_text::{FingerprintFault, LineFault};
-use ssh_cert::SubjectFault;
+use key_text::FingerprintFault;
+use keyed_lines::KeyCause;
 use std::alloc::AllocError;
 use std::error::Error;
 use std::fmt;
-
-/// Why a key line names no key.
-#[derive(Clone, Copy, Debug, PartialEq, Eq)]
-pub enum KeyCause {
-    /// It is not a key line.
-    Line(LineFault),
-    /// Its blob is neither that of a plain key nor of a certificate.
-    Subject(SubjectFault),
-}
-
-impl fmt::Display for KeyCause {
-    ghost output = { λ cause. Some (key_cause_text cause) };
-
-    fn fmt<W: fmt::Write>(&self, f: &mut fmt::Formatter<W>) -> fmt::Result {
-        match self {
-            KeyCause::Line(fault) => fault.fmt(f),
-            KeyCause::Subject(fault) => fault.fmt(f),
-        }
-    }
-}
 
 /// Why a line of a specification file is faulty. It prints as `spec`, its number and its name;
 /// after `Key` and `Fingerprint` comes the fault of the key or of the fingerprint.

@@ -20,7 +20,8 @@ use Rattle.ssh_cert.specs.SubjectReading.{IsSubject, subject_of}
 use Rattle.ssh_cert.specs.declared.subject_fault.SubjectFault.{SubjectFault}
 use Rattle.ssh_cert.proofs.Subjects.{plain_is_key}
 use Rattle.key_listing.specs.declared.answer.Answer.{Answer}
-use Rattle.key_files.specs.declared.cause.Cause.TheVariants.{Line}
+use Rattle.keyed_lines.specs.declared.key_cause.KeyCause.TheVariants.{Line}
+use Rattle.key_files.specs.declared.cause.Cause.TheVariants.{Key}
 use Rattle.key_listing.specs.Items.{SpellsKey}
 use Rattle.key_files.specs.Keys.{file_key_of, key_in, key_of_line, run_fault_at}
 use Rattle.key_listing.specs.Run.{Answered, Answering, Stopped, file_key_item, item_of, key_item, said, subject_item}
@@ -36,7 +37,7 @@ unfolding item_of key_in
 line_read answer name number text read has is = rw has (ap (λ (r : Result KeyLine LineFault). Some (file_key_item answer (key_of_line name number r))) is)
 
 pub faulty_line : (answer : Answering) (name : List ℕ) (number : ℕ) (text : List ℕ) (fault : LineFault) → has_key text ≡ true → line_at text ≡ Err fault
-    → item_of answer name number text ≡ Some (Stopped (run_fault_at name number (Line fault)))
+    → item_of answer name number text ≡ Some (Stopped (run_fault_at name number (Key (Line fault))))
 faulty_line answer name number text fault has is_fault = line_read answer name number text (Err fault) has is_fault
 
 pub line_item : (answer : Answering) (name : List ℕ) (number : ℕ) (text : List ℕ) (line : KeyLine) → has_key text ≡ true → line_at text ≡ Ok line

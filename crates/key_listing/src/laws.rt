@@ -17,8 +17,8 @@ ghost use Rattle.key_text.specs.declared.private_fault.PrivateFault.{PrivateFaul
 ghost use Rattle.ssh_cert.specs.SubjectReading.{IsSubject, IsSubjectFault};
 ghost use Rattle.ssh_cert.specs.declared.subject_fault.SubjectFault.{SubjectFault};
 ghost use Rattle.key_listing.specs.declared.answer.Answer.{Answer};
-ghost use Rattle.key_files.specs.declared.cause.Cause.TheVariants.{Line, Private};
-ghost use Rattle.key_files.specs.declared.cause.Cause.TheVariants.{Subject as Subjects};
+ghost use Rattle.keyed_lines.specs.declared.key_cause.KeyCause.TheVariants as keys;
+ghost use Rattle.key_files.specs.declared.cause.Cause.TheVariants.{Key, Private};
 ghost use Rattle.key_listing.specs.Items.{SpellsKey};
 ghost use Rattle.key_listing.specs.Listing.{certify, listed_certificate};
 ghost use Rattle.key_files.specs.Keys.{run_fault_at};
@@ -51,12 +51,13 @@ pub fn items_by_what_is_spelled()
         × (Some reply ≡ answer.say name (Some number) line asked key) }
     ensures line_fault { (answer : Answering) (name : List ℕ) (number : ℕ) (text : List ℕ)
         (fault : LineFault) → IsBytes text → has_key text ≡ true → IsFirstLineFault text fault
-        → item_of answer name number text ≡ Some (Stopped (run_fault_at name number (Line fault))) }
+        → item_of answer name number text
+        ≡ Some (Stopped (run_fault_at name number (Key (keys.Line fault)))) }
     ensures blob_fault { (answer : Answering) (name : List ℕ) (number : ℕ)
         (text word blob comment : List ℕ) (fault : SubjectFault)
         → has_key text ≡ true → IsKeyLine text word blob comment → IsSubjectFault blob fault
         → item_of answer name number text
-        ≡ Some (Stopped (run_fault_at name number (Subjects fault))) }
+        ≡ Some (Stopped (run_fault_at name number (Key (keys.Subject fault)))) }
 {
     line_read_where_spelled();
     line_refused_by_first_fault();

@@ -2,6 +2,7 @@
 use Rattle.std.specs.Prelude.{ℕ, List, codes}
 use Rattle.krl_types.specs.declared.krl_fault.KrlFault.{KrlFault}
 use Rattle.krl_types.specs.declared.krl_fault.KrlFault.TheVariants as lists
+use Rattle.keyed_lines.specs.declared.key_cause.KeyCause.TheVariants as keys
 use Rattle.key_files.specs.declared.cause.Cause.{Cause}
 use Rattle.key_files.specs.declared.cause.Cause.TheVariants as causes
 use Rattle.key_files.specs.declared.file_fault.FileFault.{FileFault}
@@ -37,8 +38,8 @@ krl_words lists.CriticalExtension = codes "a critical extension, which this prog
 abbrev pub cause_words : Cause → List ℕ
 cause_words (causes.File fault) = file_words fault
 cause_words (causes.Krl fault) = krl_words fault
-cause_words (causes.Line fault) = line_why fault
-cause_words (causes.Subject fault) = codes "the key is cut or misspelt"
+cause_words (causes.Key (keys.Line fault)) = line_why fault
+cause_words (causes.Key (keys.Subject fault)) = codes "the key is cut or misspelt"
 cause_words (causes.Private fault) = codes "the private key file is cut or misspelt"
 cause_words (causes.Spec fault) = codes "no line of a specification file"
 cause_words causes.NoMemory = codes "out of memory"

@@ -4,7 +4,7 @@ ghost use Rattle.std.specs.Prelude.{◌≡◌};
 ghost use Rattle.krl_audit.specs.Causes.{cause_words, file_words, krl_words};
 
 use crate::why::line_why;
-use key_files::{Cause, FileFault};
+use key_files::{Cause, FileFault, KeyCause};
 use krl_types::KrlFault;
 
 /// Why a run stops at a file, in words. Where the file is not opened, `refusal_words` says more.
@@ -14,8 +14,8 @@ pub fn cause_words(cause: Cause) -> &'static [u8]
     match cause {
         Cause::File(fault) => file_words(fault),
         Cause::Krl(fault) => krl_words(fault),
-        Cause::Line(fault) => line_why(fault),
-        Cause::Subject(_) => b"the key is cut or misspelt",
+        Cause::Key(KeyCause::Line(fault)) => line_why(fault),
+        Cause::Key(KeyCause::Subject(_)) => b"the key is cut or misspelt",
         Cause::Private(_) => b"the private key file is cut or misspelt",
         Cause::Spec(_) => b"no line of a specification file",
         Cause::NoMemory => b"out of memory",

@@ -23,24 +23,22 @@ use Rattle.key_text.specs.declared.private_fault.PrivateFault.{PrivateFault}
 use Rattle.krl_types.specs.Subject.{Subject}
 use Rattle.ssh_cert.specs.SubjectReading.{is_certificate, of_key, subject_of}
 use Rattle.krl_make.proofs.LineBytes.{lines_bytes}
-use Rattle.krl_spec.specs.Keys.{IsKeyCause, IsKeyFault, IsSubjectLine, subject_in}
-use Rattle.key_files.specs.declared.spec_cause.KeyCause.{KeyCause}
-use Rattle.key_files.specs.declared.spec_cause.KeyCause.TheVariants as keys
-use Rattle.key_files.specs.declared.spec_cause.SpecCause.{SpecCause}
-use Rattle.key_files.specs.declared.spec_cause.SpecCause.TheVariants as specs
-use Rattle.key_files.specs.Keys.{key_of_container, key_in, keys_from, key_of_line}
+use Rattle.keyed_lines.specs.Keys.{IsKeyFault, IsSubjectLine, subject_in}
+use Rattle.keyed_lines.specs.declared.key_cause.KeyCause.{KeyCause}
+use Rattle.keyed_lines.specs.declared.key_cause.KeyCause.TheVariants as keys
+use Rattle.key_files.specs.Keys.{key_of_container, key_in, keys_from, key_of_line, run_fault_at}
 use Rattle.key_files.specs.RunFault.{RunFault, run_fault_of}
 use Rattle.key_files.specs.declared.file_fault.FileFault.TheVariants as files
 use Rattle.key_files.specs.declared.cause.Cause.TheVariants as causes
-use Rattle.krl_make.specs.FirstKey.{HaveNoKey, IsFirstKey, IsFirstKeyFault, IsFirstKeyLine, in_container, in_line, key_run_fault, of_container, of_line, without_key}
+use Rattle.krl_make.specs.FirstKey.{HaveNoKey, IsFirstKey, IsFirstKeyFault, IsFirstKeyLine, in_container, in_line, of_container, of_line, without_key}
 use Rattle.krl_make.specs.Making.{file_run_fault, first_blob, first_key_of, key_blob}
 
 -- the laws of key lines and of containers
 pub record KeyLaws : Type 0 where
   pub keys : (text : List ℕ) (asked : Subject) → IsBytes text
       → (subject_in text ≡ Ok asked) ↔ IsSubjectLine text asked
-  pub no_keys : (text : List ℕ) (cause : SpecCause) → IsBytes text
-      → (subject_in text ≡ Err cause) ↔ IsKeyCause text cause
+  pub no_keys : (text : List ℕ) (cause : KeyCause) → IsBytes text
+      → (subject_in text ≡ Err cause) ↔ IsKeyFault text cause
   pub opened : (text blob comment : List ℕ) → IsBytes text
       → (private_at text ≡ Ok (record { blob = blob; comment = comment }))
       ↔ IsContainer text blob comment
@@ -54,10 +52,10 @@ pub record KeyLaws : Type 0 where
 abbrev line_key : List ℕ → ℕ → List ℕ → Result (List ℕ) RunFault
 line_key name number line = key_of_line name number (line_at line) >>= key_blob
 
--- reading a line here, and as a line of a specification file
+-- reading a line here, and as a key line
 data ReadLine (name : List ℕ) (number : ℕ) (line : List ℕ) : Type 0 where
   asks : (asked : Subject) → subject_in line ≡ Ok asked → line_key name number line ≡ Ok asked.plain → ReadLine name number line
-  asks_nothing : (fault : KeyCause) → subject_in line ≡ Err (specs.Key fault) → line_key name number line ≡ Err (key_run_fault name number fault) → ReadLine name number line
+  asks_nothing : (fault : KeyCause) → subject_in line ≡ Err fault → line_key name number line ≡ Err (run_fault_at name number (causes.Key fault)) → ReadLine name number line
 
 read_line : (name : List ℕ) (number : ℕ) (line : List ℕ) → ReadLine name number line
 unfolding subject_in
@@ -74,18 +72,15 @@ line_key_again laws name number line asked fits is =
     let given = (laws.keys line asked fits).1 is in
     elim (read_line name number line) [
       | asks other read key ↦ key ∙ ap (λ (s : Subject). Ok s.plain) (ok_is other asked (subject_in line) read given)
-      | asks_nothing fault read stop ↦ absurd (ok_or_err asked (specs.Key fault) (subject_in line) given read)
+      | asks_nothing fault read stop ↦ absurd (ok_or_err asked fault (subject_in line) given read)
     ]
 
-line_fault_met : KeyLaws → (name : List ℕ) (number : ℕ) (line : List ℕ) (fault : KeyCause) → IsBytes line → IsKeyFault line fault → line_key name number line ≡ Err (key_run_fault name number fault)
+line_fault_met : KeyLaws → (name : List ℕ) (number : ℕ) (line : List ℕ) (fault : KeyCause) → IsBytes line → IsKeyFault line fault → line_key name number line ≡ Err (run_fault_at name number (causes.Key fault))
 line_fault_met laws name number line fault fits first =
-    let given = (laws.no_keys line (specs.Key fault) fits).1 (fault, first, refl) in
+    let given = (laws.no_keys line fault fits).1 first in
     elim (read_line name number line) [
-      | asks asked read key ↦ absurd (ok_or_err asked (specs.Key fault) (subject_in line) read given)
-      | asks_nothing other read stop ↦
-          let causes_same = err_is (specs.Key other) (specs.Key fault) (subject_in line) read given in
-          let same : other ≡ fault = cc in
-          stop ∙ ap (λ (f : KeyCause). Err (key_run_fault name number f)) same
+      | asks asked read key ↦ absurd (ok_or_err asked fault (subject_in line) read given)
+      | asks_nothing other read stop ↦ stop ∙ ap (λ (f : KeyCause). Err (run_fault_at name number (causes.Key f))) (err_is other fault (subject_in line) read given)
     ]
 
 -- ---- the key of a container
@@ -215,9 +210,8 @@ read_first_line laws name text number line fits plain first =
     elim (read_line name number line) [
       | asks asked read key ↦ gives asked.plain (of_line number line asked plain first ((laws.keys line asked bytes).0 read) refl) (same ∙ key)
       | asks_nothing fault read stop ↦
-          let why = (laws.no_keys line (specs.Key fault) bytes).0 read in
-          let is : why.0 ≡ fault = let h = why.2 in cc in
-          stops_at (key_run_fault name number fault) (in_line number line fault plain first (subst (IsKeyFault line) is why.1) refl) (same ∙ stop)
+          let why = (laws.no_keys line fault bytes).0 read in
+          stops_at (run_fault_at name number (causes.Key fault)) (in_line number line fault plain first why refl) (same ∙ stop)
     ]
 
 read_key : KeyLaws → (name text : List ℕ) → IsBytes text → ReadKey name text

@@ -7,9 +7,8 @@ use Rattle.key_text.specs.Container.{IsContainer, IsPrivateFault}
 use Rattle.key_text.specs.KeyFile.{has_key}
 use Rattle.key_text.specs.Lines.{is_newline}
 use Rattle.key_text.specs.declared.private_fault.PrivateFault.{PrivateFault}
-use Rattle.krl_spec.specs.Keys.{IsKeyFault, IsSubjectLine}
-use Rattle.key_files.specs.declared.spec_cause.KeyCause.{KeyCause}
-use Rattle.key_files.specs.declared.spec_cause.KeyCause.TheVariants as keys
+use Rattle.keyed_lines.specs.Keys.{IsKeyFault, IsSubjectLine}
+use Rattle.keyed_lines.specs.declared.key_cause.KeyCause.{KeyCause}
 use Rattle.key_files.specs.Keys.{run_fault_at}
 use Rattle.key_files.specs.RunFault.{RunFault, run_fault_of}
 use Rattle.key_files.specs.declared.file_fault.FileFault.TheVariants as files
@@ -36,11 +35,6 @@ pub data IsFirstKey (text blob : List ℕ) : Type 0 where
       → IsFirstKeyLine text number line → IsSubjectLine line asked → blob ≡ asked.plain
       → IsFirstKey text blob
 
--- the stop of a run at a line that gives no key
-abbrev pub key_run_fault : List ℕ → ℕ → KeyCause → RunFault
-key_run_fault name number (keys.Line fault) = run_fault_at name number (causes.Line fault)
-key_run_fault name number (keys.Subject fault) = run_fault_at name number (causes.Subject fault)
-
 -- Why a file of this name has no first key: the fault of a container, reported without a line; no
 -- line with a key; or the fault of the first line that has one.
 pub data IsFirstKeyFault (name text : List ℕ) (stop : RunFault) : Type 0 where
@@ -50,4 +44,4 @@ pub data IsFirstKeyFault (name text : List ℕ) (stop : RunFault) : Type 0 where
       → stop ≡ run_fault_of name (causes.File files.NoKeys) → IsFirstKeyFault name text stop
   in_line : (number : ℕ) (line : List ℕ) (fault : KeyCause) → begins_container text ≡ false
       → IsFirstKeyLine text number line → IsKeyFault line fault
-      → stop ≡ key_run_fault name number fault → IsFirstKeyFault name text stop
+      → stop ≡ run_fault_at name number (causes.Key fault) → IsFirstKeyFault name text stop

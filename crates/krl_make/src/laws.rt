@@ -13,7 +13,7 @@ ghost use Rattle.key_files.specs.RunFault.{RunFault};
 ghost use Rattle.ssh_wire.specs.Wire.{IsBytes};
 
 use key_text::laws::{private_read_where_spelled, private_refused_by_first_fault};
-use krl_spec::laws::key_where_spelled;
+use keyed_lines::laws::key_where_spelled;
 use ssh_key::laws::blob_read_back;
 
 /// Reading a file gives a key exactly if it is the file's first key, and a fault exactly if it is

@@ -7,4 +7,3 @@ pub mod CountedLaws
 pub mod NumberLaws
 pub mod BoundsLaws
 pub mod OrderLaws
-pub mod KeyLaws

@@ -5,12 +5,13 @@ use Rattle.sha1.specs.Sha1.{sha1}
 use Rattle.sha2.specs.Sha256.{sha256}
 use Rattle.ssh_wire.specs.Reading.{◌>>=◌, in_fault}
 use Rattle.key_text.specs.FingerprintReading.{fingerprint_at}
+use Rattle.keyed_lines.specs.Keys.{subject_in}
 use Rattle.krl_types.specs.Subject.{CertNames}
 use Rattle.krl_types.specs.Entry.{Entry, RangeEntry, IdEntry, KeyEntry, Sha1Entry, Sha256Entry}
 use Rattle.krl_spec.specs.Number.{serials_of_text}
 use Rattle.krl_spec.specs.Blanks.{bare_line}
 use Rattle.krl_spec.specs.Directive.{Order, order_in}
-use Rattle.krl_spec.specs.Keys.{plain_in, subject_in}
+use Rattle.krl_spec.specs.Keys.{plain_in}
 use Rattle.krl_spec.specs.declared.directive.Directive.{Directive}
 use Rattle.krl_spec.specs.declared.directive.Directive.TheVariants.{Serial, Id, Key, Sha1, Sha256}
 use Rattle.krl_spec.specs.declared.directive.Directive.TheVariants.{Hash}
@@ -67,7 +68,7 @@ names_entry plain (Some names) = certificate_entry names
 -- A line without a directive names a plain key by its blob, and a certificate as above.
 abbrev pub bare_entry : List ℕ → Result Entry SpecCause
 bare_entry text = do
-  asked ← subject_in text
+  asked ← in_fault causes.Key (subject_in text)
   Ok (names_entry asked.plain asked.cert)
 
 -- ---- lines

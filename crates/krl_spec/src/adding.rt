@@ -42,7 +42,7 @@ fn add<S: Spans>(revocations: &mut Revocations<S>, entry: LineEntry) -> Result<(
 }
 
 // Adds the entry of a line without a directive.
-#[tactic(auto, unfolding(crate::specs::Keys::subject_in))]
+#[tactic(auto, unfolding(keyed_lines::specs::Keys::subject_in))]
 fn add_bare<S: Spans>(
     alloc: Global,
     revocations: &mut Revocations<S>,

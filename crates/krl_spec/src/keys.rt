@@ -8,18 +8,21 @@ ghost use Rattle.krl_types.specs.Subject.{Subject};
 ghost use Rattle.ssh_cert.specs.Sizes.{IsWithinBlob};
 ghost use Rattle.ssh_cert.specs.SubjectReading.{subject_of};
 ghost use Rattle.krl_spec.specs.Adding.{Reports};
-ghost use Rattle.krl_spec.specs.Keys.{line_cause, plain_in, subject_cause};
-ghost use Rattle.key_files.specs.declared.spec_cause.SpecCause.TheVariants.{Fingerprint};
+ghost use Rattle.keyed_lines.specs.declared.key_cause.KeyCause.TheVariants as keys;
+ghost use Rattle.krl_spec.specs.Keys.{plain_in};
+ghost use Rattle.key_files.specs.declared.spec_cause.SpecCause.TheVariants.{Fingerprint, Key};
 
-use key_files::{KeyCause, SpecCause};
+use key_files::SpecCause;
 use key_text::{FingerprintFault, Line, LineFault, parse_fingerprint, read_line};
+use keyed_lines::KeyCause;
 use ssh_cert::{Subject, SubjectFault, subject};
 use ssh_wire::Bytes;
 use std::alloc::Global;
 
 /// The content of a key line.
 pub fn key_line<'a>(alloc: Global, text: &'a [u8]) -> Result<Line<'a>, SpecCause>
-    ensures read { Answers Reports content_of result (in_fault line_cause (line_at text.now)) }
+    ensures read { Answers Reports content_of result
+        (in_fault Key (in_fault keys.Line (line_at text.now))) }
     ensures room { IfOk result (λ line. 4 * length line.blob + 24 ≤ 3 * length text.now) }
 {
     match read_line(alloc, text) {
@@ -32,7 +35,7 @@ pub fn key_line<'a>(alloc: Global, text: &'a [u8]) -> Result<Line<'a>, SpecCause
 /// The subject of a key's blob.
 pub fn ask<'a>(alloc: Global, blob: &'a [u8]) -> Result<Subject<'a>, SpecCause>
     ensures asked { Answers Reports (λ asked. asked) result
-        (in_fault subject_cause (subject_of blob.now)) }
+        (in_fault Key (in_fault keys.Subject (subject_of blob.now))) }
     ensures room { IfOk result (λ asked. IsWithinBlob blob.now asked) }
 {
     match subject(alloc, blob) {
@@ -43,7 +46,7 @@ pub fn ask<'a>(alloc: Global, blob: &'a [u8]) -> Result<Subject<'a>, SpecCause>
 }
 
 /// The blob of the plain key of a key line.
-#[tactic(auto, unfolding(crate::specs::Keys::subject_in, crate::specs::Keys::plain_in))]
+#[tactic(auto, unfolding(keyed_lines::specs::Keys::subject_in, crate::specs::Keys::plain_in))]
 pub fn plain_key(alloc: Global, text: &[u8]) -> Result<Bytes, SpecCause>
     ensures read { Answers Reports (λ plain. plain) result (plain_in text.now) }
     ensures room { IfOk result (λ plain. length plain ≤ length text.now) }

@@ -12,7 +12,7 @@ mod number;
 mod spec_fault;
 mod under;
 
-pub use key_files::{KeyCause, SpecCause};
+pub use key_files::SpecCause;
 pub use lines::read_spec;
 pub use spec_fault::SpecFault;
 pub use under::Under;

@@ -4,40 +4,28 @@ use Rattle.std.proofs.lemmas.Bool.{cases_Bool}
 use Rattle.ssh_wire.specs.Reading.{◌>>=◌, in_fault}
 use Rattle.ssh_wire.specs.Wire.{IsBytes}
 use Rattle.ssh_wire.proofs.Digits.{IsBytes-drop, IsBytes-take}
-use Rattle.ssh_wire.proofs.Steps.{bind_err, bind_ok, in_fault_err, in_fault_ok}
+use Rattle.ssh_wire.proofs.Steps.{bind_err, bind_ok}
 use Rattle.ssh_key.specs.Key.{IsKey, PublicKey, blob_of}
 use Rattle.ssh_key.specs.KeyReading.{key_at}
 use Rattle.std.specs.List.{prefix_len}
 use Rattle.key_text.specs.Blanks.{after_blanks, is_blank}
-use Rattle.key_text.specs.KeyLine.{IsKeyLine}
-use Rattle.key_text.specs.LineFaults.{IsFirstLineFault}
-use Rattle.key_text.specs.LineReading.{KeyLine, content, line_at}
-use Rattle.key_text.specs.declared.line_fault.LineFault.{LineFault}
 use Rattle.krl_types.specs.Subject.{Subject}
-use Rattle.ssh_cert.specs.SubjectReading.{IsSubject, IsSubjectFault, subject_of}
 use Rattle.ssh_cert.proofs.Subjects.{plain_is_key}
-use Rattle.ssh_cert.specs.declared.subject_fault.SubjectFault.{SubjectFault}
+use Rattle.keyed_lines.specs.Keys.{IsKeyFault, IsSubjectLine, subject_in}
+use Rattle.keyed_lines.specs.declared.key_cause.KeyCause.{KeyCause}
 use Rattle.plain_list.specs.Line.{before_zero, begins_with_key, content_of, is_remark}
-use Rattle.plain_list.specs.Key.{blob_key, by_judgement, judged_key, key_cause, key_line_key, line_key, text_key}
-use Rattle.plain_list.specs.Spelled.{BeginsWithKey, HasKey, IsLineFault, Revokes, long, no_blob, no_line, no_name, no_point, one_key, remark, short}
-use Rattle.plain_list.specs.declared.fault.LineCause.{LineCause}
-use Rattle.plain_list.specs.declared.fault.LineCause.TheVariants as causes
+use Rattle.plain_list.specs.Key.{by_judgement, judged_key, key_cause, key_line_key, line_key, text_key}
+use Rattle.plain_list.specs.Spelled.{BeginsWithKey, HasKey, IsLineFault, Revokes, long, no_key, no_name, no_point, one_key, remark, short}
 use Rattle.openssh_keys.specs.Judgement.{judgement_of}
 use Rattle.openssh_keys.specs.declared.judgement.Judgement.{Judgement}
 use Rattle.openssh_keys.specs.declared.judgement.Judgement.TheVariants.{Accepted, Long, Point, Short}
 
--- the laws of key lines, of subjects and of keys
+-- the laws of key lines and of keys
 pub record Laws : Type 0 where
-  pub line_read : (text word blob comment : List ℕ) → IsKeyLine text word blob comment
-      → line_at text ≡ Ok (content word blob comment)
-  pub line_found : (text : List ℕ) (line : KeyLine) → IsBytes text → line_at text ≡ Ok line
-      → IsKeyLine text line.word line.blob line.comment
-  pub line_refused : (text : List ℕ) (fault : LineFault) → IsBytes text
-      → (line_at text ≡ Err fault) ↔ IsFirstLineFault text fault
-  pub asked : (blob : List ℕ) (asked : Subject) → IsBytes blob
-      → (subject_of blob ≡ Ok asked) ↔ IsSubject blob asked
-  pub not_asked : (blob : List ℕ) (fault : SubjectFault) → IsBytes blob
-      → (subject_of blob ≡ Err fault) ↔ IsSubjectFault blob fault
+  pub keyed : (text : List ℕ) (asked : Subject) → IsBytes text
+      → (subject_in text ≡ Ok asked) ↔ IsSubjectLine text asked
+  pub not_keyed : (text : List ℕ) (cause : KeyCause) → IsBytes text
+      → (subject_in text ≡ Err cause) ↔ IsKeyFault text cause
   pub read_back : (blob : List ℕ) (key : PublicKey) → IsKey blob key
       → (blob_of key ≡ blob) × (key_at (blob_of key) ≡ Ok key)
 
@@ -51,10 +39,10 @@ key_is_read : Laws → (plain : List ℕ) (key : PublicKey) → IsKey plain key 
 key_is_read laws plain key is = let back = laws.read_back plain key is in rw (← back.0) back.1
 
 -- A line with a key is read up to the judgement on the key.
-line_with_key : Laws → (line : List ℕ) (key : PublicKey) → HasKey line key → line_key line ≡ judged_key key
-unfolding line_key text_key blob_key
-line_with_key laws line key has =
-    rw (has.begins.no_remark, has.begins.begins, laws.line_read _ _ _ _ has.is_line, (laws.asked has.blob has.asked has.is_line.bytes).1 has.asks, key_is_read laws has.asked.plain key has.is_key) refl
+line_with_key : Laws → (line : List ℕ) (key : PublicKey) → IsBytes line → HasKey line key → line_key line ≡ judged_key key
+unfolding line_key text_key
+line_with_key laws line key fits has =
+    rw (has.begins.no_remark, has.begins.begins, (laws.keyed (content_of line) has.asked (content_fits line fits)).1 has.is_line, key_is_read laws has.asked.plain key has.is_key) refl
 
 -- and so is the content of a line that begins with a key
 begins_so : (line : List ℕ) → BeginsWithKey line → line_key line ≡ key_line_key (content_of line)
@@ -78,12 +66,9 @@ starts line = elim (cases_Bool (is_remark (content_of line))) [
   ]
 ]
 
--- the subject of the blob, and its key
-abbrev keyed : Subject → Result (Option (List ℕ)) LineCause
+-- the judgement on the key of a subject
+abbrev keyed : Subject → Result (Option (List ℕ)) KeyCause
 keyed asked = in_fault key_cause (key_at asked.plain) >>= judged_key
-
-abbrev blobbed : KeyLine → Result (Option (List ℕ)) LineCause
-blobbed read = blob_key read.blob
 
 judged_found : (line : List ℕ) (key : PublicKey) (given : Option (List ℕ)) (judgement : Judgement) → HasKey line key → judgement_of key ≡ judgement
     → by_judgement judgement (blob_of key) ≡ Ok given → Revokes line given
@@ -92,7 +77,7 @@ judged_found line key given Accepted has is e = one_key key has is (cc)
 judged_found line key given Long has is e = absurd (cc)
 judged_found line key given Point has is e = absurd (cc)
 
-judged_refused : (line : List ℕ) (key : PublicKey) (cause : LineCause) (judgement : Judgement) → HasKey line key → judgement_of key ≡ judgement
+judged_refused : (line : List ℕ) (key : PublicKey) (cause : KeyCause) (judgement : Judgement) → HasKey line key → judgement_of key ≡ judgement
     → by_judgement judgement (blob_of key) ≡ Err cause → IsLineFault line cause
 judged_refused line key cause Short has is e = absurd (cc)
 judged_refused line key cause Accepted has is e = absurd (cc)
@@ -100,21 +85,18 @@ judged_refused line key cause Long has is e = long key has is (cc)
 judged_refused line key cause Point has is e = no_point key has is (cc)
 
 -- a key line with a subject has a key
-has_key : Laws → (line : List ℕ) (read : KeyLine) (asked : Subject) → BeginsWithKey line → IsKeyLine (content_of line) read.word read.blob read.comment
-    → IsSubject read.blob asked → (key : PublicKey) × HasKey line key
-has_key laws line read asked begins is_line asks =
-    let key = plain_is_key read.blob asked asks in
-    (key.0, record { begins = begins; word = read.word; blob = read.blob; comment = read.comment; is_line = is_line; asked = asked; asks = asks; is_key = key.1 })
+has_key : Laws → (line : List ℕ) (asked : Subject) → IsBytes line → BeginsWithKey line → subject_in (content_of line) ≡ Ok asked
+    → (key : PublicKey) × HasKey line key
+has_key laws line asked fits begins e =
+    let is_line = (laws.keyed (content_of line) asked (content_fits line fits)).0 e in
+    let key = plain_is_key is_line.blob asked is_line.asks in
+    (key.0, record { begins = begins; asked = asked; is_line = is_line; is_key = key.1 })
 
 key_found : Laws → (line : List ℕ) (given : Option (List ℕ)) → IsBytes line → BeginsWithKey line → key_line_key (content_of line) ≡ Ok given → Revokes line given
-unfolding blob_key
 key_found laws line given fits begins e =
-    let read = bind_ok (in_fault causes.Line (line_at (content_of line))) blobbed given e in
-    let is_line = laws.line_found (content_of line) read.0 (content_fits line fits) (in_fault_ok causes.Line (line_at (content_of line)) read.0 read.1) in
-    let asked = bind_ok (in_fault causes.Subject (subject_of read.0.blob)) keyed given read.2 in
-    let asks = (laws.asked read.0.blob asked.0 is_line.bytes).0 (in_fault_ok causes.Subject (subject_of read.0.blob) asked.0 asked.1) in
-    let key = has_key laws line read.0 asked.0 begins is_line asks in
-    judged_found line key.0 given (judgement_of key.0) key.1 refl (sym (line_with_key laws line key.0 key.1) ∙ (begins_so line begins ∙ e))
+    let asked = bind_ok (subject_in (content_of line)) keyed given e in
+    let key = has_key laws line asked.0 fits begins asked.1 in
+    judged_found line key.0 given (judgement_of key.0) key.1 refl (sym (line_with_key laws line key.0 fits key.1) ∙ (begins_so line begins ∙ e))
 
 pub line_found : Laws → (line : List ℕ) (given : Option (List ℕ)) → IsBytes line → line_key line ≡ Ok given → Revokes line given
 unfolding line_key text_key
@@ -124,34 +106,23 @@ line_found laws line given fits e = elim (starts line) [
   | at_key is ↦ key_found laws line given fits is (sym (begins_so line is) ∙ e)
 ]
 
-pub line_again : Laws → (line : List ℕ) (given : Option (List ℕ)) → Revokes line given → line_key line ≡ Ok given
+pub line_again : Laws → (line : List ℕ) (given : Option (List ℕ)) → IsBytes line → Revokes line given → line_key line ≡ Ok given
 unfolding line_key
-line_again laws line given (remark is none) = rw (is, none) refl
-line_again laws line given (short key has is none) = line_with_key laws line key has ∙ rw (is, none) refl
-line_again laws line given (one_key key has is some) = line_with_key laws line key has ∙ rw (is, some) refl
+line_again laws line given fits (remark is none) = rw (is, none) refl
+line_again laws line given fits (short key has is none) = line_with_key laws line key fits has ∙ rw (is, none) refl
+line_again laws line given fits (one_key key has is some) = line_with_key laws line key fits has ∙ rw (is, some) refl
 
 -- ---- why a line is refused
 
-key_refused : Laws → (line : List ℕ) (cause : LineCause) → IsBytes line → BeginsWithKey line → key_line_key (content_of line) ≡ Err cause → IsLineFault line cause
-unfolding blob_key
-key_refused laws line cause fits begins e = elim (bind_err (in_fault causes.Line (line_at (content_of line))) blobbed cause e) [
-  | inl refused ↦
-      let why = in_fault_err causes.Line (line_at (content_of line)) cause refused in
-      no_line why.0 begins ((laws.line_refused (content_of line) why.0 (content_fits line fits)).0 why.1) why.2
-  | inr read ↦
-      let is_line = laws.line_found (content_of line) read.0 (content_fits line fits) (in_fault_ok causes.Line (line_at (content_of line)) read.0 read.1) in
-      elim (bind_err (in_fault causes.Subject (subject_of read.0.blob)) keyed cause read.2) [
-        | inl refused ↦
-            let why = in_fault_err causes.Subject (subject_of read.0.blob) cause refused in
-            no_blob read.0.word read.0.blob read.0.comment why.0 begins is_line ((laws.not_asked read.0.blob why.0 is_line.bytes).0 why.1) why.2
-        | inr asked ↦
-            let asks = (laws.asked read.0.blob asked.0 is_line.bytes).0 (in_fault_ok causes.Subject (subject_of read.0.blob) asked.0 asked.1) in
-            let key = has_key laws line read.0 asked.0 begins is_line asks in
-            judged_refused line key.0 cause (judgement_of key.0) key.1 refl (sym (line_with_key laws line key.0 key.1) ∙ (begins_so line begins ∙ e))
-      ]
+key_refused : Laws → (line : List ℕ) (cause : KeyCause) → IsBytes line → BeginsWithKey line → key_line_key (content_of line) ≡ Err cause → IsLineFault line cause
+key_refused laws line cause fits begins e = elim (bind_err (subject_in (content_of line)) keyed cause e) [
+  | inl refused ↦ no_key begins ((laws.not_keyed (content_of line) cause (content_fits line fits)).0 refused)
+  | inr asked ↦
+      let key = has_key laws line asked.0 fits begins asked.1 in
+      judged_refused line key.0 cause (judgement_of key.0) key.1 refl (sym (line_with_key laws line key.0 fits key.1) ∙ (begins_so line begins ∙ e))
 ]
 
-pub line_refused : Laws → (line : List ℕ) (cause : LineCause) → IsBytes line → line_key line ≡ Err cause → IsLineFault line cause
+pub line_refused : Laws → (line : List ℕ) (cause : KeyCause) → IsBytes line → line_key line ≡ Err cause → IsLineFault line cause
 unfolding line_key text_key
 line_refused laws line cause fits e = elim (starts line) [
   | remarks is ↦ absurd (let here = rw is at e in cc)
@@ -159,12 +130,10 @@ line_refused laws line cause fits e = elim (starts line) [
   | at_key is ↦ key_refused laws line cause fits is (sym (begins_so line is) ∙ e)
 ]
 
-pub fault_met : Laws → (line : List ℕ) (cause : LineCause) → IsBytes line → IsLineFault line cause → line_key line ≡ Err cause
-unfolding line_key text_key blob_key
+pub fault_met : Laws → (line : List ℕ) (cause : KeyCause) → IsBytes line → IsLineFault line cause → line_key line ≡ Err cause
+unfolding line_key text_key
 fault_met laws line cause fits (no_name text other is) = rw (text, other, is) refl
-fault_met laws line cause fits (no_line fault begins first is) =
-    begins_so line begins ∙ rw (is, (laws.line_refused (content_of line) fault (content_fits line fits)).1 first) refl
-fault_met laws line cause fits (no_blob word blob comment fault begins is_line first is) =
-    begins_so line begins ∙ rw (is, laws.line_read _ _ _ _ is_line, (laws.not_asked blob fault is_line.bytes).1 first) refl
-fault_met laws line cause fits (long key has is same) = line_with_key laws line key has ∙ rw (is, same) refl
-fault_met laws line cause fits (no_point key has is same) = line_with_key laws line key has ∙ rw (is, same) refl
+fault_met laws line cause fits (no_key begins first) =
+    begins_so line begins ∙ rw ((laws.not_keyed (content_of line) cause (content_fits line fits)).1 first) refl
+fault_met laws line cause fits (long key has is same) = line_with_key laws line key fits has ∙ rw (is, same) refl
+fault_met laws line cause fits (no_point key has is same) = line_with_key laws line key fits has ∙ rw (is, same) refl

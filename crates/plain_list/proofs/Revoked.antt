@@ -3,6 +3,7 @@ use Rattle.std.proofs.Common.{◌≡◌, ◌↔◌, ℕ, List, [], ◌∷◌, Al
 use Rattle.std.specs.Prelude.{MatchOption}
 use Rattle.std.proofs.lemmas.List.Elements.{All-head, All-tail}
 use Rattle.ssh_wire.specs.Wire.{IsBytes}
+use Rattle.keyed_lines.specs.declared.key_cause.KeyCause.{KeyCause}
 use Rattle.krl_types.specs.Subject.{CertNames, Subject}
 use Rattle.krl_types.specs.Naming.{IdOf, KeyOf, Name, SerialOf, Sha1Of, Sha256Of, SomeNames}
 use Rattle.krl_entries.specs.Revoked.{KeyNamed}
@@ -11,14 +12,13 @@ use Rattle.krl_types.proofs.Elements.{some_cases, some_left, some_right}
 use Rattle.plain_list.specs.Key.{line_key}
 use Rattle.plain_list.specs.List.{entries_of, key_entries, line_entries}
 use Rattle.plain_list.specs.Spelled.{IsListed, IsOnLine, Revokes}
-use Rattle.plain_list.specs.declared.fault.LineCause.{LineCause}
 
 -- a name that is not a key's blob
 abbrev IsOther : Name → Type 0
 IsOther (KeyOf blob) = ⊥
 IsOther name = Unit {0}
 
-no_other : (read : Result (Option (List ℕ)) LineCause) (name : Name) → IsOther name → SomeNames (key_entries read) name → ⊥
+no_other : (read : Result (Option (List ℕ)) KeyCause) (name : Name) → IsOther name → SomeNames (key_entries read) name → ⊥
 no_other (Ok None) name other named = named
 no_other (Err cause) name other named = named
 no_other (Ok (Some key)) (KeyOf blob) other named = other
@@ -38,12 +38,12 @@ none_named (line ∷ lines) name other named = elim (some_cases (line_entries li
 
 -- ---- keys
 
-key_named : (read : Result (Option (List ℕ)) LineCause) (blob : List ℕ) → SomeNames (key_entries read) (KeyOf blob) → read ≡ Ok (Some blob)
+key_named : (read : Result (Option (List ℕ)) KeyCause) (blob : List ℕ) → SomeNames (key_entries read) (KeyOf blob) → read ≡ Ok (Some blob)
 key_named (Ok None) blob named = absurd named
 key_named (Err cause) blob named = absurd named
 key_named (Ok (Some key)) blob named = elim named [ inl same ↦ ap (λ (b : List ℕ). Ok (Some b)) same | inr wrong ↦ absurd wrong ]
 
-key_names : (read : Result (Option (List ℕ)) LineCause) (blob : List ℕ) → read ≡ Ok (Some blob) → SomeNames (key_entries read) (KeyOf blob)
+key_names : (read : Result (Option (List ℕ)) KeyCause) (blob : List ℕ) → read ≡ Ok (Some blob) → SomeNames (key_entries read) (KeyOf blob)
 key_names read blob is = rw is (inl refl)
 
 abbrev ReadAsSpelled : Type 0

@@ -4,10 +4,10 @@ use Rattle.std.specs.Prelude.{None, Result, Ok, Err}
 use Rattle.std.specs.List.{flat_map, slice_split}
 use Rattle.std.specs.Result.{IsOk}
 use Rattle.key_text.specs.Lines.{is_newline}
+use Rattle.keyed_lines.specs.declared.key_cause.KeyCause.{KeyCause}
 use Rattle.krl_types.specs.Entry.{Entry, KeyEntry}
 use Rattle.krl_format.specs.Front.{limit}
 use Rattle.plain_list.specs.Key.{line_key}
-use Rattle.plain_list.specs.declared.fault.LineCause.{LineCause}
 use Rattle.plain_list.specs.declared.fault.PlainFault.{PlainFault}
 use Rattle.plain_list.specs.declared.fault.PlainFault.TheVariants as faults
 
@@ -17,7 +17,7 @@ lines_of text = slice_split is_newline text
 -- ---- what the lines revoke
 
 -- a line as entries of a list: its key, or nothing
-abbrev pub key_entries : Result (Option (List ℕ)) LineCause → List Entry
+abbrev pub key_entries : Result (Option (List ℕ)) KeyCause → List Entry
 key_entries (Ok (Some blob)) = KeyEntry blob ∷ []
 key_entries (Ok None) = []
 key_entries (Err cause) = []
@@ -35,7 +35,7 @@ abbrev pub AreRead : List (List ℕ) → Type 0
 AreRead lines = All (λ line. IsOk (line_key line)) lines
 
 -- The line with this number is the first one that is refused.
-pub record IsFirstFault (lines : List (List ℕ)) (number : ℕ) (cause : LineCause) : Type 0 where
+pub record IsFirstFault (lines : List (List ℕ)) (number : ℕ) (cause : KeyCause) : Type 0 where
   pub before : List (List ℕ)
   pub line : List ℕ
   pub after : List (List ℕ)

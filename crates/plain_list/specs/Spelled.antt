@@ -5,17 +5,13 @@ use Rattle.ssh_key.specs.Key.{IsKey, PublicKey, blob_of}
 use Rattle.ssh_key.specs.declared.fault.KeyFault.TheVariants as keys
 use Rattle.openssh_keys.specs.Judgement.{judgement_of}
 use Rattle.openssh_keys.specs.declared.judgement.Judgement.TheVariants.{Accepted, Long, Point, Short}
-use Rattle.key_text.specs.KeyLine.{IsKeyLine}
-use Rattle.key_text.specs.LineFaults.{IsFirstLineFault}
-use Rattle.key_text.specs.declared.line_fault.LineFault.{LineFault}
 use Rattle.key_text.specs.declared.line_fault.LineFault.TheVariants as lines
 use Rattle.krl_types.specs.Subject.{Subject}
-use Rattle.ssh_cert.specs.SubjectReading.{IsSubject, IsSubjectFault}
-use Rattle.ssh_cert.specs.declared.subject_fault.SubjectFault.{SubjectFault}
 use Rattle.ssh_cert.specs.declared.subject_fault.SubjectFault.TheVariants as subjects
+use Rattle.keyed_lines.specs.Keys.{IsKeyFault, IsSubjectLine}
+use Rattle.keyed_lines.specs.declared.key_cause.KeyCause.{KeyCause}
+use Rattle.keyed_lines.specs.declared.key_cause.KeyCause.TheVariants as causes
 use Rattle.plain_list.specs.Line.{begins_with_key, content_of, is_remark}
-use Rattle.plain_list.specs.declared.fault.LineCause.{LineCause}
-use Rattle.plain_list.specs.declared.fault.LineCause.TheVariants as causes
 
 -- The content of a line is neither empty nor a comment, and begins with the type name of a key.
 pub record BeginsWithKey (line : List ℕ) : Type 0 where
@@ -25,12 +21,8 @@ pub record BeginsWithKey (line : List ℕ) : Type 0 where
 -- The line is a key line with this plain key, or with a certificate of it.
 pub record HasKey (line : List ℕ) (key : PublicKey) : Type 0 where
   pub begins : BeginsWithKey line
-  pub word : List ℕ
-  pub blob : List ℕ
-  pub comment : List ℕ
-  pub is_line : IsKeyLine (content_of line) word blob comment
   pub asked : Subject
-  pub asks : IsSubject blob asked
+  pub is_line : IsSubjectLine (content_of line) asked
   pub is_key : IsKey asked.plain key
 
 -- The key that a line revokes, if it revokes one.
@@ -41,16 +33,12 @@ pub data Revokes (line : List ℕ) (given : Option (List ℕ)) : Type 0 where
   one_key : (key : PublicKey) → HasKey line key → judgement_of key ≡ Accepted
       → given ≡ Some (blob_of key) → Revokes line given
 
--- Why a line is refused: something is before its key, it is no key line, its blob is no key, or a
+-- Why a line is refused: something is before its key, it is no key line or its blob is no key, or a
 -- number of the key is too long, or its point is invalid.
-pub data IsLineFault (line : List ℕ) (cause : LineCause) : Type 0 where
+pub data IsLineFault (line : List ℕ) (cause : KeyCause) : Type 0 where
   no_name : is_remark (content_of line) ≡ false → begins_with_key (content_of line) ≡ false
       → cause ≡ causes.Line lines.NoKey → IsLineFault line cause
-  no_line : (fault : LineFault) → BeginsWithKey line → IsFirstLineFault (content_of line) fault
-      → cause ≡ causes.Line fault → IsLineFault line cause
-  no_blob : (word blob comment : List ℕ) (fault : SubjectFault) → BeginsWithKey line
-      → IsKeyLine (content_of line) word blob comment → IsSubjectFault blob fault
-      → cause ≡ causes.Subject fault → IsLineFault line cause
+  no_key : BeginsWithKey line → IsKeyFault (content_of line) cause → IsLineFault line cause
   long : (key : PublicKey) → HasKey line key → judgement_of key ≡ Long
       → cause ≡ causes.Subject (subjects.Key keys.TooLong) → IsLineFault line cause
   no_point : (key : PublicKey) → HasKey line key → judgement_of key ≡ Point

@@ -1,10 +1,11 @@
 //! The key of a line.
 
-ghost use Rattle.plain_list.specs.Key.{Gives, blob_key, judged_key, line_key, text_key};
+ghost use Rattle.plain_list.specs.Key.{Gives, judged_key, line_key, text_key};
 
-use crate::fault::{LineCause, PlainFault};
+use crate::fault::PlainFault;
 use crate::line::{begins_with_key, content_of, is_remark};
 use key_text::{LineFault, read_line};
+use keyed_lines::KeyCause;
 use openssh_keys::{Judgement, judge};
 use ssh_cert::{SubjectFault, read_any};
 use ssh_key::{KeyFault, PublicKey, plain_blob};
@@ -27,35 +28,28 @@ pub(crate) fn key_of_line(
     key_of_text(alloc, number, content)
 }
 
-// The same for the content of a line that is neither empty nor a comment.
-#[tactic(auto, unfolding(crate::specs::Key::text_key))]
+// The same for the content of a line that is neither empty nor a comment: its plain key, or that of
+// its certificate.
+#[tactic(auto, unfolding(crate::specs::Key::text_key, keyed_lines::specs::Keys::subject_in))]
 fn key_of_text(alloc: Global, number: u64, content: &[u8]) -> Result<Option<Bytes>, PlainFault>
     ensures { Gives number result (text_key content.now) }
 {
     if !begins_with_key(content) {
-        let cause = LineCause::Line(LineFault::NoKey);
+        let cause = KeyCause::Line(LineFault::NoKey);
         return Err(PlainFault::Line { number, cause });
     }
     match read_line(alloc, content) {
-        Ok(line) => key_of_blob(alloc, number, line.blob.as_slice()),
+        Ok(line) => match read_any(line.blob.as_slice()) {
+            Ok(any) => judged_key(alloc, number, any.plain()),
+            Err(fault) => Err(PlainFault::Line {
+                number,
+                cause: KeyCause::Subject(fault),
+            }),
+        },
         Err(LineFault::NoMemory) => Err(PlainFault::NoMemory),
         Err(fault) => Err(PlainFault::Line {
             number,
-            cause: LineCause::Line(fault),
-        }),
-    }
-}
-
-// The same for the blob of a line: its plain key, or that of its certificate.
-#[tactic(auto, unfolding(crate::specs::Key::blob_key))]
-fn key_of_blob(alloc: Global, number: u64, blob: &[u8]) -> Result<Option<Bytes>, PlainFault>
-    ensures { Gives number result (blob_key blob.now) }
-{
-    match read_any(blob) {
-        Ok(any) => judged_key(alloc, number, any.plain()),
-        Err(fault) => Err(PlainFault::Line {
-            number,
-            cause: LineCause::Subject(fault),
+            cause: KeyCause::Line(fault),
         }),
     }
 }
@@ -77,6 +71,6 @@ fn judged_key(alloc: Global, number: u64, key: &PublicKey) -> Result<Option<Byte
     };
     Err(PlainFault::Line {
         number,
-        cause: LineCause::Subject(SubjectFault::Key(fault)),
+        cause: KeyCause::Subject(SubjectFault::Key(fault)),
     })
 }

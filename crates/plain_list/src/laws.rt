@@ -2,28 +2,24 @@
 
 ghost use Rattle.std.specs.Prelude.{◌≡◌, ◌↔◌, ℕ, List, All, Err, Ok, Option};
 ghost use Rattle.ssh_wire.specs.Wire.{IsBytes};
+ghost use Rattle.keyed_lines.specs.declared.key_cause.KeyCause.{KeyCause};
 ghost use Rattle.krl_entries.specs.Revoked.{Revoked};
 ghost use Rattle.krl_types.specs.Subject.{Subject};
 ghost use Rattle.plain_list.specs.Key.{line_key};
 ghost use Rattle.plain_list.specs.List.{entries_of};
 ghost use Rattle.plain_list.specs.Spelled.{IsLineFault, IsListed, Revokes};
-ghost use Rattle.plain_list.specs.declared.fault.LineCause.{LineCause};
 
-use key_text::laws::{line_read_where_spelled, line_refused_by_first_fault};
-use ssh_cert::laws::{asked_where_spelled, not_asked_by_first_fault};
+use keyed_lines::laws::key_where_spelled;
 use ssh_key::laws::blob_read_back;
 
 /// A line revokes exactly the key that it spells, or none.
 pub fn line_read_as_spelled()
     ensures read { (line : List ℕ) (key : Option (List ℕ)) → IsBytes line
         → (line_key line ≡ Ok key) ↔ Revokes line key }
-    ensures refused { (line : List ℕ) (cause : LineCause) → IsBytes line
+    ensures refused { (line : List ℕ) (cause : KeyCause) → IsBytes line
         → (line_key line ≡ Err cause) ↔ IsLineFault line cause }
 {
-    line_read_where_spelled();
-    line_refused_by_first_fault();
-    asked_where_spelled();
-    not_asked_by_first_fault();
+    key_where_spelled();
     blob_read_back();
 }
 

@@ -7,5 +7,6 @@ pub mod laws;
 mod line;
 mod reading;
 
-pub use fault::{LineCause, PlainFault};
+pub use fault::PlainFault;
+pub use keyed_lines::KeyCause;
 pub use reading::read_plain;

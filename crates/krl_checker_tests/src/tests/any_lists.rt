@@ -1,7 +1,7 @@
 //! Lists in either form.
 
 use any_list::read_list;
-use key_files::Cause;
+use key_files::{Cause, KeyCause};
 use key_text::{LineFault, sha256_of};
 use krl_types::KrlFault;
 use test_fixtures::{GITHUB_LINE, HEADER};
@@ -15,7 +15,7 @@ const LISTS: [(&[u8], Result<usize, (Option<u64>, Cause)>); 5] = [
     (b"SSHKRL\n\0", Err((None, Cause::Krl(KrlFault::EndsEarly)))),
     (
         b"# c\nSSHKRL\n",
-        Err((Some(2), Cause::Line(LineFault::NoKey))),
+        Err((Some(2), Cause::Key(KeyCause::Line(LineFault::NoKey)))),
     ),
 ];
 

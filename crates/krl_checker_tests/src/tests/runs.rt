@@ -5,7 +5,7 @@ ghost use Rattle.std.specs.Prelude.{◌≡◌, false};
 use crate::tests::checks::{NINE, SERIAL_ZERO};
 use byte_streams::{Sink, ToWrite};
 use check_run::{Host, Unanswered, check_run};
-use key_files::{Cause, FileFault};
+use key_files::{Cause, FileFault, KeyCause};
 use key_listing::Done;
 use key_text::LineFault;
 use krl_arguments::Check;
@@ -206,7 +206,7 @@ keep: key: 1 of 1 key is revoked, 0 lines are not read\n",
         },
         b"",
         255,
-        Some(("o", Some(2), Cause::Line(LineFault::NoKey))),
+        Some(("o", Some(2), Cause::Key(KeyCause::Line(LineFault::NoKey)))),
     ),
     // The next file is not reached.
     (

@@ -1,7 +1,7 @@
 //! The lines that report why a run stopped.
 
 use crate::tests::runs::same;
-use key_files::{Cause, FileFault, RunFault, fault_text};
+use key_files::{Cause, FileFault, KeyCause, RunFault, fault_text};
 use key_text::{LineFault, PrivateFault};
 use krl_core::KrlFault;
 use krl_spec::SpecCause;
@@ -30,19 +30,19 @@ const ROWS: [Row<'static>; 16] = [
     (
         "k",
         Some(1),
-        Cause::Line(LineFault::WordDiffers),
+        Cause::Key(KeyCause::Line(LineFault::WordDiffers)),
         "k: line 1: line 3 WordDiffers",
     ),
     (
         "k",
         Some(u64::MAX),
-        Cause::Subject(SubjectFault::Key(SHORT)),
+        Cause::Key(KeyCause::Subject(SubjectFault::Key(SHORT))),
         "k: line 18446744073709551615: subject 1 Key, key 1 Wire, wire 1 Short",
     ),
     (
         "c",
         Some(3),
-        Cause::Subject(SubjectFault::Cert(CertFault::Authority(SHORT))),
+        Cause::Key(KeyCause::Subject(SubjectFault::Cert(CertFault::Authority(SHORT)))),
         "c: line 3: subject 2 Cert, cert 7 Authority, key 1 Wire, wire 1 Short",
     ),
     (

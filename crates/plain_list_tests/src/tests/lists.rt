@@ -2,7 +2,7 @@
 
 use key_text::{LineFault, read_line};
 use krl_entries::Revocations;
-use plain_list::{LineCause, PlainFault, read_plain};
+use plain_list::{KeyCause, PlainFault, read_plain};
 use span_sets::Held;
 use ssh_cert::{SubjectFault, subject};
 use ssh_key::KeyFault;
@@ -55,7 +55,7 @@ fn lines_as_sshd_reads_them(rt: HostRuntime) {
         let right = match *wanted {
             Ok((this, that)) => found == Ok(this) && other == Ok(that),
             Err((number, fault)) => {
-                let cause = LineCause::Line(fault);
+                let cause = KeyCause::Line(fault);
                 found == Err(PlainFault::Line { number, cause }) && other == found
             }
         };
@@ -78,7 +78,7 @@ fn a_certificate_is_as_its_plain_key(rt: HostRuntime) {
 #[test]
 fn a_blob_that_is_no_key(rt: HostRuntime) {
     let list = b"\nssh-ed25519 AAAAC3NzaC1lZDI1NTE5AAAAAA==";
-    let cause = LineCause::Subject(SubjectFault::Key(KeyFault::Length));
+    let cause = KeyCause::Subject(SubjectFault::Key(KeyFault::Length));
     let wanted = Err(PlainFault::Line { number: 2, cause });
     assert!(rt; asked(&rt, rt.alloc(), list, GITHUB_LINE) == wanted);
 }

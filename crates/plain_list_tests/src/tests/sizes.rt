@@ -2,7 +2,7 @@
 
 use crate::tests::lists::asked;
 use base64::engine::general_purpose::STANDARD;
-use plain_list::{LineCause, PlainFault};
+use plain_list::{KeyCause, PlainFault};
 use ssh_cert::SubjectFault;
 use ssh_key::KeyFault;
 use std::alloc::Global;
@@ -50,7 +50,7 @@ const SIZES: [(u8, usize, Option<bool>); 4] = [
 #[test]
 fn keys_of_each_size(rt: HostRuntime) {
     let alloc = rt.alloc();
-    let cause = LineCause::Subject(SubjectFault::Key(KeyFault::TooLong));
+    let cause = KeyCause::Subject(SubjectFault::Key(KeyFault::TooLong));
     let refused = PlainFault::Line { number: 1, cause };
     for (i, (first, size, wanted)) in SIZES.iter().enumerate() {
         let modulus = number(&rt, alloc, *first, *size);
@@ -91,6 +91,6 @@ fn keys_that_sshd_refuses(rt: HostRuntime) {
 
 // The refusal of the first line for a fault of its key.
 fn refused(fault: KeyFault) -> PlainFault {
-    let cause = LineCause::Subject(SubjectFault::Key(fault));
+    let cause = KeyCause::Subject(SubjectFault::Key(fault));
     PlainFault::Line { number: 1, cause }
 }

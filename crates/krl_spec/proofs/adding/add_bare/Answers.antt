@@ -1,15 +1,19 @@
 -- The subject of the line's key has no more bytes than the line.
 use Rattle.std.proofs.Common.{length, refl}
+use Rattle.ssh_wire.proofs.Steps.{in_fault_ok}
+use Rattle.keyed_lines.specs.Keys.{subject_in}
+use Rattle.keyed_lines.specs.declared.key_cause.KeyCause.TheVariants as keys
+use Rattle.key_files.specs.declared.spec_cause.SpecCause.TheVariants.{Key}
 use Rattle.krl_spec.specs.Entries.{entry_of}
-use Rattle.krl_spec.specs.Keys.{subject_in}
 use Rattle.krl_spec.proofs.Growth.{subject_fits}
 use Rattle.krl_spec.proofs.adding.add_bare.Goals as goal
 
 pub returns-clause-adds : goal.returns-clause-adds
 unfolding subject_in
 returns-clause-adds g c =
-    let asked = rw c.as_slice.ensures at c.in_ok-asked.ensures.asked in
-    (entry_of c.subject_entry.result, rw (c.in_ok-line.ensures.read, asked, c.subject_entry.ensures.named) refl, c.in_ok-add.ensures.means, c.in_ok-add.ensures.held)
+    let line = in_fault_ok keys.Line _ _ (in_fault_ok Key _ _ c.in_ok-line.ensures.read) in
+    let asked = in_fault_ok keys.Subject _ _ (in_fault_ok Key _ _ (rw c.as_slice.ensures at c.in_ok-asked.ensures.asked)) in
+    (entry_of c.subject_entry.result, rw (line, asked, c.subject_entry.ensures.named) refl, c.in_ok-add.ensures.means, c.in_ok-add.ensures.held)
 
 pub returns-clause-grows : goal.returns-clause-grows
 returns-clause-grows g c = λ current.

@@ -1,5 +1,5 @@
 -- Keys are read exactly where key lines spell them, and otherwise the first fault is reported.
-use Rattle.std.proofs.Common.{◌≡◌, ◌↔◌, ℕ, List, Result, Ok, Err, refl, inl, inr}
+use Rattle.std.proofs.Common.{◌≡◌, ◌↔◌, ℕ, List, Result, Ok, Err, refl, subst, sym, inl, inr}
 use Rattle.ssh_wire.specs.Reading.{in_fault}
 use Rattle.ssh_wire.specs.Wire.{IsBytes}
 use Rattle.ssh_wire.proofs.Steps.{bind_err, bind_ok, in_fault_err, in_fault_ok}
@@ -10,10 +10,9 @@ use Rattle.key_text.specs.declared.line_fault.LineFault.{LineFault}
 use Rattle.krl_types.specs.Subject.{Subject}
 use Rattle.ssh_cert.specs.SubjectReading.{IsSubject, IsSubjectFault, subject_of}
 use Rattle.ssh_cert.specs.declared.subject_fault.SubjectFault.{SubjectFault}
-use Rattle.krl_spec.specs.Keys.{line_cause, subject_cause, subject_in}
-use Rattle.krl_spec.specs.Keys.{HasSubjectFault, IsKeyCause, IsSubjectLine}
-use Rattle.key_files.specs.declared.spec_cause.KeyCause.TheVariants as keys
-use Rattle.key_files.specs.declared.spec_cause.SpecCause.{SpecCause}
+use Rattle.keyed_lines.specs.Keys.{HasSubjectFault, IsKeyFault, IsSubjectLine, subject_in}
+use Rattle.keyed_lines.specs.declared.key_cause.KeyCause.{KeyCause}
+use Rattle.keyed_lines.specs.declared.key_cause.KeyCause.TheVariants as causes
 
 -- the laws of key lines and of subjects
 pub record KeyLaws : Type 0 where
@@ -29,20 +28,20 @@ pub record KeyLaws : Type 0 where
       → (subject_of blob ≡ Err fault) ↔ IsSubjectFault blob fault
 
 -- the subject of the blob of a line
-abbrev asked_in : KeyLine → Result Subject SpecCause
-asked_in line = in_fault subject_cause (subject_of line.blob)
+abbrev asked_in : KeyLine → Result Subject KeyCause
+asked_in line = in_fault causes.Subject (subject_of line.blob)
 
 pub subject_found : KeyLaws → (text : List ℕ) (asked : Subject) → IsBytes text → subject_in text ≡ Ok asked → IsSubjectLine text asked
 unfolding subject_in
 subject_found laws text asked fits e =
-    let read = bind_ok (in_fault line_cause (line_at text)) asked_in asked e in
-    let is_line = laws.line_found text read.0 fits (in_fault_ok line_cause (line_at text) read.0 read.1) in
+    let read = bind_ok (in_fault causes.Line (line_at text)) asked_in asked e in
+    let is_line = laws.line_found text read.0 fits (in_fault_ok causes.Line (line_at text) read.0 read.1) in
     record {
       word = read.0.word;
       blob = read.0.blob;
       comment = read.0.comment;
       line = is_line;
-      asks = (laws.asked read.0.blob asked is_line.bytes).0 (in_fault_ok subject_cause (subject_of read.0.blob) asked read.2);
+      asks = (laws.asked read.0.blob asked is_line.bytes).0 (in_fault_ok causes.Subject (subject_of read.0.blob) asked read.2);
     }
 
 pub subject_again : KeyLaws → (text : List ℕ) (asked : Subject) → IsSubjectLine text asked → subject_in text ≡ Ok asked
@@ -50,15 +49,15 @@ unfolding subject_in
 subject_again laws text asked is =
     rw (laws.line_read text is.word is.blob is.comment is.line, (laws.asked is.blob asked is.line.bytes).1 is.asks) refl
 
-pub subject_refused : KeyLaws → (text : List ℕ) (cause : SpecCause) → IsBytes text → subject_in text ≡ Err cause → IsKeyCause text cause
+pub subject_refused : KeyLaws → (text : List ℕ) (cause : KeyCause) → IsBytes text → subject_in text ≡ Err cause → IsKeyFault text cause
 unfolding subject_in
-subject_refused laws text cause fits e = elim (bind_err (in_fault line_cause (line_at text)) asked_in cause e) [
+subject_refused laws text cause fits e = elim (bind_err (in_fault causes.Line (line_at text)) asked_in cause e) [
   | inl refused ↦
-      let why = in_fault_err line_cause (line_at text) cause refused in
-      (keys.Line why.0, (laws.line_refused text why.0 fits).0 why.1, why.2)
+      let why = in_fault_err causes.Line (line_at text) cause refused in
+      subst (IsKeyFault text) (sym why.2) ((laws.line_refused text why.0 fits).0 why.1)
   | inr read ↦
-      let is_line = laws.line_found text read.0 fits (in_fault_ok line_cause (line_at text) read.0 read.1) in
-      let why = in_fault_err subject_cause (subject_of read.0.blob) cause read.2 in
+      let is_line = laws.line_found text read.0 fits (in_fault_ok causes.Line (line_at text) read.0 read.1) in
+      let why = in_fault_err causes.Subject (subject_of read.0.blob) cause read.2 in
       let has : HasSubjectFault text why.0 = record {
         word = read.0.word;
         blob = read.0.blob;
@@ -66,12 +65,11 @@ subject_refused laws text cause fits e = elim (bind_err (in_fault line_cause (li
         line = is_line;
         is = (laws.not_asked read.0.blob why.0 is_line.bytes).0 why.1;
       } in
-      (keys.Subject why.0, has, why.2)
+      subst (IsKeyFault text) (sym why.2) has
 ]
 
-pub subject_fault_met : KeyLaws → (text : List ℕ) (cause : SpecCause) → IsBytes text → IsKeyCause text cause → subject_in text ≡ Err cause
+pub fault_met : KeyLaws → (text : List ℕ) (cause : KeyCause) → IsBytes text → IsKeyFault text cause → subject_in text ≡ Err cause
 unfolding subject_in
-subject_fault_met laws text cause fits (keys.Line fault, first, is) =
-    rw (is, (laws.line_refused text fault fits).1 first) refl
-subject_fault_met laws text cause fits (keys.Subject fault, has, is) =
-    rw (is, laws.line_read text has.word has.blob has.comment has.line, (laws.not_asked has.blob fault has.line.bytes).1 has.is) refl
+fault_met laws text (causes.Line fault) fits first = rw ((laws.line_refused text fault fits).1 first) refl
+fault_met laws text (causes.Subject fault) fits has =
+    rw (laws.line_read text has.word has.blob has.comment has.line, (laws.not_asked has.blob fault has.line.bytes).1 has.is) refl

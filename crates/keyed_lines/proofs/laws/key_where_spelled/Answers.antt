@@ -1,6 +1,6 @@
 -- Each law of key lines and of blobs gives its part.
-use Rattle.krl_spec.proofs.KeyLaws.{KeyLaws, subject_again, subject_fault_met, subject_found, subject_refused}
-use Rattle.krl_spec.proofs.laws.key_where_spelled.Goals as goal
+use Rattle.keyed_lines.proofs.KeyLaws.{KeyLaws, fault_met, subject_again, subject_found, subject_refused}
+use Rattle.keyed_lines.proofs.laws.key_where_spelled.Goals as goal
 
 pub returns : goal.returns
 returns c =
@@ -13,5 +13,5 @@ returns c =
     } in
     record {
       read = λ text asked fits. (subject_found laws text asked fits, subject_again laws text asked);
-      refused = λ text cause fits. (subject_refused laws text cause fits, subject_fault_met laws text cause fits);
+      refused = λ text cause fits. (subject_refused laws text cause fits, fault_met laws text cause fits);
     }

@@ -1,0 +1,2 @@
+pub mod KeyCause
+pub mod Keys
