@@ -41,6 +41,7 @@ use Rattle.krl_audit.specs.declared.why.Refusal.{Refusal}
 use Rattle.krl_audit.specs.declared.why.Refusal.TheVariants as refusals
 use Rattle.krl_audit.specs.declared.why.Why.{Why}
 use Rattle.krl_audit.specs.declared.why.Why.TheVariants as whys
+use Rattle.keyed_lines.specs.declared.key_cause.KeyCause.TheVariants as key_causes
 use Rattle.krl_audit.proofs.Escapes.{decimal_free, fingerprint_free, free_append, free_drop, visible_free}
 
 -- ---- one word in a colour
@@ -247,8 +248,8 @@ more_free true = refl
 more_free false = refl
 
 why_free : (why : Why) → IsCount why → HasNoEscape (why_text why)
-why_free (whys.Line fault) small = line_free fault
-why_free (whys.Subject fault) small = free_append (codes "the key is cut or misspelt: ") (subject_fault_text fault) refl (subject_free fault)
+why_free (whys.Key (key_causes.Line fault)) small = line_free fault
+why_free (whys.Key (key_causes.Subject fault)) small = free_append (codes "the key is cut or misspelt: ") (subject_fault_text fault) refl (subject_free fault)
 why_free (whys.Private fault) small = free_append (codes "the private key file is cut or misspelt: ") (private_fault_text fault) refl (private_free fault)
 why_free (whys.File refusal) small = refusal_free refusal
 why_free (whys.NoKeys lines) small = three_free (codes "none of its ") (decimal lines) (codes " lines is a key") refl (decimal_free lines small) refl

@@ -127,8 +127,7 @@ fault_fits : (why : Why) → Fits 2 (word_field (codes "fault") (why_fault why))
 fault_fits why = word_fits 2 (codes "fault") (why_fault why)
 
 cause_fits : (why : Why) → IsCount why → Fits 2 (cause_field why).value
-cause_fits (whys.Line fault) few = fault_fits (whys.Line fault)
-cause_fits (whys.Subject fault) few = fault_fits (whys.Subject fault)
+cause_fits (whys.Key cause) few = fault_fits (whys.Key cause)
 cause_fits (whys.Private fault) few = fault_fits (whys.Private fault)
 cause_fits (whys.File refusal) few = fault_fits (whys.File refusal)
 cause_fits (whys.NoKeys lines) few = fault_fits (whys.NoKeys lines)

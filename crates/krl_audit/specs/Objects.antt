@@ -10,7 +10,6 @@ use Rattle.key_files.specs.FileFault.{file_fault_text}
 use Rattle.key_files.specs.declared.file_fault.FileFault.{FileFault}
 use Rattle.key_files.specs.declared.file_fault.FileFault.TheVariants as files
 use Rattle.key_text.specs.Fingerprints.{fingerprint_text}
-use Rattle.key_text.specs.LineFault.{fault_text as line_fault_text}
 use Rattle.key_text.specs.Marker.{marker_word}
 use Rattle.key_text.specs.PrivateFault.{private_fault_text}
 use Rattle.key_text.specs.declared.hash.Hash.TheVariants.{Sha256}
@@ -20,7 +19,7 @@ use Rattle.krl_entries.specs.Reasons.{any_reason, every_reason, has_reason}
 use Rattle.krl_entries.specs.declared.reasons.Reason.{Reason}
 use Rattle.krl_entries.specs.declared.reasons.Reason.TheVariants as reasons
 use Rattle.krl_entries.specs.declared.reasons.Reasons.{Reasons}
-use Rattle.ssh_cert.specs.SubjectFault.{subject_fault_text}
+use Rattle.keyed_lines.specs.KeyCause.{key_cause_text}
 use Rattle.krl_audit.specs.Outcome.{Found}
 use Rattle.krl_audit.specs.Text.{type_of}
 use Rattle.krl_audit.specs.Why.{why_text}
@@ -160,8 +159,7 @@ refusal_fault refusals.TooLong = files.TooLong
 
 -- the fault, by its family, its number and its name
 abbrev pub why_fault : Why → List ℕ
-why_fault (whys.Line fault) = line_fault_text fault
-why_fault (whys.Subject fault) = subject_fault_text fault
+why_fault (whys.Key cause) = key_cause_text cause
 why_fault (whys.Private fault) = private_fault_text fault
 why_fault (whys.File refusal) = file_fault_text (refusal_fault refusal)
 why_fault (whys.NoKeys lines) = file_fault_text files.NoKeys

@@ -6,6 +6,7 @@ use Rattle.std.specs.List.{slice_split, starts_with}
 use Rattle.std.specs.Str.{bytes_eq}
 use Rattle.ssh_cert.specs.SubjectReading.{IsAsked, subject_of}
 use Rattle.ssh_cert.specs.declared.subject_fault.SubjectFault.{SubjectFault}
+use Rattle.keyed_lines.specs.declared.key_cause.KeyCause.TheVariants as keys
 use Rattle.krl_types.specs.Subject.{Subject}
 use Rattle.key_text.specs.Armour.{end_line}
 use Rattle.key_text.specs.Blanks.{before_ending, trimmed}
@@ -59,12 +60,12 @@ asked_outcome marker hosts front blob comment (Ok asked) =
       comment = comment;
       asked = asked;
     })
-asked_outcome marker hosts front blob comment (Err fault) = Unread (whys.Subject fault)
+asked_outcome marker hosts front blob comment (Err fault) = Unread (whys.Key (keys.Subject fault))
 
 abbrev pub line_outcome : Option Marker → Bool → List ℕ → Result KeyLine LineFault → Outcome
 line_outcome marker hosts front (Ok line) =
     asked_outcome marker hosts front line.blob line.comment (subject_of line.blob)
-line_outcome marker hosts front (Err fault) = Unread (whys.Line fault)
+line_outcome marker hosts front (Err fault) = Unread (whys.Key (keys.Line fault))
 
 -- ---- a line
 
@@ -99,7 +100,7 @@ two first second = record { first = first; second = Some second }
 
 -- no key type is there
 abbrev pub is_bare : Outcome → Bool
-is_bare (Unread (whys.Line lines.NoKey)) = true
+is_bare (Unread (whys.Key (keys.Line lines.NoKey))) = true
 is_bare _ = false
 
 -- the same key, or no key

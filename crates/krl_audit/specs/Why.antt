@@ -4,6 +4,7 @@ use Rattle.ssh_cert.specs.SubjectFault.{subject_fault_text}
 use Rattle.key_text.specs.PrivateFault.{private_fault_text}
 use Rattle.key_text.specs.declared.line_fault.LineFault.{LineFault}
 use Rattle.key_text.specs.declared.line_fault.LineFault.TheVariants as lines
+use Rattle.keyed_lines.specs.declared.key_cause.KeyCause.TheVariants as keys
 use Rattle.krl_audit.specs.declared.why.Refusal.{Refusal}
 use Rattle.krl_audit.specs.declared.why.Refusal.TheVariants as refusals
 use Rattle.krl_audit.specs.declared.why.Why.{Why}
@@ -33,8 +34,9 @@ more_words true = codes " more line is unread"
 more_words false = codes " more lines are unread"
 
 abbrev pub why_text : Why → List ℕ
-why_text (whys.Line fault) = line_why fault
-why_text (whys.Subject fault) = codes "the key is cut or misspelt: " ++ subject_fault_text fault
+why_text (whys.Key (keys.Line fault)) = line_why fault
+why_text (whys.Key (keys.Subject fault)) =
+    codes "the key is cut or misspelt: " ++ subject_fault_text fault
 why_text (whys.Private fault) =
     codes "the private key file is cut or misspelt: " ++ private_fault_text fault
 why_text (whys.File refusal) = refusal_why refusal

@@ -12,8 +12,7 @@ pub(crate) fn fault_text(alloc: Global, why: Why) -> Result<String, AllocError>
     ensures { IfOk result (λ text. string_bytes text ≡ why_fault why) }
 {
     match why {
-        Why::Line(fault) => fault.to_string(alloc),
-        Why::Subject(fault) => fault.to_string(alloc),
+        Why::Key(cause) => cause.to_string(alloc),
         Why::Private(fault) => fault.to_string(alloc),
         Why::File(refusal) => refusal_fault(refusal).to_string(alloc),
         Why::NoKeys(_) => FileFault::NoKeys.to_string(alloc),

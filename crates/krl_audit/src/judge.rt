@@ -12,6 +12,7 @@ use crate::outcome::{Found, Outcome};
 use crate::said::{say_key, say_unread};
 use crate::text::{Location, Verdict};
 use crate::why::Why;
+use key_files::KeyCause;
 use key_text::Marker;
 use krl_entries::Revocations;
 use span_sets::Held;
@@ -119,7 +120,12 @@ impl<'q> Judge<'q> {
     {
         let any = match read_any(found.blob.as_slice()) {
             Ok(any) => any,
-            Err(fault) => return self.judge_unread(alloc, location, Why::Subject(fault), line),
+            Err(fault) => return self.judge_unread(
+                alloc,
+                location,
+                Why::Key(KeyCause::Subject(fault)),
+                line,
+            ),
         };
         let subject = any.subject(alloc)?;
         let reasons = self.list.reasons(&subject);

@@ -30,7 +30,8 @@ ghost use Rattle.krl_audit.specs.declared.front.Fronts.{Fronts as FrontsOf};
 ghost use Rattle.krl_audit.specs.declared.front.Fronts.TheVariants as fronts;
 ghost use Rattle.krl_audit.specs.declared.done.ListFacts.{ListFacts as ListFactsOf};
 ghost use Rattle.krl_audit.specs.declared.why.Why.{Why as WhyOf};
-ghost use Rattle.krl_audit.specs.declared.why.Why.TheVariants.{Line};
+ghost use Rattle.krl_audit.specs.declared.why.Why.TheVariants.{Key as KeyWhy};
+ghost use Rattle.keyed_lines.specs.declared.key_cause.KeyCause.TheVariants.{Line};
 
 use json_lines::laws::lines_are_read_back;
 use key_text::laws::{
@@ -61,7 +62,7 @@ pub fn lines_by_what_is_spelled()
         (hosts_of (trimmed (unmarked text))) blob comment (Ok asked)) }
     ensures fault { (text : List ℕ) (fault : LineFault) → IsBytes text → has_key text ≡ true
         → marker_of text ≡ None → IsFirstLineFault text fault
-        → outcomes_of fronts.Options text ≡ one (Unread (Line fault)) }
+        → outcomes_of fronts.Options text ≡ one (Unread (KeyWhy (Line fault))) }
 {
     line_read_where_spelled();
     host_line_read_where_spelled();

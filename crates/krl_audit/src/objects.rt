@@ -94,7 +94,7 @@ fn put_cause(alloc: Global, out: &mut LineWriter, why: Why) -> Result<(), AllocE
 {
     match why {
         Why::More(lines) => put_number(out, "count", lines),
-        Why::Line(_) | Why::Subject(_) | Why::Private(_) | Why::File(_) | Why::NoKeys(_) => {
+        Why::Key(_) | Why::Private(_) | Why::File(_) | Why::NoKeys(_) => {
             let fault = fault_text(alloc, why)?;
             put_word(out, "fault", fault.as_str())
         }

@@ -11,6 +11,7 @@ ghost use Rattle.krl_audit.specs.Outcome.{Outcome as OutcomeOf, outcomes_of, par
 
 use crate::front::{Fronts, front_before};
 use crate::why::Why;
+use key_files::KeyCause;
 use key_text::{
     LineFault, Marker, Private, PrivateFault, after_blanks, before_ending, has_key, host_part,
     key_part, read_part, read_private, read_public_half, split_marker,
@@ -152,7 +153,10 @@ fn merged<'a>(first: Outcome<'a>, second: Outcome<'a>) -> Outcomes<'a>
 fn is_bare(outcome: &Outcome<'_>) -> bool
     ensures { (given : OutcomeOf) → GivesOutcome outcome.now given → result ≡ is_bare given }
 {
-    matches!(outcome, Outcome::Unread(Why::Line(LineFault::NoKey)))
+    matches!(
+        outcome,
+        Outcome::Unread(Why::Key(KeyCause::Line(LineFault::NoKey)))
+    )
 }
 
 // Returns true if both have the same key, or neither has one.
@@ -181,7 +185,7 @@ fn read_by<'a>(
         (option_map (λ text. text.now) part.entry))) }
 {
     let Some(part) = part else {
-        return Ok(Outcome::Unread(Why::Line(LineFault::NoKey)));
+        return Ok(Outcome::Unread(Why::Key(KeyCause::Line(LineFault::NoKey))));
     };
     match read_part(alloc, part) {
         Ok(read) => {
@@ -189,7 +193,7 @@ fn read_by<'a>(
             Ok(checked(marker, hosts, front, read.blob, read.comment))
         }
         Err(LineFault::NoMemory) => Err(AllocError),
-        Err(fault) => Ok(Outcome::Unread(Why::Line(fault))),
+        Err(fault) => Ok(Outcome::Unread(Why::Key(KeyCause::Line(fault)))),
     }
 }
 
@@ -212,7 +216,7 @@ pub(crate) fn checked<'a>(
             blob,
             comment,
         }),
-        Some(fault) => Outcome::Unread(Why::Subject(fault)),
+        Some(fault) => Outcome::Unread(Why::Key(KeyCause::Subject(fault))),
     }
 }
 

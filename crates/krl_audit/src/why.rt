@@ -3,9 +3,9 @@
 ghost use Rattle.std.specs.Prelude.{◌≡◌};
 ghost use Rattle.krl_audit.specs.Why.{line_why, more_words, refusal_why, why_text};
 
+use key_files::KeyCause;
 use key_text::{LineFault, PrivateFault};
 use line_pieces::{Printed, Words, put};
-use ssh_cert::SubjectFault;
 use std::alloc::{AllocError, Global};
 
 /// Why a file is not read.
@@ -38,10 +38,8 @@ pub enum Refusal {
 /// Why a line or a file is not read.
 #[derive(Clone, Copy)]
 pub enum Why {
-    /// A line has no key.
-    Line(LineFault),
-    /// The key of a line is not a known key.
-    Subject(SubjectFault),
+    /// A line has no key, or none that is known.
+    Key(KeyCause),
     /// A private key file is truncated or misspelt.
     Private(PrivateFault),
     /// A file is not read.
@@ -64,8 +62,8 @@ impl Printed for Told {
 
     fn push_to(&self, out: &mut Vec<u8>) -> Result<(), AllocError> {
         match self.why {
-            Why::Line(fault) => put!(out; Words(line_why(fault))),
-            Why::Subject(fault) => {
+            Why::Key(KeyCause::Line(fault)) => put!(out; Words(line_why(fault))),
+            Why::Key(KeyCause::Subject(fault)) => {
                 let said = fault.to_string(self.alloc)?;
                 put!(out; b"the key is cut or misspelt: ", Words(said.as_bytes()))
             }
