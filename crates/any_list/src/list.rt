@@ -8,8 +8,8 @@ use byte_streams::Lent;
 use key_files::{Cause, RunFault, cause_of};
 use key_text::sha256_of;
 use krl_audit::Stated;
-use krl_core::{KrlFault, MAGIC, Revocations, read_krl};
-use plain_list::{PlainFault, read_plain};
+use krl_core::{KrlFault, Revocations, read_krl};
+use plain_list::{PlainFault, begins_list, read_plain};
 use span_sets::Held;
 use std::alloc::Global;
 
@@ -34,7 +34,7 @@ pub fn read_list<'a>(
     ensures found { IfOk result (λ list. IsReadList hashed bytes.now list) }
     ensures fault { IfErr result (λ stop. IsListFault name.now bytes.now stop) }
 {
-    if bytes.starts_with(MAGIC) {
+    if begins_list(bytes) {
         read_whole(alloc, name, bytes, hashed)
     } else {
         read_lines(alloc, name, bytes, hashed)

@@ -5,8 +5,7 @@ ghost use Rattle.krl_c.specs.Any.{AnswersAny, AnswersPlain};
 use crate::check::ask_list;
 use crate::loaded_list::ask_loaded;
 use crate::number::of_plain;
-use krl_core::MAGIC;
-use plain_list::read_plain;
+use plain_list::{begins_list, read_plain};
 use span_sets::Held;
 use std::alloc::Global;
 
@@ -14,7 +13,7 @@ use std::alloc::Global;
 pub(crate) fn ask_any(alloc: Global, list: &[u8], blob: &[u8]) -> i32
     ensures { AnswersAny list.now blob.now result }
 {
-    if list.starts_with(MAGIC) {
+    if begins_list(list) {
         ask_list(alloc, list, blob)
     } else {
         ask_plain(alloc, list, blob)

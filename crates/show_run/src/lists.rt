@@ -9,7 +9,8 @@ ghost use Rattle.show_run.specs.Lists.{AreGiven, IsFirstRefused, IsGiven, IsGive
 use any_list::read_list;
 use byte_streams::Lent;
 use key_files::{Cause, RunFault, cause_of};
-use krl_core::{Header, MAGIC, Revocations, read_krl};
+use krl_core::{Header, Revocations, read_krl};
+use plain_list::begins_list;
 use span_sets::Held;
 use ssh_wire::Bytes;
 use std::alloc::Global;
@@ -85,7 +86,7 @@ fn read_bytes<'a>(alloc: Global, name: &'a str, bytes: &[u8]) -> Result<Given<'a
     ensures found { IfOk result (λ given. IsGivenBy name.now bytes.now given) }
     ensures fault { IfErr result (λ stop. IsListFault name.now bytes.now stop) }
 {
-    if bytes.starts_with(MAGIC) {
+    if begins_list(bytes) {
         read_whole(alloc, name, bytes)
     } else {
         read_lines(alloc, name, bytes)
