@@ -12,7 +12,10 @@ mod number;
 mod spec_fault;
 mod under;
 
+pub use adding::add_line;
+pub use blanks::{bare_line, position_of};
 pub use key_files::SpecCause;
+pub use keys::{ask, key_line};
 pub use lines::read_spec;
 pub use spec_fault::SpecFault;
 pub use under::Under;
