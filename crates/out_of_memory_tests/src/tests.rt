@@ -7,6 +7,7 @@ mod buffer;
 mod checks;
 mod holding;
 mod keys;
+mod made;
 mod parts;
 mod puts;
 mod reading;

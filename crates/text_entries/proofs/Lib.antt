@@ -1,0 +1,2 @@
+pub mod ReadLines
+pub mod Said

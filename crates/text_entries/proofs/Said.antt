@@ -1,0 +1,66 @@
+-- What lines say, and what was done.
+use Rattle.std.proofs.Common.{◌≡◌, ℕ, List, [], ◌∷◌, Option, Some, None, Result, Ok, Err, refl, ap, arith}
+use Rattle.ssh_wire.specs.Reading.{◌>>=◌, in_fault}
+use Rattle.key_files.specs.declared.spec_cause.SpecCause.{SpecCause}
+use Rattle.key_files.specs.declared.spec_cause.SpecCause.TheVariants as specs
+use Rattle.key_text.specs.LineReading.{KeyLine, line_at}
+use Rattle.krl_entries.specs.Changes.{MeansMore}
+use Rattle.krl_entries.specs.Revocations.{Revocations, held}
+use Rattle.krl_spec.specs.Adding.{AddsLine, Reports as ReportsSpec}
+use Rattle.keyed_lines.specs.Keys.{subject_in}
+use Rattle.keyed_lines.specs.declared.key_cause.KeyCause.{KeyCause}
+use Rattle.keyed_lines.specs.declared.key_cause.KeyCause.TheVariants as keys
+use Rattle.krl_types.specs.Entry.{Entry}
+use Rattle.krl_types.specs.Subject.{Subject}
+use Rattle.ssh_cert.specs.SubjectReading.{subject_of}
+use Rattle.text_entries.specs.Reading.{IsDone}
+use Rattle.text_entries.specs.Says.{Blank, Names, Saying, spec_says}
+use Rattle.text_entries.specs.TextCause.{Reports}
+use Rattle.text_entries.specs.Values.{authority_key_in, unless_certified}
+use Rattle.text_entries.specs.declared.text_cause.TextCause.{TextCause}
+use Rattle.text_entries.specs.declared.text_cause.TextCause.TheVariants.{Spec}
+
+-- ---- authorities
+
+-- the fault of two steps is that of the first one that fails
+in_fault_then : {A B F G : Type 0} (give : F → G) (first : Result A F) (next : A → Result B F)
+    → in_fault give (first >>= next) ≡ (in_fault give first >>= λ (a : A). in_fault give (next a))
+in_fault_then give (Ok a) next = refl
+in_fault_then give (Err fault) next = refl
+
+abbrev line_in : List ℕ → Result KeyLine KeyCause
+line_in text = in_fault keys.Line (line_at text)
+
+abbrev asked_in : KeyLine → Result Subject KeyCause
+asked_in line = in_fault keys.Subject (subject_of line.blob)
+
+pub key_read : (text : List ℕ) (line : KeyLine) (asked : Subject) → in_fault specs.Key (line_in text) ≡ Ok line
+    → in_fault specs.Key (asked_in line) ≡ Ok asked → authority_key_in text ≡ unless_certified asked.plain asked.cert
+unfolding authority_key_in subject_in
+key_read text line asked read is = rw (in_fault_then specs.Key (line_in text) asked_in, read, is) refl
+
+pub line_stops : (text : List ℕ) (cause : SpecCause) → ReportsSpec cause (in_fault specs.Key (line_in text)) → Reports (Spec cause) (authority_key_in text)
+unfolding authority_key_in subject_in
+line_stops text specs.NoMemory is = tt
+line_stops text cause is = rw (in_fault_then specs.Key (line_in text) asked_in, is) refl
+
+pub subject_stops : (text : List ℕ) (line : KeyLine) (cause : SpecCause) → in_fault specs.Key (line_in text) ≡ Ok line
+    → ReportsSpec cause (in_fault specs.Key (asked_in line)) → Reports (Spec cause) (authority_key_in text)
+unfolding authority_key_in subject_in
+subject_stops text line specs.NoMemory read is = tt
+subject_stops text line cause read is = rw (in_fault_then specs.Key (line_in text) asked_in, read, is) refl
+
+-- ---- entries
+
+-- a line of a specification file
+pub spec_done : (read : Option (Result Entry SpecCause)) (current : Option (List ℕ)) (old new : Revocations) → AddsLine {A = Unit {0}} read (Ok tt) old new
+    → (saying : Saying) × (spec_says read ≡ Ok saying) × IsDone saying current current old new
+spec_done None current old new same = (Blank, refl, (refl, same))
+spec_done (Some read) current old new (entry, is, adds, few) =
+    (Names entry, ap (λ (r : Result Entry SpecCause). spec_says (Some r)) is, (refl, adds, few))
+
+-- an entry of bytes that a line gives
+pub names_one : (read : Result (List ℕ) TextCause) (value : List ℕ) (entry : List ℕ → Entry) (current : Option (List ℕ)) (old new : Revocations)
+    → read ≡ Ok value → MeansMore old new (entry value ∷ []) → held new ≡ held old
+    → (saying : Saying) × ((read >>= λ v. Ok (Names (entry v))) ≡ Ok saying) × IsDone saying current current old new
+names_one read value entry current old new is means same = (Names (entry value), rw is refl, (refl, means, omega (arith, same)))

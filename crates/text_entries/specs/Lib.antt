@@ -1,0 +1,6 @@
+pub mod TextCause
+pub mod Word
+pub mod Values
+pub mod Says
+pub mod Lines
+pub mod Reading

@@ -1,0 +1,59 @@
+-- How reading the text of a list changes what is held.
+use Rattle.std.specs.Prelude.{◌≡◌, ℕ, ◌+◌, ◌≤◌, List, [], ◌∷◌, ◌++◌, length, Option, Some, None}
+use Rattle.std.specs.Prelude.{Result, Ok, Err}
+use Rattle.std.specs.List.{slice_split}
+use Rattle.key_text.specs.Lines.{is_newline}
+use Rattle.key_files.specs.declared.spec_cause.SpecCause.TheVariants as specs
+use Rattle.krl_entries.specs.Changes.{MeansMore}
+use Rattle.krl_entries.specs.Revocations.{Revocations, held}
+use Rattle.text_entries.specs.Lines.{fault_at, lines_from, lines_of}
+use Rattle.text_entries.specs.Says.{Blank, Current, Names, Saying}
+use Rattle.text_entries.specs.TextCause.{Reports}
+use Rattle.text_entries.specs.declared.text_cause.TextCause.{TextCause}
+use Rattle.text_entries.specs.declared.text_cause.TextCause.TheVariants as causes
+use Rattle.text_entries.specs.declared.text_fault.TextFault.{TextFault}
+
+-- ---- a line
+
+-- What a line says was done: its authority is current, or its entry is held, which makes at most
+-- one more interval.
+abbrev pub IsDone : Saying → (before after : Option (List ℕ)) → (old new : Revocations) → Type 0
+IsDone Blank before after old new = (after ≡ before) × (new ≡ old)
+IsDone (Current authority) before after old new = (after ≡ Some authority) × (new ≡ old)
+IsDone (Names entry) before after old new =
+    (after ≡ before) × MeansMore old new (entry ∷ []) × (held new ≤ held old + 1)
+
+-- The same, or the line has the fault that is reported and nothing changed.
+abbrev pub TakesLine : {A : Type 0} → Result Saying TextCause → Result A TextCause
+    → (before after : Option (List ℕ)) → (old new : Revocations) → Type 0
+TakesLine says (Ok done) before after old new =
+    (saying : Saying) × (says ≡ Ok saying) × IsDone saying before after old new
+TakesLine says (Err cause) before after old new =
+    Reports cause says × (after ≡ before) × (new ≡ old)
+
+-- ---- a text
+
+-- An allocation failed at a line: those before it have no fault, and their entries were added.
+pub record LacksMemoryAt (lines : List (List ℕ)) (number : ℕ) (old new : Revocations) : Type 0 where
+  pub before : List (List ℕ)
+  pub line : List ℕ
+  pub after : List (List ℕ)
+  pub parts : lines ≡ before ++ line ∷ after
+  pub counted : length before + 1 ≡ number
+  pub faultless : (lines_from None 1 before).fault ≡ None
+  pub adds : MeansMore old new (lines_from None 1 before).entries
+
+-- The entries up to the first fault were added, and the fault is reported.
+abbrev pub StopsAt : List ℕ → ℕ → TextCause → Revocations → Revocations → Type 0
+StopsAt text number (causes.Spec specs.NoMemory) old new =
+    LacksMemoryAt (slice_split is_newline text) number old new
+StopsAt text number cause old new =
+    ((lines_of text).fault ≡ Some (fault_at number cause))
+    × MeansMore old new (lines_of text).entries
+
+-- All entries of the lines were added, and no line has a fault; or reading stopped at a line.
+abbrev pub ReadsText : {A : Type 0} → List ℕ → Result A TextFault → Revocations → Revocations
+    → Type 0
+ReadsText text (Ok done) old new =
+    ((lines_of text).fault ≡ None) × MeansMore old new (lines_of text).entries
+ReadsText text (Err fault) old new = StopsAt text fault.line fault.cause old new

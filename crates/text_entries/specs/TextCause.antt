@@ -1,0 +1,32 @@
+-- The numbers and the printed names of the faults of a line of the text of a list.
+use Rattle.std.specs.Prelude.{◌≡◌, ℕ, List, ◌++◌, codes, Result, Err, ⊤}
+use Rattle.key_files.specs.SpecCause.{spec_cause_text}
+use Rattle.key_files.specs.declared.spec_cause.SpecCause.TheVariants as specs
+use Rattle.text_entries.specs.declared.text_cause.TextCause.{TextCause}
+use Rattle.text_entries.specs.declared.text_cause.TextCause.TheVariants.{Spec, Certificate, NoBytes}
+use Rattle.text_entries.specs.declared.text_cause.TextCause.TheVariants.{Base64, Hex, CutId}
+
+abbrev pub text_cause_number : TextCause → ℕ
+text_cause_number (Spec cause) = 1
+text_cause_number Certificate = 2
+text_cause_number NoBytes = 3
+text_cause_number Base64 = 4
+text_cause_number Hex = 5
+text_cause_number CutId = 6
+
+abbrev pub text_cause_text : TextCause → List ℕ
+text_cause_text (Spec cause) = codes "text 1 Spec, " ++ spec_cause_text cause
+text_cause_text Certificate = codes "text 2 Certificate"
+text_cause_text NoBytes = codes "text 3 NoBytes"
+text_cause_text Base64 = codes "text 4 Base64"
+text_cause_text Hex = codes "text 5 Hex"
+text_cause_text CutId = codes "text 6 CutId"
+
+-- an allocation failed
+abbrev pub no_memory : TextCause
+no_memory = Spec specs.NoMemory
+
+-- The cause is the one that was read, or an allocation failed.
+abbrev pub Reports : {A : Type 0} → TextCause → Result A TextCause → Type 0
+Reports (Spec specs.NoMemory) read = ⊤
+Reports cause read = read ≡ Err cause

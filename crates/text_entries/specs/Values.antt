@@ -1,0 +1,92 @@
+-- The values of the words of the text of a list, and what cuts one short.
+use Rattle.std.specs.Prelude.{ℕ, Bool, ◌-◌, ◌==◌, ◌&&◌, not, nat_eq, nat_lt, List, [], ◌∷◌}
+use Rattle.std.specs.Prelude.{length, slice_index, codes, Option, Some, None, Result, Ok, Err}
+use Rattle.std.specs.Prelude.{if◌then◌else◌, drop}
+use Rattle.std.specs.List.{position_or_len, starts_with}
+use Rattle.base64.specs.Engines.{standard, standard_no_pad}
+use Rattle.base64.specs.GeneralPurpose.{decode_of}
+use Rattle.base64.specs.declared.decode.DecodeError.{DecodeError}
+use Rattle.hex.specs.Hex.{decode_of as hex_decode_of}
+use Rattle.hex.specs.declared.error.FromHexError.{FromHexError}
+use Rattle.ssh_wire.specs.Reading.{◌>>=◌, in_fault}
+use Rattle.key_text.specs.Blanks.{is_blank}
+use Rattle.key_text.specs.declared.fingerprint_fault.FingerprintFault.TheVariants as fingerprints
+use Rattle.keyed_lines.specs.Keys.{subject_in}
+use Rattle.key_files.specs.declared.spec_cause.SpecCause.TheVariants as specs
+use Rattle.krl_types.specs.Subject.{CertNames}
+use Rattle.krl_spec.specs.Blanks.{is_hash}
+use Rattle.text_entries.specs.declared.text_cause.TextCause.{TextCause}
+use Rattle.text_entries.specs.declared.text_cause.TextCause.TheVariants as causes
+
+-- ---- bytes
+
+abbrev no_base64 : DecodeError → TextCause
+no_base64 error = causes.Base64
+
+-- the bytes of base64 with padding
+unfoldable pub blob_in : List ℕ → Result (List ℕ) TextCause
+blob_in text = in_fault no_base64 (decode_of standard text)
+
+abbrev no_hex : FromHexError → TextCause
+no_hex error = causes.Hex
+
+-- the bytes of pairs of hexadecimal digits
+unfoldable pub bytes_in : List ℕ → Result (List ℕ) TextCause
+bytes_in text = in_fault no_hex (hex_decode_of text)
+
+-- ---- authorities
+
+-- a plain key by its blob, and no certificate
+abbrev pub unless_certified : List ℕ → Option CertNames → Result (List ℕ) TextCause
+unless_certified plain None = Ok plain
+unless_certified plain (Some names) = Err causes.Certificate
+
+-- the blob of a key line of a plain key
+unfoldable pub authority_key_in : List ℕ → Result (List ℕ) TextCause
+authority_key_in text = do
+  asked ← in_fault causes.Spec (in_fault specs.Key (subject_in text))
+  unless_certified asked.plain asked.cert
+
+abbrev pub is_all : List ℕ → Bool
+is_all text = starts_with nat_eq text (codes "all") && (length text == 3)
+
+-- all authorities, which are no bytes, or one by a key line
+unfoldable pub authority_in : List ℕ → Result (List ℕ) TextCause
+authority_in text = if is_all text then Ok [] else authority_key_in text
+
+abbrev pub some_bytes : List ℕ → Result (List ℕ) TextCause
+some_bytes [] = Err causes.NoBytes
+some_bytes (byte ∷ bytes) = Ok (byte ∷ bytes)
+
+-- one authority by its bytes
+unfoldable pub authority_blob_in : List ℕ → Result (List ℕ) TextCause
+authority_blob_in text = do
+  bytes ← blob_in text
+  some_bytes bytes
+
+-- ---- hashes
+
+abbrev pub sha1_prefix : List ℕ
+sha1_prefix = codes "SHA1:"
+
+abbrev pub is_sha1 : List ℕ → Bool
+is_sha1 text = starts_with nat_eq text sha1_prefix
+
+abbrev pub sized : Result (List ℕ) DecodeError → Result (List ℕ) TextCause
+sized (Err error) = Err (causes.Spec (specs.Fingerprint fingerprints.Base64))
+sized (Ok bytes) =
+    if length bytes == 20 then Ok bytes
+    else Err (causes.Spec (specs.Fingerprint fingerprints.Length))
+
+-- the 20 bytes of base64 without padding after the prefix
+unfoldable pub sha1_in : List ℕ → Result (List ℕ) TextCause
+sha1_in text = sized (decode_of standard_no_pad (drop 5 text))
+
+-- ---- key IDs
+
+-- A `#` in the line, and no blank before it: what is before it would be taken for the whole key ID.
+unfoldable pub is_cut : List ℕ → Bool
+is_cut line =
+    nat_lt (position_or_len is_hash line) (length line)
+    && not (nat_lt 0 (position_or_len is_hash line)
+    && is_blank (slice_index line (position_or_len is_hash line - 1)))

@@ -1,0 +1,127 @@
+//! Doing what a line of the text of a list says.
+
+ghost use Rattle.std.specs.Prelude.{◌≡◌, ℕ, List, Option, true};
+ghost use Rattle.krl_spec.specs.Entries.{line_entry};
+ghost use Rattle.text_entries.specs.Reading.{TakesLine};
+ghost use Rattle.text_entries.specs.Says.{id_hex_says, key_blob_says, line_says, sha1_says};
+ghost use Rattle.text_entries.specs.Says.{spec_says, word_says};
+ghost use Rattle.text_entries.specs.Values.{is_sha1};
+
+use crate::authority::{read_authority, read_authority_blob, under};
+use crate::text_cause::TextCause;
+use crate::values::{is_cut, is_sha1, read_blob, read_bytes, read_sha1};
+use crate::word::{Order, Word, order_in};
+use krl_entries::Revocations;
+use krl_spec::{SpecCause, add_line, bare_line};
+use serial_set::Spans;
+use ssh_wire::Bytes;
+use std::alloc::Global;
+
+/// Does what a line says: its authority is current from now on, or its entry is held.
+#[tactic(auto, unfolding(crate::specs::Says::line_says))]
+pub fn take_line<S: Spans>(
+    alloc: Global,
+    revocations: &mut Revocations<S>,
+    current: &mut Option<Bytes>,
+    line: &[u8],
+) -> Result<(), TextCause>
+    ensures { TakesLine (line_says current.old line.now) result current.old current.new
+        revocations.old revocations.new }
+{
+    match order_in(bare_line(line)) {
+        Some(order) => take_order(alloc, revocations, current, line, order),
+        None => take_spec_line(alloc, revocations, current, line),
+    }
+}
+
+// Does what a line with this word says.
+fn take_order<S: Spans>(
+    alloc: Global,
+    revocations: &mut Revocations<S>,
+    current: &mut Option<Bytes>,
+    line: &[u8],
+    order: Order<'_>,
+) -> Result<(), TextCause>
+    ensures { TakesLine
+        (word_says current.old line.now order.entry.word order.entry.given.now) result
+        current.old current.new revocations.old revocations.new }
+{
+    match order.word {
+        Word::Authority => {
+            *current = Some(read_authority(alloc, order.given)?);
+            Ok(())
+        }
+        Word::AuthorityBlob => {
+            *current = Some(read_authority_blob(alloc, order.given)?);
+            Ok(())
+        }
+        Word::Id if is_cut(line) => Err(TextCause::CutId),
+        Word::IdHex => take_id_hex(alloc, revocations, current, order.given),
+        Word::KeyBlob => take_key_blob(alloc, revocations, order.given),
+        Word::Hash if is_sha1(order.given) => take_sha1(alloc, revocations, order.given),
+        Word::Id | Word::Hash => take_spec_line(alloc, revocations, current, line),
+    }
+}
+
+// Does what a line of a specification file says.
+fn take_spec_line<S: Spans>(
+    alloc: Global,
+    revocations: &mut Revocations<S>,
+    current: &Option<Bytes>,
+    line: &[u8],
+) -> Result<(), TextCause>
+    ensures { TakesLine (spec_says (line_entry current.now line.now)) result
+        current.now current.now revocations.old revocations.new }
+{
+    match add_line(alloc, revocations, under(current), line) {
+        Ok(()) => Ok(()),
+        Err(cause) => Err(TextCause::Spec(cause)),
+    }
+}
+
+// Adds a key ID that is given by its bytes.
+fn take_id_hex<S: Spans>(
+    alloc: Global,
+    revocations: &mut Revocations<S>,
+    current: &Option<Bytes>,
+    given: &[u8],
+) -> Result<(), TextCause>
+    ensures { TakesLine (id_hex_says current.now given.now) result
+        current.now current.now revocations.old revocations.new }
+{
+    let Some(authority) = current else {
+        return Err(TextCause::Spec(SpecCause::NoAuthority));
+    };
+    let id = read_bytes(alloc, given)?;
+    revocations.add_id(authority.as_slice(), id.as_slice())?;
+    Ok(())
+}
+
+// Adds a key that is given by its bytes.
+fn take_key_blob<S: Spans>(
+    alloc: Global,
+    revocations: &mut Revocations<S>,
+    given: &[u8],
+) -> Result<(), TextCause>
+    ensures { (current : Option (List ℕ)) → TakesLine (key_blob_says given.now) result
+        current current revocations.old revocations.new }
+{
+    let blob = read_blob(alloc, given)?;
+    revocations.add_key(blob.as_slice())?;
+    Ok(())
+}
+
+// Adds a key that is given by its SHA-1.
+fn take_sha1<S: Spans>(
+    alloc: Global,
+    revocations: &mut Revocations<S>,
+    given: &[u8],
+) -> Result<(), TextCause>
+    requires { is_sha1 given.now ≡ true }
+    ensures { (current : Option (List ℕ)) → TakesLine (sha1_says given.now) result
+        current current revocations.old revocations.new }
+{
+    let hash = read_sha1(alloc, given)?;
+    revocations.add_sha1(&hash)?;
+    Ok(())
+}

@@ -1,0 +1,68 @@
+//! Why a line of the text of a list is faulty.
+
+ghost use Rattle.std.specs.Prelude.{◌≡◌, Some};
+ghost use Rattle.text_entries.specs.TextCause.{no_memory, text_cause_number, text_cause_text};
+
+use key_files::SpecCause;
+use std::alloc::AllocError;
+use std::error::Error;
+use std::fmt;
+
+/// Why a line of the text of a list is faulty. It prints as `text`, its number and its name; after
+/// `Spec` comes the fault as in a specification file.
+#[derive(Clone, Copy, Debug, PartialEq, Eq)]
+pub enum TextCause {
+    /// It has a fault that lines of specification files can have too.
+    Spec(SpecCause),
+    /// A certificate authority is given by a certificate, and not by its key.
+    Certificate,
+    /// A certificate authority that is given by its bytes has none.
+    NoBytes,
+    /// Bytes are not given in base64 with padding, its unused bits zero.
+    Base64,
+    /// Bytes are not given by pairs of hexadecimal digits.
+    Hex,
+    /// A `#` with no blank before it cuts a key ID short.
+    CutId,
+}
+
+impl TextCause {
+    /// The fault's number, 1 to 6 in the order of the variants.
+    pub fn number(self) -> u8
+        ensures { result ≡ text_cause_number self }
+    {
+        match self {
+            TextCause::Spec(_) => 1,
+            TextCause::Certificate => 2,
+            TextCause::NoBytes => 3,
+            TextCause::Base64 => 4,
+            TextCause::Hex => 5,
+            TextCause::CutId => 6,
+        }
+    }
+}
+
+impl fmt::Display for TextCause {
+    ghost output = { λ cause. Some (text_cause_text cause) };
+
+    fn fmt<W: fmt::Write>(&self, f: &mut fmt::Formatter<W>) -> fmt::Result {
+        match self {
+            TextCause::Spec(cause) => write!(f, "text 1 Spec, {cause}"),
+            TextCause::Certificate => f.write_str("text 2 Certificate"),
+            TextCause::NoBytes => f.write_str("text 3 NoBytes"),
+            TextCause::Base64 => f.write_str("text 4 Base64"),
+            TextCause::Hex => f.write_str("text 5 Hex"),
+            TextCause::CutId => f.write_str("text 6 CutId"),
+        }
+    }
+}
+
+impl Error for TextCause {}
+
+impl From<AllocError> for TextCause {
+    ghost from_gives = { λ _ cause. cause ≡ no_memory };
+
+    fn from(_error: AllocError) -> TextCause {
+        TextCause::Spec(SpecCause::NoMemory)
+    }
+}

@@ -1,0 +1,87 @@
+//! The bytes that lines of the text of a list give.
+
+ghost use Rattle.std.specs.Prelude.{◌≡◌, Ok, true};
+ghost use Rattle.ssh_wire.specs.Reading.{Answers};
+ghost use Rattle.text_entries.specs.TextCause.{Reports};
+ghost use Rattle.key_files.specs.declared.spec_cause.SpecCause.TheVariants.{Fingerprint};
+ghost use Rattle.text_entries.specs.Values.{blob_in, bytes_in, is_cut, is_sha1, sha1_in, sized};
+ghost use Rattle.text_entries.specs.declared.text_cause.TextCause.TheVariants.{Spec};
+
+use crate::text_cause::TextCause;
+use base64::DecodeAllocError;
+use base64::engine::general_purpose::{STANDARD, STANDARD_NO_PAD};
+use hex::FromHexError;
+use key_files::SpecCause;
+use key_text::{FingerprintFault, is_blank};
+use krl_spec::position_of;
+use ssh_wire::Bytes;
+use std::alloc::Global;
+
+const SHA1: &[u8] = b"SHA1:";
+
+/// The bytes of base64 with padding.
+#[tactic(auto, unfolding(crate::specs::Values::blob_in))]
+pub fn read_blob(alloc: Global, text: &[u8]) -> Result<Bytes, TextCause>
+    ensures { Answers Reports (λ bytes. bytes) result (blob_in text.now) }
+{
+    match STANDARD.decode(alloc, text) {
+        Ok(bytes) => Ok(Bytes::from_vec(bytes)),
+        Err(DecodeAllocError::DecodeError(_)) => Err(TextCause::Base64),
+        Err(DecodeAllocError::OutOfMemory) => Err(TextCause::Spec(SpecCause::NoMemory)),
+    }
+}
+
+/// The bytes of pairs of hexadecimal digits.
+#[tactic(auto, unfolding(crate::specs::Values::bytes_in))]
+pub fn read_bytes(alloc: Global, text: &[u8]) -> Result<Bytes, TextCause>
+    ensures { Answers Reports (λ bytes. bytes) result (bytes_in text.now) }
+{
+    match hex::decode(alloc, text) {
+        Ok(bytes) => Ok(Bytes::from_vec(bytes)),
+        Err(FromHexError::OutOfMemory) => Err(TextCause::Spec(SpecCause::NoMemory)),
+        Err(_) => Err(TextCause::Hex),
+    }
+}
+
+/// Whether a hash is a SHA-1.
+pub fn is_sha1(text: &[u8]) -> bool
+    ensures { result ≡ is_sha1 text.now }
+{
+    text.starts_with(SHA1)
+}
+
+/// The SHA-1 whose base64 without padding is after the prefix.
+#[tactic(auto, unfolding(crate::specs::Values::sha1_in))]
+pub fn read_sha1(alloc: Global, text: &[u8]) -> Result<[u8; 20], TextCause>
+    requires { is_sha1 text.now ≡ true }
+    ensures { Answers Reports (λ hash. hash) result (sha1_in text.now) }
+{
+    match STANDARD_NO_PAD.decode(alloc, &text[SHA1.len()..]) {
+        Ok(bytes) => whole_sha1(&bytes),
+        Err(DecodeAllocError::DecodeError(_)) => Err(no_sha1(FingerprintFault::Base64)),
+        Err(DecodeAllocError::OutOfMemory) => Err(TextCause::Spec(SpecCause::NoMemory)),
+    }
+}
+
+// The SHA-1, if it has the size of one.
+fn whole_sha1(bytes: &[u8]) -> Result<[u8; 20], TextCause>
+    ensures { Answers Reports (λ hash. hash) result (sized (Ok bytes.now)) }
+{
+    <[u8; 20]>::try_from(bytes).map_err(|_| no_sha1(FingerprintFault::Length))
+}
+
+// The cause of a fault of a hash.
+fn no_sha1(fault: FingerprintFault) -> TextCause
+    ensures { result ≡ Spec (Fingerprint fault) }
+{
+    TextCause::Spec(SpecCause::Fingerprint(fault))
+}
+
+/// Whether a `#` with no blank before it cuts the key ID of a line short.
+#[tactic(auto, unfolding(crate::specs::Values::is_cut))]
+pub fn is_cut(line: &[u8]) -> bool
+    ensures { result ≡ is_cut line.now }
+{
+    let hash = position_of(line, b'#');
+    hash < line.len() && !(hash > 0 && is_blank(line[hash - 1]))
+}

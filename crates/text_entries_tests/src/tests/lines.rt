@@ -1,0 +1,154 @@
+//! The lines of texts: what they name, and their faults.
+
+use krl_core::{Header, Revocations};
+use krl_writer::krl_text;
+use span_sets::Held;
+use ssh_wire::Bytes;
+use std::alloc::Global;
+use std::process::Abort;
+use test_fixtures::{
+    CERT_LINE, FIVE, GITHUB_LINE, GITHUB_PRINT, HEADER, ID_A, KEY_SECTION, OTHER_LINE,
+    SHA256_SECTION, joined,
+};
+use text_entries::{TextFault, read_text};
+
+// The list of version 1 that names what a text names, or the fault of the text.
+fn made(rt: &impl Abort, alloc: Global, text: &[u8]) -> Result<Vec<u8>, TextFault> {
+    let mut held: Revocations<Held> = Revocations::new(alloc);
+    read_text(alloc, &mut held, text)?;
+    let header = Header {
+        version: 1,
+        date: 0,
+        comment: Bytes::from_vec(Vec::new(alloc)),
+    };
+    Ok(krl_text(alloc, &header, &held).expect(rt, "the list is short"))
+}
+
+// The parts of a text, and the sections of the list that it names.
+const NAMED: [(&[&[u8]], &[&[u8]]); 20] = [
+    (&[b""], &[]),
+    (&[b"# a comment\n \t\r\n"], &[]),
+    (&[b"ca: all"], &[]),
+    (&[b"ca: all\nserial: 5"], &[FIVE]),
+    (&[b"\tCA:all\r\n SERIAL:5 # until 2027-01-01\n"], &[FIVE]),
+    (&[b"ca: all\nid: a"], &[ID_A]),
+    (&[b"ca: all\nid: a # b"], &[ID_A]),
+    (&[b"ca: all\nid-hex: 61"], &[ID_A]),
+    (&[b"ca: all\nid-hex:"], &[EMPTY_ID]),
+    (&[b"ca: all\nid-hex: 6F0a"], &[ID_WITH_FEED]),
+    // Another line of a CA changes the CA, and adds none.
+    (&[b"ca: ", OTHER_LINE, b" c\nca: all\nid: a"], &[ID_A]),
+    (&[b"ca: ", OTHER_LINE, b"\nserial: 7"], &[SEVEN_OF_OTHER]),
+    (
+        &[
+            b"ca-blob: AAAAC3NzaC1lZDI1NTE5AAAAIBERERERERERERERERERERERERERERERERERERERERER\n",
+            b"serial: 7",
+        ],
+        &[SEVEN_OF_OTHER],
+    ),
+    (&[b"ca-blob: eA==\nid: a"], &[ID_OF_X]),
+    // A key needs no CA, and a certificate is under its own.
+    (&[b"key: ", GITHUB_LINE, b" # a"], &[KEY_SECTION]),
+    (&[GITHUB_LINE], &[KEY_SECTION]),
+    (&[b"ca: all\n", CERT_LINE], &[SEVEN_OF_OTHER]),
+    (&[b"key-blob: AQ=="], &[KEY_OF_ONE]),
+    (&[b"hash: ", GITHUB_PRINT], &[SHA256_SECTION]),
+    (
+        &[b"HASH: SHA1:AAAAAAAAAAAAAAAAAAAAAAAAAAA"],
+        &[SHA1_SECTION],
+    ),
+];
+
+const EMPTY_ID: &[u8] = b"\x01\0\0\0\x11\0\0\0\0\0\0\0\0\x23\0\0\0\x04\0\0\0\0";
+
+const ID_WITH_FEED: &[u8] = b"\x01\0\0\0\x13\0\0\0\0\0\0\0\0\x23\0\0\0\x06\0\0\0\x02o\n";
+
+const ID_OF_X: &[u8] = b"\x01\0\0\0\x13\0\0\0\x01x\0\0\0\0\x23\0\0\0\x05\0\0\0\x01a";
+
+const SEVEN_OF_OTHER: &[u8] = b"\x01\0\0\0\x48\0\0\0\x33\0\0\0\x0bssh-ed25519\0\0\0\x20\
+\x11\x11\x11\x11\x11\x11\x11\x11\x11\x11\x11\x11\x11\x11\x11\x11\
+\x11\x11\x11\x11\x11\x11\x11\x11\x11\x11\x11\x11\x11\x11\x11\x11\
+\0\0\0\0\x20\0\0\0\x08\0\0\0\0\0\0\0\x07";
+
+const KEY_OF_ONE: &[u8] = b"\x02\0\0\0\x05\0\0\0\x01\x01";
+
+const SHA1_SECTION: &[u8] = b"\x03\0\0\0\x18\0\0\0\x14\0\0\0\0\0\0\0\0\0\0\0\0\0\0\0\0\0\0\0\0";
+
+#[test]
+fn what_texts_name(rt: HostRuntime) {
+    for (i, (parts, sections)) in NAMED.iter().enumerate() {
+        let text = joined(rt.alloc(), *parts).expect(&rt, "there is memory");
+        let sections = joined(rt.alloc(), *sections).expect(&rt, "there is memory");
+        let list = joined(rt.alloc(), &[&HEADER, &sections]).expect(&rt, "there is memory");
+        assert!(rt; made(&rt, rt.alloc(), &text) == Ok(list), "in row {i}");
+    }
+}
+
+// The parts of a text, its first line with a fault, and how that fault prints.
+const REFUSED: [(&[&[u8]], u64, &str); 22] = [
+    (&[b"serial: 5"], 1, "text 1 Spec, spec 4 NoAuthority"),
+    (&[b"id: a"], 1, "text 1 Spec, spec 4 NoAuthority"),
+    (&[b"\nid-hex: xx"], 2, "text 1 Spec, spec 4 NoAuthority"),
+    (&[b"ca: all\nserial: x"], 2, "text 1 Spec, spec 1 Number"),
+    (&[b"ca: all\nserial: 0"], 2, "text 1 Spec, spec 2 Zero"),
+    (
+        &[b"ca: all\nserial: 2-1"],
+        2,
+        "text 1 Spec, spec 3 Reversed",
+    ),
+    (&[b"ca: all\nid: # a"], 2, "text 1 Spec, spec 5 EmptyId"),
+    (&[b"ca: all\n\nid: eve#1"], 3, "text 6 CutId"),
+    (&[b"ca: all\nid:#1"], 2, "text 6 CutId"),
+    (&[b"ca: all\nid-hex: 6"], 2, "text 5 Hex"),
+    (&[b"ca: all\nid-hex: 6g"], 2, "text 5 Hex"),
+    (&[b"ca: all x"], 1, "text 1 Spec, spec 6 Key, line 1 NoKey"),
+    (&[b"ca: ALL"], 1, "text 1 Spec, spec 6 Key, line 1 NoKey"),
+    (&[b"ca:"], 1, "text 1 Spec, spec 6 Key, line 1 NoKey"),
+    (&[b"ca: ", CERT_LINE], 1, "text 2 Certificate"),
+    (&[b"ca-blob:"], 1, "text 3 NoBytes"),
+    (&[b"ca-blob: eA"], 1, "text 4 Base64"),
+    (&[b"key-blob: eB=="], 1, "text 4 Base64"),
+    (
+        &[b"hash: SHA1:AAAAAAAAAAAAAAAAAAAAAAAAAAAA"],
+        1,
+        "text 1 Spec, spec 7 Fingerprint, fingerprint 3 Length",
+    ),
+    (
+        &[b"hash: SHA1:AAAAAAAAAAAAAAAAAAAAAAAAAAA="],
+        1,
+        "text 1 Spec, spec 7 Fingerprint, fingerprint 2 Base64",
+    ),
+    (
+        &[b"hash: sha1:AAAAAAAAAAAAAAAAAAAAAAAAAAA"],
+        1,
+        "text 1 Spec, spec 7 Fingerprint, fingerprint 1 Prefix",
+    ),
+    (&[b"serials: 5"], 1, "text 1 Spec, spec 6 Key, line 1 NoKey"),
+];
+
+#[test]
+fn first_faults(rt: HostRuntime) {
+    for (i, (parts, line, cause)) in REFUSED.iter().enumerate() {
+        let text = joined(rt.alloc(), *parts).expect(&rt, "there is memory");
+        match made(&rt, rt.alloc(), &text) {
+            Ok(_) => assert!(rt; false, "row {i} has a fault"),
+            Err(fault) => {
+                assert!(rt; fault.line == *line, "in row {i}");
+                let said = fault
+                    .cause
+                    .to_string(rt.alloc())
+                    .expect(&rt, "there is memory");
+                assert!(rt; said.as_str() == *cause, "in row {i}");
+            }
+        }
+    }
+}
+
+// What stands before a fault is held, and nothing after it.
+#[test]
+fn up_to_a_fault(rt: HostRuntime) {
+    let mut held: Revocations<Held> = Revocations::new(rt.alloc());
+    let text = b"ca: all\nserial: 5\nserial: 7-\nserial: 9";
+    let read = read_text(rt.alloc(), &mut held, text);
+    assert!(rt; read.is_err() && held.authorities() == 1 && held.held() == 1);
+}
