@@ -1,0 +1,9 @@
+pub mod Common
+pub mod Gains
+pub mod Searches
+pub mod Gaps
+pub mod LostSerials
+pub mod LostTexts
+pub mod Differences
+pub mod Remainders
+pub mod Sizes

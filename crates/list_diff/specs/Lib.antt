@@ -1,0 +1,5 @@
+pub mod Without
+pub mod Lost
+pub mod Ahead
+pub mod Gap
+pub mod Others
