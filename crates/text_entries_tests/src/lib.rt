@@ -1,4 +1,4 @@
-//! The tests of `text_entries`, through its public items.
+//! The tests of `text_entries` and `text_run`, through their public items.
 #![tactic(auto)]
 
 #[cfg(test)]

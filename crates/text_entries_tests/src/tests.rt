@@ -1,4 +1,5 @@
-//! The lines of texts, and the caller of the page.
+//! The lines of texts, lists that are made of them, and the callers of the pages.
 
 mod lines;
 mod page;
+mod runs;

@@ -1,0 +1,3 @@
+pub mod TextsAdded
+pub mod Counted
+pub mod MadeLists

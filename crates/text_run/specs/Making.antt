@@ -1,0 +1,131 @@
+-- Making a list of texts (krl(1), KRL MAKE).
+use Rattle.std.specs.Prelude.{◌≡◌, ◌≢◌, ℕ, Bool, false, ◌+◌, ◌≤◌, ◌<◌, ◌⊎◌}
+use Rattle.std.specs.Prelude.{List, [], ◌∷◌, ◌++◌, length, Option, Some, None, Result, Ok, Err, ⊤}
+use Rattle.ssh_wire.specs.Reading.{◌>>=◌, in_fault}
+use Rattle.key_files.specs.declared.cause.Cause.{Cause}
+use Rattle.key_files.specs.declared.cause.Cause.TheVariants as causes
+use Rattle.krl_entries.specs.Changes.{MeansMore}
+use Rattle.krl_entries.specs.Revocations.{Means, Revocations, held, nothing}
+use Rattle.krl_format.specs.Front.{limit}
+use Rattle.krl_format.specs.declared.header.Header.{Header}
+use Rattle.krl_types.specs.Entry.{Entry}
+use Rattle.krl_writer.specs.KrlText.{IsKrlText}
+use Rattle.list_text.specs.Counts.{counted_all}
+use Rattle.list_text.specs.Facts.{facts_of}
+use Rattle.list_text.specs.declared.counts.Counts.{Counts}
+use Rattle.text_entries.specs.Lines.{lines_of}
+use Rattle.text_entries.specs.declared.text_fault.TextFault.{TextFault}
+use Rattle.text_run.specs.Fault.{MakeFault, line_fault, whole_fault}
+use Rattle.text_run.specs.declared.make_fault.MakeCause.{MakeCause}
+use Rattle.text_run.specs.declared.make_fault.MakeCause.TheVariants.{Run, Empty}
+
+-- ---- the texts
+
+-- the name of a text, and its bytes or why there are none
+pub record Text : Type 0 where
+  pub name : List ℕ
+  pub content : Result (List ℕ) Cause
+
+abbrev pub unless_fault : List ℕ → List Entry → Option TextFault → Result (List Entry) MakeFault
+unless_fault name entries None = Ok entries
+unless_fault name entries (Some fault) = Err (line_fault name fault.line fault.cause)
+
+-- the entries of the bytes of a text with this name, or its first fault
+abbrev pub entries_in : List ℕ → List ℕ → Result (List Entry) MakeFault
+entries_in name bytes = unless_fault name (lines_of bytes).entries (lines_of bytes).fault
+
+abbrev pub unread : List ℕ → Cause → MakeFault
+unread name cause = whole_fault name (Run cause)
+
+unfoldable pub text_entries : Text → Result (List Entry) MakeFault
+text_entries text = do
+  bytes ← in_fault (unread text.name) text.content
+  entries_in text.name bytes
+
+abbrev pub then_entries : Result (List Entry) MakeFault → Result (List Entry) MakeFault
+    → Result (List Entry) MakeFault
+then_entries first second = do
+  entries ← first
+  later ← second
+  Ok (entries ++ later)
+
+-- the entries of all texts, or the first fault; in each text no authority is current at first
+abbrev pub texts_entries : List Text → Result (List Entry) MakeFault
+texts_entries [] = Ok []
+texts_entries (text ∷ texts) = then_entries (text_entries text) (texts_entries texts)
+
+-- ---- adding them
+
+-- The cause is the one that reading gives, or an allocation failed.
+abbrev pub IsMakeFault : {A : Type 0} → MakeCause → Result A MakeFault → MakeFault → Type 0
+IsMakeFault (Run causes.NoMemory) read fault = ⊤
+IsMakeFault cause read fault = read ≡ Err fault
+
+-- The entries that were read are held, and at most one more interval for each.
+pub record HoldsMore (old new : Revocations) (entries : List Entry) : Type 0 where
+  pub means : MeansMore old new entries
+  pub held_is : held new ≤ held old + length entries
+
+abbrev pub AddsTexts : {A : Type 0} → Result (List Entry) MakeFault → Result A MakeFault
+    → (old new : Revocations) → Type 0
+AddsTexts read (Ok done) old new =
+    (entries : List Entry) × (read ≡ Ok entries) × HoldsMore old new entries
+AddsTexts read (Err fault) old new = IsMakeFault fault.cause read fault
+
+-- ---- the list
+
+-- the list that is made, apart from what it names
+pub record Wanted : Type 0 where
+  pub name : List ℕ
+  pub header : Header
+  pub allow_empty : Bool
+
+abbrev pub no_counts : Counts
+no_counts = record { lists = 0; authorities = 0; serials = 0; ids = 0; keys = 0; hashes = 0 }
+
+-- how many authorities, serial numbers, key IDs, keys and hashes are held
+abbrev pub counts_of : Revocations → Counts
+counts_of contents = counted_all no_counts (facts_of contents)
+
+-- A list with this header that names exactly these entries: what is held of it, its bytes, and how
+-- much it names.
+pub record IsMade (header : Header) (entries : List Entry) (bytes : List ℕ) (counts : Counts)
+    (contents : Revocations) : Type 0 where
+  pub means : Means contents entries
+  pub few : held contents ≤ length entries
+  pub written : IsKrlText header contents bytes
+  pub within : length bytes ≤ limit
+  pub counted : counts ≡ counts_of contents
+
+-- The texts have no fault, and the list names exactly their entries. It names something, unless it
+-- may be empty.
+pub record Makes (wanted : Wanted) (texts : List Text) (bytes : List ℕ) (counts : Counts)
+    : Type 0 where
+  pub entries : List Entry
+  pub contents : Revocations
+  pub read : texts_entries texts ≡ Ok entries
+  pub some : wanted.allow_empty ≡ false → contents ≢ nothing
+  pub is : IsMade wanted.header entries bytes counts contents
+
+-- The bytes are those of the wanted list, with what is held. Otherwise an allocation failed, or the
+-- list would be too long to be read.
+abbrev pub IsWritten : {X : Type 0} → (X → List ℕ) → Wanted → Revocations → Result X MakeFault
+    → Type 0
+IsWritten view wanted contents (Ok made) =
+    IsKrlText wanted.header contents (view made) × (length (view made) ≤ limit)
+IsWritten view wanted contents (Err fault) =
+    (fault ≡ whole_fault wanted.name (Run causes.NoMemory))
+    ⊎ ((fault ≡ whole_fault wanted.name (Run causes.TextTooLong))
+    × ((bytes : List ℕ) → IsKrlText wanted.header contents bytes → limit < length bytes))
+
+-- Why no list is made: the first fault of the texts, or an allocation failed; or no entry names
+-- anything; or the list would be too long to be read.
+pub data IsUnmade (wanted : Wanted) (texts : List Text) (fault : MakeFault) : Type 0 where
+  refused : IsMakeFault fault.cause (texts_entries texts) fault → IsUnmade wanted texts fault
+  empty : (entries : List Entry) → texts_entries texts ≡ Ok entries → Means nothing entries
+      → wanted.allow_empty ≡ false → fault ≡ whole_fault wanted.name Empty
+      → IsUnmade wanted texts fault
+  too_long : (entries : List Entry) (contents : Revocations) → texts_entries texts ≡ Ok entries
+      → Means contents entries
+      → ((bytes : List ℕ) → IsKrlText wanted.header contents bytes → limit < length bytes)
+      → fault ≡ whole_fault wanted.name (Run causes.TextTooLong) → IsUnmade wanted texts fault

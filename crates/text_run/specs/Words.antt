@@ -1,0 +1,56 @@
+-- The line about a fault that stopped the run (krl(1), KRL MAKE).
+use Rattle.std.specs.Prelude.{ℕ, false, List, ◌++◌, codes}
+use Rattle.key_files.specs.RunFault.{cause_text, line_part}
+use Rattle.key_files.specs.declared.cause.Cause.TheVariants as runs
+use Rattle.key_files.specs.declared.spec_cause.SpecCause.{SpecCause}
+use Rattle.key_files.specs.declared.spec_cause.SpecCause.TheVariants as specs
+use Rattle.krl_audit.specs.Causes.{cause_words}
+use Rattle.krl_audit.specs.Visible.{visible}
+use Rattle.text_entries.specs.TextCause.{text_cause_text}
+use Rattle.text_entries.specs.declared.text_cause.TextCause.{TextCause}
+use Rattle.text_entries.specs.declared.text_cause.TextCause.TheVariants as texts
+use Rattle.text_run.specs.Fault.{MakeFault}
+use Rattle.text_run.specs.declared.make_fault.MakeCause.{MakeCause}
+use Rattle.text_run.specs.declared.make_fault.MakeCause.TheVariants.{Run, Line, Empty}
+
+-- ---- in words
+
+abbrev pub spec_words : SpecCause → List ℕ
+spec_words specs.Number = codes "no serial number below 2^64"
+spec_words specs.Zero = codes "serial number 0 names no certificate"
+spec_words specs.Reversed = codes "a range of serial numbers ends below its first one"
+spec_words specs.NoAuthority = codes "no ca: line stands before it"
+spec_words specs.EmptyId = codes "a key ID is empty"
+spec_words (specs.Key cause) = cause_words (runs.Key cause)
+spec_words (specs.Fingerprint fault) = codes "the hash is cut or misspelt"
+spec_words specs.NoMemory = codes "out of memory"
+
+abbrev pub text_words : TextCause → List ℕ
+text_words (texts.Spec cause) = spec_words cause
+text_words texts.Certificate = codes "a CA is given by its key, and not by a certificate"
+text_words texts.NoBytes = codes "a CA has bytes"
+text_words texts.Base64 = codes "no whole base64 with padding"
+text_words texts.Hex = codes "no pairs of hexadecimal digits"
+text_words texts.CutId = codes "a # with no blank before it would cut the key ID short"
+
+abbrev pub make_words : MakeCause → List ℕ
+make_words (Run cause) = cause_words cause
+make_words (Line cause) = text_words cause
+make_words Empty = codes "no text has an entry, and the list would revoke nobody"
+
+-- ---- by its number
+
+abbrev pub make_cause_text : MakeCause → List ℕ
+make_cause_text (Run cause) = cause_text cause
+make_cause_text (Line cause) = text_cause_text cause
+make_cause_text Empty = codes "make 1 Empty"
+
+-- ---- the line
+
+-- the name of the text or of the list, the number of the line, and the fault
+abbrev pub fault_line : MakeFault → List ℕ
+fault_line fault =
+    codes "krl: "
+    ++ (visible false fault.name
+    ++ (codes ": " ++ (line_part fault.line
+    ++ (make_words fault.cause ++ (codes " [" ++ (make_cause_text fault.cause ++ codes "]\n"))))))

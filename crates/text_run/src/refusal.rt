@@ -1,0 +1,80 @@
+//! The line about a fault that stopped the run (krl(1), KRL MAKE).
+
+ghost use Rattle.std.specs.Prelude.{◌≡◌, IfOk};
+ghost use Rattle.key_files.specs.RunFault.{line_part};
+ghost use Rattle.text_run.specs.Words.{fault_line, make_words, spec_words, text_words};
+
+use crate::make_fault::{MakeCause, MakeFault};
+use key_files::{Cause, SpecCause};
+use krl_audit::{Visible, cause_words};
+use line_pieces::{Printed, Words, put};
+use std::alloc::{AllocError, Global};
+use text_entries::TextCause;
+
+// The number of a line, if there is one.
+#[derive(Clone, Copy)]
+struct Line(Option<u64>);
+
+impl Printed for Line {
+    ghost text = { λ line. line_part line.0 };
+
+    fn push_to(&self, out: &mut Vec<u8>) -> Result<(), AllocError> {
+        match self.0 {
+            None => Ok(()),
+            Some(number) => put!(out; b"line ", number, b": "),
+        }
+    }
+}
+
+/// The line about a fault: the name of the text or of the list, the number of the line, and why no
+/// list is made, in words and by its number.
+pub fn fault_line(alloc: Global, fault: &MakeFault<'_>) -> Result<Vec<u8>, AllocError>
+    ensures { IfOk result (λ text. text.items ≡ fault_line fault.now) }
+{
+    let cause = fault.cause.to_string(alloc)?;
+    let mut text = Vec::new(alloc);
+    put!(&mut text; b"krl: ", Visible(fault.name.as_bytes(), false), b": ", Line(fault.line),
+        Words(make_words(fault.cause)), b" [", Words(cause.as_bytes()), b"]\n")?;
+    Ok(text)
+}
+
+// Why no list is made, in words.
+fn make_words(cause: MakeCause) -> &'static [u8]
+    ensures { result.now ≡ make_words cause }
+{
+    match cause {
+        MakeCause::Run(cause) => cause_words(cause),
+        MakeCause::Line(cause) => text_words(cause),
+        MakeCause::Empty => b"no text has an entry, and the list would revoke nobody",
+    }
+}
+
+// Why a line has a fault, in words.
+fn text_words(cause: TextCause) -> &'static [u8]
+    ensures { result.now ≡ text_words cause }
+{
+    match cause {
+        TextCause::Spec(cause) => spec_words(cause),
+        TextCause::Certificate => b"a CA is given by its key, and not by a certificate",
+        TextCause::NoBytes => b"a CA has bytes",
+        TextCause::Base64 => b"no whole base64 with padding",
+        TextCause::Hex => b"no pairs of hexadecimal digits",
+        TextCause::CutId => b"a # with no blank before it would cut the key ID short",
+    }
+}
+
+// The same for a fault that lines of specification files can have too.
+fn spec_words(cause: SpecCause) -> &'static [u8]
+    ensures { result.now ≡ spec_words cause }
+{
+    match cause {
+        SpecCause::Number => b"no serial number below 2^64",
+        SpecCause::Zero => b"serial number 0 names no certificate",
+        SpecCause::Reversed => b"a range of serial numbers ends below its first one",
+        SpecCause::NoAuthority => b"no ca: line stands before it",
+        SpecCause::EmptyId => b"a key ID is empty",
+        SpecCause::Key(cause) => cause_words(Cause::Key(cause)),
+        SpecCause::Fingerprint(_) => b"the hash is cut or misspelt",
+        SpecCause::NoMemory => b"out of memory",
+    }
+}

@@ -1,0 +1,104 @@
+//! Making a list of texts.
+
+ghost use Rattle.std.specs.Prelude.{◌≡◌, ◌↔◌, IfErr, IfOk, IsTrue, false};
+ghost use Rattle.krl_entries.specs.Revocations.{nothing};
+ghost use Rattle.text_run.specs.Making.{IsUnmade, IsWritten, Makes};
+
+use crate::adding::add_texts;
+use crate::counting::count;
+use crate::make_fault::{MakeCause, MakeFault};
+use crate::text::Text;
+use key_files::Cause;
+use krl_core::{Header, Revocations};
+use krl_writer::{TextFault, krl_text};
+use list_text::Counts;
+use span_sets::Held;
+use std::alloc::Global;
+use std::marker::Model;
+
+/// The list that is wanted, apart from what it names.
+#[derive(Drop)]
+pub struct Wanted<'a> {
+    /// The name of the list.
+    pub name: &'a str,
+    /// Its version, date and comment.
+    pub header: Header,
+    /// Whether it may name nothing.
+    pub allow_empty: bool,
+}
+
+impl<'a> Model for Wanted<'a> {
+    ghost use Rattle.text_run.specs.Making.{Wanted};
+
+    ghost Value = { Wanted };
+
+    ghost view = { λ wanted. record {
+      name = wanted.name.now;
+      header = wanted.header;
+      allow_empty = wanted.allow_empty;
+    } };
+}
+
+/// A list that was made.
+#[derive(Drop)]
+pub struct Made {
+    /// Its bytes.
+    pub bytes: Vec<u8>,
+    /// How many authorities, serial numbers, key IDs, keys and hashes it names.
+    pub counts: Counts,
+}
+
+/// The bytes of a list that names exactly what the lines of the texts name, and how much that is.
+/// The first fault stops the run: those of the texts and lines in order; that no text has an entry,
+/// unless that is allowed; that the list would be too long to be read.
+pub fn text_run<'a>(
+    alloc: Global,
+    wanted: &Wanted<'a>,
+    texts: &'a [Text<'a>],
+) -> Result<Made, MakeFault<'a>>
+    ensures made { IfOk result (λ made. Makes wanted.now texts.now made.bytes.items made.counts) }
+    ensures unmade { IfErr result (λ fault. IsUnmade wanted.now texts.now fault) }
+{
+    let mut revocations: Revocations<Held> = Revocations::new(alloc);
+    add_texts(alloc, &mut revocations, texts)?;
+    if is_refused(wanted, &revocations) {
+        return Err(MakeFault::whole(wanted.name, MakeCause::Empty));
+    }
+    let bytes = write(alloc, wanted, &revocations)?;
+    let counts = count(&revocations);
+    Ok(Made { bytes, counts })
+}
+
+// The bytes of the wanted list, with what is held.
+fn write<'a>(
+    alloc: Global,
+    wanted: &Wanted<'a>,
+    revocations: &Revocations<Held>,
+) -> Result<Vec<u8>, MakeFault<'a>>
+    ensures { IsWritten (λ made. made.items) wanted.now revocations.now result }
+{
+    let cause = match krl_text(alloc, &wanted.header, revocations) {
+        Ok(bytes) => return Ok(bytes),
+        Err(TextFault::NoMemory) => Cause::NoMemory,
+        Err(TextFault::TooLong) => Cause::TextTooLong,
+    };
+    Err(MakeFault::whole(wanted.name, MakeCause::Run(cause)))
+}
+
+// Whether nothing is held, and this is not allowed.
+fn is_refused(wanted: &Wanted<'_>, revocations: &Revocations<Held>) -> bool
+    ensures { IsTrue result
+        ↔ (wanted.now.allow_empty ≡ false) × (revocations.now ≡ nothing) }
+{
+    !wanted.allow_empty && is_empty(revocations)
+}
+
+// Whether nothing is held.
+fn is_empty(revocations: &Revocations<Held>) -> bool
+    ensures { IsTrue result ↔ (revocations.now ≡ nothing) }
+{
+    revocations.authorities() == 0
+        && revocations.keys() == 0
+        && revocations.sha1s() == 0
+        && revocations.sha256s() == 0
+}

@@ -1,0 +1,64 @@
+//! The line about a list that was made (krl(1), KRL MAKE).
+
+ghost use Rattle.std.specs.Prelude.{◌≡◌, IfOk};
+ghost use Rattle.text_run.specs.Said.{amounts, made_line, words};
+
+use krl_audit::{Amount, Visible};
+use line_pieces::{Printed, Words, put};
+use list_text::Counts;
+use std::alloc::{AllocError, Global};
+
+// A number of things after a comma, if there are any.
+#[derive(Clone, Copy)]
+struct Part(u64, &'static [u8]);
+
+impl Printed for Part {
+    ghost use Rattle.text_run.specs.Said.{part};
+
+    ghost text = { λ amount. part amount.0 amount.1.now };
+
+    fn push_to(&self, out: &mut Vec<u8>) -> Result<(), AllocError> {
+        if self.0 == 0 {
+            return Ok(());
+        }
+        put!(out; b", ", Amount(self.0, self.1))
+    }
+}
+
+/// The line that says which list was made: its name, its version, and how much it names.
+pub fn made_line(
+    alloc: Global,
+    name: &str,
+    version: u64,
+    counts: &Counts,
+) -> Result<Vec<u8>, AllocError>
+    ensures { IfOk result (λ line. line.items ≡ made_line name.now version counts.now) }
+{
+    let amounts = amounts(alloc, counts)?;
+    let mut line = Vec::new(alloc);
+    put!(&mut line; b"krl make: ", Visible(name.as_bytes(), false), b": version ", version, b": ",
+        Words(words(&amounts)), b"\n")?;
+    Ok(line)
+}
+
+// How much there is of each kind, each after a comma.
+fn amounts(alloc: Global, counts: &Counts) -> Result<Vec<u8>, AllocError>
+    ensures { IfOk result (λ text. text.items ≡ amounts counts.now) }
+{
+    let mut text = Vec::new(alloc);
+    put!(&mut text; Part(counts.authorities, b"CA"), Part(counts.serials, b"serial number"),
+        Part(counts.ids, b"key ID"), Part(counts.keys, b"key"),
+        Part(counts.hashes, b"hashed key"))?;
+    Ok(text)
+}
+
+// The amounts without the first comma, or that there is nothing.
+fn words(amounts: &[u8]) -> &[u8]
+    ensures { result.now ≡ words amounts.now }
+{
+    if amounts.len() < 2 {
+        b"nothing"
+    } else {
+        &amounts[2..]
+    }
+}
