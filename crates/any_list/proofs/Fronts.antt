@@ -6,7 +6,7 @@ use Rattle.std.proofs.lemmas.Bool.{cases_lt, lt-ltb}
 use Rattle.std.proofs.lemmas.List.{length-take-le, take_all, take-take}
 use Rattle.krl_types.specs.Entry.{Entry}
 use Rattle.krl_types.specs.declared.krl_fault.KrlFault.{KrlFault}
-use Rattle.krl_format.specs.Front.{IsFirstFault, IsFront, limit}
+use Rattle.krl_format.specs.Front.{IsFirstKrlFault, IsFront, limit}
 use Rattle.krl_format.specs.Krl.{magic}
 use Rattle.krl_format.specs.declared.header.Header.{Header}
 use Rattle.plain_list.specs.Any.{Names, NamesIf, begins_list}
@@ -52,7 +52,7 @@ names bytes header entries = names_as bytes header entries (cases_lt most (lengt
 front_as : (text other : List ℕ) (fields : List (List ℕ)) (state : _) (rest : List ℕ) → take limit text ≡ take limit other → IsFront text fields state rest → IsFront other fields state rest
 front_as text other fields state rest same front = record { leads = front.leads; parts = sym same ∙ front.parts }
 
-first_as : (text other : List ℕ) (fault : Option KrlFault) → take limit text ≡ take limit other → nat_lt limit (length text) ≡ nat_lt limit (length other) → IsFirstFault text fault → IsFirstFault other fault
+first_as : (text other : List ℕ) (fault : Option KrlFault) → take limit text ≡ take limit other → nat_lt limit (length text) ≡ nat_lt limit (length other) → IsFirstKrlFault text fault → IsFirstKrlFault other fault
 first_as text other fault same more first = record {
   fields = first.fields;
   state = first.state;

@@ -5,7 +5,7 @@ use Rattle.krl_core.specs.Reading.{IsList}
 use Rattle.krl_entries.specs.Revocations.{Revocations}
 use Rattle.krl_format.specs.Entries.{entries_of}
 use Rattle.krl_format.specs.Faults.{Says, failed_read, first, ran_out}
-use Rattle.krl_format.specs.Front.{IsFirstFault}
+use Rattle.krl_format.specs.Front.{IsFirstKrlFault}
 use Rattle.krl_format.specs.declared.header.Header.{Header}
 use Rattle.key_files.specs.RunFault.{krl_cause, run_fault_of}
 use Rattle.plain_list.specs.Any.{NamesIf, NamesWhole, begins_list}
@@ -28,7 +28,7 @@ whole_is_list = read_if true
 pub lines_are_list : (hashed : Bool) (bytes : List ℕ) (list : ListOf) → begins_list bytes ≡ false → IsReadLines hashed bytes list → IsReadList hashed bytes list
 lines_are_list = read_if false
 
-pub named_whole : (bytes : List ℕ) (header : Header) (held : Revocations) (list : IsList bytes header held) → IsFirstFault bytes None → NamesWhole bytes (Some header) (entries_of list.sections)
+pub named_whole : (bytes : List ℕ) (header : Header) (held : Revocations) (list : IsList bytes header held) → IsFirstKrlFault bytes None → NamesWhole bytes (Some header) (entries_of list.sections)
 named_whole bytes header held list none = record {
   is = record { header = header; sections = list.sections; spelled = list.spelled; within = list.within; entries_are = refl };
   no_fault = none;

@@ -4,7 +4,7 @@ use Rattle.std.specs.Prelude.{is_some, option_map}
 use Rattle.key_files.specs.RunFault.{RunFault}
 use Rattle.key_listing.specs.Carries.{Carries}
 use Rattle.key_listing.specs.Printer.{Printer}
-use Rattle.krl_format.specs.Front.{IsFirstFault, start}
+use Rattle.krl_format.specs.Front.{IsFirstKrlFault, start}
 use Rattle.krl_format.specs.declared.header.Header.{Header}
 use Rattle.krl_types.specs.Entry.{Entry}
 use Rattle.krl_audit.specs.declared.done.Stated.{Stated}
@@ -21,7 +21,7 @@ use Rattle.check_run.proofs.Steps.{checks_none, on_ok}
 -- A list that states a version begins as a key revocation list, and has no fault.
 pub record IsWhole (bytes : List ℕ) : Type 0 where
   pub begins : begins_list bytes ≡ true
-  pub no_fault : IsFirstFault bytes None
+  pub no_fault : IsFirstKrlFault bytes None
 
 whole_if : (begins : Bool) (bytes : List ℕ) (header : Option Header) (entries : List Entry) (value : Stated) → begins_list bytes ≡ begins → option_map stated_in header ≡ Some value → NamesIf begins bytes header entries → IsWhole bytes
 whole_if true bytes header entries value is some named = record { begins = is; no_fault = named.no_fault }

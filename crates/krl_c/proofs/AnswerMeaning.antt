@@ -10,7 +10,7 @@ use Rattle.key_text.specs.KeyLine.{IsKeyLine}
 use Rattle.krl_types.specs.declared.krl_fault.KrlFault.{KrlFault}
 use Rattle.krl_format.specs.declared.header.Header.{Header}
 use Rattle.krl_entries.specs.Revocations.{Revocations}
-use Rattle.krl_format.specs.Front.{IsFirstFault}
+use Rattle.krl_format.specs.Front.{IsFirstKrlFault}
 use Rattle.krl_core.specs.Reading.{IsListAs}
 use Rattle.krl_format.specs.Faults.{failed_read, first}
 use Rattle.krl_openssh.specs.Authority.{AuthoritiesAreKeys}
@@ -56,7 +56,7 @@ of_list text header contents list = record {
 -- a list's fault is its first one, unless an allocation failed, if its reader did not fail
 pub first_of : (text : List ℕ) (fault : KrlFault) (left : Option (List ℕ))
     → ListSays fault text false left
-    → (fault ≡ lists.NoMemory) ⊎ IsFirstFault text (Some fault)
+    → (fault ≡ lists.NoMemory) ⊎ IsFirstKrlFault text (Some fault)
 first_of text fault left (runs_out is size works) = inl is
 first_of text fault left (failed_read is after) = let wrong : ⊥ = grind (arith, after.failed_is) in absurd wrong
 first_of text fault left (first is works) = inr is

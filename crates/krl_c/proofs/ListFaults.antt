@@ -6,7 +6,7 @@ use Rattle.ssh_wire.specs.Wire.{number_of}
 use Rattle.krl_types.specs.declared.krl_fault.KrlFault.{KrlFault}
 use Rattle.krl_types.specs.declared.krl_fault.KrlFault.TheVariants as faults
 use Rattle.krl_format.specs.Field.{magic_number}
-use Rattle.krl_format.specs.Front.{IsFirstFault, Reported, ended, ends_early, no_room, refused, too_long}
+use Rattle.krl_format.specs.Front.{IsFirstKrlFault, Reported, ended, ends_early, no_room, refused, too_long}
 use Rattle.krl_format.specs.Place.{base_of, bits_within, expected, item_size, next_bits, passes_end, place_after}
 use Rattle.krl_format.specs.Section.{Row, content_of, length_of, next_subsection, section_of, section_row, signature_type, subsection_of, subsection_row}
 use Rattle.krl_format.specs.declared.place.Place.{Place}
@@ -96,5 +96,5 @@ reported place rest goes_on fault (refused field after why room parts size bad i
 reported place rest goes_on fault (too_long room short on is) = fault_is fault faults.TooLong is tt
 reported place rest goes_on fault (ends_early room short not_end off is) = fault_is fault faults.EndsEarly is tt
 
-pub not_read : (list : List ℕ) (fault : KrlFault) → IsFirstFault list (Some fault) → NotRead fault
+pub not_read : (list : List ℕ) (fault : KrlFault) → IsFirstKrlFault list (Some fault) → NotRead fault
 not_read list fault first = reported first.state.place first.rest _ fault first.reported

@@ -5,7 +5,7 @@ use Rattle.krl_c.proofs.Common.{no_memory, plain_number, sym, true, ℕ, ℤ}
 use Rattle.std.proofs.Math.Seq.{get_or-append_seam}
 use Rattle.std.proofs.Common.{subst}
 use Rattle.krl_format.specs.Front.{limit}
-use Rattle.plain_list.specs.List.{AreRead, HasFault, IsFirstFault, lines_of}
+use Rattle.plain_list.specs.List.{AreRead, HasFault, IsFirstBadLine, lines_of}
 use Rattle.keyed_lines.specs.declared.key_cause.KeyCause.{KeyCause}
 use Rattle.plain_list.specs.declared.fault.PlainFault.{PlainFault}
 use Rattle.krl_c.specs.Any.{AnswersIf, AnswersPlain, no_plain, plain}
@@ -13,7 +13,7 @@ use Rattle.krl_c.proofs.OneAnswer.{Once}
 use Rattle.plain_list.specs.declared.fault.PlainFault.TheVariants as faults
 
 -- A list of which each line is read has no line that is refused.
-not_read : (lines : List (List ℕ)) (number : ℕ) (cause : KeyCause) → AreRead lines → IsFirstFault lines number cause → ⊥
+not_read : (lines : List (List ℕ)) (number : ℕ) (cause : KeyCause) → AreRead lines → IsFirstBadLine lines number cause → ⊥
 not_read lines number cause read first =
     let n = length first.before in
     let within : n < length lines = omega (arith, ap length first.parts, length-append first.before (first.line ∷ first.after)) in

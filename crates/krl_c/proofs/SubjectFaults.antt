@@ -21,7 +21,7 @@ use Rattle.ssh_key.specs.declared.kind.Kind.TheVariants.{Dsa, Ecdsa256, Ecdsa384
 use Rattle.ssh_cert.specs.Field.{Bytes, Count, KeyBlob, Meaning, Options, Principals, RoleNumber, Signature, algorithm_in, authority_in, closing_fields, closing_table, cut_short, kind_in, opening_fields, options_in, principals_in, role_in, role_of, step_of}
 use Rattle.ssh_cert.specs.Options.{options_of}
 use Rattle.ssh_cert.specs.Strings.{strings_of}
-use Rattle.ssh_cert.specs.FirstFault.{IsFirstFault, after_fields, in_closing, in_key, in_opening}
+use Rattle.ssh_cert.specs.FirstFault.{IsFirstCertFault, after_fields, in_closing, in_key, in_opening}
 use Rattle.ssh_cert.specs.SubjectReading.{HasCertificateName}
 use Rattle.ssh_cert.specs.declared.fault.CertFault.{CertFault}
 use Rattle.ssh_cert.specs.declared.fault.CertFault.TheVariants as certs
@@ -148,7 +148,7 @@ opening blob fault named (inl (inr (value, left, begins, judged))) =
 opening blob fault named (inr (value, left, begins, passed, later)) =
     fails_as OfCert cut_short (step Text passes ∷ []) ([] ++ value ∷ []) left fault (λ (why : WireFault). tt) ((λ before value fault e. never_passes OfCert fault e), tt) later
 
-pub of_cert : (blob : List ℕ) (fault : CertFault) → HasCertificateName blob → IsFirstFault blob fault → OfCert fault
+pub of_cert : (blob : List ℕ) (fault : CertFault) → HasCertificateName blob → IsFirstCertFault blob fault → OfCert fault
 of_cert blob fault named (in_opening fails) = opening blob fault named fails
 of_cert blob fault named (in_key values fields why leads fails is) = subst OfCert (sym is) (of_fields _ fields why fails)
 of_cert blob fault named (in_closing key rest opens fails) = fails_as OfCert cut_short closing_fields [] rest fault (λ (why : WireFault). tt) (each_meaning closing_table) fails

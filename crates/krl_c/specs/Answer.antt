@@ -8,7 +8,7 @@ use Rattle.ssh_cert.specs.SubjectReading.{IsSubject, IsSubjectFault}
 use Rattle.ssh_cert.specs.declared.subject_fault.SubjectFault.{SubjectFault}
 use Rattle.krl_types.specs.declared.krl_fault.KrlFault.{KrlFault}
 use Rattle.krl_types.specs.Entry.{Entry}
-use Rattle.krl_format.specs.Front.{IsFirstFault}
+use Rattle.krl_format.specs.Front.{IsFirstKrlFault}
 use Rattle.krl_entries.specs.Revoked.{Revoked}
 use Rattle.plain_list.specs.Any.{IsListOf}
 use Rattle.krl_openssh.specs.Authority.{AuthoritiesAreKeys}
@@ -32,7 +32,7 @@ pub record HasOtherAuthority (list : List ℕ) : Type 0 where
 
 -- why a list gives no answer: its first fault, a failed allocation, or such an authority
 abbrev pub IsRefusal : List ℕ → Refusal → Type 0
-IsRefusal list (refusals.Fault fault) = (fault ≡ NoMemory) ⊎ IsFirstFault list (Some fault)
+IsRefusal list (refusals.Fault fault) = (fault ≡ NoMemory) ⊎ IsFirstKrlFault list (Some fault)
 IsRefusal list refusals.Authority = HasOtherAuthority list
 
 -- A list has at most one row of entries, and one first fault, and not both.
@@ -41,10 +41,10 @@ pub record HasOne (list : List ℕ) : Type 0 where
       → these ≡ others
   pub keys : (these others : List Entry) (one : IsListOf list these) (other : IsListOf list others)
       → AuthoritiesAreKeys one.sections → AuthoritiesAreKeys other.sections
-  pub fault : (one other : KrlFault) → IsFirstFault list (Some one)
-      → IsFirstFault list (Some other) → one ≡ other
+  pub fault : (one other : KrlFault) → IsFirstKrlFault list (Some one)
+      → IsFirstKrlFault list (Some other) → one ≡ other
   pub none : (these : List Entry) (fault : KrlFault) → IsListOf list these
-      → IsFirstFault list (Some fault) → ⊥
+      → IsFirstKrlFault list (Some fault) → ⊥
 
 -- The query was answered: 1 exactly if the entries revoke the key of the query, otherwise 0.
 pub data Says (entries : List Entry) (asked : Subject) (number : ℤ) : Type 0 where
@@ -75,7 +75,7 @@ pub data AnswersBy (Says : List Entry → ℤ → Type 0) (list : List ℕ) (num
       → AnswersBy Says list number
   other_authority : HasOtherAuthority list → number ≡ authority_number
       → AnswersBy Says list number
-  no_list : (fault : KrlFault) → IsFirstFault list (Some fault) → number ≡ list_number fault
+  no_list : (fault : KrlFault) → IsFirstKrlFault list (Some fault) → number ≡ list_number fault
       → AnswersBy Says list number
   list_ran_out : number ≡ no_memory → AnswersBy Says list number
 

@@ -3,7 +3,7 @@
 ghost use Rattle.std.specs.Prelude.{◌≡◌, ◌⊎◌, List, IfOk, IfErr, OnOk};
 ghost use Rattle.krl_types.specs.declared.krl_fault.KrlFault.TheVariants.{NoMemory};
 ghost use Rattle.krl_types.specs.Entry.{Entry};
-ghost use Rattle.krl_format.specs.Front.{IsFirstFault};
+ghost use Rattle.krl_format.specs.Front.{IsFirstKrlFault};
 ghost use Rattle.krl_queries.specs.Questions.{Asks, asked_in};
 ghost use Rattle.krl_entries.specs.Scope.{MeansInScope};
 ghost use Rattle.plain_list.specs.Any.{IsListOf};
@@ -87,7 +87,7 @@ fn stream(alloc: Global, list: &[u8], asked: &Subject) -> Result<Questions<Held>
     ensures asked { IfOk result (λ questions. Asks questions.topics asked.now) }
     ensures stored { IfOk result (λ questions. StoresAsked asked.now questions) }
     ensures fault { IfErr result (λ fault.
-        (fault ≡ NoMemory) ⊎ IsFirstFault list.now (Some fault)) }
+        (fault ≡ NoMemory) ⊎ IsFirstKrlFault list.now (Some fault)) }
 {
     let mut questions: Questions<Held> = Questions::new(alloc);
     let Ok(()) = questions.ask(asked) else {
@@ -121,7 +121,7 @@ pub(crate) fn judge(alloc: Global, list: &[u8]) -> Result<(), Refusal>
 fn stream_unasked(alloc: Global, list: &[u8]) -> Result<(), KrlFault>
     ensures list { OnOk result ((entries : List Entry) × IsListOf list.now entries) }
     ensures fault { IfErr result (λ fault.
-        (fault ≡ NoMemory) ⊎ IsFirstFault list.now (Some fault)) }
+        (fault ≡ NoMemory) ⊎ IsFirstKrlFault list.now (Some fault)) }
 {
     let none: Questions<Held> = Questions::new(alloc);
     let (read, _list) = Walk::over(alloc, none, Lent::new(list)).read_on();

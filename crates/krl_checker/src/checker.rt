@@ -4,7 +4,7 @@ ghost use Rattle.std.specs.Prelude.{◌≡◌, ◌∷◌, [], ◌||◌, nat_lt, 
 ghost use Rattle.std.specs.Prelude.{IfOk, None, false, is_err, is_some};
 ghost use Rattle.key_listing.specs.Carries.{Carries, Reaches};
 ghost use Rattle.key_listing.specs.Run.{Item, said_of};
-ghost use Rattle.krl_format.specs.Front.{IsFirstFault, start};
+ghost use Rattle.krl_format.specs.Front.{IsFirstKrlFault, start};
 ghost use Rattle.krl_types.specs.Entry.{Entry};
 ghost use Rattle.krl_entries.specs.Reasons.{reasons_of};
 ghost use Rattle.krl_entries.specs.Revocations.{Means};
@@ -75,7 +75,7 @@ impl<'q, 'w, W: Sink> Checker<'q, 'w, W> {
     /// Checks that OpenSSH also reads a list, and reads the same names. `list` is the bytes of the
     /// list, which has no fault.
     pub fn check_openssh<'a>(&mut self, name: &'a str, list: &[u8]) -> Result<(), RunFault<'a>>
-        requires { IsFirstFault list.now None }
+        requires { IsFirstKrlFault list.now None }
         ensures carries { (fields : List (List ℕ)) → HasFields list.now fields
             → Carries (difference_items name.now (first_difference start.place fields)) result
             self.old.auditor.run.printer self.new.auditor.run.printer }

@@ -4,7 +4,7 @@ use Rattle.krl_core.proofs.Common.{ap, append-nil, append_assoc, arith, Bool}
 use Rattle.krl_core.proofs.Common.{can_end, concat, cut, ends_early, Err, expected}
 use Rattle.krl_core.proofs.Common.{failed_read, false, FieldStore, first, GrowsAtMost, HasRead}
 use Rattle.krl_core.proofs.Common.{HasRoom, inl, inr, is_fixed, IsBounded}
-use Rattle.krl_core.proofs.Common.{IsFirstFault, IsSome, KrlFault, le-ltb, Leads, left_of, length}
+use Rattle.krl_core.proofs.Common.{IsFirstKrlFault, IsSome, KrlFault, le-ltb, Leads, left_of, length}
 use Rattle.krl_core.proofs.Common.{length-append, limit, List, LooksFor, lt-ltb, ltb, Missed}
 use Rattle.krl_core.proofs.Common.{no_room, None, Option, Place, Pull, ran_out, refl}
 use Rattle.krl_core.proofs.Common.{Refused, refused, Refuses, Reported, Says, Some, start}
@@ -68,7 +68,7 @@ come h = record { state = h.state; leads = h.leads; place_is = h.place_is; rest 
 -- the report at the place that was reached is the first fault
 pub reported_there : (text : List ℕ) (fields : List (List ℕ)) (p : Walk) (h : HasCome text fields p) (fault : Option KrlFault)
     → length (concat fields) ≤ limit
-    → Reported p.place (take (limit - length (concat fields)) h.rest) (ltb limit (length text)) fault → IsFirstFault text fault
+    → Reported p.place (take (limit - length (concat fields)) h.rest) (ltb limit (length text)) fault → IsFirstKrlFault text fault
 reported_there text fields p h fault le reported =
     let parts : take limit text ≡ concat fields ++ take (limit - length (concat fields)) h.rest =
     ap (take limit) h.parts ∙ take-after (concat fields) h.rest limit le in
@@ -81,7 +81,7 @@ reported_there text fields p h fault le reported =
 
 -- the same for other bytes that begin with the fields
 reported_given : (fields : List (List ℕ)) (state : State) (came : List ℕ) (fault : Option KrlFault) → Leads start fields state
-    → length (concat fields) + length came ≤ limit → Reported state.place came false fault → IsFirstFault (concat fields ++ came) fault
+    → length (concat fields) + length came ≤ limit → Reported state.place came false fault → IsFirstKrlFault (concat fields ++ came) fault
 reported_given fields state came fault leads le reported =
     let len = length-append (concat fields) came in
     let whole : take limit (concat fields ++ came) ≡ concat fields ++ came = take_all limit (concat fields ++ came) (omega (arith, len)) in

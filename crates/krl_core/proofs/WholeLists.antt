@@ -2,7 +2,7 @@
 use Rattle.krl_core.proofs.Common.{[], ◌*◌, ◌++◌, ◌+◌, ◌-◌, ◌<◌, ◌∙◌, ◌≡◌, ap, append-nil}
 use Rattle.krl_core.proofs.Common.{append_assoc, arith, can_end, concat, ended, Ends, EndsAfter}
 use Rattle.krl_core.proofs.Common.{Entry, false, FieldStore, Follows, HasRead, Header, HoldsInScope}
-use Rattle.krl_core.proofs.Common.{InStep, IsBounded, IsBytes, IsFirstFault, IsReached, IsWholeAs}
+use Rattle.krl_core.proofs.Common.{InStep, IsBounded, IsBytes, IsFirstKrlFault, IsReached, IsWholeAs}
 use Rattle.krl_core.proofs.Common.{IsWithinLimit, le-ltb, left_of, length, limit, List, ltb}
 use Rattle.krl_core.proofs.Common.{NamesSame, None, OfHeader, open_run, Option, option_to_list}
 use Rattle.krl_core.proofs.Common.{Place, Pull, ReadsMore, refl, Revocations, run_entries}
@@ -121,7 +121,7 @@ whole_holds Holds Other text header contents other h = record {
 }
 
 -- fields that lead to the end of a list have no fault
-pub whole_unfaulted : (Holds : List ℕ → Revocations → List Entry → Type 0) (text : List ℕ) (header : Header) (contents : Revocations) → IsWholeAs Holds text header contents → IsFirstFault text None
+pub whole_unfaulted : (Holds : List ℕ → Revocations → List Entry → Type 0) (text : List ℕ) (header : Header) (contents : Revocations) → IsWholeAs Holds text header contents → IsFirstKrlFault text None
 whole_unfaulted Holds text header contents h =
     let all : take limit text ≡ text = take_all limit text h.within in
     let off : ltb limit (length text) ≡ false = le-ltb limit (length text) h.within in

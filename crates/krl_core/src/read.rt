@@ -8,7 +8,7 @@ ghost use Rattle.ssh_wire.specs.Wire.{IsBytes};
 ghost use Rattle.krl_format.specs.declared.header.Header.{Header as HeaderOf};
 ghost use Rattle.krl_types.specs.declared.krl_fault.KrlFault.TheVariants.{NoMemory, Read};
 ghost use Rattle.krl_entries.specs.Revocations.{held, stored};
-ghost use Rattle.krl_format.specs.Front.{IsFirstFault, limit};
+ghost use Rattle.krl_format.specs.Front.{IsFirstKrlFault, limit};
 ghost use Rattle.krl_format.specs.Krl.{SpelledSection, Spells};
 ghost use Rattle.krl_format.specs.Place.{expected};
 ghost use Rattle.krl_core.specs.Reading.{EndsAfter, HasRead, HoldsInScope, IsBounded, IsList};
@@ -38,7 +38,7 @@ pub fn read_krl<S: Spans, R: Source + Drop>(
     ensures found { IfOk result.0 (λ list. (text : List ℕ) → R.left reader ≡ Some text
         → IsList text list.0 list.1) }
     ensures no_fault { IfOk result.0 (λ list. (text : List ℕ) → R.left reader ≡ Some text
-        → IsFirstFault text None) }
+        → IsFirstKrlFault text None) }
     ensures only { IfErr result.0 (λ fault.
         (text : List ℕ) → (header : HeaderOf) → (sections : List SpelledSection)
         → R.left reader ≡ Some text → IsBytes text → Spells text header sections
@@ -70,7 +70,7 @@ impl<T: Store, R: Source + Drop> Walk<T, R> {
         ensures within { IfOk result.0
             (λ list. IsWithinLimit (T.scope list.1) (T.contents list.1)) }
         ensures no_fault { IfOk result.0 (λ _. (text : List ℕ) (fields : List (List ℕ))
-            → HasRead text fields self → IsFirstFault text None) }
+            → HasRead text fields self → IsFirstKrlFault text None) }
         ensures fault { IfErr result.0 (λ fault. (text : List ℕ) (fields : List (List ℕ))
             → HasRead text fields self
             → Says fault text (R.has_failed result.1) (R.left result.1)) }

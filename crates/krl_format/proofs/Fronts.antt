@@ -2,7 +2,7 @@
 use Rattle.krl_format.proofs.Common.{[], ◌++◌, ◌<◌, ◌∙◌, ◌∷◌, ◌≡◌, ◌⊎◌, ap, append-nil, append_assoc}
 use Rattle.krl_format.proofs.Common.{arith, Bool, can_end, concat, concat-append, drop, ended}
 use Rattle.krl_format.proofs.Common.{ends_early, Err, expected, false, HasRoom, inl, inr, IsEnd}
-use Rattle.krl_format.proofs.Common.{IsFirstFault, IsFront, IsLongestFront, KrlFault, Leads, length}
+use Rattle.krl_format.proofs.Common.{IsFirstKrlFault, IsFront, IsLongestFront, KrlFault, Leads, length}
 use Rattle.krl_format.proofs.Common.{length-append, limit, List, ltb, never_err, no_room, None, Ok}
 use Rattle.krl_format.proofs.Common.{Option, Place, refl, refused, Reported, Some, start, State}
 use Rattle.krl_format.proofs.Common.{state_after, subst, sym, take, too_long, true, ℕ}
@@ -102,7 +102,7 @@ is_longest text fields p rest goes_on fault front reported = record {
 }
 
 -- what stops a walk from the first byte is the first fault
-pub first_fault_is : (text : List ℕ) (fault : Option KrlFault) → EndsReported start (take limit text) (ltb limit (length text)) fault → IsFirstFault text fault
+pub first_fault_is : (text : List ℕ) (fault : Option KrlFault) → EndsReported start (take limit text) (ltb limit (length text)) fault → IsFirstKrlFault text fault
 first_fault_is text fault h =
     let front : IsFront text h.walks.fields h.last h.rest = record { leads = h.walks.leads; parts = h.walks.parts } in
     record { fields = h.walks.fields; state = h.last; rest = h.rest; front = is_longest text h.walks.fields h.last h.rest (ltb limit (length text)) fault front h.reported; reported = h.reported }
@@ -177,7 +177,7 @@ following p q q' one other more r s goes_on a b h k e longer ta tb =
     ∙ append_assoc (concat one) (concat more) s in
     ends_same q q' more r s goes_on a b step (append_same (concat one) (concat one) r (concat more ++ s) refl whole).1 ta tb
 
-pub one_reported : (text : List ℕ) (a b : Option KrlFault) → IsFirstFault text a → IsFirstFault text b → a ≡ b
+pub one_reported : (text : List ℕ) (a b : Option KrlFault) → IsFirstKrlFault text a → IsFirstKrlFault text b → a ≡ b
 one_reported text a b h k =
     let e : concat h.fields ++ h.rest ≡ concat k.fields ++ k.rest = sym h.front.front.parts ∙ k.front.front.parts in
     let goes_on : Bool = ltb limit (length text) in

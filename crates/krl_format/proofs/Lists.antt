@@ -1,7 +1,7 @@
 -- A row of fields to the end of a list spells sections, which name the same as its entries.
 use Rattle.krl_format.proofs.Common.{[], ◌++◌, ◌∙◌, ◌≡◌, ◌≤◌, ap, append-nil, Bool, can_end, concat}
 use Rattle.krl_format.proofs.Common.{empty_header, ended, ends_early, entries_of, Entry, false, Header}
-use Rattle.krl_format.proofs.Common.{IsBytes, IsEnd, IsFirstFault}
+use Rattle.krl_format.proofs.Common.{IsBytes, IsEnd, IsFirstKrlFault}
 use Rattle.krl_format.proofs.Common.{KrlFault, Leads, length, limit, List, ltb, ltb-false}
 use Rattle.krl_format.proofs.Common.{NamesSame, no_room, None, Option, Place}
 use Rattle.krl_format.proofs.Common.{refl, refused, Reported}
@@ -46,7 +46,7 @@ is_end p rest goes_on fault e (too_long room short on is) = absurd (cc (e, is))
 is_end p rest goes_on fault e (ends_early room short not_end off is) = absurd (cc (e, is))
 
 -- the fields of a text without a fault
-pub unfaulted_row : (text : List ℕ) → IsFirstFault text None
+pub unfaulted_row : (text : List ℕ) → IsFirstKrlFault text None
     → (fields : List (List ℕ)) × (last : State) × (Leads start fields last × (can_end last.place ≡ true) × (text ≡ concat fields) × (length text ≤ limit))
 unfaulted_row text h =
     let w = is_end h.state.place h.rest (ltb limit (length text)) None refl h.reported in
@@ -55,7 +55,7 @@ unfaulted_row text h =
     (h.fields, h.state, (h.front.front.leads, w.0.0, whole, le))
 
 -- a text without a fault is spelled by a header and sections
-pub unfaulted_spelled : (text : List ℕ) → IsBytes text → IsFirstFault text None
+pub unfaulted_spelled : (text : List ℕ) → IsBytes text → IsFirstKrlFault text None
     → (length text ≤ limit) × ((header : Header) × ((sections : List SpelledSection) × Spells text header sections))
 unfaulted_spelled text fits h =
     let row = unfaulted_row text h in

@@ -2,7 +2,7 @@
 use Rattle.krl_format.proofs.Common.{[], ◌*◌, ◌++◌, ◌+◌, ◌<◌, ◌∙◌, ◌∷◌, ◌≡◌, ◌≤◌, ◌⊎◌, ap, arith}
 use Rattle.krl_format.proofs.Common.{Bool, can_end, cases_Bool, cases_lt, drop, ended, ends_early}
 use Rattle.krl_format.proofs.Common.{expected, false, Field, false≢true, HasRoom, IfSome, inl, inr}
-use Rattle.krl_format.proofs.Common.{IsFirstFault, ItemKind, KrlFault, length, length-drop}
+use Rattle.krl_format.proofs.Common.{IsFirstKrlFault, ItemKind, KrlFault, length, length-drop}
 use Rattle.krl_format.proofs.Common.{length-take, limit, List, ltb, next_item, next_subsection}
 use Rattle.krl_format.proofs.Common.{no_room, None, Ok, ok_or_not, Option, Place, refl, refused}
 use Rattle.krl_format.proofs.Common.{Reported, row_of, Some, start, suc, sym, Table, take}
@@ -107,7 +107,7 @@ stops_from (suc n) p bytes goes_on lt =
       ]
     ]
 
-pub each_is_judged : (text : List ℕ) → (fault : Option KrlFault) × IsFirstFault text fault
+pub each_is_judged : (text : List ℕ) → (fault : Option KrlFault) × IsFirstKrlFault text fault
 each_is_judged text =
     let t = stops_from (suc (2 * length (take limit text) + weight start.place)) start.place (take limit text) (ltb limit (length text)) (omega arith) in
     (t.fault, first_fault_is text t.fault (reported_at start refl t.goes t.reported))

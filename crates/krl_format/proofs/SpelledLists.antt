@@ -4,7 +4,7 @@ use Rattle.krl_format.proofs.Common.{AllByRecursion, ap, arith, authority_fields
 use Rattle.krl_format.proofs.Common.{ended, Extension, extension_fields}
 use Rattle.krl_format.proofs.Common.{failed_read, false, first, Header, header_fields, inl}
 use Rattle.krl_format.proofs.Common.{inr, IsBytes, IsBytes-back, IsBytes-front, IsBytes-in_string}
-use Rattle.krl_format.proofs.Common.{IsFirstFault, ItemKind, Keys, KrlFault, le-ltb, leads_front}
+use Rattle.krl_format.proofs.Common.{IsFirstKrlFault, ItemKind, Keys, KrlFault, le-ltb, leads_front}
 use Rattle.krl_format.proofs.Common.{leads_more, length, length-append}
 use Rattle.krl_format.proofs.Common.{limit, List, ltb, next_item, None}
 use Rattle.krl_format.proofs.Common.{number_of, Ok, Option, ran_out, refl, Says}
@@ -89,7 +89,7 @@ sections_go (section ∷ sections) signed body (first_one, (later, (parts, spell
     (more.0, goes_from parts (goes_then one more.1))
 
 -- a spelled list within the limit has no fault
-pub spelled_unfaulted : (text : List ℕ) (header : Header) (sections : List SpelledSection) → IsBytes text → Spells text header sections → length text ≤ limit → IsFirstFault text None
+pub spelled_unfaulted : (text : List ℕ) (header : Header) (sections : List SpelledSection) → IsBytes text → Spells text header sections → length text ≤ limit → IsFirstKrlFault text None
 spelled_unfaulted text header sections fits h le =
     let front = leads_front header_fields [] text h.values h.body h.fields in
     let rest = sections_go sections false h.body h.sections_are h.signatures_last (IsBytes-back front.0 h.body (subst IsBytes front.1 fits)) in

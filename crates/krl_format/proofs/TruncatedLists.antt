@@ -1,7 +1,7 @@
 -- A list that is truncated.
 use Rattle.krl_format.proofs.Common.{[], ◌++◌, ◌∙◌, ◌∷◌, ◌≡◌, ◌≤◌, ◌⊎◌, ap, append-nil, append_assoc}
 use Rattle.krl_format.proofs.Common.{arith, Bool, can_end, concat, concat-append, ended, ends_early}
-use Rattle.krl_format.proofs.Common.{expected, false, Header, inl, inr, IsBytes, IsFirstFault}
+use Rattle.krl_format.proofs.Common.{expected, false, Header, inl, inr, IsBytes, IsFirstKrlFault}
 use Rattle.krl_format.proofs.Common.{KrlFault, le-ltb, Leads, length, length-append, limit, List, ltb}
 use Rattle.krl_format.proofs.Common.{never_err, no_room, None, Option, Passes, Place, refl, refused}
 use Rattle.krl_format.proofs.Common.{Reported, Some, SpelledSection, Spells, start, State, subst, sym}
@@ -55,7 +55,7 @@ cut_longer q (field ∷ fields) last rest more fault (next, (pass, leads)) may e
     absurd (omega (arith, end_size q.place may, pass.whole, ap length e, length-append (field ++ concat fields) (rest ++ more), length-append field (concat fields)))
 
 cut_reported : (text prefix more : List ℕ) (fields : List (List ℕ)) (last : State) (fault : Option KrlFault) → text ≡ prefix ++ more → length text ≤ limit → Leads start fields last
-    → can_end last.place ≡ true → text ≡ concat fields → IsFirstFault prefix fault → IsCutFault fault
+    → can_end last.place ≡ true → text ≡ concat fields → IsFirstKrlFault prefix fault → IsCutFault fault
 cut_reported text prefix more fields last fault parts le leads may all h =
     let len = ap length parts ∙ length-append prefix more in
     let short : length prefix ≤ limit = omega (arith, len, le) in
@@ -82,11 +82,11 @@ cut_reported text prefix more fields last fault parts le leads may all h =
 
 -- A prefix of a spelled list within the limit is spelled too, or ends early.
 pub cut_short : (text prefix more : List ℕ) (header : Header) (sections : List SpelledSection) → IsBytes text → Spells text header sections → length text ≤ limit → text ≡ prefix ++ more
-    → IsFirstFault prefix None ⊎ IsFirstFault prefix (Some faults.EndsEarly)
+    → IsFirstKrlFault prefix None ⊎ IsFirstKrlFault prefix (Some faults.EndsEarly)
 cut_short text prefix more header sections fits h le parts =
     let row = unfaulted_row text (spelled_unfaulted text header sections fits h le) in
     let reported = each_is_judged prefix in
     elim (cut_reported text prefix more row.0 row.1 reported.0 parts le row.2.0 row.2.1 row.2.2 reported.1) [
-      | inl none ↦ inl (subst (IsFirstFault prefix) none reported.1)
-      | inr early ↦ inr (subst (IsFirstFault prefix) early reported.1)
+      | inl none ↦ inl (subst (IsFirstKrlFault prefix) none reported.1)
+      | inr early ↦ inr (subst (IsFirstKrlFault prefix) early reported.1)
     ]

@@ -4,7 +4,7 @@ use Rattle.std.specs.Prelude.{◌++◌, Option, Some, None}
 use Rattle.krl_types.specs.declared.krl_fault.KrlFault.{KrlFault}
 use Rattle.krl_types.specs.declared.krl_fault.KrlFault.TheVariants.{EndsEarly, Read}
 use Rattle.krl_types.specs.declared.krl_fault.KrlFault.TheVariants.{NoMemory}
-use Rattle.krl_format.specs.Front.{IsFirstFault}
+use Rattle.krl_format.specs.Front.{IsFirstKrlFault}
 use Rattle.krl_format.specs.FixedFields.{HasFixedFields}
 
 -- The reader failed after it gave the first bytes of the text, and has the later bytes left. The
@@ -15,7 +15,7 @@ pub record FailsAfter (text : List ℕ) (failed : Bool) (left : Option (List ℕ
   pub parts : text ≡ given ++ later
   pub left_is : left ≡ Some later
   pub failed_is : failed ≡ true
-  pub reported : IsFirstFault given None ⊎ IsFirstFault given (Some EndsEarly)
+  pub reported : IsFirstKrlFault given None ⊎ IsFirstKrlFault given (Some EndsEarly)
 
 -- A fault says this about a text, if it is known whether the reader failed and which bytes it has
 -- left. An allocation fails only after the first fields.
@@ -23,4 +23,4 @@ pub data Says (fault : KrlFault) (text : List ℕ) (failed : Bool) (left : Optio
     : Type 0 where
   ran_out : fault ≡ NoMemory → HasFixedFields text → failed ≡ false → Says fault text failed left
   failed_read : fault ≡ Read → FailsAfter text failed left → Says fault text failed left
-  first : IsFirstFault text (Some fault) → failed ≡ false → Says fault text failed left
+  first : IsFirstKrlFault text (Some fault) → failed ≡ false → Says fault text failed left

@@ -101,7 +101,7 @@ pub data Reported (place : Place) (rest : List ℕ) (goes_on : Bool) (fault : Op
       → goes_on ≡ false → fault ≡ Some faults.EndsEarly → Reported place rest goes_on fault
 
 -- The first fault of a text, reported after its longest front.
-pub record IsFirstFault (text : List ℕ) (fault : Option KrlFault) : Type 0 where
+pub record IsFirstKrlFault (text : List ℕ) (fault : Option KrlFault) : Type 0 where
   pub fields : List (List ℕ)
   pub state : State
   pub rest : List ℕ

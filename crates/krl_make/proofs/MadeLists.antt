@@ -18,7 +18,7 @@ use Rattle.krl_entries.proofs.RevokedTests.{revokes_meant}
 use Rattle.krl_entries.specs.Revocations.{Revocations, Means, held}
 use Rattle.krl_format.specs.Entries.{entries_of}
 use Rattle.krl_types.specs.Entry.{Entry}
-use Rattle.krl_format.specs.Front.{IsFirstFault, limit}
+use Rattle.krl_format.specs.Front.{IsFirstKrlFault, limit}
 use Rattle.krl_writer.specs.KrlText.{IsKrlText}
 use Rattle.krl_core.specs.Reading.{IsList}
 use Rattle.krl_format.specs.declared.header.Header.{Header}
@@ -40,7 +40,7 @@ use Rattle.key_files.specs.RunFault.{RunFault, EndedBy, ByInput, ByMemory, ByOut
 
 -- ---- the old list
 
-pub old_read : (text : List ℕ) (header : Header) (contents : Revocations) → IsList text header contents → IsFirstFault text None
+pub old_read : (text : List ℕ) (header : Header) (contents : Revocations) → IsList text header contents → IsFirstKrlFault text None
     → IsOldList text (base_of header contents)
 old_read text header contents list none = record {
   header = header;

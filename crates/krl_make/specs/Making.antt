@@ -7,7 +7,7 @@ use Rattle.ssh_wire.specs.Reading.{◌>>=◌, in_fault}
 use Rattle.krl_entries.specs.Revocations.{Revocations, Means, held, nothing}
 use Rattle.krl_format.specs.Entries.{entries_of}
 use Rattle.krl_types.specs.Entry.{Entry}
-use Rattle.krl_format.specs.Front.{IsFirstFault, limit}
+use Rattle.krl_format.specs.Front.{IsFirstKrlFault, limit}
 use Rattle.krl_format.specs.Krl.{SpelledSection, Spells}
 use Rattle.krl_writer.specs.KrlText.{IsKrlText}
 use Rattle.krl_core.specs.Reading.{IsList, IsResultOf}
@@ -313,7 +313,7 @@ base_of header contents =
 pub record IsOldList (text : List ℕ) (base : Base) : Type 0 where
   pub header : Header
   pub list : IsList text header base.revocations
-  pub no_fault : IsFirstFault text None
+  pub no_fault : IsFirstKrlFault text None
   pub version_is : base.version ≡ Some header.version
   pub comment_is : base.comment ≡ header.comment
 

@@ -4,7 +4,7 @@ use Rattle.std.specs.List.{AllByRecursion, concat}
 use Rattle.ssh_wire.specs.Wire.{IsBytes}
 use Rattle.ssh_wire.proofs.Digits.{IsBytes-front}
 use Rattle.ssh_wire.proofs.RowLaws.{leads_front, leads_more}
-use Rattle.krl_format.specs.Front.{IsFirstFault, Passes, limit, start}
+use Rattle.krl_format.specs.Front.{IsFirstKrlFault, Passes, limit, start}
 use Rattle.krl_format.specs.Krl.{Certificates, Extension, IsSignature, Keys, Sha1s, Sha256s, Signature, SignaturesLast, SpelledSection, Spells, SpellsEach, SpellsSection, header_fields}
 use Rattle.krl_format.specs.Place.{can_end, expected}
 use Rattle.krl_format.specs.declared.header.Header.{Header}
@@ -100,7 +100,7 @@ one_more (here ∷ sections) text first section (bytes, (rest, (parts, one, othe
 
 -- The list up to a section is a list, and what is left has no difference.
 pub boundary : (list : List ℕ) (header : Header) (sections : List SpelledSection) (spells : Spells list header sections) → IsBytes list → length list ≤ limit
-    → ((text : List ℕ) (header : Header) (sections : List SpelledSection) → IsBytes text → Spells text header sections → length text ≤ limit → IsFirstFault text None)
+    → ((text : List ℕ) (header : Header) (sections : List SpelledSection) → IsBytes text → Spells text header sections → length text ≤ limit → IsFirstKrlFault text None)
     → (fields : List (List ℕ)) → HasFields list fields → first_difference start.place fields ≡ None
     → (before rest : List ℕ) (earlier : List SpelledSection) → SpellsEach SpellsSection before earlier → SignaturesLast earlier → spells.body ≡ before ++ rest → IsBoundary rest
 boundary list header sections spells bytes within unfaulted fields has none before rest earlier each last parts =

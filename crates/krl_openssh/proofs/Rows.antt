@@ -6,7 +6,7 @@ use Rattle.std.proofs.lemmas.Bool.{ltb-false}
 use Rattle.std.proofs.lemmas.List.{append-nil, length-take-le, take-append-drop, take_all, take_rest}
 use Rattle.krl_types.specs.declared.krl_fault.KrlFault.{KrlFault}
 use Rattle.krl_format.specs.declared.place.Place.{Place}
-use Rattle.krl_format.specs.Front.{IsEnd, IsFirstFault, IsFront, Leads, Passes, Reported, State, ended, ends_early, limit, no_room, refused, start, state_after, too_long}
+use Rattle.krl_format.specs.Front.{IsEnd, IsFirstKrlFault, IsFront, Leads, Passes, Reported, State, ended, ends_early, limit, no_room, refused, start, state_after, too_long}
 use Rattle.krl_format.specs.Place.{can_end, expected}
 use Rattle.krl_format.proofs.LongestFronts.{nearer, weight}
 use Rattle.krl_format.proofs.Fronts.{append_same, end_size}
@@ -118,7 +118,7 @@ has_all list rest fields state goes_on front past (refused field after why room 
 has_all list rest fields state goes_on front past (too_long room short on is) = absurd cc
 has_all list rest fields state goes_on front past (ends_early room short not_end off is) = absurd cc
 
-pub has_fields : (list : List ℕ) → IsFirstFault list None → (fields : List (List ℕ)) × HasFields list fields
+pub has_fields : (list : List ℕ) → IsFirstKrlFault list None → (fields : List (List ℕ)) × HasFields list fields
 has_fields list none = (none.fields, has_all list none.rest none.fields none.state (nat_lt limit (length list)) none.front.front refl none.reported)
 
 one_row_at : (place : Place) (fields others : List (List ℕ)) → AreWhole place fields → AreWhole place others → concat fields ≡ concat others → fields ≡ others

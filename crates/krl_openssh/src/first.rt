@@ -1,7 +1,7 @@
 //! The first difference among the fields of a list.
 
 ghost use Rattle.std.specs.Prelude.{◌↔◌, IsTrue, None};
-ghost use Rattle.krl_format.specs.Front.{IsEnd, IsFirstFault};
+ghost use Rattle.krl_format.specs.Front.{IsEnd, IsFirstKrlFault};
 ghost use Rattle.krl_openssh.specs.Fields.{IsFirstDifference};
 
 use crate::difference::{Difference, difference_at};
@@ -10,7 +10,7 @@ use krl_format::Place;
 /// Returns the first field for which OpenSSH refuses a list or reads other names from it, and why.
 /// Returns none if OpenSSH also reads the list, and reads the same names. Does not allocate.
 pub fn first_difference(list: &[u8]) -> Option<Difference>
-    requires { IsFirstFault list.now None }
+    requires { IsFirstKrlFault list.now None }
     ensures { IsFirstDifference list.now result }
 {
     let mut place = Place::start();

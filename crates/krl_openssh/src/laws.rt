@@ -2,7 +2,7 @@
 
 ghost use Rattle.std.specs.Prelude.{◌≡◌, List, ℕ, None};
 ghost use Rattle.ssh_wire.specs.Wire.{IsBytes};
-ghost use Rattle.krl_format.specs.Front.{IsFirstFault};
+ghost use Rattle.krl_format.specs.Front.{IsFirstKrlFault};
 ghost use Rattle.krl_format.specs.Krl.{SpelledSection, Spells};
 ghost use Rattle.krl_format.specs.declared.header.Header.{Header};
 ghost use Rattle.krl_openssh.specs.Authority.{AuthoritiesAreKeys};
@@ -13,7 +13,7 @@ use ssh_key::laws::read_where_spelled;
 
 /// A list that is read without a fault has one row of fields.
 pub fn read_lists_have_fields()
-    ensures some { (list : List ℕ) → IsFirstFault list None
+    ensures some { (list : List ℕ) → IsFirstKrlFault list None
         → (fields : List (List ℕ)) × HasFields list fields }
     ensures one { (list : List ℕ) (fields others : List (List ℕ)) → HasFields list fields
         → HasFields list others → fields ≡ others }
@@ -23,7 +23,7 @@ pub fn read_lists_have_fields()
 /// spelling that OpenSSH accepts, or empty, which means all authorities.
 pub fn authorities_are_keys_if_alike()
     ensures { (list : List ℕ) (header : Header) (sections : List SpelledSection)
-        → IsBytes list → IsFirstFault list None → Spells list header sections
+        → IsBytes list → IsFirstKrlFault list None → Spells list header sections
         → IsFirstDifference list None → AuthoritiesAreKeys sections }
 {
     no_fault_where_spelled();

@@ -1,14 +1,14 @@
 -- A text has one reading if its known contents are unique and exclude a fault.
 use Rattle.std.proofs.Common.{◌≡◌, ◌⊎◌, ℕ, false, List, Result, Ok, Err, Option, Some, None, ap}
 use Rattle.std.proofs.Common.{inl, inr}
-use Rattle.krl_format.specs.Front.{IsFirstFault}
+use Rattle.krl_format.specs.Front.{IsFirstKrlFault}
 use Rattle.krl_core.specs.Reading.{IsReadAs}
 use Rattle.krl_format.specs.Faults.{Says, ran_out, failed_read, first}
 use Rattle.krl_types.specs.declared.krl_fault.KrlFault.{KrlFault}
 use Rattle.krl_types.specs.declared.krl_fault.KrlFault.TheVariants.{NoMemory}
 
 -- the fault of a reader that did not fail
-said_by : (fault : KrlFault) (text : List ℕ) (left : Option (List ℕ)) → Says fault text false left → (fault ≡ NoMemory) ⊎ IsFirstFault text (Some fault)
+said_by : (fault : KrlFault) (text : List ℕ) (left : Option (List ℕ)) → Says fault text false left → (fault ≡ NoMemory) ⊎ IsFirstKrlFault text (Some fault)
 said_by fault text left (ran_out is some works) = inl is
 said_by fault text left (failed_read is fails) = let failed = fails.failed_is in absurd (cc)
 said_by fault text left (first is works) = inr is
@@ -17,8 +17,8 @@ said_by fault text left (first is works) = inr is
 -- first fault.
 pub record HasOne {K : Type 0} (Knows : List ℕ → K → Type 0) : Type 0 where
   pub known : (text : List ℕ) (one other : K) → Knows text one → Knows text other → one ≡ other
-  pub no_fault : (text : List ℕ) (known : K) → Knows text known → IsFirstFault text None
-  pub fault : (text : List ℕ) (one other : Option KrlFault) → IsFirstFault text one → IsFirstFault text other → one ≡ other
+  pub no_fault : (text : List ℕ) (known : K) → Knows text known → IsFirstKrlFault text None
+  pub fault : (text : List ℕ) (one other : Option KrlFault) → IsFirstKrlFault text one → IsFirstKrlFault text other → one ≡ other
 
 not_refused : {K : Type 0} (Knows : List ℕ → K → Type 0) → HasOne Knows → (text : List ℕ) (known : K) (fault : KrlFault) (left : Option (List ℕ))
     → Knows text known → Says fault text false left → fault ≡ NoMemory

@@ -14,7 +14,7 @@ use Rattle.krl_entries.specs.Canonical.{entries_in}
 use Rattle.krl_types.specs.Entry.{Entry}
 use Rattle.krl_entries.proofs.OwnEntries.{means_itself}
 use Rattle.krl_entries.proofs.ScopedMeaning.{means_within}
-use Rattle.krl_format.specs.Front.{IsFirstFault}
+use Rattle.krl_format.specs.Front.{IsFirstKrlFault}
 use Rattle.krl_core.specs.Reading.{HoldsInScope, IsList, IsListAs, IsResultOf, OfHeader}
 use Rattle.krl_format.specs.Faults.{Says}
 use Rattle.krl_entries.proofs.ReasonTests.{meant_tested}
@@ -28,7 +28,7 @@ use Rattle.krl_types.specs.declared.krl_fault.KrlFault.TheVariants as faults
 
 -- A list that was read is stored.
 pub held : (text : List ℕ) (header : Header) (contents : Revocations)
-    → IsList text header contents → IsFirstFault text None → IsHeld text (known_of header contents)
+    → IsList text header contents → IsFirstKrlFault text None → IsHeld text (known_of header contents)
 held text header contents list none = record {
   list = list;
   no_fault = none;
@@ -83,7 +83,7 @@ nothing_first name entries files = refl
 
 -- the entries that answer for a list: those of its sections, or its stored entries
 pub list_entries : {Holds : List ℕ → Revocations → List Entry → Type 0} {Agrees : List Entry → Type 0} (left : Option (List ℕ)) (held : Revocations)
-    → ((text : List ℕ) → left ≡ Some text → (header : Header) × IsListAs Holds text header held) → ((text : List ℕ) → left ≡ Some text → IsFirstFault text None)
+    → ((text : List ℕ) → left ≡ Some text → (header : Header) × IsListAs Holds text header held) → ((text : List ℕ) → left ≡ Some text → IsFirstKrlFault text None)
     → Agrees (entries_in held) → ((text : List ℕ) (entries : List Entry) → Holds text held entries → Agrees entries)
     → (entries : List Entry) × ((text : List ℕ) → left ≡ Some text → HasEntries text entries) × Agrees entries
 list_entries None held list none own agree = (entries_in held, λ text e. absurd (cc), own)
@@ -105,7 +105,7 @@ list_entries (Some text) held list none own agree =
 
 -- the stored entries answer for each key
 pub held_list : (left : Option (List ℕ)) (held : Revocations) (header : Header) → IsOrderly held
-    → ((text : List ℕ) → left ≡ Some text → IsList text header held) → ((text : List ℕ) → left ≡ Some text → IsFirstFault text None)
+    → ((text : List ℕ) → left ≡ Some text → IsList text header held) → ((text : List ℕ) → left ≡ Some text → IsFirstKrlFault text None)
     → (entries : List Entry) × ((text : List ℕ) → left ≡ Some text → HasEntries text entries) × ((asked : Subject) → revokes held asked ≡ is_named entries asked)
 held_list left held header orderly list none =
     list_entries left held (λ text e. (header, list text e)) none (meant_tested held (entries_in held) (means_itself held orderly)) (λ text entries holds. meant_tested held entries holds.means)
@@ -114,7 +114,7 @@ held_list left held header orderly list none =
 
 -- the stored entries answer for the keys of the queries
 pub streamed_list : (left : Option (List ℕ)) (topics found : Revocations) (kept : Header) → IsOrderly found
-    → ((text : List ℕ) → left ≡ Some text → OfHeader (Some topics) kept (λ header. IsListAs (HoldsInScope (Some topics)) text header found)) → ((text : List ℕ) → left ≡ Some text → IsFirstFault text None)
+    → ((text : List ℕ) → left ≡ Some text → OfHeader (Some topics) kept (λ header. IsListAs (HoldsInScope (Some topics)) text header found)) → ((text : List ℕ) → left ≡ Some text → IsFirstKrlFault text None)
     → (entries : List Entry) × ((text : List ℕ) → left ≡ Some text → HasEntries text entries) × ((asked : Subject) → Asks topics asked → revokes found asked ≡ is_named entries asked)
 streamed_list left topics found kept orderly list none =
     list_entries left found (λ text e. ((list text e).0, (list text e).2)) none

@@ -3,7 +3,7 @@ use Rattle.std.specs.Prelude.{◌≡◌, ◌↔◌, ◌≤◌, length, ℕ, ⊤,
 use Rattle.std.specs.Prelude.{Option, None, Some, Result, Ok, Err, IsTrue, codes}
 use Rattle.krl_entries.specs.Revocations.{Revocations}
 use Rattle.krl_format.specs.Entries.{entries_of}
-use Rattle.krl_format.specs.Front.{IsFirstFault, limit}
+use Rattle.krl_format.specs.Front.{IsFirstKrlFault, limit}
 use Rattle.krl_format.specs.Krl.{SpelledSection, Spells}
 use Rattle.krl_queries.specs.Questions.{Asks}
 use Rattle.krl_types.specs.Entry.{Entry}
@@ -79,14 +79,14 @@ pub record HasEntries (text : List ℕ) (entries : List Entry) : Type 0 where
   pub sections : List SpelledSection
   pub spelled : Spells text header sections
   pub within : length text ≤ limit
-  pub no_fault : IsFirstFault text None
+  pub no_fault : IsFirstKrlFault text None
   pub entries_are : entries ≡ entries_of sections
 
 -- The text is a list without a fault, these are its known contents, and the answers are exactly
 -- those of the entries of its sections.
 pub record IsHeld (text : List ℕ) (known : Known) : Type 0 where
   pub list : IsList text known.header known.contents
-  pub no_fault : IsFirstFault text None
+  pub no_fault : IsFirstKrlFault text None
   pub answers : (asked : Subject)
       → IsTrue (revokes known.contents asked) ↔ Revoked (entries_of list.sections) asked
 

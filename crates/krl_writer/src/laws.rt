@@ -3,7 +3,7 @@
 ghost use Rattle.std.specs.Prelude.{◌≡◌, ◌≤◌, ◌<◌, ◌^◌, ◌⊎◌, ℕ, Bool, true, List, Option, None};
 ghost use Rattle.std.specs.Prelude.{length};
 ghost use Rattle.ssh_wire.specs.Wire.{IsBytes};
-ghost use Rattle.krl_format.specs.Front.{IsFirstFault, limit};
+ghost use Rattle.krl_format.specs.Front.{IsFirstKrlFault, limit};
 ghost use Rattle.krl_plan.specs.declared.group.Group.{Group};
 ghost use Rattle.krl_entries.specs.Revocations.{Revocations, IsOrderly, Means};
 ghost use Rattle.krl_format.specs.declared.header.Header.{Header};
@@ -55,7 +55,7 @@ pub fn written_list_has_no_fault()
     ensures unfaulted { (header : Header) (r : Revocations) (text : List ℕ)
         → IsKrlText header r text → length text ≤ limit
         → header.version < 2 ^ 64 → header.date < 2 ^ 64 → IsOrderly r
-        → IsBytes text → IsFirstFault text None }
+        → IsBytes text → IsFirstKrlFault text None }
     ensures refused { (header : Header) (r : Revocations) (text : List ℕ)
         → IsKrlText header r text → length text ≤ limit
         → header.version < 2 ^ 64 → header.date < 2 ^ 64 → IsOrderly r

@@ -4,7 +4,7 @@ use Rattle.std.specs.Prelude.{None}
 use Rattle.std.specs.List.{starts_with}
 use Rattle.krl_types.specs.Entry.{Entry}
 use Rattle.krl_format.specs.Entries.{entries_of}
-use Rattle.krl_format.specs.Front.{IsFirstFault, limit}
+use Rattle.krl_format.specs.Front.{IsFirstKrlFault, limit}
 use Rattle.krl_format.specs.Krl.{SpelledSection, Spells, magic}
 use Rattle.krl_format.specs.declared.header.Header.{Header}
 use Rattle.plain_list.specs.List.{AreRead, entries_of as entries_of_lines, lines_of}
@@ -25,7 +25,7 @@ pub record IsListOf (list : List ℕ) (entries : List Entry) : Type 0 where
 pub record NamesWhole (bytes : List ℕ) (header : Option Header) (entries : List Entry)
     : Type 0 where
   pub is : IsListOf bytes entries
-  pub no_fault : IsFirstFault bytes None
+  pub no_fault : IsFirstKrlFault bytes None
   pub header_is : header ≡ Some is.header
 
 -- Each line of a plain list is read, and the keys on the lines are the entries.

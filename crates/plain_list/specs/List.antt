@@ -35,7 +35,7 @@ abbrev pub AreRead : List (List ℕ) → Type 0
 AreRead lines = All (λ line. IsOk (line_key line)) lines
 
 -- The line with this number is the first one that is refused.
-pub record IsFirstFault (lines : List (List ℕ)) (number : ℕ) (cause : KeyCause) : Type 0 where
+pub record IsFirstBadLine (lines : List (List ℕ)) (number : ℕ) (cause : KeyCause) : Type 0 where
   pub before : List (List ℕ)
   pub line : List ℕ
   pub after : List (List ℕ)
@@ -47,5 +47,5 @@ pub record IsFirstFault (lines : List (List ℕ)) (number : ℕ) (cause : KeyCau
 abbrev pub HasFault : List ℕ → PlainFault → Type 0
 HasFault text faults.TooLong = limit < length text
 HasFault text (faults.Line number cause) =
-    (length text ≤ limit) × IsFirstFault (lines_of text) number cause
+    (length text ≤ limit) × IsFirstBadLine (lines_of text) number cause
 HasFault text faults.NoMemory = length text ≤ limit

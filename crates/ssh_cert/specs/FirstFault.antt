@@ -18,13 +18,13 @@ pub record Opens (blob : List ℕ) (key : PublicKey) (rest : List ℕ) : Type 0 
   pub kind : key.kind ≡ kind_of values
   pub public : BeginsWithFields fields key rest
 
-pub data IsFirstFault (blob : List ℕ) (fault : CertFault) : Type 0 where
-  in_opening : Fails cut_short opening_fields [] blob fault → IsFirstFault blob fault
+pub data IsFirstCertFault (blob : List ℕ) (fault : CertFault) : Type 0 where
+  in_opening : Fails cut_short opening_fields [] blob fault → IsFirstCertFault blob fault
   in_key : (values : List (List ℕ)) (fields : List ℕ) (why : KeyFault)
       → Leads opening_fields [] blob values fields → IsFieldsFault (kind_of values) fields why
-      → fault ≡ faults.Key why → IsFirstFault blob fault
+      → fault ≡ faults.Key why → IsFirstCertFault blob fault
   in_closing : (key : PublicKey) (rest : List ℕ) → Opens blob key rest
-      → Fails cut_short closing_fields [] rest fault → IsFirstFault blob fault
+      → Fails cut_short closing_fields [] rest fault → IsFirstCertFault blob fault
   after_fields : (key : PublicKey) (bytes : List ℕ) (values : List (List ℕ)) (rest : List ℕ)
       → Opens blob key bytes → Leads closing_fields [] bytes values rest → 0 < length rest
-      → fault ≡ faults.Trailing → IsFirstFault blob fault
+      → fault ≡ faults.Trailing → IsFirstCertFault blob fault

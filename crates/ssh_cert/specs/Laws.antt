@@ -2,7 +2,7 @@
 use Rattle.std.specs.Prelude.{◌≡◌, ℕ, ◌<◌, List, ◌++◌, length}
 use Rattle.ssh_cert.specs.declared.fault.CertFault.{CertFault}
 use Rattle.ssh_cert.specs.declared.fault.CertFault.TheVariants.{Wire, Key}
-use Rattle.ssh_cert.specs.FirstFault.{IsFirstFault}
+use Rattle.ssh_cert.specs.FirstFault.{IsFirstCertFault}
 
 -- the front is a proper prefix of the text
 pub record IsCut (front text : List ℕ) : Type 0 where
@@ -19,5 +19,5 @@ IsCutFault fault = ⊥
 -- the first fault of the bytes is that a field is truncated
 pub record HasCutFault (bytes : List ℕ) : Type 0 where
   pub fault : CertFault
-  pub first : IsFirstFault bytes fault
+  pub first : IsFirstCertFault bytes fault
   pub cut : IsCutFault fault

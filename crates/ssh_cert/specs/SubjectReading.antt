@@ -6,7 +6,7 @@ use Rattle.ssh_wire.specs.declared.fault.WireFault.{WireFault}
 use Rattle.ssh_wire.specs.Wire.{BeginsWith}
 use Rattle.ssh_key.specs.declared.fault.KeyFault.{KeyFault}
 use Rattle.ssh_key.specs.declared.kind.Kind.{Kind}
-use Rattle.ssh_key.specs.FirstFault.{IsFirstFault as IsKeyFault}
+use Rattle.ssh_key.specs.FirstFault.{IsFirstKeyFault}
 use Rattle.ssh_key.specs.Key.{IsKey, PublicKey, blob_of}
 use Rattle.ssh_key.specs.KeyReading.{key_at}
 use Rattle.ssh_key.specs.Kind.{certificate_name, kind_certified}
@@ -15,7 +15,7 @@ use Rattle.ssh_cert.specs.declared.subject_fault.SubjectFault.{SubjectFault}
 use Rattle.ssh_cert.specs.declared.subject_fault.SubjectFault.TheVariants as faults
 use Rattle.ssh_cert.specs.CertReading.{certificate_at}
 use Rattle.ssh_cert.specs.Cert.{Cert, IsCertificate}
-use Rattle.ssh_cert.specs.FirstFault.{IsFirstFault}
+use Rattle.ssh_cert.specs.FirstFault.{IsFirstCertFault}
 use Rattle.krl_types.specs.Subject.{CertNames, Subject}
 
 abbrev pub names_of : Cert → CertNames
@@ -47,9 +47,9 @@ pub record HasCertificateName (blob : List ℕ) : Type 0 where
 -- The first fault of a blob: that of a certificate if its first string is the type name of one,
 -- otherwise that of a plain key.
 pub data IsSubjectFault (blob : List ℕ) (fault : SubjectFault) : Type 0 where
-  no_key : (why : KeyFault) → ¬ HasCertificateName blob → IsKeyFault blob why
+  no_key : (why : KeyFault) → ¬ HasCertificateName blob → IsFirstKeyFault blob why
       → fault ≡ faults.Key why → IsSubjectFault blob fault
-  no_certificate : (why : CertFault) → HasCertificateName blob → IsFirstFault blob why
+  no_certificate : (why : CertFault) → HasCertificateName blob → IsFirstCertFault blob why
       → fault ≡ faults.Cert why → IsSubjectFault blob fault
 
 -- the blob of a plain key or of a certificate

@@ -4,7 +4,7 @@
 ghost use Rattle.std.specs.Prelude.{◌≡◌, ◌↔◌, ℕ, List, Err, Ok};
 ghost use Rattle.ssh_cert.specs.CertReading.{certificate_at};
 ghost use Rattle.ssh_cert.specs.Cert.{Cert, IsCertificate};
-ghost use Rattle.ssh_cert.specs.FirstFault.{IsFirstFault};
+ghost use Rattle.ssh_cert.specs.FirstFault.{IsFirstCertFault};
 ghost use Rattle.ssh_cert.specs.Laws.{HasCutFault, IsCut};
 ghost use Rattle.ssh_cert.specs.Layout.{IsCertificateText};
 ghost use Rattle.krl_types.specs.Subject.{Subject};
@@ -29,15 +29,15 @@ pub fn read_where_spelled()
 /// Reading meets a fault exactly where it is the first fault of the bytes.
 pub fn refused_by_first_fault()
     ensures { (blob : List ℕ) (fault : CertFault) → IsBytes blob
-        → (certificate_at blob ≡ Err fault) ↔ IsFirstFault blob fault }
+        → (certificate_at blob ≡ Err fault) ↔ IsFirstCertFault blob fault }
 {}
 
 /// Bytes have at most one first fault, and a blob of a certificate has none.
 pub fn one_first_fault()
     ensures one { (blob : List ℕ) (a b : CertFault) → IsBytes blob
-        → IsFirstFault blob a → IsFirstFault blob b → a ≡ b }
+        → IsFirstCertFault blob a → IsFirstCertFault blob b → a ≡ b }
     ensures none { (blob : List ℕ) (certificate : Cert) (fault : CertFault) → IsBytes blob
-        → IsCertificate blob certificate → IsFirstFault blob fault → ⊥ }
+        → IsCertificate blob certificate → IsFirstCertFault blob fault → ⊥ }
 {}
 
 /// A blob is the blob of one certificate.

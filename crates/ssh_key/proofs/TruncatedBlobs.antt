@@ -10,13 +10,13 @@ use Rattle.ssh_wire.proofs.RowLaws.{part_cut, row_cut}
 use Rattle.ssh_key.specs.declared.fault.KeyFault.TheVariants.{Wire}
 use Rattle.ssh_key.specs.Kind.{fields_of, type_name}
 use Rattle.ssh_key.specs.Key.{IsKey, PublicKey, blob_of}
-use Rattle.ssh_key.specs.FirstFault.{IsFieldsFault, IsFirstFault, in_field, in_fields, no_name, not_long}
+use Rattle.ssh_key.specs.FirstFault.{IsFieldsFault, IsFirstKeyFault, in_field, in_fields, no_name, not_long}
 use Rattle.ssh_key.proofs.Keys.{length-type_name}
 
 pub public_cut : (key : PublicKey) (n : ℕ) → IsKey (blob_of key) key → n < length key.fields → IsFieldsFault key.kind (take n key.fields) (Wire Short)
 public_cut key n is lt = in_field (row_cut Wire (fields_of key.kind) [] key.fields is.values n is.fields lt)
 
-pub key_cut : (blob : List ℕ) (key : PublicKey) (n : ℕ) → IsKey blob key → n < length blob → IsFirstFault (take n blob) (Wire Short)
+pub key_cut : (blob : List ℕ) (key : PublicKey) (n : ℕ) → IsKey blob key → n < length blob → IsFirstKeyFault (take n blob) (Wire Short)
 key_cut blob key n is lt =
     let name : List ℕ = string (type_name key.kind) in
     let whole : length blob ≡ length name + length key.fields = ap length is.spelled ∙ length-append name key.fields in

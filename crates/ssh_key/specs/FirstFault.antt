@@ -31,6 +31,6 @@ pub data IsFault (blob : List ℕ) (fault : KeyFault) : Type 0 where
       → blob ≡ string (type_name kind) ++ fields → Leads (fields_of kind) [] fields values rest
       → 0 < length rest → fault ≡ faults.Trailing → IsFault blob fault
 
-pub data IsFirstFault (blob : List ℕ) (fault : KeyFault) : Type 0 where
-  too_long : longest_blob < length blob → fault ≡ faults.TooLong → IsFirstFault blob fault
-  not_long : length blob ≤ longest_blob → IsFault blob fault → IsFirstFault blob fault
+pub data IsFirstKeyFault (blob : List ℕ) (fault : KeyFault) : Type 0 where
+  too_long : longest_blob < length blob → fault ≡ faults.TooLong → IsFirstKeyFault blob fault
+  not_long : length blob ≤ longest_blob → IsFault blob fault → IsFirstKeyFault blob fault

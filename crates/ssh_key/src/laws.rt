@@ -3,7 +3,7 @@
 
 ghost use Rattle.std.specs.Prelude.{◌≡◌, ◌≢◌, ◌*◌, ◌^◌, ◌<◌, ◌≤◌, ◌↔◌, ℕ, List, Err, Ok, length};
 ghost use Rattle.std.specs.Prelude.{take};
-ghost use Rattle.ssh_key.specs.FirstFault.{IsFieldsFault, IsFirstFault};
+ghost use Rattle.ssh_key.specs.FirstFault.{IsFieldsFault, IsFirstKeyFault};
 ghost use Rattle.ssh_key.specs.Key.{BeginsWithFields, IsKey, IsPositive, PublicKey, blob_of};
 ghost use Rattle.ssh_key.specs.KeyReading.{key_at, public_at};
 ghost use Rattle.ssh_key.specs.Kind.{bit_count, certificate_name, fields_of, type_name};
@@ -38,15 +38,15 @@ pub fn read_where_spelled()
 /// Reading meets a fault exactly where it is the first fault of the bytes.
 pub fn refused_by_first_fault()
     ensures { (blob : List ℕ) (fault : KeyFault) → IsBytes blob
-        → (key_at blob ≡ Err fault) ↔ IsFirstFault blob fault }
+        → (key_at blob ≡ Err fault) ↔ IsFirstKeyFault blob fault }
 {}
 
 /// Bytes have at most one first fault, and a blob of a key has none.
 pub fn one_first_fault()
-    ensures one { (blob : List ℕ) (a b : KeyFault) → IsFirstFault blob a → IsFirstFault blob b
+    ensures one { (blob : List ℕ) (a b : KeyFault) → IsFirstKeyFault blob a → IsFirstKeyFault blob b
         → a ≡ b }
     ensures none { (blob : List ℕ) (key : PublicKey) (fault : KeyFault) → IsKey blob key
-        → IsFirstFault blob fault → ⊥ }
+        → IsFirstKeyFault blob fault → ⊥ }
 {}
 
 /// Reading public fields gives a key and the rest exactly where the bytes are its public fields and
@@ -75,7 +75,7 @@ pub fn one_fields_fault()
 /// that ends too early, and no other. The same holds for public fields alone.
 pub fn cut_key_is_short()
     ensures blob { (blob : List ℕ) (key : PublicKey) (n : ℕ) → IsKey blob key → n < length blob
-        → IsFirstFault (take n blob) (Wire Short) }
+        → IsFirstKeyFault (take n blob) (Wire Short) }
     ensures fields { (key : PublicKey) (n : ℕ) → IsKey (blob_of key) key → n < length key.fields
         → IsFieldsFault key.kind (take n key.fields) (Wire Short) }
 {}

@@ -8,7 +8,7 @@ ghost use Rattle.ssh_wire.specs.Wire.{IsBytes, number_of};
 ghost use Rattle.krl_format.specs.declared.header.Header.{Header};
 ghost use Rattle.krl_format.specs.Krl.{SpelledSection, Spells};
 ghost use Rattle.krl_types.specs.declared.krl_fault.KrlFault.{KrlFault};
-ghost use Rattle.krl_format.specs.Front.{State, IsFirstFault, IsFront, limit};
+ghost use Rattle.krl_format.specs.Front.{State, IsFirstKrlFault, IsFront, limit};
 ghost use Rattle.krl_format.specs.FixedFields.{HasFixedFields};
 
 /// If a text has two fronts, one is the beginning of the other.
@@ -23,7 +23,7 @@ pub fn one_front_begins_the_other()
 /// A text has at most one first fault.
 pub fn one_first_fault()
     ensures { (text : List ℕ) (fault fault' : Option KrlFault)
-        → IsFirstFault text fault → IsFirstFault text fault' → fault ≡ fault' }
+        → IsFirstKrlFault text fault → IsFirstKrlFault text fault' → fault ≡ fault' }
 {}
 
 /// A text that begins with the first six fields of a list has their 40 bytes.
@@ -33,15 +33,15 @@ pub fn first_fields_have_forty_bytes()
 
 /// Each text has a first fault, or is reported to have none.
 pub fn each_text_is_judged()
-    ensures { (text : List ℕ) → (fault : Option KrlFault) × IsFirstFault text fault }
+    ensures { (text : List ℕ) → (fault : Option KrlFault) × IsFirstKrlFault text fault }
 {}
 
 /// A text of bytes has no fault exactly if a header and sections spell it within the limit.
 pub fn no_fault_where_spelled()
     ensures spelled { (text : List ℕ) (header : Header) (sections : List SpelledSection)
         → IsBytes text → Spells text header sections → length text ≤ limit
-        → IsFirstFault text None }
-    ensures unfaulted { (text : List ℕ) → IsBytes text → IsFirstFault text None
+        → IsFirstKrlFault text None }
+    ensures unfaulted { (text : List ℕ) → IsBytes text → IsFirstKrlFault text None
         → (length text ≤ limit)
         × ((header : Header) × ((sections : List SpelledSection) × Spells text header sections)) }
 {}
@@ -52,7 +52,7 @@ pub fn a_cut_ends_early()
     ensures { (text prefix more : List ℕ) (header : Header) (sections : List SpelledSection)
         → IsBytes text → Spells text header sections → length text ≤ limit
         → text ≡ prefix ++ more
-        → IsFirstFault prefix None ⊎ IsFirstFault prefix (Some EndsEarly) }
+        → IsFirstKrlFault prefix None ⊎ IsFirstKrlFault prefix (Some EndsEarly) }
 {}
 
 /// A text is the spelling of at most one header and one list of sections.

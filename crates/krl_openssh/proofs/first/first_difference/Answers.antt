@@ -2,7 +2,7 @@
 use Rattle.std.proofs.Common.{◌≡◌, ℕ, List, None, Option, refl, sym}
 use Rattle.std.proofs.lemmas.Bool.{false≢true}
 use Rattle.std.proofs.lemmas.List.{take_rest}
-use Rattle.krl_format.specs.Front.{IsFirstFault, start}
+use Rattle.krl_format.specs.Front.{IsFirstKrlFault, start}
 use Rattle.krl_openssh.specs.Difference.{first_difference}
 use Rattle.krl_openssh.specs.Fields.{HasFields, IsFirstDifference}
 use Rattle.krl_openssh.specs.declared.difference.Difference.{Difference}
@@ -10,7 +10,7 @@ use Rattle.krl_openssh.proofs.Rows.{begins, comes_nearer, ends, found, goes_on, 
 use Rattle.krl_openssh.proofs.first.first_difference.Goals as goal
 
 -- a list without a fault has fields
-by_fields : (list : List ℕ) (difference : Option Difference) → IsFirstFault list None → ((fields : List (List ℕ)) → HasFields list fields → difference ≡ first_difference start.place fields) → IsFirstDifference list difference
+by_fields : (list : List ℕ) (difference : Option Difference) → IsFirstKrlFault list None → ((fields : List (List ℕ)) → HasFields list fields → difference ≡ first_difference start.place fields) → IsFirstDifference list difference
 by_fields list difference none is =
     let some = has_fields list none in
     record { fields = some.0; has = some.1; difference_is = is some.0 some.1 }
