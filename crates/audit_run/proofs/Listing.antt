@@ -12,7 +12,7 @@ use Rattle.std.specs.Global.{Vec}
 use Rattle.std.specs.Io.KnownBytes.{Consumes, IsAtEnd}
 use Rattle.std.specs.Ordering.{nat_cmp}
 use Rattle.audit_run.specs.Fact.{Fact}
-use Rattle.audit_run.specs.Names.{Continues, IsListed, IsWanted, capped, left_out}
+use Rattle.audit_run.specs.Names.{Continues, AreWantedInOrder, IsWanted, capped, left_out}
 use Rattle.audit_run.specs.Names.{names_after, no_name, passed_over, taken}
 use native.Mathlib.Numerals.{unary_clauses}
 
@@ -138,7 +138,7 @@ plain_counts a b is =
 pub all_read : (K : Fact → Type 0) (every : Bool) (path : List ℕ) → (all old new : Option (List ℕ)) (front : List ℕ)
     (names sorted : List (Vec ℕ)) (count : ℕ) → Leads K every path all old front names count → Consumes old new [] → IsAtEnd new
     → IsPermutation names sorted → IsSorted (λ (x y : Vec ℕ). slice_cmp nat_cmp x.items y.items) sorted
-    → IfSome all (λ bytes. IsListed K every path bytes sorted count)
+    → IfSome all (λ bytes. AreWantedInOrder K every path bytes sorted count)
 unfolding names_after
 all_read K every path None old new front names sorted count leads comes end same ordered = tt
 all_read K every path (Some all) None new front names sorted count leads comes end same ordered = absurd leads

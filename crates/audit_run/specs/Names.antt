@@ -113,8 +113,8 @@ pub data AreWanted (Knows : Fact → Type 0) (every : Bool) (path : List ℕ)
 abbrev pub capped : ℕ → ℕ
 capped count = min count (2 ^ 64 - 1)
 
--- the same of the names that some bytes hold, in order
-pub record IsListed (Knows : Fact → Type 0) (every : Bool) (path bytes : List ℕ)
+-- of the names that some bytes hold, those that an audit goes to, in order, and how many it skips
+pub record AreWantedInOrder (Knows : Fact → Type 0) (every : Bool) (path bytes : List ℕ)
     (names : List (Vec ℕ)) (skipped : ℕ) : Type 0 where
   pub wanted : List (Vec ℕ)
   pub count : ℕ
@@ -132,7 +132,7 @@ most_bytes = 2 ^ 64 - 1
 abbrev pub IsListing : (Fact → Type 0) → (every : Bool) → List ℕ → Option (List ℕ)
     → (failed : Bool) → Option Listing → Type 0
 IsListing Knows every path left failed (Some listing) = IfSome left (λ bytes.
-    IsListed Knows every path bytes listing.names.items listing.skipped)
+    AreWantedInOrder Knows every path bytes listing.names.items listing.skipped)
 IsListing Knows every path left failed None =
     (failed ≡ true) ⊎ IfSome left (λ bytes. most_bytes ≤ length bytes)
 

@@ -12,7 +12,7 @@ use Rattle.krl_audit.specs.declared.why.Refusal.{Refusal}
 use Rattle.krl_audit.specs.declared.why.Refusal.TheVariants as refusals
 use Rattle.audit_run.specs.Entries.{IsEntry}
 use Rattle.audit_run.specs.Fact.{Breaks, Fact, Lists}
-use Rattle.audit_run.specs.Names.{IsListed, most_bytes}
+use Rattle.audit_run.specs.Names.{AreWantedInOrder, most_bytes}
 use Rattle.audit_run.specs.Visits.{Meets, Skipped, State, Visit, gives, passes, refused}
 use Rattle.audit_run.specs.declared.files.Since.{Since}
 use Rattle.audit_run.specs.declared.names.Listing.{Listing}
@@ -47,7 +47,7 @@ pub record IsOpen (Knows : Fact → Type 0) (every : Bool) (path : List ℕ) (na
     (names : List (Vec ℕ)) (skipped : ℕ) : Type 0 where
   pub left : Option (List ℕ)
   pub lists : Knows (Lists path named (Ok left))
-  pub listed : IfSome left (λ bytes. IsListed Knows every path bytes names skipped)
+  pub listed : IfSome left (λ bytes. AreWantedInOrder Knows every path bytes names skipped)
 
 abbrev pub IsNamesOf : (Fact → Type 0) → (every : Bool) → List ℕ → (named : Bool)
     → Result Listing Refusal → Type 0

@@ -24,7 +24,7 @@ pub use Rattle.krl_types.specs.Naming.{EntryNames, Name, NamesSame, SerialOf, So
 pub use Rattle.krl_format.specs.Front.{HasRoom, IsFirstKrlFault, Leads, Passes, Reported, State, ended, ends_early}
 pub use Rattle.krl_format.specs.Front.{limit, no_room, refused, start, state_after, too_long}
 pub use Rattle.krl_format.specs.declared.header.Header.{Header}
-pub use Rattle.krl_entries.specs.Revocations.{HoldsSerial, IsListed, Means, Revocations, Section, SomeSection, held}
+pub use Rattle.krl_entries.specs.Revocations.{HoldsSerial, IsOrderlySection, Means, Revocations, Section, SomeSection, held}
 pub use Rattle.ssh_wire.specs.Wire.{IsBytes}
 pub use Rattle.ssh_wire.proofs.Digits.{IsBytes-append, IsBytes-back, IsBytes-drop, IsBytes-front, IsBytes-nil, IsBytes-tail, IsBytes-take}
 pub use Rattle.krl_types.proofs.SameNames.{IsSerials, one_more, same_append, same_between, same_from_one, same_is, same_none, same_refl}

@@ -2,7 +2,7 @@
 use Rattle.krl_core.proofs.Common.{[], ◌*◌, ◌++◌, ◌+◌, ◌<◌, ◌↔◌, ◌∙◌, ◌∷◌, ◌≡◌, ◌≤◌, All}
 use Rattle.krl_core.proofs.Common.{all_append, AllByRecursion, ap, arith, Bool, bytes_eq, concat}
 use Rattle.krl_core.proofs.Common.{Entry, EntryNames, false, false≢true, held, HoldsSerial, iff_or}
-use Rattle.krl_core.proofs.Common.{inl, inr, IsBytes, IsBytes-back, IsBytes-front, IsListed, Leads}
+use Rattle.krl_core.proofs.Common.{inl, inr, IsBytes, IsBytes-back, IsBytes-front, IsOrderlySection, Leads}
 use Rattle.krl_core.proofs.Common.{length, length-append, List, Means, names, number_of}
 use Rattle.krl_core.proofs.Common.{number_of-one, Passes, Place, refl, Revocations, Section}
 use Rattle.krl_core.proofs.Common.{SerialOf, SomeNames, SomeSection, Span, start, State}
@@ -136,16 +136,16 @@ held_after x xs entries above h a s some = (
 abbrev spans_held : Section → ℕ
 spans_held section = length section.spans
 
-held_few : (sections : List Section) (entries : List Entry) → AllByRecursion IsByteOnly entries → RisesBy section_authority sections → All IsListed sections → AreHeld sections entries
+held_few : (sections : List Section) (entries : List Entry) → AllByRecursion IsByteOnly entries → RisesBy section_authority sections → All IsOrderlySection sections → AreHeld sections entries
     → sum_by spans_held sections ≤ sum_by (count_all entries) sections
 held_few [] entries small rise listed h = omega arith
 held_few (x ∷ xs) entries small rise listed h =
-    let is : IsListed x = listed 0 x (omega arith) in
+    let is : IsOrderlySection x = listed 0 x (omega arith) in
     let here = runs_least x.spans (all_under x.authority entries) is.runs (λ s. (
       λ c. (all_under_names x.authority entries s small).1 ((h x.authority s (inl refl)).0 (inl (refl, c))),
       λ n. (held_first (λ section. Covers section.spans s) x.authority x xs refl rise.0).0 ((h x.authority s (inl refl)).1 ((all_under_names x.authority entries s small).0 n)),
     )) in
-    let rest = held_few xs entries small rise.1 (All-tail IsListed x xs listed) (held_after x xs entries rise.0 h) in
+    let rest = held_few xs entries small rise.1 (All-tail IsOrderlySection x xs listed) (held_after x xs entries rise.0 h) in
     omega (arith, sum_by-cons spans_held x xs, sum_by-cons (count_all entries) x xs)
 
 -- ---- fields

@@ -1,7 +1,7 @@
 -- Additions keep sections in order and mean one entry more.
 use Rattle.krl_entries.proofs.Common.{[], ◌++◌, ◌+◌, ◌<◌, ◌↔◌, ◌∷◌, ◌≡◌, ◌≤◌, ◌⊎◌, Addition, AddsTo}
 use Rattle.krl_entries.proofs.Common.{All, All-cons, All-head, All-tail, ap, AreSerials, arith}
-use Rattle.krl_entries.proofs.Common.{Contains, Covers, empty_section, inl, inr, IsListed, IsRuns}
+use Rattle.krl_entries.proofs.Common.{Contains, Covers, empty_section, inl, inr, IsOrderlySection, IsRuns}
 use Rattle.krl_entries.proofs.Common.{length, List, Puts, refl, Rises, RisesBy, Section, size_of}
 use Rattle.krl_entries.proofs.Common.{Span, subst, sum_by-append, sum_by-cons, sym, TakesAddition}
 use Rattle.krl_entries.proofs.Common.{TakesId, TakesSerials, ℕ}
@@ -52,7 +52,7 @@ some_covered : (spans : List Span) → 0 < length spans → All IsInterval spans
 some_covered [] some intervals = absurd (omega arith)
 some_covered (x ∷ xs) some intervals = (x.lo, inl (omega arith, (All-head IsInterval x xs intervals).1))
 
-pub takes_serials_listed : (more : List Span) (from to : Section) → 0 < length more → All IsInterval more → InOrder from → TakesSerials more from to → IsListed to
+pub takes_serials_listed : (more : List Span) (from to : Section) → 0 < length more → All IsInterval more → InOrder from → TakesSerials more from to → IsOrderlySection to
 takes_serials_listed more from to some intervals o t =
     let ids : to.ids ≡ from.ids = ap (λ (s : Section). s.ids) t.same in
     let one = some_covered more some intervals in
@@ -63,7 +63,7 @@ takes_serials_listed more from to some intervals o t =
       some = inl (has_span to.spans one.0 ((t.runs.1 one.0).1 (inr one.1)));
     }
 
-pub takes_id_listed : (text : List ℕ) (from to : Section) → InOrder from → TakesId text from to → IsListed to
+pub takes_id_listed : (text : List ℕ) (from to : Section) → InOrder from → TakesId text from to → IsOrderlySection to
 takes_id_listed text from to o t =
     let spans : to.spans ≡ from.spans = ap (λ (s : Section). s.spans) t.same in
     let at = (put_held from.ids text to.ids t.put text).1 (inr refl) in
@@ -83,15 +83,15 @@ all_middle P (y ∷ front) x back =
       λ h. All-cons P y (front ++ x ∷ back) (All-head P y (front ++ back) h.1) (rest.1 (h.0, All-tail P y (front ++ back) h.1)),
     )
 
-pub adds_listed : (addition : Addition) (authority : List ℕ) (old new : List Section) → ((from to : Section) → InOrder from → TakesAddition addition from to → IsListed to) → AddsTo addition authority old new → All IsListed old → All IsListed new
+pub adds_listed : (addition : Addition) (authority : List ℕ) (old new : List Section) → ((from to : Section) → InOrder from → TakesAddition addition from to → IsOrderlySection to) → AddsTo addition authority old new → All IsOrderlySection old → All IsOrderlySection new
 adds_listed addition authority old new lists adds a =
     elim adds [
       | inl c ↦
-          let was = (all_middle IsListed c.front c.from c.back).0 (subst (All IsListed) c.before a) in
-          subst (All IsListed) (sym c.after) ((all_middle IsListed c.front c.to c.back).1 (lists c.from c.to (record { runs = was.0.runs; serials = was.0.serials; ids_rise = was.0.ids_rise }) c.changed, was.1))
+          let was = (all_middle IsOrderlySection c.front c.from c.back).0 (subst (All IsOrderlySection) c.before a) in
+          subst (All IsOrderlySection) (sym c.after) ((all_middle IsOrderlySection c.front c.to c.back).1 (lists c.from c.to (record { runs = was.0.runs; serials = was.0.serials; ids_rise = was.0.ids_rise }) c.changed, was.1))
       | inr n ↦
           let none : InOrder (empty_section authority) = record { runs = tt; serials = λ s n. absurd n; ids_rise = tt } in
-          subst (All IsListed) (sym n.put.after) ((all_middle IsListed n.put.front n.section n.put.back).1 (lists (empty_section authority) n.section none n.takes, subst (All IsListed) n.put.before a))
+          subst (All IsOrderlySection) (sym n.put.after) ((all_middle IsOrderlySection n.put.front n.section n.put.back).1 (lists (empty_section authority) n.section none n.takes, subst (All IsOrderlySection) n.put.before a))
     ]
 
 pub adds_rise : (addition : Addition) (authority : List ℕ) (old new : List Section) → AddsTo addition authority old new → RisesBy (λ section. section.authority) old → RisesBy (λ section. section.authority) new

@@ -1,6 +1,6 @@
 -- The effect of an addition on all revocations.
 use Rattle.krl_entries.proofs.Common.{◌++◌, ◌↔◌, ◌⊎◌, added_entries, Addition, AddsTo, All, Entry}
-use Rattle.krl_entries.proofs.Common.{HoldsName, Id, IdOf, inr, IsListed, IsOneChange, IsOrderly}
+use Rattle.krl_entries.proofs.Common.{HoldsName, Id, IdOf, inr, IsOrderlySection, IsOneChange, IsOrderly}
 use Rattle.krl_entries.proofs.Common.{List, Means, Name, revocations_of, RisesBy, Section, SerialOf}
 use Rattle.krl_entries.proofs.Common.{Serials, SomeNames, SomeSection, TakesAddition, ℕ}
 use Rattle.krl_entries.proofs.AddedSections.{InOrder, adds_rise, adds_listed, takes_serials_listed}
@@ -12,7 +12,7 @@ use Rattle.krl_entries.proofs.SameMeaning.{means_all}
 
 -- ---- order
 
-pub orderly_with : (old new : List Section) (keys sha1s sha256s : List (List ℕ)) → RisesBy (λ section. section.authority) new → All IsListed new → IsOrderly (revocations_of old keys sha1s sha256s) → IsOrderly (revocations_of new keys sha1s sha256s)
+pub orderly_with : (old new : List Section) (keys sha1s sha256s : List (List ℕ)) → RisesBy (λ section. section.authority) new → All IsOrderlySection new → IsOrderly (revocations_of old keys sha1s sha256s) → IsOrderly (revocations_of new keys sha1s sha256s)
 orderly_with old new keys sha1s sha256s rise listed o =
     record {
       authorities_rise = rise;
@@ -24,7 +24,7 @@ orderly_with old new keys sha1s sha256s rise listed o =
       sha256_size = o.sha256_size;
     }
 
-pub takes_listed : (addition : Addition) (from to : Section) → IsOneChange addition → InOrder from → TakesAddition addition from to → IsListed to
+pub takes_listed : (addition : Addition) (from to : Section) → IsOneChange addition → InOrder from → TakesAddition addition from to → IsOrderlySection to
 takes_listed (Serials near) from to one o t = takes_serials_listed near.now from to one.0 one.1.0 o t
 takes_listed (Id text) from to one o t = takes_id_listed text.now from to o t
 

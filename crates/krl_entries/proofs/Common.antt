@@ -22,7 +22,7 @@ pub use Rattle.krl_types.specs.Naming.{EntryNames, IdOf, KeyOf, Name, NamesSame,
 pub use Rattle.krl_types.specs.Naming.{SomeNames}
 pub use Rattle.std.specs.declared.cmp.Ordering.TheVariants.{Equal, Greater, Less}
 pub use Rattle.krl_entries.specs.Ids.{GoesTo, ids_of}
-pub use Rattle.krl_entries.specs.Revocations.{HoldsId, HoldsName, HoldsSerial, IsListed, IsNamed, IsOrderly, IsStoredAtMost, IsUnder}
+pub use Rattle.krl_entries.specs.Revocations.{HoldsId, HoldsName, HoldsSerial, IsOrderlySection, IsNamed, IsOrderly, IsStoredAtMost, IsUnder}
 pub use Rattle.krl_entries.specs.Revocations.{Means, Revocations, Section, SomeSection, held, nothing, revocations_of, section_size}
 pub use Rattle.krl_entries.specs.Revocations.{section_with, size_of, stored}
 pub use Rattle.krl_entries.specs.declared.addition.Addition.TheVariants.{Id, Serials}

@@ -1,7 +1,7 @@
 -- Revocations that mean the same entries are equal.
 use Rattle.krl_entries.proofs.Common.{[], ⊎_elim, ◌↔◌, ◌∙◌, ◌∷◌, ◌≡◌, All, All-tail, AllAbove, ap}
 use Rattle.krl_entries.proofs.Common.{arith, bytes_cmp, Contains, Covers, Entry, Equal, exact_bytes}
-use Rattle.krl_entries.proofs.Common.{Greater, HoldsName, IdOf, inl, inr, IsListed, KeyOf, Less}
+use Rattle.krl_entries.proofs.Common.{Greater, HoldsName, IdOf, inl, inr, IsOrderlySection, KeyOf, Less}
 use Rattle.krl_entries.proofs.Common.{List, Means, Name, nat_list_cmp_total, Ordering}
 use Rattle.krl_entries.proofs.Common.{ordering_reverse, refl, Revocations, revocations_of, Rises}
 use Rattle.krl_entries.proofs.Common.{RisesBy, Section, section_with, SerialOf, Sha1Of, Sha256Of}
@@ -108,7 +108,7 @@ abbrev Alike : List Section → List Section → Type 0
 Alike xs ys = (name : Name) → SomeSection (HeldIn name) xs ↔ SomeSection (HeldIn name) ys
 
 -- a listed section holds something, so its authority has a section in the other list
-some_held : (x : Section) (xs ys : List Section) → IsListed x → Alike (x ∷ xs) ys → SomeSection (λ section. section.authority ≡ x.authority) ys
+some_held : (x : Section) (xs ys : List Section) → IsOrderlySection x → Alike (x ∷ xs) ys → SomeSection (λ section. section.authority ≡ x.authority) ys
 some_held x xs ys is alike =
     elim is.some [
       | inl spans ↦ let s = some_serial x.spans spans is.runs in some_weaker (λ section both. both.0) ys ((alike (SerialOf x.authority s.0)).0 (inl (refl, s.1)))
@@ -116,7 +116,7 @@ some_held x xs ys is alike =
     ]
 
 -- no listed section comes before all sections of a list that holds the same
-not_listed : (x y : Section) (xs ys : List Section) → IsListed x → RisesBy section_authority (y ∷ ys) → Alike (x ∷ xs) (y ∷ ys) → bytes_cmp x.authority y.authority ≡ Less → ⊥
+not_listed : (x y : Section) (xs ys : List Section) → IsOrderlySection x → RisesBy section_authority (y ∷ ys) → Alike (x ∷ xs) (y ∷ ys) → bytes_cmp x.authority y.authority ≡ Less → ⊥
 not_listed x y xs ys is rise alike less =
     let above : AllAbove section_authority x.authority (y ∷ ys) = (less, AllAbove-earlier section_authority x.authority y.authority ys less rise.0) in
     not_before_itself x.authority (above_named x.authority x.authority (y ∷ ys) above (some_held x xs (y ∷ ys) is alike))
@@ -133,13 +133,13 @@ alike_later x y xs ys e r t alike name = (λ h. absurd (no_section xs h), λ h. 
 same_section : (x y : Section) → x.authority ≡ y.authority → x.spans ≡ y.spans → x.ids ≡ y.ids → x ≡ y
 same_section x y a s i = ap (λ (z : List ℕ). section_with z x.spans x.ids) a ∙ ap (λ (z : List Span). section_with y.authority z x.ids) s ∙ ap (λ (z : List (List ℕ)). section_with y.authority y.spans z) i
 
-same_sections : (xs ys : List Section) → RisesBy section_authority xs → RisesBy section_authority ys → All IsListed xs → All IsListed ys → Alike xs ys → xs ≡ ys
+same_sections : (xs ys : List Section) → RisesBy section_authority xs → RisesBy section_authority ys → All IsOrderlySection xs → All IsOrderlySection ys → Alike xs ys → xs ≡ ys
 same_sections [] [] r t p q alike = refl
 same_sections [] (y ∷ ys) r t p q alike = absurd (some_held y ys [] (q 0 y (omega arith)) (λ name. Iff.symm (alike name)))
 same_sections (x ∷ xs) [] r t p q alike = absurd (some_held x xs [] (p 0 x (omega arith)) alike)
 same_sections (x ∷ xs) (y ∷ ys) r t p q alike =
-    let is : IsListed x = p 0 x (omega arith) in
-    let is' : IsListed y = q 0 y (omega arith) in
+    let is : IsOrderlySection x = p 0 x (omega arith) in
+    let is' : IsOrderlySection y = q 0 y (omega arith) in
     elim (placed x.authority y.authority) [
       | first less ↦ absurd (not_listed x y xs ys is t alike less)
       | same e ↦
@@ -149,7 +149,7 @@ same_sections (x ∷ xs) (y ∷ ys) r t p q alike =
           (Iff.trans (alike (IdOf y.authority text)) (held_first (λ section. Contains section.ids text) y.authority y ys refl t.0)) in
           let spans = runs_unique x.spans y.spans is.runs is'.runs serial in
           let ids = same_texts x.ids y.ids is.ids_rise is'.ids_rise id in
-          let rest = same_sections xs ys r.1 t.1 (All-tail IsListed x xs p) (All-tail IsListed y ys q) (alike_later x y xs ys e r t alike) in
+          let rest = same_sections xs ys r.1 t.1 (All-tail IsOrderlySection x xs p) (All-tail IsOrderlySection y ys q) (alike_later x y xs ys e r t alike) in
           ap (λ (z : Section). z ∷ xs) (same_section x y e spans ids) ∙ ap (λ (zs : List Section). y ∷ zs) rest
       | second less ↦ absurd (not_listed y x ys xs is' r (λ name. Iff.symm (alike name)) less)
     ]

@@ -1,7 +1,7 @@
 -- Revocations mean their own entries.
 use Rattle.krl_entries.proofs.Common.{[], ⊎_elim, ◌++◌, ◌↔◌, ◌∷◌, ◌≡◌, All, All-head, All-tail}
 use Rattle.krl_entries.proofs.Common.{AreSerials, Contains, entries_in, Entry, EntryNames, flat_map}
-use Rattle.krl_entries.proofs.Common.{HoldsName, IdEntry, IdOf, IsListed, IsOrderly, KeyEntry}
+use Rattle.krl_entries.proofs.Common.{HoldsName, IdEntry, IdOf, IsOrderlySection, IsOrderly, KeyEntry}
 use Rattle.krl_entries.proofs.Common.{KeyOf, List, map, Means, Name, RangeEntry, Revocations}
 use Rattle.krl_entries.proofs.Common.{run_entries, Section, section_entries, SerialOf, Sha1Entry}
 use Rattle.krl_entries.proofs.Common.{Sha1Of, Sha256Entry, Sha256Of, SomeNames, SomeSection, ℕ}
@@ -51,11 +51,11 @@ module _ (section : Section) (serials : AreSerials section.spans) where
       Iff.trans (Iff.symm (mapped_name (IdEntry section.authority) (IdOf a text) (section.authority ≡ a) text (λ t. Iff.rfl) section.ids)) (some_last runs ids (IdOf a text) (no_run (IdOf a text) (λ lo hi no. no)))
   section_named name = (λ no. absurd no, none_joined runs ids name (no_run name (λ lo hi no. no)) (no_id name (λ t no. no)))
 
-sections_named : (sections : List Section) → All IsListed sections → (name : Name) → SomeSection (HeldIn name) sections ↔ SomeNames (flat_map section_entries sections) name
+sections_named : (sections : List Section) → All IsOrderlySection sections → (name : Name) → SomeSection (HeldIn name) sections ↔ SomeNames (flat_map section_entries sections) name
 sections_named [] listed name = Iff.rfl
 sections_named (x ∷ xs) listed name =
-    let is : IsListed x = All-head IsListed x xs listed in
-    Iff.trans (iff_or (section_named x is.serials name) (sections_named xs (All-tail IsListed x xs listed) name)) (Iff.symm (some_append (section_entries x) (flat_map section_entries xs) name))
+    let is : IsOrderlySection x = All-head IsOrderlySection x xs listed in
+    Iff.trans (iff_or (section_named x is.serials name) (sections_named xs (All-tail IsOrderlySection x xs listed) name)) (Iff.symm (some_append (section_entries x) (flat_map section_entries xs) name))
 
 -- ---- everything that is held
 

@@ -2,7 +2,7 @@
 use Rattle.krl_entries.proofs.Common.{[], ◌++◌, ◌∙◌, ◌∷◌, ◌≡◌, ◌⊎◌, Addition, All, AllByRecursion}
 use Rattle.krl_entries.proofs.Common.{AllocError, ap, apart_of, bytes_cmp, cond, empty_section}
 use Rattle.krl_entries.proofs.Common.{Equal, Err, exact_bytes, false, Greater, HasPlace, IfOk, inl}
-use Rattle.krl_entries.proofs.Common.{inr, is_at, is_eq, IsListed, IsOneChange, IsOrderly, IsTaken}
+use Rattle.krl_entries.proofs.Common.{inr, is_at, is_eq, IsOrderlySection, IsOneChange, IsOrderly, IsTaken}
 use Rattle.krl_entries.proofs.Common.{Less, List, MatchResult, named_sections, None, Ok, OnErr}
 use Rattle.krl_entries.proofs.Common.{Option, Ordering, refl, Result, revocations_of, RisesBy}
 use Rattle.krl_entries.proofs.Common.{Section, section_of, sections_of, Some, SomeSection, Span}
@@ -170,21 +170,21 @@ module _ {S : Type 0} (spans : S → List Span) where
 
 -- ---- order
 
-pub in_order : (section : Section) → IsListed section → InOrder section
+pub in_order : (section : Section) → IsOrderlySection section → InOrder section
 in_order section h = record { runs = h.runs; serials = h.serials; ids_rise = h.ids_rise }
 
 nothing_listed : (a : List ℕ) → InOrder (empty_section a)
 nothing_listed a = record { runs = tt; serials = λ s n. absurd n; ids_rise = tt }
 
 -- revocations stay in order if a listed section replaces another
-pub changed_orderly : (front back : List Section) (from to : Section) (old new : List Section) (keys sha1s sha256s : List (List ℕ)) → old ≡ front ++ from ∷ back → new ≡ front ++ to ∷ back → from.authority ≡ to.authority → IsListed to
+pub changed_orderly : (front back : List Section) (from to : Section) (old new : List Section) (keys sha1s sha256s : List (List ℕ)) → old ≡ front ++ from ∷ back → new ≡ front ++ to ∷ back → from.authority ≡ to.authority → IsOrderlySection to
     → IsOrderly (revocations_of old keys sha1s sha256s) → IsOrderly (revocations_of new keys sha1s sha256s)
 changed_orderly front back from to old new keys sha1s sha256s before after same listed o =
     let key : Section → List ℕ = λ section. section.authority in
-    let others = (all_middle IsListed front from back).0 (subst (All IsListed) before o.listed) in
+    let others = (all_middle IsOrderlySection front from back).0 (subst (All IsOrderlySection) before o.listed) in
     orderly_with old new keys sha1s sha256s
     (subst (RisesBy key) (sym after) (rises_changed key front from to back same (subst (RisesBy key) before o.authorities_rise)))
-    (subst (All IsListed) (sym after) ((all_middle IsListed front to back).1 (listed, others.1))) o
+    (subst (All IsOrderlySection) (sym after) ((all_middle IsOrderlySection front to back).1 (listed, others.1))) o
 
 -- the sections are in order after one is taken out, and after that is refused
 pub left_orderly : {S : Type 0} (spans : S → List Span) (addition : Addition) (a : List ℕ) (result : Result (Option (Apart S)) AllocError) (old new : List Section) (keys sha1s sha256s : List (List ℕ)) → IsOneChange addition
@@ -197,14 +197,14 @@ left_orderly spans addition a (Err fault) old new keys sha1s sha256s one ok err 
 
 -- ---- the section that was taken out
 
-pub takes_out_place : (addition : Addition) (a : List ℕ) (old : List Section) (apart : Option Section) (rest : List Section) (keys sha1s sha256s : List (List ℕ)) → IsOneChange addition → All IsListed old → TakesOut addition a old apart rest
+pub takes_out_place : (addition : Addition) (a : List ℕ) (old : List Section) (apart : Option Section) (rest : List Section) (keys sha1s sha256s : List (List ℕ)) → IsOneChange addition → All IsOrderlySection old → TakesOut addition a old apart rest
     → HasPlace apart (revocations_of rest keys sha1s sha256s)
 takes_out_place addition a old None rest keys sha1s sha256s one listed t = tt
 takes_out_place addition a old (Some section) rest keys sha1s sha256s one listed t =
     let P : Section → Type 0 = λ other. other.authority ≡ section.authority in
     let name : section.authority ≡ a = takes_authority addition t.from section t.takes ∙ t.under in
     let left : t.left.authority ≡ section.authority = takes_authority addition (empty_section a) t.left t.stands_in ∙ sym name in
-    let was = (all_middle IsListed t.front t.from t.back).0 (subst (All IsListed) t.before listed) in (
+    let was = (all_middle IsOrderlySection t.front t.from t.back).0 (subst (All IsOrderlySection) t.before listed) in (
       subst (SomeSection P) (sym t.after) ((some_middle P t.front t.left t.back).1 (inl left)),
       takes_listed addition t.from section one (in_order t.from was.0) t.takes,
     )

@@ -3,7 +3,7 @@ use Rattle.std.specs.Prelude.{◌≡◌, ℕ, List, [], ◌∷◌, ◌++◌, Opt
 use Rattle.std.specs.Ordering.{is_eq}
 use Rattle.krl_entries.specs.declared.addition.Addition.{Addition}
 use Rattle.krl_entries.specs.Changes.{AddsTo, TakesAddition, empty_section}
-use Rattle.krl_entries.specs.Revocations.{IsListed, IsNamed, Revocations, Section}
+use Rattle.krl_entries.specs.Revocations.{IsOrderlySection, IsNamed, Revocations, Section}
 use Rattle.krl_entries.specs.Rising.{bytes_cmp}
 
 -- the revocations, and the authority whose section is kept apart, if there is one
@@ -39,7 +39,7 @@ name_of (Some section) = Some section.authority
 -- a section that is kept apart has a place among the others, is in order and is not empty
 abbrev pub HasPlace : Option Section → Revocations → Type 0
 HasPlace None rest = ⊤
-HasPlace (Some section) rest = IsNamed rest section.authority × IsListed section
+HasPlace (Some section) rest = IsNamed rest section.authority × IsOrderlySection section
 
 -- A section takes the addition and is taken out. A section with only the addition is left.
 abbrev pub IsTaken : Addition → (from : Section) → (taken : Option Section) → (left : Section)

@@ -61,7 +61,7 @@ pub record IsUnder (sections : List Section) (authority : List ℕ) (section : S
 -- ---- order
 
 -- the spans are the runs of their serials, the IDs are in order, and there is a span or an ID
-pub record IsListed (section : Section) : Type 0 where
+pub record IsOrderlySection (section : Section) : Type 0 where
   pub runs : IsRuns section.spans
   pub serials : AreSerials section.spans
   pub ids_rise : Rises section.ids
@@ -71,7 +71,7 @@ pub record IsListed (section : Section) : Type 0 where
 -- first. Keys and hashes are in the order of their bytes, each once.
 pub record IsOrderly (r : Revocations) : Type 0 where
   pub authorities_rise : RisesBy (λ section. section.authority) r.sections
-  pub listed : All IsListed r.sections
+  pub listed : All IsOrderlySection r.sections
   pub keys_rise : Rises r.keys
   pub sha1s_rise : Rises r.sha1s
   pub sha256s_rise : Rises r.sha256s

@@ -1,6 +1,6 @@
 -- The contents of all sections as one list: each item with its authority.
 use Rattle.krl_queries.proofs.Common.{[], ⊎_map, ◌+◌, ◌↔◌, ◌∷◌, ◌≡◌, All, All-head, All-tail, ap}
-use Rattle.krl_queries.proofs.Common.{ap₂, arith, Contains, flat_map, IsListed, List, map, refl}
+use Rattle.krl_queries.proofs.Common.{ap₂, arith, Contains, flat_map, IsOrderlySection, List, map, refl}
 use Rattle.krl_queries.proofs.Common.{RisesBy, Section, SomeSection, sum_by, sum_by-append}
 use Rattle.krl_queries.proofs.Common.{sum_by-cons, ℕ}
 use Rattle.std.proofs.lemmas.List.Folds.{fold-map}
@@ -47,6 +47,6 @@ module _ {Y : Type 0} (items : Section → List Y) where
       omega (arith, sum_by-append (λ p. weight p.1) (under_one x.authority (items x)) (under xs), fold-map (λ (n : ℕ) (p : List ℕ × Y). n + weight p.1) (λ y. (x.authority, y)) 0 (items x), is x, sum_under weight size is xs, sum_by-cons size x xs)
 
 -- a property of some listed section that implies another
-pub some_listed : {P Q : Section → Type 0} → ((section : Section) → IsListed section → P section → Q section) → (sections : List Section) → All IsListed sections → SomeSection P sections → SomeSection Q sections
+pub some_listed : {P Q : Section → Type 0} → ((section : Section) → IsOrderlySection section → P section → Q section) → (sections : List Section) → All IsOrderlySection sections → SomeSection P sections → SomeSection Q sections
 some_listed to [] listed h = absurd h
-some_listed to (x ∷ xs) listed h = ⊎_map (to x (All-head IsListed x xs listed)) (some_listed to xs (All-tail IsListed x xs listed)) h
+some_listed to (x ∷ xs) listed h = ⊎_map (to x (All-head IsOrderlySection x xs listed)) (some_listed to xs (All-tail IsOrderlySection x xs listed)) h

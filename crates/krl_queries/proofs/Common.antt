@@ -17,7 +17,7 @@ pub use Rattle.krl_queries.specs.Questions.{serials_in, span_size}
 pub use Rattle.krl_entries.specs.Reasons.{any_reason, has_reason, held_reasons, IsReason}
 pub use Rattle.krl_entries.specs.Reasons.{reasons_of}
 unfoldable pub use Rattle.krl_entries.specs.Reasons.{is_revoked, revokes}
-pub use Rattle.krl_entries.specs.Revocations.{held, HoldsId, HoldsName, HoldsSerial, IsListed}
+pub use Rattle.krl_entries.specs.Revocations.{held, HoldsId, HoldsName, HoldsSerial, IsOrderlySection}
 pub use Rattle.krl_entries.specs.Revocations.{IsNamed, IsOrderly, IsStoredAtMost, Revocations}
 pub use Rattle.krl_entries.specs.Revocations.{Section, section_size, size_of, SomeSection, stored}
 pub use Rattle.krl_entries.specs.Rising.{bytes_cmp, Rises, RisesBy}

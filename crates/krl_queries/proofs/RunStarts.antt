@@ -1,7 +1,7 @@
 -- The serial numbers with which runs begin, as one list.
 use Rattle.krl_queries.proofs.Common.{[], ⊎_elim, ◌+◌, ◌-◌, ◌<◌, ◌∙◌, ◌∷◌, ◌≡◌, ◌≤◌, All, All-head}
 use Rattle.krl_queries.proofs.Common.{All-tail, All-weaker, arith, BeginsRun, Contains, Covers}
-use Rattle.krl_queries.proofs.Common.{held, HoldsSerial, inl, inr, IsListed, IsOrderly, length}
+use Rattle.krl_queries.proofs.Common.{held, HoldsSerial, inl, inr, IsOrderlySection, IsOrderly, length}
 use Rattle.krl_queries.proofs.Common.{length-map, List, map, names_from, Revocations, RisesBy}
 use Rattle.krl_queries.proofs.Common.{RunsFrom, Section, SomeSection, Span, sum_by, ℕ}
 use Rattle.krl_queries.proofs.DistinctLists.{Once, sum_ones}
@@ -34,18 +34,18 @@ once_starts least (x ∷ xs) runs = (λ h. omega (arith, runs.1, names_from (x.h
 
 -- ---- held runs
 
-begins : (sections : List Section) → RisesBy section_authority sections → All IsListed sections → (a : List ℕ) (s : ℕ)
+begins : (sections : List Section) → RisesBy section_authority sections → All IsOrderlySection sections → (a : List ℕ) (s : ℕ)
     → SomeSection (λ section. (section.authority ≡ a) × Contains (starts section.spans) s) sections → HoldsSerial sections a (s - 1) → ⊥
 begins [] rises listed a s h before = h
 begins (x ∷ xs) rises listed a s h before =
-    let is : IsListed x = All-head IsListed x xs listed in
+    let is : IsOrderlySection x = All-head IsOrderlySection x xs listed in
     let here : x.authority ≡ a → ⊥ = λ same.
     let start = (held_first (λ section. Contains (starts section.spans) s) a x xs same rises.0).0 h in
     let some = (is.serials s (start_covered 0 x.spans is.runs s start)).0 in
     start_first 0 x.spans is.runs s start some ((held_first (λ section. Covers section.spans (s - 1)) a x xs same rises.0).0 before) in
     elim h [
       | inl k ↦ here k.0
-      | inr later ↦ ⊎_elim (λ k. here k.0) (begins xs rises.1 (All-tail IsListed x xs listed) a s later) before
+      | inr later ↦ ⊎_elim (λ k. here k.0) (begins xs rises.1 (All-tail IsOrderlySection x xs listed) a s later) before
     ]
 
 -- the first serial number of each run, under its authority
@@ -58,7 +58,7 @@ in_starts r o a s h =
     (some_listed (λ section is k. (k.0, start_covered 0 section.spans is.runs s k.1)) r.sections o.listed some, begins r.sections o.authorities_rise o.listed a s some)
 
 pub once_starts_of : (r : Revocations) → IsOrderly r → Once (starts_of r.sections)
-once_starts_of r o = once_under (λ section. starts section.spans) r.sections o.authorities_rise (All-weaker IsListed (λ section. Once (starts section.spans)) (λ section is. once_starts 0 section.spans is.runs) r.sections o.listed)
+once_starts_of r o = once_under (λ section. starts section.spans) r.sections o.authorities_rise (All-weaker IsOrderlySection (λ section. Once (starts section.spans)) (λ section is. once_starts 0 section.spans is.runs) r.sections o.listed)
 
 pub count_starts : (r : Revocations) → sum_by (λ p. 1) (starts_of r.sections) ≡ held r
 count_starts r = sum_under (λ section. starts section.spans) (λ s. 1) (λ section. length section.spans) (λ section. sum_ones (starts section.spans) ∙ length-map section.spans (λ span. span.lo)) r.sections

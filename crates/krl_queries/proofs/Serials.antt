@@ -1,6 +1,6 @@
 -- The held serial numbers, as one list.
 use Rattle.krl_queries.proofs.Common.{[], ◌+◌, ◌-◌, ◌<◌, ◌↔◌, ◌∙◌, ◌∷◌, ◌≡◌, ◌≤◌, All-weaker, ap}
-use Rattle.krl_queries.proofs.Common.{arith, Contains, Covers, flat_map, HoldsSerial, IsListed}
+use Rattle.krl_queries.proofs.Common.{arith, Contains, Covers, flat_map, HoldsSerial, IsOrderlySection}
 use Rattle.krl_queries.proofs.Common.{IsOrderly, List, names_from, range_with_len, Revocations}
 use Rattle.krl_queries.proofs.Common.{RunsFrom, Section, serials_in, Span, span_size, suc, sum_by}
 use Rattle.krl_queries.proofs.Common.{zero, ℕ}
@@ -55,12 +55,12 @@ serials_of sections = under (λ section. numbers section.spans) sections
 
 pub in_serials : (r : Revocations) → IsOrderly r → (a : List ℕ) (s : ℕ) → Contains (serials_of r.sections) (a, s) ↔ HoldsSerial r.sections a s
 in_serials r o a s =
-    let same = λ (section : Section) (is : IsListed section). in_numbers 0 section.spans is.runs s in
+    let same = λ (section : Section) (is : IsOrderlySection section). in_numbers 0 section.spans is.runs s in
     Iff.trans (in_under (λ section. numbers section.spans) r.sections a s)
     (some_listed (λ section is h. (h.0, (same section is).0 h.1)) r.sections o.listed, some_listed (λ section is h. (h.0, (same section is).1 h.1)) r.sections o.listed)
 
 pub once_serials : (r : Revocations) → IsOrderly r → Once (serials_of r.sections)
-once_serials r o = once_under (λ section. numbers section.spans) r.sections o.authorities_rise (All-weaker IsListed (λ section. Once (numbers section.spans)) (λ section is. once_numbers 0 section.spans is.runs) r.sections o.listed)
+once_serials r o = once_under (λ section. numbers section.spans) r.sections o.authorities_rise (All-weaker IsOrderlySection (λ section. Once (numbers section.spans)) (λ section is. once_numbers 0 section.spans is.runs) r.sections o.listed)
 
 pub count_serials : (sections : List Section) → sum_by (λ p. 1) (serials_of sections) ≡ serials_in sections
 count_serials sections = sum_under (λ section. numbers section.spans) (λ s. 1) (λ section. sum_by span_size section.spans) (λ section. count_numbers section.spans) sections

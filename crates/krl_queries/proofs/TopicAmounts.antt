@@ -1,7 +1,7 @@
 -- How much is held within some topics.
 use Rattle.krl_queries.proofs.Common.{[], ⊎_map, ◌*◌, ◌+◌, ◌∷◌, ◌≡◌, ◌≤◌, All, All-head, All-tail}
 use Rattle.krl_queries.proofs.Common.{All-weaker, ap, arith, Contains, Contains-get_or, get_or}
-use Rattle.krl_queries.proofs.Common.{held, HoldsId, HoldsOnlyTopics, inl, inr, IsListed, IsNamed}
+use Rattle.krl_queries.proofs.Common.{held, HoldsId, HoldsOnlyTopics, inl, inr, IsOrderlySection, IsNamed}
 use Rattle.krl_queries.proofs.Common.{IsOrderly, IsSmall, length, length-map, List, map}
 use Rattle.krl_queries.proofs.Common.{mul-le-mul_right, refl, Revocations, Rises, Section}
 use Rattle.krl_queries.proofs.Common.{section_size, serials_in, sha1, sha256, size_of, SomeSection}
@@ -28,15 +28,15 @@ held_small topics found t within =
 -- ---- authorities
 
 -- a named authority has a run or a key ID
-by_item : (sections : List Section) (b : List ℕ) (C : Type 0) → All IsListed sections → SomeSection (λ section. section.authority ≡ b) sections
+by_item : (sections : List Section) (b : List ℕ) (C : Type 0) → All IsOrderlySection sections → SomeSection (λ section. section.authority ≡ b) sections
     → ((s : ℕ) → SomeSection (λ section. (section.authority ≡ b) × Contains (starts section.spans) s) sections → C) → ((text : List ℕ) → HoldsId sections b text → C) → C
 by_item [] b C listed named run id = absurd named
 by_item (x ∷ xs) b C listed (inl here) run id =
-    elim (All-head IsListed x xs listed).some [
+    elim (All-head IsOrderlySection x xs listed).some [
       | inl spans ↦ run (get_or (starts x.spans) 0 0) (inl (here, Contains-get_or (starts x.spans) 0 0 (omega (arith, spans, length-map x.spans (λ span. span.lo)))))
       | inr ids ↦ (let t = some_text x.ids ids in id t.0 (inl (here, t.1)))
     ]
-by_item (x ∷ xs) b C listed (inr later) run id = by_item xs b C (All-tail IsListed x xs listed) later (λ s h. run s (inr h)) (λ text h. id text (inr h))
+by_item (x ∷ xs) b C listed (inr later) run id = by_item xs b C (All-tail IsOrderlySection x xs listed) later (λ s h. run s (inr h)) (λ text h. id text (inr h))
 
 named_within : (topics found : Revocations) → HoldsOnlyTopics topics found → (b : List ℕ) → IsNamed found b → IsNamed topics b
 named_within topics found within b named =
@@ -60,7 +60,7 @@ authorities_small topics found within =
 
 ids_small : (topics found : Revocations) → HoldsOnlyTopics topics found → sum_by (λ section. size_of section.ids) found.sections ≤ sum_by (λ section. size_of section.ids) topics.sections
 ids_small topics found within =
-    let once = once_under (λ section. section.ids) found.sections within.orderly.authorities_rise (All-weaker IsListed (λ section. Once section.ids) (λ section is. once_texts section.ids is.ids_rise) found.sections within.orderly.listed) in
+    let once = once_under (λ section. section.ids) found.sections within.orderly.authorities_rise (All-weaker IsOrderlySection (λ section. Once section.ids) (λ section is. once_texts section.ids is.ids_rise) found.sections within.orderly.listed) in
     let least = sum_within (λ p. length p.1) (under (λ section. section.ids) found.sections) (under (λ section. section.ids) topics.sections) once
     (λ p h. (in_under (λ section. section.ids) topics.sections p.0 p.1).1 (within.ids p.0 p.1 ((in_under (λ section. section.ids) found.sections p.0 p.1).0 h))) in
     let sum = sum_under (λ section. section.ids) length (λ section. size_of section.ids) (λ section. refl) in

@@ -12,7 +12,7 @@ pub use Rattle.krl_format.specs.declared.header.Header.{Header}
 pub use Rattle.krl_types.proofs.Elements.{all_append, contains_none, some_cases}
 pub use Rattle.krl_types.proofs.Equivalences.{contains_append, contains_cons, iff_both, iff_none}
 pub use Rattle.krl_types.proofs.Equivalences.{iff_or}
-pub use Rattle.krl_entries.specs.Revocations.{held, HoldsName, IsListed, IsOrderly, Means}
+pub use Rattle.krl_entries.specs.Revocations.{held, HoldsName, IsOrderlySection, IsOrderly, Means}
 pub use Rattle.krl_entries.specs.Revocations.{Revocations, Section, section_with, SomeSection}
 pub use Rattle.krl_plan.proofs.ListTexts.{length-begun, string_ended}
 pub use Rattle.krl_plan.proofs.OnePlan.{content_few, length-plan, one_plan}

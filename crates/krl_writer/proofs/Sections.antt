@@ -4,7 +4,7 @@ use Rattle.krl_writer.proofs.Common.{[], ◌++◌, ◌+◌, ◌<◌, ◌^◌, �
 use Rattle.krl_writer.proofs.Common.{arith, authorities_text}
 use Rattle.krl_writer.proofs.Common.{authority_content, authority_sections, authority_text}
 use Rattle.krl_writer.proofs.Common.{Certificates, EachPlan, Group, Header, header_text, Ids}
-use Rattle.krl_writer.proofs.Common.{IsListed, IsOrderly, IsPlan, Keys, length, length-append}
+use Rattle.krl_writer.proofs.Common.{IsOrderlySection, IsOrderly, IsPlan, Keys, length, length-append}
 use Rattle.krl_writer.proofs.Common.{length-string, limit, List, listed_as}
 use Rattle.krl_writer.proofs.Common.{listed_text, plan_subsections}
 use Rattle.krl_writer.proofs.Common.{plan_text, recursion_from_All, refl, Revocations, Section, sections_of}
@@ -32,7 +32,7 @@ length-authority plan listed =
       length-string [],
     )
 
-authority_spelled : (plan : List Group) (listed : Section) → IsListed listed → IsPlan listed.spans plan → length (authority_text plan listed) < 2 ^ 32
+authority_spelled : (plan : List Group) (listed : Section) → IsOrderlySection listed → IsPlan listed.spans plan → length (authority_text plan listed) < 2 ^ 32
     → SpellsSection (authority_text plan listed) (Certificates listed.authority (plan_subsections listed.spans plan ++ listed_as Ids listed.ids))
 authority_spelled plan listed is p lt =
     let content : List ℕ = authority_content plan listed in
@@ -53,7 +53,7 @@ authority_spelled plan listed is p lt =
       };
     }
 
-pub authorities_spelled : (plans : List (List Group)) (listed : List Section) → All IsListed listed → EachPlan IsPlan plans listed → length (authorities_text plans listed) < 2 ^ 32
+pub authorities_spelled : (plans : List (List Group)) (listed : List Section) → All IsOrderlySection listed → EachPlan IsPlan plans listed → length (authorities_text plans listed) < 2 ^ 32
     → SpellsEach SpellsSection (authorities_text plans listed) (authority_sections plans listed)
 authorities_spelled [] [] all each lt = refl
 authorities_spelled [] (first ∷ listed) all each lt = absurd each
@@ -66,7 +66,7 @@ authorities_spelled (plan ∷ plans) (first ∷ listed) all each lt =
         (
           refl,
           authority_spelled plan first (all 0 first (omega arith)) each.0 (omega arith),
-          authorities_spelled plans listed (All-tail IsListed first listed all) each.1 (omega arith),
+          authorities_spelled plans listed (All-tail IsOrderlySection first listed all) each.1 (omega arith),
         ),
       ),
     )

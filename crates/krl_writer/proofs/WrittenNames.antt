@@ -2,7 +2,7 @@
 use Rattle.krl_writer.proofs.Common.{[], ◌++◌, ◌↔◌, ◌∙◌, ◌∷◌, ◌≡◌, All, All-tail, append-nil, arith}
 use Rattle.krl_writer.proofs.Common.{authority_sections, common_steps, Contains, EachPlan}
 use Rattle.krl_writer.proofs.Common.{entries_of, flat_map, flat_map-append, Group, HoldsName, Ids}
-use Rattle.krl_writer.proofs.Common.{iff_or, inl, inr, IsListed, IsOrderly, IsPlan, List, listed_as}
+use Rattle.krl_writer.proofs.Common.{iff_or, inl, inr, IsOrderlySection, IsOrderly, IsPlan, List, listed_as}
 use Rattle.krl_writer.proofs.Common.{map, Means, plan_subsections, refl, Revocations, Section}
 use Rattle.krl_writer.proofs.Common.{sections_of, some_cases, SomeSection, subsection_entries}
 use Rattle.krl_writer.proofs.Common.{subst, sym, ℕ}
@@ -39,7 +39,7 @@ section_is : (plan : List Group) (listed : Section) → flat_map (subsection_ent
 section_is plan listed = grind (arith, common_steps, flat_map-append, texts_are)
 
 -- the section holds exactly what its entries name
-section_names : (plan : List Group) (listed : Section) (name : Name) → IsListed listed → IsPlan listed.spans plan → HeldIn name listed ↔ SomeNames (entries_under plan listed) name
+section_names : (plan : List Group) (listed : Section) (name : Name) → IsOrderlySection listed → IsPlan listed.spans plan → HeldIn name listed ↔ SomeNames (entries_under plan listed) name
 section_names plan listed (SerialOf a s) is each =
     Iff.trans (Iff.symm (plan_names listed.spans plan listed.authority a s is.runs is.serials each))
     (some_first (plan_entries plan listed) (map (IdEntry listed.authority) listed.ids) (SerialOf a s) (unmapped (IdEntry listed.authority) (SerialOf a s) (λ x h. h) listed.ids))
@@ -56,7 +56,7 @@ section_names plan listed name is each = (
 
 -- ---- all authorities
 
-authorities_name : (plans : List (List Group)) (listed : List Section) (name : Name) → All IsListed listed → EachPlan IsPlan plans listed
+authorities_name : (plans : List (List Group)) (listed : List Section) (name : Name) → All IsOrderlySection listed → EachPlan IsPlan plans listed
     → SomeSection (HeldIn name) listed ↔ SomeNames (entries_of (authority_sections plans listed)) name
 authorities_name [] [] name all each = Iff.rfl
 authorities_name [] (first ∷ listed) name all each = absurd each
@@ -64,7 +64,7 @@ authorities_name (plan ∷ plans) [] name all each = absurd each
 authorities_name (plan ∷ plans) (first ∷ listed) name all each =
     let here : List Entry = flat_map (subsection_entries first.authority) (plan_subsections first.spans plan ++ listed_as Ids first.ids) in
     let first_names = Iff.trans (section_names plan first name (all 0 first (omega arith)) each.0) (same_is (entries_under plan first) here (sym (section_is plan first)) name) in
-    Iff.trans (iff_or first_names (authorities_name plans listed name (All-tail IsListed first listed all) each.1)) (Iff.symm (some_append here (entries_of (authority_sections plans listed)) name))
+    Iff.trans (iff_or first_names (authorities_name plans listed name (All-tail IsOrderlySection first listed all) each.1)) (Iff.symm (some_append here (entries_of (authority_sections plans listed)) name))
 
 -- ---- keys and hashes
 

@@ -5,7 +5,7 @@ use Rattle.list_diff.proofs.Common.{Revocations, Section, SerialOf, Span, subst,
 use Rattle.list_diff.proofs.Remainders.{few_lost}
 use Rattle.krl_entries.proofs.OneMeaning.{held_first, section_authority}
 use Rattle.krl_entries.proofs.RisingLists.{less_apart}
-use Rattle.krl_entries.specs.Revocations.{held, IsListed}
+use Rattle.krl_entries.specs.Revocations.{held, IsOrderlySection}
 use Rattle.krl_entries.specs.Rising.{RisesBy}
 use Rattle.std.proofs.Common.{Bool, bytes_eq, false, sum_by, true}
 use Rattle.std.proofs.lemmas.Bool.{false≢true}
@@ -47,13 +47,13 @@ covered_at a (x ∷ xs) s rises =
       )
     ]
 
-runs_at : (a : List ℕ) (xs : List Section) → All IsListed xs → IsRuns (spans_at a xs)
+runs_at : (a : List ℕ) (xs : List Section) → All IsOrderlySection xs → IsRuns (spans_at a xs)
 runs_at a [] listed = tt
 runs_at a (x ∷ xs) listed =
     let P : Bool → Type 0 = λ t. IsRuns (chosen t x.spans (spans_at a xs)) in
     elim (tells x.authority a) [
-      | equal same e ↦ subst P (sym e) (All-head IsListed x xs listed).runs
-      | other apart e ↦ subst P (sym e) (runs_at a xs (All-tail IsListed x xs listed))
+      | equal same e ↦ subst P (sym e) (All-head IsOrderlySection x xs listed).runs
+      | other apart e ↦ subst P (sym e) (runs_at a xs (All-tail IsOrderlySection x xs listed))
     ]
 
 -- ---- sums over sections
@@ -159,7 +159,7 @@ own_spans (x ∷ xs) rises =
 
 -- ---- what is held
 
-section_few : (old new gone : Revocations) → IsOrderly old → IsOrderly new → HoldsWithout old new gone → (g : Section) → IsListed g → spans_at g.authority gone.sections ≡ g.spans
+section_few : (old new gone : Revocations) → IsOrderly old → IsOrderly new → HoldsWithout old new gone → (g : Section) → IsOrderlySection g → spans_at g.authority gone.sections ≡ g.spans
     → count g ≤ count_at new.sections g + count_at old.sections g
 section_few old new gone o n is g listed own =
     let a = g.authority in
@@ -172,13 +172,13 @@ section_few old new gone o n is g listed own =
       λ h. here.0 (names.1 (there.1 h.0, λ also. h.1 (before.0 also))),
     ))
 
-each_few : (old new gone : Revocations) → IsOrderly old → IsOrderly new → HoldsWithout old new gone → (sections : List Section) → All IsListed sections → All (λ g. spans_at g.authority gone.sections ≡ g.spans) sections
+each_few : (old new gone : Revocations) → IsOrderly old → IsOrderly new → HoldsWithout old new gone → (sections : List Section) → All IsOrderlySection sections → All (λ g. spans_at g.authority gone.sections ≡ g.spans) sections
     → All (λ g. count g ≤ count_at new.sections g + count_at old.sections g) sections
 each_few old new gone o n is [] listed own = All-nil (λ g. count g ≤ count_at new.sections g + count_at old.sections g)
 each_few old new gone o n is (g ∷ rest) listed own =
     All-cons (λ g. count g ≤ count_at new.sections g + count_at old.sections g) g rest
-    (section_few old new gone o n is g (All-head IsListed g rest listed) (All-head (λ g. spans_at g.authority gone.sections ≡ g.spans) g rest own))
-    (each_few old new gone o n is rest (All-tail IsListed g rest listed) (All-tail (λ g. spans_at g.authority gone.sections ≡ g.spans) g rest own))
+    (section_few old new gone o n is g (All-head IsOrderlySection g rest listed) (All-head (λ g. spans_at g.authority gone.sections ≡ g.spans) g rest own))
+    (each_few old new gone o n is rest (All-tail IsOrderlySection g rest listed) (All-tail (λ g. spans_at g.authority gone.sections ≡ g.spans) g rest own))
 
 -- as many spans as the new revocations hold, and one more for each that the old ones hold
 pub few_held : (old new gone : Revocations) → IsOrderly old → IsOrderly new → HoldsWithout old new gone → held gone ≤ held new + held old

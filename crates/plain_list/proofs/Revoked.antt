@@ -11,7 +11,7 @@ use Rattle.krl_entries.specs.Revoked.{CertRevoked, Revoked}
 use Rattle.krl_types.proofs.Elements.{some_cases, some_left, some_right}
 use Rattle.plain_list.specs.Key.{line_key}
 use Rattle.plain_list.specs.List.{entries_of, key_entries, line_entries}
-use Rattle.plain_list.specs.Spelled.{IsListed, IsOnLine, Revokes}
+use Rattle.plain_list.specs.Spelled.{IsRevokedByLine, IsOnLine, Revokes}
 
 -- a name that is not a key's blob
 abbrev IsOther : Name → Type 0
@@ -97,8 +97,8 @@ module _ (law : ReadAsSpelled) (lines : List (List ℕ)) (fits : All IsBytes lin
   to_cert None is = is
   to_cert (Some cert) is = inl (inl (named_by law lines cert.authority fits is))
 
-  pub revoked_is_listed : (subject : Subject) → Revoked (entries_of lines) subject → IsListed lines subject
+  pub revoked_is_listed : (subject : Subject) → Revoked (entries_of lines) subject → IsRevokedByLine lines subject
   revoked_is_listed subject revoked = elim revoked [ inl key ↦ inl (of_key subject.plain key) | inr cert ↦ inr (of_cert subject.cert cert) ]
 
-  pub listed_is_revoked : (subject : Subject) → IsListed lines subject → Revoked (entries_of lines) subject
+  pub listed_is_revoked : (subject : Subject) → IsRevokedByLine lines subject → Revoked (entries_of lines) subject
   listed_is_revoked subject is = elim is [ inl key ↦ inl (inl (named_by law lines subject.plain fits key)) | inr cert ↦ inr (to_cert subject.cert cert) ]

@@ -53,7 +53,7 @@ IsOnLine (line ∷ lines) blob = Revokes line (Some blob) ⊎ IsOnLine lines blo
 
 -- A plain key, or the plain key of a certificate, is on a line; or the key of the certificate's
 -- authority is.
-abbrev pub IsListed : List (List ℕ) → Subject → Type 0
-IsListed lines subject =
+abbrev pub IsRevokedByLine : List (List ℕ) → Subject → Type 0
+IsRevokedByLine lines subject =
     IsOnLine lines subject.plain
     ⊎ MatchOption subject.cert ⊥ (λ cert. IsOnLine lines cert.authority)

@@ -7,7 +7,7 @@ ghost use Rattle.krl_entries.specs.Revoked.{Revoked};
 ghost use Rattle.krl_types.specs.Subject.{Subject};
 ghost use Rattle.plain_list.specs.Key.{line_key};
 ghost use Rattle.plain_list.specs.List.{entries_of};
-ghost use Rattle.plain_list.specs.Spelled.{IsLineFault, IsListed, Revokes};
+ghost use Rattle.plain_list.specs.Spelled.{IsLineFault, IsRevokedByLine, Revokes};
 
 use keyed_lines::laws::key_where_spelled;
 use ssh_key::laws::blob_read_back;
@@ -27,7 +27,7 @@ pub fn line_read_as_spelled()
 /// keys and of these authorities.
 pub fn revokes_the_keys_on_its_lines()
     ensures { (lines : List (List ℕ)) (subject : Subject) → All IsBytes lines
-        → Revoked (entries_of lines) subject ↔ IsListed lines subject }
+        → Revoked (entries_of lines) subject ↔ IsRevokedByLine lines subject }
 {
     line_read_as_spelled();
 }
