@@ -11,7 +11,7 @@ use Rattle.ssh_key.specs.declared.fault.KeyFault.{KeyFault}
 use Rattle.ssh_key.proofs.Keys.{key_again, key_found}
 use Rattle.key_text.specs.Container.{HasParts, IsListFault, IsPrivateList, outer, why_no_key}
 use Rattle.key_text.specs.ContainerReading.{Opened, inside_at, list_at, opened}
-use Rattle.ssh_wire.specs.Rows.{Fails, Leads, row_at}
+use Rattle.ssh_wire.specs.Rows.{Fails, BeginsWithTable, row_at}
 use Rattle.key_text.specs.declared.private_fault.PrivateFault.{PrivateFault}
 use Rattle.key_text.specs.declared.private_fault.PrivateFault.TheVariants as faults
 use Rattle.key_text.proofs.ListLaws.{list_again, list_found, list_met, list_refused}
@@ -43,7 +43,7 @@ no_fault_key (Err fault) e = absurd cc
 after : (text rest bytes : List ℕ) → bytes ≡ text ++ rest → IsBytes bytes → IsBytes rest
 after text rest bytes e fits = IsBytes-back text rest (subst IsBytes e fits)
 
-parts_of : (inside : List ℕ) (values : List (List ℕ)) (rest : List ℕ) → IsBytes inside → Leads outer [] inside values rest → Parts inside values rest
+parts_of : (inside : List ℕ) (values : List (List ℕ)) (rest : List ℕ) → IsBytes inside → BeginsWithTable outer [] inside values rest → Parts inside values rest
 parts_of inside values rest fits (c, r1, s1, p1, (k, r2, s2, p2, (o, r3, s3, p3, (n, r4, s4, p4, (b, r5, s5, p5, (l, r6, s6, p6, (same, left))))))) =
     let f1 = after (string c) r1 inside s1.spelled fits in
     let f2 = after (string k) r2 r1 s2.spelled f1 in
@@ -81,10 +81,10 @@ pub record Inside (inside blob comment : List ℕ) : Type 0 where
 
 -- ---- reading returns only a container
 
-has_parts : (inside rest : List ℕ) (values : List (List ℕ)) (p : Parts inside values rest) → rest ≡ [] → Leads outer [] inside values rest → HasParts inside p.blob p.list
+has_parts : (inside rest : List ℕ) (values : List (List ℕ)) (p : Parts inside values rest) → rest ≡ [] → BeginsWithTable outer [] inside values rest → HasParts inside p.blob p.list
 has_parts inside rest values p nothing leads =
-    let whole = subst (λ (r : List ℕ). Leads outer [] inside values r) nothing leads in
-    (p.cipher, p.kdf, p.options, p.count, subst (λ (v : List (List ℕ)). Leads outer [] inside v []) (sym p.is) whole)
+    let whole = subst (λ (r : List ℕ). BeginsWithTable outer [] inside values r) nothing leads in
+    (p.cipher, p.kdf, p.options, p.count, subst (λ (v : List (List ℕ)). BeginsWithTable outer [] inside v []) (sym p.is) whole)
 
 opened_parts : (inside rest : List ℕ) (values : List (List ℕ)) (p : Parts inside values rest) → opened values ≡ (list_at p.key p.list >>= λ comment. Ok (record { blob = p.blob; comment = comment }))
 opened_parts inside rest values p = ap opened (sym p.is) ∙ rw (p.read) refl
@@ -121,7 +121,7 @@ inside_again inside blob comment is =
 -- the first fault after the name of the format
 pub data IsInsideFault (inside : List ℕ) (fault : PrivateFault) : Type 0 where
   fails : Fails faults.Wire outer [] inside fault → IsInsideFault inside fault
-  goes_on : (rest : List ℕ) (values : List (List ℕ)) → Leads outer [] inside values rest → 0 < length rest → fault ≡ faults.Trailing → IsInsideFault inside fault
+  goes_on : (rest : List ℕ) (values : List (List ℕ)) → BeginsWithTable outer [] inside values rest → 0 < length rest → fault ≡ faults.Trailing → IsInsideFault inside fault
   refused : (blob list : List ℕ) (key : PublicKey) → HasParts inside blob list → IsKey blob key → IsListFault key list fault → IsInsideFault inside fault
 
 abbrev with_blob : List ℕ → Result (List ℕ) PrivateFault → Result Opened PrivateFault

@@ -5,7 +5,7 @@ use Rattle.std.specs.List.{range_with_len}
 use Rattle.std.specs.Str.{bytes_eq}
 use Rattle.ssh_wire.specs.Wire.{IsBytes}
 use Rattle.ssh_wire.specs.Reading.{string_at}
-use Rattle.ssh_wire.specs.Rows.{BeginsWithPart, Fails, Leads, Magnitude, Number, Step, Text}
+use Rattle.ssh_wire.specs.Rows.{BeginsWithPart, Fails, BeginsWithTable, Magnitude, Number, Step, Text}
 use Rattle.ssh_wire.specs.Rows.{fault_unless, passes, row_text, step}
 use Rattle.ssh_wire.specs.declared.fault.WireFault.{WireFault}
 use Rattle.ssh_key.specs.Key.{IsKey, PublicKey}
@@ -125,8 +125,8 @@ pub record Opens (key : PublicKey) (list : List ℕ) (values : List (List ℕ)) 
   where
     pub head : List (List ℕ)
     pub fields : List ℕ
-    pub begun : Leads (beginning key.kind) [] list head fields
-    pub read : Leads (secrets key.kind) [] fields values rest
+    pub begun : BeginsWithTable (beginning key.kind) [] list head fields
+    pub read : BeginsWithTable (secrets key.kind) [] fields values rest
 
 -- The private list of the key: its fields have the public ones of the key, and after the comment
 -- comes the padding, a front of the bytes 1, 2, 3 and so on up to 254.
@@ -144,7 +144,7 @@ pub record IsPrivateList (key : PublicKey) (list comment : List ℕ) : Type 0 wh
 abbrev pub HasParts : List ℕ → List ℕ → List ℕ → Type 0
 HasParts inside blob list =
     (cipher : List ℕ) × (kdf : List ℕ) × (options : List ℕ) × (count : List ℕ)
-    × Leads outer [] inside (cipher ∷ kdf ∷ options ∷ count ∷ blob ∷ list ∷ []) []
+    × BeginsWithTable outer [] inside (cipher ∷ kdf ∷ options ∷ count ∷ blob ∷ list ∷ []) []
 
 -- The text is the container of the key of this blob, with this comment.
 pub record IsContainer (text blob comment : List ℕ) : Type 0 where
@@ -162,7 +162,7 @@ pub data IsListFault (key : PublicKey) (list : List ℕ) (fault : PrivateFault) 
   in_beginning : Fails faults.Wire (beginning key.kind) [] list fault
       → IsListFault key list fault
   in_secrets : (head : List (List ℕ)) (fields : List ℕ)
-      → Leads (beginning key.kind) [] list head fields
+      → BeginsWithTable (beginning key.kind) [] list head fields
       → Fails faults.Wire (secrets key.kind) [] fields fault
       → IsListFault key list fault
   in_comment : (values : List (List ℕ)) (rest : List ℕ) (why : WireFault)
@@ -192,7 +192,7 @@ pub data IsPrivateFault (text : List ℕ) (fault : PrivateFault) : Type 0 where
       → Fails faults.Wire outer [] inside fault
       → IsPrivateFault text fault
   after_parts : (inside rest : List ℕ) (values : List (List ℕ)) → Holds text (magic ++ inside)
-      → Leads outer [] inside values rest → 0 < length rest → fault ≡ faults.Trailing
+      → BeginsWithTable outer [] inside values rest → 0 < length rest → fault ≡ faults.Trailing
       → IsPrivateFault text fault
   in_list : (inside blob list : List ℕ) (key : PublicKey) → Holds text (magic ++ inside)
       → HasParts inside blob list → IsKey blob key → IsListFault key list fault

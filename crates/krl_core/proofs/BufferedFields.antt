@@ -15,7 +15,7 @@ use Rattle.krl_core.proofs.Common.{LooksFor, ReadsOneMore}
 use Rattle.krl_format.proofs.LongestFronts.{nearer, weight}
 use Rattle.krl_core.proofs.StoredEntries.{grows_then, header_stored}
 use Rattle.krl_core.proofs.Steps.{bounded_more, consumes_some, looked}
-use Rattle.krl_format.proofs.Walks.{Leads-push}
+use Rattle.krl_format.proofs.Walks.{LeadsTo-push}
 
 -- ---- rows of fields
 
@@ -60,7 +60,7 @@ buffered_field place next old new field passes stores_field bytes = record {
         (
           record {
             state = state_after h.state field next;
-            leads = Leads-push start h.state fields field next h.leads pass;
+            leads = LeadsTo-push start h.state fields field next h.leads pass;
             place_is = refl;
             authority_is = stores_field.authority_is ∙ authority;
             header_is = header_stored place h.state.place next field old new h.state.header stores_field h.place_is h.header_is;

@@ -21,7 +21,7 @@ pub use Rattle.krl_entries.specs.Scope.{AreOutOfScope, InScope, IsInScope, Means
 pub use Rattle.serial_set.specs.BitRuns.{BitNames, BitRuns, Feeds, HasFault, ShowsFault, lowest}
 pub use Rattle.krl_types.specs.Entry.{BitmapEntry, Entry, IdEntry, RangeEntry, SerialsEntry}
 pub use Rattle.krl_types.specs.Naming.{EntryNames, Name, NamesSame, SerialOf, SomeNames}
-pub use Rattle.krl_format.specs.Front.{HasRoom, IsFirstKrlFault, Leads, Passes, Reported, State, ended, ends_early}
+pub use Rattle.krl_format.specs.Front.{HasRoom, IsFirstKrlFault, LeadsTo, Passes, Reported, State, ended, ends_early}
 pub use Rattle.krl_format.specs.Front.{limit, no_room, refused, start, state_after, too_long}
 pub use Rattle.krl_format.specs.declared.header.Header.{Header}
 pub use Rattle.krl_entries.specs.Revocations.{HoldsSerial, IsOrderlySection, Means, Revocations, Section, SomeSection, held}

@@ -2,7 +2,7 @@
 use Rattle.krl_core.proofs.Common.{[], ◌++◌, ◌∙◌, ◌∷◌, ◌≡◌, ◌⊎◌, all, ap, append-nil, append_assoc}
 use Rattle.krl_core.proofs.Common.{BitRuns, cases_Bool, concat, concat-append, entries_in, Entry}
 use Rattle.krl_core.proofs.Common.{false, FieldStore, HasRead, Header, inl, inr, is_fixed}
-use Rattle.krl_core.proofs.Common.{IsBounded, IsInScope, Leads, List, Means, means_all_within}
+use Rattle.krl_core.proofs.Common.{IsBounded, IsInScope, LeadsTo, List, Means, means_all_within}
 use Rattle.krl_core.proofs.Common.{MeansInScope, names, NamesSame, None, open_run, Option}
 use Rattle.krl_core.proofs.Common.{option_to_list, Place, Pull, ran_out, refl, Revocations}
 use Rattle.krl_core.proofs.Common.{run_entries, same_then, same_within, Says, Scope, Some, start, State}
@@ -78,10 +78,10 @@ record LeadsPast (from : State) (fields : List (List ℕ)) : Type 0 where
   more : List (List ℕ)
   state : State
   parts : fields ≡ front ++ more
-  leads : Leads from front state
+  leads : LeadsTo from front state
   past : is_fixed state.place ≡ false
 
-past_or_same : (from last : State) (fields : List (List ℕ)) → Leads from fields last → LeadsPast from fields ⊎ (last.entries ≡ from.entries)
+past_or_same : (from last : State) (fields : List (List ℕ)) → LeadsTo from fields last → LeadsPast from fields ⊎ (last.entries ≡ from.entries)
 past_or_same from last [] leads = inr (ap (λ (s : State). s.entries) (sym leads))
 past_or_same from last (field ∷ fields) (next, (passes, leads)) =
     elim (cases_Bool (is_fixed from.place)) [

@@ -2,7 +2,7 @@
 use Rattle.krl_core.proofs.Common.{[], ◌*◌, ◌++◌, ◌+◌, ◌<◌, ◌↔◌, ◌∙◌, ◌∷◌, ◌≡◌, ◌≤◌, All}
 use Rattle.krl_core.proofs.Common.{all_append, AllByRecursion, ap, arith, Bool, bytes_eq, concat}
 use Rattle.krl_core.proofs.Common.{Entry, EntryNames, false, false≢true, held, HoldsSerial, iff_or}
-use Rattle.krl_core.proofs.Common.{inl, inr, IsBytes, IsBytes-back, IsBytes-front, IsOrderlySection, Leads}
+use Rattle.krl_core.proofs.Common.{inl, inr, IsBytes, IsBytes-back, IsBytes-front, IsOrderlySection, LeadsTo}
 use Rattle.krl_core.proofs.Common.{length, length-append, List, Means, names, number_of}
 use Rattle.krl_core.proofs.Common.{number_of-one, Passes, Place, refl, Revocations, Section}
 use Rattle.krl_core.proofs.Common.{SerialOf, SomeNames, SomeSection, Span, start, State}
@@ -169,21 +169,21 @@ field_bytes (places.Item kinds.Key size left after) next authority field p fits 
 field_bytes (places.Item kind size left after) next authority field p fits = (tt, tt)
 field_bytes place next authority field p fits = tt
 
-fields_few : (fields : List (List ℕ)) (state last : State) → Leads state fields last → sum_by most last.entries ≤ sum_by most state.entries + 4 * length (concat fields)
+fields_few : (fields : List (List ℕ)) (state last : State) → LeadsTo state fields last → sum_by most last.entries ≤ sum_by most state.entries + 4 * length (concat fields)
 fields_few [] state last leads = omega (arith, ap (λ (s : State). sum_by most s.entries) leads)
 fields_few (field ∷ fields) state last leads =
     let named : List Entry = names state.place state.authority field in
     let rest = fields_few fields (state_after state field leads.0) last leads.1.1 in
     omega (arith, rest, sum_by-append most state.entries named, field_few state.place leads.0 state.authority field leads.1.0, length-append field (concat fields))
 
-fields_bytes : (fields : List (List ℕ)) (state last : State) → Leads state fields last → IsBytes (concat fields) → AllByRecursion IsByteOnly state.entries → AllByRecursion IsByteOnly last.entries
+fields_bytes : (fields : List (List ℕ)) (state last : State) → LeadsTo state fields last → IsBytes (concat fields) → AllByRecursion IsByteOnly state.entries → AllByRecursion IsByteOnly last.entries
 fields_bytes [] state last leads fits all = subst (λ (s : State). AllByRecursion IsByteOnly s.entries) leads all
 fields_bytes (field ∷ fields) state last leads fits all =
     let named : List Entry = names state.place state.authority field in
     let here = field_bytes state.place leads.0 state.authority field leads.1.0 (IsBytes-front field (concat fields) fits) in
     fields_bytes fields (state_after state field leads.0) last leads.1.1 (IsBytes-back field (concat fields) fits) (all_append IsByteOnly state.entries named all here)
 
-pub four_a_byte : (fields : List (List ℕ)) (state : State) (r : Revocations) → Leads start fields state → IsBytes (concat fields) → Means r state.entries → held r ≤ 4 * length (concat fields)
+pub four_a_byte : (fields : List (List ℕ)) (state : State) (r : Revocations) → LeadsTo start fields state → IsBytes (concat fields) → Means r state.entries → held r ≤ 4 * length (concat fields)
 four_a_byte fields state r leads fits means =
     let small = fields_bytes fields start state leads fits tt in
     let few = held_few r.sections state.entries small means.orderly.authorities_rise means.orderly.listed (λ a s some. means.names (SerialOf a s)) in

@@ -11,7 +11,7 @@ use Rattle.krl_core.proofs.Common.{sym, take, take-add, zero, ℕ}
 use Rattle.krl_core.proofs.Bits.{shut_in_step}
 use Rattle.krl_core.proofs.StoredEntries.{header_stays}
 use Rattle.krl_core.proofs.SkippedBits.{skipped_stored}
-use Rattle.krl_format.proofs.Walks.{Leads-append, leads_after, leads_none, LeadsTo}
+use Rattle.krl_format.proofs.Walks.{LeadsTo-append, leads_after, leads_none, LeadsToPlace}
 use Rattle.krl_format.specs.declared.place.Place.TheVariants as places
 
 -- the first serial numbers, as fields
@@ -36,7 +36,7 @@ at_serial zero after pos = absurd (omega arith)
 at_serial (suc left) after pos = refl
 
 leads_serials : (count : ℕ) (state : State) (a : List ℕ) (left after : ℕ) (bytes : List ℕ) → state.place ≡ next_serial left after → state.authority ≡ a → 8 * count ≤ length bytes → 8 * count ≤ left
-    → LeadsTo state (eights count bytes) (next_serial (left - 8 * count) after) (serial_entries a count bytes)
+    → LeadsToPlace state (eights count bytes) (next_serial (left - 8 * count) after) (serial_entries a count bytes)
 unfolding eights serial_entries
 leads_serials zero state a left after bytes at authority there within =
     let all : left ≡ left - 8 * 0 = omega arith in leads_none state _ (at ∙ ap (λ (n : ℕ). next_serial n after) all)
@@ -49,7 +49,7 @@ leads_serials (suc count) state a left after bytes at authority there within =
     (omega (arith, length-drop 8 bytes)) (omega arith) in
     leads_after state (places.Serial left after) next field (SerialsEntry a (number_of field ∷ [])) here
     (record { room = omega arith; whole = length-take-le 8 bytes (omega arith); judged = refl }) refl refl (ap (λ (c : List ℕ). SerialsEntry c (number_of field ∷ []) ∷ []) authority)
-    (subst (λ (n : ℕ). LeadsTo (state_after state field next) (eights count (drop 8 bytes)) (next_serial n after) (serial_entries a count (drop 8 bytes))) less more)
+    (subst (λ (n : ℕ). LeadsToPlace (state_after state field next) (eights count (drop 8 bytes)) (next_serial n after) (serial_entries a count (drop 8 bytes))) less more)
 
 -- the serial number after one more
 serial_later : (bytes : List ℕ) (k : ℕ) → serial_at (drop 8 bytes) k ≡ serial_at bytes (suc k)
@@ -86,7 +86,7 @@ buffered_serials count stored left after bytes pos none are there within out_of_
         (
           record {
             state = more.last;
-            leads = Leads-append start h.state more.last fields (eights count bytes) h.leads more.leads;
+            leads = LeadsTo-append start h.state more.last fields (eights count bytes) h.leads more.leads;
             place_is = sym more.place_is;
             authority_is = h.authority_is ∙ sym more.authority_is;
             header_is = header_stays stored stored h.state.header more.last.header refl refl more.header_is h.header_is;

@@ -20,7 +20,7 @@ use Rattle.krl_entries.proofs.AddedMeaning.{nothing_more_within}
 use Rattle.krl_format.proofs.PassingBits.{bits_pass}
 use Rattle.krl_core.proofs.Bits.{shut_in_step}
 use Rattle.krl_core.proofs.StoredEntries.{closes_run, header_stays, stored_wider}
-use Rattle.krl_format.proofs.Walks.{Leads-append, leads_after, leads_none, LeadsTo}
+use Rattle.krl_format.proofs.Walks.{LeadsTo-append, leads_after, leads_none, LeadsToPlace}
 use Rattle.krl_format.specs.declared.place.Place.TheVariants as places
 
 -- each byte as a field
@@ -47,7 +47,7 @@ judged_on offset size left after byte pos sign_free fits = bits_pass offset size
 
 leads_bits : (state : State) (a : List ℕ) (offset size left after : ℕ) (bytes : List ℕ) → state.place ≡ next_bits offset size left after → state.authority ≡ a → length bytes ≤ left → left ≤ size
     → (left ≡ size → number_of (take 1 bytes) < 128) → offset + 8 * left ≤ 2 ^ 64
-    → LeadsTo state (singles bytes) (next_bits offset size (left - length bytes) after) (bit_entries a offset left bytes)
+    → LeadsToPlace state (singles bytes) (next_bits offset size (left - length bytes) after) (bit_entries a offset left bytes)
 leads_bits state a offset size left after [] at authority le within sign_free fits =
     let all : left ≡ left - length {A = ℕ} [] = omega arith in leads_none state _ (at ∙ ap (λ (n : ℕ). next_bits offset size n after) all)
 leads_bits state a offset size zero after (b ∷ bs) at authority le within sign_free fits = absurd (omega arith)
@@ -61,8 +61,8 @@ leads_bits state a offset size (suc left) after (b ∷ bs) at authority le withi
     let more = leads_bits then a offset size left after bs refl (ap (λ (p : Place). authority_after p state.authority field) at ∙ authority) (omega arith) (omega arith) (λ last. absurd (omega arith)) (omega arith) in
     leads_after state (places.Byte offset size (suc left) after) next field (BitmapEntry a (base_of offset (suc left)) (number_of field)) at
     (record { room = tt; whole = refl; judged = judged }) refl refl (ap (λ (c : List ℕ). BitmapEntry c (base_of offset (suc left)) (number_of field) ∷ []) authority)
-    (subst (λ (n : ℕ). LeadsTo then (singles bs) (next_bits offset size n after) (bit_entries a offset (suc left - 1) bs)) one
-    (subst (λ (n : ℕ). LeadsTo then (singles bs) (next_bits offset size (left - length bs) after) (bit_entries a offset n bs)) (sym fewer) more))
+    (subst (λ (n : ℕ). LeadsToPlace then (singles bs) (next_bits offset size n after) (bit_entries a offset (suc left - 1) bs)) one
+    (subst (λ (n : ℕ). LeadsToPlace then (singles bs) (next_bits offset size (left - length bs) after) (bit_entries a offset n bs)) (sym fewer) more))
 
 -- ---- names that no topic contains
 
@@ -149,7 +149,7 @@ buffered_bits old new offset size left after bytes step are le within sign_free 
         (
           record {
             state = more.last;
-            leads = Leads-append start h.state more.last fields (singles bytes) h.leads more.leads;
+            leads = LeadsTo-append start h.state more.last fields (singles bytes) h.leads more.leads;
             place_is = sym more.place_is;
             authority_is = c.authority_is ∙ h.authority_is ∙ sym more.authority_is;
             header_is = header_stays old new h.state.header more.last.header c.header_is c.scope_is more.header_is h.header_is;

@@ -4,7 +4,7 @@ use Rattle.krl_core.proofs.Common.{ap, append-nil, append_assoc, arith, Bool}
 use Rattle.krl_core.proofs.Common.{can_end, concat, cut, ends_early, Err, expected}
 use Rattle.krl_core.proofs.Common.{failed_read, false, FieldStore, first, GrowsAtMost, HasRead}
 use Rattle.krl_core.proofs.Common.{HasRoom, inl, inr, is_fixed, IsBounded}
-use Rattle.krl_core.proofs.Common.{IsFirstKrlFault, IsSome, KrlFault, le-ltb, Leads, left_of, length}
+use Rattle.krl_core.proofs.Common.{IsFirstKrlFault, IsSome, KrlFault, le-ltb, LeadsTo, left_of, length}
 use Rattle.krl_core.proofs.Common.{length-append, limit, List, LooksFor, lt-ltb, ltb, Missed}
 use Rattle.krl_core.proofs.Common.{no_room, None, Option, Place, Pull, ran_out, refl}
 use Rattle.krl_core.proofs.Common.{Refused, refused, Refuses, Reported, Says, Some, start}
@@ -53,7 +53,7 @@ ahead_some p rest left some none = ahead_left p.ahead p.source rest p refl refl 
 -- Fields of the text lead to a place, and the reader has the rest of the text left.
 pub record HasCome (text : List ℕ) (fields : List (List ℕ)) (reading : Walk) : Type 0 where
   pub state : State
-  pub leads : Leads start fields state
+  pub leads : LeadsTo start fields state
   pub place_is : reading.place ≡ state.place
   pub rest : List ℕ
   pub left_is : left_of reading.pull ≡ Some rest
@@ -80,7 +80,7 @@ reported_there text fields p h fault le reported =
     })
 
 -- the same for other bytes that begin with the fields
-reported_given : (fields : List (List ℕ)) (state : State) (came : List ℕ) (fault : Option KrlFault) → Leads start fields state
+reported_given : (fields : List (List ℕ)) (state : State) (came : List ℕ) (fault : Option KrlFault) → LeadsTo start fields state
     → length (concat fields) + length came ≤ limit → Reported state.place came false fault → IsFirstKrlFault (concat fields ++ came) fault
 reported_given fields state came fault leads le reported =
     let len = length-append (concat fields) came in

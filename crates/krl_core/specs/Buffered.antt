@@ -6,7 +6,7 @@ use Rattle.std.specs.List.{concat}
 use Rattle.std.specs.declared.alloc.AllocError.{AllocError}
 use Rattle.ssh_wire.specs.Wire.{IsBytes, number_of}
 use Rattle.krl_format.specs.declared.place.Place.{Place}
-use Rattle.krl_format.specs.Front.{Leads, Passes, State, start}
+use Rattle.krl_format.specs.Front.{LeadsTo, Passes, State, start}
 use Rattle.krl_core.specs.FieldStore.{GrowsAtMost, InStep, StoresEntries, FieldStore, StoresField}
 use Rattle.krl_core.specs.FieldStore.{stored_header}
 use Rattle.krl_types.specs.Naming.{SerialOf}
@@ -15,7 +15,7 @@ use Rattle.krl_entries.specs.Scope.{InScope}
 -- These fields lead from a list's first byte to a place, and the field store stored what they name.
 pub record HasStored (fields : List (List ℕ)) (place : Place) (stored : FieldStore) : Type 0 where
   pub state : State
-  pub leads : Leads start fields state
+  pub leads : LeadsTo start fields state
   pub place_is : place ≡ state.place
   pub authority_is : stored.authority ≡ state.authority
   pub header_is : stored.header ≡ stored_header stored.scope state.header

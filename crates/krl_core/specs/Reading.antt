@@ -14,7 +14,7 @@ use Rattle.krl_format.specs.declared.header.Header.{Header}
 use Rattle.krl_entries.specs.Revocations.{Revocations, Means, held, stored}
 use Rattle.krl_format.specs.Entries.{entries_of}
 use Rattle.krl_format.specs.Krl.{SpelledSection, Spells}
-use Rattle.krl_format.specs.Front.{State, start, Leads, Passes, HasRoom, limit}
+use Rattle.krl_format.specs.Front.{State, start, LeadsTo, Passes, HasRoom, limit}
 use Rattle.krl_core.specs.FieldStore.{InStep, StoresEntries, FieldStore, StoresInScope}
 use Rattle.krl_core.specs.FieldStore.{StoresAtMost}
 use Rattle.krl_core.specs.FieldStore.{held_with_open, stored_header}
@@ -41,7 +41,7 @@ working pull place stored =
 -- stored what they name, and its reader has the rest of the text left.
 pub record HasRead (text : List ℕ) (fields : List (List ℕ)) (reading : Walk) : Type 0 where
   pub state : State
-  pub leads : Leads start fields state
+  pub leads : LeadsTo start fields state
   pub place_is : reading.place ≡ state.place
   pub authority_is : reading.stored.authority ≡ state.authority
   pub header_is : reading.stored.header ≡ stored_header reading.stored.scope state.header
@@ -166,7 +166,7 @@ pub record IsWholeAs (Holds : List ℕ → Revocations → List Entry → Type 0
     (header : Header) (contents : Revocations) : Type 0 where
   pub fields : List (List ℕ)
   pub state : State
-  pub leads : Leads start fields state
+  pub leads : LeadsTo start fields state
   pub text_is : text ≡ concat fields
   pub within : length text ≤ limit
   pub are_bytes : IsBytes text

@@ -1,7 +1,7 @@
 -- The names that most proofs of this crate cite, passed on from one place. Declares nothing.
 pub use Rattle.std.specs.List.{AllByRecursion, concat}
 pub use Rattle.krl_types.proofs.SameNames.{AreSerials, mapped_name, same_append, same_is, same_nothing, same_refl, same_serials, same_then}
-pub use Rattle.ssh_wire.specs.Rows.{BeginsWithPart, Leads as LeadsRow, Number, Step, Text, passes, step}
+pub use Rattle.ssh_wire.specs.Rows.{BeginsWithPart, BeginsWithTable, Number, Step, Text, passes, step}
 pub use Rattle.krl_format.specs.Krl.{Bitmap, Certificates, Extension, Ids, IsNotNegative, IsSignature, Keys, Range}
 pub use Rattle.krl_format.specs.Krl.{Serials, Sha1s, Sha256s, Signature, SignaturesLast, SpelledSection, Spells, SpellsBitmap}
 pub use Rattle.krl_format.specs.Krl.{SpellsCertificates, SpellsContent, SpellsEach, SpellsSection, SpellsSubsection, Subsection, SubsectionContent, SubsectionExtension}
@@ -25,7 +25,7 @@ pub use Rattle.krl_format.specs.declared.section.Section.{Section}
 pub use Rattle.krl_format.specs.declared.section.Subsection.{Subsection as SubsectionKind}
 pub use Rattle.krl_format.specs.declared.place.field.Field.{Field}
 pub use Rattle.krl_format.specs.FixedFields.{HasFixedFields, is_fixed}
-pub use Rattle.krl_format.specs.Front.{HasRoom, IsEnd, IsFirstKrlFault, IsFront, IsLongestFront, Leads, Passes, Reported}
+pub use Rattle.krl_format.specs.Front.{HasRoom, IsEnd, IsFirstKrlFault, IsFront, IsLongestFront, LeadsTo, Passes, Reported}
 pub use Rattle.krl_format.specs.Front.{State, ended, ends_early, limit, no_room, refused, start, state_after}
 pub use Rattle.krl_format.specs.Front.{too_long}
 pub use Rattle.krl_format.specs.declared.header.Header.{Header}

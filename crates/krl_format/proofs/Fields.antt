@@ -4,7 +4,7 @@ use Rattle.krl_format.proofs.Common.{append-nil, append_assoc, arith, authority_
 use Rattle.krl_format.proofs.Common.{Bitmap, BitmapEntry, Bool, can_end, concat, Entry}
 use Rattle.krl_format.proofs.Common.{eq-eqb, eqb, eqb-true, extension_fields, false}
 use Rattle.krl_format.proofs.Common.{flat_map, get_or, Header, header_after, IdEntry, Ids, IsBytes}
-use Rattle.krl_format.proofs.Common.{IsBytes-back, IsBytes-front, item_entry, item_size, Leads}
+use Rattle.krl_format.proofs.Common.{IsBytes-back, IsBytes-front, item_entry, item_size, LeadsTo}
 use Rattle.krl_format.proofs.Common.{leads_front, leb, leb-true, length, length-append, length-number}
 use Rattle.krl_format.proofs.Common.{length-string, List, ltb, ltb-true, map, names, next_bits}
 use Rattle.krl_format.proofs.Common.{number, number-number_of, number_of, Ok, one_byte}
@@ -169,7 +169,7 @@ ends_here last h a (places.SectionType true) e may = record { sections = []; spe
 ends_here last h a (places.SectionType false) e may = record { sections = []; spelled = refl; last = tt; named = same_refl []; known = e }
 ends_here last h a _ e may = absurd (cc)
 
-pub completes : (s : State) (fields : List (List ℕ)) (last : State) → Leads s fields last → can_end last.place ≡ true → IsBytes (concat fields)
+pub completes : (s : State) (fields : List (List ℕ)) (last : State) → LeadsTo s fields last → can_end last.place ≡ true → IsBytes (concat fields)
     → (more : List Entry) × (last.entries ≡ s.entries ++ more) × Completes last.header s.header s.authority s.place (concat fields) more
 completes s [] last leads may fits = (
   [],

@@ -1,6 +1,6 @@
 -- The first fields of a list, whose sizes depend on no length.
 use Rattle.krl_format.proofs.Common.{[], ◌+◌, ◌-◌, ◌<◌, ◌∷◌, ◌≡◌, ◌≤◌, ap, arith, concat, expected}
-use Rattle.krl_format.proofs.Common.{false, Field, fields_after, HasFixedFields, is_fixed, Leads}
+use Rattle.krl_format.proofs.Common.{false, Field, fields_after, HasFixedFields, is_fixed, LeadsTo}
 use Rattle.krl_format.proofs.Common.{length, length-append, List, None, Number, number_of, Ok, Option}
 use Rattle.krl_format.proofs.Common.{Passes, Place, refl, row_of, Some, start, State, state_after}
 use Rattle.krl_format.proofs.Common.{subst, Table, unless_ok, ℕ}
@@ -71,7 +71,7 @@ field_left : (p next : Place) (field : List ℕ) → Passes p field next → fix
 field_left (places.Field f left after) next field passes = part_left f (row_of f).step.part left after next field passes.whole passes.judged
 field_left _ next field passes = omega arith
 
-fields_left : (from last : State) (fields : List (List ℕ)) → Leads from fields last → is_fixed last.place ≡ false → fixed_left from.place ≤ length (concat fields)
+fields_left : (from last : State) (fields : List (List ℕ)) → LeadsTo from fields last → is_fixed last.place ≡ false → fixed_left from.place ≤ length (concat fields)
 fields_left from last [] leads past =
     omega (arith, ap (λ (state : State). fixed_left state.place) leads, none_left last.place past)
 fields_left from last (field ∷ fields) leads past =

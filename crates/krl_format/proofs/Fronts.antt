@@ -2,7 +2,7 @@
 use Rattle.krl_format.proofs.Common.{[], ◌++◌, ◌<◌, ◌∙◌, ◌∷◌, ◌≡◌, ◌⊎◌, ap, append-nil, append_assoc}
 use Rattle.krl_format.proofs.Common.{arith, Bool, can_end, concat, concat-append, drop, ended}
 use Rattle.krl_format.proofs.Common.{ends_early, Err, expected, false, HasRoom, inl, inr, IsEnd}
-use Rattle.krl_format.proofs.Common.{IsFirstKrlFault, IsFront, IsLongestFront, KrlFault, Leads, length}
+use Rattle.krl_format.proofs.Common.{IsFirstKrlFault, IsFront, IsLongestFront, KrlFault, LeadsTo, length}
 use Rattle.krl_format.proofs.Common.{length-append, limit, List, ltb, never_err, no_room, None, Ok}
 use Rattle.krl_format.proofs.Common.{Option, Place, refl, refused, Reported, Some, start, State}
 use Rattle.krl_format.proofs.Common.{state_after, subst, sym, take, too_long, true, ℕ}
@@ -27,7 +27,7 @@ same_after : (state : State) (x y : List ℕ) (m n : Place) → x ≡ y → m �
 same_after state x y m n e e' =
     ap (λ (z : List ℕ). state_after state z n) (sym e) ∙ ap (λ (z : Place). state_after state x z) (sym e')
 
-pub fronts_compare : (p q q' : State) (one other : List (List ℕ)) (r s : List ℕ) → Leads p one q → Leads p other q'
+pub fronts_compare : (p q q' : State) (one other : List (List ℕ)) (r s : List ℕ) → LeadsTo p one q → LeadsTo p other q'
     → concat one ++ r ≡ concat other ++ s
     → ((more : List (List ℕ)) × (other ≡ one ++ more)) ⊎ ((more : List (List ℕ)) × (one ≡ other ++ more))
 fronts_compare p q q' [] other r s h k e = inl (other, refl)
@@ -38,23 +38,23 @@ fronts_compare p q q' (x ∷ one) (y ∷ other) r s h k e =
     let next = next_is p.place h.0 k.0 x y both.0 h.1.0.judged k.1.0.judged in
     let same = same_after p x y h.0 k.0 both.0 next in
     elim (fronts_compare (state_after p x h.0) q q' one other r s h.1.1
-    (subst (λ (n : State). Leads n other q') same k.1.1) both.1) [
+    (subst (λ (n : State). LeadsTo n other q') same k.1.1) both.1) [
       | inl w ↦ inl (w.0, cc (w.1, both.0))
       | inr w ↦ inr (w.0, cc (w.1, both.0))
     ]
 
-pub leads_to_one : (p q q' : State) (fields : List (List ℕ)) → Leads p fields q → Leads p fields q' → q ≡ q'
+pub leads_to_one : (p q q' : State) (fields : List (List ℕ)) → LeadsTo p fields q → LeadsTo p fields q' → q ≡ q'
 leads_to_one p q q' [] h k = sym h ∙ k
 leads_to_one p q q' (x ∷ fields) h k =
     let next = next_is p.place h.0 k.0 x x refl h.1.0.judged k.1.0.judged in
     let same = same_after p x x h.0 k.0 refl next in
-    leads_to_one (state_after p x h.0) q q' fields h.1.1 (subst (λ (n : State). Leads n fields q') same k.1.1)
+    leads_to_one (state_after p x h.0) q q' fields h.1.1 (subst (λ (n : State). LeadsTo n fields q') same k.1.1)
 
-pub Leads-split : (p r : State) (fields more : List (List ℕ)) → Leads p (fields ++ more) r
-    → (q : State) × Leads p fields q × Leads q more r
-Leads-split p r [] more h = (p, refl, h)
-Leads-split p r (x ∷ fields) more h =
-    let w = Leads-split (state_after p x h.0) r fields more h.1.1 in
+pub LeadsTo-split : (p r : State) (fields more : List (List ℕ)) → LeadsTo p (fields ++ more) r
+    → (q : State) × LeadsTo p fields q × LeadsTo q more r
+LeadsTo-split p r [] more h = (p, refl, h)
+LeadsTo-split p r (x ∷ fields) more h =
+    let w = LeadsTo-split (state_after p x h.0) r fields more h.1.1 in
     (w.0, (h.0, (h.1.0, w.1)), w.2)
 
 -- if the list may end, the expected field is one byte that is inside no other part
@@ -90,9 +90,9 @@ pub is_longest : (text : List ℕ) (fields : List (List ℕ)) (p : State) (rest 
 is_longest text fields p rest goes_on fault front reported = record {
   front = front;
   longest = λ field next after longer.
-      let w = Leads-split start next fields (field ∷ []) longer.leads in
+      let w = LeadsTo-split start next fields (field ∷ []) longer.leads in
       let place : w.0 ≡ p = leads_to_one start w.0 p fields w.1 front.leads in
-      let step : Leads p (field ∷ []) next = subst (λ (x : State). Leads x (field ∷ []) next) place w.2 in
+      let step : LeadsTo p (field ∷ []) next = subst (λ (x : State). LeadsTo x (field ∷ []) next) place w.2 in
       let whole : concat fields ++ rest ≡ concat fields ++ (field ++ after) =
       sym front.parts ∙ longer.parts
       ∙ ap (λ (x : List ℕ). x ++ after) (concat-append fields (field ∷ []) ∙ ap (λ (x : List ℕ). concat fields ++ x) (append-nil field))
@@ -156,7 +156,7 @@ reported_same p rest goes_on fault fault' (too_long room short on is) t = is ∙
 reported_same p rest goes_on fault fault' (ends_early room short not_end off is) t = is ∙ early_only p rest goes_on fault' room short not_end off t
 
 -- two ends of one text, the second maybe after more fields
-ends_same : (p q : State) (more : List (List ℕ)) (r s : List ℕ) (goes_on : Bool) (a b : Option KrlFault) → Leads p more q
+ends_same : (p q : State) (more : List (List ℕ)) (r s : List ℕ) (goes_on : Bool) (a b : Option KrlFault) → LeadsTo p more q
     → r ≡ concat more ++ s → Reported p.place r goes_on a → Reported q.place s goes_on b → a ≡ b
 ends_same p q [] r s goes_on a b h e ta tb =
     reported_same p.place r goes_on a b ta (subst (λ (x : List ℕ). Reported p.place x goes_on b) (sym e)
@@ -167,11 +167,11 @@ ends_same p q (x ∷ more) r s goes_on a b h e ta tb =
 
 -- the report after a row of fields, if a longer row is known
 following : (p q q' : State) (one other more : List (List ℕ)) (r s : List ℕ) (goes_on : Bool) (a b : Option KrlFault)
-    → Leads p one q → Leads p other q' → concat one ++ r ≡ concat other ++ s
+    → LeadsTo p one q → LeadsTo p other q' → concat one ++ r ≡ concat other ++ s
     → other ≡ one ++ more → Reported q.place r goes_on a → Reported q'.place s goes_on b → a ≡ b
 following p q q' one other more r s goes_on a b h k e longer ta tb =
-    let w = Leads-split p q' one more (subst (λ (x : List (List ℕ)). Leads p x q') longer k) in
-    let step : Leads q more q' = subst (λ (x : State). Leads x more q') (leads_to_one p w.0 q one w.1 h) w.2 in
+    let w = LeadsTo-split p q' one more (subst (λ (x : List (List ℕ)). LeadsTo p x q') longer k) in
+    let step : LeadsTo q more q' = subst (λ (x : State). LeadsTo x more q') (leads_to_one p w.0 q one w.1 h) w.2 in
     let whole : concat one ++ r ≡ concat one ++ (concat more ++ s) =
     e ∙ ap (λ (x : List (List ℕ)). concat x ++ s) longer ∙ ap (λ (x : List ℕ). x ++ s) (concat-append one more)
     ∙ append_assoc (concat one) (concat more) s in

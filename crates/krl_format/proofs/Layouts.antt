@@ -1,6 +1,6 @@
 -- The tables of fields spell the bytes that are written out.
 use Rattle.krl_format.proofs.Common.{[], ◌++◌, ◌<◌, ◌==◌, ◌∙◌, ◌∷◌, ◌≡◌, ◌^◌, ap, append-nil, arith, BeginsWithPart, Bool, eqb-true, false, Header, KrlFault}
-use Rattle.krl_format.proofs.Common.{authority_fields, extension_fields, header_fields, header_of, LeadsRow, length, List, None, Number, number, refl, signature_fields}
+use Rattle.krl_format.proofs.Common.{authority_fields, extension_fields, header_fields, header_of, BeginsWithTable, length, List, None, Number, number, refl, signature_fields}
 use Rattle.krl_format.proofs.Common.{slice_index, slice_index_or, string, subst, sym, Text, true, ℕ}
 use Rattle.ssh_wire.specs.Rows.{fault_unless}
 use Rattle.krl_format.specs.Field.{magic_number}
@@ -32,7 +32,7 @@ text_field value left fits = record { is_part = fits; spelled = refl }
 
 -- ---- the header
 
-pub header_spelled : (bytes rest : List ℕ) (values : List (List ℕ)) → LeadsRow header_fields [] bytes values rest → BeginsWithHeader bytes (header_of values) rest
+pub header_spelled : (bytes rest : List ℕ) (values : List (List ℕ)) → BeginsWithTable header_fields [] bytes values rest → BeginsWithHeader bytes (header_of values) rest
 header_spelled bytes rest values (first, a, is_magic, first_passed, (format, b, is_format, format_passed, (version, c, is_version, _, (date, d, is_date, _, (flags, e, is_flags, _, (reserved, f, is_reserved, _, (comment, g, is_comment, _, (all, end)))))))) =
     subst (λ (v : List (List ℕ)). BeginsWithHeader bytes (header_of v) rest) all (record {
       flags = slice_index flags 0;
@@ -53,7 +53,7 @@ header_spelled bytes rest values (first, a, is_magic, first_passed, (format, b, 
       comment_fits = is_comment.is_part;
     })
 
-pub header_spells : (bytes rest : List ℕ) (header : Header) → BeginsWithHeader bytes header rest → (values : List (List ℕ)) × LeadsRow header_fields [] bytes values rest × (header_of values ≡ header)
+pub header_spells : (bytes rest : List ℕ) (header : Header) → BeginsWithHeader bytes header rest → (values : List (List ℕ)) × BeginsWithTable header_fields [] bytes values rest × (header_of values ≡ header)
 header_spells bytes rest header h =
     let after_comment : List ℕ = string header.comment ++ (rest ++ []) in
     let after_reserved : List ℕ = string h.reserved ++ after_comment in
@@ -173,7 +173,7 @@ extension_spells content is =
 
 -- ---- the beginning of a section of certificates
 
-pub authority_spelled : (content rest : List ℕ) (values : List (List ℕ)) → LeadsRow authority_fields [] content values rest → BeginsWithAuthority content (slice_index_or values 0 []) rest
+pub authority_spelled : (content rest : List ℕ) (values : List (List ℕ)) → BeginsWithTable authority_fields [] content values rest → BeginsWithAuthority content (slice_index_or values 0 []) rest
 authority_spelled content rest values (authority, a, is_authority, _, (reserved, b, is_reserved, _, (all, end))) =
     subst (λ (v : List (List ℕ)). BeginsWithAuthority content (slice_index_or v 0 []) rest) all (record {
       reserved = reserved;
@@ -182,7 +182,7 @@ authority_spelled content rest values (authority, a, is_authority, _, (reserved,
       reserved_fits = is_reserved.is_part;
     })
 
-pub authority_spells : (content authority rest : List ℕ) → BeginsWithAuthority content authority rest → (values : List (List ℕ)) × LeadsRow authority_fields [] content values rest × (slice_index_or values 0 [] ≡ authority)
+pub authority_spells : (content authority rest : List ℕ) → BeginsWithAuthority content authority rest → (values : List (List ℕ)) × BeginsWithTable authority_fields [] content values rest × (slice_index_or values 0 [] ≡ authority)
 authority_spells content authority rest is =
     let after : List ℕ = string is.reserved ++ (rest ++ []) in (
       authority ∷ is.reserved ∷ [],

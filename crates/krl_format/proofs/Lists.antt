@@ -2,7 +2,7 @@
 use Rattle.krl_format.proofs.Common.{[], ◌++◌, ◌∙◌, ◌≡◌, ◌≤◌, ap, append-nil, Bool, can_end, concat}
 use Rattle.krl_format.proofs.Common.{empty_header, ended, ends_early, entries_of, Entry, false, Header}
 use Rattle.krl_format.proofs.Common.{IsBytes, IsEnd, IsFirstKrlFault}
-use Rattle.krl_format.proofs.Common.{KrlFault, Leads, length, limit, List, ltb, ltb-false}
+use Rattle.krl_format.proofs.Common.{KrlFault, LeadsTo, length, limit, List, ltb, ltb-false}
 use Rattle.krl_format.proofs.Common.{NamesSame, no_room, None, Option, Place}
 use Rattle.krl_format.proofs.Common.{refl, refused, Reported}
 use Rattle.krl_format.proofs.Common.{SpelledSection, Spells, start, State, subst, sym, take_all}
@@ -27,7 +27,7 @@ spelled_from text last more h =
     }
 
 -- the entries of a row of fields that leads to the end of a list
-pub row_spelled : (fields : List (List ℕ)) (last : State) → Leads start fields last → can_end last.place ≡ true → IsBytes (concat fields)
+pub row_spelled : (fields : List (List ℕ)) (last : State) → LeadsTo start fields last → can_end last.place ≡ true → IsBytes (concat fields)
     → SpelledBy (concat fields) last.header last.entries
 row_spelled fields last leads may fits =
     let w = completes start fields last leads may fits in
@@ -47,7 +47,7 @@ is_end p rest goes_on fault e (ends_early room short not_end off is) = absurd (c
 
 -- the fields of a text without a fault
 pub unfaulted_row : (text : List ℕ) → IsFirstKrlFault text None
-    → (fields : List (List ℕ)) × (last : State) × (Leads start fields last × (can_end last.place ≡ true) × (text ≡ concat fields) × (length text ≤ limit))
+    → (fields : List (List ℕ)) × (last : State) × (LeadsTo start fields last × (can_end last.place ≡ true) × (text ≡ concat fields) × (length text ≤ limit))
 unfaulted_row text h =
     let w = is_end h.state.place h.rest (ltb limit (length text)) None refl h.reported in
     let le : length text ≤ limit = ltb-false limit (length text) w.1 in

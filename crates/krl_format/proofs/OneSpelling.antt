@@ -3,7 +3,7 @@ use Rattle.krl_format.proofs.Common.{[], ◌++◌, ◌+◌, ◌<◌, ◌^◌, �
 use Rattle.krl_format.proofs.Common.{append-nil, append_assoc, append_cancel_left, arith}
 use Rattle.krl_format.proofs.Common.{authority_fields, Bitmap, Certificates, Extension, Header}
 use Rattle.krl_format.proofs.Common.{header_fields, header_of, Ids, Keys, KrlFault, leads_more}
-use Rattle.krl_format.proofs.Common.{LeadsRow, length, length-append, length-number, length-numbers}
+use Rattle.krl_format.proofs.Common.{BeginsWithTable, length, length-append, length-number, length-numbers}
 use Rattle.krl_format.proofs.Common.{length-string, List, number, number_of-number}
 use Rattle.krl_format.proofs.Common.{number_of, numbers_text, ok_is, Range, refl, Serials, Sha1s}
 use Rattle.krl_format.proofs.Common.{Sha256s, Signature, signature_fields, slice_index_or}
@@ -129,7 +129,7 @@ some_subsection x text h = omega (arith, ap length h.spelled)
 -- ---- sections
 
 -- the values of a table, and the bytes after it
-one_row : (steps : List (Step KrlFault)) (bytes : List ℕ) (values others : List (List ℕ)) (rest rest' : List ℕ) → LeadsRow steps [] bytes values rest → LeadsRow steps [] bytes others rest' → (values ≡ others) × (rest ≡ rest')
+one_row : (steps : List (Step KrlFault)) (bytes : List ℕ) (values others : List (List ℕ)) (rest rest' : List ℕ) → BeginsWithTable steps [] bytes values rest → BeginsWithTable steps [] bytes others rest' → (values ≡ others) × (rest ≡ rest')
 one_row steps bytes values others rest rest' h k =
     let unread = λ (why : WireFault). faults.Length in
     let same : (values, rest) ≡ (others, rest') =
@@ -168,7 +168,7 @@ signature_front rest rest' (first, spelled, (values, h)) (first', spelled', (val
     let whole : signature_type ∷ (first ++ rest) ≡ signature_type ∷ (first' ++ rest') = sym (ap (λ (t : List ℕ). t ++ rest) spelled) ∙ same ∙ ap (λ (t : List ℕ). t ++ rest') spelled' in
     let e = append_cancel_left (signature_type ∷ []) (first ++ rest) (first' ++ rest') whole in
     (one_row signature_fields (first ++ rest) values values' rest rest' (leads_more signature_fields [] first values [] rest h)
-    (subst (λ (b : List ℕ). LeadsRow signature_fields [] b values' rest') (sym e) (leads_more signature_fields [] first' values' [] rest' k))).1
+    (subst (λ (b : List ℕ). BeginsWithTable signature_fields [] b values' rest') (sym e) (leads_more signature_fields [] first' values' [] rest' k))).1
 
 one_section : OneAtFront SpellsSection
 one_section (Certificates authority subs) (Certificates authority' subs') text other rest rest' h k e =

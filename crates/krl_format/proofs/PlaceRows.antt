@@ -1,6 +1,6 @@
 -- Rows of fields by their places alone.
 use Rattle.krl_format.proofs.Common.{[], ◌++◌, ◌∙◌, ◌∷◌, ◌≡◌, ap, append-nil, append_assoc, Bool, concat}
-use Rattle.krl_format.proofs.Common.{concat-append, expected, HasRoom, KrlFault, Leads, length, List}
+use Rattle.krl_format.proofs.Common.{concat-append, expected, HasRoom, KrlFault, LeadsTo, length, List}
 use Rattle.krl_format.proofs.Common.{Ok, Option, Passes, Place, refl, Reported, State, state_after}
 use Rattle.krl_format.proofs.Common.{subst, sym, ℕ}
 use Rattle.krl_format.proofs.Walks.{EndsReported}
@@ -42,7 +42,7 @@ goes_from {p} {q} {rest = rest} e w = subst (λ (x : List ℕ). Goes p x q rest)
 
 -- ---- the same from a state
 
-leads_along : (s : State) (p : Place) (fields : List (List ℕ)) (q : Place) → s.place ≡ p → Along p fields q → (last : State) × (last.place ≡ q) × Leads s fields last
+leads_along : (s : State) (p : Place) (fields : List (List ℕ)) (q : Place) → s.place ≡ p → Along p fields q → (last : State) × (last.place ≡ q) × LeadsTo s fields last
 leads_along s p [] q e h = (s, e ∙ h, refl)
 leads_along s p (field ∷ fields) q e (next, (pass, h)) =
     let w = leads_along (state_after s field next) next fields q refl h in

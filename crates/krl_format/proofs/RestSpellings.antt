@@ -4,7 +4,7 @@ use Rattle.krl_format.proofs.Common.{[], ◌*◌, ◌++◌, ◌+◌, ◌-◌, �
 use Rattle.krl_format.proofs.Common.{bit_at, BitmapEntry, Bool, entries_of}
 use Rattle.krl_format.proofs.Common.{Entry, Field, fields_after, false, flat_map, Header, header_from}
 use Rattle.krl_format.proofs.Common.{header_with, IsNotNegative, IsSignature, item_entry, item_size}
-use Rattle.krl_format.proofs.Common.{ItemKind, KrlFault, LeadsRow, length, List, map}
+use Rattle.krl_format.proofs.Common.{ItemKind, KrlFault, BeginsWithTable, length, List, map}
 use Rattle.krl_format.proofs.Common.{NamesSame, number, number_of, Place, RangeEntry, SerialsEntry}
 use Rattle.krl_format.proofs.Common.{None, Option, row_of, SignaturesLast, Some}
 use Rattle.krl_format.proofs.Common.{SpelledSection, steps_of, Table}
@@ -157,7 +157,7 @@ FromOffset K a left after = λ bytes more. (8 ≤ left) × FromNumber (λ offset
 pub record FromRow (steps : List (Step KrlFault)) (Then : List (List ℕ) → Rest) (bytes : List ℕ) (more : List Entry) : Type 0 where
   pub values : List (List ℕ)
   pub rest : List ℕ
-  pub leads : (before : List (List ℕ)) → LeadsRow steps before bytes (before ++ values) rest
+  pub leads : (before : List (List ℕ)) → BeginsWithTable steps before bytes (before ++ values) rest
   pub then_is : Then values rest more
 
 -- A table in a part that has `left` bytes left. `Then` has the number of bytes that are left after it.

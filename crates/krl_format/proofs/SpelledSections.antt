@@ -20,7 +20,7 @@ use Rattle.krl_format.proofs.RestSpellings.{FromSections, FromSubsections, InRoo
 use Rattle.krl_format.proofs.RestSpellings.{LastFor, Rest, SerialItems}
 use Rattle.krl_format.proofs.Judgements.{held_back}
 use Rattle.krl_format.proofs.RestSpellings.{authority_from}
-use Rattle.krl_format.proofs.Common.{fields_after, Keys, LeadsRow, Section, section_row, Sha1s, Sha256s, signature_type}
+use Rattle.krl_format.proofs.Common.{fields_after, Keys, BeginsWithTable, Section, section_row, Sha1s, Sha256s, signature_type}
 use Rattle.krl_types.specs.declared.krl_fault.KrlFault.TheVariants as faults
 use Rattle.krl_format.specs.declared.section.ItemKind.TheVariants as kinds
 use Rattle.krl_format.specs.declared.section.Section.TheVariants as section_kinds
@@ -187,7 +187,7 @@ items_section K a kind type_byte section bytes more spelled names last l =
     (same_is more (section_entries (section h.items) ++ h.others) (h.named ∙ ap (λ (x : List Entry). x ++ h.others) (sym (names h.items)))) (last h.items k.sections k.last)
 
 -- the authority is the first value
-authority_first : (a bytes rest : List ℕ) (values : List (List ℕ)) → LeadsRow authority_fields [] bytes values rest
+authority_first : (a bytes rest : List ℕ) (values : List (List ℕ)) → BeginsWithTable authority_fields [] bytes values rest
     → authority_from (fields.Authority ∷ fields_after fields.Authority) a values ≡ slice_index_or values 0 []
 authority_first a bytes rest values (authority, b, is_authority, _, (reserved, c, is_reserved, _, (all, end))) =
     subst (λ (v : List (List ℕ)). authority_from (fields.Authority ∷ fields_after fields.Authority) a v ≡ slice_index_or v 0 []) all refl

@@ -2,7 +2,7 @@
 use Rattle.krl_format.proofs.Common.{[], ◌++◌, ◌+◌, ◌-◌, ◌<◌, ◌^◌, ◌∙◌, ◌∷◌, ◌≡◌, ◌≤◌, ap, append_assoc}
 use Rattle.krl_format.proofs.Common.{arith, BeginsWithPart, Bool, cond, eq-eqb, Err, Expected, expected}
 use Rattle.krl_format.proofs.Common.{false, Field, HasRoom, judge, KrlFault, le-ltb}
-use Rattle.krl_format.proofs.Common.{leads_front, LeadsRow, length, length-append, length-number}
+use Rattle.krl_format.proofs.Common.{leads_front, BeginsWithTable, length, length-append, length-number}
 use Rattle.krl_format.proofs.Common.{length-string, List, ltb, None, Number, number, number_of-number}
 use Rattle.krl_format.proofs.Common.{number_of, Ok, Option, Place, refl, Result, row_of, slice_index, Some}
 use Rattle.krl_format.proofs.Common.{next_subsection, steps_of, string, subst, suc, sym, Table, Text, true, within, zero, ℕ}
@@ -78,7 +78,7 @@ abbrev TailFits : Option Field → (tail rest : List ℕ) → Type 0
 TailFits None tail rest = length tail ≡ length rest
 TailFits (Some next) tail rest = length rest ≤ length tail
 
-tail_fits : (next : Option Field) (before values : List (List ℕ)) (tail rest : List ℕ) → LeadsRow (steps_of (fields_at next)) before tail values rest → TailFits next tail rest
+tail_fits : (next : Option Field) (before values : List (List ℕ)) (tail rest : List ℕ) → BeginsWithTable (steps_of (fields_at next)) before tail values rest → TailFits next tail rest
 tail_fits None before values tail rest leads = ap length leads.1
 tail_fits (Some next) before values tail rest leads =
     let f = leads_front (steps_of (fields_at (Some next))) before tail values rest leads in omega (arith, ap length f.1, length-append f.0 rest)
@@ -146,7 +146,7 @@ row_goes f Magnitude left end after before bytes value tail rest is begins passe
 
 -- the fields of a table from one on, of which there are fewer than `most`
 table_goes : (most : ℕ) (table : Table) (at : Option Field) (left end after : ℕ) (before values : List (List ℕ)) (bytes rest : List ℕ) → length (fields_at at) < most → table_at table at ≡ table
-    → LeadsRow (steps_of (fields_at at)) before bytes values rest → Ends table end → InPart table (Fill left end bytes rest) → Goes (place_in table at left after) bytes (table_end table end after) rest
+    → BeginsWithTable (steps_of (fields_at at)) before bytes values rest → Ends table end → InPart table (Fill left end bytes rest) → Goes (place_in table at left after) bytes (table_end table end after) rest
 table_goes most table None left end after before values bytes rest lt same leads ends filled =
     let here : InPart table (left ≡ end) = in_part table (λ (all : Fill left end bytes rest). omega (arith, all, ap length leads.1)) filled in
     subst (λ (p : Place). Goes p bytes (table_end table end after) rest) (sym (same_end table left end after here)) (goes_from leads.1 goes_none)
@@ -163,7 +163,7 @@ table_goes (suc most) table (Some f) left end after before values bytes rest lt 
     (subst (λ (t : Table). InPart t (Fill left end bytes rest)) (sym same) filled) walk)
 
 -- A whole table, whose values are any. The part around it has `end` bytes after the table.
-pub fields_go : (first : Field) (left end after : ℕ) (values : List (List ℕ)) (bytes rest : List ℕ) → LeadsRow (table_of first) [] bytes values rest → Ends (row_of first).table end
+pub fields_go : (first : Field) (left end after : ℕ) (values : List (List ℕ)) (bytes rest : List ℕ) → BeginsWithTable (table_of first) [] bytes values rest → Ends (row_of first).table end
     → InPart (row_of first).table (length bytes + end ≡ left + length rest) → Goes (places.Field first left after) bytes (table_end (row_of first).table end after) rest
 fields_go first left end after values bytes rest leads ends filled =
     table_goes (suc (length (fields_at (Some first)))) (row_of first).table (Some first) left end after [] values bytes rest (omega arith) refl leads ends filled

@@ -2,13 +2,13 @@
 use Rattle.krl_format.proofs.Common.{[], ◌++◌, ◌∙◌, ◌∷◌, ◌≡◌, ◌≤◌, ◌⊎◌, ap, append-nil, append_assoc}
 use Rattle.krl_format.proofs.Common.{arith, Bool, can_end, concat, concat-append, ended, ends_early}
 use Rattle.krl_format.proofs.Common.{expected, false, Header, inl, inr, IsBytes, IsFirstKrlFault}
-use Rattle.krl_format.proofs.Common.{KrlFault, le-ltb, Leads, length, length-append, limit, List, ltb}
+use Rattle.krl_format.proofs.Common.{KrlFault, le-ltb, LeadsTo, length, length-append, limit, List, ltb}
 use Rattle.krl_format.proofs.Common.{never_err, no_room, None, Option, Passes, Place, refl, refused}
 use Rattle.krl_format.proofs.Common.{Reported, Some, SpelledSection, Spells, start, State, subst, sym}
 use Rattle.krl_format.proofs.Common.{take_all, too_long, true, ℕ}
 use Rattle.krl_format.proofs.LongestFronts.{each_is_judged}
 use Rattle.krl_format.proofs.Fronts.{append_same, end_room, end_short, end_size, fronts_compare}
-use Rattle.krl_format.proofs.Fronts.{leads_to_one, Leads-split}
+use Rattle.krl_format.proofs.Fronts.{leads_to_one, LeadsTo-split}
 use Rattle.krl_format.proofs.Lists.{unfaulted_row}
 use Rattle.krl_format.proofs.SpelledLists.{spelled_unfaulted}
 use Rattle.krl_types.specs.declared.krl_fault.KrlFault.TheVariants as faults
@@ -41,20 +41,20 @@ none_left : (a b : List ℕ) → a ++ b ≡ [] → a ≡ []
 none_left [] b e = refl
 none_left (x ∷ a) b e = absurd (cc)
 
-cut_row : (p q last : State) (fields : List (List ℕ)) (rest more : List ℕ) (fault : Option KrlFault) → Leads q fields last → can_end last.place ≡ true → rest ++ more ≡ concat fields
+cut_row : (p q last : State) (fields : List (List ℕ)) (rest more : List ℕ) (fault : Option KrlFault) → LeadsTo q fields last → can_end last.place ≡ true → rest ++ more ≡ concat fields
     → Reported q.place rest false fault → IsCutFault fault
 cut_row p q last [] rest more fault leads may e reported = cut_end q.place rest fault (subst (λ (s : State). can_end s.place ≡ true) (sym leads) may) (none_left rest more e) reported
 cut_row p q last (field ∷ fields) rest more fault (next, (pass, leads)) may e reported = cut_field q.place next rest more field (concat fields) fault pass e reported
 
 -- if a row is longer than the whole list, its fields after the end would be empty
-cut_longer : (q : State) (fields : List (List ℕ)) (last : State) (rest more : List ℕ) (fault : Option KrlFault) → Leads q fields last → can_end q.place ≡ true → concat fields ++ (rest ++ more) ≡ []
+cut_longer : (q : State) (fields : List (List ℕ)) (last : State) (rest more : List ℕ) (fault : Option KrlFault) → LeadsTo q fields last → can_end q.place ≡ true → concat fields ++ (rest ++ more) ≡ []
     → Reported last.place rest false fault → IsCutFault fault
 cut_longer q [] last rest more fault leads may e reported =
     cut_end last.place rest fault (subst (λ (s : State). can_end s.place ≡ true) leads may) (none_left rest more e) reported
 cut_longer q (field ∷ fields) last rest more fault (next, (pass, leads)) may e reported =
     absurd (omega (arith, end_size q.place may, pass.whole, ap length e, length-append (field ++ concat fields) (rest ++ more), length-append field (concat fields)))
 
-cut_reported : (text prefix more : List ℕ) (fields : List (List ℕ)) (last : State) (fault : Option KrlFault) → text ≡ prefix ++ more → length text ≤ limit → Leads start fields last
+cut_reported : (text prefix more : List ℕ) (fields : List (List ℕ)) (last : State) (fault : Option KrlFault) → text ≡ prefix ++ more → length text ≤ limit → LeadsTo start fields last
     → can_end last.place ≡ true → text ≡ concat fields → IsFirstKrlFault prefix fault → IsCutFault fault
 cut_reported text prefix more fields last fault parts le leads may all h =
     let len = ap length parts ∙ length-append prefix more in
@@ -66,15 +66,15 @@ cut_reported text prefix more fields last fault parts le leads may all h =
     sym (append_assoc (concat h.fields) h.rest more) ∙ ap (λ (l : List ℕ). l ++ more) (sym front) ∙ sym parts ∙ all ∙ sym (append-nil (concat fields)) in
     elim (fronts_compare start h.state last h.fields fields (h.rest ++ more) [] h.front.front.leads leads whole) [
       | inl w ↦
-          let split = Leads-split start last h.fields w.0 (subst (λ (l : List (List ℕ)). Leads start l last) w.1 leads) in
+          let split = LeadsTo-split start last h.fields w.0 (subst (λ (l : List (List ℕ)). LeadsTo start l last) w.1 leads) in
           let same : split.0 ≡ h.state = leads_to_one start split.0 h.state h.fields split.1 h.front.front.leads in
-          let rest_leads : Leads h.state w.0 last = subst (λ (s : State). Leads s w.0 last) same split.2 in
+          let rest_leads : LeadsTo h.state w.0 last = subst (λ (s : State). LeadsTo s w.0 last) same split.2 in
           let e : concat h.fields ++ (h.rest ++ more) ≡ concat h.fields ++ concat w.0 = whole ∙ append-nil (concat fields) ∙ ap concat w.1 ∙ concat-append h.fields w.0 in
           cut_row start h.state last w.0 h.rest more fault rest_leads may (append_same (concat h.fields) (concat h.fields) (h.rest ++ more) (concat w.0) refl e).1 reported
       | inr w ↦
-          let split = Leads-split start h.state fields w.0 (subst (λ (l : List (List ℕ)). Leads start l h.state) w.1 h.front.front.leads) in
+          let split = LeadsTo-split start h.state fields w.0 (subst (λ (l : List (List ℕ)). LeadsTo start l h.state) w.1 h.front.front.leads) in
           let same : split.0 ≡ last = leads_to_one start split.0 last fields split.1 leads in
-          let rest_leads : Leads last w.0 h.state = subst (λ (s : State). Leads s w.0 h.state) same split.2 in
+          let rest_leads : LeadsTo last w.0 h.state = subst (λ (s : State). LeadsTo s w.0 h.state) same split.2 in
           let e : concat fields ++ (concat w.0 ++ (h.rest ++ more)) ≡ concat fields ++ [] =
           sym (append_assoc (concat fields) (concat w.0) (h.rest ++ more)) ∙ ap (λ (l : List ℕ). l ++ (h.rest ++ more)) (sym (concat-append fields w.0)) ∙ ap (λ (l : List (List ℕ)). concat l ++ (h.rest ++ more)) (sym w.1) ∙ whole in
           cut_longer last w.0 h.state h.rest more fault rest_leads may (append_same (concat fields) (concat fields) (concat w.0 ++ (h.rest ++ more)) [] refl e).1 reported

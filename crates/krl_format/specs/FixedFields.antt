@@ -6,7 +6,7 @@ use Rattle.krl_format.specs.declared.place.Place.{Place}
 use Rattle.krl_format.specs.declared.place.Place.TheVariants as places
 use Rattle.krl_format.specs.declared.place.field.Table.{Table}
 use Rattle.krl_format.specs.declared.place.field.Table.TheVariants as tables
-use Rattle.krl_format.specs.Front.{State, start, Leads}
+use Rattle.krl_format.specs.Front.{State, start, LeadsTo}
 use Rattle.krl_format.specs.Field.{row_of}
 
 abbrev pub is_header : Table → Bool
@@ -25,6 +25,6 @@ pub record HasFixedFields (text : List ℕ) : Type 0 where
   pub fields : List (List ℕ)
   pub state : State
   pub rest : List ℕ
-  pub leads : Leads start fields state
+  pub leads : LeadsTo start fields state
   pub parts : text ≡ concat fields ++ rest
   pub past : is_fixed state.place ≡ false

@@ -52,17 +52,17 @@ state_after state field next = record {
 }
 
 -- The row is whole fields that each pass their judgement. It leads from one state to another.
-abbrev pub Leads : State → List (List ℕ) → State → Type 0
-Leads state [] last = state ≡ last
-Leads state (field ∷ fields) last =
+abbrev pub LeadsTo : State → List (List ℕ) → State → Type 0
+LeadsTo state [] last = state ≡ last
+LeadsTo state (field ∷ fields) last =
     (next : Place)
-    × (Passes state.place field next × Leads (state_after state field next) fields last)
+    × (Passes state.place field next × LeadsTo (state_after state field next) fields last)
 
 -- The text begins with a row of fields, within the limit. After the row the text is in a state, and
 -- `rest` is left up to the limit.
 pub record IsFront (text : List ℕ) (fields : List (List ℕ)) (state : State) (rest : List ℕ)
     : Type 0 where
-  pub leads : Leads start fields state
+  pub leads : LeadsTo start fields state
   pub parts : take limit text ≡ concat fields ++ rest
 
 -- no next field makes a longer front

@@ -3,7 +3,7 @@ use Rattle.std.specs.Prelude.{◌≡◌, ℕ, ◌+◌, ◌<◌, ◌≤◌, ◌^�
 use Rattle.std.specs.Prelude.{slice_index_or}
 use Rattle.std.specs.List.{flat_map, AllByRecursion}
 use Rattle.std.specs.Int.{bit_at}
-use Rattle.ssh_wire.specs.Rows.{Leads, Step}
+use Rattle.ssh_wire.specs.Rows.{BeginsWithTable, Step}
 use Rattle.ssh_wire.specs.Wire.{number, number_of, string, strings}
 use Rattle.krl_types.specs.declared.krl_fault.KrlFault.{KrlFault}
 use Rattle.krl_format.specs.Field.{empty_header, fields_after, header_from, table_of}
@@ -65,7 +65,7 @@ authority_fields = table_of fields.Authority
 
 -- The text is the fields of a table, with any values.
 abbrev pub SpellsFields : List (Step KrlFault) → List ℕ → Type 0
-SpellsFields steps text = (values : List (List ℕ)) × Leads steps [] text values []
+SpellsFields steps text = (values : List (List ℕ)) × BeginsWithTable steps [] text values []
 
 -- The text is the spellings of the items, one after the other.
 abbrev pub SpellsEach : {X : Type 0} → (List ℕ → X → Type 0) → List ℕ → List X → Type 0
@@ -127,7 +127,7 @@ pub record SpellsCertificates (content authority : List ℕ) (subsections : List
     : Type 0 where
   pub values : List (List ℕ)
   pub body : List ℕ
-  pub fields : Leads authority_fields [] content values body
+  pub fields : BeginsWithTable authority_fields [] content values body
   pub authority_is : slice_index_or values 0 [] ≡ authority
   pub subsections_are : SpellsEach SpellsSubsection body subsections
 
@@ -174,7 +174,7 @@ SignaturesLast (section ∷ sections) = SignaturesLast sections
 pub record Spells (text : List ℕ) (header : Header) (sections : List SpelledSection) : Type 0 where
   pub values : List (List ℕ)
   pub body : List ℕ
-  pub fields : Leads header_fields [] text values body
+  pub fields : BeginsWithTable header_fields [] text values body
   pub header_is : header_of values ≡ header
   pub sections_are : SpellsEach SpellsSection body sections
   pub signatures_last : SignaturesLast sections

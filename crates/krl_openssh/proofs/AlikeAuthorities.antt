@@ -1,7 +1,7 @@
 -- The authorities of a list without a difference are keys that OpenSSH accepts.
 use Rattle.std.proofs.Common.{◌≡◌, ℕ, ◌-◌, ◌<◌, ◌^◌, true, false, List, [], ◌∷◌, ◌++◌, length, None, Result, Ok, Err, inl, inr, refl, sym, ap, subst, ◌∙◌, arith, ltb, append_assoc}
 use Rattle.std.specs.Prelude.{slice_index_or}
-use Rattle.ssh_wire.specs.Rows.{BeginsWithPart, Leads, Text}
+use Rattle.ssh_wire.specs.Rows.{BeginsWithPart, BeginsWithTable, Text}
 use Rattle.ssh_wire.specs.Wire.{IsBytes, number, number_of, string}
 use Rattle.ssh_wire.proofs.Digits.{IsBytes-back, IsBytes-front}
 use Rattle.ssh_wire.proofs.Fields.{IsBytes-in_string, length-number, number_of-number}
@@ -97,7 +97,7 @@ at_section _ content authority more rest may parts fits alike = absurd cc
 -- ---- all sections
 
 -- the content begins with the authority
-authority_front : (content body : List ℕ) (values : List (List ℕ)) → Leads authority_fields [] content values body → (more : List ℕ) × BeginsWithPart Text content (slice_index_or values 0 []) more
+authority_front : (content body : List ℕ) (values : List (List ℕ)) → BeginsWithTable authority_fields [] content values body → (more : List ℕ) × BeginsWithPart Text content (slice_index_or values 0 []) more
 authority_front content body values (authority, a, is_authority, any_authority, (reserved, b, is_reserved, any_reserved, (same, ends))) =
     (a, subst (λ (v : List (List ℕ)). BeginsWithPart Text content (slice_index_or v 0 []) a) same is_authority)
 

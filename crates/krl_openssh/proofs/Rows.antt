@@ -6,7 +6,7 @@ use Rattle.std.proofs.lemmas.Bool.{ltb-false}
 use Rattle.std.proofs.lemmas.List.{append-nil, length-take-le, take-append-drop, take_all, take_rest}
 use Rattle.krl_types.specs.declared.krl_fault.KrlFault.{KrlFault}
 use Rattle.krl_format.specs.declared.place.Place.{Place}
-use Rattle.krl_format.specs.Front.{IsEnd, IsFirstKrlFault, IsFront, Leads, Passes, Reported, State, ended, ends_early, limit, no_room, refused, start, state_after, too_long}
+use Rattle.krl_format.specs.Front.{IsEnd, IsFirstKrlFault, IsFront, LeadsTo, Passes, Reported, State, ended, ends_early, limit, no_room, refused, start, state_after, too_long}
 use Rattle.krl_format.specs.Place.{can_end, expected}
 use Rattle.krl_format.proofs.LongestFronts.{nearer, weight}
 use Rattle.krl_format.proofs.Fronts.{append_same, end_size}
@@ -104,7 +104,7 @@ comes_nearer place next rest size within passes =
 
 -- ---- the row of a list
 
-leads_whole : (first last : State) (fields : List (List ℕ)) → Leads first fields last → can_end last.place ≡ true → AreWhole first.place fields
+leads_whole : (first last : State) (fields : List (List ℕ)) → LeadsTo first fields last → can_end last.place ≡ true → AreWhole first.place fields
 leads_whole first last [] leads may = subst (λ (s : State). can_end s.place ≡ true) (sym leads) may
 leads_whole first last (field ∷ fields) leads may = (leads.0, (leads.1.0, leads_whole (state_after first field leads.0) last fields leads.1.1 may))
 

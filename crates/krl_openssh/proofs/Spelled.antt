@@ -3,7 +3,7 @@ use Rattle.std.proofs.Common.{◌≡◌, ℕ, ◌^◌, ◌<◌, ◌≤◌, ◌-�
 use Rattle.std.proofs.lemmas.Bool.{false≢true}
 use Rattle.std.proofs.lemmas.List.{append-nil, length-take-le, take_rest}
 use Rattle.std.specs.Prelude.{IsTrue, ◌↔◌, Option, Some, Result, Ok, Err, slice_index_or}
-use Rattle.ssh_wire.specs.Rows.{BeginsWithPart, Leads, Text}
+use Rattle.ssh_wire.specs.Rows.{BeginsWithPart, BeginsWithTable, Text}
 use Rattle.ssh_wire.specs.declared.fault.WireFault.{WireFault}
 use Rattle.ssh_wire.specs.Wire.{number_of, string}
 use Rattle.krl_format.specs.Field.{row_of, steps_of}
@@ -45,7 +45,7 @@ one_read read x y e f = grind arith
 
 -- the fields of the header from one on, and then the sections
 abbrev pub Leaves : Option Field → (left body : List ℕ) → Type 0
-Leaves at left body = (before values : List (List ℕ)) × Leads (steps_of (fields_at at)) before left values body
+Leaves at left body = (before values : List (List ℕ)) × BeginsWithTable (steps_of (fields_at at)) before left values body
 
 -- the field at the front
 pub leaves_field : (field : Field) (left body : List ℕ) → Leaves (Some field) left body → (value rest : List ℕ) × BeginsWithPart (row_of field).step.part left value rest
@@ -140,7 +140,7 @@ has_string section first rest spells next after is none =
 -- ---- the judgement on a section
 
 -- a content begins with its authority
-authority_front : (content body : List ℕ) (values : List (List ℕ)) → Leads authority_fields [] content values body → (more : List ℕ) × BeginsWithPart Text content (slice_index_or values 0 []) more
+authority_front : (content body : List ℕ) (values : List (List ℕ)) → BeginsWithTable authority_fields [] content values body → (more : List ℕ) × BeginsWithPart Text content (slice_index_or values 0 []) more
 authority_front content body values (authority, a, is_authority, any_authority, (reserved, b, is_reserved, any_reserved, (same, ends))) =
     (a, subst (λ (v : List (List ℕ)). BeginsWithPart Text content (slice_index_or v 0 []) a) same is_authority)
 

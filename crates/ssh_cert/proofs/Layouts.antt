@@ -1,6 +1,6 @@
 -- The tables of a certificate spell the bytes that are written out.
 use Rattle.std.proofs.Common.{◌≡◌, ℕ, ◌^◌, ◌<◌, List, [], ◌∷◌, ◌++◌, length, map, refl, ap, subst, ◌∙◌, arith}
-use Rattle.ssh_wire.specs.Rows.{Leads, row_text}
+use Rattle.ssh_wire.specs.Rows.{BeginsWithTable, row_text}
 use Rattle.ssh_wire.specs.Wire.{string}
 use Rattle.ssh_wire.proofs.RowLaws.{AreParts, ArePassed, leads_text, row_led}
 use Rattle.ssh_key.specs.Key.{BeginsWithFields, PublicKey}
@@ -23,7 +23,7 @@ role_fits Host = omega arith
 
 -- ---- what the tables spell
 
-nonce_fits : (blob name nonce fields : List ℕ) → Leads opening_fields [] blob (name ∷ nonce ∷ []) fields → length nonce < 2 ^ 32
+nonce_fits : (blob name nonce fields : List ℕ) → BeginsWithTable opening_fields [] blob (name ∷ nonce ∷ []) fields → length nonce < 2 ^ 32
 nonce_fits blob name nonce fields (first, left, s, _, (second, rest, t, _, (all, same))) =
     let nonces : second ≡ nonce = cc in subst (λ (v : List ℕ). length v < 2 ^ 32) nonces t.is_part
 
@@ -33,7 +33,7 @@ joined first second public opens found closes =
     opens ∙ ap (λ (t : List ℕ). first ++ (second ++ t)) (found ∙ ap (λ (t : List ℕ). public ++ t) closes)
 
 -- a certificate of these values
-spelled_with : (blob nonce fields rest : List ℕ) (key : PublicKey) (values : Values closing_table) → Leads opening_fields [] blob (certificate_name key.kind ∷ nonce ∷ []) fields → BeginsWithFields fields key rest
+spelled_with : (blob nonce fields rest : List ℕ) (key : PublicKey) (values : Values closing_table) → BeginsWithTable opening_fields [] blob (certificate_name key.kind ∷ nonce ∷ []) fields → BeginsWithFields fields key rest
     → rest ≡ row_text closing_fields (texts_of closing_table values) → AreParts closing_fields (texts_of closing_table values) → AreValues closing_table values → IsCertificateText blob (certificate_with nonce key values)
 spelled_with blob nonce fields rest key (serial, (role, (key_id, (principals, (after, (before, (critical, (extensions, (reserved, (authority, (signature, none))))))))))) opening public closing
     (serial_is, (role_is, (key_id_is, (principals_are, (after_is, (before_is, (critical_are, (extensions_are, (reserved_is, (authority_is, (signature_is, _)))))))))))

@@ -3,7 +3,7 @@ use Rattle.std.proofs.Common.{◌≡◌, ℕ, ◌-◌, ◌<◌, List, [], ◌++�
 use Rattle.std.proofs.lemmas.Bool.{cases_lt}
 use Rattle.std.proofs.lemmas.List.{length-append, take-append-le, take_at}
 use Rattle.ssh_wire.specs.declared.fault.WireFault.TheVariants.{Short}
-use Rattle.ssh_wire.specs.Rows.{Leads}
+use Rattle.ssh_wire.specs.Rows.{BeginsWithTable}
 use Rattle.ssh_wire.proofs.TruncatedFields.{take-after}
 use Rattle.ssh_wire.proofs.RowLaws.{leads_front, leads_more, row_cut}
 use Rattle.ssh_key.specs.declared.fault.KeyFault.TheVariants as keys
@@ -19,7 +19,7 @@ use Rattle.ssh_cert.specs.Laws.{HasCutFault, IsCut}
 use Rattle.ssh_cert.proofs.Certs.{kind_is}
 
 -- the first fields, and then only some of the bytes after them
-cut_fields : (blob front : List ℕ) (c : Cert) (n : ℕ) (is : IsCertificate blob c) → n < length is.fields → Leads opening_fields [] front (opening_values c) (take n is.fields) → HasCutFault front
+cut_fields : (blob front : List ℕ) (c : Cert) (n : ℕ) (is : IsCertificate blob c) → n < length is.fields → BeginsWithTable opening_fields [] front (opening_values c) (take n is.fields) → HasCutFault front
 cut_fields blob front c n is lt opening =
     let public : List ℕ = c.key.fields in
     let kind : c.key.kind ≡ kind_of (opening_values c) = kind_is c in

@@ -1,6 +1,6 @@
 -- The content of a certificate, and how its blob is spelled (PROTOCOL.certkeys).
 use Rattle.std.specs.Prelude.{◌≡◌, ℕ, List, [], ◌∷◌}
-use Rattle.ssh_wire.specs.Rows.{Leads}
+use Rattle.ssh_wire.specs.Rows.{BeginsWithTable}
 use Rattle.ssh_wire.specs.Wire.{BeginsWith, strings}
 use Rattle.ssh_key.specs.Key.{BeginsWithFields, IsKey, PublicKey}
 use Rattle.ssh_key.specs.Kind.{certificate_name}
@@ -112,8 +112,8 @@ pub record IsCertificate (blob : List ℕ) (certificate : Cert) : Type 0 where
   pub values : Values closing_table
   pub fields : List ℕ
   pub rest : List ℕ
-  pub opening : Leads opening_fields [] blob (opening_values certificate) fields
+  pub opening : BeginsWithTable opening_fields [] blob (opening_values certificate) fields
   pub public : BeginsWithFields fields certificate.key rest
-  pub closing : Leads closing_fields [] rest (texts_of closing_table values) []
+  pub closing : BeginsWithTable closing_fields [] rest (texts_of closing_table values) []
   pub are_values : AreValues closing_table values
   pub same : certificate_with certificate.nonce certificate.key values ≡ certificate

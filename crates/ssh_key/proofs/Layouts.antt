@@ -5,7 +5,7 @@ use Rattle.std.specs.Str.{bytes_eq}
 use Rattle.std.proofs.lemmas.Bool.{and_parts, eq-eqb, eqb-true, ne_eqb}
 use Rattle.std.proofs.lemmas.List.{length-append}
 use Rattle.std.proofs.lemmas.Slice.Eq.{bytes_eq-Decides}
-use Rattle.ssh_wire.specs.Rows.{IsPart, Leads, Magnitude, fault_unless, row_text}
+use Rattle.ssh_wire.specs.Rows.{IsPart, BeginsWithTable, Magnitude, fault_unless, row_text}
 use Rattle.ssh_wire.specs.Wire.{IsMagnitude, complement, mpint, string}
 use Rattle.ssh_wire.proofs.RowLaws.{ArePassed, length-row, row_led}
 use Rattle.ssh_wire.proofs.Steps.{above_zero}
@@ -86,14 +86,14 @@ application_passes value is = rw (application_has_none value is) refl
 
 -- ---- what a table spells
 
-ecdsa_spelled : (curve : List ℕ) (size : ℕ) (bytes : List ℕ) (values : List (List ℕ)) → Leads (curve_field curve ∷ point_field size ∷ []) [] bytes values [] → IsEcdsaText curve size bytes
+ecdsa_spelled : (curve : List ℕ) (size : ℕ) (bytes : List ℕ) (values : List (List ℕ)) → BeginsWithTable (curve_field curve ∷ point_field size ∷ []) [] bytes values [] → IsEcdsaText curve size bytes
 ecdsa_spelled curve size bytes values (name, a, is_name, named, (point, b, is_point, passed, (all, end))) = record {
   point = point;
   spelled = is_name.spelled ∙ ap (λ (c : List ℕ). string c ++ a) (curve_is curve name named) ∙ ap (λ (t : List ℕ). string curve ++ t) (is_point.spelled ∙ ap (λ (t : List ℕ). string point ++ t) end);
   point_is = point_is size point passed;
 }
 
-pub public_spelled : (kind : Kind) (bytes : List ℕ) (values : List (List ℕ)) (bits : ℕ) → Leads (fields_of kind) [] bytes values [] → bits ≡ bits_of kind values → IsPublicText kind bytes bits
+pub public_spelled : (kind : Kind) (bytes : List ℕ) (values : List (List ℕ)) (bits : ℕ) → BeginsWithTable (fields_of kind) [] bytes values [] → bits ≡ bits_of kind values → IsPublicText kind bytes bits
 public_spelled Rsa bytes values bits (e, a, is_e, e_passed, (n, b, is_n, n_passed, (all, end))) same = record {
   e = e;
   n = n;
@@ -263,7 +263,7 @@ key_spells blob key is =
     let short : length key.fields ≤ 65536 = omega (arith, is.short, ap length is.spelled, length-append (string (type_name key.kind)) key.fields) in
     record {
       values = w.values;
-      fields = subst (λ (t : List ℕ). Leads (fields_of key.kind) [] t w.values []) (sym w.spelled) (row_led (fields_of key.kind) [] w.values (w.passed short));
+      fields = subst (λ (t : List ℕ). BeginsWithTable (fields_of key.kind) [] t w.values []) (sym w.spelled) (row_led (fields_of key.kind) [] w.values (w.passed short));
       bits = w.bits_are;
       spelled = is.spelled;
       short = is.short;

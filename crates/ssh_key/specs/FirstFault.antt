@@ -2,7 +2,7 @@
 use Rattle.std.specs.Prelude.{◌≡◌, ◌≢◌, ℕ, ◌+◌, ◌<◌, ◌≤◌, List, [], ◌++◌, length, Err}
 use Rattle.ssh_wire.specs.Wire.{BeginsWith, string}
 use Rattle.ssh_wire.specs.Reading.{string_at}
-use Rattle.ssh_wire.specs.Rows.{Fails, Leads}
+use Rattle.ssh_wire.specs.Rows.{Fails, BeginsWithTable}
 use Rattle.ssh_wire.specs.declared.fault.WireFault.{WireFault}
 use Rattle.ssh_key.specs.declared.fault.KeyFault.{KeyFault}
 use Rattle.ssh_key.specs.declared.fault.KeyFault.TheVariants as faults
@@ -15,7 +15,7 @@ use Rattle.ssh_key.specs.Key.{longest_blob}
 pub data IsFieldsFault (kind : Kind) (bytes : List ℕ) (fault : KeyFault) : Type 0 where
   in_field : Fails faults.Wire (fields_of kind) [] bytes fault → IsFieldsFault kind bytes fault
   long_fields : (values : List (List ℕ)) (rest : List ℕ)
-      → Leads (fields_of kind) [] bytes values rest
+      → BeginsWithTable (fields_of kind) [] bytes values rest
       → longest_blob + length rest < length (string (type_name kind) ++ bytes)
       → fault ≡ faults.TooLong → IsFieldsFault kind bytes fault
 
@@ -28,7 +28,7 @@ pub data IsFault (blob : List ℕ) (fault : KeyFault) : Type 0 where
   in_fields : (kind : Kind) (fields : List ℕ) → blob ≡ string (type_name kind) ++ fields
       → IsFieldsFault kind fields fault → IsFault blob fault
   after_fields : (kind : Kind) (values : List (List ℕ)) (fields rest : List ℕ)
-      → blob ≡ string (type_name kind) ++ fields → Leads (fields_of kind) [] fields values rest
+      → blob ≡ string (type_name kind) ++ fields → BeginsWithTable (fields_of kind) [] fields values rest
       → 0 < length rest → fault ≡ faults.Trailing → IsFault blob fault
 
 pub data IsFirstKeyFault (blob : List ℕ) (fault : KeyFault) : Type 0 where

@@ -1,7 +1,7 @@
 -- Public keys, and the one spelling of their blobs (RFC 4253 section 6.6, RFC 5656, RFC 8709
 -- and OpenSSH's PROTOCOL.u2f).
 use Rattle.std.specs.Prelude.{◌≡◌, ℕ, ◌<◌, ◌≤◌, List, [], ◌∷◌, ◌++◌, length}
-use Rattle.ssh_wire.specs.Rows.{Leads}
+use Rattle.ssh_wire.specs.Rows.{BeginsWithTable}
 use Rattle.ssh_wire.specs.Wire.{string}
 use Rattle.ssh_key.specs.declared.kind.Kind.{Kind}
 use Rattle.ssh_key.specs.Kind.{bits_of, fields_of, type_name}
@@ -28,7 +28,7 @@ IsPositive (byte ∷ bytes) = 0 < byte
 -- The blob is that of the key: its type name and its public fields, and nothing more.
 pub record IsKey (blob : List ℕ) (key : PublicKey) : Type 0 where
   pub values : List (List ℕ)
-  pub fields : Leads (fields_of key.kind) [] key.fields values []
+  pub fields : BeginsWithTable (fields_of key.kind) [] key.fields values []
   pub bits : key.bits ≡ bits_of key.kind values
   pub spelled : blob ≡ blob_of key
   pub short : length blob ≤ longest_blob

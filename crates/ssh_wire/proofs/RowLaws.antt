@@ -6,7 +6,7 @@ use Rattle.std.proofs.lemmas.List.{append-nil, length-append, length-drop, take-
 use Rattle.ssh_wire.specs.Laws.{IsShortWhereCut}
 use Rattle.ssh_wire.specs.Wire.{IsBytes, complement}
 use Rattle.ssh_wire.specs.Reading.{in_fault, mpint_at, number_at, string_at}
-use Rattle.ssh_wire.specs.Rows.{BeginsWithPart, Fails, IsPart, Leads, Magnitude, Number, Part, Step, StepFails, Text, alone, part_at, part_text, row_at, row_text, step_at, unless}
+use Rattle.ssh_wire.specs.Rows.{BeginsWithPart, Fails, IsPart, BeginsWithTable, Magnitude, Number, Part, Step, StepFails, Text, alone, part_at, part_text, row_at, row_text, step_at, unless}
 use Rattle.ssh_wire.specs.declared.fault.WireFault.{WireFault}
 use Rattle.ssh_wire.specs.declared.fault.WireFault.TheVariants.{Short}
 use Rattle.ssh_wire.proofs.TruncatedFields.{mpint-cut, number-cut, string-cut, take-after}
@@ -94,7 +94,7 @@ step_refused unread s before bytes fault fits e =
 
 -- a table, and bytes after it
 pub record Led {F : Type 0} (steps : List (Step F)) (before : List (List ℕ)) (bytes : List ℕ) (values : List (List ℕ)) (rest : List ℕ) : Type 0 where
-  pub leads : Leads steps before bytes values rest
+  pub leads : BeginsWithTable steps before bytes values rest
   pub rest_fits : IsBytes rest
 
 pub row_takes : {F : Type 0} (unread : WireFault → F) (steps : List (Step F)) (before : List (List ℕ)) (bytes : List ℕ) (x : List (List ℕ) × List ℕ) → IsBytes bytes → row_at unread steps before bytes ≡ Ok x → Led steps before bytes x.0 x.1
@@ -108,7 +108,7 @@ row_takes unread (s ∷ steps) before bytes x fits e =
     let later = row_takes unread steps (before ++ a.0.0 ∷ []) a.0.1 x t.0.rest_fits a.2 in
     record { leads = (a.0.0, a.0.1, t.0.stands, t.1, later.leads); rest_fits = later.rest_fits }
 
-pub row_again : {F : Type 0} (unread : WireFault → F) (steps : List (Step F)) (before : List (List ℕ)) (bytes : List ℕ) (values : List (List ℕ)) (rest : List ℕ) → Leads steps before bytes values rest → row_at unread steps before bytes ≡ Ok (values, rest)
+pub row_again : {F : Type 0} (unread : WireFault → F) (steps : List (Step F)) (before : List (List ℕ)) (bytes : List ℕ) (values : List (List ℕ)) (rest : List ℕ) → BeginsWithTable steps before bytes values rest → row_at unread steps before bytes ≡ Ok (values, rest)
 unfolding row_at
 row_again unread [] before bytes values rest l = rw (l.0, l.1) refl
 row_again unread (s ∷ steps) before bytes values rest (value, left, stands, passed, l) =
@@ -139,11 +139,11 @@ pub one_fault : {F : Type 0} (unread : WireFault → F) (steps : List (Step F)) 
 one_fault unread steps before bytes a b p q =
     err_is a b (row_at unread steps before bytes) (row_fails unread steps before bytes a p) (row_fails unread steps before bytes b q)
 
-pub no_fault : {F : Type 0} (unread : WireFault → F) (steps : List (Step F)) (before : List (List ℕ)) (bytes : List ℕ) (values : List (List ℕ)) (rest : List ℕ) (fault : F) → Leads steps before bytes values rest → Fails unread steps before bytes fault → ⊥
+pub no_fault : {F : Type 0} (unread : WireFault → F) (steps : List (Step F)) (before : List (List ℕ)) (bytes : List ℕ) (values : List (List ℕ)) (rest : List ℕ) (fault : F) → BeginsWithTable steps before bytes values rest → Fails unread steps before bytes fault → ⊥
 no_fault unread steps before bytes values rest fault l f =
     ok_or_err (values, rest) fault (row_at unread steps before bytes) (row_again unread steps before bytes values rest l) (row_fails unread steps before bytes fault f)
 
-pub row_cut : {F : Type 0} (unread : WireFault → F) (steps : List (Step F)) (before : List (List ℕ)) (bytes : List ℕ) (values : List (List ℕ)) (n : ℕ) → Leads steps before bytes values [] → n < length bytes → Fails unread steps before (take n bytes) (unread Short)
+pub row_cut : {F : Type 0} (unread : WireFault → F) (steps : List (Step F)) (before : List (List ℕ)) (bytes : List ℕ) (values : List (List ℕ)) (n : ℕ) → BeginsWithTable steps before bytes values [] → n < length bytes → Fails unread steps before (take n bytes) (unread Short)
 row_cut unread [] before bytes values n l lt = absurd (omega (arith, ap length l.1))
 row_cut unread (s ∷ steps) before bytes values n (value, left, stands, passed, l) lt =
     let text : List ℕ = part_text s.part value in
@@ -158,7 +158,7 @@ row_cut unread (s ∷ steps) before bytes values n (value, left, stands, passed,
 -- ---- the bytes of a table alone
 
 -- the bytes before the rest
-pub leads_front : {F : Type 0} (steps : List (Step F)) (before : List (List ℕ)) (bytes : List ℕ) (values : List (List ℕ)) (rest : List ℕ) → Leads steps before bytes values rest → (text : List ℕ) × (bytes ≡ text ++ rest) × Leads steps before text values []
+pub leads_front : {F : Type 0} (steps : List (Step F)) (before : List (List ℕ)) (bytes : List ℕ) (values : List (List ℕ)) (rest : List ℕ) → BeginsWithTable steps before bytes values rest → (text : List ℕ) × (bytes ≡ text ++ rest) × BeginsWithTable steps before text values []
 leads_front [] before bytes values rest l = ([], l.1, (l.0, refl))
 leads_front (s ∷ steps) before bytes values rest (value, left, stands, passed, l) =
     let later = leads_front steps (before ++ value ∷ []) left values rest l in
@@ -167,7 +167,7 @@ leads_front (s ∷ steps) before bytes values rest (value, left, stands, passed,
     (text ++ later.0, parts, (value, later.0, record { is_part = stands.is_part; spelled = refl }, passed, later.2))
 
 -- the same bytes before others
-pub leads_more : {F : Type 0} (steps : List (Step F)) (before : List (List ℕ)) (bytes : List ℕ) (values : List (List ℕ)) (rest more : List ℕ) → Leads steps before bytes values rest → Leads steps before (bytes ++ more) values (rest ++ more)
+pub leads_more : {F : Type 0} (steps : List (Step F)) (before : List (List ℕ)) (bytes : List ℕ) (values : List (List ℕ)) (rest more : List ℕ) → BeginsWithTable steps before bytes values rest → BeginsWithTable steps before (bytes ++ more) values (rest ++ more)
 leads_more [] before bytes values rest more l = (l.0, ap (λ (t : List ℕ). t ++ more) l.1)
 leads_more (s ∷ steps) before bytes values rest more (value, left, stands, passed, l) =
     let parts : bytes ++ more ≡ part_text s.part value ++ (left ++ more) = ap (λ (t : List ℕ). t ++ more) stands.spelled ∙ append_assoc (part_text s.part value) left more in
@@ -187,7 +187,7 @@ record Own {F : Type 0} (steps : List (Step F)) (before : List (List ℕ)) (byte
   parts : bytes ≡ row_text steps own ++ rest
   are : AreParts steps own
 
-own_values : {F : Type 0} (steps : List (Step F)) (before : List (List ℕ)) (bytes : List ℕ) (values : List (List ℕ)) (rest : List ℕ) → Leads steps before bytes values rest → Own steps before bytes values rest
+own_values : {F : Type 0} (steps : List (Step F)) (before : List (List ℕ)) (bytes : List ℕ) (values : List (List ℕ)) (rest : List ℕ) → BeginsWithTable steps before bytes values rest → Own steps before bytes values rest
 own_values [] before bytes values rest l = record { own = []; all = sym l.0 ∙ sym (append-nil before); parts = l.1; are = tt }
 own_values (s ∷ steps) before bytes values rest (value, left, stands, passed, l) =
     let later = own_values steps (before ++ value ∷ []) left values rest l in
@@ -198,7 +198,7 @@ own_values (s ∷ steps) before bytes values rest (value, left, stands, passed, 
       are = (stands.is_part, later.are);
     }
 
-pub leads_text : {F : Type 0} (steps : List (Step F)) (text : List ℕ) (values : List (List ℕ)) → Leads steps [] text values [] → (text ≡ row_text steps values) × AreParts steps values
+pub leads_text : {F : Type 0} (steps : List (Step F)) (text : List ℕ) (values : List (List ℕ)) → BeginsWithTable steps [] text values [] → (text ≡ row_text steps values) × AreParts steps values
 leads_text steps text values l =
     let o = own_values steps [] text values [] l in
     subst (λ (v : List (List ℕ)). (text ≡ row_text steps v) × AreParts steps v) (sym o.all) (o.parts ∙ append-nil (row_text steps o.own), o.are)
@@ -211,7 +211,7 @@ ArePassed [] before values = values ≡ []
 ArePassed (s ∷ steps) before [] = ⊥
 ArePassed (s ∷ steps) before (value ∷ values) = IsPart s.part value × (s.judged before value ≡ None) × ArePassed steps (before ++ value ∷ []) values
 
-pub row_led : {F : Type 0} (steps : List (Step F)) (before values : List (List ℕ)) → ArePassed steps before values → Leads steps before (row_text steps values) (before ++ values) []
+pub row_led : {F : Type 0} (steps : List (Step F)) (before values : List (List ℕ)) → ArePassed steps before values → BeginsWithTable steps before (row_text steps values) (before ++ values) []
 row_led [] before values none = (sym (append-nil before) ∙ ap (λ (others : List (List ℕ)). before ++ others) (sym none), refl)
 row_led (s ∷ steps) before [] none = absurd none
 row_led (s ∷ steps) before (value ∷ values) (is, passed, later) =

@@ -56,13 +56,13 @@ fault_unless fault holds = if holds then None else Some fault
 
 -- After the values before it the bytes are the row: each part is in its place and passes its
 -- judgement. All values, and the bytes that are left.
-abbrev pub Leads
+abbrev pub BeginsWithTable
     : {F : Type 0} → List (Step F) → List (List ℕ) → List ℕ → List (List ℕ) → List ℕ → Type 0
-Leads [] before bytes values rest = (before ≡ values) × (bytes ≡ rest)
-Leads (expected ∷ steps) before bytes values rest =
+BeginsWithTable [] before bytes values rest = (before ≡ values) × (bytes ≡ rest)
+BeginsWithTable (expected ∷ steps) before bytes values rest =
     (value : List ℕ) × (left : List ℕ) × BeginsWithPart expected.part bytes value left
     × (expected.judged before value ≡ None)
-    × Leads steps (before ++ value ∷ []) left values rest
+    × BeginsWithTable steps (before ++ value ∷ []) left values rest
 
 -- The part at the front cannot be read, or fails its judgement.
 abbrev pub StepFails

@@ -2,7 +2,7 @@
 //! nothing: its contract is the law.
 
 ghost use Rattle.std.specs.Prelude.{◌≡◌, ◌↔◌, ℕ, List, [], slice_index_or};
-ghost use Rattle.ssh_wire.specs.Rows.{Leads};
+ghost use Rattle.ssh_wire.specs.Rows.{BeginsWithTable};
 ghost use Rattle.ssh_wire.specs.Wire.{number};
 ghost use Rattle.krl_format.specs.Field.{magic_number};
 ghost use Rattle.krl_format.specs.Krl.{SpellsFields, authority_fields, extension_fields};
@@ -20,10 +20,10 @@ pub fn magic_is_these_bytes()
 /// and comment in their places.
 pub fn header_is_these_bytes()
     ensures spelled { (bytes rest : List ℕ) (values : List (List ℕ))
-        → Leads header_fields [] bytes values rest
+        → BeginsWithTable header_fields [] bytes values rest
         → BeginsWithHeader bytes (header_of values) rest }
     ensures spells { (bytes rest : List ℕ) (header : Header) → BeginsWithHeader bytes header rest
-        → (values : List (List ℕ)) × Leads header_fields [] bytes values rest
+        → (values : List (List ℕ)) × BeginsWithTable header_fields [] bytes values rest
         × (header_of values ≡ header) }
 {}
 
@@ -43,10 +43,10 @@ pub fn extension_is_these_bytes()
 /// string.
 pub fn authority_is_these_bytes()
     ensures spelled { (content rest : List ℕ) (values : List (List ℕ))
-        → Leads authority_fields [] content values rest
+        → BeginsWithTable authority_fields [] content values rest
         → BeginsWithAuthority content (slice_index_or values 0 []) rest }
     ensures spells { (content authority rest : List ℕ) → BeginsWithAuthority content authority rest
-        → (values : List (List ℕ)) × Leads authority_fields [] content values rest
+        → (values : List (List ℕ)) × BeginsWithTable authority_fields [] content values rest
         × (slice_index_or values 0 [] ≡ authority) }
 {}
 
