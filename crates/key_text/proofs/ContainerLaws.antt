@@ -11,11 +11,11 @@ use Rattle.ssh_key.specs.declared.fault.KeyFault.{KeyFault}
 use Rattle.ssh_key.proofs.Keys.{key_again, key_found}
 use Rattle.key_text.specs.Container.{HasParts, IsListFault, IsPrivateList, outer, why_no_key}
 use Rattle.key_text.specs.ContainerReading.{Opened, inside_at, list_at, opened}
-use Rattle.ssh_wire.specs.Rows.{Fails, BeginsWithTable, row_at}
+use Rattle.ssh_wire.specs.Rows.{Fails, BeginsWithTable, table_at}
 use Rattle.key_text.specs.declared.private_fault.PrivateFault.{PrivateFault}
 use Rattle.key_text.specs.declared.private_fault.PrivateFault.TheVariants as faults
 use Rattle.key_text.proofs.ListLaws.{list_again, list_found, list_met, list_refused}
-use Rattle.ssh_wire.proofs.RowLaws.{row_again, row_fails, row_refused, row_takes}
+use Rattle.ssh_wire.proofs.RowLaws.{table_again, table_fails, table_refused, table_takes}
 use Rattle.ssh_wire.proofs.Fields.{IsBytes-content}
 use Rattle.ssh_wire.proofs.Digits.{IsBytes-back}
 use Rattle.ssh_wire.proofs.Steps.{bind_err, bind_ok}
@@ -92,8 +92,8 @@ opened_parts inside rest values p = ap opened (sym p.is) ∙ rw (p.read) refl
 pub inside_found : (inside : List ℕ) (o : Opened) → IsBytes inside → inside_at inside ≡ Ok o → Inside inside o.blob o.comment
 unfolding inside_at
 inside_found inside o fits e =
-    let a = bind_ok (row_at faults.Wire outer [] inside) (λ parts. cond {A = Result Opened PrivateFault} (eqb (length parts.1) 0) (opened parts.0) (Err faults.Trailing)) o e in
-    let led = row_takes faults.Wire outer [] inside a.0 fits a.1 in
+    let a = bind_ok (table_at faults.Wire outer [] inside) (λ parts. cond {A = Result Opened PrivateFault} (eqb (length parts.1) 0) (opened parts.0) (Err faults.Trailing)) o e in
+    let led = table_takes faults.Wire outer [] inside a.0 fits a.1 in
     let p = parts_of inside a.0.0 a.0.1 fits led.leads in
     let end = ended_ok o a.0.1 (opened a.0.0) a.2 in
     let c = bind_ok (list_at p.key p.list) (λ comment. Ok (record { blob = p.blob; comment = comment })) o (sym (opened_parts inside a.0.1 a.0.0 p) ∙ end.1) in
@@ -110,7 +110,7 @@ inside_found inside o fits e =
 parts_read : (inside blob list : List ℕ) (key : PublicKey) → HasParts inside blob list → IsKey blob key → inside_at inside ≡ (list_at key list >>= λ comment. Ok (record { blob = blob; comment = comment }))
 unfolding inside_at
 parts_read inside blob list key parts is =
-    rw (row_again faults.Wire outer [] inside (parts.0 ∷ parts.1 ∷ parts.2 ∷ parts.3 ∷ blob ∷ list ∷ []) [] parts.4, key_again blob key is) refl
+    rw (table_again faults.Wire outer [] inside (parts.0 ∷ parts.1 ∷ parts.2 ∷ parts.3 ∷ blob ∷ list ∷ []) [] parts.4, key_again blob key is) refl
 
 pub inside_again : (inside blob comment : List ℕ) → Inside inside blob comment → inside_at inside ≡ Ok (record { blob = blob; comment = comment })
 inside_again inside blob comment is =
@@ -134,10 +134,10 @@ with_blob_err blob (Err fault) d e = let same : fault ≡ d = cc in ap (λ (f : 
 pub inside_refused : (inside : List ℕ) (fault : PrivateFault) → IsBytes inside → inside_at inside ≡ Err fault → IsInsideFault inside fault
 unfolding inside_at
 inside_refused inside fault fits e =
-    elim (bind_err (row_at faults.Wire outer [] inside) (λ parts. cond {A = Result Opened PrivateFault} (eqb (length parts.1) 0) (opened parts.0) (Err faults.Trailing)) fault e) [
-      | inl bad ↦ fails (row_refused faults.Wire outer [] inside fault fits bad)
+    elim (bind_err (table_at faults.Wire outer [] inside) (λ parts. cond {A = Result Opened PrivateFault} (eqb (length parts.1) 0) (opened parts.0) (Err faults.Trailing)) fault e) [
+      | inl bad ↦ fails (table_refused faults.Wire outer [] inside fault fits bad)
       | inr a ↦
-          let led = row_takes faults.Wire outer [] inside a.0 fits a.1 in
+          let led = table_takes faults.Wire outer [] inside a.0 fits a.1 in
           elim (ended_err a.0.1 (opened a.0.0) fault a.2) [
             | inl inner ↦
                 let p = parts_of inside a.0.0 a.0.1 fits led.leads in
@@ -149,9 +149,9 @@ inside_refused inside fault fits e =
 
 pub inside_met : (inside : List ℕ) (fault : PrivateFault) → IsInsideFault inside fault → inside_at inside ≡ Err fault
 unfolding inside_at
-inside_met inside fault (fails f) = rw (row_fails faults.Wire outer [] inside fault f) refl
+inside_met inside fault (fails f) = rw (table_fails faults.Wire outer [] inside fault f) refl
 inside_met inside fault (goes_on rest values leads more is) =
     let left : eqb (length rest) 0 ≡ false = ne_eqb (length rest) 0 (λ e. omega arith) in
-    rw (is, row_again faults.Wire outer [] inside values rest leads, left) refl
+    rw (is, table_again faults.Wire outer [] inside values rest leads, left) refl
 inside_met inside fault (refused blob list key parts is f) =
-    rw (row_again faults.Wire outer [] inside (parts.0 ∷ parts.1 ∷ parts.2 ∷ parts.3 ∷ blob ∷ list ∷ []) [] parts.4, key_again blob key is, list_met key list fault f) refl
+    rw (table_again faults.Wire outer [] inside (parts.0 ∷ parts.1 ∷ parts.2 ∷ parts.3 ∷ blob ∷ list ∷ []) [] parts.4, key_again blob key is, list_met key list fault f) refl

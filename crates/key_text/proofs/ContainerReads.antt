@@ -21,7 +21,7 @@ use Rattle.key_text.specs.Blanks.{before_ending}
 use Rattle.key_text.specs.Lines.{is_newline}
 use Rattle.key_text.specs.Container.{all_padding, beginning, is_plain, magic, outer}
 use Rattle.key_text.specs.ContainerReading.{body_at, bytes_at, decoded_at, ended, inside_at, list_at, plain_values, same_at}
-use Rattle.ssh_wire.specs.Rows.{row_at}
+use Rattle.ssh_wire.specs.Rows.{table_at}
 use Rattle.key_text.specs.declared.private_fault.PrivateFault.{PrivateFault}
 use Rattle.key_text.specs.declared.private_fault.PrivateFault.TheVariants.{Base64, Wire}
 use Rattle.key_text.proofs.ListLaws.{front_met, not_front}
@@ -31,8 +31,8 @@ use Rattle.key_text.proofs.ListLaws.{front_met, not_front}
 plain_is : (cipher derivation options : List ℕ) → is_plain cipher derivation options ≡ true → (cipher ≡ codes "none") × (derivation ≡ codes "none") × (options ≡ [])
 plain_is cipher derivation options plain = grind (arith, common_steps, and_parts, bytes_eq-Decides, codes, eqb-true, nil_from_length)
 
-pub parts_read : (bytes cipher r1 derivation r2 options r3 r4 blob r5 list r6 : List ℕ) (key : PublicKey) → string_at bytes ≡ Ok (cipher, r1) → string_at r1 ≡ Ok (derivation, r2) → string_at r2 ≡ Ok (options, r3) → is_plain cipher derivation options ≡ true → number_at 4 r3 ≡ Ok (1, r4) → string_at r4 ≡ Ok (blob, r5) → key_at blob ≡ Ok key → string_at r5 ≡ Ok (list, r6) → row_at Wire outer [] bytes ≡ Ok (plain_values blob list, r6)
-unfolding row_at
+pub parts_read : (bytes cipher r1 derivation r2 options r3 r4 blob r5 list r6 : List ℕ) (key : PublicKey) → string_at bytes ≡ Ok (cipher, r1) → string_at r1 ≡ Ok (derivation, r2) → string_at r2 ≡ Ok (options, r3) → is_plain cipher derivation options ≡ true → number_at 4 r3 ≡ Ok (1, r4) → string_at r4 ≡ Ok (blob, r5) → key_at blob ≡ Ok key → string_at r5 ≡ Ok (list, r6) → table_at Wire outer [] bytes ≡ Ok (plain_values blob list, r6)
+unfolding table_at
 parts_read bytes cipher r1 derivation r2 options r3 r4 blob r5 list r6 key e1 e2 e3 plain e4 e5 k e6 = grind (arith, common_steps, plain_is)
 
 -- ---- two parts
@@ -68,19 +68,19 @@ padding_whole bytes short each =
 
 -- ---- the private list
 
-pub list_no_head : (key : PublicKey) (list : List ℕ) (fault : PrivateFault) → row_at Wire (beginning key.kind) [] list ≡ Err fault → list_at key list ≡ Err fault
+pub list_no_head : (key : PublicKey) (list : List ℕ) (fault : PrivateFault) → table_at Wire (beginning key.kind) [] list ≡ Err fault → list_at key list ≡ Err fault
 unfolding list_at
 list_no_head key list fault e = grind (arith, common_steps)
 
-pub list_no_secret : (key : PublicKey) (list : List ℕ) (head : List (List ℕ) × List ℕ) (fault : PrivateFault) → row_at Wire (beginning key.kind) [] list ≡ Ok head → same_at key.kind key.fields head.1 ≡ Err fault → list_at key list ≡ Err fault
+pub list_no_secret : (key : PublicKey) (list : List ℕ) (head : List (List ℕ) × List ℕ) (fault : PrivateFault) → table_at Wire (beginning key.kind) [] list ≡ Ok head → same_at key.kind key.fields head.1 ≡ Err fault → list_at key list ≡ Err fault
 unfolding list_at
 list_no_secret key list head fault e1 e2 = grind (arith, common_steps)
 
-pub list_no_comment : (key : PublicKey) (list rest : List ℕ) (same : Bool) (head : List (List ℕ) × List ℕ) (why : WireFault) → row_at Wire (beginning key.kind) [] list ≡ Ok head → same_at key.kind key.fields head.1 ≡ Ok (same, rest) → string_at rest ≡ Err why → list_at key list ≡ Err (Wire why)
+pub list_no_comment : (key : PublicKey) (list rest : List ℕ) (same : Bool) (head : List (List ℕ) × List ℕ) (why : WireFault) → table_at Wire (beginning key.kind) [] list ≡ Ok head → same_at key.kind key.fields head.1 ≡ Ok (same, rest) → string_at rest ≡ Err why → list_at key list ≡ Err (Wire why)
 unfolding list_at
 list_no_comment key list rest same head why e1 e2 e3 = grind (arith, common_steps)
 
-pub list_ended : (key : PublicKey) (list rest comment padding : List ℕ) (same : Bool) (head : List (List ℕ) × List ℕ) → row_at Wire (beginning key.kind) [] list ≡ Ok head → same_at key.kind key.fields head.1 ≡ Ok (same, rest) → string_at rest ≡ Ok (comment, padding) → list_at key list ≡ ended same comment padding
+pub list_ended : (key : PublicKey) (list rest comment padding : List ℕ) (same : Bool) (head : List (List ℕ) × List ℕ) → table_at Wire (beginning key.kind) [] list ≡ Ok head → same_at key.kind key.fields head.1 ≡ Ok (same, rest) → string_at rest ≡ Ok (comment, padding) → list_at key list ≡ ended same comment padding
 unfolding list_at
 list_ended key list rest comment padding same head e1 e2 e3 = grind (arith, common_steps)
 

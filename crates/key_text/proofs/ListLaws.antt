@@ -11,11 +11,11 @@ use Rattle.ssh_wire.specs.Reading.{in_fault, string_at, ◌>>=◌}
 use Rattle.ssh_key.specs.Key.{PublicKey}
 use Rattle.key_text.specs.Container.{IsListFault, IsPrivateList, Opens, all_padding, beginning, in_beginning, in_comment, in_secrets, other_padding, other_public, public_text, secrets}
 use Rattle.key_text.specs.ContainerReading.{ended, list_at, same_at}
-use Rattle.ssh_wire.specs.Rows.{BeginsWithPart, Text, row_at}
+use Rattle.ssh_wire.specs.Rows.{BeginsWithPart, Text, table_at}
 use Rattle.key_text.specs.declared.private_fault.PrivateFault.{PrivateFault}
 use Rattle.key_text.specs.declared.private_fault.PrivateFault.TheVariants as faults
 use Rattle.ssh_wire.proofs.Steps.{bind_err, bind_ok, failed_err, in_fault_err, in_fault_ok, passed_ok}
-use Rattle.ssh_wire.proofs.RowLaws.{part_again, part_takes, row_again, row_fails, row_refused, row_takes}
+use Rattle.ssh_wire.proofs.RowLaws.{part_again, part_takes, table_again, table_fails, table_refused, table_takes}
 
 -- ---- a front of a list
 
@@ -51,7 +51,7 @@ abbrev ends_at : PublicKey → List (List ℕ) → List ℕ → Result (List ℕ
 ends_at key values rest = in_fault faults.Wire (string_at rest) >>= λ comment. ended (same_as key values) comment.0 comment.1
 
 abbrev secrets_at : PublicKey → List ℕ → Result (List ℕ) PrivateFault
-secrets_at key fields = row_at faults.Wire (secrets key.kind) [] fields >>= λ secret. ends_at key secret.0 secret.1
+secrets_at key fields = table_at faults.Wire (secrets key.kind) [] fields >>= λ secret. ends_at key secret.0 secret.1
 
 bind_same : {A B E : Type 0} (r : Result A E) (f g : A → Result B E) → ((x : A) → f x ≡ g x) → (r >>= f) ≡ (r >>= g)
 bind_same (Ok x) f g same = same x
@@ -61,7 +61,7 @@ bind_again : {A B C E : Type 0} (r : Result A E) (f : A → B) (g : B → Result
 bind_again (Ok x) f g = refl
 bind_again (Err fault) f g = refl
 
-by_rows : (key : PublicKey) (list : List ℕ) → list_at key list ≡ (row_at faults.Wire (beginning key.kind) [] list >>= λ head. secrets_at key head.1)
+by_rows : (key : PublicKey) (list : List ℕ) → list_at key list ≡ (table_at faults.Wire (beginning key.kind) [] list >>= λ head. secrets_at key head.1)
 unfolding list_at same_at
 by_rows key list = grind (arith, common_steps, bind_again, bind_same, same_as)
 
@@ -87,11 +87,11 @@ list_is key list comment padding x rest values opens stands e = elim (equal_or_n
 
 pub list_found : (key : PublicKey) (list comment : List ℕ) → IsBytes list → list_at key list ≡ Ok comment → IsPrivateList key list comment
 list_found key list x fits e =
-    let a = bind_ok (row_at faults.Wire (beginning key.kind) [] list) (λ head. secrets_at key head.1) x (sym (by_rows key list) ∙ e) in
-    let b = bind_ok (row_at faults.Wire (secrets key.kind) [] a.0.1) (λ secret. ends_at key secret.0 secret.1) x a.2 in
+    let a = bind_ok (table_at faults.Wire (beginning key.kind) [] list) (λ head. secrets_at key head.1) x (sym (by_rows key list) ∙ e) in
+    let b = bind_ok (table_at faults.Wire (secrets key.kind) [] a.0.1) (λ secret. ends_at key secret.0 secret.1) x a.2 in
     let c = bind_ok (in_fault faults.Wire (string_at b.0.1)) (λ comment. ended (same_as key b.0.0) comment.0 comment.1) x b.2 in
-    let head = row_takes faults.Wire (beginning key.kind) [] list a.0 fits a.1 in
-    let secret = row_takes faults.Wire (secrets key.kind) [] a.0.1 b.0 head.rest_fits b.1 in
+    let head = table_takes faults.Wire (beginning key.kind) [] list a.0 fits a.1 in
+    let secret = table_takes faults.Wire (secrets key.kind) [] a.0.1 b.0 head.rest_fits b.1 in
     let taken = part_takes Text b.0.1 c.0.0 c.0.1 secret.rest_fits (in_fault_ok faults.Wire (string_at b.0.1) c.0 c.1) in
     list_is key list c.0.0 c.0.1 x b.0.1 b.0.0 (record { head = a.0.0; fields = a.0.1; begun = head.leads; read = secret.leads }) taken.stands c.2
 
@@ -99,7 +99,7 @@ pub list_again : (key : PublicKey) (list comment : List ℕ) → IsPrivateList k
 list_again key list comment is =
     let o = is.opens in
     let test = front_met all_padding is.padding is.unused is.padded in
-    by_rows key list ∙ rw (row_again faults.Wire (beginning key.kind) [] list o.head o.fields o.begun, row_again faults.Wire (secrets key.kind) [] o.fields is.values is.rest o.read, part_again Text is.rest comment is.padding is.ended, (bytes_eq-Decides (public_text key.kind is.values) key.fields).1 is.same, test) refl
+    by_rows key list ∙ rw (table_again faults.Wire (beginning key.kind) [] list o.head o.fields o.begun, table_again faults.Wire (secrets key.kind) [] o.fields is.values is.rest o.read, part_again Text is.rest comment is.padding is.ended, (bytes_eq-Decides (public_text key.kind is.values) key.fields).1 is.same, test) refl
 
 -- ---- the refused bytes have that first fault
 
@@ -115,14 +115,14 @@ end_refused key list comment padding rest values fault opens stands e = elim (eq
 
 pub list_refused : (key : PublicKey) (list : List ℕ) (fault : PrivateFault) → IsBytes list → list_at key list ≡ Err fault → IsListFault key list fault
 list_refused key list fault fits e =
-    elim (bind_err (row_at faults.Wire (beginning key.kind) [] list) (λ head. secrets_at key head.1) fault (sym (by_rows key list) ∙ e)) [
-      | inl begun ↦ in_beginning (row_refused faults.Wire (beginning key.kind) [] list fault fits begun)
+    elim (bind_err (table_at faults.Wire (beginning key.kind) [] list) (λ head. secrets_at key head.1) fault (sym (by_rows key list) ∙ e)) [
+      | inl begun ↦ in_beginning (table_refused faults.Wire (beginning key.kind) [] list fault fits begun)
       | inr a ↦
-          let head = row_takes faults.Wire (beginning key.kind) [] list a.0 fits a.1 in
-          elim (bind_err (row_at faults.Wire (secrets key.kind) [] a.0.1) (λ secret. ends_at key secret.0 secret.1) fault a.2) [
-            | inl read ↦ in_secrets a.0.0 a.0.1 head.leads (row_refused faults.Wire (secrets key.kind) [] a.0.1 fault head.rest_fits read)
+          let head = table_takes faults.Wire (beginning key.kind) [] list a.0 fits a.1 in
+          elim (bind_err (table_at faults.Wire (secrets key.kind) [] a.0.1) (λ secret. ends_at key secret.0 secret.1) fault a.2) [
+            | inl read ↦ in_secrets a.0.0 a.0.1 head.leads (table_refused faults.Wire (secrets key.kind) [] a.0.1 fault head.rest_fits read)
             | inr b ↦
-                let secret = row_takes faults.Wire (secrets key.kind) [] a.0.1 b.0 head.rest_fits b.1 in
+                let secret = table_takes faults.Wire (secrets key.kind) [] a.0.1 b.0 head.rest_fits b.1 in
                 let opens : Opens key list b.0.0 b.0.1 = record { head = a.0.0; fields = a.0.1; begun = head.leads; read = secret.leads } in
                 elim (bind_err (in_fault faults.Wire (string_at b.0.1)) (λ comment. ended (same_as key b.0.0) comment.0 comment.1) fault b.2) [
                   | inl cut ↦ let w = in_fault_err faults.Wire (string_at b.0.1) fault cut in in_comment b.0.0 b.0.1 w.0 opens w.1 w.2
@@ -134,12 +134,12 @@ list_refused key list fault fits e =
     ]
 
 pub list_met : (key : PublicKey) (list : List ℕ) (fault : PrivateFault) → IsListFault key list fault → list_at key list ≡ Err fault
-list_met key list fault (in_beginning fails) = by_rows key list ∙ rw (row_fails faults.Wire (beginning key.kind) [] list fault fails) refl
-list_met key list fault (in_secrets head fields begun fails) = by_rows key list ∙ rw (row_again faults.Wire (beginning key.kind) [] list head fields begun, row_fails faults.Wire (secrets key.kind) [] fields fault fails) refl
+list_met key list fault (in_beginning fails) = by_rows key list ∙ rw (table_fails faults.Wire (beginning key.kind) [] list fault fails) refl
+list_met key list fault (in_secrets head fields begun fails) = by_rows key list ∙ rw (table_again faults.Wire (beginning key.kind) [] list head fields begun, table_fails faults.Wire (secrets key.kind) [] fields fault fails) refl
 list_met key list fault (in_comment values rest why o cut is) =
-    by_rows key list ∙ rw (is, row_again faults.Wire (beginning key.kind) [] list o.head o.fields o.begun, row_again faults.Wire (secrets key.kind) [] o.fields values rest o.read, cut) refl
+    by_rows key list ∙ rw (is, table_again faults.Wire (beginning key.kind) [] list o.head o.fields o.begun, table_again faults.Wire (secrets key.kind) [] o.fields values rest o.read, cut) refl
 list_met key list fault (other_public values rest comment padding o stands other is) =
-    by_rows key list ∙ rw (is, row_again faults.Wire (beginning key.kind) [] list o.head o.fields o.begun, row_again faults.Wire (secrets key.kind) [] o.fields values rest o.read, part_again Text rest comment padding stands) (ended_other key values comment padding other)
+    by_rows key list ∙ rw (is, table_again faults.Wire (beginning key.kind) [] list o.head o.fields o.begun, table_again faults.Wire (secrets key.kind) [] o.fields values rest o.read, part_again Text rest comment padding stands) (ended_other key values comment padding other)
 list_met key list fault (other_padding values rest comment padding o stands same none is) =
     let test = not_front all_padding padding none in
-    by_rows key list ∙ rw (is, row_again faults.Wire (beginning key.kind) [] list o.head o.fields o.begun, row_again faults.Wire (secrets key.kind) [] o.fields values rest o.read, part_again Text rest comment padding stands, (bytes_eq-Decides (public_text key.kind values) key.fields).1 same, test) refl
+    by_rows key list ∙ rw (is, table_again faults.Wire (beginning key.kind) [] list o.head o.fields o.begun, table_again faults.Wire (secrets key.kind) [] o.fields values rest o.read, part_again Text rest comment padding stands, (bytes_eq-Decides (public_text key.kind values) key.fields).1 same, test) refl

@@ -5,8 +5,8 @@ use Rattle.std.specs.List.{range_with_len}
 use Rattle.std.specs.Str.{bytes_eq}
 use Rattle.ssh_wire.specs.Wire.{IsBytes}
 use Rattle.ssh_wire.specs.Reading.{string_at}
-use Rattle.ssh_wire.specs.Rows.{BeginsWithPart, Fails, BeginsWithTable, Magnitude, Number, Step, Text}
-use Rattle.ssh_wire.specs.Rows.{fault_unless, passes, row_text, step}
+use Rattle.ssh_wire.specs.Rows.{BeginsWithPart, BeginsWithTable, Fails, Magnitude, Number, Row}
+use Rattle.ssh_wire.specs.Rows.{Text, fault_unless, passes, row, table_text}
 use Rattle.ssh_wire.specs.declared.fault.WireFault.{WireFault}
 use Rattle.ssh_key.specs.Key.{IsKey, PublicKey}
 use Rattle.ssh_key.specs.KeyReading.{key_at}
@@ -62,34 +62,34 @@ of_64_bytes before secret = fault_unless (faults.Key keys.Length) (length secret
 
 -- ---- the rows
 
-abbrev pub outer : List (Step PrivateFault)
-outer = step Text passes ∷ step Text passes ∷ step Text plain
-    ∷ step (Number 4) one_key
-    ∷ step Text public_key
-    ∷ step Text passes
+abbrev pub outer : List (Row PrivateFault)
+outer = row Text passes ∷ row Text passes ∷ row Text plain
+    ∷ row (Number 4) one_key
+    ∷ row Text public_key
+    ∷ row Text passes
     ∷ []
 
-abbrev pub beginning : Kind → List (Step PrivateFault)
+abbrev pub beginning : Kind → List (Row PrivateFault)
 beginning kind =
-    step (Number 4) passes ∷ step (Number 4) same_check ∷ step Text (same_type kind) ∷ []
+    row (Number 4) passes ∷ row (Number 4) same_check ∷ row Text (same_type kind) ∷ []
 
-abbrev pub secrets : Kind → List (Step PrivateFault)
+abbrev pub secrets : Kind → List (Row PrivateFault)
 secrets Rsa =
-    step Magnitude passes ∷ step Magnitude passes ∷ step Magnitude passes
-    ∷ step Magnitude passes ∷ step Magnitude passes ∷ step Magnitude passes ∷ []
+    row Magnitude passes ∷ row Magnitude passes ∷ row Magnitude passes
+    ∷ row Magnitude passes ∷ row Magnitude passes ∷ row Magnitude passes ∷ []
 secrets Dsa =
-    step Magnitude passes ∷ step Magnitude passes ∷ step Magnitude passes
-    ∷ step Magnitude passes ∷ step Magnitude passes ∷ []
-secrets Ecdsa256 = step Text passes ∷ step Text passes ∷ step Magnitude passes ∷ []
-secrets Ecdsa384 = step Text passes ∷ step Text passes ∷ step Magnitude passes ∷ []
-secrets Ecdsa521 = step Text passes ∷ step Text passes ∷ step Magnitude passes ∷ []
-secrets Ed25519 = step Text passes ∷ step Text of_64_bytes ∷ []
+    row Magnitude passes ∷ row Magnitude passes ∷ row Magnitude passes
+    ∷ row Magnitude passes ∷ row Magnitude passes ∷ []
+secrets Ecdsa256 = row Text passes ∷ row Text passes ∷ row Magnitude passes ∷ []
+secrets Ecdsa384 = row Text passes ∷ row Text passes ∷ row Magnitude passes ∷ []
+secrets Ecdsa521 = row Text passes ∷ row Text passes ∷ row Magnitude passes ∷ []
+secrets Ed25519 = row Text passes ∷ row Text of_64_bytes ∷ []
 secrets EcdsaSk =
-    step Text passes ∷ step Text passes ∷ step Text passes
-    ∷ step (Number 1) passes ∷ step Text passes ∷ step Text passes ∷ []
+    row Text passes ∷ row Text passes ∷ row Text passes
+    ∷ row (Number 1) passes ∷ row Text passes ∷ row Text passes ∷ []
 secrets Ed25519Sk =
-    step Text passes ∷ step Text passes
-    ∷ step (Number 1) passes ∷ step Text passes ∷ step Text passes ∷ []
+    row Text passes ∷ row Text passes
+    ∷ row (Number 1) passes ∷ row Text passes ∷ row Text passes ∷ []
 
 -- The public fields among them, in the order of the blob. The modulus of an RSA key comes first.
 abbrev pub public_values : Kind → List (List ℕ) → List (List ℕ)
@@ -105,7 +105,7 @@ public_values kind values = []
 
 -- the public fields that these values spell
 abbrev pub public_text : Kind → List (List ℕ) → List ℕ
-public_text kind values = row_text (fields_of kind) (public_values kind values)
+public_text kind values = table_text (fields_of kind) (public_values kind values)
 
 -- ---- the container
 

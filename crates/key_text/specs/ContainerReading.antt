@@ -6,8 +6,8 @@ use Rattle.std.specs.Str.{bytes_eq}
 use Rattle.base64.specs.Engines.{standard}
 use Rattle.base64.specs.GeneralPurpose.{decode_of}
 use Rattle.ssh_wire.specs.Reading.{in_fault, string_at, ◌>>=◌}
-use Rattle.ssh_wire.specs.Rows.{Magnitude, Number, Part, Step, Text, part_at, part_text, passes}
-use Rattle.ssh_wire.specs.Rows.{row_at, step}
+use Rattle.ssh_wire.specs.Rows.{Magnitude, Number, Part, Row, Text, part_at, part_text, passes}
+use Rattle.ssh_wire.specs.Rows.{table_at, row}
 use Rattle.ssh_key.specs.Key.{PublicKey}
 use Rattle.ssh_key.specs.KeyReading.{key_at}
 use Rattle.ssh_key.specs.declared.kind.Kind.{Kind}
@@ -36,7 +36,7 @@ ended same comment padding =
 -- whether the public fields among the private ones of a kind are these
 unfoldable pub same_at : Kind → List ℕ → List ℕ → Result (Bool × List ℕ) PrivateFault
 same_at kind fields bytes = do
-  secret ← row_at faults.Wire (secrets kind) [] bytes
+  secret ← table_at faults.Wire (secrets kind) [] bytes
   Ok (bytes_eq (public_text kind secret.0) fields, secret.1)
 
 -- ---- fields that may have any value
@@ -46,9 +46,9 @@ part_of spellings.Number = Magnitude
 part_of spellings.Text = Text
 part_of spellings.Byte = Number 1
 
-abbrev pub row_of : List Spelling → List (Step PrivateFault)
-row_of [] = []
-row_of (spelling ∷ row) = step (part_of spelling) passes ∷ row_of row
+abbrev pub rows_of : List Spelling → List (Row PrivateFault)
+rows_of [] = []
+rows_of (spelling ∷ others) = row (part_of spelling) passes ∷ rows_of others
 
 -- A part was skipped, or has this fault.
 abbrev pub Skips : {A : Type 0} → Part → Result A PrivateFault → List ℕ → List ℕ → Type 0
@@ -58,28 +58,28 @@ Skips part (Err fault) bytes rest = in_fault faults.Wire (part_at part bytes) �
 -- the bytes of a row, and those after it
 unfoldable pub passed_at : List Spelling → List ℕ → Result (List ℕ × List ℕ) PrivateFault
 passed_at [] bytes = Ok ([], bytes)
-passed_at (spelling ∷ row) bytes = do
+passed_at (spelling ∷ later) bytes = do
   read ← in_fault faults.Wire (part_at (part_of spelling) bytes)
-  others ← passed_at row read.1
+  others ← passed_at later read.1
   Ok (part_text (part_of spelling) read.0 ++ others.0, others.1)
 
 -- The bytes spell the values.
 abbrev pub Spells : List Spelling → List (List ℕ) → List ℕ → Type 0
 Spells [] values bytes = (values ≡ []) × (bytes ≡ [])
-Spells (spelling ∷ row) values bytes =
+Spells (spelling ∷ later) values bytes =
     (value : List ℕ) × (others : List (List ℕ)) × (rest : List ℕ) × (values ≡ value ∷ others)
-    × (bytes ≡ part_text (part_of spelling) value ++ rest) × Spells row others rest
+    × (bytes ≡ part_text (part_of spelling) value ++ rest) × Spells later others rest
 
 -- The fields of a kind are those of these rows, and the fields of the first row are the public
 -- ones.
 pub record HasRows (kind : Kind) (first others : List Spelling) : Type 0 where
-  pub rows : secrets kind ≡ row_of first ++ row_of others
+  pub rows : secrets kind ≡ rows_of first ++ rows_of others
   pub public : (values more : List (List ℕ)) (bytes : List ℕ) → Spells first values bytes
       → public_text kind (values ++ more) ≡ bytes
 
 unfoldable pub list_at : PublicKey → List ℕ → Result (List ℕ) PrivateFault
 list_at key list = do
-  head ← row_at faults.Wire (beginning key.kind) [] list
+  head ← table_at faults.Wire (beginning key.kind) [] list
   same ← same_at key.kind key.fields head.1
   comment ← in_fault faults.Wire (string_at same.1)
   ended same.0 comment.0 comment.1
@@ -98,7 +98,7 @@ opened values = Err faults.Trailing
 
 unfoldable pub inside_at : List ℕ → Result Opened PrivateFault
 inside_at inside = do
-  parts ← row_at faults.Wire outer [] inside
+  parts ← table_at faults.Wire outer [] inside
   if length parts.1 == 0 then opened parts.0 else Err faults.Trailing
 
 unfoldable pub bytes_at : List ℕ → Result Opened PrivateFault

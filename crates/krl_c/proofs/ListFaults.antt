@@ -8,7 +8,7 @@ use Rattle.krl_types.specs.declared.krl_fault.KrlFault.TheVariants as faults
 use Rattle.krl_format.specs.Field.{magic_number}
 use Rattle.krl_format.specs.Front.{IsFirstKrlFault, Reported, ended, ends_early, no_room, refused, too_long}
 use Rattle.krl_format.specs.Place.{base_of, bits_within, expected, item_size, next_bits, passes_end, place_after}
-use Rattle.krl_format.specs.Section.{Row, content_of, length_of, next_subsection, section_of, section_row, signature_type, subsection_of, subsection_row}
+use Rattle.krl_format.specs.Section.{SectionRow, content_of, length_of, next_subsection, section_of, section_row, signature_type, subsection_of, subsection_row}
 use Rattle.krl_format.specs.declared.place.Place.{Place}
 use Rattle.krl_format.specs.declared.place.Place.TheVariants as places
 use Rattle.krl_format.specs.declared.place.field.Field.{Field}
@@ -35,7 +35,7 @@ of_type : {X : Type 0} (unknown : KrlFault) (length_place : X → Place) (part :
 of_type unknown length_place None is = is
 of_type unknown length_place (Some part) is = tt
 
-of_content : (row : Row) (size after : ℕ) → OfField (content_of row size after)
+of_content : (row : SectionRow) (size after : ℕ) → OfField (content_of row size after)
 of_content row size after = either (row.may_have size) (Ok (row.first size after)) (Err faults.Length) tt tt
 
 of_bits : (offset size left after byte : ℕ) → OfField (bits_within offset size left after byte)

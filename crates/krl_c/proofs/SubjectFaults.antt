@@ -7,7 +7,7 @@ use Rattle.std.specs.Option.{ok_or}
 use Rattle.std.specs.Result.{result_err}
 use Rattle.std.specs.Str.{bytes_eq}
 use Rattle.ssh_wire.specs.Reading.{◌>>=◌, in_fault, string_at}
-use Rattle.ssh_wire.specs.Rows.{BeginsWithPart, Fails, Step, Text, fault_unless, passes, step}
+use Rattle.ssh_wire.specs.Rows.{BeginsWithPart, Fails, Row, Text, fault_unless, passes, row}
 use Rattle.ssh_wire.specs.Wire.{BeginsWith}
 use Rattle.ssh_wire.specs.declared.fault.WireFault.{WireFault}
 use Rattle.ssh_wire.proofs.Fields.{string_again, string_read}
@@ -18,7 +18,7 @@ use Rattle.ssh_key.specs.declared.fault.KeyFault.{KeyFault}
 use Rattle.ssh_key.specs.declared.fault.KeyFault.TheVariants as keys
 use Rattle.ssh_key.specs.declared.kind.Kind.{Kind}
 use Rattle.ssh_key.specs.declared.kind.Kind.TheVariants.{Dsa, Ecdsa256, Ecdsa384, Ecdsa521, EcdsaSk, Ed25519, Ed25519Sk, Rsa}
-use Rattle.ssh_cert.specs.Field.{Bytes, Count, KeyBlob, Meaning, Options, Principals, RoleNumber, Signature, algorithm_in, authority_in, closing_fields, closing_table, cut_short, kind_in, opening_fields, options_in, principals_in, role_in, role_of, step_of}
+use Rattle.ssh_cert.specs.Field.{Bytes, Count, KeyBlob, Meaning, Options, Principals, RoleNumber, Signature, algorithm_in, authority_in, closing_fields, closing_table, cut_short, kind_in, opening_fields, options_in, principals_in, role_in, role_of, row_of}
 use Rattle.ssh_cert.specs.Options.{options_of}
 use Rattle.ssh_cert.specs.Strings.{strings_of}
 use Rattle.ssh_cert.specs.FirstFault.{IsFirstCertFault, after_fields, in_closing, in_key, in_opening}
@@ -28,15 +28,15 @@ use Rattle.ssh_cert.specs.declared.fault.CertFault.TheVariants as certs
 
 -- ---- rows of a table
 
-abbrev Judges : {F : Type 0} → (F → Type 0) → Step F → Type 0
-Judges {F} P row = (before : List (List ℕ)) (value : List ℕ) (fault : F) → row.judged before value ≡ Some fault → P fault
+abbrev Judges : {F : Type 0} → (F → Type 0) → Row F → Type 0
+Judges {F} P expected = (before : List (List ℕ)) (value : List ℕ) (fault : F) → expected.judged before value ≡ Some fault → P fault
 
-fails_as : {F : Type 0} (P : F → Type 0) (unread : WireFault → F) (steps : List (Step F)) (before : List (List ℕ)) (bytes : List ℕ) (fault : F) → ((why : WireFault) → P (unread why)) → AllByRecursion (Judges P) steps
-    → Fails unread steps before bytes fault → P fault
+fails_as : {F : Type 0} (P : F → Type 0) (unread : WireFault → F) (rows : List (Row F)) (before : List (List ℕ)) (bytes : List ℕ) (fault : F) → ((why : WireFault) → P (unread why)) → AllByRecursion (Judges P) rows
+    → Fails unread rows before bytes fault → P fault
 fails_as P unread [] before bytes fault cut each fails = absurd fails
-fails_as P unread (row ∷ steps) before bytes fault cut each (inl (inl (why, is, same))) = subst P (sym same) (cut why)
-fails_as P unread (row ∷ steps) before bytes fault cut each (inl (inr (value, left, begins, judged))) = each.0 before value fault judged
-fails_as P unread (row ∷ steps) before bytes fault cut each (inr (value, left, begins, passed, later)) = fails_as P unread steps (before ++ value ∷ []) left fault cut each.1 later
+fails_as P unread (expected ∷ rows) before bytes fault cut each (inl (inl (why, is, same))) = subst P (sym same) (cut why)
+fails_as P unread (expected ∷ rows) before bytes fault cut each (inl (inr (value, left, begins, judged))) = each.0 before value fault judged
+fails_as P unread (expected ∷ rows) before bytes fault cut each (inr (value, left, begins, passed, later)) = fails_as P unread rows (before ++ value ∷ []) left fault cut each.1 later
 
 never_passes : {F : Type 0} (P : F → Type 0) (fault : F) → None ≡ Some fault → P fault
 never_passes P fault e = absurd cc
@@ -107,7 +107,7 @@ if_no_name : (read : Result (List ℕ × List ℕ) WireFault) (fault : CertFault
 if_no_name (Ok x) fault e = never_passes OfCert fault e
 if_no_name (Err why) fault e = some_is OfCert certs.Signature fault tt e
 
-of_meaning : (meaning : Meaning) → Judges OfCert (step_of meaning)
+of_meaning : (meaning : Meaning) → Judges OfCert (row_of meaning)
 unfolding role_in principals_in options_in authority_in algorithm_in
 of_meaning Count before value fault e = never_passes OfCert fault e
 of_meaning Bytes before value fault e = never_passes OfCert fault e
@@ -117,7 +117,7 @@ of_meaning Options before value fault e = if_none (options_of value) certs.Optio
 of_meaning KeyBlob before value fault e = if_refused (key_at value) certs.Authority fault (λ (why : KeyFault). tt) e
 of_meaning Signature before value fault e = if_no_name (string_at value) fault e
 
-each_meaning : (table : List Meaning) → AllByRecursion (Judges OfCert) (map step_of table)
+each_meaning : (table : List Meaning) → AllByRecursion (Judges OfCert) (map row_of table)
 each_meaning [] = tt
 each_meaning (meaning ∷ table) = (of_meaning meaning, each_meaning table)
 
@@ -146,7 +146,7 @@ opening blob fault named (inl (inl (why, is, same))) = subst OfCert (sym same) t
 opening blob fault named (inl (inr (value, left, begins, judged))) =
     never_passes OfCert fault (sym (ap (λ (name : List ℕ). result_err (kind_in name)) (same_name blob (certificate_name named.kind) value left named.begins begins) ∙ known named.kind) ∙ judged)
 opening blob fault named (inr (value, left, begins, passed, later)) =
-    fails_as OfCert cut_short (step Text passes ∷ []) ([] ++ value ∷ []) left fault (λ (why : WireFault). tt) ((λ before value fault e. never_passes OfCert fault e), tt) later
+    fails_as OfCert cut_short (row Text passes ∷ []) ([] ++ value ∷ []) left fault (λ (why : WireFault). tt) ((λ before value fault e. never_passes OfCert fault e), tt) later
 
 pub of_cert : (blob : List ℕ) (fault : CertFault) → HasCertificateName blob → IsFirstCertFault blob fault → OfCert fault
 of_cert blob fault named (in_opening fails) = opening blob fault named fails

@@ -17,7 +17,7 @@ use Rattle.krl_core.proofs.StoredEntries.{grows_then, header_stored}
 use Rattle.krl_core.proofs.Steps.{bounded_more, consumes_some, looked}
 use Rattle.krl_format.proofs.Walks.{LeadsTo-push}
 
--- ---- rows of fields
+-- ---- sequences of fields
 
 stored_of : (text : List ℕ) (fields : List (List ℕ)) (p : Walk) → HasRead text fields p → HasStored fields p.place p.stored
 stored_of text fields p h = record { state = h.state; leads = h.leads; place_is = h.place_is; authority_is = h.authority_is; header_is = h.header_is; stores = h.stores }

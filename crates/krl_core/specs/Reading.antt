@@ -59,7 +59,7 @@ abbrev pub HasReadOf : (before : Option (List ℕ)) → Walk → Type 0
 HasReadOf before reading =
     (text : List ℕ) → before ≡ Some text → (fields : List (List ℕ)) × HasRead text fields reading
 
--- If a row of fields was read before, that row with one more field is read now.
+-- If a sequence of fields was read before, that sequence with one more field is read now.
 abbrev pub ReadsOneMore : Walk → Walk → Type 0
 ReadsOneMore old new =
     (text : List ℕ) (fields : List (List ℕ)) → HasRead text fields old
@@ -203,7 +203,7 @@ pub record IsResultOf {K : Type 0} (Knows : List ℕ → K → Type 0) (before :
   pub failure : ReportsFailure outcome failed
   pub read : (text : List ℕ) → before ≡ Some text → IsReadAs Knows text outcome failed left
 
--- If a row of fields was read before, that row with some more fields is read now.
+-- If a sequence of fields was read before, that sequence with some more is read now.
 abbrev pub ReadsMore : Walk → Walk → Type 0
 ReadsMore old new =
     (text : List ℕ) (fields : List (List ℕ)) → HasRead text fields old

@@ -1,7 +1,7 @@
 -- The names that most proofs of this crate cite, passed on from one place. Declares nothing.
 pub use Rattle.std.specs.List.{AllByRecursion, concat}
 pub use Rattle.krl_types.proofs.SameNames.{AreSerials, mapped_name, same_append, same_is, same_nothing, same_refl, same_serials, same_then}
-pub use Rattle.ssh_wire.specs.Rows.{BeginsWithPart, BeginsWithTable, Number, Step, Text, passes, step}
+pub use Rattle.ssh_wire.specs.Rows.{BeginsWithPart, BeginsWithTable, Number, Row, Text, passes, row}
 pub use Rattle.krl_format.specs.Krl.{Bitmap, Certificates, Extension, Ids, IsNotNegative, IsSignature, Keys, Range}
 pub use Rattle.krl_format.specs.Krl.{Serials, Sha1s, Sha256s, Signature, SignaturesLast, SpelledSection, Spells, SpellsBitmap}
 pub use Rattle.krl_format.specs.Krl.{SpellsCertificates, SpellsContent, SpellsEach, SpellsSection, SpellsSubsection, Subsection, SubsectionContent, SubsectionExtension}
@@ -44,9 +44,9 @@ pub use Rattle.std.proofs.lemmas.Nat.Bits.{bit_at-zero, bit_at_above, bit_at_cat
 pub use Rattle.std.proofs.lemmas.Bool.{cases_Bool, cases_lt, false≢true, lt-leb}
 pub use Rattle.std.proofs.lemmas.List.Folds.{concat-append}
 pub use Rattle.krl_types.proofs.Equivalences.{contains_one}
-pub use Rattle.krl_format.specs.Field.{empty_header, fields_after, header_from, header_with, row_of, steps_of}
+pub use Rattle.krl_format.specs.Field.{empty_header, fields_after, header_from, header_with, row_of, rows_of}
 pub use Rattle.krl_format.specs.Entries.{entries_of, section_entries, subsection_entries}
-pub use Rattle.ssh_wire.proofs.RowLaws.{leads_front, leads_more, unless_ok}
+pub use Rattle.ssh_wire.proofs.RowLaws.{table_front, table_more, unless_ok}
 pub use Rattle.ssh_wire.proofs.Steps.{never_err, ok_is, ok_or_not, passed_ok}
 unfoldable pub use Rattle.ssh_wire.specs.Wire.{number, number_of, string}
 pub use Rattle.krl_types.proofs.Numbers.{number_of-one, one_byte}

@@ -5,7 +5,7 @@ use Rattle.krl_format.proofs.Common.{Bitmap, BitmapEntry, Bool, can_end, concat,
 use Rattle.krl_format.proofs.Common.{eq-eqb, eqb, eqb-true, extension_fields, false}
 use Rattle.krl_format.proofs.Common.{flat_map, get_or, Header, header_after, IdEntry, Ids, IsBytes}
 use Rattle.krl_format.proofs.Common.{IsBytes-back, IsBytes-front, item_entry, item_size, LeadsTo}
-use Rattle.krl_format.proofs.Common.{leads_front, leb, leb-true, length, length-append, length-number}
+use Rattle.krl_format.proofs.Common.{table_front, leb, leb-true, length, length-append, length-number}
 use Rattle.krl_format.proofs.Common.{length-string, List, ltb, ltb-true, map, names, next_bits}
 use Rattle.krl_format.proofs.Common.{number, number-number_of, number_of, Ok, one_byte}
 use Rattle.krl_format.proofs.Common.{passed_ok, Passes, passes_end, Place, Range, RangeEntry, refl}
@@ -90,7 +90,7 @@ subsection_from last h a subsection_kinds.Ids left field tail more fits whole ro
     let x = items_from kinds.Id (number_of field) k in
     part_front (Ids x.items) field tail (strings x.items) fits whole room enough refl x.parts x.size_is refl (same_is more (map (IdEntry a) x.items ++ x.others) x.named) x.then_is
 subsection_from last h a subsection_kinds.Extension left field tail more fits whole room enough good x =
-    let front = leads_front extension_fields [] tail x.values x.rest (x.leads []) in
+    let front = table_front extension_fields [] tail x.values x.rest (x.leads []) in
     let size : length front.0 ≡ number_of field = omega (arith, x.then_is.1, x.then_is.2.0, ap length front.1, length-append front.0 x.rest) in
     part_front SubsectionExtension field tail front.0 fits whole room enough refl front.1 size (x.values, front.2) (same_refl more) x.then_is.2.1
 
@@ -162,7 +162,7 @@ field_front last h a (places.Byte offset size left after) q field tail more fits
     subst (λ (x : List ℕ). FromBits (last ≡ h) a offset size left after (x ++ tail) (BitmapEntry a (base_of offset left) n ∷ more)) (sym one)
     (bits_more (last ≡ h) a offset size left after n tail more byte pos (λ e. ltb-true n 128 (w.0 (eq-eqb left size e))) w.1 (bits_from (left - 1) (k _ (ap done w.2))))
 
--- ---- a row of fields
+-- ---- a sequence of fields
 
 ends_here : (last h : Header) (a : List ℕ) (p : Place) → last ≡ h → can_end p ≡ true → Completes last h a p [] []
 ends_here last h a (places.SectionType true) e may = record { sections = []; spelled = refl; last = tt; named = same_refl []; known = e }

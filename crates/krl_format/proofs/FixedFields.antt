@@ -7,7 +7,7 @@ use Rattle.krl_format.proofs.Common.{subst, Table, unless_ok, ℕ}
 use Rattle.ssh_wire.specs.Rows.{Part}
 use Rattle.krl_format.specs.Place.{part_judged, part_size, place_after, place_in}
 use Rattle.krl_format.specs.FixedFields.{is_header}
-use Rattle.krl_format.proofs.TableRows.{after_is, fields_at, same_table, table_at}
+use Rattle.krl_format.proofs.TableRows.{after_is, fields_at, same_table, table_or}
 use Rattle.krl_format.specs.declared.place.field.Table.TheVariants as tables
 use Rattle.krl_format.specs.declared.place.Place.TheVariants as places
 use Rattle.krl_format.specs.declared.place.field.Field.TheVariants as fields
@@ -25,7 +25,7 @@ fixed_size part more = 4
 
 abbrev fixed_sizes : List Field → ℕ
 fixed_sizes [] = 0
-fixed_sizes (field ∷ fields) = fixed_size (row_of field).step.part (fixed_sizes fields)
+fixed_sizes (field ∷ fields) = fixed_size (row_of field).row.part (fixed_sizes fields)
 
 abbrev in_header : Table → ℕ → ℕ
 in_header tables.Header size = size
@@ -52,7 +52,7 @@ in_header_at_most : (table : Table) (size more : ℕ) → in_header table (size 
 in_header_at_most tables.Header size more = omega arith
 in_header_at_most _ size more = omega arith
 
-left_at : (table : Table) (next : Option Field) (left after : ℕ) → table_at table next ≡ table → in_header table (fixed_sizes (fields_at next)) ≤ fixed_left (place_in table next left after)
+left_at : (table : Table) (next : Option Field) (left after : ℕ) → table_or table next ≡ table → in_header table (fixed_sizes (fields_at next)) ≤ fixed_left (place_in table next left after)
 left_at tables.Header None left after same = omega arith
 left_at _ None left after same = omega arith
 left_at table (Some field) left after same =
@@ -62,13 +62,13 @@ part_left : (f : Field) (part : Part) (left after : ℕ) (next : Place) (field :
     → in_header (row_of f).table (fixed_size part (fixed_sizes (fields_after f))) ≤ length field + fixed_left next
 part_left f (Number size) left after next field whole judged =
     let table = (row_of f).table in
-    let w = unless_ok ((row_of f).step.judged [] (number_of field ∷ [])) (place_after f (left - size) after) next judged in
+    let w = unless_ok ((row_of f).row.judged [] (number_of field ∷ [])) (place_after f (left - size) after) next judged in
     let others = rw (← after_is f, w.1) at (left_at table (row_of f).next (left - size) after (same_table f)) in
     omega (arith, whole, in_header_at_most table size (fixed_sizes (fields_after f)), others)
 part_left f part left after next field whole judged = omega (arith, whole, in_header_within (row_of f).table 4)
 
 field_left : (p next : Place) (field : List ℕ) → Passes p field next → fixed_left p ≤ length field + fixed_left next
-field_left (places.Field f left after) next field passes = part_left f (row_of f).step.part left after next field passes.whole passes.judged
+field_left (places.Field f left after) next field passes = part_left f (row_of f).row.part left after next field passes.whole passes.judged
 field_left _ next field passes = omega arith
 
 fields_left : (from last : State) (fields : List (List ℕ)) → LeadsTo from fields last → is_fixed last.place ≡ false → fixed_left from.place ≤ length (concat fields)

@@ -165,7 +165,7 @@ ends_same p q (x ∷ more) r s goes_on a b h e ta tb =
     absurd (blocked p.place h.0 r x (concat more ++ s) goes_on a ta h.1.0.room h.1.0.whole h.1.0.judged
     (e ∙ append_assoc x (concat more) s))
 
--- the report after a row of fields, if a longer row is known
+-- the report after a sequence of fields, if a longer one is known
 following : (p q q' : State) (one other more : List (List ℕ)) (r s : List ℕ) (goes_on : Bool) (a b : Option KrlFault)
     → LeadsTo p one q → LeadsTo p other q' → concat one ++ r ≡ concat other ++ s
     → other ≡ one ++ more → Reported q.place r goes_on a → Reported q'.place s goes_on b → a ≡ b

@@ -3,7 +3,7 @@ use Rattle.krl_format.proofs.Common.{[], ◌-◌, ◌∙◌, ◌∷◌, ◌≡�
 use Rattle.krl_format.proofs.Common.{false, inl, inr, KrlFault, List, None, number_of, Ok, ok_is, Option}
 use Rattle.krl_format.proofs.Common.{Place, refl, Result, Section, section_row, Some, subsection_row}
 use Rattle.krl_format.proofs.Common.{SubsectionKind, true, ℕ}
-use Rattle.krl_format.specs.Section.{Row, length_of, of_type}
+use Rattle.krl_format.specs.Section.{SectionRow, length_of, of_type}
 use Rattle.krl_format.specs.declared.place.Place.TheVariants as places
 use Rattle.krl_format.specs.declared.section.Section.TheVariants as section_kinds
 use Rattle.krl_format.specs.declared.section.Subsection.TheVariants as subsection_kinds
@@ -29,7 +29,7 @@ found true x other y e = inl (refl, cc)
 found false x other y e = inr e
 
 -- the part that was found has this type byte
-pub typed_so : {X : Type 0} (row_of : X → Row) (parts : List X) (n : ℕ) (x : X) → of_type row_of parts n ≡ Some x → n ≡ (row_of x).type_byte
+pub typed_so : {X : Type 0} (row_of : X → SectionRow) (parts : List X) (n : ℕ) (x : X) → of_type row_of parts n ≡ Some x → n ≡ (row_of x).type_byte
 typed_so row_of [] n x e = absurd (cc)
 typed_so {X} row_of (part ∷ parts) n x e =
     elim (found (eqb n (row_of part).type_byte) part (of_type row_of parts n) x e) [

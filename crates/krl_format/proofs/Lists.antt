@@ -1,4 +1,4 @@
--- A row of fields to the end of a list spells sections, which name the same as its entries.
+-- A sequence of fields to the end of a list spells sections, which name the same as its entries.
 use Rattle.krl_format.proofs.Common.{[], ◌++◌, ◌∙◌, ◌≡◌, ◌≤◌, ap, append-nil, Bool, can_end, concat}
 use Rattle.krl_format.proofs.Common.{empty_header, ended, ends_early, entries_of, Entry, false, Header}
 use Rattle.krl_format.proofs.Common.{IsBytes, IsEnd, IsFirstKrlFault}
@@ -26,7 +26,7 @@ spelled_from text last more h =
       named = k.named;
     }
 
--- the entries of a row of fields that leads to the end of a list
+-- the entries of a sequence of fields that leads to the end of a list
 pub row_spelled : (fields : List (List ℕ)) (last : State) → LeadsTo start fields last → can_end last.place ≡ true → IsBytes (concat fields)
     → SpelledBy (concat fields) last.header last.entries
 row_spelled fields last leads may fits =

@@ -2,18 +2,18 @@
 use Rattle.krl_format.proofs.Common.{[], ◌++◌, ◌+◌, ◌<◌, ◌^◌, ◌∙◌, ◌∷◌, ◌≡◌, AllByRecursion, ap}
 use Rattle.krl_format.proofs.Common.{append-nil, append_assoc, append_cancel_left, arith}
 use Rattle.krl_format.proofs.Common.{authority_fields, Bitmap, Certificates, Extension, Header}
-use Rattle.krl_format.proofs.Common.{header_fields, header_of, Ids, Keys, KrlFault, leads_more}
+use Rattle.krl_format.proofs.Common.{header_fields, header_of, Ids, Keys, KrlFault, table_more}
 use Rattle.krl_format.proofs.Common.{BeginsWithTable, length, length-append, length-number, length-numbers}
 use Rattle.krl_format.proofs.Common.{length-string, List, number, number_of-number}
 use Rattle.krl_format.proofs.Common.{number_of, numbers_text, ok_is, Range, refl, Serials, Sha1s}
 use Rattle.krl_format.proofs.Common.{Sha256s, Signature, signature_fields, slice_index_or}
 use Rattle.krl_format.proofs.Common.{SpelledSection, Spells, SpellsBitmap, SpellsCertificates}
-use Rattle.krl_format.proofs.Common.{SpellsContent, SpellsEach, SpellsSection, SpellsSubsection, Step}
+use Rattle.krl_format.proofs.Common.{SpellsContent, SpellsEach, SpellsSection, SpellsSubsection, Row}
 use Rattle.krl_format.proofs.Common.{string, strings, Subsection, subsection_type, SubsectionContent}
 use Rattle.krl_format.proofs.Common.{SubsectionExtension, subst, sym, ℕ}
-use Rattle.ssh_wire.specs.Rows.{row_at}
+use Rattle.ssh_wire.specs.Rows.{table_at}
 use Rattle.ssh_wire.specs.declared.fault.WireFault.{WireFault}
-use Rattle.ssh_wire.proofs.RowLaws.{row_again}
+use Rattle.ssh_wire.proofs.RowLaws.{table_again}
 use Rattle.krl_format.proofs.Common.{section_row, signature_type}
 use Rattle.krl_types.specs.declared.krl_fault.KrlFault.TheVariants as faults
 use Rattle.krl_format.specs.declared.section.Section.TheVariants as section_kinds
@@ -129,11 +129,11 @@ some_subsection x text h = omega (arith, ap length h.spelled)
 -- ---- sections
 
 -- the values of a table, and the bytes after it
-one_row : (steps : List (Step KrlFault)) (bytes : List ℕ) (values others : List (List ℕ)) (rest rest' : List ℕ) → BeginsWithTable steps [] bytes values rest → BeginsWithTable steps [] bytes others rest' → (values ≡ others) × (rest ≡ rest')
-one_row steps bytes values others rest rest' h k =
+one_row : (rows : List (Row KrlFault)) (bytes : List ℕ) (values others : List (List ℕ)) (rest rest' : List ℕ) → BeginsWithTable rows [] bytes values rest → BeginsWithTable rows [] bytes others rest' → (values ≡ others) × (rest ≡ rest')
+one_row rows bytes values others rest rest' h k =
     let unread = λ (why : WireFault). faults.Length in
     let same : (values, rest) ≡ (others, rest') =
-    ok_is (values, rest) (others, rest') (row_at unread steps [] bytes) (row_again unread steps [] bytes values rest h) (row_again unread steps [] bytes others rest' k) in
+    ok_is (values, rest) (others, rest') (table_at unread rows [] bytes) (table_again unread rows [] bytes values rest h) (table_again unread rows [] bytes others rest' k) in
     (ap (λ (p : List (List ℕ) × List ℕ). p.0) same, ap (λ (p : List (List ℕ) × List ℕ). p.1) same)
 
 same_certificates : (content authority authority' : List ℕ) (subs subs' : List Subsection) → SpellsCertificates content authority subs → SpellsCertificates content authority' subs'
@@ -167,8 +167,8 @@ signature_front : {text other : List ℕ} (rest rest' : List ℕ) → SpellsSign
 signature_front rest rest' (first, spelled, (values, h)) (first', spelled', (values', k)) same =
     let whole : signature_type ∷ (first ++ rest) ≡ signature_type ∷ (first' ++ rest') = sym (ap (λ (t : List ℕ). t ++ rest) spelled) ∙ same ∙ ap (λ (t : List ℕ). t ++ rest') spelled' in
     let e = append_cancel_left (signature_type ∷ []) (first ++ rest) (first' ++ rest') whole in
-    (one_row signature_fields (first ++ rest) values values' rest rest' (leads_more signature_fields [] first values [] rest h)
-    (subst (λ (b : List ℕ). BeginsWithTable signature_fields [] b values' rest') (sym e) (leads_more signature_fields [] first' values' [] rest' k))).1
+    (one_row signature_fields (first ++ rest) values values' rest rest' (table_more signature_fields [] first values [] rest h)
+    (subst (λ (b : List ℕ). BeginsWithTable signature_fields [] b values' rest') (sym e) (table_more signature_fields [] first' values' [] rest' k))).1
 
 one_section : OneAtFront SpellsSection
 one_section (Certificates authority subs) (Certificates authority' subs') text other rest rest' h k e =

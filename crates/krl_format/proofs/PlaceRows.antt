@@ -1,4 +1,4 @@
--- Rows of fields by their places alone.
+-- Sequences of fields by their places alone.
 use Rattle.krl_format.proofs.Common.{[], ◌++◌, ◌∙◌, ◌∷◌, ◌≡◌, ap, append-nil, append_assoc, Bool, concat}
 use Rattle.krl_format.proofs.Common.{concat-append, expected, HasRoom, KrlFault, LeadsTo, length, List}
 use Rattle.krl_format.proofs.Common.{Ok, Option, Passes, Place, refl, Reported, State, state_after}

@@ -1,4 +1,4 @@
--- The rest of a list from each place on: its spelling, if a row of fields leads to the end of the
+-- The rest of a list from each place on: its spelling, if a sequence of fields leads to the end of the
 -- list and uses up the bytes, and its entries.
 use Rattle.krl_format.proofs.Common.{[], ◌*◌, ◌++◌, ◌+◌, ◌-◌, ◌<◌, ◌^◌, ◌∷◌, ◌≡◌, ◌≤◌, AllByRecursion}
 use Rattle.krl_format.proofs.Common.{bit_at, BitmapEntry, Bool, entries_of}
@@ -7,8 +7,8 @@ use Rattle.krl_format.proofs.Common.{header_with, IsNotNegative, IsSignature, it
 use Rattle.krl_format.proofs.Common.{ItemKind, KrlFault, BeginsWithTable, length, List, map}
 use Rattle.krl_format.proofs.Common.{NamesSame, number, number_of, Place, RangeEntry, SerialsEntry}
 use Rattle.krl_format.proofs.Common.{None, Option, row_of, SignaturesLast, Some}
-use Rattle.krl_format.proofs.Common.{SpelledSection, steps_of, Table}
-use Rattle.krl_format.proofs.Common.{SpellsEach, SpellsSection, SpellsSubsection, Step, string}
+use Rattle.krl_format.proofs.Common.{SpelledSection, rows_of, Table}
+use Rattle.krl_format.proofs.Common.{SpellsEach, SpellsSection, SpellsSubsection, Row, string}
 use Rattle.krl_format.proofs.Common.{Subsection, subsection_entries, subsection_type}
 use Rattle.krl_format.proofs.Common.{section_row, subsection_row, SubsectionContent, Text, true, ℕ}
 use Rattle.krl_format.specs.Field.{authority_with}
@@ -154,16 +154,16 @@ FromOffset K a left after = λ bytes more. (8 ≤ left) × FromNumber (λ offset
 -- ---- tables
 
 -- The values of some rows, whatever the values before them.
-pub record FromRow (steps : List (Step KrlFault)) (Then : List (List ℕ) → Rest) (bytes : List ℕ) (more : List Entry) : Type 0 where
+pub record FromRow (rows : List (Row KrlFault)) (Then : List (List ℕ) → Rest) (bytes : List ℕ) (more : List Entry) : Type 0 where
   pub values : List (List ℕ)
   pub rest : List ℕ
-  pub leads : (before : List (List ℕ)) → BeginsWithTable steps before bytes (before ++ values) rest
+  pub leads : (before : List (List ℕ)) → BeginsWithTable rows before bytes (before ++ values) rest
   pub then_is : Then values rest more
 
 -- A table in a part that has `left` bytes left. `Then` has the number of bytes that are left after it.
-abbrev pub InRoom : ℕ → List (Step KrlFault) → (List (List ℕ) → ℕ → Rest) → Rest
-InRoom left steps Then = λ bytes more.
-    FromRow steps (λ values rest more. (after : ℕ) × (length bytes + after ≡ left + length rest) × Then values after rest more) bytes more
+abbrev pub InRoom : ℕ → List (Row KrlFault) → (List (List ℕ) → ℕ → Rest) → Rest
+InRoom left rows Then = λ bytes more.
+    FromRow rows (λ values rest more. (after : ℕ) × (length bytes + after ≡ left + length rest) × Then values after rest more) bytes more
 
 -- the header with the value of a field, if it is one of the header
 abbrev pub value_in : Table → Field → List ℕ → Header → Header
@@ -185,12 +185,12 @@ authority_from (field ∷ fields) a (value ∷ values) = authority_from fields (
 -- end of the list. An extension fills the part around it.
 abbrev pub FromTable : Table → Header → Header → List ℕ → List Field → (left after : ℕ) → Rest
 FromTable tables.Header last h a fields left after =
-    FromRow (steps_of fields) (λ values. FromSections false (last ≡ header_from fields h values))
-FromTable tables.Signature last h a fields left after = FromRow (steps_of fields) (λ values. FromSections true (last ≡ h))
+    FromRow (rows_of fields) (λ values. FromSections false (last ≡ header_from fields h values))
+FromTable tables.Signature last h a fields left after = FromRow (rows_of fields) (λ values. FromSections true (last ≡ h))
 FromTable tables.Certificates last h a fields left after =
-    InRoom left (steps_of fields) (λ values room. FromSubsections (last ≡ h) (authority_from fields a values) room)
+    InRoom left (rows_of fields) (λ values room. FromSubsections (last ≡ h) (authority_from fields a values) room)
 FromTable tables.Extension last h a fields left after =
-    InRoom left (steps_of fields) (λ values room bytes more. (room ≡ 0) × FromSubsections (last ≡ h) a after bytes more)
+    InRoom left (rows_of fields) (λ values room bytes more. (room ≡ 0) × FromSubsections (last ≡ h) a after bytes more)
 
 abbrev pub FromField : Header → Header → List ℕ → Field → (left after : ℕ) → Rest
 FromField last h a field left after = FromTable (row_of field).table last h a (field ∷ fields_after field) left after
@@ -206,7 +206,7 @@ room_in _ next left = left
 abbrev pub Completes : Header → Header → List ℕ → Place → Rest
 Completes last h a (places.Field field left after) = FromField last h a field left after
 Completes last h a (places.Content field size left after) =
-    FromContent size (λ text bytes more. (row_of field).step.part ≡ Text
+    FromContent size (λ text bytes more. (row_of field).row.part ≡ Text
     → FromTable (row_of field).table last (value_in (row_of field).table field text h) (authority_in (row_of field).table field text a) (fields_after field)
     (room_in (row_of field).table (row_of field).next left) after bytes more)
 Completes last h a (places.SectionType signed) = FromSections signed (last ≡ h)

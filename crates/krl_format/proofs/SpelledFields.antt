@@ -7,7 +7,7 @@ use Rattle.krl_format.proofs.Common.{extension_fields, false}
 use Rattle.krl_format.proofs.Common.{highest_bit, Ids, inl, inr, IsBytes, IsBytes-back}
 use Rattle.krl_format.proofs.Common.{IsBytes-front, IsBytes-in_string, IsNotNegative, item_size}
 use Rattle.krl_format.proofs.Common.{ItemKind, judge, le-leb, leading_zeros}
-use Rattle.krl_format.proofs.Common.{leads_more, length, length-append, length-number}
+use Rattle.krl_format.proofs.Common.{table_more, length, length-append, length-number}
 use Rattle.krl_format.proofs.Common.{length-numbers, length-string, List, lt-leb}
 use Rattle.krl_format.proofs.Common.{ne_eqb, next_bits, next_item, next_serial, next_subsection}
 use Rattle.krl_format.proofs.Common.{number, number_of-number, number_of}
@@ -181,7 +181,7 @@ subsection_goes left SubsectionExtension text rest h le fits =
     let n = length h.content in
     let b = left - length text in
     part_goes left subsection_kinds.Extension text h.content rest h.spelled le h.fits refl
-    (fields_go fields.ExtensionName n 0 b h.content_is.0 (h.content ++ rest) rest (leads_more extension_fields [] h.content h.content_is.0 [] rest h.content_is.1) refl (omega (arith, length-append h.content rest)))
+    (fields_go fields.ExtensionName n 0 b h.content_is.0 (h.content ++ rest) rest (table_more extension_fields [] h.content h.content_is.0 [] rest h.content_is.1) refl (omega (arith, length-append h.content rest)))
 
 pub subsections_go : (subs : List Subsection) (body rest : List ℕ) (total : ℕ) → SpellsEach SpellsSubsection body subs → total ≡ length body → IsBytes body
     → Goes (next_subsection total) (body ++ rest) (places.SectionType false) rest

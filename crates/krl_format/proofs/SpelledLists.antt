@@ -4,8 +4,8 @@ use Rattle.krl_format.proofs.Common.{AllByRecursion, ap, arith, authority_fields
 use Rattle.krl_format.proofs.Common.{ended, Extension, extension_fields}
 use Rattle.krl_format.proofs.Common.{failed_read, false, first, Header, header_fields, inl}
 use Rattle.krl_format.proofs.Common.{inr, IsBytes, IsBytes-back, IsBytes-front, IsBytes-in_string}
-use Rattle.krl_format.proofs.Common.{IsFirstKrlFault, ItemKind, Keys, KrlFault, le-ltb, leads_front}
-use Rattle.krl_format.proofs.Common.{leads_more, length, length-append}
+use Rattle.krl_format.proofs.Common.{IsFirstKrlFault, ItemKind, Keys, KrlFault, le-ltb, table_front}
+use Rattle.krl_format.proofs.Common.{table_more, length, length-append}
 use Rattle.krl_format.proofs.Common.{limit, List, ltb, next_item, None}
 use Rattle.krl_format.proofs.Common.{number_of, Ok, Option, ran_out, refl, Says}
 use Rattle.krl_format.proofs.Common.{section_of_type, Sha1s, Sha256s, Signature, signature_fields}
@@ -55,21 +55,21 @@ unfolding number_of
 section_goes (Certificates authority subs) false text rest h last fits =
     let c = h.content_is in
     let all = IsBytes-in_string h.content (IsBytes-back ((section_row section_kinds.Certificates).type_byte ∷ []) (string h.content) (subst IsBytes h.spelled fits)) in
-    let front = leads_front authority_fields [] h.content c.values c.body c.fields in
+    let front = table_front authority_fields [] h.content c.values c.body c.fields in
     let body_bytes = IsBytes-back front.0 c.body (subst IsBytes front.1 all) in
     typed_goes section_kinds.Certificates h.content rest h.spelled h.fits refl
-    (goes_then (fields_go fields.Authority (length h.content) (length c.body) 0 c.values (h.content ++ rest) (c.body ++ rest) (leads_more authority_fields [] h.content c.values c.body rest c.fields) tt
+    (goes_then (fields_go fields.Authority (length h.content) (length c.body) 0 c.values (h.content ++ rest) (c.body ++ rest) (table_more authority_fields [] h.content c.values c.body rest c.fields) tt
     (omega (arith, length-append h.content rest, length-append c.body rest))) (subsections_go subs c.body rest (length c.body) c.subsections_are refl body_bytes))
 section_goes (Keys blobs) false text rest h last fits = typed_goes section_kinds.Keys h.content rest h.spelled h.fits refl (items_section_go kinds.Key blobs h.content rest h.fits h.content_is (any_size blobs))
 section_goes (Sha1s hashes) false text rest h last fits = typed_goes section_kinds.Sha1s h.content rest h.spelled h.fits refl (items_section_go kinds.Sha1 hashes h.content rest h.fits h.content_is.0 h.content_is.1)
 section_goes (Sha256s hashes) false text rest h last fits = typed_goes section_kinds.Sha256s h.content rest h.spelled h.fits refl (items_section_go kinds.Sha256 hashes h.content rest h.fits h.content_is.0 h.content_is.1)
 section_goes Extension false text rest h last fits =
     typed_goes section_kinds.Extension h.content rest h.spelled h.fits refl
-    (fields_go fields.ExtensionName (length h.content) 0 0 h.content_is.0 (h.content ++ rest) rest (leads_more extension_fields [] h.content h.content_is.0 [] rest h.content_is.1) refl (omega (arith, length-append h.content rest)))
+    (fields_go fields.ExtensionName (length h.content) 0 0 h.content_is.0 (h.content ++ rest) rest (table_more extension_fields [] h.content h.content_is.0 [] rest h.content_is.1) refl (omega (arith, length-append h.content rest)))
 section_goes Signature signed text rest (content, spelled, (values, leads)) last fits =
     goes_from (ap (λ (x : List ℕ). x ++ rest) spelled)
     (goes_then (goes_one (signature_type ∷ []) tt refl (signature_typed signed))
-    (fields_go fields.SignatureKey 0 0 0 values (content ++ rest) rest (leads_more signature_fields [] content values [] rest leads) tt tt))
+    (fields_go fields.SignatureKey 0 0 0 values (content ++ rest) rest (table_more signature_fields [] content values [] rest leads) tt tt))
 section_goes _ true text rest h last fits = absurd last.0
 
 last_first : (signed : Bool) (section : SpelledSection) (sections : List SpelledSection) → LastFor signed (section ∷ sections) → LastFor signed (section ∷ []) × LastFor (signed_after section) sections
@@ -91,7 +91,7 @@ sections_go (section ∷ sections) signed body (first_one, (later, (parts, spell
 -- a spelled list within the limit has no fault
 pub spelled_unfaulted : (text : List ℕ) (header : Header) (sections : List SpelledSection) → IsBytes text → Spells text header sections → length text ≤ limit → IsFirstKrlFault text None
 spelled_unfaulted text header sections fits h le =
-    let front = leads_front header_fields [] text h.values h.body h.fields in
+    let front = table_front header_fields [] text h.values h.body h.fields in
     let rest = sections_go sections false h.body h.sections_are h.signatures_last (IsBytes-back front.0 h.body (subst IsBytes front.1 fits)) in
     let walk = goes_then (fields_go fields.Magic 0 0 0 h.values text h.body h.fields tt tt) rest.1 in
     let off : ltb limit (length text) ≡ false = le-ltb limit (length text) le in

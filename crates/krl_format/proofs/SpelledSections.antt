@@ -1,17 +1,17 @@
--- A row of fields that leads to the end of a list spells its sections, and has their entries.
+-- A sequence of fields that leads to the end of a list spells its sections, and has their entries.
 use Rattle.krl_format.proofs.Common.{[], ◌++◌, ◌+◌, ◌-◌, ◌<◌, ◌^◌, ◌∙◌, ◌∷◌, ◌≡◌, ◌≤◌}
 use Rattle.krl_format.proofs.Common.{AllByRecursion, ap, append-nil, append_assoc, arith}
 use Rattle.krl_format.proofs.Common.{authority_fields, BeginsWithPart, Bool, Certificates, entries_of}
 use Rattle.krl_format.proofs.Common.{Entry, Extension, extension_fields, false, flat_map, Header}
 use Rattle.krl_format.proofs.Common.{IsBytes, IsSignature, item_entry, ItemKind, KrlFault}
-use Rattle.krl_format.proofs.Common.{leads_front, leads_more, length, length-append}
+use Rattle.krl_format.proofs.Common.{table_front, table_more, length, length-append}
 use Rattle.krl_format.proofs.Common.{length-number, length-string, List, ltb, ltb-false, map}
 use Rattle.krl_format.proofs.Common.{NamesSame, next_item, next_serial, next_subsection, None, Number}
 use Rattle.krl_format.proofs.Common.{number, number-number_of, number_of, Ok, Place}
 use Rattle.krl_format.proofs.Common.{refl, Result, same_append, same_is, same_refl, same_then}
 use Rattle.krl_format.proofs.Common.{section_entries, SerialsEntry, Signature, signature_fields}
 use Rattle.krl_format.proofs.Common.{SignaturesLast, slice_index_or, SpelledSection, SpellsEach}
-use Rattle.krl_format.proofs.Common.{SpellsSection, SpellsSubsection, Step, string, strings}
+use Rattle.krl_format.proofs.Common.{SpellsSection, SpellsSubsection, Row, string, strings}
 use Rattle.krl_format.proofs.Common.{Subsection, subsection_entries, subst, suc, sym, Text, true}
 use Rattle.krl_format.proofs.Common.{within, zero, ℕ}
 use Rattle.krl_format.proofs.RestSpellings.{Completes, FromContent, FromField}
@@ -69,9 +69,9 @@ string_parts field tail content rest fits size len parts =
 pub row_none : {Then : List (List ℕ) → Rest} {bytes : List ℕ} {more : List Entry} → Then [] bytes more → FromRow [] Then bytes more
 row_none {bytes = bytes} h = record { values = []; rest = bytes; leads = λ before. (sym (append-nil before), refl); then_is = h }
 
-pub row_more : {s : Step KrlFault} {steps : List (Step KrlFault)} {Then : List (List ℕ) → Rest} {bytes value tail : List ℕ} {more : List Entry} → BeginsWithPart s.part bytes value tail
-    → ((before : List (List ℕ)) → s.judged before value ≡ None) → FromRow steps (λ values. Then (value ∷ values)) tail more → FromRow (s ∷ steps) Then bytes more
-row_more {steps = steps} {value = value} {tail} begins passed k = record {
+pub row_more : {s : Row KrlFault} {rows : List (Row KrlFault)} {Then : List (List ℕ) → Rest} {bytes value tail : List ℕ} {more : List Entry} → BeginsWithPart s.part bytes value tail
+    → ((before : List (List ℕ)) → s.judged before value ≡ None) → FromRow rows (λ values. Then (value ∷ values)) tail more → FromRow (s ∷ rows) Then bytes more
+row_more {rows = rows} {value = value} {tail} begins passed k = record {
   values = value ∷ k.values;
   rest = k.rest;
   leads = λ before. (value, tail, begins, passed before, rw (sym (append_assoc before (value ∷ []) k.values)) (k.leads (before ++ value ∷ [])));
@@ -79,8 +79,8 @@ row_more {steps = steps} {value = value} {tail} begins passed k = record {
 }
 
 -- a row in a part that has some bytes left, before the row and after it
-pub row_in : (left inner : ℕ) {s : Step KrlFault} {steps : List (Step KrlFault)} {Then : List (List ℕ) → ℕ → Rest} {bytes value tail : List ℕ} {more : List Entry} → BeginsWithPart s.part bytes value tail
-    → ((before : List (List ℕ)) → s.judged before value ≡ None) → InRoom inner steps (λ values. Then (value ∷ values)) tail more → length bytes + inner ≡ left + length tail → InRoom left (s ∷ steps) Then bytes more
+pub row_in : (left inner : ℕ) {s : Row KrlFault} {rows : List (Row KrlFault)} {Then : List (List ℕ) → ℕ → Rest} {bytes value tail : List ℕ} {more : List Entry} → BeginsWithPart s.part bytes value tail
+    → ((before : List (List ℕ)) → s.judged before value ≡ None) → InRoom inner rows (λ values. Then (value ∷ values)) tail more → length bytes + inner ≡ left + length tail → InRoom left (s ∷ rows) Then bytes more
 row_in left inner begins passed k size =
     row_more begins passed (record { values = k.values; rest = k.rest; leads = k.leads; then_is = (k.then_is.0, omega (arith, k.then_is.1, size), k.then_is.2) })
 
@@ -199,11 +199,11 @@ certificates_section last before a bytes more l =
     let h = l.then_is in
     let s = h.then_is.2 in
     let authority : List ℕ = authority_from (fields.Authority ∷ fields_after fields.Authority) a h.values in
-    let front = leads_front authority_fields [] l.rest h.values h.rest (h.leads []) in
+    let front = table_front authority_fields [] l.rest h.values h.rest (h.leads []) in
     let content : List ℕ = front.0 ++ s.body in
     let size : length content ≡ l.size = omega (arith, h.then_is.1, ap length front.1, length-append front.0 h.rest, length-append front.0 s.body, s.size_is) in
     let parts : l.rest ≡ content ++ s.rest = front.1 ∙ ap (λ (x : List ℕ). front.0 ++ x) s.parts ∙ sym (append_assoc front.0 s.body s.rest) in
-    let fields = leads_more authority_fields [] front.0 h.values [] s.body front.2 in
+    let fields = table_more authority_fields [] front.0 h.values [] s.body front.2 in
     let first = sym (authority_first a l.rest h.rest h.values (h.leads [])) in
     sections_more (last ≡ before) (Certificates authority s.subsections) (n ∷ string content) (n ∷ bytes) s.rest more s.others s.then_is
     (ap (λ (x : List ℕ). n ∷ x) (whole_string l.size content s.rest l.rest bytes l.parts parts size))
@@ -215,7 +215,7 @@ extension_section last before a bytes more l =
     let n = byte_of section_kinds.Extension in
     let h = l.then_is in
     let k = sections_from h.then_is.2.1 in
-    let front = leads_front extension_fields [] l.rest h.values h.rest (h.leads []) in
+    let front = table_front extension_fields [] l.rest h.values h.rest (h.leads []) in
     let size : length front.0 ≡ l.size = omega (arith, h.then_is.1, h.then_is.2.0, ap length front.1, length-append front.0 h.rest) in
     sections_more (last ≡ before) Extension (n ∷ string front.0) (n ∷ bytes) h.rest more more k (ap (λ (x : List ℕ). n ∷ x) (whole_string l.size front.0 h.rest l.rest bytes l.parts front.1 size))
     (record { content = front.0; spelled = refl; fits = omega (arith, l.fits, size); content_is = (h.values, front.2) }) (same_refl more) k.last
@@ -242,7 +242,7 @@ signature_last false sections h = h
 pub signature_section : (K : Type 0) (signed : Bool) (bytes : List ℕ) (more : List Entry) → FromRow signature_fields (λ values. FromSections true K) bytes more → FromSections signed K (signature_type ∷ bytes) more
 signature_section K signed bytes more h =
     let k = h.then_is in
-    let front = leads_front signature_fields [] bytes h.values h.rest (h.leads []) in
+    let front = table_front signature_fields [] bytes h.values h.rest (h.leads []) in
     record {
       sections = Signature ∷ k.sections;
       spelled = (signature_type ∷ front.0, (h.rest, (ap (λ (x : List ℕ). signature_type ∷ x) front.1, (front.0, refl, (h.values, front.2)), k.spelled)));

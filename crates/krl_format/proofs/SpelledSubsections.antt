@@ -1,4 +1,4 @@
--- A row of fields that leads to the end of a list spells the subsections of a section of
+-- A sequence of fields that leads to the end of a list spells the subsections of a section of
 -- certificates, and has their entries.
 use Rattle.krl_format.proofs.Common.{[], ◌*◌, ◌++◌, ◌+◌, ◌-◌, ◌<◌, ◌↔◌, ◌∙◌, ◌∷◌, ◌≡◌, ◌≤◌, ap}
 use Rattle.krl_format.proofs.Common.{append_assoc, AreSerials, arith, base_of, bit_at-zero}

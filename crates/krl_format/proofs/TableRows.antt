@@ -18,20 +18,20 @@ use Rattle.krl_format.specs.declared.place.field.Table.TheVariants as tables
 -- ---- what all rows share
 
 -- no judgement depends on the values before
-pub judged_alone : (field : Field) (before : List (List ℕ)) (value : List ℕ) → (row_of field).step.judged before value ≡ (row_of field).step.judged [] value
+pub judged_alone : (field : Field) (before : List (List ℕ)) (value : List ℕ) → (row_of field).row.judged before value ≡ (row_of field).row.judged [] value
 judged_alone fields.FormatVersion before value = refl
 judged_alone _ before value = refl
 
-pub texts_pass : (field : Field) → (row_of field).step.part ≡ Text → (before : List (List ℕ)) (value : List ℕ) → (row_of field).step.judged before value ≡ None
+pub texts_pass : (field : Field) → (row_of field).row.part ≡ Text → (before : List (List ℕ)) (value : List ℕ) → (row_of field).row.judged before value ≡ None
 texts_pass fields.FormatVersion e before value = cc
 texts_pass _ e before value = cc
 
 -- a number is never the last field
-numbers_lead : (field : Field) (size left : ℕ) → (row_of field).step.part ≡ Number size → room_in (row_of field).table (row_of field).next left ≡ left
+numbers_lead : (field : Field) (size left : ℕ) → (row_of field).row.part ≡ Number size → room_in (row_of field).table (row_of field).next left ≡ left
 numbers_lead fields.FormatVersion size left e = cc
 numbers_lead _ size left e = cc
 
-pub no_magnitude : (field : Field) → (row_of field).step.part ≡ Magnitude → ⊥
+pub no_magnitude : (field : Field) → (row_of field).row.part ≡ Magnitude → ⊥
 no_magnitude fields.FormatVersion e = absurd (cc)
 no_magnitude _ e = absurd (cc)
 
@@ -45,12 +45,12 @@ after_is fields.FormatVersion = refl
 after_is _ = refl
 
 -- the table of a field, or this one
-abbrev pub table_at : Table → Option Field → Table
-table_at table None = table
-table_at table (Some field) = (row_of field).table
+abbrev pub table_or : Table → Option Field → Table
+table_or table None = table
+table_or table (Some field) = (row_of field).table
 
 -- the next field is of the same table
-pub same_table : (field : Field) → table_at (row_of field).table (row_of field).next ≡ (row_of field).table
+pub same_table : (field : Field) → table_or (row_of field).table (row_of field).next ≡ (row_of field).table
 same_table fields.FormatVersion = refl
 same_table _ = refl
 
@@ -63,7 +63,7 @@ authority_is fields.FormatVersion value a = refl
 authority_is _ value a = refl
 
 -- a number is no authority
-numbers_pass : (field : Field) (size : ℕ) (value a : List ℕ) → (row_of field).step.part ≡ Number size → authority_with field value a ≡ a
+numbers_pass : (field : Field) (size : ℕ) (value a : List ℕ) → (row_of field).row.part ≡ Number size → authority_with field value a ≡ a
 numbers_pass fields.FormatVersion size value a e = refl
 numbers_pass fields.Authority size value a e = absurd (cc)
 numbers_pass _ size value a e = refl
@@ -104,7 +104,7 @@ room_some : (table : Table) (field : Field) (left : ℕ) → room_in table (Some
 room_some tables.Extension field left = refl
 room_some _ field left = refl
 
-rest_at : (table : Table) (next : Option Field) (last h : Header) (a bytes : List ℕ) (more : List Entry) (left after : ℕ) → table_at table next ≡ table → Completes last h a (place_in table next left after) bytes more
+rest_at : (table : Table) (next : Option Field) (last h : Header) (a bytes : List ℕ) (more : List Entry) (left after : ℕ) → table_or table next ≡ table → Completes last h a (place_in table next left after) bytes more
     → FromTable table last h a (fields_at next) (room_in table next left) after bytes more
 rest_at tables.Extension None last h a bytes more left after same k = row_none (0, omega arith, (refl, subsections_from after k))
 rest_at tables.Certificates None last h a bytes more left after same k = row_none (left, omega arith, subsections_from left k)
@@ -124,13 +124,13 @@ rest_of_table field last h a value bytes more left after k =
     let found = subst (λ (x : Header). Completes last x (authority_in table field value a) (place_in table next left after) bytes more) (value_is field value h) named in
     rw (after_is field) (rest_at table next last (value_in table field value h) (authority_in table field value a) bytes more left after (same_table field) found)
 
-table_more : (table : Table) (field : Field) (others : List Field) (last h : Header) (a : List ℕ) {bytes value tail : List ℕ} (more : List Entry) (left inner after : ℕ) → BeginsWithPart (row_of field).step.part bytes value tail
-    → ((before : List (List ℕ)) → (row_of field).step.judged before value ≡ None) → FromTable table last (value_in table field value h) (authority_in table field value a) others inner after tail more → InPart table (length bytes + inner ≡ left + length tail)
+field_more : (table : Table) (field : Field) (others : List Field) (last h : Header) (a : List ℕ) {bytes value tail : List ℕ} (more : List Entry) (left inner after : ℕ) → BeginsWithPart (row_of field).row.part bytes value tail
+    → ((before : List (List ℕ)) → (row_of field).row.judged before value ≡ None) → FromTable table last (value_in table field value h) (authority_in table field value a) others inner after tail more → InPart table (length bytes + inner ≡ left + length tail)
     → FromTable table last h a (field ∷ others) left after bytes more
-table_more tables.Header field others last h a more left inner after begins passed k size = row_more begins passed k
-table_more tables.Signature field others last h a more left inner after begins passed k size = row_more begins passed k
-table_more tables.Certificates field others last h a more left inner after begins passed k size = row_in left inner begins passed k size
-table_more tables.Extension field others last h a more left inner after begins passed k size = row_in left inner begins passed k size
+field_more tables.Header field others last h a more left inner after begins passed k size = row_more begins passed k
+field_more tables.Signature field others last h a more left inner after begins passed k size = row_more begins passed k
+field_more tables.Certificates field others last h a more left inner after begins passed k size = row_in left inner begins passed k size
+field_more tables.Extension field others last h a more left inner after begins passed k size = row_in left inner begins passed k size
 
 -- the place after a length, and what is left of the part
 length_passed : (field : Field) (table : Table) (next : Option Field) (left after n : ℕ) (q : Place) → length_judged field table next left after n ≡ Ok q
@@ -145,30 +145,30 @@ length_passed field tables.Certificates next left after n q e =
 length_passed field tables.Header next left after n q e = (left, e, tt)
 length_passed field tables.Signature next left after n q e = (left, e, tt)
 
-part_front : (last h : Header) (a : List ℕ) (f : Field) (part : Part) (left after : ℕ) (q : Place) (field tail : List ℕ) (more : List Entry) → (row_of f).step.part ≡ part → IsBytes field
+part_front : (last h : Header) (a : List ℕ) (f : Field) (part : Part) (left after : ℕ) (q : Place) (field tail : List ℕ) (more : List Entry) → (row_of f).row.part ≡ part → IsBytes field
     → HasRoom (part_expected f part left after) → length field ≡ (part_expected f part left after).size → (part_expected f part left after).judged field ≡ Ok q
     → ((next : Place) → done next ≡ done q → Completes last (header_with_number part f field h) a next tail more) → FromField last h a f left after (field ++ tail) more
 part_front last h a f (Number size) left after q field tail more is fits room whole judged k =
     let value : List ℕ = number_of field ∷ [] in
-    let w = unless_ok ((row_of f).step.judged [] value) (place_after f (left - size) after) q judged in
+    let w = unless_ok ((row_of f).row.judged [] value) (place_after f (left - size) after) q judged in
     let here = place_after f (left - size) after in
     let same = sym (numbers_pass f size value a is) in
     let named = subst (λ (x : List ℕ). Completes last (header_with f value h) x here tail more) same (k _ (ap done w.1)) in
     let rest = rest_of_table f last h a value tail more (left - size) after named in
     let begins = subst (λ (part : Part). BeginsWithPart part (field ++ tail) value tail) (sym is) (begins_number field tail (number-number_of size field whole fits)) in
-    table_more (row_of f).table f (fields_after f) last h a more left (room_in (row_of f).table (row_of f).next (left - size)) after begins (λ before. judged_alone f before value ∙ w.0) rest
+    field_more (row_of f).table f (fields_after f) last h a more left (room_in (row_of f).table (row_of f).next (left - size)) after begins (λ before. judged_alone f before value ∙ w.0) rest
     (in_part (row_of f).table (λ room. omega (arith, room, whole, length-append field tail, numbers_lead f size (left - size) is)) (room_part (row_of f).table left _ room))
 part_front last h a f Text left after q field tail more is fits room whole judged k =
     let n = number_of field in
     let w = length_passed f (row_of f).table (row_of f).next left after n q judged in
     let c = k _ w.1 in
     let begins = subst (λ (part : Part). BeginsWithPart part (field ++ tail) c.content c.rest) (sym is) (begins_text field tail fits whole c) in
-    table_more (row_of f).table f (fields_after f) last h a more left (room_in (row_of f).table (row_of f).next w.0) after begins (λ before. texts_pass f is before c.content) (c.then_is is)
+    field_more (row_of f).table f (fields_after f) last h a more left (room_in (row_of f).table (row_of f).next w.0) after begins (λ before. texts_pass f is before c.content) (c.then_is is)
     (in_both (row_of f).table (λ all room. omega (arith, all room, whole, c.size_is, length-append field tail, ap length c.parts, length-append c.content c.rest)) w.2 (room_part (row_of f).table left _ room))
 part_front last h a f Magnitude left after q field tail more is fits room whole judged k = absurd (no_magnitude f is)
 
 -- a number of a table, or the length of a string
-pub row_front : (last h : Header) (a : List ℕ) (f : Field) (left after : ℕ) (q : Place) (field tail : List ℕ) (more : List Entry) → IsBytes field → HasRoom (part_expected f (row_of f).step.part left after)
-    → length field ≡ (part_expected f (row_of f).step.part left after).size → (part_expected f (row_of f).step.part left after).judged field ≡ Ok q
-    → ((next : Place) → done next ≡ done q → Completes last (header_with_number (row_of f).step.part f field h) a next tail more) → FromField last h a f left after (field ++ tail) more
-row_front last h a f left after q field tail more fits room whole judged k = part_front last h a f (row_of f).step.part left after q field tail more refl fits room whole judged k
+pub row_front : (last h : Header) (a : List ℕ) (f : Field) (left after : ℕ) (q : Place) (field tail : List ℕ) (more : List Entry) → IsBytes field → HasRoom (part_expected f (row_of f).row.part left after)
+    → length field ≡ (part_expected f (row_of f).row.part left after).size → (part_expected f (row_of f).row.part left after).judged field ≡ Ok q
+    → ((next : Place) → done next ≡ done q → Completes last (header_with_number (row_of f).row.part f field h) a next tail more) → FromField last h a f left after (field ++ tail) more
+row_front last h a f left after q field tail more fits room whole judged k = part_front last h a f (row_of f).row.part left after q field tail more refl fits room whole judged k

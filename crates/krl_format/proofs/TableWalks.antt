@@ -2,15 +2,15 @@
 use Rattle.krl_format.proofs.Common.{[], ◌++◌, ◌+◌, ◌-◌, ◌<◌, ◌^◌, ◌∙◌, ◌∷◌, ◌≡◌, ◌≤◌, ap, append_assoc}
 use Rattle.krl_format.proofs.Common.{arith, BeginsWithPart, Bool, cond, eq-eqb, Err, Expected, expected}
 use Rattle.krl_format.proofs.Common.{false, Field, HasRoom, judge, KrlFault, le-ltb}
-use Rattle.krl_format.proofs.Common.{leads_front, BeginsWithTable, length, length-append, length-number}
+use Rattle.krl_format.proofs.Common.{table_front, BeginsWithTable, length, length-append, length-number}
 use Rattle.krl_format.proofs.Common.{length-string, List, ltb, None, Number, number, number_of-number}
 use Rattle.krl_format.proofs.Common.{number_of, Ok, Option, Place, refl, Result, row_of, slice_index, Some}
-use Rattle.krl_format.proofs.Common.{next_subsection, steps_of, string, subst, suc, sym, Table, Text, true, within, zero, ℕ}
+use Rattle.krl_format.proofs.Common.{next_subsection, rows_of, string, subst, suc, sym, Table, Text, true, within, zero, ℕ}
 use Rattle.ssh_wire.specs.Rows.{Magnitude, Part, unless}
 use Rattle.krl_format.specs.Field.{table_of}
 use Rattle.krl_format.specs.Place.{length_judged, part_expected, place_after, place_in, table_end}
 use Rattle.krl_format.proofs.PlaceRows.{Goes, goes_none, goes_one, goes_then, goes_from}
-use Rattle.krl_format.proofs.TableRows.{after_is, fields_at, in_part, InPart, judged_alone, no_magnitude, part_room, same_table, table_at}
+use Rattle.krl_format.proofs.TableRows.{after_is, fields_at, in_part, InPart, judged_alone, no_magnitude, part_room, same_table, table_or}
 use Rattle.krl_types.specs.declared.krl_fault.KrlFault.TheVariants as faults
 use Rattle.krl_format.specs.declared.place.Place.TheVariants as places
 use Rattle.krl_format.specs.declared.place.field.Table.TheVariants as tables
@@ -78,10 +78,10 @@ abbrev TailFits : Option Field → (tail rest : List ℕ) → Type 0
 TailFits None tail rest = length tail ≡ length rest
 TailFits (Some next) tail rest = length rest ≤ length tail
 
-tail_fits : (next : Option Field) (before values : List (List ℕ)) (tail rest : List ℕ) → BeginsWithTable (steps_of (fields_at next)) before tail values rest → TailFits next tail rest
+tail_fits : (next : Option Field) (before values : List (List ℕ)) (tail rest : List ℕ) → BeginsWithTable (rows_of (fields_at next)) before tail values rest → TailFits next tail rest
 tail_fits None before values tail rest leads = ap length leads.1
 tail_fits (Some next) before values tail rest leads =
-    let f = leads_front (steps_of (fields_at (Some next))) before tail values rest leads in omega (arith, ap length f.1, length-append f.0 rest)
+    let f = table_front (rows_of (fields_at (Some next))) before tail values rest leads in omega (arith, ap length f.1, length-append f.0 rest)
 
 tail_le : (next : Option Field) (tail rest : List ℕ) → TailFits next tail rest → length rest ≤ length tail
 tail_le None tail rest fits = omega (arith, fits)
@@ -114,7 +114,7 @@ same_end tables.Certificates left end after e = ap next_subsection e
 same_end _ left end after e = refl
 
 -- the first field of the rest of a table
-row_goes : (f : Field) (part : Part) (left end after : ℕ) (before : List (List ℕ)) (bytes value tail rest : List ℕ) → (row_of f).step.part ≡ part → BeginsWithPart (row_of f).step.part bytes value tail → (row_of f).step.judged before value ≡ None
+row_goes : (f : Field) (part : Part) (left end after : ℕ) (before : List (List ℕ)) (bytes value tail rest : List ℕ) → (row_of f).row.part ≡ part → BeginsWithPart (row_of f).row.part bytes value tail → (row_of f).row.judged before value ≡ None
     → TailFits (row_of f).next tail rest → Ends (row_of f).table end → InPart (row_of f).table (Fill left end bytes rest)
     → ((left : ℕ) → InPart (row_of f).table (Fill left end tail rest) → Goes (place_after f left after) tail (table_end (row_of f).table end after) rest)
     → Goes (places.Field f left after) bytes (table_end (row_of f).table end after) rest
@@ -122,8 +122,8 @@ row_goes f (Number size) left end after before bytes value tail rest is begins p
     let table = (row_of f).table in
     let b = subst (λ (part : Part). BeginsWithPart part bytes value tail) is begins in
     let n : ℕ = slice_index value 0 in
-    let passes : (row_of f).step.judged [] (number_of (number size n) ∷ []) ≡ None =
-    ap (λ (m : ℕ). (row_of f).step.judged [] (m ∷ [])) (number_of-number size n b.is_part.1) ∙ ap (λ (v : List ℕ). (row_of f).step.judged [] v) (sym b.is_part.0) ∙ sym (judged_alone f before value) ∙ passed in
+    let passes : (row_of f).row.judged [] (number_of (number size n) ∷ []) ≡ None =
+    ap (λ (m : ℕ). (row_of f).row.judged [] (m ∷ [])) (number_of-number size n b.is_part.1) ∙ ap (λ (v : List ℕ). (row_of f).row.judged [] v) (sym b.is_part.0) ∙ sym (judged_alone f before value) ∙ passed in
     let parts : length bytes ≡ size + length tail = ap length b.spelled ∙ omega (arith, length-append (number size n) tail, length-number size n) in
     let le = tail_le (row_of f).next tail rest fits in
     goes_from b.spelled
@@ -134,7 +134,7 @@ row_goes f Text left end after before bytes value tail rest is begins passed fit
     let table = (row_of f).table in
     let next = (row_of f).next in
     let b = subst (λ (part : Part). BeginsWithPart part bytes value tail) is begins in
-    let same : part_expected f (row_of f).step.part left after ≡ part_expected f Text left after = ap (λ (part : Part). part_expected f part left after) is in
+    let same : part_expected f (row_of f).row.part left after ≡ part_expected f Text left after = ap (λ (part : Part). part_expected f part left after) is in
     let n = length value in
     let parts : length bytes ≡ 4 + n + length tail = ap length b.spelled ∙ omega (arith, length-append (string value) tail, length-string value) in
     let le = tail_le next tail rest fits in
@@ -145,8 +145,8 @@ row_goes f Text left end after before bytes value tail rest is begins passed fit
 row_goes f Magnitude left end after before bytes value tail rest is begins passed fits ends filled walk = absurd (no_magnitude f is)
 
 -- the fields of a table from one on, of which there are fewer than `most`
-table_goes : (most : ℕ) (table : Table) (at : Option Field) (left end after : ℕ) (before values : List (List ℕ)) (bytes rest : List ℕ) → length (fields_at at) < most → table_at table at ≡ table
-    → BeginsWithTable (steps_of (fields_at at)) before bytes values rest → Ends table end → InPart table (Fill left end bytes rest) → Goes (place_in table at left after) bytes (table_end table end after) rest
+table_goes : (most : ℕ) (table : Table) (at : Option Field) (left end after : ℕ) (before values : List (List ℕ)) (bytes rest : List ℕ) → length (fields_at at) < most → table_or table at ≡ table
+    → BeginsWithTable (rows_of (fields_at at)) before bytes values rest → Ends table end → InPart table (Fill left end bytes rest) → Goes (place_in table at left after) bytes (table_end table end after) rest
 table_goes most table None left end after before values bytes rest lt same leads ends filled =
     let here : InPart table (left ≡ end) = in_part table (λ (all : Fill left end bytes rest). omega (arith, all, ap length leads.1)) filled in
     subst (λ (p : Place). Goes p bytes (table_end table end after) rest) (sym (same_end table left end after here)) (goes_from leads.1 goes_none)
@@ -159,7 +159,7 @@ table_goes (suc most) table (Some f) left end after before values bytes rest lt 
     let ends' = subst (λ (t : Table). Ends t end) (sym same) ends in
     let walk = λ (left : ℕ) (filled : InPart (row_of f).table (Fill left end tail rest)). table_goes most (row_of f).table next left end after next_values values tail rest fewer (same_table f) others ends' filled in
     subst (λ (t : Table). Goes (places.Field f left after) bytes (table_end t end after) rest) same
-    (row_goes f (row_of f).step.part left end after before bytes value tail rest refl begins passed (tail_fits next next_values values tail rest others) ends'
+    (row_goes f (row_of f).row.part left end after before bytes value tail rest refl begins passed (tail_fits next next_values values tail rest others) ends'
     (subst (λ (t : Table). InPart t (Fill left end bytes rest)) (sym same) filled) walk)
 
 -- A whole table, whose values are any. The part around it has `end` bytes after the table.

@@ -4,13 +4,13 @@ use Rattle.krl_format.proofs.Common.{Bool, concat, Entry, header_after, KrlFault
 use Rattle.krl_format.proofs.Common.{Option, Passes, Place, refl, Reported, State, state_after, subst}
 use Rattle.krl_format.proofs.Common.{sym, ℕ}
 
--- a row of whole fields leads from one state to another, and leaves the rest of the bytes
+-- a sequence of whole fields leads from one state to another, and leaves the rest of the bytes
 pub record Walks (state : State) (bytes : List ℕ) (last : State) (rest : List ℕ) : Type 0 where
   pub fields : List (List ℕ)
   pub leads : LeadsTo state fields last
   pub parts : bytes ≡ concat fields ++ rest
 
--- the row leads to a place where this is reported
+-- the fields lead to a place where this is reported
 pub record EndsReported (state : State) (bytes : List ℕ) (goes_on : Bool) (fault : Option KrlFault) : Type 0 where
   pub last : State
   pub rest : List ℕ

@@ -2,7 +2,7 @@
 -- section of certificates, and an extension.
 use Rattle.std.specs.Prelude.{ℕ, zero, suc, ◌==◌, List, [], ◌∷◌, map, Option, Some, None}
 use Rattle.std.specs.Prelude.{slice_index}
-use Rattle.ssh_wire.specs.Rows.{Number, Part, Step, Text, fault_unless, passes, step}
+use Rattle.ssh_wire.specs.Rows.{Number, Part, Row, Text, fault_unless, passes, row}
 use Rattle.krl_types.specs.declared.krl_fault.KrlFault.{KrlFault}
 use Rattle.krl_types.specs.declared.krl_fault.KrlFault.TheVariants as faults
 use Rattle.krl_format.specs.declared.header.Header.{Header}
@@ -13,16 +13,17 @@ use Rattle.krl_format.specs.declared.place.field.FieldPart.TheVariants as parts
 use Rattle.krl_format.specs.declared.place.field.Table.{Table}
 use Rattle.krl_format.specs.declared.place.field.Table.TheVariants as tables
 
--- A row: the table of the field, what the field is and the judgement on its value, and the next
--- field of the table, if there is one.
-pub record Row : Type 0 where
+-- A field of a list: its table, its row in that table, and the next field of the table, if there
+-- is one.
+pub record FieldRow : Type 0 where
   pub table : Table
-  pub step : Step KrlFault
+  pub row : Row KrlFault
   pub next : Option Field
 
-abbrev row
-    : Table → Part → (List (List ℕ) → List ℕ → Option KrlFault) → Option Field → Row
-row table part judged next = record { table = table; step = step part judged; next = next }
+abbrev field_row
+    : Table → Part → (List (List ℕ) → List ℕ → Option KrlFault) → Option Field → FieldRow
+field_row table part judged next =
+    record { table = table; row = row part judged; next = next }
 
 -- a judgement: the number is this one
 abbrev pub must_be : ℕ → KrlFault → List (List ℕ) → List ℕ → Option KrlFault
@@ -36,26 +37,27 @@ magic_number = 0x5353484b524c0a00
 -- and a comment. A signature has a key and the signature. A section of certificates begins with
 -- an authority and a reserved string. An extension has a name, a zero byte for "not critical", and
 -- contents.
-abbrev pub row_of : Field → Row
+abbrev pub row_of : Field → FieldRow
 row_of fields.Magic =
-    row tables.Header (Number 8) (must_be magic_number faults.Magic) (Some fields.FormatVersion)
+    field_row tables.Header (Number 8) (must_be magic_number faults.Magic)
+    (Some fields.FormatVersion)
 row_of fields.FormatVersion =
-    row tables.Header (Number 4) (must_be 1 faults.FormatVersion) (Some fields.Version)
-row_of fields.Version = row tables.Header (Number 8) passes (Some fields.Date)
-row_of fields.Date = row tables.Header (Number 8) passes (Some fields.Flags)
-row_of fields.Flags = row tables.Header (Number 8) passes (Some fields.Reserved)
-row_of fields.Reserved = row tables.Header Text passes (Some fields.Comment)
-row_of fields.Comment = row tables.Header Text passes None
-row_of fields.SignatureKey = row tables.Signature Text passes (Some fields.SignatureBytes)
-row_of fields.SignatureBytes = row tables.Signature Text passes None
+    field_row tables.Header (Number 4) (must_be 1 faults.FormatVersion) (Some fields.Version)
+row_of fields.Version = field_row tables.Header (Number 8) passes (Some fields.Date)
+row_of fields.Date = field_row tables.Header (Number 8) passes (Some fields.Flags)
+row_of fields.Flags = field_row tables.Header (Number 8) passes (Some fields.Reserved)
+row_of fields.Reserved = field_row tables.Header Text passes (Some fields.Comment)
+row_of fields.Comment = field_row tables.Header Text passes None
+row_of fields.SignatureKey = field_row tables.Signature Text passes (Some fields.SignatureBytes)
+row_of fields.SignatureBytes = field_row tables.Signature Text passes None
 row_of fields.Authority =
-    row tables.Certificates Text passes (Some fields.CertificatesReserved)
-row_of fields.CertificatesReserved = row tables.Certificates Text passes None
-row_of fields.ExtensionName = row tables.Extension Text passes (Some fields.Critical)
+    field_row tables.Certificates Text passes (Some fields.CertificatesReserved)
+row_of fields.CertificatesReserved = field_row tables.Certificates Text passes None
+row_of fields.ExtensionName = field_row tables.Extension Text passes (Some fields.Critical)
 row_of fields.Critical =
-    row tables.Extension (Number 1) (must_be 0 faults.CriticalExtension)
+    field_row tables.Extension (Number 1) (must_be 0 faults.CriticalExtension)
     (Some fields.ExtensionContents)
-row_of fields.ExtensionContents = row tables.Extension Text passes None
+row_of fields.ExtensionContents = field_row tables.Extension Text passes None
 
 -- at most this many fields of a table, from one on
 abbrev pub fields_from : ℕ → Option Field → List Field
@@ -72,12 +74,12 @@ abbrev pub part_of : FieldPart → Part
 part_of (parts.Number size) = Number size
 part_of parts.Text = Text
 
-abbrev pub steps_of : List Field → List (Step KrlFault)
-steps_of fields = map (λ field. (row_of field).step) fields
+abbrev pub rows_of : List Field → List (Row KrlFault)
+rows_of fields = map (λ field. (row_of field).row) fields
 
 -- the table of a first field
-abbrev pub table_of : Field → List (Step KrlFault)
-table_of field = steps_of (field ∷ fields_after field)
+abbrev pub table_of : Field → List (Row KrlFault)
+table_of field = rows_of (field ∷ fields_after field)
 
 -- ---- the values of the header
 

@@ -20,8 +20,8 @@ limit = 67108864
 abbrev pub HasRoom : Expected → Type 0
 HasRoom field = IfSome field.room (λ left. field.size ≤ left)
 
--- The state after a row of fields: the place where the next field is expected, the header so far,
--- the authority in force, and the entries of the fields.
+-- The state after a sequence of fields: the place where the next field is expected, the header so
+-- far, the authority in force, and the entries of the fields.
 pub record State : Type 0 where
   pub place : Place
   pub header : Header
@@ -51,14 +51,14 @@ state_after state field next = record {
   entries = state.entries ++ names state.place state.authority field;
 }
 
--- The row is whole fields that each pass their judgement. It leads from one state to another.
+-- The fields are whole and each passes its judgement: they lead from one state to another.
 abbrev pub LeadsTo : State → List (List ℕ) → State → Type 0
 LeadsTo state [] last = state ≡ last
 LeadsTo state (field ∷ fields) last =
     (next : Place)
     × (Passes state.place field next × LeadsTo (state_after state field next) fields last)
 
--- The text begins with a row of fields, within the limit. After the row the text is in a state, and
+-- The text begins with a sequence of fields, within the limit. After these it is in a state, and
 -- `rest` is left up to the limit.
 pub record IsFront (text : List ℕ) (fields : List (List ℕ)) (state : State) (rest : List ℕ)
     : Type 0 where

@@ -3,7 +3,7 @@ use Rattle.std.specs.Prelude.{◌≡◌, ℕ, ◌+◌, ◌<◌, ◌≤◌, ◌^�
 use Rattle.std.specs.Prelude.{slice_index_or}
 use Rattle.std.specs.List.{flat_map, AllByRecursion}
 use Rattle.std.specs.Int.{bit_at}
-use Rattle.ssh_wire.specs.Rows.{BeginsWithTable, Step}
+use Rattle.ssh_wire.specs.Rows.{BeginsWithTable, Row}
 use Rattle.ssh_wire.specs.Wire.{number, number_of, string, strings}
 use Rattle.krl_types.specs.declared.krl_fault.KrlFault.{KrlFault}
 use Rattle.krl_format.specs.Field.{empty_header, fields_after, header_from, table_of}
@@ -45,27 +45,27 @@ pub data SpelledSection : Type 0 where
 abbrev pub magic : List ℕ
 magic = 0x53 ∷ 0x53 ∷ 0x48 ∷ 0x4b ∷ 0x52 ∷ 0x4c ∷ 0x0a ∷ 0x00 ∷ []
 
-abbrev pub header_fields : List (Step KrlFault)
+abbrev pub header_fields : List (Row KrlFault)
 header_fields = table_of fields.Magic
 
 -- the header whose fields have these values
 abbrev pub header_of : List (List ℕ) → Header
 header_of values = header_from (fields.Magic ∷ fields_after fields.Magic) empty_header values
 
-abbrev pub signature_fields : List (Step KrlFault)
+abbrev pub signature_fields : List (Row KrlFault)
 signature_fields = table_of fields.SignatureKey
 
-abbrev pub extension_fields : List (Step KrlFault)
+abbrev pub extension_fields : List (Row KrlFault)
 extension_fields = table_of fields.ExtensionName
 
 -- the fields before the subsections of a section of certificates: the authority and a reserved
 -- string
-abbrev pub authority_fields : List (Step KrlFault)
+abbrev pub authority_fields : List (Row KrlFault)
 authority_fields = table_of fields.Authority
 
 -- The text is the fields of a table, with any values.
-abbrev pub SpellsFields : List (Step KrlFault) → List ℕ → Type 0
-SpellsFields steps text = (values : List (List ℕ)) × BeginsWithTable steps [] text values []
+abbrev pub SpellsFields : List (Row KrlFault) → List ℕ → Type 0
+SpellsFields rows text = (values : List (List ℕ)) × BeginsWithTable rows [] text values []
 
 -- The text is the spellings of the items, one after the other.
 abbrev pub SpellsEach : {X : Type 0} → (List ℕ → X → Type 0) → List ℕ → List X → Type 0

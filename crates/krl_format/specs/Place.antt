@@ -161,7 +161,7 @@ part_size _ = 4
 
 abbrev pub part_judged : Field → Part → (left after : ℕ) → List ℕ → Result Place KrlFault
 part_judged field (Number size) left after number =
-    unless ((row_of field).step.judged [] (number_of number ∷ []))
+    unless ((row_of field).row.judged [] (number_of number ∷ []))
     (place_after field (left - size) after)
 part_judged field _ left after length =
     length_judged field (row_of field).table (row_of field).next left after (number_of length)
@@ -175,7 +175,7 @@ part_expected field part left after = record {
 
 -- the number of a row, or the length of its string
 abbrev pub row_expected : Field → (left after : ℕ) → Expected
-row_expected field left after = part_expected field (row_of field).step.part left after
+row_expected field left after = part_expected field (row_of field).row.part left after
 
 abbrev pub expected : Place → Expected
 expected (places.Field field left after) = row_expected field left after
@@ -249,7 +249,7 @@ header_with_text _ field text header = header
 -- the known parts of the header after a field
 abbrev pub header_after : Place → Header → List ℕ → Header
 header_after (places.Field field left after) header number =
-    header_with_number (row_of field).step.part field number header
+    header_with_number (row_of field).row.part field number header
 header_after (places.Content field size left after) header text =
-    header_with_text (row_of field).step.part field text header
+    header_with_text (row_of field).row.part field text header
 header_after _ header field = header

@@ -37,12 +37,12 @@ next_serial (suc left) after = places.Serial (suc left) after
 -- A row: the type byte, the lengths that the content may have, and the first place in the content.
 -- That place depends on the length, and on the bytes of a section of certificates that are left
 -- after a subsection.
-pub record Row : Type 0 where
+pub record SectionRow : Type 0 where
   pub type_byte : ℕ
   pub may_have : ℕ → Bool
   pub first : (size after : ℕ) → Place
 
-abbrev row : ℕ → (ℕ → Bool) → ((size after : ℕ) → Place) → Row
+abbrev row : ℕ → (ℕ → Bool) → ((size after : ℕ) → Place) → SectionRow
 row type_byte may_have first =
     record { type_byte = type_byte; may_have = may_have; first = first }
 
@@ -50,7 +50,7 @@ abbrev any_length : ℕ → Bool
 any_length size = true
 
 -- the sections that have a length
-abbrev pub section_row : Section → Row
+abbrev pub section_row : Section → SectionRow
 section_row section_kinds.Certificates =
     row 1 any_length (λ size after. places.Field fields.Authority size after)
 section_row section_kinds.Keys = row 2 any_length (λ size after. next_item kinds.Key size after)
@@ -65,7 +65,7 @@ abbrev pub signature_type : ℕ
 signature_type = 4
 
 -- the subsections of a section of certificates
-abbrev pub subsection_row : Subsection → Row
+abbrev pub subsection_row : Subsection → SectionRow
 subsection_row subsection_kinds.Serials =
     row 0x20 (λ size. size % 8 == 0) (λ size after. next_serial size after)
 subsection_row subsection_kinds.Range =
@@ -78,12 +78,12 @@ subsection_row subsection_kinds.Extension =
     row 0x39 any_length (λ size after. places.Field fields.ExtensionName size after)
 
 -- the first place in a content of this length, or why the length is refused
-abbrev pub content_of : Row → (size after : ℕ) → Result Place KrlFault
+abbrev pub content_of : SectionRow → (size after : ℕ) → Result Place KrlFault
 content_of row size after = judge (row.may_have size) faults.Length (row.first size after)
 
 -- ---- the part of a type byte
 
-abbrev pub of_type : {X : Type 0} → (X → Row) → List X → ℕ → Option X
+abbrev pub of_type : {X : Type 0} → (X → SectionRow) → List X → ℕ → Option X
 of_type row_of [] type_byte = None
 of_type row_of (part ∷ parts) type_byte =
     if type_byte == (row_of part).type_byte then Some part else of_type row_of parts type_byte

@@ -3,7 +3,7 @@ use Rattle.std.proofs.Common.{◌≡◌, ℕ, ◌<◌, ◌≤◌, true, List, []
 use Rattle.std.specs.List.{AllByRecursion, concat}
 use Rattle.ssh_wire.specs.Wire.{IsBytes}
 use Rattle.ssh_wire.proofs.Digits.{IsBytes-front}
-use Rattle.ssh_wire.proofs.RowLaws.{leads_front, leads_more}
+use Rattle.ssh_wire.proofs.RowLaws.{table_front, table_more}
 use Rattle.krl_format.specs.Front.{IsFirstKrlFault, Passes, limit, start}
 use Rattle.krl_format.specs.Krl.{Certificates, Extension, IsSignature, Keys, Sha1s, Sha256s, Signature, SignaturesLast, SpelledSection, Spells, SpellsEach, SpellsSection, header_fields}
 use Rattle.krl_format.specs.Place.{can_end, expected}
@@ -57,7 +57,7 @@ follow_at (first ∷ more) place field rest (next, (passes, later)) none parts s
 pub follow : {place : Place} (field rest : List ℕ) → IsAlike place (field ++ rest) → length field ≡ (expected place).size → 0 < length field → Follows place field rest
 follow {place} field rest is = follow_at is.fields place field rest is.whole is.none is.parts
 
--- ---- after a row of fields that is itself a list
+-- ---- after a sequence of fields that is itself a list
 
 -- The list may end at the place.
 pub record IsBoundary (left : List ℕ) : Type 0 where
@@ -104,13 +104,13 @@ pub boundary : (list : List ℕ) (header : Header) (sections : List SpelledSecti
     → (fields : List (List ℕ)) → HasFields list fields → first_difference start.place fields ≡ None
     → (before rest : List ℕ) (earlier : List SpelledSection) → SpellsEach SpellsSection before earlier → SignaturesLast earlier → spells.body ≡ before ++ rest → IsBoundary rest
 boundary list header sections spells bytes within unfaulted fields has none before rest earlier each last parts =
-    let front = leads_front header_fields [] list spells.values spells.body spells.fields in
+    let front = table_front header_fields [] list spells.values spells.body spells.fields in
     let text : List ℕ = front.0 ++ before in
     let list_is : list ≡ text ++ rest = front.1 ∙ ap (λ (b : List ℕ). front.0 ++ b) parts ∙ sym (append_assoc front.0 before rest) in
     let is : Spells text header earlier = record {
       values = spells.values;
       body = before;
-      fields = leads_more header_fields [] front.0 spells.values [] before front.2;
+      fields = table_more header_fields [] front.0 spells.values [] before front.2;
       header_is = spells.header_is;
       sections_are = each;
       signatures_last = last;

@@ -1,4 +1,4 @@
--- Rows of fields: the next one, the last one, and that a list has one row.
+-- Sequences of fields: the next one, the last one, and that a list has one sequence.
 use Rattle.std.proofs.Common.{◌≡◌, ℕ, ◌+◌, ◌-◌, ◌*◌, ◌<◌, ◌≤◌, Bool, true, List, [], ◌∷◌, ◌++◌, length, take, drop, Option, Some, None, Result, Ok, refl, sym, ap, subst, ◌∙◌, arith, length-append, length-drop}
 use Rattle.std.specs.Prelude.{nat_lt}
 use Rattle.std.specs.List.{concat}
@@ -102,7 +102,7 @@ comes_nearer place next rest size within passes =
     let left = ap length (take_rest rest size) in
     omega (arith, near, left, passes.whole, length-take-le size rest within, length-drop size rest, within)
 
--- ---- the row of a list
+-- ---- the fields of a list
 
 leads_whole : (first last : State) (fields : List (List ℕ)) → LeadsTo first fields last → can_end last.place ≡ true → AreWhole first.place fields
 leads_whole first last [] leads may = subst (λ (s : State). can_end s.place ≡ true) (sym leads) may

@@ -6,7 +6,7 @@ use Rattle.std.specs.Prelude.{IsTrue, ◌↔◌, Option, Some, Result, Ok, Err, 
 use Rattle.ssh_wire.specs.Rows.{BeginsWithPart, BeginsWithTable, Text}
 use Rattle.ssh_wire.specs.declared.fault.WireFault.{WireFault}
 use Rattle.ssh_wire.specs.Wire.{number_of, string}
-use Rattle.krl_format.specs.Field.{row_of, steps_of}
+use Rattle.krl_format.specs.Field.{row_of, rows_of}
 use Rattle.krl_format.specs.Front.{Passes}
 use Rattle.krl_format.specs.Krl.{Certificates, Extension, Keys, Sha1s, Sha256s, Signature, SpelledSection, SpellsContent, SpellsEach, SpellsSection, authority_fields}
 use Rattle.krl_format.specs.Place.{expected}
@@ -45,14 +45,14 @@ one_read read x y e f = grind arith
 
 -- the fields of the header from one on, and then the sections
 abbrev pub Leaves : Option Field → (left body : List ℕ) → Type 0
-Leaves at left body = (before values : List (List ℕ)) × BeginsWithTable (steps_of (fields_at at)) before left values body
+Leaves at left body = (before values : List (List ℕ)) × BeginsWithTable (rows_of (fields_at at)) before left values body
 
 -- the field at the front
-pub leaves_field : (field : Field) (left body : List ℕ) → Leaves (Some field) left body → (value rest : List ℕ) × BeginsWithPart (row_of field).step.part left value rest
+pub leaves_field : (field : Field) (left body : List ℕ) → Leaves (Some field) left body → (value rest : List ℕ) × BeginsWithPart (row_of field).row.part left value rest
 leaves_field field left body (before, values, (value, tail, begins, passed, later)) = (value, tail, begins)
 
 -- and what is left after it
-pub leaves_next : (field : Field) (left new body : List ℕ) → Leaves (Some field) left body → ((value rest : List ℕ) → BeginsWithPart (row_of field).step.part left value rest → new ≡ rest)
+pub leaves_next : (field : Field) (left new body : List ℕ) → Leaves (Some field) left body → ((value rest : List ℕ) → BeginsWithPart (row_of field).row.part left value rest → new ≡ rest)
     → Leaves (row_of field).next new body
 leaves_next field left new body (before, values, (value, tail, begins, passed, later)) skipped =
     (before ++ value ∷ [], values, rw (skipped value tail begins, ← after_is field) later)

@@ -149,7 +149,7 @@ abbrev pub place_or : Place → Result Place KrlFault → Place
 place_or other (Ok next) = next
 place_or other (Err fault) = other
 
--- the first difference in a row of fields, of which the first is at this place
+-- the first difference in a sequence of fields, of which the first is at this place
 abbrev pub first_difference : Place → List (List ℕ) → Option Difference
 first_difference place [] = None
 first_difference place (field ∷ fields) =

@@ -11,7 +11,7 @@ ghost use Rattle.krl_openssh.specs.Fields.{HasFields, IsFirstDifference};
 use krl_format::laws::no_fault_where_spelled;
 use ssh_key::laws::read_where_spelled;
 
-/// A list that is read without a fault has one row of fields.
+/// A list that is read without a fault has one sequence of fields.
 pub fn read_lists_have_fields()
     ensures some { (list : List ℕ) → IsFirstKrlFault list None
         → (fields : List (List ℕ)) × HasFields list fields }

@@ -13,8 +13,8 @@ use Rattle.krl_writer.proofs.Common.{Spells, SpellsEach, SpellsHashes, SpellsSec
 use Rattle.krl_writer.proofs.Common.{SpellsSubsection, string, strings, text_of, ℕ}
 use Rattle.krl_format.specs.Krl.{header_fields}
 use Rattle.krl_writer.specs.KrlText.{header_values}
-use Rattle.ssh_wire.specs.Rows.{row_text}
-use Rattle.ssh_wire.proofs.RowLaws.{leads_more, length-row, row_led}
+use Rattle.ssh_wire.specs.Rows.{table_text}
+use Rattle.ssh_wire.proofs.RowLaws.{table_more, length-table, table_text_begins}
 use Rattle.krl_writer.proofs.Spelling.{each_append, listed_spelled, plan_spelled}
 
 -- ---- an authority
@@ -101,14 +101,14 @@ unsigned (plan ∷ plans) (first ∷ listed) rest h = unsigned plans listed rest
 -- ---- the whole text
 
 pub length-header : (header : Header) → length (header_text header) ≡ 44 + length header.comment
-length-header header = omega (arith, length-row header_fields (header_values header))
+length-header header = omega (arith, length-table header_fields (header_values header))
 
 pub text_spelled : (header : Header) (plans : List (List Group)) (r : Revocations) → header.version < 2 ^ 64 → header.date < 2 ^ 64 → IsOrderly r
     → EachPlan IsPlan plans r.sections → length (text_of header plans r) ≤ limit → Spells (text_of header plans r) header (sections_of plans r)
 text_spelled header plans r version date orderly each short =
     let head : List ℕ = header_text header in
     let values = header_values header in
-    let fields : List ℕ = row_text header_fields values in
+    let fields : List ℕ = table_text header_fields values in
     let body : List ℕ = sections_text plans r in
     let hashes : List ℕ = listed_text sha1s_type r.sha1s ++ listed_text sha256s_type r.sha256s in
     let whole = length-append head body in
@@ -119,8 +119,8 @@ text_spelled header plans r version date orderly each short =
     record {
       values = values;
       body = body;
-      fields = leads_more header_fields [] fields values [] body
-          (row_led header_fields [] values (search (arith, version, date, comment, short)));
+      fields = table_more header_fields [] fields values [] body
+          (table_text_begins header_fields [] values (search (arith, version, date, comment, short)));
       header_is = refl;
       sections_are =
           each_append SpellsSection (authorities_text plans r.sections) (listed_text keys_type r.keys ++ hashes) (authority_sections plans r.sections) (listed_as Keys r.keys ++ (listed_as Sha1s r.sha1s ++ listed_as Sha256s r.sha256s))

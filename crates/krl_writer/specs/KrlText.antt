@@ -1,7 +1,7 @@
 -- The text of a written list, and the sections that it spells.
 use Rattle.std.specs.Prelude.{◌≡◌, ℕ, ◌+◌, ◌*◌, List, [], ◌∷◌, ◌++◌, take, drop}
 use Rattle.serial_set.specs.declared.span.Span.{Span}
-use Rattle.ssh_wire.specs.Rows.{row_text}
+use Rattle.ssh_wire.specs.Rows.{table_text}
 use Rattle.ssh_wire.specs.Wire.{string, strings}
 use Rattle.krl_format.specs.declared.header.Header.{Header}
 use Rattle.krl_plan.specs.declared.group.Sort.{Sort}
@@ -75,7 +75,7 @@ header_values header =
     ∷ header.comment ∷ []
 
 abbrev pub header_text : Header → List ℕ
-header_text header = row_text header_fields (header_values header)
+header_text header = table_text header_fields (header_values header)
 
 -- the list with a header and the stored revocations, with a plan for each authority
 abbrev pub text_of : Header → List (List Group) → Revocations → List ℕ

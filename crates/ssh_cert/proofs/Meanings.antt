@@ -22,7 +22,7 @@ use Rattle.ssh_cert.specs.declared.role.Role.{Role}
 use Rattle.ssh_cert.specs.declared.role.Role.TheVariants.{User, Host}
 use Rattle.ssh_cert.specs.Cert.{IsValue, Value, role_number, text_of}
 use Rattle.ssh_cert.specs.CertReading.{no_key, value_of}
-use Rattle.ssh_cert.specs.Field.{Bytes, Count, KeyBlob, Meaning, Options, Principals, RoleNumber, Signature, algorithm_in, authority_in, kind_in, options_in, principals_in, role_in, role_of, step_of}
+use Rattle.ssh_cert.specs.Field.{Bytes, Count, KeyBlob, Meaning, Options, Principals, RoleNumber, Signature, algorithm_in, authority_in, kind_in, options_in, principals_in, role_in, role_of, row_of}
 use Rattle.ssh_cert.specs.Options.{CertOption, options_of, options_text, pairs_of, parts_of}
 use Rattle.ssh_cert.specs.Strings.{strings_of}
 use Rattle.ssh_cert.proofs.StringLists.{map_some, strings_of_again, strings_of_takes}
@@ -135,7 +135,7 @@ abbrev pub HasBytes : Part → List ℕ → Type 0
 HasBytes Text text = IsBytes text
 HasBytes part text = Unit {0}
 
-pub value_same : (meaning : Meaning) (before : List (List ℕ)) (text : List ℕ) → IsPart (step_of meaning).part text → HasBytes (step_of meaning).part text → (step_of meaning).judged before text ≡ None
+pub value_same : (meaning : Meaning) (before : List (List ℕ)) (text : List ℕ) → IsPart (row_of meaning).part text → HasBytes (row_of meaning).part text → (row_of meaning).judged before text ≡ None
     → (text_of meaning (value_of meaning text) ≡ text) × IsValue meaning (value_of meaning text)
 value_same Count before text is fits passed = (sym is.0, tt)
 value_same Bytes before text is fits passed = (refl, tt)
@@ -145,7 +145,7 @@ value_same Options before text is fits passed = (sym (options_same text fits pas
 value_same KeyBlob before text is fits passed = (refl, authority_same text fits passed)
 value_same Signature before text is fits passed = (refl, algorithm_same text fits passed)
 
-pub value_again : (meaning : Meaning) (value : Value meaning) → IsPart (step_of meaning).part (text_of meaning value) → IsValue meaning value → value_of meaning (text_of meaning value) ≡ value
+pub value_again : (meaning : Meaning) (value : Value meaning) → IsPart (row_of meaning).part (text_of meaning value) → IsValue meaning value → value_of meaning (text_of meaning value) ≡ value
 value_again Count value is stands = refl
 value_again Bytes value is stands = refl
 value_again RoleNumber value is stands = rw (role_again value) refl
@@ -155,7 +155,7 @@ value_again KeyBlob value is stands = rw (authority_again value.0 value.1 stands
 value_again Signature value is stands = rw (algorithm_again value.0 value.1 stands) refl
 
 -- a value passes the judgement of its row
-pub value_passes : (meaning : Meaning) (before : List (List ℕ)) (value : Value meaning) → IsPart (step_of meaning).part (text_of meaning value) → IsValue meaning value → (step_of meaning).judged before (text_of meaning value) ≡ None
+pub value_passes : (meaning : Meaning) (before : List (List ℕ)) (value : Value meaning) → IsPart (row_of meaning).part (text_of meaning value) → IsValue meaning value → (row_of meaning).judged before (text_of meaning value) ≡ None
 value_passes Count before value is stands = refl
 value_passes Bytes before value is stands = refl
 value_passes RoleNumber before value is stands = rw (role_again value) refl

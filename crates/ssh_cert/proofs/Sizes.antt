@@ -3,7 +3,7 @@ use Rattle.std.proofs.Common.{◌≡◌, ℕ, ◌+◌, List, ◌++◌, length, a
 use Rattle.std.proofs.lemmas.List.{length-append}
 use Rattle.ssh_wire.specs.Wire.{string}
 use Rattle.ssh_wire.proofs.Fields.{length-string}
-use Rattle.ssh_wire.proofs.RowLaws.{leads_text, length-row, row_length}
+use Rattle.ssh_wire.proofs.RowLaws.{table_is_text, length-table, table_length}
 use Rattle.ssh_key.specs.Kind.{certificate_name, type_name}
 use Rattle.ssh_key.proofs.Sizes.{key_room, name_room}
 use Rattle.krl_types.specs.Subject.{Subject}
@@ -28,7 +28,7 @@ certificate_room blob certificate is =
     let opening : length blob ≡ length name + (length nonce + length is.fields) =
     ap length (opening_spelled blob (certificate_name kind) certificate.nonce is.fields is.opening) ∙ omega (arith, length-append name (nonce ++ is.fields), length-append nonce is.fields) in
     let public : length is.fields ≡ length fields + length is.rest = ap length is.public.spelled ∙ length-append fields is.rest in
-    let closing : length is.rest ≡ row_length closing_fields values = ap length (leads_text closing_fields is.rest values is.closing).0 ∙ length-row closing_fields values in
+    let closing : length is.rest ≡ table_length closing_fields values = ap length (table_is_text closing_fields is.rest values is.closing).0 ∙ length-table closing_fields values in
     let first = length-string (certificate_name kind) in
     let id = ap (λ (c : Cert). length c.key_id) is.same in
     let authority = ap (λ (c : Cert). length c.authority) is.same in

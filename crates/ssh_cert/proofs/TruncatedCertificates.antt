@@ -5,7 +5,7 @@ use Rattle.std.proofs.lemmas.List.{length-append, take-append-le, take_at}
 use Rattle.ssh_wire.specs.declared.fault.WireFault.TheVariants.{Short}
 use Rattle.ssh_wire.specs.Rows.{BeginsWithTable}
 use Rattle.ssh_wire.proofs.TruncatedFields.{take-after}
-use Rattle.ssh_wire.proofs.RowLaws.{leads_front, leads_more, row_cut}
+use Rattle.ssh_wire.proofs.RowLaws.{table_front, table_more, table_cut}
 use Rattle.ssh_key.specs.declared.fault.KeyFault.TheVariants as keys
 use Rattle.ssh_key.specs.FirstFault.{IsFieldsFault}
 use Rattle.ssh_key.specs.Key.{BeginsWithFields}
@@ -38,23 +38,23 @@ cut_fields blob front c n is lt opening =
             fault = faults.Wire;
             first =
                 in_closing c.key (take m is.rest) (record { values = opening_values c; fields = take n is.fields; opening = opening; kind = kind; public = begins })
-                (row_cut cut_short closing_fields [] is.rest (texts_of closing_table is.values) m is.closing fewer);
+                (table_cut cut_short closing_fields [] is.rest (texts_of closing_table is.values) m is.closing fewer);
             cut = tt;
           }
     ]
 
 cut_after : (blob : List ℕ) (n : ℕ) (c : Cert) → IsCertificate blob c → n < length blob → HasCutFault (take n blob)
 cut_after blob n c is lt =
-    let front = leads_front opening_fields [] blob (opening_values c) is.fields is.opening in
+    let front = table_front opening_fields [] blob (opening_values c) is.fields is.opening in
     let text : List ℕ = front.0 in
     elim (cases_lt n (length text)) [
       | inl within ↦
           let same : take n blob ≡ take n text = ap (take n) front.1 ∙ take-append-le n text is.fields (omega arith) in
-          record { fault = faults.Wire; first = in_opening (rw same (row_cut cut_short opening_fields [] text (opening_values c) n front.2 within)); cut = tt }
+          record { fault = faults.Wire; first = in_opening (rw same (table_cut cut_short opening_fields [] text (opening_values c) n front.2 within)); cut = tt }
       | inr after ↦
           let left : List ℕ = take (n - length text) is.fields in
           let same : take n blob ≡ text ++ left = ap (take n) front.1 ∙ take-after text is.fields n after in
-          rw same (cut_fields blob (text ++ left) c (n - length text) is (omega (arith, ap length front.1, length-append text is.fields)) (leads_more opening_fields [] text (opening_values c) [] left front.2))
+          rw same (cut_fields blob (text ++ left) c (n - length text) is (omega (arith, ap length front.1, length-append text is.fields)) (table_more opening_fields [] text (opening_values c) [] left front.2))
     ]
 
 pub certificate_cut : (blob front : List ℕ) (c : Cert) → IsCertificate blob c → IsCut front blob → HasCutFault front

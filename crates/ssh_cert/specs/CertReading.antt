@@ -3,7 +3,7 @@ use Rattle.std.specs.Prelude.{ℕ, List, [], ◌∷◌, length, slice_index, sli
 use Rattle.std.specs.Prelude.{Err, ◌==◌, if◌then◌else◌}
 use Rattle.std.specs.Result.{result_unwrap_or}
 use Rattle.ssh_wire.specs.Reading.{◌>>=◌, in_fault}
-use Rattle.ssh_wire.specs.Rows.{row_at}
+use Rattle.ssh_wire.specs.Rows.{table_at}
 use Rattle.ssh_key.specs.declared.kind.Kind.{Kind}
 use Rattle.ssh_key.specs.declared.kind.Kind.TheVariants.{Rsa}
 use Rattle.ssh_key.specs.Key.{PublicKey}
@@ -49,13 +49,13 @@ certificate_of nonce key texts = certificate_with nonce key (values_of closing_t
 -- the certificate whose fields after those of its key are at the front, and the bytes after them
 unfoldable pub closing_at : List ℕ → PublicKey → List ℕ → Result (Cert × List ℕ) CertFault
 closing_at nonce key bytes = do
-  values ← row_at cut_short closing_fields [] bytes
+  values ← table_at cut_short closing_fields [] bytes
   Ok (certificate_of nonce key values.0, values.1)
 
 -- all of the bytes
 unfoldable pub certificate_at : List ℕ → Result Cert CertFault
 certificate_at blob = do
-  opening ← row_at cut_short opening_fields [] blob
+  opening ← table_at cut_short opening_fields [] blob
   key ← in_fault faults.Key (public_at (kind_of opening.0) opening.1)
   found ← closing_at (nth opening.0 1) key.0 key.1
   if length found.1 == 0 then Ok found.0 else Err faults.Trailing

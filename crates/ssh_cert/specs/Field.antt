@@ -5,7 +5,7 @@ use Rattle.std.specs.Prelude.{◌==◌, if◌then◌else◌}
 use Rattle.std.specs.Option.{ok_or}
 use Rattle.std.specs.Result.{result_err}
 use Rattle.ssh_wire.specs.Reading.{◌>>=◌, in_fault, string_at}
-use Rattle.ssh_wire.specs.Rows.{Number, Part, Step, Text, passes, step}
+use Rattle.ssh_wire.specs.Rows.{Number, Part, Row, Text, passes, row}
 use Rattle.ssh_wire.specs.declared.fault.WireFault.{WireFault}
 use Rattle.ssh_key.specs.declared.kind.Kind.{Kind}
 use Rattle.ssh_key.specs.Key.{PublicKey}
@@ -55,12 +55,12 @@ algorithm_in signature = do
 -- ---- the tables
 
 -- a part whose value has a meaning
-abbrev pub meaning : {A : Type 0} → Part → (List ℕ → Result A CertFault) → Step CertFault
-meaning part read = step part (λ before value. result_err (read value))
+abbrev pub meaning : {A : Type 0} → Part → (List ℕ → Result A CertFault) → Row CertFault
+meaning part read = row part (λ before value. result_err (read value))
 
 -- the type name and the nonce
-abbrev pub opening_fields : List (Step CertFault)
-opening_fields = meaning Text kind_in ∷ step Text passes ∷ []
+abbrev pub opening_fields : List (Row CertFault)
+opening_fields = meaning Text kind_in ∷ row Text passes ∷ []
 
 -- what the value of a field after the public ones means
 pub data Meaning : Type 0 where
@@ -77,14 +77,14 @@ pub data Meaning : Type 0 where
   -- a signature, which begins with the name of its algorithm
   Signature : Meaning
 
-abbrev pub step_of : Meaning → Step CertFault
-step_of Count = step (Number 8) passes
-step_of Bytes = step Text passes
-step_of RoleNumber = meaning (Number 4) role_in
-step_of Principals = meaning Text principals_in
-step_of Options = meaning Text options_in
-step_of KeyBlob = meaning Text authority_in
-step_of Signature = meaning Text algorithm_in
+abbrev pub row_of : Meaning → Row CertFault
+row_of Count = row (Number 8) passes
+row_of Bytes = row Text passes
+row_of RoleNumber = meaning (Number 4) role_in
+row_of Principals = meaning Text principals_in
+row_of Options = meaning Text options_in
+row_of KeyBlob = meaning Text authority_in
+row_of Signature = meaning Text algorithm_in
 
 -- The serial number, the role, the key ID, the principals, the times between which the certificate
 -- is valid, the critical options, the extensions, the reserved field, the signature key and the
@@ -104,5 +104,5 @@ closing_table =
     ∷ Signature
     ∷ []
 
-abbrev pub closing_fields : List (Step CertFault)
-closing_fields = map step_of closing_table
+abbrev pub closing_fields : List (Row CertFault)
+closing_fields = map row_of closing_table

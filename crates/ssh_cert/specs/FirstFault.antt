@@ -21,7 +21,8 @@ pub record Opens (blob : List ℕ) (key : PublicKey) (rest : List ℕ) : Type 0 
 pub data IsFirstCertFault (blob : List ℕ) (fault : CertFault) : Type 0 where
   in_opening : Fails cut_short opening_fields [] blob fault → IsFirstCertFault blob fault
   in_key : (values : List (List ℕ)) (fields : List ℕ) (why : KeyFault)
-      → BeginsWithTable opening_fields [] blob values fields → IsFieldsFault (kind_of values) fields why
+      → BeginsWithTable opening_fields [] blob values fields
+      → IsFieldsFault (kind_of values) fields why
       → fault ≡ faults.Key why → IsFirstCertFault blob fault
   in_closing : (key : PublicKey) (rest : List ℕ) → Opens blob key rest
       → Fails cut_short closing_fields [] rest fault → IsFirstCertFault blob fault

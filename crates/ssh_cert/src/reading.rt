@@ -21,7 +21,7 @@ use ssh_wire::Cursor;
 ///
 /// If there are several faults, the first is reported, in the order of the fields, and `Trailing`
 /// last.
-#[tactic(auto, unfolding(crate::specs::CertReading::certificate_at, ssh_wire::specs::Rows::row_at))]
+#[tactic(auto, unfolding(crate::specs::CertReading::certificate_at, ssh_wire::specs::Rows::table_at))]
 pub fn read_cert<'a>(blob: &'a [u8]) -> Result<Cert<'a>, CertFault>
     // The certificate that is spelled (`laws::read_where_spelled`), otherwise the first fault
     // (`laws::refused_by_first_fault`).
@@ -49,7 +49,7 @@ fn read_public<'a>(kind: Kind, cursor: &mut Cursor<'a>) -> Result<PublicKey<'a>,
 }
 
 // The certificate with this nonce and this key, whose other fields are read.
-#[tactic(auto, unfolding(crate::specs::CertReading::closing_at, ssh_wire::specs::Rows::row_at, crate::specs::Field::principals_in, crate::specs::Field::options_in))]
+#[tactic(auto, unfolding(crate::specs::CertReading::closing_at, ssh_wire::specs::Rows::table_at, crate::specs::Field::principals_in, crate::specs::Field::options_in))]
 fn read_closing<'a>(
     nonce: &'a [u8],
     key: PublicKey<'a>,

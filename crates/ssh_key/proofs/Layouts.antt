@@ -5,9 +5,9 @@ use Rattle.std.specs.Str.{bytes_eq}
 use Rattle.std.proofs.lemmas.Bool.{and_parts, eq-eqb, eqb-true, ne_eqb}
 use Rattle.std.proofs.lemmas.List.{length-append}
 use Rattle.std.proofs.lemmas.Slice.Eq.{bytes_eq-Decides}
-use Rattle.ssh_wire.specs.Rows.{IsPart, BeginsWithTable, Magnitude, fault_unless, row_text}
+use Rattle.ssh_wire.specs.Rows.{IsPart, BeginsWithTable, Magnitude, fault_unless, table_text}
 use Rattle.ssh_wire.specs.Wire.{IsMagnitude, complement, mpint, string}
-use Rattle.ssh_wire.proofs.RowLaws.{ArePassed, length-row, row_led}
+use Rattle.ssh_wire.proofs.RowLaws.{ArePassed, length-table, table_text_begins}
 use Rattle.ssh_wire.proofs.Steps.{above_zero}
 use Rattle.ssh_key.specs.declared.fault.KeyFault.{KeyFault}
 use Rattle.ssh_key.specs.declared.fault.KeyFault.TheVariants as faults
@@ -151,7 +151,7 @@ public_spelled Ed25519Sk bytes values bits (key, a, is_key, sized, (application,
 -- values of a kind, and their sizes
 record Written (kind : Kind) (bytes : List ℕ) (bits : ℕ) : Type 0 where
   values : List (List ℕ)
-  spelled : bytes ≡ row_text (fields_of kind) values
+  spelled : bytes ≡ table_text (fields_of kind) values
   bits_are : bits ≡ bits_of kind values
   passed : length bytes ≤ 65536 → ArePassed (fields_of kind) [] values
 
@@ -166,7 +166,7 @@ written Rsa bytes bits is =
       spelled = is.spelled;
       bits_are = is.bits_are;
       passed = λ short.
-          let sizes = length-row (fields_of Rsa) values in
+          let sizes = length-table (fields_of Rsa) values in
           let all = ap length is.spelled in (
             positive_part is.e is.e_is (omega (arith, sizes, all, short)),
             (positive_passes is.e is.e_is).1,
@@ -180,7 +180,7 @@ written Dsa bytes bits is =
       spelled = is.spelled;
       bits_are = is.bits_are;
       passed = λ short.
-          let sizes = length-row (fields_of Dsa) values in
+          let sizes = length-table (fields_of Dsa) values in
           let all = ap length is.spelled in (
             positive_part is.p is.p_is (omega (arith, sizes, all, short)),
             (positive_passes is.p is.p_is).1,
@@ -231,7 +231,7 @@ written EcdsaSk bytes bits (is, same) =
         (
           omega (arith, is.point_is.0),
           point_passes 65 is.point (omega arith) is.point_is,
-          (omega (arith, length-row (fields_of EcdsaSk) values, ap length is.spelled, short), application_passes is.application is.application_is, refl),
+          (omega (arith, length-table (fields_of EcdsaSk) values, ap length is.spelled, short), application_passes is.application is.application_is, refl),
         ),
       );
     }
@@ -244,7 +244,7 @@ written Ed25519Sk bytes bits (is, same) =
       passed = λ short. (
         omega (arith, is.size_is),
         sized_passes 32 is.key is.size_is,
-        (omega (arith, length-row (fields_of Ed25519Sk) values, ap length is.spelled, short), application_passes is.application is.application_is, refl),
+        (omega (arith, length-table (fields_of Ed25519Sk) values, ap length is.spelled, short), application_passes is.application is.application_is, refl),
       );
     }
 
@@ -263,7 +263,7 @@ key_spells blob key is =
     let short : length key.fields ≤ 65536 = omega (arith, is.short, ap length is.spelled, length-append (string (type_name key.kind)) key.fields) in
     record {
       values = w.values;
-      fields = subst (λ (t : List ℕ). BeginsWithTable (fields_of key.kind) [] t w.values []) (sym w.spelled) (row_led (fields_of key.kind) [] w.values (w.passed short));
+      fields = subst (λ (t : List ℕ). BeginsWithTable (fields_of key.kind) [] t w.values []) (sym w.spelled) (table_text_begins (fields_of key.kind) [] w.values (w.passed short));
       bits = w.bits_are;
       spelled = is.spelled;
       short = is.short;

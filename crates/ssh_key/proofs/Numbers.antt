@@ -6,7 +6,7 @@ use Rattle.ssh_wire.specs.Wire.{IsBytes, complement, mpint, number_of}
 use Rattle.ssh_wire.proofs.Digits.{IsBytes-back, IsBytes-front, IsBytes-tail, bytes_as_bits}
 use Rattle.ssh_wire.proofs.Fields.{IsBytes-in_string}
 use Rattle.ssh_wire.proofs.Magnitudes.{IsBytes-complement, number_of-cons, number_of-lt, same_magnitude}
-use Rattle.ssh_wire.specs.Rows.{IsPart, Magnitude, Part, Step, part_text, row_text}
+use Rattle.ssh_wire.specs.Rows.{IsPart, Magnitude, Part, Row, part_text, table_text}
 use Rattle.ssh_wire.proofs.RowLaws.{AreParts}
 use Rattle.ssh_key.specs.declared.fault.KeyFault.{KeyFault}
 use Rattle.ssh_key.specs.Kind.{bit_count}
@@ -25,15 +25,15 @@ value_same : (part : Part) (a b : List ℕ) → IsBytes (part_text part a) → I
 value_same Magnitude a b h k p q same = same_magnitude a b (IsBytes-mpint a h) (IsBytes-mpint b k) p.0 q.0 same
 value_same part a b h k p q same = same
 
-pub values_same : (fields : List (Step KeyFault)) (left right : List (List ℕ)) → IsBytes (row_text fields left) → IsBytes (row_text fields right) → AreParts fields left → AreParts fields right → SameValues fields left right → left ≡ right
+pub values_same : (fields : List (Row KeyFault)) (left right : List (List ℕ)) → IsBytes (table_text fields left) → IsBytes (table_text fields right) → AreParts fields left → AreParts fields right → SameValues fields left right → left ≡ right
 values_same [] [] [] h k p q same = refl
 values_same [] (a ∷ left) right h k p q same = absurd p
 values_same [] [] (b ∷ right) h k p q same = absurd q
 values_same (field ∷ fields) [] right h k p q same = absurd p
 values_same (field ∷ fields) (a ∷ left) [] h k p q same = absurd q
 values_same (field ∷ fields) (a ∷ left) (b ∷ right) h k p q same =
-    let first : a ≡ b = value_same field.part a b (IsBytes-front (part_text field.part a) (row_text fields left) h) (IsBytes-front (part_text field.part b) (row_text fields right) k) p.0 q.0 same.0 in
-    let later : left ≡ right = values_same fields left right (IsBytes-back (part_text field.part a) (row_text fields left) h) (IsBytes-back (part_text field.part b) (row_text fields right) k) p.1 q.1 same.1 in
+    let first : a ≡ b = value_same field.part a b (IsBytes-front (part_text field.part a) (table_text fields left) h) (IsBytes-front (part_text field.part b) (table_text fields right) k) p.0 q.0 same.0 in
+    let later : left ≡ right = values_same fields left right (IsBytes-back (part_text field.part a) (table_text fields left) h) (IsBytes-back (part_text field.part b) (table_text fields right) k) p.1 q.1 same.1 in
     cc (first, later)
 
 -- ---- bits

@@ -2,7 +2,7 @@
 use Rattle.std.proofs.Common.{ℕ, ◌+◌, ◌≤◌, List, [], ◌∷◌, ◌++◌, length, ap, arith}
 use Rattle.std.specs.Prelude.{slice_index}
 use Rattle.std.proofs.lemmas.List.{length-append}
-use Rattle.ssh_wire.specs.Rows.{BeginsWithTable, Magnitude, Number, Part, Step, Text, part_text}
+use Rattle.ssh_wire.specs.Rows.{BeginsWithTable, Magnitude, Number, Part, Row, Text, part_text}
 use Rattle.ssh_wire.specs.Wire.{string}
 use Rattle.ssh_wire.proofs.Fields.{length-mpint, length-number, length-string}
 use Rattle.ssh_key.specs.Key.{IsKey, PublicKey}
@@ -17,7 +17,7 @@ abbrev least : Part → ℕ
 least (Number size) = size
 least part = 4
 
-abbrev least_of : List (Step KeyFault) → ℕ
+abbrev least_of : List (Row KeyFault) → ℕ
 least_of [] = 0
 least_of (field ∷ fields) = least field.part + least_of fields
 
@@ -26,7 +26,7 @@ part_room (Number size) value = omega (arith, length-number size (slice_index va
 part_room Magnitude value = omega (arith, length-mpint value)
 part_room Text value = omega (arith, length-string value)
 
-fields_room : (fields : List (Step KeyFault)) (before : List (List ℕ)) (bytes : List ℕ) (values : List (List ℕ)) (rest : List ℕ) → BeginsWithTable fields before bytes values rest → least_of fields + length rest ≤ length bytes
+fields_room : (fields : List (Row KeyFault)) (before : List (List ℕ)) (bytes : List ℕ) (values : List (List ℕ)) (rest : List ℕ) → BeginsWithTable fields before bytes values rest → least_of fields + length rest ≤ length bytes
 fields_room [] before bytes values rest l = omega (arith, ap length l.1)
 fields_room (field ∷ fields) before bytes values rest (value, left, stands, passed, l) =
     let later = fields_room fields (before ++ value ∷ []) left values rest l in

@@ -6,7 +6,7 @@ use Rattle.ssh_wire.specs.declared.fault.WireFault.TheVariants.{Short}
 use Rattle.ssh_wire.specs.Rows.{Text}
 use Rattle.ssh_wire.specs.Wire.{string}
 use Rattle.ssh_wire.proofs.TruncatedFields.{take-after}
-use Rattle.ssh_wire.proofs.RowLaws.{part_cut, row_cut}
+use Rattle.ssh_wire.proofs.RowLaws.{part_cut, table_cut}
 use Rattle.ssh_key.specs.declared.fault.KeyFault.TheVariants.{Wire}
 use Rattle.ssh_key.specs.Kind.{fields_of, type_name}
 use Rattle.ssh_key.specs.Key.{IsKey, PublicKey, blob_of}
@@ -14,7 +14,7 @@ use Rattle.ssh_key.specs.FirstFault.{IsFieldsFault, IsFirstKeyFault, in_field, i
 use Rattle.ssh_key.proofs.Keys.{length-type_name}
 
 pub public_cut : (key : PublicKey) (n : ℕ) → IsKey (blob_of key) key → n < length key.fields → IsFieldsFault key.kind (take n key.fields) (Wire Short)
-public_cut key n is lt = in_field (row_cut Wire (fields_of key.kind) [] key.fields is.values n is.fields lt)
+public_cut key n is lt = in_field (table_cut Wire (fields_of key.kind) [] key.fields is.values n is.fields lt)
 
 pub key_cut : (blob : List ℕ) (key : PublicKey) (n : ℕ) → IsKey blob key → n < length blob → IsFirstKeyFault (take n blob) (Wire Short)
 key_cut blob key n is lt =
@@ -26,5 +26,5 @@ key_cut blob key n is lt =
           not_long short (no_name Short (part_cut Text blob (type_name key.kind) key.fields n (record { is_part = omega (arith, length-type_name key.kind); spelled = is.spelled }) within) refl)
       | inr after ↦
           not_long short (in_fields key.kind (take (n - length name) key.fields) (ap (take n) is.spelled ∙ take-after name key.fields n after)
-          (in_field (row_cut Wire (fields_of key.kind) [] key.fields is.values (n - length name) is.fields (omega arith))))
+          (in_field (table_cut Wire (fields_of key.kind) [] key.fields is.values (n - length name) is.fields (omega arith))))
     ]

@@ -1,7 +1,7 @@
 -- The size that a reader of public fields found.
 use Rattle.std.specs.Prelude.{ℕ, ◌≤◌, List, [], length, Result, Ok}
 use Rattle.ssh_wire.specs.Reading.{◌>>=◌}
-use Rattle.ssh_wire.specs.Rows.{Step, row_at}
+use Rattle.ssh_wire.specs.Rows.{Row, table_at}
 use Rattle.ssh_key.specs.declared.fault.KeyFault.{KeyFault}
 use Rattle.ssh_key.specs.declared.fields.Size.{Size}
 use Rattle.ssh_key.specs.declared.fields.Size.TheVariants.{Bits, Magnitude}
@@ -18,7 +18,7 @@ IsWithin (Bits bits) limit = Unit {0}
 IsWithin (Magnitude bytes) limit = length bytes.now ≤ limit
 
 -- the size of a key that has these fields and this many bits, and the bytes after them
-abbrev pub sized_at : List (Step KeyFault) → ℕ → List ℕ → Result (ℕ × List ℕ) KeyFault
+abbrev pub sized_at : List (Row KeyFault) → ℕ → List ℕ → Result (ℕ × List ℕ) KeyFault
 sized_at fields bits bytes = do
-  values ← row_at Wire fields [] bytes
+  values ← table_at Wire fields [] bytes
   Ok (bits, values.1)

@@ -28,7 +28,8 @@ pub data IsFault (blob : List ℕ) (fault : KeyFault) : Type 0 where
   in_fields : (kind : Kind) (fields : List ℕ) → blob ≡ string (type_name kind) ++ fields
       → IsFieldsFault kind fields fault → IsFault blob fault
   after_fields : (kind : Kind) (values : List (List ℕ)) (fields rest : List ℕ)
-      → blob ≡ string (type_name kind) ++ fields → BeginsWithTable (fields_of kind) [] fields values rest
+      → blob ≡ string (type_name kind) ++ fields
+      → BeginsWithTable (fields_of kind) [] fields values rest
       → 0 < length rest → fault ≡ faults.Trailing → IsFault blob fault
 
 pub data IsFirstKeyFault (blob : List ℕ) (fault : KeyFault) : Type 0 where

@@ -3,7 +3,7 @@ use Rattle.std.specs.Prelude.{◌≡◌, ℕ, ◌-◌, List, [], length, take, R
 use Rattle.std.specs.Prelude.{if◌then◌else◌}
 use Rattle.std.specs.Option.{ok_or}
 use Rattle.ssh_wire.specs.Reading.{◌>>=◌, in_fault, string_at}
-use Rattle.ssh_wire.specs.Rows.{row_at}
+use Rattle.ssh_wire.specs.Rows.{table_at}
 use Rattle.ssh_key.specs.declared.fault.KeyFault.{KeyFault}
 use Rattle.ssh_key.specs.declared.fault.KeyFault.TheVariants as faults
 use Rattle.ssh_key.specs.declared.kind.Kind.{Kind}
@@ -20,7 +20,7 @@ kind_at bytes = do
 -- the size in bits by the public fields, and the bytes after them
 unfoldable pub bits_at : Kind → List ℕ → Result (ℕ × List ℕ) KeyFault
 bits_at kind bytes = do
-  values ← row_at faults.Wire (fields_of kind) [] bytes
+  values ← table_at faults.Wire (fields_of kind) [] bytes
   Ok (bits_of kind values.0, values.1)
 
 -- the bytes before the rest

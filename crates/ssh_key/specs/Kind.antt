@@ -5,7 +5,7 @@ use Rattle.std.specs.Prelude.{Some, None, codes, slice_index_or, if◌then◌els
 use Rattle.std.specs.Int.{w8, leading_zeros}
 use Rattle.std.specs.List.{find, list_any}
 use Rattle.std.specs.Str.{bytes_eq}
-use Rattle.ssh_wire.specs.Rows.{Magnitude, Step, Text, fault_unless, step}
+use Rattle.ssh_wire.specs.Rows.{Magnitude, Row, Text, fault_unless, row}
 use Rattle.ssh_key.specs.declared.fault.KeyFault.{KeyFault}
 use Rattle.ssh_key.specs.declared.fault.KeyFault.TheVariants as faults
 use Rattle.ssh_key.specs.declared.kind.Kind.{Kind}
@@ -57,13 +57,13 @@ kind_certified name = find (λ kind. bytes_eq (certificate_name kind) name) kind
 -- ---- the public fields
 
 -- a number above zero
-abbrev pub positive_field : Step KeyFault
-positive_field = step Magnitude
+abbrev pub positive_field : Row KeyFault
+positive_field = row Magnitude
     (λ before value. if length value == 0 then Some faults.Number else None)
 
 -- the name of the curve
-abbrev pub curve_field : List ℕ → Step KeyFault
-curve_field name = step Text (λ before value. fault_unless faults.Curve (bytes_eq value name))
+abbrev pub curve_field : List ℕ → Row KeyFault
+curve_field name = row Text (λ before value. fault_unless faults.Curve (bytes_eq value name))
 
 -- the uncompressed form begins with 4
 abbrev pub begins_with_4 : List ℕ → Bool
@@ -71,24 +71,24 @@ begins_with_4 [] = false
 begins_with_4 (byte ∷ bytes) = byte == 4
 
 -- an uncompressed point of this many bytes
-abbrev pub point_field : ℕ → Step KeyFault
-point_field size = step Text (λ before value.
+abbrev pub point_field : ℕ → Row KeyFault
+point_field size = row Text (λ before value.
     fault_unless faults.Point (length value == size && begins_with_4 value))
 
 -- any string of this many bytes
-abbrev pub sized_field : ℕ → Step KeyFault
-sized_field size = step Text (λ before value. fault_unless faults.Length (length value == size))
+abbrev pub sized_field : ℕ → Row KeyFault
+sized_field size = row Text (λ before value. fault_unless faults.Length (length value == size))
 
 abbrev pub has_zero : List ℕ → Bool
 has_zero value = list_any (λ byte. byte == 0) value
 
 -- The application of a security key has no zero byte, as OpenSSH writes it: a zero byte ends its
 -- texts, and it drops a zero byte at the end.
-abbrev pub application_field : Step KeyFault
-application_field = step Text (λ before value. if has_zero value then Some faults.Length else None)
+abbrev pub application_field : Row KeyFault
+application_field = row Text (λ before value. if has_zero value then Some faults.Length else None)
 
 -- the table of each kind
-abbrev pub fields_of : Kind → List (Step KeyFault)
+abbrev pub fields_of : Kind → List (Row KeyFault)
 fields_of Rsa = positive_field ∷ positive_field ∷ []
 fields_of Dsa = positive_field ∷ positive_field ∷ positive_field ∷ positive_field ∷ []
 fields_of Ecdsa256 = curve_field (codes "nistp256") ∷ point_field 65 ∷ []

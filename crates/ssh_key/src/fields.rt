@@ -2,7 +2,7 @@
 
 ghost use Rattle.std.specs.Prelude.{◌+◌, ◌-◌, ◌≤◌, ◌∷◌, [], IfOk, length};
 ghost use Rattle.ssh_wire.specs.Reading.{Gives};
-ghost use Rattle.ssh_wire.specs.Rows.{step_at};
+ghost use Rattle.ssh_wire.specs.Rows.{row_at};
 ghost use Rattle.ssh_key.specs.declared.fault.KeyFault.TheVariants.{Wire};
 ghost use Rattle.ssh_key.specs.Kind.{application_field, curve_field, point_field, positive_field};
 ghost use Rattle.ssh_key.specs.Kind.{sized_field};
@@ -44,7 +44,7 @@ pub fn read_size<'a>(kind: Kind, cursor: &mut Cursor<'a>) -> Result<Size<'a>, Ke
 }
 
 // Reads the public fields of an RSA key: the exponent, and the modulus, which is returned.
-#[tactic(auto, unfolding(crate::specs::KeyReading::bits_at, ssh_wire::specs::Rows::row_at))]
+#[tactic(auto, unfolding(crate::specs::KeyReading::bits_at, ssh_wire::specs::Rows::table_at))]
 fn read_modulus<'a>(cursor: &mut Cursor<'a>) -> Result<Size<'a>, KeyFault>
     ensures read { Gives bits_of_size result cursor.new (bits_at Kind.Rsa cursor.old) }
     ensures within { IfOk result (λ size. IsWithin size (length cursor.old - length cursor.new)) }
@@ -55,7 +55,7 @@ fn read_modulus<'a>(cursor: &mut Cursor<'a>) -> Result<Size<'a>, KeyFault>
 }
 
 // Reads the public fields of a DSA key: the prime, which is returned, and three more numbers.
-#[tactic(auto, unfolding(crate::specs::KeyReading::bits_at, ssh_wire::specs::Rows::row_at))]
+#[tactic(auto, unfolding(crate::specs::KeyReading::bits_at, ssh_wire::specs::Rows::table_at))]
 fn read_prime<'a>(cursor: &mut Cursor<'a>) -> Result<Size<'a>, KeyFault>
     ensures read { Gives bits_of_size result cursor.new (bits_at Kind.Dsa cursor.old) }
     ensures within { IfOk result (λ size. IsWithin size (length cursor.old - length cursor.new)) }
@@ -68,7 +68,7 @@ fn read_prime<'a>(cursor: &mut Cursor<'a>) -> Result<Size<'a>, KeyFault>
 }
 
 // Reads the public fields of a key on this curve, whose points have this many bytes.
-#[tactic(auto, unfolding(ssh_wire::specs::Rows::row_at))]
+#[tactic(auto, unfolding(ssh_wire::specs::Rows::table_at))]
 fn read_ecdsa<'a>(
     cursor: &mut Cursor<'a>,
     curve: &str,
@@ -85,7 +85,7 @@ fn read_ecdsa<'a>(
 }
 
 // Reads the public fields of an Ed25519 key.
-#[tactic(auto, unfolding(crate::specs::KeyReading::bits_at, ssh_wire::specs::Rows::row_at))]
+#[tactic(auto, unfolding(crate::specs::KeyReading::bits_at, ssh_wire::specs::Rows::table_at))]
 fn read_ed25519<'a>(cursor: &mut Cursor<'a>) -> Result<Size<'a>, KeyFault>
     ensures read { Gives bits_of_size result cursor.new (bits_at Kind.Ed25519 cursor.old) }
     ensures within { IfOk result (λ size. IsWithin size (length cursor.old - length cursor.new)) }
@@ -95,7 +95,7 @@ fn read_ed25519<'a>(cursor: &mut Cursor<'a>) -> Result<Size<'a>, KeyFault>
 }
 
 // Reads the public fields of an ECDSA security key.
-#[tactic(auto, unfolding(crate::specs::KeyReading::bits_at, ssh_wire::specs::Rows::row_at))]
+#[tactic(auto, unfolding(crate::specs::KeyReading::bits_at, ssh_wire::specs::Rows::table_at))]
 fn read_ecdsa_device<'a>(cursor: &mut Cursor<'a>) -> Result<Size<'a>, KeyFault>
     ensures read { Gives bits_of_size result cursor.new (bits_at Kind.EcdsaSk cursor.old) }
     ensures within { IfOk result (λ size. IsWithin size (length cursor.old - length cursor.new)) }
@@ -107,7 +107,7 @@ fn read_ecdsa_device<'a>(cursor: &mut Cursor<'a>) -> Result<Size<'a>, KeyFault>
 }
 
 // Reads the public fields of an Ed25519 security key.
-#[tactic(auto, unfolding(crate::specs::KeyReading::bits_at, ssh_wire::specs::Rows::row_at))]
+#[tactic(auto, unfolding(crate::specs::KeyReading::bits_at, ssh_wire::specs::Rows::table_at))]
 fn read_ed25519_device<'a>(cursor: &mut Cursor<'a>) -> Result<Size<'a>, KeyFault>
     ensures read { Gives bits_of_size result cursor.new (bits_at Kind.Ed25519Sk cursor.old) }
     ensures within { IfOk result (λ size. IsWithin size (length cursor.old - length cursor.new)) }
@@ -120,7 +120,7 @@ fn read_ed25519_device<'a>(cursor: &mut Cursor<'a>) -> Result<Size<'a>, KeyFault
 // A number above zero: its magnitude.
 fn read_positive<'a>(cursor: &mut Cursor<'a>) -> Result<&'a [u8], KeyFault>
     ensures read { Gives (λ value. value.now) result cursor.new
-        (step_at Wire positive_field [] cursor.old) }
+        (row_at Wire positive_field [] cursor.old) }
     ensures within { IfOk result (λ value.
         length value.now + length cursor.new ≤ length cursor.old) }
 {
@@ -134,7 +134,7 @@ fn read_positive<'a>(cursor: &mut Cursor<'a>) -> Result<&'a [u8], KeyFault>
 // The name of a curve.
 fn read_curve<'a>(cursor: &mut Cursor<'a>, name: &str) -> Result<&'a [u8], KeyFault>
     ensures { Gives (λ value. value.now) result cursor.new
-        (step_at Wire (curve_field name.now) [] cursor.old) }
+        (row_at Wire (curve_field name.now) [] cursor.old) }
 {
     let string = cursor.string()?;
     if string != name.as_bytes() {
@@ -146,7 +146,7 @@ fn read_curve<'a>(cursor: &mut Cursor<'a>, name: &str) -> Result<&'a [u8], KeyFa
 // A point of a curve, uncompressed, in this many bytes.
 fn read_point<'a>(cursor: &mut Cursor<'a>, size: usize) -> Result<&'a [u8], KeyFault>
     ensures { Gives (λ value. value.now) result cursor.new
-        (step_at Wire (point_field size) [] cursor.old) }
+        (row_at Wire (point_field size) [] cursor.old) }
 {
     let string = cursor.string()?;
     if string.len() != size {
@@ -161,7 +161,7 @@ fn read_point<'a>(cursor: &mut Cursor<'a>, size: usize) -> Result<&'a [u8], KeyF
 // A string of this many bytes.
 fn read_sized<'a>(cursor: &mut Cursor<'a>, size: usize) -> Result<&'a [u8], KeyFault>
     ensures { Gives (λ value. value.now) result cursor.new
-        (step_at Wire (sized_field size) [] cursor.old) }
+        (row_at Wire (sized_field size) [] cursor.old) }
 {
     let string = cursor.string()?;
     if string.len() != size {
@@ -174,7 +174,7 @@ fn read_sized<'a>(cursor: &mut Cursor<'a>, size: usize) -> Result<&'a [u8], KeyF
 // zero byte at the end, so a key with one would have a second spelling.
 fn read_application<'a>(cursor: &mut Cursor<'a>) -> Result<&'a [u8], KeyFault>
     ensures { Gives (λ value. value.now) result cursor.new
-        (step_at Wire application_field [] cursor.old) }
+        (row_at Wire application_field [] cursor.old) }
 {
     let string = cursor.string()?;
     if string.contains(&0) {

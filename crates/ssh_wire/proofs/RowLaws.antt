@@ -6,7 +6,7 @@ use Rattle.std.proofs.lemmas.List.{append-nil, length-append, length-drop, take-
 use Rattle.ssh_wire.specs.Laws.{IsShortWhereCut}
 use Rattle.ssh_wire.specs.Wire.{IsBytes, complement}
 use Rattle.ssh_wire.specs.Reading.{in_fault, mpint_at, number_at, string_at}
-use Rattle.ssh_wire.specs.Rows.{BeginsWithPart, Fails, IsPart, BeginsWithTable, Magnitude, Number, Part, Step, StepFails, Text, alone, part_at, part_text, row_at, row_text, step_at, unless}
+use Rattle.ssh_wire.specs.Rows.{BeginsWithPart, Fails, IsPart, BeginsWithTable, Magnitude, Number, Part, Row, RowFails, Text, alone, part_at, part_text, table_at, table_text, row_at, unless}
 use Rattle.ssh_wire.specs.declared.fault.WireFault.{WireFault}
 use Rattle.ssh_wire.specs.declared.fault.WireFault.TheVariants.{Short}
 use Rattle.ssh_wire.proofs.TruncatedFields.{mpint-cut, number-cut, string-cut, take-after}
@@ -74,15 +74,15 @@ unless_err : {A F : Type 0} (o : Option F) (x : A) (d : F) → unless o x ≡ Er
 unless_err None x d e = absurd cc
 unless_err {F = F} (Some fault) x d e = let same : fault ≡ d = cc in ap (λ (f : F). Some f) same
 
-pub step_takes : {F : Type 0} (unread : WireFault → F) (s : Step F) (before : List (List ℕ)) (bytes : List ℕ) (x : List ℕ × List ℕ) → IsBytes bytes → step_at unread s before bytes ≡ Ok x → Taken s.part bytes x.0 x.1 × (s.judged before x.0 ≡ None)
-step_takes unread s before bytes x fits e =
+pub row_takes : {F : Type 0} (unread : WireFault → F) (s : Row F) (before : List (List ℕ)) (bytes : List ℕ) (x : List ℕ × List ℕ) → IsBytes bytes → row_at unread s before bytes ≡ Ok x → Taken s.part bytes x.0 x.1 × (s.judged before x.0 ≡ None)
+row_takes unread s before bytes x fits e =
     let a = bind_ok (in_fault unread (part_at s.part bytes)) (λ read. unless (s.judged before read.0) read) x e in
     let u = unless_ok (s.judged before a.0.0) a.0 x a.2 in
     let t = part_takes s.part bytes a.0.0 a.0.1 fits (in_fault_ok unread (part_at s.part bytes) a.0 a.1) in
     subst (λ (y : List ℕ × List ℕ). Taken s.part bytes y.0 y.1 × (s.judged before y.0 ≡ None)) u.1 (t, u.0)
 
-pub step_refused : {F : Type 0} (unread : WireFault → F) (s : Step F) (before : List (List ℕ)) (bytes : List ℕ) (fault : F) → IsBytes bytes → step_at unread s before bytes ≡ Err fault → StepFails unread s before bytes fault
-step_refused unread s before bytes fault fits e =
+pub row_refused : {F : Type 0} (unread : WireFault → F) (s : Row F) (before : List (List ℕ)) (bytes : List ℕ) (fault : F) → IsBytes bytes → row_at unread s before bytes ≡ Err fault → RowFails unread s before bytes fault
+row_refused unread s before bytes fault fits e =
     elim (bind_err (in_fault unread (part_at s.part bytes)) (λ read. unless (s.judged before read.0) read) fault e) [
       | inl short ↦ inl (in_fault_err unread (part_at s.part bytes) fault short)
       | inr read ↦
@@ -93,129 +93,129 @@ step_refused unread s before bytes fault fits e =
 -- ---- tables
 
 -- a table, and bytes after it
-pub record Led {F : Type 0} (steps : List (Step F)) (before : List (List ℕ)) (bytes : List ℕ) (values : List (List ℕ)) (rest : List ℕ) : Type 0 where
-  pub leads : BeginsWithTable steps before bytes values rest
+pub record Led {F : Type 0} (rows : List (Row F)) (before : List (List ℕ)) (bytes : List ℕ) (values : List (List ℕ)) (rest : List ℕ) : Type 0 where
+  pub leads : BeginsWithTable rows before bytes values rest
   pub rest_fits : IsBytes rest
 
-pub row_takes : {F : Type 0} (unread : WireFault → F) (steps : List (Step F)) (before : List (List ℕ)) (bytes : List ℕ) (x : List (List ℕ) × List ℕ) → IsBytes bytes → row_at unread steps before bytes ≡ Ok x → Led steps before bytes x.0 x.1
-unfolding row_at
-row_takes unread [] before bytes x fits e =
+pub table_takes : {F : Type 0} (unread : WireFault → F) (rows : List (Row F)) (before : List (List ℕ)) (bytes : List ℕ) (x : List (List ℕ) × List ℕ) → IsBytes bytes → table_at unread rows before bytes ≡ Ok x → Led rows before bytes x.0 x.1
+unfolding table_at
+table_takes unread [] before bytes x fits e =
     let same : (before, bytes) ≡ x = cc in
     record { leads = (ap (λ (p : List (List ℕ) × List ℕ). p.0) same, ap (λ (p : List (List ℕ) × List ℕ). p.1) same); rest_fits = subst (λ (p : List (List ℕ) × List ℕ). IsBytes p.1) same fits }
-row_takes unread (s ∷ steps) before bytes x fits e =
-    let a = bind_ok (step_at unread s before bytes) (λ read. row_at unread steps (before ++ read.0 ∷ []) read.1) x e in
-    let t = step_takes unread s before bytes a.0 fits a.1 in
-    let later = row_takes unread steps (before ++ a.0.0 ∷ []) a.0.1 x t.0.rest_fits a.2 in
+table_takes unread (s ∷ rows) before bytes x fits e =
+    let a = bind_ok (row_at unread s before bytes) (λ read. table_at unread rows (before ++ read.0 ∷ []) read.1) x e in
+    let t = row_takes unread s before bytes a.0 fits a.1 in
+    let later = table_takes unread rows (before ++ a.0.0 ∷ []) a.0.1 x t.0.rest_fits a.2 in
     record { leads = (a.0.0, a.0.1, t.0.stands, t.1, later.leads); rest_fits = later.rest_fits }
 
-pub row_again : {F : Type 0} (unread : WireFault → F) (steps : List (Step F)) (before : List (List ℕ)) (bytes : List ℕ) (values : List (List ℕ)) (rest : List ℕ) → BeginsWithTable steps before bytes values rest → row_at unread steps before bytes ≡ Ok (values, rest)
-unfolding row_at
-row_again unread [] before bytes values rest l = rw (l.0, l.1) refl
-row_again unread (s ∷ steps) before bytes values rest (value, left, stands, passed, l) =
-    rw (part_again s.part bytes value left stands, passed) (row_again unread steps (before ++ value ∷ []) left values rest l)
+pub table_again : {F : Type 0} (unread : WireFault → F) (rows : List (Row F)) (before : List (List ℕ)) (bytes : List ℕ) (values : List (List ℕ)) (rest : List ℕ) → BeginsWithTable rows before bytes values rest → table_at unread rows before bytes ≡ Ok (values, rest)
+unfolding table_at
+table_again unread [] before bytes values rest l = rw (l.0, l.1) refl
+table_again unread (s ∷ rows) before bytes values rest (value, left, stands, passed, l) =
+    rw (part_again s.part bytes value left stands, passed) (table_again unread rows (before ++ value ∷ []) left values rest l)
 
-pub row_refused : {F : Type 0} (unread : WireFault → F) (steps : List (Step F)) (before : List (List ℕ)) (bytes : List ℕ) (fault : F) → IsBytes bytes → row_at unread steps before bytes ≡ Err fault → Fails unread steps before bytes fault
-unfolding row_at
-row_refused unread [] before bytes fault fits e = absurd cc
-row_refused unread (s ∷ steps) before bytes fault fits e =
-    elim (bind_err (step_at unread s before bytes) (λ read. row_at unread steps (before ++ read.0 ∷ []) read.1) fault e) [
-      | inl here ↦ inl (step_refused unread s before bytes fault fits here)
+pub table_refused : {F : Type 0} (unread : WireFault → F) (rows : List (Row F)) (before : List (List ℕ)) (bytes : List ℕ) (fault : F) → IsBytes bytes → table_at unread rows before bytes ≡ Err fault → Fails unread rows before bytes fault
+unfolding table_at
+table_refused unread [] before bytes fault fits e = absurd cc
+table_refused unread (s ∷ rows) before bytes fault fits e =
+    elim (bind_err (row_at unread s before bytes) (λ read. table_at unread rows (before ++ read.0 ∷ []) read.1) fault e) [
+      | inl here ↦ inl (row_refused unread s before bytes fault fits here)
       | inr read ↦
-          let t = step_takes unread s before bytes read.0 fits read.1 in
-          inr (read.0.0, read.0.1, t.0.stands, t.1, row_refused unread steps (before ++ read.0.0 ∷ []) read.0.1 fault t.0.rest_fits read.2)
+          let t = row_takes unread s before bytes read.0 fits read.1 in
+          inr (read.0.0, read.0.1, t.0.stands, t.1, table_refused unread rows (before ++ read.0.0 ∷ []) read.0.1 fault t.0.rest_fits read.2)
     ]
 
-pub row_fails : {F : Type 0} (unread : WireFault → F) (steps : List (Step F)) (before : List (List ℕ)) (bytes : List ℕ) (fault : F) → Fails unread steps before bytes fault → row_at unread steps before bytes ≡ Err fault
-unfolding row_at
-row_fails unread [] before bytes fault f = absurd f
-row_fails unread (s ∷ steps) before bytes fault (inl (inl (why, short, is))) = rw (is, short) refl
-row_fails unread (s ∷ steps) before bytes fault (inl (inr (value, left, stands, refused))) = rw (part_again s.part bytes value left stands, refused) refl
-row_fails unread (s ∷ steps) before bytes fault (inr (value, left, stands, passed, later)) =
-    rw (part_again s.part bytes value left stands, passed) (row_fails unread steps (before ++ value ∷ []) left fault later)
+pub table_fails : {F : Type 0} (unread : WireFault → F) (rows : List (Row F)) (before : List (List ℕ)) (bytes : List ℕ) (fault : F) → Fails unread rows before bytes fault → table_at unread rows before bytes ≡ Err fault
+unfolding table_at
+table_fails unread [] before bytes fault f = absurd f
+table_fails unread (s ∷ rows) before bytes fault (inl (inl (why, short, is))) = rw (is, short) refl
+table_fails unread (s ∷ rows) before bytes fault (inl (inr (value, left, stands, refused))) = rw (part_again s.part bytes value left stands, refused) refl
+table_fails unread (s ∷ rows) before bytes fault (inr (value, left, stands, passed, later)) =
+    rw (part_again s.part bytes value left stands, passed) (table_fails unread rows (before ++ value ∷ []) left fault later)
 
 -- ---- one first fault, also of bytes that are truncated
 
-pub one_fault : {F : Type 0} (unread : WireFault → F) (steps : List (Step F)) (before : List (List ℕ)) (bytes : List ℕ) (a b : F) → Fails unread steps before bytes a → Fails unread steps before bytes b → a ≡ b
-one_fault unread steps before bytes a b p q =
-    err_is a b (row_at unread steps before bytes) (row_fails unread steps before bytes a p) (row_fails unread steps before bytes b q)
+pub one_fault : {F : Type 0} (unread : WireFault → F) (rows : List (Row F)) (before : List (List ℕ)) (bytes : List ℕ) (a b : F) → Fails unread rows before bytes a → Fails unread rows before bytes b → a ≡ b
+one_fault unread rows before bytes a b p q =
+    err_is a b (table_at unread rows before bytes) (table_fails unread rows before bytes a p) (table_fails unread rows before bytes b q)
 
-pub no_fault : {F : Type 0} (unread : WireFault → F) (steps : List (Step F)) (before : List (List ℕ)) (bytes : List ℕ) (values : List (List ℕ)) (rest : List ℕ) (fault : F) → BeginsWithTable steps before bytes values rest → Fails unread steps before bytes fault → ⊥
-no_fault unread steps before bytes values rest fault l f =
-    ok_or_err (values, rest) fault (row_at unread steps before bytes) (row_again unread steps before bytes values rest l) (row_fails unread steps before bytes fault f)
+pub no_fault : {F : Type 0} (unread : WireFault → F) (rows : List (Row F)) (before : List (List ℕ)) (bytes : List ℕ) (values : List (List ℕ)) (rest : List ℕ) (fault : F) → BeginsWithTable rows before bytes values rest → Fails unread rows before bytes fault → ⊥
+no_fault unread rows before bytes values rest fault l f =
+    ok_or_err (values, rest) fault (table_at unread rows before bytes) (table_again unread rows before bytes values rest l) (table_fails unread rows before bytes fault f)
 
-pub row_cut : {F : Type 0} (unread : WireFault → F) (steps : List (Step F)) (before : List (List ℕ)) (bytes : List ℕ) (values : List (List ℕ)) (n : ℕ) → BeginsWithTable steps before bytes values [] → n < length bytes → Fails unread steps before (take n bytes) (unread Short)
-row_cut unread [] before bytes values n l lt = absurd (omega (arith, ap length l.1))
-row_cut unread (s ∷ steps) before bytes values n (value, left, stands, passed, l) lt =
+pub table_cut : {F : Type 0} (unread : WireFault → F) (rows : List (Row F)) (before : List (List ℕ)) (bytes : List ℕ) (values : List (List ℕ)) (n : ℕ) → BeginsWithTable rows before bytes values [] → n < length bytes → Fails unread rows before (take n bytes) (unread Short)
+table_cut unread [] before bytes values n l lt = absurd (omega (arith, ap length l.1))
+table_cut unread (s ∷ rows) before bytes values n (value, left, stands, passed, l) lt =
     let text : List ℕ = part_text s.part value in
     elim (cases_lt n (length text)) [
       | inl within ↦ inl (inl (Short, part_cut s.part bytes value left n stands within, refl))
       | inr after ↦
           let parts : take n bytes ≡ text ++ take (n - length text) left = ap (take n) stands.spelled ∙ take-after text left n after in
           let fewer : n - length text < length left = omega (arith, ap length stands.spelled, length-append text left) in
-          inr (value, take (n - length text) left, record { is_part = stands.is_part; spelled = parts }, passed, row_cut unread steps (before ++ value ∷ []) left values (n - length text) l fewer)
+          inr (value, take (n - length text) left, record { is_part = stands.is_part; spelled = parts }, passed, table_cut unread rows (before ++ value ∷ []) left values (n - length text) l fewer)
     ]
 
 -- ---- the bytes of a table alone
 
 -- the bytes before the rest
-pub leads_front : {F : Type 0} (steps : List (Step F)) (before : List (List ℕ)) (bytes : List ℕ) (values : List (List ℕ)) (rest : List ℕ) → BeginsWithTable steps before bytes values rest → (text : List ℕ) × (bytes ≡ text ++ rest) × BeginsWithTable steps before text values []
-leads_front [] before bytes values rest l = ([], l.1, (l.0, refl))
-leads_front (s ∷ steps) before bytes values rest (value, left, stands, passed, l) =
-    let later = leads_front steps (before ++ value ∷ []) left values rest l in
+pub table_front : {F : Type 0} (rows : List (Row F)) (before : List (List ℕ)) (bytes : List ℕ) (values : List (List ℕ)) (rest : List ℕ) → BeginsWithTable rows before bytes values rest → (text : List ℕ) × (bytes ≡ text ++ rest) × BeginsWithTable rows before text values []
+table_front [] before bytes values rest l = ([], l.1, (l.0, refl))
+table_front (s ∷ rows) before bytes values rest (value, left, stands, passed, l) =
+    let later = table_front rows (before ++ value ∷ []) left values rest l in
     let text : List ℕ = part_text s.part value in
     let parts : bytes ≡ (text ++ later.0) ++ rest = stands.spelled ∙ ap (λ (t : List ℕ). text ++ t) later.1 ∙ sym (append_assoc text later.0 rest) in
     (text ++ later.0, parts, (value, later.0, record { is_part = stands.is_part; spelled = refl }, passed, later.2))
 
 -- the same bytes before others
-pub leads_more : {F : Type 0} (steps : List (Step F)) (before : List (List ℕ)) (bytes : List ℕ) (values : List (List ℕ)) (rest more : List ℕ) → BeginsWithTable steps before bytes values rest → BeginsWithTable steps before (bytes ++ more) values (rest ++ more)
-leads_more [] before bytes values rest more l = (l.0, ap (λ (t : List ℕ). t ++ more) l.1)
-leads_more (s ∷ steps) before bytes values rest more (value, left, stands, passed, l) =
+pub table_more : {F : Type 0} (rows : List (Row F)) (before : List (List ℕ)) (bytes : List ℕ) (values : List (List ℕ)) (rest more : List ℕ) → BeginsWithTable rows before bytes values rest → BeginsWithTable rows before (bytes ++ more) values (rest ++ more)
+table_more [] before bytes values rest more l = (l.0, ap (λ (t : List ℕ). t ++ more) l.1)
+table_more (s ∷ rows) before bytes values rest more (value, left, stands, passed, l) =
     let parts : bytes ++ more ≡ part_text s.part value ++ (left ++ more) = ap (λ (t : List ℕ). t ++ more) stands.spelled ∙ append_assoc (part_text s.part value) left more in
-    (value, left ++ more, record { is_part = stands.is_part; spelled = parts }, passed, leads_more steps (before ++ value ∷ []) left values rest more l)
+    (value, left ++ more, record { is_part = stands.is_part; spelled = parts }, passed, table_more rows (before ++ value ∷ []) left values rest more l)
 
 -- a value of its part in each row
-abbrev pub AreParts : {F : Type 0} → List (Step F) → List (List ℕ) → Type 0
+abbrev pub AreParts : {F : Type 0} → List (Row F) → List (List ℕ) → Type 0
 AreParts [] [] = Unit {0}
 AreParts [] (value ∷ values) = ⊥
-AreParts (s ∷ steps) [] = ⊥
-AreParts (s ∷ steps) (value ∷ values) = IsPart s.part value × AreParts steps values
+AreParts (s ∷ rows) [] = ⊥
+AreParts (s ∷ rows) (value ∷ values) = IsPart s.part value × AreParts rows values
 
 -- the values of the rows alone
-record Own {F : Type 0} (steps : List (Step F)) (before : List (List ℕ)) (bytes : List ℕ) (values : List (List ℕ)) (rest : List ℕ) : Type 0 where
+record Own {F : Type 0} (rows : List (Row F)) (before : List (List ℕ)) (bytes : List ℕ) (values : List (List ℕ)) (rest : List ℕ) : Type 0 where
   own : List (List ℕ)
   all : values ≡ before ++ own
-  parts : bytes ≡ row_text steps own ++ rest
-  are : AreParts steps own
+  parts : bytes ≡ table_text rows own ++ rest
+  are : AreParts rows own
 
-own_values : {F : Type 0} (steps : List (Step F)) (before : List (List ℕ)) (bytes : List ℕ) (values : List (List ℕ)) (rest : List ℕ) → BeginsWithTable steps before bytes values rest → Own steps before bytes values rest
+own_values : {F : Type 0} (rows : List (Row F)) (before : List (List ℕ)) (bytes : List ℕ) (values : List (List ℕ)) (rest : List ℕ) → BeginsWithTable rows before bytes values rest → Own rows before bytes values rest
 own_values [] before bytes values rest l = record { own = []; all = sym l.0 ∙ sym (append-nil before); parts = l.1; are = tt }
-own_values (s ∷ steps) before bytes values rest (value, left, stands, passed, l) =
-    let later = own_values steps (before ++ value ∷ []) left values rest l in
+own_values (s ∷ rows) before bytes values rest (value, left, stands, passed, l) =
+    let later = own_values rows (before ++ value ∷ []) left values rest l in
     record {
       own = value ∷ later.own;
       all = later.all ∙ append_assoc before (value ∷ []) later.own;
-      parts = stands.spelled ∙ ap (λ (t : List ℕ). part_text s.part value ++ t) later.parts ∙ sym (append_assoc (part_text s.part value) (row_text steps later.own) rest);
+      parts = stands.spelled ∙ ap (λ (t : List ℕ). part_text s.part value ++ t) later.parts ∙ sym (append_assoc (part_text s.part value) (table_text rows later.own) rest);
       are = (stands.is_part, later.are);
     }
 
-pub leads_text : {F : Type 0} (steps : List (Step F)) (text : List ℕ) (values : List (List ℕ)) → BeginsWithTable steps [] text values [] → (text ≡ row_text steps values) × AreParts steps values
-leads_text steps text values l =
-    let o = own_values steps [] text values [] l in
-    subst (λ (v : List (List ℕ)). (text ≡ row_text steps v) × AreParts steps v) (sym o.all) (o.parts ∙ append-nil (row_text steps o.own), o.are)
+pub table_is_text : {F : Type 0} (rows : List (Row F)) (text : List ℕ) (values : List (List ℕ)) → BeginsWithTable rows [] text values [] → (text ≡ table_text rows values) × AreParts rows values
+table_is_text rows text values l =
+    let o = own_values rows [] text values [] l in
+    subst (λ (v : List (List ℕ)). (text ≡ table_text rows v) × AreParts rows v) (sym o.all) (o.parts ∙ append-nil (table_text rows o.own), o.are)
 
 -- ---- the text of values
 
 -- each value is one of its row, and passes
-abbrev pub ArePassed : {F : Type 0} → List (Step F) → List (List ℕ) → List (List ℕ) → Type 0
+abbrev pub ArePassed : {F : Type 0} → List (Row F) → List (List ℕ) → List (List ℕ) → Type 0
 ArePassed [] before values = values ≡ []
-ArePassed (s ∷ steps) before [] = ⊥
-ArePassed (s ∷ steps) before (value ∷ values) = IsPart s.part value × (s.judged before value ≡ None) × ArePassed steps (before ++ value ∷ []) values
+ArePassed (s ∷ rows) before [] = ⊥
+ArePassed (s ∷ rows) before (value ∷ values) = IsPart s.part value × (s.judged before value ≡ None) × ArePassed rows (before ++ value ∷ []) values
 
-pub row_led : {F : Type 0} (steps : List (Step F)) (before values : List (List ℕ)) → ArePassed steps before values → BeginsWithTable steps before (row_text steps values) (before ++ values) []
-row_led [] before values none = (sym (append-nil before) ∙ ap (λ (others : List (List ℕ)). before ++ others) (sym none), refl)
-row_led (s ∷ steps) before [] none = absurd none
-row_led (s ∷ steps) before (value ∷ values) (is, passed, later) =
-    (value, row_text steps values, record { is_part = is; spelled = refl }, passed, rw (sym (append_assoc before (value ∷ []) values)) (row_led steps (before ++ value ∷ []) values later))
+pub table_text_begins : {F : Type 0} (rows : List (Row F)) (before values : List (List ℕ)) → ArePassed rows before values → BeginsWithTable rows before (table_text rows values) (before ++ values) []
+table_text_begins [] before values none = (sym (append-nil before) ∙ ap (λ (others : List (List ℕ)). before ++ others) (sym none), refl)
+table_text_begins (s ∷ rows) before [] none = absurd none
+table_text_begins (s ∷ rows) before (value ∷ values) (is, passed, later) =
+    (value, table_text rows values, record { is_part = is; spelled = refl }, passed, rw (sym (append_assoc before (value ∷ []) values)) (table_text_begins rows (before ++ value ∷ []) values later))
 
 -- how many bytes the encoding of a value has
 abbrev pub part_length : Part → List ℕ → ℕ
@@ -228,12 +228,12 @@ length-part (Number size) value = length-number size (slice_index value 0)
 length-part Magnitude value = length-mpint value
 length-part Text value = length-string value
 
-abbrev pub row_length : {F : Type 0} → List (Step F) → List (List ℕ) → ℕ
-row_length [] values = 0
-row_length (s ∷ steps) [] = 0
-row_length (s ∷ steps) (value ∷ values) = part_length s.part value + row_length steps values
+abbrev pub table_length : {F : Type 0} → List (Row F) → List (List ℕ) → ℕ
+table_length [] values = 0
+table_length (s ∷ rows) [] = 0
+table_length (s ∷ rows) (value ∷ values) = part_length s.part value + table_length rows values
 
-pub length-row : {F : Type 0} (steps : List (Step F)) (values : List (List ℕ)) → length (row_text steps values) ≡ row_length steps values
-length-row [] values = refl
-length-row (s ∷ steps) [] = refl
-length-row (s ∷ steps) (value ∷ values) = omega (arith, length-append (part_text s.part value) (row_text steps values), length-part s.part value, length-row steps values)
+pub length-table : {F : Type 0} (rows : List (Row F)) (values : List (List ℕ)) → length (table_text rows values) ≡ table_length rows values
+length-table [] values = refl
+length-table (s ∷ rows) [] = refl
+length-table (s ∷ rows) (value ∷ values) = omega (arith, length-append (part_text s.part value) (table_text rows values), length-part s.part value, length-table rows values)

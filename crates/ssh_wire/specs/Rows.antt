@@ -40,12 +40,12 @@ pub record BeginsWithPart (part : Part) (bytes value rest : List ℕ) : Type 0 w
 
 -- A row of a table: a part, and the judgement on its value, given the values before it. A table is
 -- a list of these, and says by a function what a part that cannot be read is as a fault.
-pub record Step (F : Type 0) : Type 0 where
+pub record Row (F : Type 0) : Type 0 where
   pub part : Part
   pub judged : List (List ℕ) → List ℕ → Option F
 
-abbrev pub step : {F : Type 0} → Part → (List (List ℕ) → List ℕ → Option F) → Step F
-step part judged = record { part = part; judged = judged }
+abbrev pub row : {F : Type 0} → Part → (List (List ℕ) → List ℕ → Option F) → Row F
+row part judged = record { part = part; judged = judged }
 
 -- no fault, whatever the values are
 abbrev pub passes : {F : Type 0} → List (List ℕ) → List ℕ → Option F
@@ -54,56 +54,56 @@ passes before value = None
 abbrev pub fault_unless : {F : Type 0} → F → Bool → Option F
 fault_unless fault holds = if holds then None else Some fault
 
--- After the values before it the bytes are the row: each part is in its place and passes its
--- judgement. All values, and the bytes that are left.
+-- After the values before it the bytes begin with the table: each part is in its place and passes
+-- its judgement. All values, and the bytes that are left.
 abbrev pub BeginsWithTable
-    : {F : Type 0} → List (Step F) → List (List ℕ) → List ℕ → List (List ℕ) → List ℕ → Type 0
+    : {F : Type 0} → List (Row F) → List (List ℕ) → List ℕ → List (List ℕ) → List ℕ → Type 0
 BeginsWithTable [] before bytes values rest = (before ≡ values) × (bytes ≡ rest)
-BeginsWithTable (expected ∷ steps) before bytes values rest =
+BeginsWithTable (expected ∷ rows) before bytes values rest =
     (value : List ℕ) × (left : List ℕ) × BeginsWithPart expected.part bytes value left
     × (expected.judged before value ≡ None)
-    × BeginsWithTable steps (before ++ value ∷ []) left values rest
+    × BeginsWithTable rows (before ++ value ∷ []) left values rest
 
 -- The part at the front cannot be read, or fails its judgement.
-abbrev pub StepFails
-    : {F : Type 0} → (WireFault → F) → Step F → List (List ℕ) → List ℕ → F → Type 0
-StepFails unread expected before bytes fault =
+abbrev pub RowFails
+    : {F : Type 0} → (WireFault → F) → Row F → List (List ℕ) → List ℕ → F → Type 0
+RowFails unread expected before bytes fault =
     ((why : WireFault) × (part_at expected.part bytes ≡ Err why) × (fault ≡ unread why))
     ⊎ ((value : List ℕ) × (left : List ℕ) × BeginsWithPart expected.part bytes value left
     × (expected.judged before value ≡ Some fault))
 
--- The first fault of a row: that of a part, where all parts before it pass.
+-- The first fault of a table: that of a row, where all rows before it pass.
 abbrev pub Fails
-    : {F : Type 0} → (WireFault → F) → List (Step F) → List (List ℕ) → List ℕ → F → Type 0
+    : {F : Type 0} → (WireFault → F) → List (Row F) → List (List ℕ) → List ℕ → F → Type 0
 Fails unread [] before bytes fault = ⊥
-Fails unread (expected ∷ steps) before bytes fault =
-    StepFails unread expected before bytes fault
+Fails unread (expected ∷ rows) before bytes fault =
+    RowFails unread expected before bytes fault
     ⊎ ((value : List ℕ) × (left : List ℕ) × BeginsWithPart expected.part bytes value left
     × (expected.judged before value ≡ None)
-    × Fails unread steps (before ++ value ∷ []) left fault)
+    × Fails unread rows (before ++ value ∷ []) left fault)
 
 -- the encodings of values, one for each row
-abbrev pub row_text : {F : Type 0} → List (Step F) → List (List ℕ) → List ℕ
-row_text [] values = []
-row_text (expected ∷ steps) [] = []
-row_text (expected ∷ steps) (value ∷ values) =
-    part_text expected.part value ++ row_text steps values
+abbrev pub table_text : {F : Type 0} → List (Row F) → List (List ℕ) → List ℕ
+table_text [] values = []
+table_text (expected ∷ rows) [] = []
+table_text (expected ∷ rows) (value ∷ values) =
+    part_text expected.part value ++ table_text rows values
 
 abbrev pub unless : {A F : Type 0} → Option F → A → Result A F
 unless None x = Ok x
 unless (Some fault) x = Err fault
 
 -- the value of a row, and the bytes after it
-abbrev pub step_at : {F : Type 0} → (WireFault → F) → Step F → List (List ℕ) → List ℕ
+abbrev pub row_at : {F : Type 0} → (WireFault → F) → Row F → List (List ℕ) → List ℕ
     → Result (List ℕ × List ℕ) F
-step_at unread expected before bytes = do
+row_at unread expected before bytes = do
   read ← in_fault unread (part_at expected.part bytes)
   unless (expected.judged before read.0) read
 
 -- the values of a table and the bytes after it, from left to right
-unfoldable pub row_at : {F : Type 0} → (WireFault → F) → List (Step F) → List (List ℕ) → List ℕ
+unfoldable pub table_at : {F : Type 0} → (WireFault → F) → List (Row F) → List (List ℕ) → List ℕ
     → Result (List (List ℕ) × List ℕ) F
-row_at unread [] before bytes = Ok (before, bytes)
-row_at unread (expected ∷ steps) before bytes = do
-  read ← step_at unread expected before bytes
-  row_at unread steps (before ++ read.0 ∷ []) read.1
+table_at unread [] before bytes = Ok (before, bytes)
+table_at unread (expected ∷ rows) before bytes = do
+  read ← row_at unread expected before bytes
+  table_at unread rows (before ++ read.0 ∷ []) read.1

@@ -6,7 +6,7 @@ ghost use Rattle.std.specs.Prelude.{◌≡◌, ◌↔◌, ◌<◌, ◌+◌, ◌*
 ghost use Rattle.std.specs.Prelude.{Err, Ok, take};
 ghost use Rattle.ssh_wire.specs.Laws.{HasMpint, IsShortWhereCut, ReadsJust};
 ghost use Rattle.ssh_wire.specs.Reading.{mpint_at, number_at, string_at};
-ghost use Rattle.ssh_wire.specs.Rows.{Fails, BeginsWithTable, Step, row_at};
+ghost use Rattle.ssh_wire.specs.Rows.{Fails, BeginsWithTable, Row, table_at};
 ghost use Rattle.ssh_wire.specs.declared.fault.WireFault.{WireFault};
 ghost use Rattle.ssh_wire.specs.declared.fault.WireFault.TheVariants.{Short};
 ghost use Rattle.ssh_wire.specs.Wire.{IsBytes, IsMagnitude, IsMpint, complement, mpint, number};
@@ -78,25 +78,25 @@ pub fn cut_mpint_is_short()
 /// The values of a table are read exactly where it is spelled, whatever the type of its faults is.
 /// Otherwise the first fault is reported, and there is one.
 pub fn table_is_read_back<F>()
-    ensures read { (unread : WireFault → F) (steps : List (Step F)) (before values : List (List ℕ))
+    ensures read { (unread : WireFault → F) (rows : List (Row F)) (before values : List (List ℕ))
         (bytes rest : List ℕ) → IsBytes bytes
-        → (row_at unread steps before bytes ≡ Ok (values, rest))
-        ↔ BeginsWithTable steps before bytes values rest }
-    ensures refused { (unread : WireFault → F) (steps : List (Step F)) (before : List (List ℕ))
+        → (table_at unread rows before bytes ≡ Ok (values, rest))
+        ↔ BeginsWithTable rows before bytes values rest }
+    ensures refused { (unread : WireFault → F) (rows : List (Row F)) (before : List (List ℕ))
         (bytes : List ℕ) (fault : F) → IsBytes bytes
-        → (row_at unread steps before bytes ≡ Err fault)
-        ↔ Fails unread steps before bytes fault }
-    ensures one { (unread : WireFault → F) (steps : List (Step F)) (before : List (List ℕ))
-        (bytes : List ℕ) (a b : F) → Fails unread steps before bytes a
-        → Fails unread steps before bytes b → a ≡ b }
-    ensures none { (unread : WireFault → F) (steps : List (Step F)) (before values : List (List ℕ))
-        (bytes rest : List ℕ) (fault : F) → BeginsWithTable steps before bytes values rest
-        → Fails unread steps before bytes fault → ⊥ }
+        → (table_at unread rows before bytes ≡ Err fault)
+        ↔ Fails unread rows before bytes fault }
+    ensures one { (unread : WireFault → F) (rows : List (Row F)) (before : List (List ℕ))
+        (bytes : List ℕ) (a b : F) → Fails unread rows before bytes a
+        → Fails unread rows before bytes b → a ≡ b }
+    ensures none { (unread : WireFault → F) (rows : List (Row F)) (before values : List (List ℕ))
+        (bytes rest : List ℕ) (fault : F) → BeginsWithTable rows before bytes values rest
+        → Fails unread rows before bytes fault → ⊥ }
 {}
 
 /// A table that is truncated anywhere has the fault of a part that is `Short`.
 pub fn cut_table_is_short<F>()
-    ensures { (unread : WireFault → F) (steps : List (Step F)) (before values : List (List ℕ))
-        (bytes : List ℕ) (n : ℕ) → BeginsWithTable steps before bytes values [] → n < length bytes
-        → Fails unread steps before (take n bytes) (unread Short) }
+    ensures { (unread : WireFault → F) (rows : List (Row F)) (before values : List (List ℕ))
+        (bytes : List ℕ) (n : ℕ) → BeginsWithTable rows before bytes values [] → n < length bytes
+        → Fails unread rows before (take n bytes) (unread Short) }
 {}

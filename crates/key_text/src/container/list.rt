@@ -2,7 +2,7 @@
 
 ghost use Rattle.std.specs.Prelude.{[], ◌∷◌};
 ghost use Rattle.ssh_wire.specs.Reading.{Gives, Lends};
-ghost use Rattle.ssh_wire.specs.Rows.{row_at};
+ghost use Rattle.ssh_wire.specs.Rows.{table_at};
 ghost use Rattle.ssh_key.specs.Kind.{type_name};
 ghost use Rattle.key_text.specs.Container.{beginning};
 ghost use Rattle.key_text.specs.ContainerReading.{list_at};
@@ -33,10 +33,10 @@ pub fn read_list<'a>(key: &PublicKey, list: &'a [u8]) -> Result<&'a [u8], Privat
 }
 
 // The check words, which must be equal, and the type name, which must be that of the key.
-#[tactic(auto, unfolding(ssh_wire::specs::Rows::row_at))]
+#[tactic(auto, unfolding(ssh_wire::specs::Rows::table_at))]
 fn read_beginning(key: &PublicKey, cursor: &mut Cursor) -> Result<u32, PrivateFault>
     ensures { Gives (λ check. (check ∷ []) ∷ (check ∷ []) ∷ type_name key.now.kind ∷ []) result
-        cursor.new (row_at Wire (beginning key.now.kind) [] cursor.old) }
+        cursor.new (table_at Wire (beginning key.now.kind) [] cursor.old) }
 {
     let check = cursor.u32()?;
     let again = cursor.u32()?;

@@ -2,7 +2,7 @@
 
 ghost use Rattle.std.specs.Prelude.{◌≡◌, [], IfOk, Ok};
 ghost use Rattle.ssh_wire.specs.Reading.{Gives};
-ghost use Rattle.ssh_wire.specs.Rows.{row_at};
+ghost use Rattle.ssh_wire.specs.Rows.{table_at};
 ghost use Rattle.ssh_key.specs.KeyReading.{key_at};
 ghost use Rattle.key_text.specs.Container.{is_plain, outer};
 ghost use Rattle.key_text.specs.ContainerReading.{bytes_at, inside_at, plain_values};
@@ -69,10 +69,10 @@ fn read_inside<'a>(inside: &'a [u8]) -> Result<Opened<'a>, PrivateFault>
 }
 
 // The fields up to the private list.
-#[tactic(auto, unfolding(ssh_wire::specs::Rows::row_at))]
+#[tactic(auto, unfolding(ssh_wire::specs::Rows::table_at))]
 fn read_parts<'a>(cursor: &mut Cursor<'a>) -> Result<Parts<'a>, PrivateFault>
     ensures read { Gives (λ parts. plain_values parts.blob.now parts.list.now) result cursor.new
-        (row_at Wire outer [] cursor.old) }
+        (table_at Wire outer [] cursor.old) }
     ensures key { IfOk result (λ parts. key_at parts.blob.now ≡ Ok parts.key) }
 {
     let cipher = cursor.string()?;

@@ -46,7 +46,7 @@ pub fn read_secrets(key: &PublicKey, cursor: &mut Cursor) -> Result<bool, Privat
 }
 
 // The modulus, the exponent, and four private numbers. The blob has the exponent first.
-#[tactic(auto, unfolding(ssh_wire::specs::Rows::row_at, crate::specs::ContainerReading::passed_at, crate::specs::ContainerReading::same_at))]
+#[tactic(auto, unfolding(ssh_wire::specs::Rows::table_at, crate::specs::ContainerReading::passed_at, crate::specs::ContainerReading::same_at))]
 fn read_rsa(public: &[u8], cursor: &mut Cursor) -> Result<bool, PrivateFault>
     ensures { Gives (λ same. same) result cursor.new (same_at Kind.Rsa public.now cursor.old) }
 {
@@ -57,7 +57,7 @@ fn read_rsa(public: &[u8], cursor: &mut Cursor) -> Result<bool, PrivateFault>
 }
 
 // The public bytes, and 64 private ones.
-#[tactic(auto, unfolding(ssh_wire::specs::Rows::row_at, crate::specs::ContainerReading::passed_at, crate::specs::ContainerReading::same_at))]
+#[tactic(auto, unfolding(ssh_wire::specs::Rows::table_at, crate::specs::ContainerReading::passed_at, crate::specs::ContainerReading::same_at))]
 fn read_ed25519(public: &[u8], cursor: &mut Cursor) -> Result<bool, PrivateFault>
     ensures { Gives (λ same. same) result cursor.new (same_at Kind.Ed25519 public.now cursor.old) }
 {

@@ -67,7 +67,7 @@ impl Field {
     #[inline(always)]
     pub fn row(self) -> (Table, FieldPart, Option<Field>)
         ensures table { result.0 ≡ (row_of self).table }
-        ensures part { part_of result.1 ≡ (row_of self).step.part }
+        ensures part { part_of result.1 ≡ (row_of self).row.part }
         ensures next { result.2 ≡ (row_of self).next }
     {
         use FieldPart::{Number, Text};
@@ -103,7 +103,7 @@ impl Field {
     // Returns the size of the expected number or length, and the bytes that are left for it.
     #[inline(always)]
     pub(super) fn size_and_room(self, left: u32) -> (u32, Option<u32>)
-        ensures size { result.0 ≡ part_size (row_of self).step.part }
+        ensures size { result.0 ≡ part_size (row_of self).row.part }
         ensures room { result.1 ≡ room_of (row_of self).table left }
     {
         let (table, part, _) = self.row();
@@ -149,8 +149,8 @@ impl Field {
     // The fault of a number, if it has one.
     #[inline(always)]
     fn fault(self, number: &[u8]) -> Option<KrlFault>
-        requires { length number.now ≡ part_size (row_of self).step.part }
-        ensures { result ≡ (row_of self).step.judged [] (number_of number.now ∷ []) }
+        requires { length number.now ≡ part_size (row_of self).row.part }
+        ensures { result ≡ (row_of self).row.judged [] (number_of number.now ∷ []) }
     {
         match self {
             Field::Magic if u64_of(number) != MAGIC_NUMBER => Some(KrlFault::Magic),

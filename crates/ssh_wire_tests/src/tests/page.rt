@@ -2,7 +2,7 @@
 
 ghost use Rattle.std.specs.Prelude.{◌≡◌, ◌==◌, ◌∷◌, [], false, length};
 ghost use Rattle.ssh_wire.specs.Reading.{Gives};
-ghost use Rattle.ssh_wire.specs.Rows.{Text, fault_unless, passes, row_at, step};
+ghost use Rattle.ssh_wire.specs.Rows.{Text, fault_unless, passes, table_at, row};
 ghost use Rattle.ssh_wire_tests.specs.declared.tests.page.SignatureFault.TheVariants.{Length, Wire};
 
 use ssh_wire::{Cursor, WireFault};
@@ -17,11 +17,11 @@ enum SignatureFault {
 
 /// The algorithm and the bytes of an Ed25519 signature (RFC 8709 section 6): two strings, of which
 /// the second is 64 bytes long.
-#[tactic(auto, unfolding(ssh_wire::specs::Rows::row_at))]
+#[tactic(auto, unfolding(ssh_wire::specs::Rows::table_at))]
 fn signature<'a>(cursor: &mut Cursor<'a>) -> Result<(&'a [u8], &'a [u8]), SignatureFault>
-    ensures { Gives (λ s. s.0.now ∷ s.1.now ∷ []) result cursor.new (row_at Wire
-        (step Text passes
-        ∷ step Text (λ before bytes. fault_unless Length (length bytes == 64)) ∷ [])
+    ensures { Gives (λ s. s.0.now ∷ s.1.now ∷ []) result cursor.new (table_at Wire
+        (row Text passes
+        ∷ row Text (λ before bytes. fault_unless Length (length bytes == 64)) ∷ [])
         [] cursor.old) }
 {
     let algorithm = cursor.string().map_err(SignatureFault::Wire)?;

@@ -1,17 +1,17 @@
 -- The reading function and the table agree.
-use Rattle.ssh_wire.proofs.RowLaws.{no_fault, one_fault, row_again, row_fails, row_refused, row_takes}
+use Rattle.ssh_wire.proofs.RowLaws.{no_fault, one_fault, table_again, table_fails, table_refused, table_takes}
 use Rattle.ssh_wire.proofs.laws.table_is_read_back.Goals as goal
 
 pub returns-clause-read : goal.returns-clause-read
 returns-clause-read g c = λ unread steps before values bytes rest fits. (
-  λ read. (row_takes unread steps before bytes (values, rest) fits read).leads,
-  λ leads. row_again unread steps before bytes values rest leads,
+  λ read. (table_takes unread steps before bytes (values, rest) fits read).leads,
+  λ leads. table_again unread steps before bytes values rest leads,
 )
 
 pub returns-clause-refused : goal.returns-clause-refused
 returns-clause-refused g c = λ unread steps before bytes fault fits. (
-  λ read. row_refused unread steps before bytes fault fits read,
-  λ fails. row_fails unread steps before bytes fault fails,
+  λ read. table_refused unread steps before bytes fault fits read,
+  λ fails. table_fails unread steps before bytes fault fails,
 )
 
 pub returns-clause-one : goal.returns-clause-one

@@ -1,7 +1,7 @@
 use Rattle.std.proofs.Common.{rules}
-use Rattle.ssh_wire.specs.Rows.{row_at}
+use Rattle.ssh_wire.specs.Rows.{table_at}
 use Rattle.key_text.proofs.container.list.read_beginning.Goals as goal
 
 pub returns : goal.returns
-unfolding row_at
+unfolding table_at
 returns c = search rules steps 1000000
