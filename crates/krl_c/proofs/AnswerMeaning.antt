@@ -62,8 +62,8 @@ first_of text fault left (failed_read is after) = let wrong : ⊥ = grind (arith
 first_of text fault left (first is works) = inr is
 
 -- a list that gives no answer has the number of the reason
-pub list_refused : {Says : List Entry → ℤ → Type 0} (text : List ℕ) (refusal : Refusal) (number : ℤ) → IsRefusal text refusal
-    → number ≡ refusal_number refusal → AnswersBy Says text number
+pub list_refused : {Told : List Entry → ℤ → Type 0} (text : List ℕ) (refusal : Refusal) (number : ℤ) → IsRefusal text refusal
+    → number ≡ refusal_number refusal → AnswersBy Told text number
 list_refused text (refusals.Fault fault) number (inl is) e = list_ran_out (e ∙ (rw is refl))
 list_refused text (refusals.Fault fault) number (inr is) e = no_list fault is e
 list_refused text refusals.Authority number odd e = other_authority odd e

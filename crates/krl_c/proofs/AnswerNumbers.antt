@@ -124,7 +124,7 @@ for_reasons entries blob answer (explained asked bits subject has is) = from (po
 for_reasons entries blob answer (unexplained_blob fault first is) = from (subject_number fault) answer is (of_subject blob fault first)
 for_reasons entries blob answer (why_ran_out is) = from no_memory answer is (below 0 refl)
 
-by_list : {Tells : List Entry → ℤ → Type 0} (list : List ℕ) (answer : ℤ) → ((entries : List Entry) → Tells entries answer → IsAnswer answer) → AnswersBy Tells list answer → IsAnswer answer
+by_list : {Told : List Entry → ℤ → Type 0} (list : List ℕ) (answer : ℤ) → ((entries : List Entry) → Told entries answer → IsAnswer answer) → AnswersBy Told list answer → IsAnswer answer
 by_list list answer each (answered entries compared is) = each entries is
 by_list list answer each (other_authority odd is) = from authority_number answer is (below 115 refl)
 by_list list answer each (no_list fault first is) = from (list_number fault) answer is (of_list fault (not_read list fault first))
@@ -151,7 +151,7 @@ pub of_load : (list : List ℕ) (old new : Stored) (answer : ℤ) → Loads list
 of_load list old new answer (loaded entries compared holds all is) = from (pos 0) answer is (not_below 0)
 of_load list old new answer (not_loaded_for refusal refused is same) = from (refusal_number refusal) answer is (of_refusal list refusal refused)
 
-pub of_ask : {Tells : List Entry → ℤ → Type 0} (stored : Stored) (answer : ℤ) → ((entries : List Entry) → Tells entries answer → IsAnswer answer) → IsReady stored → AnswersStored Tells stored answer → IsAnswer answer
+pub of_ask : {Told : List Entry → ℤ → Type 0} (stored : Stored) (answer : ℤ) → ((entries : List Entry) → Told entries answer → IsAnswer answer) → IsReady stored → AnswersStored Told stored answer → IsAnswer answer
 of_ask stored answer each (inl none) is = from (negsuc 1) answer (is.none none) (below 1 refl)
 of_ask stored answer each (inr (entries, holds)) is = each entries (is.answer entries holds)
 

@@ -66,10 +66,10 @@ line_once text read of_line of_fault entries once one other says (line_ran_out f
 
 -- ---- for a list
 
-pub list_once : {Tells : List Entry → ℤ → Type 0} (list : List ℕ) → HasOne list → ((entries : List Entry) (one other : ℤ) → Tells entries one → Tells entries other → Once one other)
-    → (one other : ℤ) → AnswersBy Tells list one → AnswersBy Tells list other → Once one other
-list_once {Tells} list has once one other (answered these is says) (answered others also tells) =
-    once these one other says (subst (λ (es : List Entry). Tells es other) (sym (has.entries these others is.is also.is)) tells)
+pub list_once : {Told : List Entry → ℤ → Type 0} (list : List ℕ) → HasOne list → ((entries : List Entry) (one other : ℤ) → Told entries one → Told entries other → Once one other)
+    → (one other : ℤ) → AnswersBy Told list one → AnswersBy Told list other → Once one other
+list_once {Told} list has once one other (answered these is says) (answered others also tells) =
+    once these one other says (subst (λ (es : List Entry). Told es other) (sym (has.entries these others is.is also.is)) tells)
 list_once list has once one other (answered these is says) (other_authority odd e) = absurd (odd.other (has.keys these odd.entries is.is odd.is is.keys))
 list_once list has once one other (answered these is says) (no_list fault first e) = absurd (has.none these fault is.is first)
 list_once list has once one other (other_authority odd e) (answered these is says) = absurd (odd.other (has.keys these odd.entries is.is odd.is is.keys))

@@ -70,14 +70,14 @@ pub data AnswersLine (entries : List Entry) (text : List ℕ) (number : ℤ) : T
 -- The answer of a list, by the answer of its entries. The answer of a refused list is its first
 -- fault. A list that is read, but has an authority that cannot be compared, has a number of its
 -- own.
-pub data AnswersBy (Says : List Entry → ℤ → Type 0) (list : List ℕ) (number : ℤ) : Type 0 where
-  answered : (entries : List Entry) → IsCompared list entries → Says entries number
-      → AnswersBy Says list number
+pub data AnswersBy (Told : List Entry → ℤ → Type 0) (list : List ℕ) (number : ℤ) : Type 0 where
+  answered : (entries : List Entry) → IsCompared list entries → Told entries number
+      → AnswersBy Told list number
   other_authority : HasOtherAuthority list → number ≡ authority_number
-      → AnswersBy Says list number
+      → AnswersBy Told list number
   no_list : (fault : KrlFault) → IsFirstKrlFault list (Some fault) → number ≡ list_number fault
-      → AnswersBy Says list number
-  list_ran_out : number ≡ no_memory → AnswersBy Says list number
+      → AnswersBy Told list number
+  list_ran_out : number ≡ no_memory → AnswersBy Told list number
 
 -- for a blob
 abbrev pub Answers : (list blob : List ℕ) → ℤ → Type 0

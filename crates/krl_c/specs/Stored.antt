@@ -14,10 +14,10 @@ pub record Holds (loaded : Bool) (contents : Revocations) (entries : List Entry)
   pub means : Means contents entries
 
 -- The stored list answers by the entries that it means, or says that no list was read.
-pub record AnswersStored (Says : List Entry → ℤ → Type 0) (stored : Stored) (number : ℤ)
+pub record AnswersStored (Told : List Entry → ℤ → Type 0) (stored : Stored) (number : ℤ)
     : Type 0 where
   pub answer : (entries : List Entry) → Holds stored.loaded stored.list entries
-      → Says entries number
+      → Told entries number
   pub none : stored.loaded ≡ false → number ≡ not_loaded
 
 -- no list was read

@@ -48,7 +48,7 @@ krl_ask_spec 𝓤 𝓛 𝓜 𝓡 wired =
     let at : z.0.4.1.0 ≡ rawptr_vals p = rawptr_Tells p z.0.4.1.0 are.1.0 in
     let slice : z.0.4.1.1.0 ≡ shr_slice_vals blob = shr_slice_Tells (named 0) κ u8 blob z.0.4.1.1.0 are.1.1.0 in
     let G = triple_of 𝓛 e.signature (e.spec 𝓛 𝓜.mem 𝓡.returns) in
-    let Says : ℤ → Type 0 = AnswersStored (λ entries. AnswersBlob entries blob.now) loan.stored in
+    let Told : ℤ → Type 0 = AnswersStored (λ entries. AnswersBlob entries blob.now) loan.stored in
     let x : ℕ → ℕ → G.Ghost = λ b o. (((loan.life, (κ, tt)), (loan.share, (q, tt)), tt, (alloc, (record { ref_ptr = (b, o); now = loan.stored }, (blob, tt))), (g ∷ [], (vptr b o ∷ [], (shr_slice_vals blob, tt)))), tt) in
     let walk : Goes (g ∷ []) (rawptr_vals p) (shr_slice_vals blob) =
     qed 𝓛 (((‵ (flft κ q) ⊛ ‵ ftrue) ⊛ ‵ (owns (Z ∷ RawPtr ∷ ShrSlice (named 0) κ u8 ∷ []) (alloc, (p, (blob, tt))) (g ∷ [], (rawptr_vals p, (shr_slice_vals blob, tt))))) ∷ ‵ (is_lent p loan) ∷ []) ∵
@@ -71,7 +71,7 @@ krl_ask_spec 𝓤 𝓛 𝓜 𝓡 wired =
     nothing ! $ move ! (5 ∷ 0 ∷ []) $ join ! $ move ! (3 ∷ 0 ∷ []) $ join ! $ join ! $ nothing ! $ move ! (1 ∷ 0 ∷ []) $ join ! $ use1 𝓛 (raw (G.pre (x b o))) (id⊢ 𝓤 _) $
     calls_at ! (framed 𝓤 𝓛.H 𝓜 𝓣) G (met 𝓤 𝓛 𝓜 𝓡 (code.calls-krl_c::stored::ask 𝓡.env wired)) (x b o) (and_then ! (get ! refl) (and_then ! (get ! refl) (and_then ! (get ! refl) (no_more !)))) (λ v.
     use1 𝓛 (later (some (λ (r : ℤ). ((‵ (flft loan.life loan.share) ⊛ (‵ (flft κ q) ⊛ ‵ ftrue)) ⊛ ‵ (i32.own_val r (v ∷ [])))
-    ⊛ some (λ (ws : Lasts e.ended (loan.life, (κ, tt)) (x b o).0.3). ‵ (lasts e.ended (loan.life, (κ, tt)) (x b o).0.3 ws) ⊛ raw (fact 𝓤 (Says r)))))) (id⊢ 𝓤 _) $
+    ⊛ some (λ (ws : Lasts e.ended (loan.life, (κ, tt)) (x b o).0.3). ‵ (lasts e.ended (loan.life, (κ, tt)) (x b o).0.3 ws) ⊛ raw (fact 𝓤 (Told r)))))) (id⊢ 𝓤 _) $
     await ! tt $ pick ! (λ r. split ! $ move ! (1 ∷ []) $ pick ! (λ ws. split ! $ drop ! $ heard ! _ (λ says_so. split ! $ split ! $ move ! (2 ∷ []) $
     peeks ! i32 (Is i32) (shows 𝓛 i32) r (v ∷ []) (λ is. lands_as ! refl refl ((sint_Lawful 𝓛 w32).typed r _ is).0 $
     returns ! (look_at ! 0 refl) $ free_all ! refl $
