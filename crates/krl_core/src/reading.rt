@@ -352,7 +352,7 @@ fn judge_and_store<T: Store>(
     ensures err { IfErr result (λ fault. ((fault ≡ NoMemory) × (is_fixed place ≡ false))
         ⊎ ((expected place).judged field.now ≡ Err fault)) }
 {
-    let next = place.after(field)?;
+    let next = place.judge_field(field)?;
     stored.store_field(place, field, next)?;
     Ok(next)
 }

@@ -166,7 +166,7 @@ impl Place {
 
     /// Judges the whole field: returns the place after it, or why it is refused.
     #[inline(always)]
-    pub fn after(self, field: &[u8]) -> Result<Place, KrlFault>
+    pub fn judge_field(self, field: &[u8]) -> Result<Place, KrlFault>
         requires whole { length field.now ≡ (expected self).size }
         requires room { HasRoom (expected self) }
         ensures { result ≡ (expected self).judged field.now }
@@ -176,7 +176,7 @@ impl Place {
                 field: expected,
                 left,
                 after,
-            } => expected.after(left, after, field),
+            } => expected.judge_part(left, after, field),
             Place::Content {
                 field: expected,
                 left,
@@ -184,11 +184,11 @@ impl Place {
                 ..
             } => Ok(expected.place_after(left, after)),
             Place::SectionType { signed } => section_of_type(signed, byte_of(field)),
-            Place::SectionLength { section } => section.after_length(u32_of(field)),
+            Place::SectionLength { section } => section.first_place(u32_of(field)),
             Place::SubsectionType { left } => subsection_of_type(left - 1, byte_of(field)),
             Place::SubsectionLength { subsection, left } => {
                 let size = u32_of(field);
-                within(left, size, subsection.after_length(size, rest(left, size)))
+                within(left, size, subsection.first_place(size, rest(left, size)))
             }
             Place::ItemLength { kind, left, after } => after_item_length(
                 kind,
@@ -253,7 +253,7 @@ impl Place {
         if size > bytes.len() {
             return None;
         }
-        match self.after(&bytes[..size]) {
+        match self.judge_field(&bytes[..size]) {
             Ok(next) => Some((size, next)),
             Err(_) => None,
         }

@@ -81,7 +81,7 @@ impl ItemKind {
 impl Section {
     // The first place in a content of this length, which may be any.
     #[inline(always)]
-    pub(crate) fn after_length(self, size: u32) -> Result<Place, KrlFault>
+    pub(crate) fn first_place(self, size: u32) -> Result<Place, KrlFault>
         ensures { result ≡ content_of (section_row self) size 0 }
     {
         match self {
@@ -121,7 +121,7 @@ impl Subsection {
     // The first place in a content of this length, or why the length is refused. The section has
     // `after` bytes after the content.
     #[inline(always)]
-    pub(crate) fn after_length(self, size: u32, after: u32) -> Result<Place, KrlFault>
+    pub(crate) fn first_place(self, size: u32, after: u32) -> Result<Place, KrlFault>
         ensures { result ≡ content_of (subsection_row self) size after }
     {
         match self {

@@ -132,7 +132,12 @@ impl Field {
 
     // Judges a number, or the length of a string.
     #[inline(always)]
-    pub(super) fn after(self, left: u32, after: u32, field: &[u8]) -> Result<Place, KrlFault>
+    pub(super) fn judge_part(
+        self,
+        left: u32,
+        after: u32,
+        field: &[u8],
+    ) -> Result<Place, KrlFault>
         requires whole { length field.now ≡ (row_expected self left after).size }
         requires room { HasRoom (row_expected self left after) }
         ensures { result ≡ (row_expected self left after).judged field.now }
@@ -142,7 +147,7 @@ impl Field {
                 None => Ok(self.place_after(left.saturating_sub(size), after)),
                 Some(fault) => Err(fault),
             },
-            FieldPart::Text => self.after_length(left, after, u32_of(field)),
+            FieldPart::Text => self.judge_length(left, after, u32_of(field)),
         }
     }
 
@@ -162,7 +167,7 @@ impl Field {
 
     // Judges the length of a string. The last string of an extension fills it.
     #[inline(always)]
-    fn after_length(self, left: u32, after: u32, size: u32) -> Result<Place, KrlFault>
+    fn judge_length(self, left: u32, after: u32, size: u32) -> Result<Place, KrlFault>
         requires { IfSome (room_of (row_of self).table left) (λ room. 4 ≤ room) }
         ensures { result
             ≡ length_judged self (row_of self).table (row_of self).next left after size }
