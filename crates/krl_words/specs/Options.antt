@@ -3,23 +3,23 @@ use Rattle.std.specs.Prelude.{ℕ, Bool, true, List, [], ◌∷◌, codes}
 use Rattle.clap.specs.Simple.{App, matches_of, new_shape}
 use Rattle.clap.specs.Walk.{Row, Rule, first_of}
 use Rattle.krl_job.specs.Given.{Given}
-use Rattle.option_table.specs.Argument.{letter_rule, letter_value_rule, version_rule, with_rules}
-use Rattle.option_table.specs.Argument.{words_rule}
+use Rattle.option_table.specs.Argument.{letter_of, letter_rule, letter_value_rule, version_rule}
+use Rattle.option_table.specs.Argument.{with_rules, words_rule}
 use Rattle.option_table.specs.Value.{is_set, values_in}
 use Rattle.krl_words.specs.Order.{is_divided}
 
 -- -l, -L, -k and -Q, -f and -E, -u, -s, -z, the files, and --version
 abbrev pub rules : List Rule
 rules =
-    letter_rule (codes "list") 108
-    ∷ letter_rule (codes "certificates") 76
-    ∷ letter_rule (codes "make") 107
-    ∷ letter_rule (codes "query") 81
-    ∷ letter_value_rule (codes "file") 102
-    ∷ letter_value_rule (codes "hash") 69
-    ∷ letter_rule (codes "update") 117
-    ∷ letter_value_rule (codes "authority") 115
-    ∷ letter_value_rule (codes "version") 122
+    letter_rule (codes "list") (letter_of (codes "l"))
+    ∷ letter_rule (codes "certificates") (letter_of (codes "L"))
+    ∷ letter_rule (codes "make") (letter_of (codes "k"))
+    ∷ letter_rule (codes "query") (letter_of (codes "Q"))
+    ∷ letter_value_rule (codes "file") (letter_of (codes "f"))
+    ∷ letter_value_rule (codes "hash") (letter_of (codes "E"))
+    ∷ letter_rule (codes "update") (letter_of (codes "u"))
+    ∷ letter_value_rule (codes "authority") (letter_of (codes "s"))
+    ∷ letter_value_rule (codes "version") (letter_of (codes "z"))
     ∷ words_rule (codes "files")
     ∷ version_rule (codes "program_version") (codes "version") ∷ []
 

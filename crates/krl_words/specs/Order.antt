@@ -1,14 +1,17 @@
 -- Whether a file is named between two uses of -s. Words that can be parsed are options, each a
 -- hyphen and letters, files, and values of options.
 use Rattle.std.specs.Prelude.{ℕ, ◌==◌, ◌&&◌, ◌||◌, not, Bool, true, false, List, [], ◌∷◌, Option}
-use Rattle.std.specs.Prelude.{None, Some, is_some, length, fold, if◌then◌else◌}
+use Rattle.std.specs.Prelude.{None, Some, codes, is_some, length, fold, if◌then◌else◌}
 use Rattle.std.specs.Option.{option_map_or}
+use Rattle.option_table.specs.Argument.{letter_of}
 use Rattle.krl_words.specs.declared.order.Letters.{Letters}
 use Rattle.krl_words.specs.declared.order.Place.{Place}
 
 -- an option with a value: -f, -E, -s or -z
 abbrev pub takes_value : ℕ → Bool
-takes_value letter = letter == 102 || (letter == 69 || (letter == 115 || letter == 122))
+takes_value letter = letter == letter_of (codes "f")
+    || (letter == letter_of (codes "E")
+    || (letter == letter_of (codes "s") || letter == letter_of (codes "z")))
 
 -- one more letter of a word: the first option with a value takes the letters that follow it
 abbrev pub option_by : Letters → ℕ → Option ℕ → Letters
@@ -24,7 +27,8 @@ letters_met first rest = fold letter_met
     (letter_met (record { option = None; has_value = false }) first) rest
 
 abbrev pub is_authority : Letters → Bool
-is_authority letters = option_map_or (λ letter. letter == 115) letters.option false
+is_authority letters =
+    option_map_or (λ letter. letter == letter_of (codes "s")) letters.option false
 
 -- a word with these options: another -s divides the files if one precedes it that follows a -s
 abbrev pub authority_met : Place → Letters → Place

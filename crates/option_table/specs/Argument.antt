@@ -1,5 +1,5 @@
 -- The rules of arguments, by their forms.
-use Rattle.std.specs.Prelude.{ℕ, true, List, [], ◌∷◌, Some}
+use Rattle.std.specs.Prelude.{ℕ, true, List, [], ◌∷◌, Some, slice_index}
 use Rattle.clap.specs.Lexer.{usize_max}
 use Rattle.clap.specs.Simple.{App, new_rule, with_rule}
 use Rattle.clap.specs.Walk.{Rule}
@@ -8,6 +8,10 @@ use Rattle.clap.specs.declared.builder.action.ArgAction.TheVariants.{Version as 
 use Rattle.option_table.specs.declared.argument.Argument.{Argument}
 use Rattle.option_table.specs.declared.argument.Form.{Form}
 use Rattle.option_table.specs.declared.argument.Form.TheVariants as forms
+
+-- the letter of an option, as a text of one letter
+abbrev pub letter_of : List ℕ → ℕ
+letter_of text = slice_index text 0
 
 -- an option without a value, by its letter or by a long name
 abbrev pub letter_rule : List ℕ → ℕ → Rule
