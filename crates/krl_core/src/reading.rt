@@ -110,9 +110,7 @@ impl<S: Spans, R: Source + Drop> Walk<Revocations<S>, R> {
         let _list = list.in_order();
         (header, list, reader)
     }
-}
 
-impl<S: Spans, R: Source + Drop> Walk<Revocations<S>, R> {
     /// Continues over another store, which takes the entries that are stored so far. From then on
     /// only what is in its scope is stored. The comment is dropped. If an allocation fails, returns
     /// the reader: the list is refused with `NoMemory`.

@@ -44,6 +44,8 @@ impl<S: Spans> Model for Revocations<S> {
 }
 
 impl<S: Spans> Revocations<S> {
+    ghost use Rattle.krl_entries.specs.AuthorityEntries.{apart_of};
+
     /// No revocations. Allocates nothing.
     pub fn new(alloc: Global) -> Revocations<S>
         ensures nothing { result ≡ nothing }
@@ -176,10 +178,6 @@ impl<S: Spans> Revocations<S> {
         self.sha256s.insert(*hash)?;
         Ok(())
     }
-}
-
-impl<S: Spans> Revocations<S> {
-    ghost use Rattle.krl_entries.specs.AuthorityEntries.{apart_of};
 
     // Adds under an authority, with one search for it. If it has a section, that section takes the
     // addition and is taken out, and a section with only the addition stays there.
