@@ -57,7 +57,7 @@ pub fn read_private(alloc: Global, text: &[u8]) -> Result<Private, PrivateFault>
         → GivesPrivate result (Ok (record { blob = blob; comment = comment })) }
     // The fault is the first one of the text, unless an allocation fails.
     ensures fault { IfErr result (λ fault. IsReportedPrivateFault text.now fault) }
-    // The same, for proofs that compute with the result.
+    // The answer is that of `private_at`, for proofs that compute with it.
     ensures exact { GivesPrivate result (private_at text.now) }
 {
     read_content(alloc, text)
@@ -87,7 +87,7 @@ fn read_body(alloc: Global, body: &[u8]) -> Result<Private, PrivateFault>
     private
 }
 
-// The same, decoded into these bytes.
+// The container with this base64, which is decoded into these bytes.
 fn read_decoded(alloc: Global, body: &[u8], bytes: &mut [u8]) -> Result<Private, PrivateFault>
     requires { decoded_estimate (length body.now) ≤ length bytes.old }
     ensures { GivesPrivate result (body_at body.now) }

@@ -52,7 +52,7 @@ pub fn read_line<'a>(alloc: Global, text: &'a [u8]) -> Result<Line<'a>, LineFaul
         → Answers ReportsFault content_of result (Ok (content word blob comment)) }
     // The fault is the first one of the text, unless an allocation fails.
     ensures fault { IfErr result (λ fault. IsReportedFault text.now fault) }
-    // The same, for proofs that compute with the result.
+    // The answer is that of `line_at`, for proofs that compute with it.
     ensures exact { Answers ReportsFault content_of result (line_at text.now) }
 {
     read_content(alloc, text)
@@ -94,8 +94,8 @@ pub fn key_part(line: &[u8]) -> Option<&[u8]>
     }
 }
 
-/// The same of a line of known hosts without its marker: host names may be before the type name.
-/// They end at the first blank, also between quotes, where ssh ends them.
+/// A line of known hosts without its marker, from its type name on, if it has one: host names may
+/// be before it. They end at the first blank, also between quotes, where ssh ends them.
 #[tactic(auto, unfolding(crate::specs::LineReading::host_part, crate::specs::LineReading::typed))]
 pub fn host_part(line: &[u8]) -> Option<&[u8]>
     ensures { option_map (λ part. part.now) result ≡ host_part line.now }

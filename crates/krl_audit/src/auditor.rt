@@ -48,7 +48,7 @@ const END_LINE: &[u8] = b"-----END OPENSSH PRIVATE KEY-----";
 pub struct Auditor<'q, 'w, W: Sink> {
     /// The list, and which findings are printed.
     pub judge: Judge<'q>,
-    /// The printer.
+    /// The state of the run: the allocator, the printer, and the line that is being made.
     pub run: Run<'w, W>,
     /// The counts so far.
     pub counts: Counts,
@@ -73,7 +73,7 @@ impl<'q, 'w, W: Sink> Auditor<'q, 'w, W> {
         self.say_rest(name, unread)
     }
 
-    // The same but for its last finding. Returns the number of lines that are not read.
+    // Audits a file but for its last finding. Returns the number of lines that are not read.
     fn audit_lines<'a>(
         &mut self,
         name: &'a str,
@@ -92,7 +92,7 @@ impl<'q, 'w, W: Sink> Auditor<'q, 'w, W> {
         }
     }
 
-    // The same for a file that begins with no private key.
+    // Audits a file that begins with no private key.
     fn audit_plain<'a>(&mut self, name: &'a str, text: &[u8]) -> Result<u64, RunFault<'a>>
         ensures told { (reasons : SubjectOf → ReasonsOf) → JudgesAs self.old.judge reasons
             → Told reasons self.old.judge.shown name.now 0 (text_lines false name.now text.now)
@@ -112,7 +112,7 @@ impl<'q, 'w, W: Sink> Auditor<'q, 'w, W> {
         }
     }
 
-    // The same for the outcomes of the first line, and the lines after it.
+    // Prints the findings of the first line, and audits the lines after it.
     fn audit_from<'a>(
         &mut self,
         name: &'a str,
@@ -135,7 +135,7 @@ impl<'q, 'w, W: Sink> Auditor<'q, 'w, W> {
         }
     }
 
-    // The same for each line of a text. The location is that of the line before it.
+    // Audits each line of a text. The location is that of the line before it.
     fn audit_rest<'a>(
         &mut self,
         location: Location<'a>,
@@ -256,7 +256,7 @@ impl<'q, 'w, W: Sink> Auditor<'q, 'w, W> {
         Ok(made.kind)
     }
 
-    // The same for a private key file, and for the lines that are read beside its key.
+    // Audits a private key file, and the lines that are read beside its key.
     fn audit_private<'a>(&mut self, name: &'a str, text: &[u8]) -> Result<u64, RunFault<'a>>
         ensures told { (reasons : SubjectOf → ReasonsOf) → JudgesAs self.old.judge reasons
             → Told reasons self.old.judge.shown name.now 0 (private_lines name.now text.now)
@@ -279,7 +279,7 @@ impl<'q, 'w, W: Sink> Auditor<'q, 'w, W> {
         }
     }
 
-    // The same for the key of a private key file.
+    // Audits the key of a private key file.
     fn say_private<'a>(&mut self, name: &'a str, text: &[u8]) -> Result<u64, RunFault<'a>>
         ensures told { (reasons : SubjectOf → ReasonsOf) → JudgesAs self.old.judge reasons
             → Told reasons self.old.judge.shown name.now 0

@@ -83,7 +83,7 @@ impl<'q> Judge<'q> {
         }
     }
 
-    // The same for a line or file that is not read.
+    // Makes the line for a line or a file that is not read.
     fn judge_unread(
         &self,
         alloc: Global,
@@ -105,7 +105,7 @@ impl<'q> Judge<'q> {
         })
     }
 
-    // The same for a key.
+    // Judges a key, and makes its line if it is printed.
     fn judge_key(
         &self,
         alloc: Global,

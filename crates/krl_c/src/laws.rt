@@ -48,7 +48,7 @@ pub fn one_answer()
     not_asked_by_first_fault();
 }
 
-/// The same holds for a list that may be a plain list.
+/// A list that may be a plain list has one answer for a blob, unless an allocation fails.
 pub fn one_answer_of_any_list()
     ensures { (list blob : List ℕ) (one other : ℤ) → IsBytes list → IsBytes blob
         → AnswersAny list blob one → AnswersAny list blob other
@@ -59,7 +59,7 @@ pub fn one_answer_of_any_list()
     not_asked_by_first_fault();
 }
 
-/// The same holds for the key of a line.
+/// A list has one answer for the key of a line, unless an allocation fails.
 pub fn one_answer_of_a_line()
     ensures { (list text : List ℕ) (one other : ℤ) → IsBytes list → IsBytes text
         → AnswersOfLine list text one → AnswersOfLine list text other

@@ -47,7 +47,7 @@ pub extern "C" fn krl_check(alloc: Global, list: &[u8], blob: &[u8]) -> i32
     ask_list(alloc, list, blob)
 }
 
-/// The same for a list that may also be a plain list of public keys, which sshd(8) takes too.
+/// Answers as `krl_check` does, also for a plain list of public keys, which sshd(8) takes too.
 #[unsafe(no_mangle)]
 pub extern "C" fn krl_check_any(alloc: Global, list: &[u8], blob: &[u8]) -> i32
     ensures { AnswersAny list.now blob.now result }
@@ -55,8 +55,8 @@ pub extern "C" fn krl_check_any(alloc: Global, list: &[u8], blob: &[u8]) -> i32
     ask_any(alloc, list, blob)
 }
 
-/// The same as `krl_check` for the key or the certificate of a line, in the format of an authorized
-/// keys file.
+/// Answers as `krl_check` does, for the key or the certificate of a line in the format of an
+/// authorized keys file.
 #[unsafe(no_mangle)]
 pub extern "C" fn krl_check_line(alloc: Global, list: &[u8], line: &[u8]) -> i32
     ensures { AnswersOfLine list.now line.now result }
@@ -105,7 +105,7 @@ pub unsafe extern "C" fn krl_ask(alloc: Global, at: *const Handle, blob: &[u8]) 
     ask(alloc, unsafe { &*(at as *const Stored) }, blob)
 }
 
-/// The same for the key or the certificate of a line.
+/// Answers as `krl_ask` does, for the key or the certificate of a line.
 #[unsafe(no_mangle)]
 pub unsafe extern "C" fn krl_ask_line(alloc: Global, at: *const Handle, line: &[u8]) -> i32
     ghost loan: { Loan }

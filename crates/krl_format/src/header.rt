@@ -5,7 +5,7 @@ use ssh_wire::Bytes;
 /// The bytes at the beginning of each list.
 pub const MAGIC: &[u8] = b"SSHKRL\n\0";
 
-/// The same as a number.
+/// The magic as a number of eight bytes.
 pub const MAGIC_NUMBER: u64 = 0x5353_484b_524c_0a00;
 
 /// At most this many bytes of a list are read.

@@ -48,7 +48,7 @@ pub fn one_reading()
     entries_decide_what_is_held();
 }
 
-/// The same for a list that is streamed: if its reader does not fail, its entries are unique, or
+/// A list that is streamed has one reading if its reader does not fail: its entries are unique, or
 /// its fault is, unless an allocation fails.
 pub fn one_asked_reading()
     ensures { (text : List ℕ) (one other : Result (List Entry) KrlFault)

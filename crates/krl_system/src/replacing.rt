@@ -28,7 +28,7 @@ pub enum Written {
     Changed,
 }
 
-// The same, with the file that replaced an old list which was changed.
+// The result of one attempt, with the file that replaced an old list which was changed.
 #[derive(Drop)]
 enum Put {
     Whole,

@@ -28,8 +28,8 @@ pub(crate) fn key_of_line(
     key_of_text(alloc, number, content)
 }
 
-// The same for the content of a line that is neither empty nor a comment: its plain key, or that of
-// its certificate.
+// The key that the content of a line revokes, if it is neither empty nor a comment: its plain key,
+// or that of its certificate.
 #[tactic(auto, unfolding(crate::specs::Key::text_key, keyed_lines::specs::Keys::subject_in))]
 fn key_of_text(alloc: Global, number: u64, content: &[u8]) -> Result<Option<Bytes>, PlainFault>
     ensures { Gives number result (text_key content.now) }
@@ -54,7 +54,7 @@ fn key_of_text(alloc: Global, number: u64, content: &[u8]) -> Result<Option<Byte
     }
 }
 
-// The same for a plain key, by OpenSSH's judgement.
+// The plain key, if OpenSSH's judgement accepts it.
 fn judged_key(alloc: Global, number: u64, key: &PublicKey) -> Result<Option<Bytes>, PlainFault>
     ensures { Gives number result (judged_key key.now) }
 {

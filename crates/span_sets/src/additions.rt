@@ -74,7 +74,7 @@ impl SpanPages {
         self.join_bits(window, bits)
     }
 
-    // The same, if the window has no block, or if its block gets full.
+    // Adds the bits of a window that has no block, or whose block gets full.
     fn join_bits(&mut self, window: u64, bits: u64) -> Result<(), AllocError>
         requires window { window < 2 ^ 58 }
         requires some { 0 < bits }

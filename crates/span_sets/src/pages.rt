@@ -46,7 +46,7 @@ pub fn list_in(pages: &[Page], number: u64) -> &[Chunk]
     list_in_page(&pages[at], number)
 }
 
-// The same in one page.
+// The chunks of one page from the first that ends at a number or past it on.
 fn list_in_page(page: &Page, number: u64) -> &[Chunk]
     requires { ChunksFrom 0 (chunks_in page.now) }
     ensures { (at : ℕ) × ((result.now ≡ drop at (chunks_in page.now))

@@ -29,7 +29,8 @@ impl SpanPages {
         }
     }
 
-    // The same if a block reaches over `lo`. A block that gets full becomes part of the span.
+    // The lower side where a block reaches over `lo`. A block that gets full becomes part of the
+    // span.
     fn lower_side_in(&self, block: Chunk, lo: u64) -> Side
         requires fits { 64 * ((lo + 63) / 64) < 2 ^ 64 }
         requires met { IsChunkFrom (chunks_held self.now) (lo - 1) (Some block) }
@@ -85,7 +86,7 @@ impl SpanPages {
         }
     }
 
-    // The same if a block reaches over `hi`.
+    // The upper side where a block reaches over `hi`.
     fn upper_side_in(&self, block: Chunk, hi: u64) -> Side
         requires past { 63 ≤ hi }
         requires met { IsChunkFrom (chunks_held self.now) (min (hi + 1) (2 ^ 64 - 1))

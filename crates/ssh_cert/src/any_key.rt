@@ -28,7 +28,7 @@ pub fn read_any<'a>(blob: &'a [u8]) -> Result<AnyKey<'a>, SubjectFault>
     ensures found { IfOk result (λ any. IsReadAs blob.now any) }
     // The fault is the first one.
     ensures fault { IfErr result (λ fault. IsSubjectFault blob.now fault) }
-    // The same as a function, for callers that compute with the result.
+    // The fault is that of `subject_of`, for callers that compute with it.
     ensures exact { IfErr result (λ fault. subject_of blob.now ≡ Err fault) }
 {
     if is_certificate(blob) {

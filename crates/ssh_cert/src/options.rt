@@ -59,7 +59,7 @@ impl<'a> Iterator for Options<'a> {
 }
 
 impl<'a> Options<'a> {
-    // The same options, from the current one on.
+    // Another iterator over the options, from the current one on.
     pub(crate) fn again(&self) -> Options<'a>
         ensures { result ≡ self.now }
     {

@@ -40,7 +40,7 @@ impl<'a> Iterator for Strings<'a> {
 }
 
 impl<'a> Strings<'a> {
-    // The same strings, from the current one on.
+    // Another iterator over the strings, from the current one on.
     pub(crate) fn again(&self) -> Strings<'a>
         ensures { result ≡ self.now }
     {

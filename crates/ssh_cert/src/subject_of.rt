@@ -21,7 +21,7 @@ pub fn subject<'a>(alloc: Global, blob: &'a [u8]) -> Result<Subject<'a>, Subject
     ensures only { (asked : Subject) → IsSubject blob.now asked → AnswersSubject result (Ok asked) }
     // The fault is the first one, or an allocation failed.
     ensures fault { IfErr result (λ fault. IsReportedFault blob.now fault) }
-    // The same as a function, for callers that compute with the result.
+    // The answer is that of `subject_of`, for callers that compute with it.
     ensures exact { AnswersSubject result (subject_of blob.now) }
 {
     asked(alloc, blob)

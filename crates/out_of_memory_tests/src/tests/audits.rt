@@ -22,7 +22,7 @@ SHA256:+DiY3wvvV6TuJJhbpZisF/zLDA0zPMSvHdkr4UvCOqU by its key
 id:1: revoked: ssh-ed25519 SHA256:+DiY3wvvV6TuJJhbpZisF/zLDA0zPMSvHdkr4UvCOqU by its key: a
 ";
 
-// The same as objects, and the last object.
+// The objects that are printed for these lines, and the last object.
 const OBJECTS: &[u8] = b"{\"file\":\"f\",\"line\":1,\"status\":\"unread\",\
 \"fault\":\"line 1 NoKey\",\"why\":\"no key type stands there\"}
 {\"file\":\"f\",\"line\":2,\"status\":\"revoked\",\"type\":\"ssh-ed25519\",\

@@ -99,7 +99,7 @@ fn query<'a>(
 // The output for three files and a list with the published key.
 const ANSWERS: &[u8] = b"a: REVOKED\nb: ok\nid (a): REVOKED\n";
 
-// The same, with the list itself before it.
+// The output with the text of the list before the answers.
 const LIST_AND_ANSWERS: &[u8] = b"# KRL version 1\n# Generated at 1970-01-01T00:00:00Z\n\
 key: AAAAC3NzaC1lZDI1NTE5AAAAIOMqqnkVzrm0SdG6UOoqKLsabgH5C9okWi0dh2l9GKJl\n\
 a: REVOKED\nb: ok\nid (a): REVOKED\n";
