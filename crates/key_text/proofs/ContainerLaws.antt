@@ -82,8 +82,8 @@ pub record Inside (inside blob comment : List ℕ) : Type 0 where
 -- ---- reading returns only a container
 
 has_parts : (inside rest : List ℕ) (values : List (List ℕ)) (p : Parts inside values rest) → rest ≡ [] → BeginsWithTable outer [] inside values rest → HasParts inside p.blob p.list
-has_parts inside rest values p nothing leads =
-    let whole = subst (λ (r : List ℕ). BeginsWithTable outer [] inside values r) nothing leads in
+has_parts inside rest values p nothing begins =
+    let whole = subst (λ (r : List ℕ). BeginsWithTable outer [] inside values r) nothing begins in
     (p.cipher, p.kdf, p.options, p.count, subst (λ (v : List (List ℕ)). BeginsWithTable outer [] inside v []) (sym p.is) whole)
 
 opened_parts : (inside rest : List ℕ) (values : List (List ℕ)) (p : Parts inside values rest) → opened values ≡ (list_at p.key p.list >>= λ comment. Ok (record { blob = p.blob; comment = comment }))
@@ -94,13 +94,13 @@ unfolding inside_at
 inside_found inside o fits e =
     let a = bind_ok (table_at faults.Wire outer [] inside) (λ parts. cond {A = Result Opened PrivateFault} (eqb (length parts.1) 0) (opened parts.0) (Err faults.Trailing)) o e in
     let led = table_takes faults.Wire outer [] inside a.0 fits a.1 in
-    let p = parts_of inside a.0.0 a.0.1 fits led.leads in
+    let p = parts_of inside a.0.0 a.0.1 fits led.begins in
     let end = ended_ok o a.0.1 (opened a.0.0) a.2 in
     let c = bind_ok (list_at p.key p.list) (λ comment. Ok (record { blob = p.blob; comment = comment })) o (sym (opened_parts inside a.0.1 a.0.0 p) ∙ end.1) in
     let same : record { blob = p.blob; comment = c.0 } ≡ o = cc in
     let found : Inside inside p.blob c.0 = record {
       list = p.list;
-      parts = has_parts inside a.0.1 a.0.0 p end.0 led.leads;
+      parts = has_parts inside a.0.1 a.0.0 p end.0 led.begins;
       key = p.key;
       is_key = key_found p.blob p.key p.blob_fits p.read;
       secret = list_found p.key p.list c.0 p.list_fits c.1;
@@ -140,18 +140,18 @@ inside_refused inside fault fits e =
           let led = table_takes faults.Wire outer [] inside a.0 fits a.1 in
           elim (ended_err a.0.1 (opened a.0.0) fault a.2) [
             | inl inner ↦
-                let p = parts_of inside a.0.0 a.0.1 fits led.leads in
+                let p = parts_of inside a.0.0 a.0.1 fits led.begins in
                 let bad = with_blob_err p.blob (list_at p.key p.list) fault (sym (opened_parts inside a.0.1 a.0.0 p) ∙ inner.1) in
-                refused p.blob p.list p.key (has_parts inside a.0.1 a.0.0 p inner.0 led.leads) (key_found p.blob p.key p.blob_fits p.read) (list_refused p.key p.list fault p.list_fits bad)
-            | inr more ↦ goes_on a.0.1 a.0.0 led.leads more.0 more.1
+                refused p.blob p.list p.key (has_parts inside a.0.1 a.0.0 p inner.0 led.begins) (key_found p.blob p.key p.blob_fits p.read) (list_refused p.key p.list fault p.list_fits bad)
+            | inr more ↦ goes_on a.0.1 a.0.0 led.begins more.0 more.1
           ]
     ]
 
 pub inside_met : (inside : List ℕ) (fault : PrivateFault) → IsInsideFault inside fault → inside_at inside ≡ Err fault
 unfolding inside_at
 inside_met inside fault (fails f) = rw (table_fails faults.Wire outer [] inside fault f) refl
-inside_met inside fault (goes_on rest values leads more is) =
+inside_met inside fault (goes_on rest values begins more is) =
     let left : eqb (length rest) 0 ≡ false = ne_eqb (length rest) 0 (λ e. omega arith) in
-    rw (is, table_again faults.Wire outer [] inside values rest leads, left) refl
+    rw (is, table_again faults.Wire outer [] inside values rest begins, left) refl
 inside_met inside fault (refused blob list key parts is f) =
     rw (table_again faults.Wire outer [] inside (parts.0 ∷ parts.1 ∷ parts.2 ∷ parts.3 ∷ blob ∷ list ∷ []) [] parts.4, key_again blob key is, list_met key list fault f) refl

@@ -93,7 +93,7 @@ list_found key list x fits e =
     let head = table_takes faults.Wire (beginning key.kind) [] list a.0 fits a.1 in
     let secret = table_takes faults.Wire (secrets key.kind) [] a.0.1 b.0 head.rest_fits b.1 in
     let taken = part_takes Text b.0.1 c.0.0 c.0.1 secret.rest_fits (in_fault_ok faults.Wire (string_at b.0.1) c.0 c.1) in
-    list_is key list c.0.0 c.0.1 x b.0.1 b.0.0 (record { head = a.0.0; fields = a.0.1; begun = head.leads; read = secret.leads }) taken.stands c.2
+    list_is key list c.0.0 c.0.1 x b.0.1 b.0.0 (record { head = a.0.0; fields = a.0.1; begun = head.begins; read = secret.begins }) taken.stands c.2
 
 pub list_again : (key : PublicKey) (list comment : List ℕ) → IsPrivateList key list comment → list_at key list ≡ Ok comment
 list_again key list comment is =
@@ -120,10 +120,10 @@ list_refused key list fault fits e =
       | inr a ↦
           let head = table_takes faults.Wire (beginning key.kind) [] list a.0 fits a.1 in
           elim (bind_err (table_at faults.Wire (secrets key.kind) [] a.0.1) (λ secret. ends_at key secret.0 secret.1) fault a.2) [
-            | inl read ↦ in_secrets a.0.0 a.0.1 head.leads (table_refused faults.Wire (secrets key.kind) [] a.0.1 fault head.rest_fits read)
+            | inl read ↦ in_secrets a.0.0 a.0.1 head.begins (table_refused faults.Wire (secrets key.kind) [] a.0.1 fault head.rest_fits read)
             | inr b ↦
                 let secret = table_takes faults.Wire (secrets key.kind) [] a.0.1 b.0 head.rest_fits b.1 in
-                let opens : Opens key list b.0.0 b.0.1 = record { head = a.0.0; fields = a.0.1; begun = head.leads; read = secret.leads } in
+                let opens : Opens key list b.0.0 b.0.1 = record { head = a.0.0; fields = a.0.1; begun = head.begins; read = secret.begins } in
                 elim (bind_err (in_fault faults.Wire (string_at b.0.1)) (λ comment. ended (same_as key b.0.0) comment.0 comment.1) fault b.2) [
                   | inl cut ↦ let w = in_fault_err faults.Wire (string_at b.0.1) fault cut in in_comment b.0.0 b.0.1 w.0 opens w.1 w.2
                   | inr c ↦

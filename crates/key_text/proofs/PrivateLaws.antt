@@ -110,7 +110,7 @@ no_base64_at body d e = (λ bytes fits same. ok_or_err bytes d (decoded_at body)
 
 inside_fault : (text inside : List ℕ) (fault : PrivateFault) → Holds text (magic ++ inside) → IsInsideFault inside fault → IsPrivateFault text fault
 inside_fault text inside fault holds (fails f) = in_parts inside holds f
-inside_fault text inside fault holds (goes_on rest values leads more is) = after_parts inside rest values holds leads more is
+inside_fault text inside fault holds (goes_on rest values begins more is) = after_parts inside rest values holds begins more is
 inside_fault text inside fault holds (refused blob list key parts is f) = in_list inside blob list key holds parts is f
 
 refused_in : (text bytes : List ℕ) (fault : PrivateFault) → Holds text bytes → bytes_at bytes ≡ Err fault → IsPrivateFault text fault
@@ -166,7 +166,7 @@ private_met text fault fits (no_magic bytes holds none is) = holds_read text byt
       | inr has ↦ absurd (none has.0 has.1)
     ]
 private_met text fault fits (in_parts inside holds f) = inside_fault_met text inside fault holds (fails f)
-private_met text fault fits (after_parts inside rest values holds leads more is) = inside_fault_met text inside fault holds (goes_on rest values leads more is)
+private_met text fault fits (after_parts inside rest values holds begins more is) = inside_fault_met text inside fault holds (goes_on rest values begins more is)
 private_met text fault fits (in_list inside blob list key holds parts is f) = inside_fault_met text inside fault holds (refused blob list key parts is f)
 
 -- ---- what a reader returned

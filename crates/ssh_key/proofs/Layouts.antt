@@ -117,9 +117,9 @@ public_spelled Dsa bytes values bits (p, a, is_p, p_passed, (q, b, is_q, q_passe
   y_is = positive_is y is_y.is_part.0 y_passed;
   bits_are = same ∙ ap (bits_of Dsa) (sym all);
 }
-public_spelled Ecdsa256 bytes values bits leads same = (ecdsa_spelled (codes "nistp256") 65 bytes values leads, same)
-public_spelled Ecdsa384 bytes values bits leads same = (ecdsa_spelled (codes "nistp384") 97 bytes values leads, same)
-public_spelled Ecdsa521 bytes values bits leads same = (ecdsa_spelled (codes "nistp521") 133 bytes values leads, same)
+public_spelled Ecdsa256 bytes values bits begins same = (ecdsa_spelled (codes "nistp256") 65 bytes values begins, same)
+public_spelled Ecdsa384 bytes values bits begins same = (ecdsa_spelled (codes "nistp384") 97 bytes values begins, same)
+public_spelled Ecdsa521 bytes values bits begins same = (ecdsa_spelled (codes "nistp521") 133 bytes values begins, same)
 public_spelled Ed25519 bytes values bits (key, a, is_key, sized, (all, end)) same =
     (record { key = key; spelled = is_key.spelled ∙ ap (λ (t : List ℕ). string key ++ t) end; size_is = sized_is 32 key sized }, same)
 public_spelled EcdsaSk bytes values bits (name, a, is_name, named, (point, b, is_point, passed, (application, c, is_application, none, (all, end)))) same = (

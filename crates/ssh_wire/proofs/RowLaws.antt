@@ -93,20 +93,20 @@ row_refused unread s before bytes fault fits e =
 -- ---- tables
 
 -- a table, and bytes after it
-pub record Led {F : Type 0} (rows : List (Row F)) (before : List (List ℕ)) (bytes : List ℕ) (values : List (List ℕ)) (rest : List ℕ) : Type 0 where
-  pub leads : BeginsWithTable rows before bytes values rest
+pub record TakenTable {F : Type 0} (rows : List (Row F)) (before : List (List ℕ)) (bytes : List ℕ) (values : List (List ℕ)) (rest : List ℕ) : Type 0 where
+  pub begins : BeginsWithTable rows before bytes values rest
   pub rest_fits : IsBytes rest
 
-pub table_takes : {F : Type 0} (unread : WireFault → F) (rows : List (Row F)) (before : List (List ℕ)) (bytes : List ℕ) (x : List (List ℕ) × List ℕ) → IsBytes bytes → table_at unread rows before bytes ≡ Ok x → Led rows before bytes x.0 x.1
+pub table_takes : {F : Type 0} (unread : WireFault → F) (rows : List (Row F)) (before : List (List ℕ)) (bytes : List ℕ) (x : List (List ℕ) × List ℕ) → IsBytes bytes → table_at unread rows before bytes ≡ Ok x → TakenTable rows before bytes x.0 x.1
 unfolding table_at
 table_takes unread [] before bytes x fits e =
     let same : (before, bytes) ≡ x = cc in
-    record { leads = (ap (λ (p : List (List ℕ) × List ℕ). p.0) same, ap (λ (p : List (List ℕ) × List ℕ). p.1) same); rest_fits = subst (λ (p : List (List ℕ) × List ℕ). IsBytes p.1) same fits }
+    record { begins = (ap (λ (p : List (List ℕ) × List ℕ). p.0) same, ap (λ (p : List (List ℕ) × List ℕ). p.1) same); rest_fits = subst (λ (p : List (List ℕ) × List ℕ). IsBytes p.1) same fits }
 table_takes unread (s ∷ rows) before bytes x fits e =
     let a = bind_ok (row_at unread s before bytes) (λ read. table_at unread rows (before ++ read.0 ∷ []) read.1) x e in
     let t = row_takes unread s before bytes a.0 fits a.1 in
     let later = table_takes unread rows (before ++ a.0.0 ∷ []) a.0.1 x t.0.rest_fits a.2 in
-    record { leads = (a.0.0, a.0.1, t.0.stands, t.1, later.leads); rest_fits = later.rest_fits }
+    record { begins = (a.0.0, a.0.1, t.0.stands, t.1, later.begins); rest_fits = later.rest_fits }
 
 pub table_again : {F : Type 0} (unread : WireFault → F) (rows : List (Row F)) (before : List (List ℕ)) (bytes : List ℕ) (values : List (List ℕ)) (rest : List ℕ) → BeginsWithTable rows before bytes values rest → table_at unread rows before bytes ≡ Ok (values, rest)
 unfolding table_at
