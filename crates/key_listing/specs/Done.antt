@@ -1,5 +1,6 @@
 -- The end of a run: the text that its writer has taken, its status and its fault.
 use Rattle.std.specs.Prelude.{◌≡◌, ℕ, Bool, true, false, List, ◌∷◌, ◌++◌, Option, Some, None}
+use Rattle.std.specs.Prelude.{is_some}
 use Rattle.std.specs.Io.KnownBytes.{Appends}
 use Rattle.key_files.specs.declared.cause.Cause.TheVariants.{NoMemory}
 use Rattle.key_listing.specs.Printer.{IsCut}
@@ -45,11 +46,17 @@ EndsBy (ByOutput count) run before after failed stop = IsCutOff run before after
 EndsBy ByMemory run before after failed stop = IsBrokenOff run before after failed stop
 EndsBy ByInput run before after failed stop = IsWhole run before after failed (Some stop)
 
--- A run ended with a status and a fault. Its writer had taken some bytes before, and more
--- afterwards, and failed or not.
+-- A run ended with this fault or none, whatever its status. Its writer had taken some bytes before,
+-- and more afterwards, and failed or not.
+abbrev pub EndsWith : List Item → Option (List ℕ) → Option (List ℕ) → Bool → Option RunFault
+    → Type 0
+EndsWith run before after failed None = IsWhole run before after failed None
+EndsWith run before after failed (Some stop) =
+    EndsBy (ended_by stop.cause) run before after failed stop
+
+-- A run ended so, with the status of its answers.
 abbrev pub Ends : List Item → Option (List ℕ) → Option (List ℕ) → Bool → ℕ → Option RunFault
     → Type 0
-Ends run before after failed status None =
-    IsWhole run before after failed None × (status ≡ status_of false (outcome_of run).revoked)
-Ends run before after failed status (Some stop) =
-    EndsBy (ended_by stop.cause) run before after failed stop × (status ≡ 255)
+Ends run before after failed status fault =
+    EndsWith run before after failed fault
+    × (status ≡ status_of (is_some fault) (outcome_of run).revoked)

@@ -10,7 +10,7 @@ use Rattle.krl_entries.specs.Reasons.{any_reason, held_reasons}
 use Rattle.krl_entries.specs.declared.reasons.Reasons.{Reasons}
 use Rattle.key_files.specs.RunFault.{RunFault}
 use Rattle.key_listing.specs.Carries.{Carries}
-use Rattle.key_listing.specs.Done.{Ends}
+use Rattle.key_listing.specs.Done.{EndsWith}
 use Rattle.key_listing.specs.Printer.{Printer}
 use Rattle.key_listing.specs.Run.{Item, Passed, said_of}
 use Rattle.key_text.specs.Armour.{begins_container}
@@ -247,6 +247,5 @@ pub record ToldFile (reasons : Subject → Reasons) (shown : Shown) (name : List
 -- The audit ended as a run over its items does, with the status of its counts.
 pub record EndsAudit (run : List Item) (counts : Counts) (before after : Option (List ℕ))
     (failed : Bool) (status : ℕ) (fault : Option RunFault) : Type 0 where
-  pub plain : ℕ
-  pub ends : Ends run before after failed plain fault
+  pub ends : EndsWith run before after failed fault
   pub status_is : status ≡ audit_status (is_some fault) counts
