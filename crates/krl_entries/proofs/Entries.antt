@@ -7,19 +7,19 @@ use Rattle.krl_entries.proofs.Common.{ℕ}
 use Rattle.krl_entries.proofs.AddedSections.{put_held}
 use Rattle.krl_entries.proofs.Runs.{run_entries-name}
 use Rattle.krl_types.proofs.Equivalences.{iff_none, iff_or}
-use Rattle.krl_entries.proofs.SomeSections.{HeldIn, Step}
+use Rattle.krl_entries.proofs.SomeSections.{HeldIn, AddsProperty}
 use Rattle.krl_types.proofs.Elements.{contains_none}
 use Rattle.std.proofs.Math.Logic.Iff as Iff
 
 -- a part of a section that an addition does not change is held as before
 stays : (addition : Addition) (b a : List ℕ) (Q : Section → Type 0) → ((from to : Section) → TakesAddition addition from to → (to.authority ≡ from.authority) × (Q to ↔ Q from)) → (Q (empty_section b) → ⊥)
-    → Step addition b (λ section. (section.authority ≡ a) × Q section) ⊥
+    → AddsProperty addition b (λ section. (section.authority ≡ a) × Q section) ⊥
 stays addition b a Q same none = record {
   one = λ from to under t. let k = same from to t in Iff.trans (λ h. (sym k.0 ∙ h.0, k.1.0 h.1), λ h. (k.0 ∙ h.0, k.1.1 h.1)) (iff_none (λ no. no));
   none = λ h. none h.1;
 }
 
-nothing_new : (addition : Addition) (b : List ℕ) → Step addition b (λ section. ⊥) ⊥
+nothing_new : (addition : Addition) (b : List ℕ) → AddsProperty addition b (λ section. ⊥) ⊥
 nothing_new addition b = record { one = λ from to under t. iff_none (λ no. no); none = λ h. h }
 
 -- the entries of spans name only serials
@@ -28,13 +28,13 @@ runs_name_none b [] name none h = h
 runs_name_none b (x ∷ xs) name none h = elim h [ inl here ↦ none x.lo x.hi here | inr later ↦ runs_name_none b xs name none later ]
 
 -- an addition that changes nothing here, for an entry that names nothing here
-step_none : (addition : Addition) (b : List ℕ) (P : Section → Type 0) (Q : Type 0) → (Q → ⊥) → Step addition b P ⊥ → Step addition b P Q
+step_none : (addition : Addition) (b : List ℕ) (P : Section → Type 0) (Q : Type 0) → (Q → ⊥) → AddsProperty addition b P ⊥ → AddsProperty addition b P Q
 step_none addition b P Q none step = record {
   one = λ from to under t. Iff.trans (step.one from to under t) (Iff.trans (Iff.symm (iff_none (λ no. no))) (iff_none none));
   none = step.none;
 }
 
-serials_step : (near : Bor (List Span)) (b : List ℕ) (name : Name) → Step (Serials near) b (HeldIn name) (SomeNames (run_entries b near.now) name)
+serials_step : (near : Bor (List Span)) (b : List ℕ) (name : Name) → AddsProperty (Serials near) b (HeldIn name) (SomeNames (run_entries b near.now) name)
 serials_step near b (SerialOf a s) = record {
   one = λ from to under t.
       let same : to.authority ≡ from.authority = ap (λ (x : Section). x.authority) t.same in
@@ -57,7 +57,7 @@ serials_step near b (IdOf a text) =
 serials_step near b name =
     step_none (Serials near) b (HeldIn name) (SomeNames (run_entries b near.now) name) (runs_name_none b near.now name (λ lo hi no. no)) (nothing_new (Serials near) b)
 
-id_step : (added : Bor (List ℕ)) (b : List ℕ) (name : Name) → Step (Id added) b (HeldIn name) (EntryNames (IdEntry b added.now) name)
+id_step : (added : Bor (List ℕ)) (b : List ℕ) (name : Name) → AddsProperty (Id added) b (HeldIn name) (EntryNames (IdEntry b added.now) name)
 id_step added b (SerialOf a s) =
     stays (Id added) b a (λ section. Covers section.spans s) (λ from to t.
     (ap (λ (x : Section). x.authority) t.same, subst (λ (l : List Span). Covers to.spans s ↔ Covers l s) (ap (λ (x : Section). x.spans) t.same) Iff.rfl)) (λ none. none)
@@ -73,7 +73,7 @@ id_step added b (IdOf a text) = record {
 id_step added b name = nothing_new (Id added) b
 
 -- what an addition changes is what its entries name
-pub addition_step : (addition : Addition) (b : List ℕ) (name : Name) → Step addition b (HeldIn name) (SomeNames (added_entries b addition) name)
+pub addition_step : (addition : Addition) (b : List ℕ) (name : Name) → AddsProperty addition b (HeldIn name) (SomeNames (added_entries b addition) name)
 addition_step (Serials near) b name = serials_step near b name
 addition_step (Id text) b name =
     let step = id_step text b name in

@@ -24,7 +24,7 @@ some_middle P (x ∷ front) section back = Iff.trans (iff_or Iff.rfl (some_middl
 
 -- After the addition a section of the authority has the property P exactly if it had P or Q is
 -- true. An empty section does not have P.
-pub record Step (addition : Addition) (authority : List ℕ) (P : Section → Type 0) (Q : Type 0) : Type 0 where
+pub record AddsProperty (addition : Addition) (authority : List ℕ) (P : Section → Type 0) (Q : Type 0) : Type 0 where
   pub one : (from to : Section) → from.authority ≡ authority → TakesAddition addition from to → P to ↔ (P from ⊎ Q)
   pub none : P (empty_section authority) → ⊥
 
@@ -33,7 +33,7 @@ some_changed P Q front back new from to is one =
     let now = subst (λ (l : List Section). SomeSection P l ↔ (P to ⊎ SomeSection P (front ++ back))) (sym is) (some_middle P front to back) in
     Iff.trans now (Iff.trans (iff_or one (iff_none (λ no. no))) (Iff.trans iff_across (iff_or Iff.rfl (Iff.symm (iff_none (λ no. no))))))
 
-pub some_adds : (addition : Addition) (authority : List ℕ) (old new : List Section) (P : Section → Type 0) (Q : Type 0) → Step addition authority P Q → AddsTo addition authority old new → SomeSection P new ↔ (SomeSection P old ⊎ Q)
+pub some_adds : (addition : Addition) (authority : List ℕ) (old new : List Section) (P : Section → Type 0) (Q : Type 0) → AddsProperty addition authority P Q → AddsTo addition authority old new → SomeSection P new ↔ (SomeSection P old ⊎ Q)
 some_adds addition authority old new P Q step (inl c) =
     let was = subst (λ (l : List Section). (P c.from ⊎ SomeSection P (c.front ++ c.back)) ↔ SomeSection P l) (sym c.before) (Iff.symm (some_middle P c.front c.from c.back)) in
     Iff.trans (some_changed P Q c.front c.back new c.from c.to c.after (step.one c.from c.to c.under c.changed)) (iff_or was Iff.rfl)
