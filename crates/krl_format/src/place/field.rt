@@ -132,12 +132,7 @@ impl Field {
 
     // Judges a number, or the length of a string.
     #[inline(always)]
-    pub(super) fn judge_part(
-        self,
-        left: u32,
-        after: u32,
-        field: &[u8],
-    ) -> Result<Place, KrlFault>
+    pub(super) fn judge_part(self, left: u32, after: u32, field: &[u8]) -> Result<Place, KrlFault>
         requires whole { length field.now ≡ (row_expected self left after).size }
         requires room { HasRoom (row_expected self left after) }
         ensures { result ≡ (row_expected self left after).judged field.now }
