@@ -170,9 +170,10 @@ class Task:
         self.was_killed = self.is_waiting = False
         self.began = 0
         lines = sum(read(it).count(b"\n") for it in self.files() if it.endswith(".rt"))
-        # About how many seconds the proofs of the crate take. The code of all libraries is compiled
-        # with the program's.
-        self.seconds = lines / 8 + (80 if crate.is_program else 0)
+        self.libraries = {*below}.union(*(it.libraries for it in below))
+        # About how many seconds the proofs of the crate take. The libraries below it are read
+        # first, and the code of all of them is compiled with the program's.
+        self.seconds = lines / 8 + 2 * len(self.libraries) + (80 if crate.is_program else 0)
 
     def files(self):
         walked = [
@@ -219,6 +220,8 @@ class Task:
 class Build:
     def __init__(self, top, store):
         self.store, self.lanes, self.pace = store, None, None
+        # The seconds that the crates took which this build has proved, and those reckoned before.
+        self.taken = self.reckoned = 0
         self.kit, self.rtlib = load_kit()
         tools = [os.stat(f"{self.kit}/bin/{it}") for it in TOOLS]
         named = [
@@ -268,9 +271,8 @@ class Build:
         there are more than two processors, and a crate with a short chain, which can wait, gets
         none: others get one if no other crate can use the processor."""
         if self.lanes is None:
-            self.lanes = count_lanes()
+            self.lanes, self.began = count_lanes(), time.time()
             say(f"proving and building, this once: {len(self.tasks)} crates")
-            self.left = [it for it in self.tasks if not it.made]
         busy = [it for it in self.tasks if it.process]
         idle = self.lanes - sum(it.jobs for it in busy)
         share = sum(it.seconds for it in self.tasks if not it.made) / self.lanes
@@ -318,20 +320,18 @@ class Build:
         return True
 
     def how_far(self):
-        """Returns how many seconds of the whole build are behind, once a crate has shown how quick
-        this machine is."""
+        """Returns how many seconds the build has taken, of how many, once a crate has shown how
+        quick this machine is."""
         if not self.pace:
             return ""
-        whole = sum(it.seconds for it in self.left)
-        behind = sum(it.seconds for it in self.left if it.made)
-        seconds = self.pace * self.lasting()
-        return f": {seconds * behind / whole:.0f} of about {seconds:.0f} seconds"
+        taken = time.time() - self.began
+        return f": {taken:.0f} of about {taken + self.rest():.0f} seconds"
 
-    def lasting(self):
-        """Returns how long the build lasts at a pace of 1: each processor takes the crate that is
-        ready and whose chain is the longest."""
-        ends = {it: 0 for it in self.tasks if it not in self.left}
-        free, waiting = [0] * self.lanes, list(self.left)
+    def rest(self):
+        """Returns about how many seconds are left: each processor takes the crate that is ready and
+        whose chain is the longest."""
+        ends = {it: 0 for it in self.tasks if it.made}
+        free, waiting = [0] * self.lanes, [it for it in self.tasks if not it.made]
         while waiting:
             begins, it = min(
                 (
@@ -339,9 +339,10 @@ class Build:
                     for it in waiting
                     if all(at in ends for at in it.below)
                 ),
-                key=lambda found: (found[0], -self.chain[found[1]]),
+                key=lambda found: (found[0], not found[1].process, -self.chain[found[1]]),
             )
-            ends[it] = begins + it.seconds
+            behind = time.time() - it.began if it.process else 0
+            ends[it] = begins + max(0, self.pace * it.seconds - behind)
             free[free.index(min(free))] = ends[it]
             waiting.remove(it)
         return max(ends.values())
@@ -378,13 +379,17 @@ class Build:
             self.give_up(it, status)
 
     def set_pace(self, it):
-        """The first crate that this build proves shows how quick this machine is."""
-        if self.pace or it is self.last:
+        """The crates that this build has proved show how quick this machine is."""
+        if it is self.last:
             return
-        self.pace = (time.time() - it.began) / it.seconds
-        minutes = max(1, round(self.pace * self.lasting() / 60))
-        plural = "" if minutes == 1 else "s"
-        say(f"this takes about {minutes} minute{plural} on this machine, judging by {it.name}")
+        is_first = not self.pace
+        self.taken += time.time() - it.began
+        self.reckoned += it.seconds
+        self.pace = self.taken / self.reckoned
+        if is_first:
+            minutes = max(1, round((time.time() - self.began + self.rest()) / 60))
+            plural = "" if minutes == 1 else "s"
+            say(f"this takes about {minutes} minute{plural} on this machine, judging by {it.name}")
 
     def link(self, it, program):
         words = [f"{self.kit}/bin/rattle-link", "--target", "x86_64-unknown-linux-gnu"]

@@ -95,7 +95,7 @@ judge 'how far it is goes by seconds' "$(asks 0 awk '/ of about / {
     if ($4 < last) print "  it goes back: " $0
     last = $4
   }
-  /proving krl_tool/ && $4 * 10 > $7 + 0 { print "  it is not: " $0 }' "$scratch/error")"
+  /proving krl_tool/ && $4 * 4 > $7 + 0 { print "  it is not: " $0 }' "$scratch/error")"
 judge 'one crate after the other' "$(asks 0 awk '
   /begins/ && at { print "  " $1 " begins within " at }
   { at = /begins/ ? $1 : "" }' calls)"
@@ -188,7 +188,7 @@ nothing_left() {
   ! { sleep 0.3 && at_work; } || echo '  a crate is still being proved'
 }
 
-# The first crate lasts 3 seconds here, for 6 of the 661 lines by which the time is reckoned.
+# The first crate lasts 3 seconds here, and is a small part of what is reckoned.
 hold low "${one[@]}"
 sleep 3
 go
@@ -197,6 +197,14 @@ judge 'the time that is said goes by the first crate' "$(
   minutes=$(sed -n 's/.* takes about \([0-9]*\) minutes .* low$/\1/p' "$scratch/error")
   [ "${minutes:-0}" -ge 5 ] || cat "$scratch/error"
 )"
+hold side "${one[@]}"
+sleep 8
+go
+whole 'a slow later crate'
+judge 'the time that is said follows the crates after it' "$(awk '
+  / of about / { all[++n] = $7 + 0 }
+  END { if (n < 2 || all[n] <= all[1]) print "  " all[1] " and then " all[n] " seconds" }
+' "$scratch/error")"
 
 anew "${two[@]}"
 wait
