@@ -27,13 +27,13 @@ cp -r "$top/library" away/
 cp "$top"/tests/lib/launcher/* kit/bin/
 echo 'the kit of the tests' >kit/WHAT
 printf '%s\n' 'low: byteorder' 'low_tests: low' side: 'upper: low side' 'aside: low' \
-  'krl_tool: upper aside' \
+  'krl_keygen: upper aside' \
   'krl: low' 'krl_c staticlib: low' >away/crates.txt
-for it in low:6 low_tests:1 side:4 upper:6 aside:3 krl_tool:2 krl:2 krl_c:2; do
+for it in low:6 low_tests:1 side:4 upper:6 aside:3 krl_keygen:2 krl:2 krl_c:2; do
   mkdir -p "away/crates/${it%:*}"/{src,specs,proofs}
   seq "${it#*:}" >"away/crates/${it%:*}/src/lib.rt"
 done
-for it in krl_tool krl; do mv away/crates/$it/src/lib.rt away/crates/$it/src/main.rt; done
+for it in krl_keygen krl; do mv away/crates/$it/src/lib.rt away/crates/$it/src/main.rt; done
 export calls=$scratch/here/calls XDG_CACHE_HOME=$scratch/here/cache
 store=$XDG_CACHE_HOME/krl-keygen
 unset RT_JOBS AFTER_CI
@@ -53,7 +53,7 @@ said_by() {
 made_of() {
   local low side
   low=$(seq -s , "$1") side=$(seq -s , "$2")
-  echo "made of aside:1,2,3 krl_tool:1,2 low:$low side:$side upper:1,2,3,4,5,6"
+  echo "made of aside:1,2,3 krl_keygen:1,2 low:$low side:$side upper:1,2,3,4,5,6"
 }
 # proved: which crates were proved since this was asked before, in the order of their ends.
 proved() {
@@ -77,12 +77,12 @@ build() {
     differs 'what is proved' "$crates" "$(proved)"
   )"
 }
-every='low side upper aside krl_tool '
+every='low side upper aside krl_keygen '
 : >calls
 all=$(said_by 'proving and building, this once: 5 crates' 'proving low' \
   'this takes about N minutes on this machine, judging by low' 'proving side: N of M seconds' \
   'proving upper: N of M seconds' 'proving aside: N of M seconds' \
-  'proving krl_tool: N of M seconds')
+  'proving krl_keygen: N of M seconds')
 
 (use "${one[@]}") >said 2>"$scratch/error"
 judge 'the first use builds' "$(
@@ -95,7 +95,7 @@ judge 'how far it is goes by seconds' "$(asks 0 awk '/ of about / {
     if ($4 < last) print "  it goes back: " $0
     last = $4
   }
-  /proving krl_tool/ && $4 * 4 > $7 + 0 { print "  it is not: " $0 }' "$scratch/error")"
+  /proving krl_keygen/ && $4 * 4 > $7 + 0 { print "  it is not: " $0 }' "$scratch/error")"
 judge 'one crate after the other' "$(asks 0 awk '
   /begins/ && at { print "  " $1 " begins within " at }
   { at = /begins/ ? $1 : "" }' calls)"
@@ -119,19 +119,19 @@ build 'a source with a new time proves nothing' 0 "$(made_of 6 4)" '' ''
 # The effect of each change. The old program is replaced, and not overwritten.
 ln away/built/ssh-keygen older
 sleep 0.1 && seq 7 >away/crates/low/src/lib.rt
-build 'a changed source' 0 "$(made_of 7 4)" any 'low upper aside krl_tool ' "${one[@]}"
+build 'a changed source' 0 "$(made_of 7 4)" any 'low upper aside krl_keygen ' "${one[@]}"
 judge 'a program that runs is not written over' "$(differs program "$(made_of 6 4)" "$(./older)")"
 sleep 0.1 && seq 6 >away/crates/low/src/lib.rt
 build 'a source that is as it was' 0 "$(made_of 6 4)" '' ''
 for it in specs proofs; do
   sleep 0.1 && echo "the-$it" >"away/crates/upper/$it/Lib.antt"
-  build "a new file of $it" 0 any any 'upper krl_tool '
+  build "a new file of $it" 0 any any 'upper krl_keygen '
   judge "the program is made of the $it" "$(grep -q "the-$it" said || cat said)"
   sleep 0.1 && rm "away/crates/upper/$it/Lib.antt"
   build "without the file of $it" 0 "$(made_of 6 4)" '' ''
 done
 sleep 0.1 && sed -i 's/^aside:.*/aside: low side/' away/crates.txt
-build 'a changed list of crates' 0 "$(made_of 6 4)" any 'aside krl_tool '
+build 'a changed list of crates' 0 "$(made_of 6 4)" any 'aside krl_keygen '
 sleep 0.1 && sed -i 's/^aside:.*/aside: low/' away/crates.txt
 build 'a list of crates that is as it was' 0 "$(made_of 6 4)" '' ''
 sleep 0.1 && sed -i 's/^low:.*/low: byteorder hex/' away/crates.txt
@@ -210,7 +210,7 @@ anew "${two[@]}"
 wait
 judge 'crates are proved side by side' \
   "$(differs 'first calls' $'low begins with 1\nside begins with 1' "$(head -n 2 calls | sort)")"
-judge 'the last crate has all processors' "$(grep -q 'krl_tool begins with 2' calls || cat calls)"
+judge 'the last crate has all processors' "$(grep -q 'krl_keygen begins with 2' calls || cat calls)"
 whole 'a first use with two processors'
 
 waiting=$(said_by 'another build is at work in this folder: waiting for that')
@@ -226,11 +226,11 @@ judge 'the second of two uses at once' "$(
 
 # A source that changes while another crate is proved, and one that changes while it is proved
 # itself.
-hold krl_tool "${one[@]}"
+hold krl_keygen "${one[@]}"
 seq 7 >away/crates/low/src/lib.rt
 go
 build 'a source that changed during the build' 0 "$(made_of 7 4)" any \
-  'low upper aside krl_tool ' "${one[@]}"
+  'low upper aside krl_keygen ' "${one[@]}"
 hold low "${one[@]}"
 seq 6 >away/crates/low/src/lib.rt
 go
@@ -436,7 +436,7 @@ make_of build library
 judge 'make: how far it is' "$(
   differs 'exit status' 0 $?
   differs 'standard error' 'ssh-keygen: proving and building, this once: 5 crates
-ssh-keygen: proving krl_tool: N of M seconds
+ssh-keygen: proving krl_keygen: N of M seconds
 krl: proving and building, this once: 2 crates
 krl: proving krl
 library/build: proving and building, this once: 3 crates

@@ -25,13 +25,13 @@ for crate in $(sed -n 's/^\([a-z0-9_]*\)\( staticlib\)\{0,1\}:.*/\1/p' "$top/cra
       echo '  the map does not lead to it'
   )"
   # The program's use is shown below; what C calls is tried by tests/cases/library.
-  [[ $crate == krl_tool || $crate == krl || $crate == krl_c ]] && continue
+  [[ $crate == krl_keygen || $crate == krl || $crate == krl_c ]] && continue
   caller=$(shown rust "$page")
   judge "the caller on the page of $crate" \
     "$([ -n "$caller" ] && stands "$caller" || echo '  no module page has it')"
 done
 cp -r "$top/demo" demo && cd demo || exit 1
-for it in krl_tool:. krl:audit; do
+for it in krl_keygen:. krl:audit; do
   use=$(shown console "$top/crates/${it%:*}/README.md")
   judge "the page of ${it%:*} shows a use" "$([ -n "$use" ] || echo '  it shows none')"
   cd "${it#*:}" && transcript "what the page of ${it%:*} shows" <<<"$use"

@@ -13,7 +13,7 @@ use Rattle.plain_list.specs.Any.{Names, NamesIf, begins_list}
 use Rattle.plain_list.specs.List.{HasFault}
 use Rattle.plain_list.specs.declared.fault.PlainFault.{PlainFault}
 use Rattle.plain_list.specs.declared.fault.PlainFault.TheVariants as faults
-use Rattle.key_files.specs.RunFault.{RunFault}
+use Rattle.run_faults.specs.RunFault.{RunFault}
 use Rattle.any_list.specs.List.{IsFaultIf, IsListFault, whole_fault, whole_ran_out}
 
 -- as many bytes as are read of a file

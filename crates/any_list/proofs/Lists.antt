@@ -7,7 +7,7 @@ use Rattle.krl_format.specs.Entries.{entries_of}
 use Rattle.krl_format.specs.Faults.{Says, failed_read, first, ran_out}
 use Rattle.krl_format.specs.Front.{IsFirstKrlFault}
 use Rattle.krl_format.specs.declared.header.Header.{Header}
-use Rattle.key_files.specs.RunFault.{krl_cause, run_fault_of}
+use Rattle.run_faults.specs.RunFault.{krl_cause, run_fault_of}
 use Rattle.plain_list.specs.Any.{NamesIf, NamesWhole, begins_list}
 use Rattle.any_list.specs.List.{IsReadAs, IsReadLines, IsReadList, IsReadWhole, IsWholeFault, whole_fault, whole_ran_out}
 use Rattle.any_list.specs.declared.list.List.{List as ListOf}

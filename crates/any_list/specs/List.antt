@@ -11,9 +11,9 @@ use Rattle.plain_list.specs.Any.{Names, NamesLines, NamesWhole, begins_list}
 use Rattle.plain_list.specs.List.{HasFault}
 use Rattle.plain_list.specs.declared.fault.PlainFault.{PlainFault}
 use Rattle.plain_list.specs.declared.fault.PlainFault.TheVariants as plain_faults
-use Rattle.key_files.specs.Keys.{run_fault_at}
-use Rattle.key_files.specs.RunFault.{RunFault, krl_cause, run_fault_of}
-use Rattle.key_files.specs.declared.cause.Cause.TheVariants as causes
+use Rattle.run_faults.specs.Keys.{run_fault_at}
+use Rattle.run_faults.specs.RunFault.{RunFault, krl_cause, run_fault_of}
+use Rattle.run_faults.specs.declared.cause.Cause.TheVariants as causes
 use Rattle.krl_audit.specs.declared.done.Stated.{Stated}
 use Rattle.any_list.specs.declared.list.List.{List as ListOf}
 

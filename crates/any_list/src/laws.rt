@@ -4,7 +4,7 @@ ghost use Rattle.std.specs.Prelude.{◌↔◌, ◌+◌, ℕ, List, Option, take}
 ghost use Rattle.krl_format.specs.Front.{limit};
 ghost use Rattle.krl_format.specs.declared.header.Header.{Header};
 ghost use Rattle.krl_types.specs.Entry.{Entry};
-ghost use Rattle.key_files.specs.RunFault.{RunFault as RunFaultOf};
+ghost use Rattle.run_faults.specs.RunFault.{RunFault as RunFaultOf};
 ghost use Rattle.plain_list.specs.Any.{Names};
 ghost use Rattle.any_list.specs.List.{IsListFault};
 

@@ -5,11 +5,11 @@ ghost use Rattle.any_list.specs.List.{IsLinesFault, IsListFault, IsReadLines, Is
 ghost use Rattle.any_list.specs.List.{IsReadWhole, IsWholeFault, plain_run_fault, sha256_if};
 
 use byte_streams::Lent;
-use key_files::{Cause, RunFault, cause_of};
 use key_text::sha256_of;
 use krl_audit::Stated;
 use krl_core::{KrlFault, Revocations, read_krl};
 use plain_list::{PlainFault, begins_list, read_plain};
+use run_faults::{Cause, RunFault, cause_of};
 use span_sets::Held;
 use std::alloc::Global;
 

@@ -6,12 +6,12 @@ use Rattle.std.specs.Result.{result_err}
 use Rattle.std.proofs.lemmas.Bool.{ltb-true}
 use Rattle.std.proofs.lemmas.List.{append-nil}
 use Rattle.std.proofs.lemmas.List.Concat.{flat_map-append}
-use Rattle.key_files.specs.RunFault.{RunFault, ended_by}
-use Rattle.key_files.specs.declared.cause.Cause.{Cause}
-use Rattle.key_files.specs.declared.cause.Cause.TheVariants as causes
-use Rattle.key_listing.specs.Carries.{Carries, IsEnded}
-use Rattle.key_listing.specs.Printer.{HasSaid, Printer}
-use Rattle.key_listing.specs.Run.{Item, Stopped}
+use Rattle.run_faults.specs.RunFault.{RunFault, ended_by}
+use Rattle.run_faults.specs.declared.cause.Cause.{Cause}
+use Rattle.run_faults.specs.declared.cause.Cause.TheVariants as causes
+use Rattle.run_output.specs.Carries.{Carries, IsEnded}
+use Rattle.run_output.specs.Printer.{HasSaid, Printer}
+use Rattle.run_output.specs.Run.{Item, Stopped}
 use Rattle.krl_types.specs.Subject.{Subject}
 use Rattle.krl_entries.specs.Reasons.{reasons_of}
 use Rattle.krl_entries.specs.Revocations.{Means}

@@ -3,11 +3,11 @@ use Rattle.std.proofs.Common.{◌≡◌, ℕ, Bool, true, false, List, [], ◌�
 use Rattle.std.proofs.Common.{refl, sym, ap, subst, ◌∙◌, append_assoc}
 use Rattle.std.specs.Prelude.{IsTrue, not, ◌↔◌}
 use Rattle.std.specs.Result.{result_err}
-use Rattle.key_files.specs.RunFault.{RunFault, EndedBy, ByInput, ByMemory, ByOutput, ended_by}
-use Rattle.key_listing.specs.Carries.{Carries, IsEnded, Reaches}
-use Rattle.key_listing.specs.Done.{Ends}
-use Rattle.key_listing.specs.Printer.{HasSaid, Printer}
-use Rattle.key_listing.specs.Run.{Answered, Item, Passed, Stopped, outcome_of}
+use Rattle.run_faults.specs.RunFault.{RunFault, EndedBy, ByInput, ByMemory, ByOutput, ended_by}
+use Rattle.run_output.specs.Carries.{Carries, IsEnded, Reaches}
+use Rattle.run_output.specs.Done.{Ends}
+use Rattle.run_output.specs.Printer.{HasSaid, Printer}
+use Rattle.run_output.specs.Run.{Answered, Item, Passed, Stopped, outcome_of}
 use Rattle.krl_types.specs.Entry.{Entry}
 use Rattle.krl_entries.specs.Reasons.{reasons_of}
 use Rattle.krl_audit.specs.Audit.{EndsAudit}

@@ -3,12 +3,12 @@ use Rattle.std.specs.Prelude.{◌≡◌, ℕ, ◌<◌, Bool, true, false, List, 
 use Rattle.std.specs.Prelude.{Option, Some, None, is_some, ◌↔◌}
 use Rattle.std.specs.Borrow.{Bor}
 use Rattle.json_lines.specs.Field.{json_line}
-use Rattle.key_files.specs.RunFault.{RunFault, output_run_fault, run_fault_of}
-use Rattle.key_files.specs.declared.cause.Cause.TheVariants.{File, NoMemory}
-use Rattle.key_files.specs.declared.file_fault.FileFault.TheVariants.{Read}
-use Rattle.key_listing.specs.Carries.{Reaches}
-use Rattle.key_listing.specs.Printer.{HasSaid}
-use Rattle.key_listing.specs.Run.{Item, Passed, Stopped, said_of}
+use Rattle.run_faults.specs.RunFault.{RunFault, output_run_fault, run_fault_of}
+use Rattle.run_faults.specs.declared.cause.Cause.TheVariants.{File, NoMemory}
+use Rattle.run_faults.specs.declared.file_fault.FileFault.TheVariants.{Read}
+use Rattle.run_output.specs.Carries.{Reaches}
+use Rattle.run_output.specs.Printer.{HasSaid}
+use Rattle.run_output.specs.Run.{Item, Passed, Stopped, said_of}
 use Rattle.krl_types.specs.Entry.{Entry}
 use Rattle.krl_entries.specs.Reasons.{reasons_of}
 use Rattle.krl_entries.specs.Revocations.{Means}
@@ -17,7 +17,7 @@ use Rattle.krl_audit.specs.Objects.{done_object}
 use Rattle.audit_tree.specs.declared.summary.Summary.{Summary}
 use Rattle.any_list.specs.List.{IsListFault, IsReadList}
 use Rattle.any_list.specs.declared.list.List.{List as ReadList}
-use Rattle.key_listing.specs.declared.done.Done.{Done}
+use Rattle.run_output.specs.declared.done.Done.{Done}
 use Rattle.krl_audit.specs.declared.judge.Form.{Form}
 use Rattle.krl_audit.specs.declared.judge.Form.TheVariants as forms
 use Rattle.krl_audit.specs.declared.judge.Shown.{Shown}

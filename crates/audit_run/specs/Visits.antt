@@ -7,12 +7,12 @@ use Rattle.std.specs.Cmp.Lexicographic.{slice_cmp}
 use Rattle.std.specs.List.{flat_map}
 use Rattle.std.specs.Ordering.{nat_cmp}
 use Rattle.std.specs.Result.{result_err}
-use Rattle.key_files.specs.RunFault.{output_run_fault}
-use Rattle.key_files.specs.declared.cause.Cause.{Cause}
-use Rattle.key_files.specs.declared.cause.Cause.TheVariants.{Output}
-use Rattle.key_listing.specs.Carries.{IsLost}
-use Rattle.key_listing.specs.Printer.{HasSaid, Printer}
-use Rattle.key_listing.specs.Run.{Item}
+use Rattle.run_faults.specs.RunFault.{output_run_fault}
+use Rattle.run_faults.specs.declared.cause.Cause.{Cause}
+use Rattle.run_faults.specs.declared.cause.Cause.TheVariants.{Output}
+use Rattle.run_output.specs.Carries.{IsLost}
+use Rattle.run_output.specs.Printer.{HasSaid, Printer}
+use Rattle.run_output.specs.Run.{Item}
 use Rattle.krl_types.specs.Subject.{Subject}
 use Rattle.krl_types.specs.Entry.{Entry}
 use Rattle.krl_entries.specs.Reasons.{reasons_of}

@@ -10,9 +10,9 @@ use crate::files::{Files, Key, Since};
 use crate::stop::Stop;
 use audit_tree::Summary;
 use byte_streams::Sink;
-use key_files::{Cause, RunFault};
-use key_listing::{Printer, Run};
 use krl_audit::{Auditor, Counts, Judge, Refusal, Shown, Stated};
+use run_faults::{Cause, RunFault};
+use run_output::{Printer, Run};
 use std::alloc::{AllocError, Global};
 use std::marker::Model;
 

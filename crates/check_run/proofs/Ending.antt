@@ -2,13 +2,13 @@
 use Rattle.std.proofs.Common.{◌≡◌, ℕ, ◌||◌, Bool, true, false, List, [], ◌∷◌, ◌++◌, Option, Some, None, Result, Ok, Err, refl, ap, ◌∙◌}
 use Rattle.std.specs.Prelude.{OnOk, is_some}
 use Rattle.std.specs.Result.{result_err}
-use Rattle.key_files.specs.RunFault.{RunFault}
-use Rattle.key_listing.specs.Carries.{Carries, Reaches}
-use Rattle.key_listing.specs.Done.{Ends}
-use Rattle.key_listing.specs.Printer.{HasSaid, Printer}
-use Rattle.key_listing.specs.Run.{Answered, Item, Passed, Stopped, outcome_of}
-use Rattle.key_listing.proofs.RunParts.{carries_more}
-use Rattle.key_listing.specs.declared.done.Done.{Done}
+use Rattle.run_faults.specs.RunFault.{RunFault}
+use Rattle.run_output.specs.Carries.{Carries, Reaches}
+use Rattle.run_output.specs.Done.{Ends}
+use Rattle.run_output.specs.Printer.{HasSaid, Printer}
+use Rattle.run_output.specs.Run.{Answered, Item, Passed, Stopped, outcome_of}
+use Rattle.run_output.proofs.RunParts.{carries_more}
+use Rattle.run_output.specs.declared.done.Done.{Done}
 use Rattle.krl_arguments.specs.declared.task.Check.{Check}
 use Rattle.krl_format.specs.declared.header.Header.{Header}
 use Rattle.krl_types.specs.Entry.{Entry}

@@ -1,9 +1,9 @@
 -- The format of a list.
 use Rattle.std.proofs.Common.{◌≡◌, ℕ, ◌||◌, Bool, true, false, List, Option, Some, None, Result, Ok, refl, sym, ap, subst, ◌∙◌}
 use Rattle.std.specs.Prelude.{is_some, option_map}
-use Rattle.key_files.specs.RunFault.{RunFault}
-use Rattle.key_listing.specs.Carries.{Carries}
-use Rattle.key_listing.specs.Printer.{Printer}
+use Rattle.run_faults.specs.RunFault.{RunFault}
+use Rattle.run_output.specs.Carries.{Carries}
+use Rattle.run_output.specs.Printer.{Printer}
 use Rattle.krl_format.specs.Front.{IsFirstKrlFault, start}
 use Rattle.krl_format.specs.declared.header.Header.{Header}
 use Rattle.krl_types.specs.Entry.{Entry}

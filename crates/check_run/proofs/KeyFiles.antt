@@ -6,11 +6,11 @@ use Rattle.std.specs.List.{AllByRecursion, flat_map}
 use Rattle.std.proofs.lemmas.List.{append-nil, map-append, take_more, take-append-drop}
 use Rattle.std.proofs.lemmas.List.Concat.{flat_map-append}
 use Rattle.std.proofs.lemmas.List.Folds.{list_any-append}
-use Rattle.key_files.specs.RunFault.{RunFault, run_fault_of}
-use Rattle.key_files.specs.declared.cause.Cause.TheVariants.{NoMemory}
-use Rattle.key_listing.specs.Printer.{Printer}
-use Rattle.key_listing.specs.Run.{Item, Passed}
-use Rattle.key_listing.proofs.RunParts.{carries_more, carries_withheld}
+use Rattle.run_faults.specs.RunFault.{RunFault, run_fault_of}
+use Rattle.run_faults.specs.declared.cause.Cause.TheVariants.{NoMemory}
+use Rattle.run_output.specs.Printer.{Printer}
+use Rattle.run_output.specs.Run.{Item, Passed}
+use Rattle.run_output.proofs.RunParts.{carries_more, carries_withheld}
 use Rattle.krl_types.specs.Subject.{Subject}
 use Rattle.krl_entries.specs.declared.reasons.Reasons.{Reasons}
 use Rattle.krl_audit.specs.declared.why.Refusal.{Refusal}

@@ -1,10 +1,10 @@
 -- One condition after another.
 use Rattle.std.proofs.Common.{◌≡◌, ◌||◌, Bool, true, false, List, [], ◌++◌, Result, Ok, Err, refl, ap, ◌∙◌}
 use Rattle.std.specs.Prelude.{OnOk}
-use Rattle.key_files.specs.RunFault.{RunFault}
-use Rattle.key_listing.specs.Printer.{Printer}
-use Rattle.key_listing.specs.Run.{Item}
-use Rattle.key_listing.proofs.RunParts.{carries_more, carries_none, carries_then}
+use Rattle.run_faults.specs.RunFault.{RunFault}
+use Rattle.run_output.specs.Printer.{Printer}
+use Rattle.run_output.specs.Run.{Item}
+use Rattle.run_output.proofs.RunParts.{carries_more, carries_none, carries_then}
 use Rattle.check_run.specs.Lists.{Checks}
 
 pub or_assoc : (a b c : Bool) → ((a || b) || c) ≡ (a || (b || c))

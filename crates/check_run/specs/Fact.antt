@@ -1,6 +1,6 @@
 -- The facts that a host may state.
 use Rattle.std.specs.Prelude.{ℕ, List, Option, Result, Ok, Err}
-use Rattle.key_files.specs.declared.cause.Cause.{Cause}
+use Rattle.run_faults.specs.declared.cause.Cause.{Cause}
 use Rattle.krl_audit.specs.declared.why.Refusal.{Refusal}
 
 pub data Fact : Type 0 where

@@ -2,9 +2,9 @@
 use Rattle.std.specs.Borrow.{Bor}
 use Rattle.std.specs.Prelude.{◌≡◌, ℕ, ◌||◌, not, Bool, List, [], ◌++◌, map, OnOk, Result, is_err}
 use Rattle.std.specs.List.{AllByRecursion, flat_map, list_any}
-use Rattle.key_files.specs.RunFault.{RunFault}
-use Rattle.key_listing.specs.Printer.{Printer}
-use Rattle.key_listing.specs.Run.{Item, Passed}
+use Rattle.run_faults.specs.RunFault.{RunFault}
+use Rattle.run_output.specs.Printer.{Printer}
+use Rattle.run_output.specs.Run.{Item, Passed}
 use Rattle.krl_types.specs.Subject.{Subject}
 use Rattle.krl_entries.specs.declared.reasons.Reasons.{Reasons}
 use Rattle.krl_audit.specs.declared.why.Refusal.{Refusal}

@@ -2,11 +2,11 @@
 use Rattle.std.specs.Borrow.{Bor}
 use Rattle.std.specs.Prelude.{◌≡◌, ℕ, ◌||◌, ◌&&◌, nat_lt, not, Bool, true, false, List, [], ◌∷◌, ◌++◌}
 use Rattle.std.specs.Prelude.{Option, Some, None, Result, Ok, Err, OnOk, is_some, option_map}
-use Rattle.key_files.specs.RunFault.{RunFault, run_fault_of}
-use Rattle.key_files.specs.declared.cause.Cause.{Cause}
-use Rattle.key_listing.specs.Carries.{Carries}
-use Rattle.key_listing.specs.Printer.{Printer}
-use Rattle.key_listing.specs.Run.{Item, said_of}
+use Rattle.run_faults.specs.RunFault.{RunFault, run_fault_of}
+use Rattle.run_faults.specs.declared.cause.Cause.{Cause}
+use Rattle.run_output.specs.Carries.{Carries}
+use Rattle.run_output.specs.Printer.{Printer}
+use Rattle.run_output.specs.Run.{Item, said_of}
 use Rattle.krl_format.specs.Front.{start}
 use Rattle.krl_format.specs.declared.header.Header.{Header}
 use Rattle.krl_types.specs.Entry.{Entry}

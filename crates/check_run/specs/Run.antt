@@ -1,10 +1,10 @@
 -- A whole check: what it prints, and how it ends.
 use Rattle.std.specs.Prelude.{◌≡◌, ◌↔◌, ℕ, ◌||◌, Bool, true, false, List, [], ◌++◌, Option, Some}
 use Rattle.std.specs.Prelude.{None, Result, Ok, Err, OnOk, is_some}
-use Rattle.key_files.specs.RunFault.{RunFault}
-use Rattle.key_listing.specs.Printer.{Printer}
-use Rattle.key_listing.specs.Run.{Item}
-use Rattle.key_listing.specs.declared.done.Done.{Done}
+use Rattle.run_faults.specs.RunFault.{RunFault}
+use Rattle.run_output.specs.Printer.{Printer}
+use Rattle.run_output.specs.Run.{Item}
+use Rattle.run_output.specs.declared.done.Done.{Done}
 use Rattle.krl_arguments.specs.declared.task.Check.{Check}
 use Rattle.krl_format.specs.declared.header.Header.{Header}
 use Rattle.krl_types.specs.Entry.{Entry}

@@ -1,9 +1,9 @@
 -- The version of a list, printed alone.
 use Rattle.std.specs.Prelude.{◌≡◌, ℕ, Bool, false, List, [], ◌∷◌, ◌++◌, decimal, Option, Some, None}
 use Rattle.std.specs.Prelude.{Result, Ok, Err}
-use Rattle.key_listing.specs.Done.{Ends}
-use Rattle.key_listing.specs.Run.{said_of}
-use Rattle.key_listing.specs.declared.done.Done.{Done}
+use Rattle.run_output.specs.Done.{Ends}
+use Rattle.run_output.specs.Run.{said_of}
+use Rattle.run_output.specs.declared.done.Done.{Done}
 use Rattle.krl_audit.specs.declared.done.Stated.{Stated}
 use Rattle.check_run.specs.declared.limits.Unanswered.{Unanswered}
 use Rattle.check_run.specs.declared.limits.Unanswered.TheVariants as unanswered

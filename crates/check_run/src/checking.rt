@@ -10,12 +10,12 @@ use crate::host::Host;
 use crate::limits::Limits;
 use crate::lists::Given;
 use byte_streams::Sink;
-use key_files::RunFault;
-use key_listing::{Done, Printer, Run};
 use krl_arguments::Check;
 use krl_audit::Auditor;
 use krl_checker::Checker;
 use krl_checker::laws::nobody_is_named;
+use run_faults::RunFault;
+use run_output::{Done, Printer, Run};
 use std::alloc::Global;
 
 /// A list that was read, its limits, and the task.

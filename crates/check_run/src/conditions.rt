@@ -10,10 +10,10 @@ ghost use Rattle.any_list.specs.List.{IsReadList};
 use crate::limits::{AgeLimit, Limits};
 use crate::lists::{Given, Other, version_of};
 use byte_streams::Sink;
-use key_files::RunFault;
 use krl_audit::Stated;
 use krl_checker::{Checker, PlainRefusal};
 use krl_openssh::laws::read_lists_have_fields;
+use run_faults::RunFault;
 
 /// Checks that OpenSSH reads a list alike. A plain list that was read is read alike.
 pub(crate) fn check_format<'a, W: Sink>(

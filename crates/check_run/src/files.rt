@@ -8,9 +8,9 @@ ghost use Rattle.check_run.specs.Files.{ChecksFiles, files_of, named, named_all}
 
 use crate::host::Host;
 use byte_streams::Sink;
-use key_files::{Cause, RunFault};
 use krl_arguments::Check;
 use krl_checker::{Checker, Role};
+use run_faults::{Cause, RunFault};
 
 /// Checks the keys of the files that must not be revoked, and of those that must be.
 pub(crate) fn check_files<'a, H: Host, W: Sink>(

@@ -3,8 +3,8 @@
 ghost use Rattle.std.specs.Prelude.{IfOk};
 ghost use Rattle.check_run.specs.Fact.{Fact, FileOf, ListOf, Moment, content_read};
 
-use key_files::Cause;
 use krl_audit::Refusal;
+use run_faults::Cause;
 use ssh_wire::Bytes;
 use std::alloc::AllocError;
 

@@ -6,8 +6,8 @@ ghost use Rattle.check_run.specs.Lists.{version_of};
 
 use crate::host::Host;
 use any_list::{List as ReadList, read_list};
-use key_files::RunFault;
 use krl_audit::Stated;
+use run_faults::RunFault;
 use ssh_wire::Bytes;
 use std::alloc::Global;
 

@@ -10,9 +10,9 @@ use crate::limits::{Limits, Unanswered, age_limit};
 use crate::lists::{Given, read_file, read_other};
 use crate::version::print_version;
 use byte_streams::Sink;
-use key_files::RunFault;
-use key_listing::{Done, FAILED};
 use krl_arguments::Check;
+use run_faults::RunFault;
+use run_output::{Done, FAILED};
 use std::alloc::Global;
 
 /// Checks a list before it is put in force, or prints its version if the task says so. The list

@@ -1,17 +1,17 @@
 //! The version of a list, printed alone.
 
 ghost use Rattle.std.specs.Prelude.{◌≡◌, ◌∷◌, [], false};
-ghost use Rattle.key_listing.specs.Carries.{Carries};
-ghost use Rattle.key_listing.specs.Done.{Ends};
-ghost use Rattle.key_listing.specs.Run.{said_of};
+ghost use Rattle.run_output.specs.Carries.{Carries};
+ghost use Rattle.run_output.specs.Done.{Ends};
+ghost use Rattle.run_output.specs.Run.{said_of};
 ghost use Rattle.check_run.specs.Version.{PrintsVersion, version_text};
 
 use crate::limits::Unanswered;
 use crate::lists::Given;
 use byte_streams::Sink;
-use key_files::RunFault;
-use key_listing::{Done, Printer, Run};
 use line_pieces::put;
+use run_faults::RunFault;
+use run_output::{Done, Printer, Run};
 use std::alloc::Global;
 
 /// Prints the version of a list that was read, if it has one.

@@ -1,6 +1,6 @@
 -- The lines of standard error.
 use Rattle.std.specs.Prelude.{ℕ, false, List, ◌++◌, codes}
-use Rattle.key_files.specs.RunFault.{RunFault, cause_text, line_part}
+use Rattle.run_faults.specs.RunFault.{RunFault, cause_text, line_part}
 use Rattle.audit_run.specs.declared.run.Audited.{Audited}
 use Rattle.audit_run.specs.declared.run.Audited.TheVariants as ends
 use Rattle.krl_audit.specs.Visible.{visible}

@@ -1,7 +1,7 @@
 -- The result of reading a file.
 use Rattle.std.specs.Prelude.{◌≡◌, ℕ, ◌≤◌, ◌<◌, Bool, true, false, List, Option, Result, Ok, Err}
 use Rattle.std.specs.Io.KnownBytes.{IsAtEnd}
-use Rattle.key_files.specs.Named.{file_limit}
+use Rattle.run_faults.specs.Named.{file_limit}
 use Rattle.krl_audit.specs.declared.why.Refusal.{Refusal}
 use Rattle.krl_audit.specs.declared.why.Refusal.TheVariants.{Missing, Denied, Irregular, Loop}
 use Rattle.krl_audit.specs.declared.why.Refusal.TheVariants.{DirectoryLink, NoFile, LongName}

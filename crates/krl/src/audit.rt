@@ -9,9 +9,9 @@ use crate::loading::bytes_of;
 use crate::screen::{Screen, has_colours};
 use audit_run::{Given, Order, audit_run};
 use byte_streams::{FromRead, Source};
-use key_files::{Cause, FileFault, RunFault};
 use krl_arguments::Audit;
 use program_edge::stop;
+use run_faults::{Cause, FileFault, RunFault};
 use ssh_wire::Bytes;
 use std::fs::{self, File};
 

@@ -5,11 +5,11 @@ use crate::ending::fail_in_words;
 use crate::loading::{bytes_of, open, read};
 use byte_streams::{FromRead, ToWrite};
 use check_run::{Host, check_run};
-use key_files::Cause;
 use krl_arguments::Check;
 use krl_audit::Refusal;
 use krl_system::present;
 use program_edge::end;
+use run_faults::Cause;
 use ssh_wire::Bytes;
 use std::alloc::AllocError;
 

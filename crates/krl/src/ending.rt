@@ -1,7 +1,7 @@
 //! How a run ends: with a status, and a line that says why it stopped.
 
 ghost use Rattle.std.specs.Prelude.{◌≡◌, IfOk};
-ghost use Rattle.key_files.specs.RunFault.{line_part};
+ghost use Rattle.run_faults.specs.RunFault.{line_part};
 ghost use Rattle.krl_audit.specs.Causes.{cause_words};
 ghost use Rattle.krl.specs.Ending.{audit_status, fault_line, words_line};
 
@@ -9,11 +9,11 @@ use crate::Krl;
 use crate::loading::why_unopened;
 use audit_run::Audited;
 use audit_tree::{Summary, push_summary};
-use key_files::{Cause, FileFault, RunFault};
-use key_listing::FAILED;
 use krl_audit::{Visible, cause_words, refusal_words};
 use line_pieces::{Printed, Words, put};
 use program_edge::{end, print_line, stop};
+use run_faults::{Cause, FileFault, RunFault};
+use run_output::FAILED;
 use std::alloc::{AllocError, Global};
 
 // Why no audit is made by a list whose authorities OpenSSH compares otherwise.

@@ -6,9 +6,9 @@ ghost use Rattle.std.specs.Io.KnownBytes.{Consumes};
 ghost use Rattle.krl.specs.Loading.{IsRead};
 
 use byte_streams::{FromRead, Pull, Source};
-use key_files::{Cause, FileFault, LIMIT, cause_of};
 use krl_audit::Refusal;
 use krl_core::{KrlFault, LIMIT as LIST_LIMIT};
+use run_faults::{Cause, FileFault, LIMIT, cause_of};
 use ssh_wire::Bytes;
 use std::alloc::AllocError;
 use std::fs::{self, File};

@@ -13,10 +13,10 @@ use crate::audit::audit;
 use crate::check::check;
 use crate::ending::{fault_line, reason_of};
 use crate::show::show;
-use key_files::RunFault;
 use krl_arguments::{Task, task_of};
 use option_table::CommandFault;
 use program_edge::{Lines, Program, refuse, run};
+use run_faults::RunFault;
 use std::alloc::AllocError;
 use std::process::ExitCode;
 

@@ -3,10 +3,10 @@
 use crate::Krl;
 use crate::loading::bytes_of;
 use byte_streams::ToWrite;
-use key_files::Cause;
 use krl_arguments::Show;
 use list_text::Form;
 use program_edge::end;
+use run_faults::Cause;
 use show_run::{Lists, show_run};
 use ssh_wire::Bytes;
 use std::alloc::Global;

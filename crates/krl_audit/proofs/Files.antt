@@ -6,11 +6,11 @@ use Rattle.std.specs.List.{slice_split}
 use Rattle.std.proofs.lemmas.List.Splits.{length-slice_split}
 use Rattle.key_text.specs.Armour.{begins_container}
 use Rattle.key_text.specs.Lines.{is_newline}
-use Rattle.key_files.specs.RunFault.{RunFault, run_fault_of}
-use Rattle.key_files.specs.declared.cause.Cause.TheVariants as causes
-use Rattle.key_listing.specs.Carries.{Carries}
-use Rattle.key_listing.specs.Printer.{Printer}
-use Rattle.key_listing.proofs.RunParts.{carries_more, carries_then}
+use Rattle.run_faults.specs.RunFault.{RunFault, run_fault_of}
+use Rattle.run_faults.specs.declared.cause.Cause.TheVariants as causes
+use Rattle.run_output.specs.Carries.{Carries}
+use Rattle.run_output.specs.Printer.{Printer}
+use Rattle.run_output.proofs.RunParts.{carries_more, carries_then}
 use Rattle.krl_types.specs.Subject.{Subject}
 use Rattle.krl_entries.specs.declared.reasons.Reasons.{Reasons}
 use Rattle.krl_audit.specs.Audit.{Told, ToldFile, file_items, file_kinds, file_lines, keyless, lines_items, or_whole, rest_items, text_lines, unread_all, whole}

@@ -5,12 +5,12 @@ use Rattle.std.specs.Result.{result_err}
 use Rattle.std.proofs.lemmas.Bool.{and_parts}
 use Rattle.krl_types.specs.Subject.{Subject}
 use Rattle.krl_entries.specs.declared.reasons.Reasons.{Reasons}
-use Rattle.key_files.specs.RunFault.{RunFault, run_fault_of}
-use Rattle.key_files.specs.declared.cause.Cause.TheVariants as causes
-use Rattle.key_listing.specs.Carries.{Carries}
-use Rattle.key_listing.specs.Printer.{Printer}
-use Rattle.key_listing.specs.Run.{Item, name_of, said_of}
-use Rattle.key_listing.proofs.RunParts.{carries_as, carries_more, carries_none, carries_passed, carries_then, carries_withheld}
+use Rattle.run_faults.specs.RunFault.{RunFault, run_fault_of}
+use Rattle.run_faults.specs.declared.cause.Cause.TheVariants as causes
+use Rattle.run_output.specs.Carries.{Carries}
+use Rattle.run_output.specs.Printer.{Printer}
+use Rattle.run_output.specs.Run.{Item, name_of, said_of}
+use Rattle.run_output.proofs.RunParts.{carries_as, carries_more, carries_none, carries_passed, carries_then, carries_withheld}
 use Rattle.krl_audit.specs.Audit.{IsMade, SaysLine, Told, is_beyond, is_unread, item_if, kind_of, kinds_of, line_item, lines_items, most_unread, outcome_line, rest_if, rest_items, said_if, says, unread_after, unread_all}
 use Rattle.krl_audit.specs.Counts.{all_counted, counted, one_more}
 use Rattle.krl_audit.specs.Outcome.{Empty, Key, Outcome, Placed, Unread, place}

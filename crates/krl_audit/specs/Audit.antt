@@ -8,11 +8,11 @@ use Rattle.key_text.specs.declared.marker.Marker.TheVariants as markers
 use Rattle.krl_types.specs.Subject.{Subject}
 use Rattle.krl_entries.specs.Reasons.{any_reason, held_reasons}
 use Rattle.krl_entries.specs.declared.reasons.Reasons.{Reasons}
-use Rattle.key_files.specs.RunFault.{RunFault}
-use Rattle.key_listing.specs.Carries.{Carries}
-use Rattle.key_listing.specs.Done.{EndsWith}
-use Rattle.key_listing.specs.Printer.{Printer}
-use Rattle.key_listing.specs.Run.{Item, Passed, said_of}
+use Rattle.run_faults.specs.RunFault.{RunFault}
+use Rattle.run_output.specs.Carries.{Carries}
+use Rattle.run_output.specs.Done.{EndsWith}
+use Rattle.run_output.specs.Printer.{Printer}
+use Rattle.run_output.specs.Run.{Item, Passed, said_of}
 use Rattle.key_text.specs.Armour.{begins_container}
 use Rattle.krl_audit.specs.Counts.{all_counted, audit_status, one_more}
 use Rattle.krl_audit.specs.Front.{fronts_of}

@@ -3,10 +3,10 @@ use Rattle.std.specs.Prelude.{ℕ, List, codes}
 use Rattle.krl_types.specs.declared.krl_fault.KrlFault.{KrlFault}
 use Rattle.krl_types.specs.declared.krl_fault.KrlFault.TheVariants as lists
 use Rattle.keyed_lines.specs.declared.key_cause.KeyCause.TheVariants as keys
-use Rattle.key_files.specs.declared.cause.Cause.{Cause}
-use Rattle.key_files.specs.declared.cause.Cause.TheVariants as causes
-use Rattle.key_files.specs.declared.file_fault.FileFault.{FileFault}
-use Rattle.key_files.specs.declared.file_fault.FileFault.TheVariants as files
+use Rattle.run_faults.specs.declared.cause.Cause.{Cause}
+use Rattle.run_faults.specs.declared.cause.Cause.TheVariants as causes
+use Rattle.run_faults.specs.declared.file_fault.FileFault.{FileFault}
+use Rattle.run_faults.specs.declared.file_fault.FileFault.TheVariants as files
 use Rattle.krl_audit.specs.Why.{line_why}
 
 abbrev pub file_words : FileFault → List ℕ

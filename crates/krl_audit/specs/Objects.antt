@@ -6,9 +6,9 @@ use Rattle.json.specs.Json.{Json}
 use Rattle.json_lines.specs.Field.{Field, array_of, digits_field, field, number_field, object_of}
 use Rattle.json_lines.specs.Field.{text_field, word_field}
 use Rattle.cert_listing.specs.Time.{instant_text}
-use Rattle.key_files.specs.FileFault.{file_fault_text}
-use Rattle.key_files.specs.declared.file_fault.FileFault.{FileFault}
-use Rattle.key_files.specs.declared.file_fault.FileFault.TheVariants as files
+use Rattle.run_faults.specs.FileFault.{file_fault_text}
+use Rattle.run_faults.specs.declared.file_fault.FileFault.{FileFault}
+use Rattle.run_faults.specs.declared.file_fault.FileFault.TheVariants as files
 use Rattle.key_text.specs.Fingerprints.{fingerprint_text}
 use Rattle.key_text.specs.Marker.{marker_word}
 use Rattle.key_text.specs.PrivateFault.{private_fault_text}

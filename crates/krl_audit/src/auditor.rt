@@ -4,8 +4,8 @@ ghost use Rattle.std.specs.Prelude.{◌≡◌, ◌∷◌, ◌+◌, ◌<◌, ◌^
 ghost use Rattle.std.specs.Prelude.{length};
 ghost use Rattle.std.specs.List.{slice_split};
 ghost use Rattle.key_text.specs.Lines.{is_newline, lines_left};
-ghost use Rattle.key_listing.specs.Carries.{Carries, Reaches};
-ghost use Rattle.key_listing.specs.Run.{Item, said_of};
+ghost use Rattle.run_output.specs.Carries.{Carries, Reaches};
+ghost use Rattle.run_output.specs.Run.{Item, said_of};
 ghost use Rattle.json_lines.specs.Field.{json_line};
 ghost use Rattle.krl_types.specs.Subject.{Subject as SubjectOf};
 ghost use Rattle.krl_types.specs.Entry.{Entry};
@@ -33,9 +33,9 @@ use crate::text::Location;
 use crate::unread::{MOST_UNREAD, is_beyond, unread_after};
 use crate::why::{Refusal, Why};
 use byte_streams::Sink;
-use key_files::{Cause, RunFault};
-use key_listing::{Done, Run};
 use key_text::{Private, before_ending, is_container, split_line};
+use run_faults::{Cause, RunFault};
+use run_output::{Done, Run};
 
 // The byte order mark of UTF-8.
 const ORDER_MARK: &[u8] = b"\xef\xbb\xbf";

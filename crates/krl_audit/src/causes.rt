@@ -4,8 +4,8 @@ ghost use Rattle.std.specs.Prelude.{◌≡◌};
 ghost use Rattle.krl_audit.specs.Causes.{cause_words, file_words, krl_words};
 
 use crate::why::line_why;
-use key_files::{Cause, FileFault, KeyCause};
 use krl_types::KrlFault;
+use run_faults::{Cause, FileFault, KeyCause};
 
 /// Why a run stops at a file, in words. Where the file is not opened, `refusal_words` says more.
 pub fn cause_words(cause: Cause) -> &'static [u8]

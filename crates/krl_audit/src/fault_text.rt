@@ -4,7 +4,7 @@ ghost use Rattle.std.specs.Prelude.{◌≡◌, IfOk, string_bytes};
 ghost use Rattle.krl_audit.specs.Objects.{refusal_fault, why_fault};
 
 use crate::why::{Refusal, Why};
-use key_files::FileFault;
+use run_faults::FileFault;
 use std::alloc::{AllocError, Global};
 
 /// The fault, by its family, its number and its name. Lines that are only counted have none.

@@ -11,11 +11,11 @@ ghost use Rattle.krl_audit.specs.Outcome.{Outcome as OutcomeOf, outcomes_of, par
 
 use crate::front::{Fronts, front_before};
 use crate::why::Why;
-use key_files::KeyCause;
 use key_text::{
     LineFault, Marker, Private, PrivateFault, after_blanks, before_ending, has_key, host_part,
     key_part, read_part, read_private, read_public_half, split_marker,
 };
+use run_faults::KeyCause;
 use ssh_cert::{SubjectFault, read_any};
 use ssh_wire::Bytes;
 use std::alloc::{AllocError, Global};

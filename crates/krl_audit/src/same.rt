@@ -2,7 +2,7 @@
 
 ghost use Rattle.std.specs.Prelude.{◌≡◌, ◌∷◌, ◌++◌, [], OnOk};
 ghost use Rattle.json_lines.specs.Field.{fields_tokens, json_line};
-ghost use Rattle.key_listing.specs.Carries.{Carries};
+ghost use Rattle.run_output.specs.Carries.{Carries};
 ghost use Rattle.krl_audit.specs.Audit.{said_if};
 ghost use Rattle.krl_audit.specs.Same.{same_fields, same_line, same_object, same_said};
 
@@ -11,8 +11,8 @@ use crate::judge::Form;
 use crate::visible::Visible;
 use byte_streams::Sink;
 use json_lines::{LineWriter, put_word};
-use key_files::{Cause, RunFault};
 use line_pieces::put;
+use run_faults::{Cause, RunFault};
 use std::alloc::{AllocError, Global};
 
 impl<'q, 'w, W: Sink> Auditor<'q, 'w, W> {

@@ -3,9 +3,9 @@
 ghost use Rattle.std.specs.Prelude.{◌≡◌};
 ghost use Rattle.krl_audit.specs.Why.{line_why, more_words, refusal_why, why_text};
 
-use key_files::KeyCause;
 use key_text::{LineFault, PrivateFault};
 use line_pieces::{Printed, Words, put};
+use run_faults::KeyCause;
 use std::alloc::{AllocError, Global};
 
 /// Why a file is not read.

@@ -1,10 +1,10 @@
 -- A check uses exactly the counts of the audit of a file.
 use Rattle.std.proofs.Common.{◌≡◌, ℕ, ◌||◌, Bool, true, not, List, [], ◌∷◌, Result, Ok, Err, sym, ap, subst, ◌∙◌}
 use Rattle.std.specs.Prelude.{OnOk}
-use Rattle.key_files.specs.RunFault.{RunFault}
-use Rattle.key_listing.specs.Carries.{Carries}
-use Rattle.key_listing.specs.Printer.{Printer}
-use Rattle.key_listing.proofs.RunParts.{carries_more, carries_passed, carries_then}
+use Rattle.run_faults.specs.RunFault.{RunFault}
+use Rattle.run_output.specs.Carries.{Carries}
+use Rattle.run_output.specs.Printer.{Printer}
+use Rattle.run_output.proofs.RunParts.{carries_more, carries_passed, carries_then}
 use Rattle.krl_types.specs.Subject.{Subject}
 use Rattle.krl_entries.specs.declared.reasons.Reasons.{Reasons}
 use Rattle.krl_audit.specs.Audit.{ToldFile, file_items, said_if}

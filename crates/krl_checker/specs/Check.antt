@@ -2,11 +2,11 @@
 use Rattle.std.specs.Prelude.{◌≡◌, ℕ, ◌||◌, nat_lt, not, Bool, true, false, List, [], ◌∷◌, ◌++◌}
 use Rattle.std.specs.Prelude.{◌-◌, ◌==◌, ◌&&◌, nat_le, length, is_some, OnOk, Option, Some, None}
 use Rattle.std.specs.Prelude.{Result, Ok, Err}
-use Rattle.key_files.specs.RunFault.{RunFault}
-use Rattle.key_listing.specs.Carries.{Carries}
-use Rattle.key_listing.specs.Done.{Ends}
-use Rattle.key_listing.specs.Printer.{Printer}
-use Rattle.key_listing.specs.Run.{Item, said_of}
+use Rattle.run_faults.specs.RunFault.{RunFault}
+use Rattle.run_output.specs.Carries.{Carries}
+use Rattle.run_output.specs.Done.{Ends}
+use Rattle.run_output.specs.Printer.{Printer}
+use Rattle.run_output.specs.Run.{Item, said_of}
 use Rattle.krl_types.specs.Entry.{Entry}
 use Rattle.krl_types.specs.Naming.{Name, SomeNames}
 use Rattle.krl_types.specs.Subject.{Subject}

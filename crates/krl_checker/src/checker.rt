@@ -2,8 +2,8 @@
 
 ghost use Rattle.std.specs.Prelude.{◌≡◌, ◌∷◌, [], ◌||◌, nat_lt, not, true, ℕ, List, Option, OnOk};
 ghost use Rattle.std.specs.Prelude.{IfOk, None, false, is_err, is_some};
-ghost use Rattle.key_listing.specs.Carries.{Carries, Reaches};
-ghost use Rattle.key_listing.specs.Run.{Item, said_of};
+ghost use Rattle.run_output.specs.Carries.{Carries, Reaches};
+ghost use Rattle.run_output.specs.Run.{Item, said_of};
 ghost use Rattle.krl_format.specs.Front.{IsFirstKrlFault, start};
 ghost use Rattle.krl_types.specs.Entry.{Entry};
 ghost use Rattle.krl_entries.specs.Reasons.{reasons_of};
@@ -23,12 +23,12 @@ use crate::text::{
     write_age, write_difference, write_empty, write_file, write_plain, write_version,
 };
 use byte_streams::Sink;
-use key_files::{Cause, RunFault};
-use key_listing::{Done, Printer, Run};
 use krl_audit::{Auditor, Counts, Judge, Refusal, keyless_lines};
 use krl_entries::Revocations;
 use krl_openssh::first_difference;
 use krl_openssh::laws::read_lists_have_fields;
+use run_faults::{Cause, RunFault};
+use run_output::{Done, Printer, Run};
 use span_sets::Held;
 use std::alloc::{AllocError, Global};
 

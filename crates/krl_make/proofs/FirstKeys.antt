@@ -26,10 +26,10 @@ use Rattle.krl_make.proofs.LineBytes.{lines_bytes}
 use Rattle.keyed_lines.specs.Keys.{IsKeyFault, IsSubjectLine, subject_in}
 use Rattle.keyed_lines.specs.declared.key_cause.KeyCause.{KeyCause}
 use Rattle.keyed_lines.specs.declared.key_cause.KeyCause.TheVariants as keys
-use Rattle.key_files.specs.Keys.{key_of_container, key_in, keys_from, key_of_line, run_fault_at}
-use Rattle.key_files.specs.RunFault.{RunFault, run_fault_of}
-use Rattle.key_files.specs.declared.file_fault.FileFault.TheVariants as files
-use Rattle.key_files.specs.declared.cause.Cause.TheVariants as causes
+use Rattle.run_faults.specs.Keys.{key_of_container, key_in, keys_from, key_of_line, run_fault_at}
+use Rattle.run_faults.specs.RunFault.{RunFault, run_fault_of}
+use Rattle.run_faults.specs.declared.file_fault.FileFault.TheVariants as files
+use Rattle.run_faults.specs.declared.cause.Cause.TheVariants as causes
 use Rattle.krl_make.specs.FirstKey.{HaveNoKey, IsFirstKey, IsFirstKeyFault, IsFirstKeyLine, in_container, in_line, of_container, of_line, without_key}
 use Rattle.krl_make.specs.Making.{file_run_fault, first_blob, first_key_of, key_blob}
 

@@ -9,10 +9,10 @@ use Rattle.key_text.specs.Lines.{is_newline}
 use Rattle.key_text.specs.declared.private_fault.PrivateFault.{PrivateFault}
 use Rattle.keyed_lines.specs.Keys.{IsKeyFault, IsSubjectLine}
 use Rattle.keyed_lines.specs.declared.key_cause.KeyCause.{KeyCause}
-use Rattle.key_files.specs.Keys.{run_fault_at}
-use Rattle.key_files.specs.RunFault.{RunFault, run_fault_of}
-use Rattle.key_files.specs.declared.file_fault.FileFault.TheVariants as files
-use Rattle.key_files.specs.declared.cause.Cause.TheVariants as causes
+use Rattle.run_faults.specs.Keys.{run_fault_at}
+use Rattle.run_faults.specs.RunFault.{RunFault, run_fault_of}
+use Rattle.run_faults.specs.declared.file_fault.FileFault.TheVariants as files
+use Rattle.run_faults.specs.declared.cause.Cause.TheVariants as causes
 
 -- no line has a key
 abbrev pub HaveNoKey : List (List ℕ) → Type 0

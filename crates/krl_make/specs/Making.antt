@@ -20,18 +20,18 @@ use Rattle.ssh_cert.specs.SubjectReading.{subject_of}
 use Rattle.krl_job.specs.declared.job.AuthorityOption.{AuthorityOption}
 use Rattle.krl_job.specs.declared.job.AuthorityOption.TheVariants.{NotGiven, All, File as FileOf}
 use Rattle.krl_make.specs.declared.base.Base.{Base}
-use Rattle.key_files.specs.declared.file_fault.FileFault.{FileFault}
-use Rattle.key_files.specs.declared.file_fault.FileFault.TheVariants as files
-use Rattle.key_files.specs.declared.cause.Cause.TheVariants as causes
+use Rattle.run_faults.specs.declared.file_fault.FileFault.{FileFault}
+use Rattle.run_faults.specs.declared.file_fault.FileFault.TheVariants as files
+use Rattle.run_faults.specs.declared.cause.Cause.TheVariants as causes
 use Rattle.krl_entries.specs.Changes.{MeansMore}
-use Rattle.key_files.specs.declared.spec_cause.SpecCause.{SpecCause}
-use Rattle.key_files.specs.declared.spec_cause.SpecCause.TheVariants as specs
+use Rattle.run_faults.specs.declared.spec_cause.SpecCause.{SpecCause}
+use Rattle.run_faults.specs.declared.spec_cause.SpecCause.TheVariants as specs
 use Rattle.krl_spec.specs.declared.spec_fault.SpecFault.{SpecFault}
-use Rattle.key_files.specs.RunFault.{krl_cause}
-use Rattle.key_files.specs.Keys.{Named, FileKey, run_fault_at, run_fault_in, text_keys}
+use Rattle.run_faults.specs.RunFault.{krl_cause}
+use Rattle.run_faults.specs.Keys.{Named, FileKey, run_fault_at, run_fault_in, text_keys}
 use Rattle.krl_spec.specs.Lines.{lines_of}
-use Rattle.key_files.specs.RunFault.{RunFault, EndedBy, ByInput, ByMemory, ByOutput, ended_by}
-use Rattle.key_files.specs.RunFault.{run_fault_of}
+use Rattle.run_faults.specs.RunFault.{RunFault, EndedBy, ByInput, ByMemory, ByOutput, ended_by}
+use Rattle.run_faults.specs.RunFault.{run_fault_of}
 
 -- ---- faults of the run
 

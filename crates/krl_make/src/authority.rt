@@ -3,7 +3,7 @@
 ghost use Rattle.std.specs.Prelude.{◌≡◌};
 ghost use Rattle.krl_make.specs.Making.{Returns, file_key, key_blob};
 
-use key_files::{Cause, FileFault, FileKey, Named, RunFault, keys_of};
+use run_faults::{Cause, FileFault, FileKey, Named, RunFault, keys_of};
 use ssh_key::plain_blob;
 use ssh_wire::Bytes;
 use std::alloc::Global;

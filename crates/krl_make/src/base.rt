@@ -5,13 +5,13 @@ ghost use Rattle.std.specs.Option.{ForSome};
 ghost use Rattle.krl_types.specs.declared.krl_fault.KrlFault.{KrlFault as FaultOf};
 ghost use Rattle.krl_entries.specs.Revocations.{Means, nothing};
 ghost use Rattle.krl_make.specs.Making.{IsBaseRead, base_of, new_base, version_of};
-ghost use Rattle.key_files.specs.RunFault.{krl_cause};
-ghost use Rattle.key_files.specs.RunFault.{run_fault_of};
+ghost use Rattle.run_faults.specs.RunFault.{krl_cause};
+ghost use Rattle.run_faults.specs.RunFault.{run_fault_of};
 ghost use Rattle.krl_make.specs.declared.base.Base.{Base as BaseOf};
 
 use byte_streams::Source;
-use key_files::{RunFault, cause_of};
 use krl_core::{Header, Revocations, read_krl};
+use run_faults::{RunFault, cause_of};
 use span_sets::Held;
 use ssh_wire::Bytes;
 use std::alloc::Global;

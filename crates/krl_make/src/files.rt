@@ -5,9 +5,9 @@ ghost use Rattle.krl_make.specs.Making.{AddsFiles, IsCurrentFile, cause_run_faul
 ghost use Rattle.krl_make.specs.Making.{files_entries, text_entries};
 ghost use Rattle.krl_spec.specs.Under.{authority_under};
 
-use key_files::{Cause, Named, RunFault};
 use krl_core::Revocations;
 use krl_spec::{SpecCause, SpecFault, Under, read_spec};
+use run_faults::{Cause, Named, RunFault};
 use serial_set::Spans;
 use std::alloc::Global;
 

@@ -3,13 +3,13 @@
 
 ghost use Rattle.std.specs.Prelude.{◌≡◌, ◌≤◌, ◌↔◌, ℕ, List, Err, Ok, Option, length};
 ghost use Rattle.krl_entries.specs.Revocations.{Revocations, held};
-ghost use Rattle.key_files.specs.Keys.{Named};
+ghost use Rattle.run_faults.specs.Keys.{Named};
 ghost use Rattle.krl_job.specs.declared.job.AuthorityOption.{AuthorityOption};
 ghost use Rattle.krl_make.specs.declared.base.Base.{Base};
 ghost use Rattle.krl_make.specs.FirstKey.{IsFirstKey, IsFirstKeyFault};
 ghost use Rattle.krl_make.specs.Making.{HoldsMore, IsOldList, Made, first_key_of};
 ghost use Rattle.krl_make.specs.Making.{make_run_of, paid};
-ghost use Rattle.key_files.specs.RunFault.{RunFault};
+ghost use Rattle.run_faults.specs.RunFault.{RunFault};
 ghost use Rattle.ssh_wire.specs.Wire.{IsBytes};
 
 use key_text::laws::{private_read_where_spelled, private_refused_by_first_fault};

@@ -12,10 +12,10 @@ use crate::authority::{AuthorityOption, first_key};
 use crate::base::{Base, next_version, read_base};
 use crate::files::add_files;
 use byte_streams::Source;
-use key_files::{Cause, Named, RunFault};
 use krl_core::{Header, Revocations};
 use krl_spec::Under;
 use krl_writer::{TextFault, krl_text};
+use run_faults::{Cause, Named, RunFault};
 use span_sets::Held;
 use std::alloc::Global;
 

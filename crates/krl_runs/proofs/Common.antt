@@ -4,16 +4,16 @@ pub use Rattle.std.proofs.Common.{ap, append_assoc, ap₂, arith, Bool, drop, dr
 pub use Rattle.std.proofs.Common.{flat_map, get_or, IfOk, inl, inr, IsErr, length, List, map, None}
 pub use Rattle.std.proofs.Common.{Ok, Option, refl, Result, slice_index_or, Some, subst, sym, take}
 pub use Rattle.std.proofs.Common.{take-append-drop, true, ℕ}
-pub use Rattle.key_files.specs.Keys.{FileKey, GivesKey, IsRefused, keys_of, Named}
-pub use Rattle.key_files.specs.RunFault.{ended_by, krl_cause, run_fault_of, RunFault}
-pub use Rattle.key_files.specs.Sizes.{blob_room, file_size, files_size, key_room, keys_room}
-pub use Rattle.key_listing.proofs.RunParts.{carries_more, carries_none, carries_passed}
-pub use Rattle.key_listing.proofs.RunParts.{carries_then, carries_withheld}
-pub use Rattle.key_listing.specs.Expected.{AreExpected}
-pub use Rattle.key_listing.specs.Run.{before, file_key_item, is_answered, Item, key_item}
-pub use Rattle.key_listing.specs.Run.{outcome_of, Passed, RunOutcome, said, said_of, Stopped}
-pub use Rattle.key_listing.specs.Run.{subject_item, unanswered_of}
-unfoldable pub use Rattle.key_listing.specs.Run.{file_items, files_items}
+pub use Rattle.run_faults.specs.Keys.{FileKey, GivesKey, IsRefused, keys_of, Named}
+pub use Rattle.run_faults.specs.RunFault.{ended_by, krl_cause, run_fault_of, RunFault}
+pub use Rattle.run_faults.specs.Sizes.{blob_room, file_size, files_size, key_room, keys_room}
+pub use Rattle.run_output.proofs.RunParts.{carries_more, carries_none, carries_passed}
+pub use Rattle.run_output.proofs.RunParts.{carries_then, carries_withheld}
+pub use Rattle.run_output.specs.Expected.{AreExpected}
+pub use Rattle.run_output.specs.Run.{before, file_key_item, is_answered, Item, key_item}
+pub use Rattle.run_output.specs.Run.{outcome_of, Passed, RunOutcome, said, said_of, Stopped}
+pub use Rattle.run_output.specs.Run.{subject_item, unanswered_of}
+unfoldable pub use Rattle.run_output.specs.Run.{file_items, files_items}
 pub use Rattle.krl_format.specs.Entries.{entries_of}
 pub use Rattle.krl_format.specs.declared.header.Header.{Header}
 pub use Rattle.krl_queries.specs.Questions.{Asks, AsksMore, HasCert, names_size}

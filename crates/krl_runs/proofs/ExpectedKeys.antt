@@ -8,12 +8,12 @@ use Rattle.std.proofs.lemmas.Bool.{cases_lt}
 use Rattle.std.proofs.lemmas.List.{get_or_default}
 use Rattle.ssh_cert.specs.SubjectReading.{subject_of}
 use Rattle.ssh_cert.specs.declared.subject_fault.SubjectFault.{SubjectFault}
-use Rattle.key_files.specs.declared.cause.Cause.{Cause}
+use Rattle.run_faults.specs.declared.cause.Cause.{Cause}
 use Rattle.krl_types.specs.Naming.{IdOf, KeyOf, Name, SerialOf, Sha1Of, Sha256Of}
 use Rattle.krl_entries.specs.Reasons.{name_asked}
 use Rattle.krl_queries.specs.Questions.{EachName, IsAsked}
 use Rattle.std.proofs.Math.Logic.{⊎_map}
-use Rattle.key_files.specs.declared.cause.Cause.TheVariants as causes
+use Rattle.run_faults.specs.declared.cause.Cause.TheVariants as causes
 
 -- so is a fault of the file
 pub fault_expected : (Expected : Subject → Type 0) (next : Result FileKey RunFault) (stop : RunFault) (keys : List (Result FileKey RunFault)) → GivesKey next (Err stop) → stop.cause ≢ causes.NoMemory → AreExpected Expected (next ∷ keys)

@@ -20,9 +20,9 @@ use Rattle.krl_format.specs.Faults.{Says}
 use Rattle.krl_entries.proofs.ReasonTests.{meant_tested}
 use Rattle.krl_queries.proofs.FoundReasons.{found_tested}
 use Rattle.krl_types.specs.declared.krl_fault.KrlFault.{KrlFault}
-use Rattle.key_listing.specs.Carries.{Carries}
-use Rattle.key_listing.specs.Printer.{Printer}
-use Rattle.key_files.specs.declared.cause.Cause.TheVariants as causes
+use Rattle.run_output.specs.Carries.{Carries}
+use Rattle.run_output.specs.Printer.{Printer}
+use Rattle.run_faults.specs.declared.cause.Cause.TheVariants as causes
 use Rattle.krl_entries.specs.Reasons.{is_revoked as is_named}
 use Rattle.krl_types.specs.declared.krl_fault.KrlFault.TheVariants as faults
 

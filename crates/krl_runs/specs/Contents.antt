@@ -14,8 +14,8 @@ use Rattle.krl_entries.specs.Revocations.{Revocations, Section}
 use Rattle.krl_format.specs.declared.header.Header.{Header}
 use Rattle.krl_format.specs.declared.section.ItemKind.{ItemKind}
 use Rattle.krl_format.specs.declared.section.ItemKind.TheVariants as kinds
-use Rattle.key_listing.specs.Run.{Item}
-use Rattle.key_listing.specs.Run.{said_of}
+use Rattle.run_output.specs.Run.{Item}
+use Rattle.run_output.specs.Run.{said_of}
 
 -- A list that was read: its header, and its stored entries.
 pub record Known : Type 0 where

@@ -15,15 +15,15 @@ use Rattle.krl_entries.specs.Revoked.{Revoked}
 use Rattle.krl_types.specs.declared.krl_fault.KrlFault.{KrlFault}
 use Rattle.krl_types.specs.Subject.{Subject}
 use Rattle.key_text.specs.LineReading.{KeyLine}
-use Rattle.key_listing.specs.declared.answer.Answer.{Answer}
-use Rattle.key_files.specs.declared.file_fault.FileFault.TheVariants as files
+use Rattle.run_output.specs.declared.answer.Answer.{Answer}
+use Rattle.run_faults.specs.declared.file_fault.FileFault.TheVariants as files
 use Rattle.ssh_cert.specs.Escape.{escaped}
 use Rattle.krl_runs.specs.Contents.{Known, all_said, known_lines}
 use Rattle.krl_runs.specs.declared.query.Query.{Query}
 use Rattle.krl_runs.specs.declared.query.Query.TheVariants.{Stored, Streamed}
-use Rattle.key_files.specs.Keys.{Named}
-use Rattle.key_listing.specs.Run.{Answering, Item, Passed, Stopped, files_items}
-use Rattle.key_files.specs.RunFault.{krl_cause, run_fault_of}
+use Rattle.run_faults.specs.Keys.{Named}
+use Rattle.run_output.specs.Run.{Answering, Item, Passed, Stopped, files_items}
+use Rattle.run_faults.specs.RunFault.{krl_cause, run_fault_of}
 
 -- a comment after a file's name, if there is one
 abbrev pub comment_part : List ℕ → List ℕ

@@ -1,7 +1,7 @@
 //! Printing the contents of a list (ssh-keygen(1), options -Q and -l).
 
 ghost use Rattle.std.specs.Prelude.{map};
-ghost use Rattle.key_listing.specs.Carries.{Carries};
+ghost use Rattle.run_output.specs.Carries.{Carries};
 ghost use Rattle.krl_runs.specs.Contents.{all_said, comment_lines, contents_lines, fact_line};
 ghost use Rattle.krl_runs.specs.Contents.{header_lines, known_lines, known_of, section_lines};
 ghost use Rattle.krl_runs.specs.Contents.{serials_line};
@@ -14,10 +14,10 @@ use crate::contents::lines::{
     write_authority, write_comment, write_date, write_serials, write_version,
 };
 use byte_streams::Sink;
-use key_files::RunFault;
-use key_listing::Run;
 use krl_core::{Header, Listed, Revocations, Texts};
 use krl_format::ItemKind;
+use run_faults::RunFault;
+use run_output::Run;
 use serial_set::{Span, Spans};
 
 /// Prints the contents of a list: a line for each fact of its header, and then each authority with

@@ -9,8 +9,8 @@ ghost use Rattle.krl_core.specs.Reading.{IsReadAs};
 ghost use Rattle.krl_runs.specs.Contents.{Known, dump_text};
 ghost use Rattle.krl_runs.specs.Query.{HasEntries, IsHeld, IsRead, ask, ask_by, asked_run_of};
 ghost use Rattle.krl_runs.specs.Query.{query_run_of};
-ghost use Rattle.key_files.specs.Keys.{Named};
-ghost use Rattle.key_listing.specs.Run.{before, files_items, outcome_of};
+ghost use Rattle.run_faults.specs.Keys.{Named};
+ghost use Rattle.run_output.specs.Run.{before, files_items, outcome_of};
 
 use krl_entries::laws::entries_decide_what_is_held;
 use krl_format::laws::{one_first_fault, one_spelling};

@@ -3,21 +3,21 @@
 ghost use Rattle.std.specs.Prelude.{◌≡◌, ◌++◌, IfOk, List, Ok, Result, OnOk, false};
 ghost use Rattle.krl_entries.specs.Reasons.{revokes};
 ghost use Rattle.krl_types.specs.declared.krl_fault.KrlFault.{KrlFault as FaultOf};
-ghost use Rattle.key_listing.specs.Carries.{Carries};
+ghost use Rattle.run_output.specs.Carries.{Carries};
 ghost use Rattle.krl_runs.specs.Contents.{Known as KnownOf, known_of};
-ghost use Rattle.key_listing.specs.Done.{Ends};
+ghost use Rattle.run_output.specs.Done.{Ends};
 ghost use Rattle.krl_runs.specs.Query.{AnswersAbout, IsFor, IsListRead, IsRun, comment_part};
 ghost use Rattle.krl_runs.specs.Query.{entries_for, query_line, query_run_of, verdict};
-ghost use Rattle.key_listing.specs.Run.{Item as ItemOf};
+ghost use Rattle.run_output.specs.Run.{Item as ItemOf};
 
 use crate::contents::print_contents;
 use crate::streaming::ask_streamed;
 use byte_streams::{Sink, Source};
-use key_files::{FileFault, FileKey, Named, RunFault, cause_of};
-use key_listing::{Answer, Answers, Done, Printer, Run, print_files};
 use krl_core::{Header, Revocations, read_krl};
 use krl_queries::Questions;
 use krl_types::Subject;
+use run_faults::{FileFault, FileKey, Named, RunFault, cause_of};
+use run_output::{Answer, Answers, Done, Printer, Run, print_files};
 use span_sets::Held;
 use ssh_cert::{AnyKey, push_escaped};
 use ssh_wire::Bytes;

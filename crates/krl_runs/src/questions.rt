@@ -3,16 +3,16 @@
 ghost use Rattle.std.specs.Prelude.{◌≡◌, ◌≢◌, ◌*◌, IfOk, OnOk, false};
 ghost use Rattle.std.specs.Result.{IsErr};
 ghost use Rattle.ssh_cert.specs.SubjectReading.{subject_of};
-ghost use Rattle.key_files.specs.Keys.{keys_of};
-ghost use Rattle.key_files.specs.Sizes.{blob_room, file_size, files_size};
-ghost use Rattle.key_files.specs.declared.cause.Cause.TheVariants.{NoMemory};
+ghost use Rattle.run_faults.specs.Keys.{keys_of};
+ghost use Rattle.run_faults.specs.Sizes.{blob_room, file_size, files_size};
+ghost use Rattle.run_faults.specs.declared.cause.Cause.TheVariants.{NoMemory};
 ghost use Rattle.krl_queries.specs.Questions.{Asks, AsksMore};
 ghost use Rattle.krl_entries.specs.Revocations.{IsOrderly};
-ghost use Rattle.key_listing.specs.Expected.{AllExpected, AreExpected};
+ghost use Rattle.run_output.specs.Expected.{AllExpected, AreExpected};
 ghost use Rattle.krl_runs.specs.Questions.{AsksAtMost};
 
-use key_files::{Cause, FileKey, Named, keys_of};
 use krl_queries::Questions;
+use run_faults::{Cause, FileKey, Named, keys_of};
 use span_sets::Held;
 use std::alloc::{AllocError, Global};
 

@@ -1,26 +1,26 @@
 //! Queries of a list for the keys of files. After the list's front, only the answers are stored.
 
 ghost use Rattle.std.specs.Prelude.{◌≡◌, ◌*◌, ◌≤◌, ℕ, IfSome, List, None, Option, Result, false};
-ghost use Rattle.key_files.specs.Keys.{Named as NamedOf};
-ghost use Rattle.key_files.specs.Sizes.{files_size};
+ghost use Rattle.run_faults.specs.Keys.{Named as NamedOf};
+ghost use Rattle.run_faults.specs.Sizes.{files_size};
 ghost use Rattle.krl_types.specs.Entry.{Entry as EntryOf};
 ghost use Rattle.krl_queries.specs.Questions.{Asks};
 ghost use Rattle.krl_entries.specs.Revocations.{IsOrderly, nothing};
 ghost use Rattle.krl_core.specs.Reading.{HasReadOf, IsResultOf};
 ghost use Rattle.krl_types.specs.declared.krl_fault.KrlFault.{KrlFault as FaultOf};
-ghost use Rattle.key_listing.specs.Carries.{Carries};
-ghost use Rattle.key_listing.specs.Expected.{AllExpected};
-ghost use Rattle.key_listing.specs.Run.{Answering as AnsweringOf, files_items};
+ghost use Rattle.run_output.specs.Carries.{Carries};
+ghost use Rattle.run_output.specs.Expected.{AllExpected};
+ghost use Rattle.run_output.specs.Run.{Answering as AnsweringOf, files_items};
 ghost use Rattle.krl_runs.specs.Query.{AnswersAbout, HasEntries, asked_run_of};
 ghost use Rattle.krl_runs.specs.Questions.{AsksAtMost, IsFewFor};
 
 use crate::query::Query;
 use crate::questions::ask_about;
 use byte_streams::{Sink, Source};
-use key_files::{Cause, Named, RunFault, cause_of};
-use key_listing::{Run, print_files};
 use krl_core::{Reading, Walk};
 use krl_queries::Questions;
+use run_faults::{Cause, Named, RunFault, cause_of};
+use run_output::{Run, print_files};
 use span_sets::Held;
 
 // At most this number of bytes of a list is stored.

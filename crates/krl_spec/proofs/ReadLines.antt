@@ -9,8 +9,8 @@ use Rattle.krl_spec.specs.Adding.{AddsLine, Reports}
 use Rattle.krl_spec.specs.Entries.{line_entry}
 use Rattle.krl_spec.specs.Lines.{LineEntries, ReadsSpec, LacksMemoryAt, StopsAt, before_later, lines_from, lines_of}
 use Rattle.key_text.specs.Lines.{is_newline}
-use Rattle.key_files.specs.declared.spec_cause.SpecCause.{SpecCause}
-use Rattle.key_files.specs.declared.spec_cause.SpecCause.TheVariants as causes
+use Rattle.run_faults.specs.declared.spec_cause.SpecCause.{SpecCause}
+use Rattle.run_faults.specs.declared.spec_cause.SpecCause.TheVariants as causes
 
 -- entries, followed by those of later lines
 abbrev pub with_entries : List Entry → LineEntries → LineEntries

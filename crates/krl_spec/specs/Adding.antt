@@ -7,8 +7,8 @@ use Rattle.krl_entries.specs.Changes.{MeansMore}
 use Rattle.krl_entries.specs.Revocations.{Revocations, held}
 use Rattle.krl_types.specs.Entry.{Entry}
 use Rattle.keyed_lines.specs.declared.key_cause.KeyCause.TheVariants as keys
-use Rattle.key_files.specs.declared.spec_cause.SpecCause.{SpecCause}
-use Rattle.key_files.specs.declared.spec_cause.SpecCause.TheVariants as causes
+use Rattle.run_faults.specs.declared.spec_cause.SpecCause.{SpecCause}
+use Rattle.run_faults.specs.declared.spec_cause.SpecCause.TheVariants as causes
 
 -- A fault that is found only after an allocation.
 abbrev pub MayHide : SpecCause → Type 0

@@ -15,8 +15,8 @@ use Rattle.krl_spec.specs.Keys.{plain_in}
 use Rattle.krl_spec.specs.declared.directive.Directive.{Directive}
 use Rattle.krl_spec.specs.declared.directive.Directive.TheVariants.{Serial, Id, Key, Sha1, Sha256}
 use Rattle.krl_spec.specs.declared.directive.Directive.TheVariants.{Hash}
-use Rattle.key_files.specs.declared.spec_cause.SpecCause.{SpecCause}
-use Rattle.key_files.specs.declared.spec_cause.SpecCause.TheVariants as causes
+use Rattle.run_faults.specs.declared.spec_cause.SpecCause.{SpecCause}
+use Rattle.run_faults.specs.declared.spec_cause.SpecCause.TheVariants as causes
 use Rattle.krl_spec.specs.declared.entries.LineEntry.{LineEntry}
 use Rattle.krl_spec.specs.declared.entries.LineEntry.TheVariants as entries
 

@@ -8,8 +8,8 @@ use Rattle.krl_types.specs.Entry.{Entry}
 use Rattle.krl_entries.specs.Changes.{MeansMore}
 use Rattle.krl_spec.specs.Entries.{line_entry}
 use Rattle.key_text.specs.Lines.{is_newline}
-use Rattle.key_files.specs.declared.spec_cause.SpecCause.{SpecCause}
-use Rattle.key_files.specs.declared.spec_cause.SpecCause.TheVariants.{NoMemory}
+use Rattle.run_faults.specs.declared.spec_cause.SpecCause.{SpecCause}
+use Rattle.run_faults.specs.declared.spec_cause.SpecCause.TheVariants.{NoMemory}
 use Rattle.krl_spec.specs.declared.spec_fault.SpecFault.{SpecFault}
 
 -- the entries of lines up to the first fault, and that fault

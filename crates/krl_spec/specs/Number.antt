@@ -8,8 +8,8 @@ use Rattle.std.specs.Str.Parse.{digits_value}
 use Rattle.key_text.specs.Blanks.{after_blanks}
 use Rattle.krl_spec.specs.Blanks.{before_blanks}
 use Rattle.krl_spec.specs.declared.number.Bounds.{Bounds}
-use Rattle.key_files.specs.declared.spec_cause.SpecCause.{SpecCause}
-use Rattle.key_files.specs.declared.spec_cause.SpecCause.TheVariants as causes
+use Rattle.run_faults.specs.declared.spec_cause.SpecCause.{SpecCause}
+use Rattle.run_faults.specs.declared.spec_cause.SpecCause.TheVariants as causes
 
 -- how a number is spelled: its base, and its digits
 pub record Spelling : Type 0 where

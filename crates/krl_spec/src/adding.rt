@@ -15,8 +15,8 @@ use crate::directive::order_in;
 use crate::entries::{LineEntry, read_order, subject_entry};
 use crate::keys::{ask, key_line};
 use crate::under::Under;
-use key_files::SpecCause;
 use krl_entries::Revocations;
+use run_faults::SpecCause;
 use serial_set::Spans;
 use std::alloc::{AllocError, Global};
 

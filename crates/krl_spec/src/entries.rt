@@ -7,14 +7,14 @@ ghost use Rattle.krl_spec.specs.Entries.{id_order, names_entry, order_entry, ser
 ghost use Rattle.krl_spec.specs.Under.{authority_under, bytes_under};
 ghost use Rattle.krl_spec.specs.Entries.{IsSound, entry_of};
 ghost use Rattle.krl_spec.specs.Stored.{Fits};
-ghost use Rattle.key_files.specs.declared.spec_cause.SpecCause.TheVariants.{NoAuthority};
+ghost use Rattle.run_faults.specs.declared.spec_cause.SpecCause.TheVariants.{NoAuthority};
 
 use crate::directive::Directive;
 use crate::keys::{plain_key, read_hash};
 use crate::number::{Bounds, read_serials};
 use crate::under::Under;
-use key_files::SpecCause;
 use key_text::{sha1_of, sha256_of};
+use run_faults::SpecCause;
 use ssh_cert::Subject;
 use ssh_wire::Bytes;
 use std::alloc::Global;

@@ -10,11 +10,11 @@ ghost use Rattle.ssh_cert.specs.SubjectReading.{subject_of};
 ghost use Rattle.krl_spec.specs.Adding.{Reports};
 ghost use Rattle.keyed_lines.specs.declared.key_cause.KeyCause.TheVariants as keys;
 ghost use Rattle.krl_spec.specs.Keys.{plain_in};
-ghost use Rattle.key_files.specs.declared.spec_cause.SpecCause.TheVariants.{Fingerprint, Key};
+ghost use Rattle.run_faults.specs.declared.spec_cause.SpecCause.TheVariants.{Fingerprint, Key};
 
-use key_files::SpecCause;
 use key_text::{FingerprintFault, Line, LineFault, parse_fingerprint, read_line};
 use keyed_lines::KeyCause;
+use run_faults::SpecCause;
 use ssh_cert::{Subject, SubjectFault, subject};
 use ssh_wire::Bytes;
 use std::alloc::Global;

@@ -14,8 +14,8 @@ mod under;
 
 pub use adding::add_line;
 pub use blanks::{bare_line, position_of};
-pub use key_files::SpecCause;
 pub use keys::{ask, key_line};
 pub use lines::read_spec;
+pub use run_faults::SpecCause;
 pub use spec_fault::SpecFault;
 pub use under::Under;

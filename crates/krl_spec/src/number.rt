@@ -5,8 +5,8 @@ ghost use Rattle.std.specs.Str.Parse.{IsNumeral, digits_value};
 ghost use Rattle.krl_spec.specs.Number.{bounds_of_text, number_in, number_of_text, serials_of_text};
 
 use crate::blanks::{before_blanks, position_of};
-use key_files::SpecCause;
 use key_text::after_blanks;
+use run_faults::SpecCause;
 use std::str;
 
 /// The first and the last number of a range.

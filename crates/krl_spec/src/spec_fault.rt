@@ -1,6 +1,6 @@
 //! Where and why reading a specification file stopped.
 
-use key_files::SpecCause;
+use run_faults::SpecCause;
 
 /// The first line of a specification file that has a fault, and why.
 #[derive(Clone, Copy, Debug, PartialEq, Eq)]

@@ -1,7 +1,7 @@
 //! The present moment, and the date of a list.
 
-use key_files::Cause;
 use krl_job::number_of;
+use run_faults::Cause;
 use std::env::{self, VarError};
 use std::time::{SystemTime, UNIX_EPOCH};
 

@@ -1,8 +1,8 @@
 //! The files that the command line names.
 
 use byte_streams::FromRead;
-use key_files::{Cause, FileFault, Named, RunFault, load};
 use krl_job::AuthorityOption;
+use run_faults::{Cause, FileFault, Named, RunFault, load};
 use std::fs::{self, File};
 use std::io::BufReader;
 

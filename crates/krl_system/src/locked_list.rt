@@ -4,7 +4,7 @@ use crate::leftovers::remove_left;
 use crate::locking::{Lock, is_being_written, lock_beside, lock_from_writers, lock_list, unlock};
 use crate::names::followed;
 use crate::waiting::Waiting;
-use key_files::{Cause, FileFault};
+use run_faults::{Cause, FileFault};
 use std::fs::{self, File, Metadata, OpenOptions};
 use std::io::{self, ErrorKind, Seek, SeekFrom};
 use std::os::unix::fs::MetadataExt;

@@ -6,7 +6,7 @@ use crate::locked_list::{is_same, unopened};
 use crate::names::{lock_name, new_name};
 use crate::rights::{CLOSED, is_of_writer, share_lock};
 use crate::waiting::{TURNS, Waiting};
-use key_files::{Cause, FileFault};
+use run_faults::{Cause, FileFault};
 use std::fs::{self, File, Metadata, OpenOptions, TryLockError};
 use std::io::{self, ErrorKind};
 use std::os::unix::fs::{FileExt, MetadataExt, OpenOptionsExt};

@@ -6,7 +6,7 @@ use crate::locked_list::{Locked, OldList, PutList, Target, is_at, is_same, unope
 use crate::locking::lock_new;
 use crate::names::{beside, new_name};
 use crate::rights::{first_mode, keep_rights};
-use key_files::Cause;
+use run_faults::Cause;
 use std::fs::{self, File, Metadata, OpenOptions};
 use std::io::{self, ErrorKind};
 use std::os::unix::fs::{MetadataExt, OpenOptionsExt};

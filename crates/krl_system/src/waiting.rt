@@ -3,8 +3,8 @@
 ghost use Rattle.std.specs.Prelude.{◌≡◌, ◌≤◌, ◌↔◌, IsErr};
 
 use byte_streams::{ToWrite, send};
-use key_files::{Cause, FileFault};
 use line_pieces::{Escaped, Words, put};
+use run_faults::{Cause, FileFault};
 use std::alloc::{AllocError, Global};
 use std::thread::sleep;
 use std::time::Duration;

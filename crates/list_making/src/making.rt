@@ -4,7 +4,6 @@ ghost use Rattle.std.specs.Prelude.{◌≡◌, false};
 ghost use Rattle.std.specs.Option.{ForSome};
 
 use byte_streams::{FromBuffer, Source};
-use key_files::{Cause, FileFault, Named, RunFault};
 use krl_job::{AuthorityOption, Job};
 use krl_make::{Old, make_run};
 use krl_system::{
@@ -12,6 +11,7 @@ use krl_system::{
     open_inputs, release, write_list,
 };
 use program_edge::{Lines, stop};
+use run_faults::{Cause, FileFault, Named, RunFault};
 use std::fs::{self, File};
 
 // How often a list is opened again because its name now belongs to another file. Each of several

@@ -4,9 +4,9 @@ ghost use Rattle.std.specs.Prelude.{◌≡◌, ◌⊎◌};
 ghost use Rattle.option_table.specs.Fault.{command_fault_status};
 
 use byte_streams::{ToWrite, send};
-use key_files::{Cause, RunFault};
-use key_listing::{Done, FAILED};
 use option_table::CommandFault;
+use run_faults::{Cause, RunFault};
+use run_output::{Done, FAILED};
 use std::alloc::AllocError;
 
 // The name of standard output in a fault of the output.

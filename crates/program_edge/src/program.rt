@@ -1,9 +1,9 @@
 //! A program, from its words to its exit status.
 
 use crate::ending::{Lines, refuse, stop};
-use key_files::{Cause, FileFault, RunFault};
 use krl_system::{NOTHING, open_placeholders};
 use option_table::CommandFault;
+use run_faults::{Cause, FileFault, RunFault};
 use std::env;
 use std::io::{self, ErrorKind};
 use std::process::ExitCode;

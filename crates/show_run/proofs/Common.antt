@@ -6,11 +6,11 @@ pub use Rattle.std.proofs.lemmas.List.{drop_all, map-append, take_all, take_more
 pub use Rattle.std.proofs.lemmas.Result.{err_from_is_err_and}
 pub use Rattle.std.specs.Prelude.{OnOk}
 pub use Rattle.serial_set.specs.declared.span.Span.{Span}
-pub use Rattle.key_files.specs.RunFault.{RunFault}
-pub use Rattle.key_listing.proofs.RunParts.{carries_more, carries_none, carries_then}
-pub use Rattle.key_listing.specs.Carries.{Carries}
-pub use Rattle.key_listing.specs.Printer.{Printer}
-pub use Rattle.key_listing.specs.Run.{Item}
+pub use Rattle.run_faults.specs.RunFault.{RunFault}
+pub use Rattle.run_output.proofs.RunParts.{carries_more, carries_none, carries_then}
+pub use Rattle.run_output.specs.Carries.{Carries}
+pub use Rattle.run_output.specs.Printer.{Printer}
+pub use Rattle.run_output.specs.Run.{Item}
 pub use Rattle.list_text.specs.Counts.{counted, counted_all}
 pub use Rattle.list_text.specs.Facts.{AuthorityFact, Fact, fact_of, IdFact, KeyFact, ListFact}
 pub use Rattle.list_text.specs.Facts.{SerialsFact, Sha1Fact, Sha256Fact}

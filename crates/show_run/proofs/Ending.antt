@@ -1,6 +1,6 @@
 -- The end of a run.
 use Rattle.show_run.proofs.Common.{[], ◌++◌, ◌∷◌, ◌≡◌, counted_all, Fact, fact_items, false, Form, line_item, List, lists_facts, refl, ℕ}
-use Rattle.key_listing.specs.Run.{outcome_of}
+use Rattle.run_output.specs.Run.{outcome_of}
 use Rattle.list_text.specs.Forms.{last_line}
 use Rattle.show_run.specs.Run.{nothing_shown, run_items}
 use Rattle.show_run.specs.declared.lists.Given.{Given}

@@ -6,7 +6,7 @@ use Rattle.show_run.proofs.Common.{get_or, length, List, None, Ok, Option, Resul
 use Rattle.show_run.proofs.Common.{subst, sym, take, take_more, true, ℕ}
 use Rattle.std.proofs.Common.{take-append-drop}
 use Rattle.any_list.specs.List.{IsListFault}
-use Rattle.key_files.specs.declared.cause.Cause.{Cause}
+use Rattle.run_faults.specs.declared.cause.Cause.{Cause}
 use Rattle.krl_format.specs.declared.header.Header.{Header}
 use Rattle.krl_types.specs.Entry.{Entry}
 use Rattle.plain_list.specs.Any.{NamesIf, Names, NamesWhole, begins_list}

@@ -1,10 +1,10 @@
 -- A whole run that shows lists: what it prints, and how it ends.
 use Rattle.std.specs.Borrow.{Bor}
 use Rattle.std.specs.Prelude.{◌≡◌, ℕ, Bool, false, List, [], ◌∷◌, ◌++◌, Option, Some, Result}
-use Rattle.key_files.specs.RunFault.{RunFault}
-use Rattle.key_files.specs.declared.cause.Cause.{Cause}
-use Rattle.key_listing.specs.Done.{Ends}
-use Rattle.key_listing.specs.Run.{Item, outcome_of}
+use Rattle.run_faults.specs.RunFault.{RunFault}
+use Rattle.run_faults.specs.declared.cause.Cause.{Cause}
+use Rattle.run_output.specs.Done.{Ends}
+use Rattle.run_output.specs.Run.{Item, outcome_of}
 use Rattle.list_text.specs.Counts.{counted_all}
 use Rattle.list_text.specs.Forms.{last_line}
 use Rattle.list_text.specs.declared.counts.Counts.{Counts}

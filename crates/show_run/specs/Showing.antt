@@ -1,10 +1,10 @@
 -- Facts that were shown.
 use Rattle.std.specs.Prelude.{◌≡◌, ℕ, List, ◌∷◌, map, OnOk, Result, codes}
 use Rattle.std.specs.List.{flat_map}
-use Rattle.key_files.specs.RunFault.{RunFault}
-use Rattle.key_listing.specs.Carries.{Carries}
-use Rattle.key_listing.specs.Printer.{Printer}
-use Rattle.key_listing.specs.Run.{Item, said_of}
+use Rattle.run_faults.specs.RunFault.{RunFault}
+use Rattle.run_output.specs.Carries.{Carries}
+use Rattle.run_output.specs.Printer.{Printer}
+use Rattle.run_output.specs.Run.{Item, said_of}
 use Rattle.list_text.specs.Counts.{counted_all}
 use Rattle.list_text.specs.Facts.{Fact, IdFact, KeyFact, ListFact, Sha1Fact, Sha256Fact, facts_of}
 use Rattle.list_text.specs.Forms.{form_line}

@@ -2,15 +2,15 @@
 
 ghost use Rattle.std.specs.Prelude.{◌≡◌, ℕ, IfErr, IfOk, List, Result, false, option_map, true};
 ghost use Rattle.any_list.specs.List.{IsListFault, IsWholeFault};
-ghost use Rattle.key_files.specs.declared.cause.Cause.{Cause as CauseOf};
+ghost use Rattle.run_faults.specs.declared.cause.Cause.{Cause as CauseOf};
 ghost use Rattle.plain_list.specs.Any.{begins_list};
 ghost use Rattle.show_run.specs.Lists.{AreGiven, IsFirstRefused, IsGiven, IsGivenBy, IsRefused};
 
 use any_list::read_list;
 use byte_streams::Lent;
-use key_files::{Cause, RunFault, cause_of};
 use krl_core::{Header, Revocations, read_krl};
 use plain_list::begins_list;
+use run_faults::{Cause, RunFault, cause_of};
 use span_sets::Held;
 use ssh_wire::Bytes;
 use std::alloc::Global;

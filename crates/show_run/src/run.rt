@@ -1,16 +1,16 @@
 //! The whole run.
 
 ghost use Rattle.std.specs.Prelude.{◌≡◌, false};
-ghost use Rattle.key_listing.specs.Carries.{Carries};
+ghost use Rattle.run_output.specs.Carries.{Carries};
 ghost use Rattle.show_run.specs.Run.{EndsShowRun, EndsShown, nothing_shown, run_items};
 
 use crate::lists::{Given, Lists, read_lists};
 use crate::shower::{Shower, show_last};
 use crate::walk::show_lists;
 use byte_streams::Sink;
-use key_files::RunFault;
-use key_listing::{Done, FAILED, Printer, Run};
 use list_text::{Counts, Form};
+use run_faults::RunFault;
+use run_output::{Done, FAILED, Printer, Run};
 use std::alloc::Global;
 
 /// Shows the lists of these names, one after the other. All of them are read before anything is

@@ -1,15 +1,15 @@
 //! Showing single facts.
 
 ghost use Rattle.std.specs.Prelude.{◌≡◌, ◌∷◌, []};
-ghost use Rattle.key_listing.specs.Carries.{Carries};
+ghost use Rattle.run_output.specs.Carries.{Carries};
 ghost use Rattle.list_text.specs.Facts.{fact_of};
 ghost use Rattle.list_text.specs.Forms.{last_line};
 ghost use Rattle.show_run.specs.Showing.{Shows, line_item};
 
 use byte_streams::Sink;
-use key_files::RunFault;
-use key_listing::Run;
 use list_text::{Counts, Fact, Form};
+use run_faults::RunFault;
+use run_output::Run;
 
 // The name in the fault of a line for which there is no memory.
 const MEMORY: &str = "memory";

@@ -8,9 +8,9 @@ ghost use Rattle.show_run.specs.Showing.{Shows, given_facts, kind_fact, lists_fa
 use crate::lists::Given;
 use crate::shower::{Shower, show_fact};
 use byte_streams::Sink;
-use key_files::RunFault;
 use krl_core::{Listed, Revocations, Texts};
 use list_text::{Fact, Form};
+use run_faults::RunFault;
 use serial_set::{Span, Spans};
 
 /// The kind of some bytes of a list.

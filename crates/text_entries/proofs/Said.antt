@@ -1,8 +1,8 @@
 -- What lines say, and what was done.
 use Rattle.std.proofs.Common.{◌≡◌, ℕ, List, [], ◌∷◌, Option, Some, None, Result, Ok, Err, refl, ap, arith}
 use Rattle.ssh_wire.specs.Reading.{◌>>=◌, in_fault}
-use Rattle.key_files.specs.declared.spec_cause.SpecCause.{SpecCause}
-use Rattle.key_files.specs.declared.spec_cause.SpecCause.TheVariants as specs
+use Rattle.run_faults.specs.declared.spec_cause.SpecCause.{SpecCause}
+use Rattle.run_faults.specs.declared.spec_cause.SpecCause.TheVariants as specs
 use Rattle.key_text.specs.LineReading.{KeyLine, line_at}
 use Rattle.krl_entries.specs.Changes.{MeansMore}
 use Rattle.krl_entries.specs.Revocations.{Revocations, held}

@@ -1,8 +1,8 @@
 -- What a line of the text of a list says (krl(1), THE TEXT OF A LIST).
 use Rattle.std.specs.Prelude.{ℕ, List, Option, Some, None, Result, Ok, Err, if◌then◌else◌}
 use Rattle.ssh_wire.specs.Reading.{◌>>=◌}
-use Rattle.key_files.specs.declared.spec_cause.SpecCause.{SpecCause}
-use Rattle.key_files.specs.declared.spec_cause.SpecCause.TheVariants as specs
+use Rattle.run_faults.specs.declared.spec_cause.SpecCause.{SpecCause}
+use Rattle.run_faults.specs.declared.spec_cause.SpecCause.TheVariants as specs
 use Rattle.krl_types.specs.Entry.{Entry, IdEntry, KeyEntry, Sha1Entry}
 use Rattle.krl_spec.specs.Blanks.{bare_line}
 use Rattle.krl_spec.specs.Entries.{line_entry}

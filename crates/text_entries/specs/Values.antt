@@ -12,7 +12,7 @@ use Rattle.ssh_wire.specs.Reading.{◌>>=◌, in_fault}
 use Rattle.key_text.specs.Blanks.{is_blank}
 use Rattle.key_text.specs.declared.fingerprint_fault.FingerprintFault.TheVariants as fingerprints
 use Rattle.keyed_lines.specs.Keys.{subject_in}
-use Rattle.key_files.specs.declared.spec_cause.SpecCause.TheVariants as specs
+use Rattle.run_faults.specs.declared.spec_cause.SpecCause.TheVariants as specs
 use Rattle.krl_types.specs.Subject.{CertNames}
 use Rattle.krl_spec.specs.Blanks.{is_hash}
 use Rattle.text_entries.specs.declared.text_cause.TextCause.{TextCause}

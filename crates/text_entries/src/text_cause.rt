@@ -3,7 +3,7 @@
 ghost use Rattle.std.specs.Prelude.{◌≡◌, Some};
 ghost use Rattle.text_entries.specs.TextCause.{no_memory, text_cause_number, text_cause_text};
 
-use key_files::SpecCause;
+use run_faults::SpecCause;
 use std::alloc::AllocError;
 use std::error::Error;
 use std::fmt;

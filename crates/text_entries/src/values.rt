@@ -3,7 +3,7 @@
 ghost use Rattle.std.specs.Prelude.{◌≡◌, Ok, true};
 ghost use Rattle.ssh_wire.specs.Reading.{Answers};
 ghost use Rattle.text_entries.specs.TextCause.{Reports};
-ghost use Rattle.key_files.specs.declared.spec_cause.SpecCause.TheVariants.{Fingerprint};
+ghost use Rattle.run_faults.specs.declared.spec_cause.SpecCause.TheVariants.{Fingerprint};
 ghost use Rattle.text_entries.specs.Values.{blob_in, bytes_in, is_cut, is_sha1, sha1_in, sized};
 ghost use Rattle.text_entries.specs.declared.text_cause.TextCause.TheVariants.{Spec};
 
@@ -11,9 +11,9 @@ use crate::text_cause::TextCause;
 use base64::DecodeAllocError;
 use base64::engine::general_purpose::{STANDARD, STANDARD_NO_PAD};
 use hex::FromHexError;
-use key_files::SpecCause;
 use key_text::{FingerprintFault, is_blank};
 use krl_spec::position_of;
+use run_faults::SpecCause;
 use ssh_wire::Bytes;
 use std::alloc::Global;
 

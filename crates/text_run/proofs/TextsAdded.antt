@@ -1,8 +1,8 @@
 -- Texts whose entries are added one after another.
 use Rattle.std.proofs.Common.{◌≡◌, ℕ, ◌+◌, ◌≤◌, ◌<◌, add-one, drop-cons, List, [], ◌∷◌, ◌++◌, length, drop, get_or, Result, Ok, Err, refl, sym, ap, ◌∙◌, arith, append_assoc, length-append}
 use Rattle.std.proofs.lemmas.List.{append-nil}
-use Rattle.key_files.specs.declared.cause.Cause.TheVariants as causes
-use Rattle.key_files.specs.declared.spec_cause.SpecCause.TheVariants as specs
+use Rattle.run_faults.specs.declared.cause.Cause.TheVariants as causes
+use Rattle.run_faults.specs.declared.spec_cause.SpecCause.TheVariants as specs
 use Rattle.krl_entries.specs.Revocations.{Revocations, held}
 use Rattle.krl_types.specs.Entry.{Entry}
 use Rattle.text_entries.specs.Lines.{lines_of}

@@ -1,7 +1,7 @@
 -- Why no list is made of texts.
 use Rattle.std.specs.Prelude.{ℕ, List, Option, Some, None}
-use Rattle.key_files.specs.declared.cause.Cause.TheVariants as causes
-use Rattle.key_files.specs.declared.spec_cause.SpecCause.TheVariants as specs
+use Rattle.run_faults.specs.declared.cause.Cause.TheVariants as causes
+use Rattle.run_faults.specs.declared.spec_cause.SpecCause.TheVariants as specs
 use Rattle.text_entries.specs.declared.text_cause.TextCause.{TextCause}
 use Rattle.text_entries.specs.declared.text_cause.TextCause.TheVariants.{Spec}
 use Rattle.text_run.specs.declared.make_fault.MakeCause.{MakeCause}

@@ -1,9 +1,9 @@
 -- The line about a fault that stopped the run (krl(1), KRL MAKE).
 use Rattle.std.specs.Prelude.{ℕ, false, List, ◌++◌, codes}
-use Rattle.key_files.specs.RunFault.{cause_text, line_part}
-use Rattle.key_files.specs.declared.cause.Cause.TheVariants as runs
-use Rattle.key_files.specs.declared.spec_cause.SpecCause.{SpecCause}
-use Rattle.key_files.specs.declared.spec_cause.SpecCause.TheVariants as specs
+use Rattle.run_faults.specs.RunFault.{cause_text, line_part}
+use Rattle.run_faults.specs.declared.cause.Cause.TheVariants as runs
+use Rattle.run_faults.specs.declared.spec_cause.SpecCause.{SpecCause}
+use Rattle.run_faults.specs.declared.spec_cause.SpecCause.TheVariants as specs
 use Rattle.krl_audit.specs.Causes.{cause_words}
 use Rattle.krl_audit.specs.Visible.{visible}
 use Rattle.text_entries.specs.TextCause.{text_cause_text}

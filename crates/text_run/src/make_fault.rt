@@ -4,7 +4,7 @@ ghost use Rattle.std.specs.Prelude.{◌≡◌, Some};
 ghost use Rattle.text_run.specs.Fault.{line_fault, whole_fault};
 ghost use Rattle.text_run.specs.Words.{make_cause_text};
 
-use key_files::{Cause, SpecCause};
+use run_faults::{Cause, SpecCause};
 use std::fmt;
 use std::marker::Model;
 use text_entries::{TextCause, TextFault};

@@ -1,13 +1,13 @@
 //! The line about a fault that stopped the run (krl(1), KRL MAKE).
 
 ghost use Rattle.std.specs.Prelude.{◌≡◌, IfOk};
-ghost use Rattle.key_files.specs.RunFault.{line_part};
+ghost use Rattle.run_faults.specs.RunFault.{line_part};
 ghost use Rattle.text_run.specs.Words.{fault_line, make_words, spec_words, text_words};
 
 use crate::make_fault::{MakeCause, MakeFault};
-use key_files::{Cause, SpecCause};
 use krl_audit::{Visible, cause_words};
 use line_pieces::{Printed, Words, put};
+use run_faults::{Cause, SpecCause};
 use std::alloc::{AllocError, Global};
 use text_entries::TextCause;
 

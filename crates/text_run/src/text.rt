@@ -1,6 +1,6 @@
 //! The texts of a list that is made.
 
-use key_files::Cause;
+use run_faults::Cause;
 use ssh_wire::Bytes;
 use std::marker::Model;
 

@@ -4,7 +4,7 @@ use crate::tests::audits::{Asked, Case, LOUD, REVOKED, check};
 use crate::tests::shelf::{Item, Node, Paper, Shelf};
 use audit_run::{Audited, Given, Order, audit_run};
 use byte_streams::{FromRead, ToWrite};
-use key_files::{Cause, FileFault};
+use run_faults::{Cause, FileFault};
 use ssh_wire::Bytes;
 use std::test::Fail;
 use test_fixtures::{GITHUB_LINE, Giver, Taker, Then, joined, repeated};

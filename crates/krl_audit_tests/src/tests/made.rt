@@ -2,10 +2,10 @@
 
 use crate::tests::keys::{ALICE, AUTHORITY, BOB};
 use byte_streams::{Sink, ToWrite};
-use key_listing::{Printer, Run};
 use key_text::{read_line, sha1_of, sha256_of};
 use krl_audit::{Auditor, Counts, Form, Judge, Refusal, Shown};
 use krl_entries::Revocations;
+use run_output::{Printer, Run};
 use span_sets::Held;
 use ssh_wire::Bytes;
 use std::alloc::Global;

@@ -1,9 +1,9 @@
 //! Lists in either form.
 
 use any_list::read_list;
-use key_files::{Cause, KeyCause};
 use key_text::{LineFault, sha256_of};
 use krl_types::KrlFault;
+use run_faults::{Cause, KeyCause};
 use test_fixtures::{GITHUB_LINE, HEADER};
 
 // The bytes of a list, and how many keys it revokes, or the number of its line and why it is

@@ -1,12 +1,12 @@
 //! Each condition both ways, and how a check ends.
 
 use byte_streams::{FromRead, Sink, ToWrite};
-use key_files::{RunFault, cause_of};
-use key_listing::Printer;
 use krl_audit::Refusal;
 use krl_checker::{Checker, PlainRefusal, Role};
 use krl_core::read_krl;
 use krl_entries::Revocations;
+use run_faults::{RunFault, cause_of};
+use run_output::Printer;
 use span_sets::Held;
 use std::alloc::Global;
 use std::process::Abort;

@@ -3,13 +3,13 @@
 use crate::tests::answered::{answered, ran_out};
 use crate::tests::buffer::Buffer;
 use byte_streams::{Sink, ToWrite};
-use key_files::{Cause, RunFault};
-use key_listing::{Printer, Run};
 use krl_audit::{
     Auditor, Counts, FileCounts, Form, Fronts, Judge, ListFacts, Outcome, Shown, Stated,
     read_outcomes,
 };
 use krl_core::Revocations;
+use run_faults::{Cause, RunFault};
+use run_output::{Printer, Run};
 use span_sets::Held;
 use std::alloc::{AllocError, Global};
 use test_fixtures::{CERT_LINE, CONTAINER, GITHUB, GITHUB_LINE, joined};

@@ -1,9 +1,9 @@
 //! Whole runs, over a few lists in memory.
 
 use byte_streams::ToWrite;
-use key_files::{Cause, FileFault};
 use krl_types::KrlFault;
 use list_text::Form;
+use run_faults::{Cause, FileFault};
 use show_run::{Lists, show_run};
 use ssh_wire::Bytes;
 use std::alloc::Global;

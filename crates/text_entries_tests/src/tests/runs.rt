@@ -1,7 +1,7 @@
 //! Lists that are made of texts, and the lines about them.
 
-use key_files::{Cause, FileFault};
 use krl_core::Header;
+use run_faults::{Cause, FileFault};
 use ssh_wire::Bytes;
 use std::alloc::Global;
 use std::process::Abort;

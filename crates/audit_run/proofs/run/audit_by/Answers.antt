@@ -1,6 +1,6 @@
 -- The waiting text is sent, and the end of the audit is reported.
 use Rattle.std.proofs.Common.{refl, rules, sym}
-use Rattle.key_listing.proofs.RunParts.{begun}
+use Rattle.run_output.proofs.RunParts.{begun}
 use Rattle.audit_run.proofs.Running.{ends_there, stop_is_kept}
 use Rattle.audit_run.proofs.run.audit_by.Goals as goal
 

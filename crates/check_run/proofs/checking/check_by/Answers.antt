@@ -1,6 +1,6 @@
 -- The waiting text is sent, and the end of the check is reported.
 use Rattle.std.proofs.Common.{rules}
-use Rattle.key_listing.proofs.RunParts.{begun}
+use Rattle.run_output.proofs.RunParts.{begun}
 use Rattle.check_run.proofs.Ending.{ended, ended_there}
 use Rattle.check_run.proofs.checking.check_by.Goals as goal
 

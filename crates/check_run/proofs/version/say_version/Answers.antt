@@ -1,7 +1,7 @@
 -- The line is printed, and the waiting text is sent.
 use Rattle.std.proofs.Common.{rules}
 use Rattle.std.specs.Prelude.{[]}
-use Rattle.key_listing.proofs.RunParts.{begun}
+use Rattle.run_output.proofs.RunParts.{begun}
 use Rattle.check_run.proofs.Ending.{ends_there}
 use Rattle.check_run.proofs.version.say_version.Goals as goal
 

@@ -1,7 +1,7 @@
 -- Nothing is printed.
 use Rattle.std.proofs.Common.{Bool, [], ◌∷◌, Ok, subst, sym}
-use Rattle.key_listing.specs.Carries.{Carries}
-use Rattle.key_listing.proofs.RunParts.{carries_passed}
+use Rattle.run_output.specs.Carries.{Carries}
+use Rattle.run_output.proofs.RunParts.{carries_passed}
 use Rattle.krl_audit.specs.Audit.{said_if}
 use Rattle.krl_audit.proofs.auditor.say_made.Goals as goal
 

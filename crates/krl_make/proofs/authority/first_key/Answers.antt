@@ -1,7 +1,7 @@
 -- There is a first key, which is returned or faulty, or there is none.
 use Rattle.std.proofs.Common.{ap, sym, ◌∙◌}
 use Rattle.std.proofs.lemmas.Result.{err_from_is_err_and}
-use Rattle.key_files.specs.Keys.{Named}
+use Rattle.run_faults.specs.Keys.{Named}
 use Rattle.krl_make.proofs.MadeLists.{first_given, first_refused, no_key_first}
 use Rattle.krl_make.proofs.authority.first_key.Goals as goal
 

@@ -1,6 +1,6 @@
 -- The old list is read, or its fault reported.
 use Rattle.std.proofs.Common.{Ok, Err, refl, ap, ◌∙◌}
-use Rattle.key_files.specs.RunFault.{run_fault_of}
+use Rattle.run_faults.specs.RunFault.{run_fault_of}
 use Rattle.krl_make.proofs.MadeLists.{old_read}
 use Rattle.krl_make.proofs.base.read_base.Goals as goal
 

@@ -1,7 +1,7 @@
 -- The contents and then the files are answered for.
 use Rattle.krl_runs.proofs.Common.{err_from_is_err_and, get_or, keys_of, known_of, refl, revokes}
 use Rattle.krl_runs.proofs.QueryRuns.{dump_stops, entries_answer, read_run}
-use Rattle.key_listing.proofs.AnswerableKeys.{all_expected}
+use Rattle.run_output.proofs.AnswerableKeys.{all_expected}
 use Rattle.krl_runs.proofs.query.print_list.Goals as goal
 
 pub returns : goal.returns

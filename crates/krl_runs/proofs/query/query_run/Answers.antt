@@ -1,6 +1,6 @@
 -- The waiting text is sent, and the end of the run is reported.
 use Rattle.std.proofs.Common.{rules}
-use Rattle.key_listing.proofs.RunEnds.{ends_known}
+use Rattle.run_output.proofs.RunEnds.{ends_known}
 use Rattle.krl_runs.proofs.query.query_run.Goals as goal
 
 pub returns : goal.returns

@@ -1,7 +1,7 @@
 -- Each key is added to the queries, up to the first fault.
 use Rattle.krl_runs.proofs.Common.{◌∙◌, ◌∷◌, ◌≡◌, ◌≢◌, ap, AreExpected, Asks, FileKey, keys_of}
 use Rattle.krl_runs.proofs.Common.{Result, RunFault}
-use Rattle.key_files.specs.declared.cause.Cause.TheVariants.{NoMemory}
+use Rattle.run_faults.specs.declared.cause.Cause.TheVariants.{NoMemory}
 use Rattle.krl_queries.proofs.MoreQuestions.{on_ok_with}
 use Rattle.krl_runs.proofs.Bounds.{room_next}
 use Rattle.krl_runs.proofs.ExpectedKeys.{fault_expected, key_expected}

@@ -1,6 +1,6 @@
 -- The list ends within its front, continues after it, or is refused.
 use Rattle.krl_runs.proofs.Common.{[], ◌∙◌, ask_by, Err, get_or, is_revoked, keys_of, Ok}
-use Rattle.key_listing.proofs.AnswerableKeys.{all_expected}
+use Rattle.run_output.proofs.AnswerableKeys.{all_expected}
 use Rattle.krl_core.proofs.WholeLists.{whole_unfaulted}
 use Rattle.krl_runs.proofs.QueryRuns.{asked_refused, asked_run, entries_answer, held_list}
 use Rattle.krl_runs.proofs.streaming.ask_streamed.Goals as goal

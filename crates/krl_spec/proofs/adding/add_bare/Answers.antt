@@ -3,7 +3,7 @@ use Rattle.std.proofs.Common.{length, refl}
 use Rattle.ssh_wire.proofs.Steps.{in_fault_ok}
 use Rattle.keyed_lines.specs.Keys.{subject_in}
 use Rattle.keyed_lines.specs.declared.key_cause.KeyCause.TheVariants as keys
-use Rattle.key_files.specs.declared.spec_cause.SpecCause.TheVariants.{Key}
+use Rattle.run_faults.specs.declared.spec_cause.SpecCause.TheVariants.{Key}
 use Rattle.krl_spec.specs.Entries.{entry_of}
 use Rattle.krl_spec.proofs.Growth.{subject_fits}
 use Rattle.krl_spec.proofs.adding.add_bare.Goals as goal

@@ -1,6 +1,6 @@
 -- The waiting text is sent, and the end of the run is reported.
 use Rattle.std.proofs.Common.{rules}
-use Rattle.key_listing.proofs.RunEnds.{ends_known}
+use Rattle.run_output.proofs.RunEnds.{ends_known}
 use Rattle.show_run.proofs.Ending.{plain_run}
 use Rattle.show_run.proofs.run.show_all.Goals as goal
 

@@ -2,8 +2,8 @@
 use Rattle.std.proofs.Common.{◌≡◌, ℕ, ◌+◌, ◌≤◌, length, Result}
 use Rattle.std.specs.List.{slice_split}
 use Rattle.key_text.specs.Lines.{is_newline}
-use Rattle.key_files.specs.RunFault.{RunFault}
-use Rattle.key_listing.specs.Printer.{Printer}
+use Rattle.run_faults.specs.RunFault.{RunFault}
+use Rattle.run_output.specs.Printer.{Printer}
 use Rattle.krl_types.specs.Subject.{Subject}
 use Rattle.krl_entries.specs.declared.reasons.Reasons.{Reasons}
 use Rattle.krl_audit.specs.Audit.{JudgesAs, Told}

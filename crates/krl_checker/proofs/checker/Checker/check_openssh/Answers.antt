@@ -1,6 +1,6 @@
 -- The first difference is printed.
 use Rattle.std.proofs.Common.{◌≡◌, ◌∙◌, ap, List, Option, Some, subst, ℕ}
-use Rattle.key_listing.specs.Carries.{Carries}
+use Rattle.run_output.specs.Carries.{Carries}
 use Rattle.krl_format.specs.Front.{start}
 use Rattle.krl_openssh.specs.Difference.{first_difference}
 use Rattle.krl_openssh.specs.Fields.{HasFields, IsFirstDifference}

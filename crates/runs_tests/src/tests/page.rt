@@ -1,0 +1,200 @@
+//! The callers of the pages of `krl_spec`, `run_faults`, `run_output`, `krl_system`, `krl_make`,
+//! `krl_runs`, `program_edge` and `list_making`.
+
+ghost use Rattle.std.specs.Prelude.{◌≡◌};
+
+use crate::tests::runs::holding;
+use byte_streams::{FromRead, ToWrite};
+use key_text::Hash;
+use krl_core::Revocations;
+use krl_job::{Job, Mode};
+use krl_make::{AuthorityOption, Old, make_run};
+use krl_runs::query_run;
+use krl_spec::{SpecFault, Under, read_spec};
+use krl_system::{MadeOf, Waiting, Written, lock_target, release, write_list};
+use list_making::make_list;
+use option_table::CommandFault;
+use program_edge::{Lines, stop};
+use run_faults::{Cause, FileFault, Named, RunFault, fault_text, keys_of};
+use run_output::{Done, ListMode, list_run};
+use span_sets::Held;
+use ssh_cert::subject;
+use std::alloc::{AllocError, Global};
+use test_fixtures::{GITHUB, GITHUB_LINE};
+
+/// The entries of a specification file, under all authorities.
+fn revoked_by(alloc: Global, lines: &[u8]) -> Result<Revocations<Held>, SpecFault> {
+    let mut held = Revocations::new(alloc);
+    read_spec(alloc, &mut held, Under::All, lines)?;
+    Ok(held)
+}
+
+/// The number of the first line of a file that has a key. A container has no lines.
+fn first_of<'a>(alloc: Global, file: &'a Named<'a>) -> Result<Option<u64>, RunFault<'a>> {
+    match keys_of(alloc, file).next() {
+        Some(key) => {
+            let key = key?;
+            Ok(key.number)
+        }
+        None => Ok(None),
+    }
+}
+
+/// Lists the keys of a file, as `-l` does, and appends what is printed.
+fn key_lines<'a>(alloc: Global, file: &'a Named<'a>, text: &mut Vec<u8>) -> Done<'a> {
+    let mut out = ToWrite::new(text);
+    list_run(alloc, ListMode::Keys, Hash::Sha256, file, 0, &mut out)
+}
+
+/// Writes a list under a name, once no other update holds the list that is there.
+fn written(rt: &HostRuntime, name: &str, text: &[u8]) -> Result<Written, Cause> {
+    let mut waiting = Waiting::new("ssh-keygen", name);
+    match lock_target(rt, name, MadeOf::Lines, &mut waiting)? {
+        Some(mut locked) => {
+            let written = write_list(rt, name, &mut locked, text);
+            release(rt, locked);
+            written
+        }
+        None => Ok(Written::Elsewhere),
+    }
+}
+
+/// A new list that revokes what the lines of files name, under an authority.
+fn new_list<'a>(
+    alloc: Global,
+    authority: &'a AuthorityOption<'a>,
+    files: &'a [Named<'a>],
+    now: u64,
+) -> Result<Vec<u8>, RunFault<'a>> {
+    let none: Old<'a, FromRead<&'a [u8]>> = Old {
+        name: "revoked.krl",
+        list: None,
+    };
+    let (made, _) = make_run(alloc, none, authority, None, files, now);
+    made
+}
+
+/// Asks a list about the keys of files, as `-Q` does, and appends what is printed.
+fn asked<'a>(alloc: Global, list: &[u8], files: &'a [Named<'a>], text: &mut Vec<u8>) -> Done<'a> {
+    let mut out = ToWrite::new(text);
+    let (done, _) = query_run(
+        alloc,
+        "revoked.krl",
+        FromRead::new(list),
+        false,
+        files,
+        &mut out,
+    );
+    done
+}
+
+/// The exit status of a run whose file cannot be opened.
+fn stop_without<L: Lines>(rt: &HostRuntime, program: &L, name: &str) -> u8
+    ensures { result ≡ 255 }
+{
+    let cause = Cause::File(FileFault::Open);
+    stop(rt, program, &RunFault::whole(name, cause))
+}
+
+// The lines of a program that does nothing.
+#[derive(Clone, Copy)]
+struct Idle;
+
+impl Lines for Idle {
+    fn name(&self) -> &'static str {
+        "idle"
+    }
+
+    fn fault_line(&self, rt: &HostRuntime, fault: &RunFault) -> Result<Vec<u8>, AllocError> {
+        fault_text(rt.alloc(), b"idle", fault)
+    }
+
+    fn print_refusal(&self, _rt: &HostRuntime, _fault: &CommandFault) {}
+}
+
+/// Makes the list that words ask for, and gives the exit status.
+fn make_by<L: Lines>(rt: &HostRuntime, program: &L, job: &Job) -> u8 {
+    make_list(rt, program, job)
+}
+
+#[test]
+fn a_list_without_its_lines_is_not_made(rt: HostRuntime) {
+    let mut files = Vec::new(rt.alloc());
+    files.push("/dev/none").expect(&rt, "there is memory");
+    let job = Job {
+        mode: Mode::Make,
+        file: "/dev/null",
+        hash: Hash::Sha256,
+        dump: false,
+        update: false,
+        authority: krl_job::AuthorityOption::All,
+        version: None,
+        files,
+    };
+    assert!(rt; make_by(&rt, &Idle, &job) == 255);
+}
+
+#[test]
+fn a_run_without_its_file_stops(rt: HostRuntime) {
+    assert!(rt; stop_without(&rt, &Idle, "none") == 255);
+}
+
+#[test]
+fn lines_revoke(rt: HostRuntime) {
+    let held = revoked_by(rt.alloc(), GITHUB_LINE).expect(&rt, "the line names a key");
+    let asked = subject(rt.alloc(), GITHUB).ok().expect(&rt, "it is a key");
+    assert!(rt; held.query(&asked));
+    let fault = revoked_by(rt.alloc(), b"serial: 9-7")
+        .err()
+        .expect(&rt, "the line is refused");
+    assert!(rt; fault.line == 1 && fault.cause.number() == 3);
+}
+
+#[test]
+fn the_first_key_has_its_line(rt: HostRuntime) {
+    let mut text = Vec::from_slice(rt.alloc(), b"\n# no key\n").expect(&rt, "there is memory");
+    text.extend_from_slice(GITHUB_LINE)
+        .expect(&rt, "there is memory");
+    let file = holding("keys", text);
+    let number = first_of(rt.alloc(), &file).ok().expect(&rt, "it is a key");
+    assert!(rt; number == Some(3));
+    let text = Vec::from_slice(rt.alloc(), b"\nssh-ed25519\n").expect(&rt, "there is memory");
+    let file = holding("keys", text);
+    let fault = first_of(rt.alloc(), &file)
+        .err()
+        .expect(&rt, "it has no blob");
+    assert!(rt; fault.line == Some(2));
+}
+
+#[test]
+fn a_key_is_listed(rt: HostRuntime) {
+    let line = Vec::from_slice(rt.alloc(), GITHUB_LINE).expect(&rt, "there is memory");
+    let file = holding("keys", line);
+    let mut text = Vec::new(rt.alloc());
+    let done = key_lines(rt.alloc(), &file, &mut text);
+    assert!(rt; done.status == 0 && done.fault.is_none());
+    let want = b"256 SHA256:+DiY3wvvV6TuJJhbpZisF/zLDA0zPMSvHdkr4UvCOqU no comment (ED25519)\n";
+    assert!(rt; text.as_slice() == want.as_slice());
+}
+
+#[test]
+fn a_device_takes_a_list(rt: HostRuntime) {
+    let whole = written(&rt, "/dev/null", b"a list").ok();
+    assert!(rt; matches!(whole, Some(Written::Whole)));
+    let fault = written(&rt, "/dev/full", b"a list").err();
+    assert!(rt; fault == Some(Cause::Output { count: 0 }));
+}
+
+#[test]
+fn a_list_is_made_and_asked(rt: HostRuntime) {
+    let line = Vec::from_slice(rt.alloc(), GITHUB_LINE).expect(&rt, "there is memory");
+    let files = [holding("keys", line)];
+    let all = AuthorityOption::All;
+    let list = new_list(rt.alloc(), &all, &files, 0)
+        .ok()
+        .expect(&rt, "the line names a key");
+    let mut text = Vec::new(rt.alloc());
+    let done = asked(rt.alloc(), &list, &files, &mut text);
+    assert!(rt; done.status == 1 && done.fault.is_none());
+    assert!(rt; text.as_slice() == b"keys: REVOKED\n".as_slice());
+}
