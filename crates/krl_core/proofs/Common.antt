@@ -50,5 +50,5 @@ pub use Rattle.krl_format.specs.FixedFields.{is_fixed}
 pub use Rattle.std.proofs.lemmas.List.{length-reverse, reverse-append, take_rest}
 pub use Rattle.krl_entries.proofs.ScopedMeaning.{means_all_within, nothing_in_scope, nothing_within, same_within}
 unfoldable pub use Rattle.ssh_wire.specs.Wire.{number_of}
-pub use Rattle.krl_types.proofs.Numbers.{number_of-one}
+pub use Rattle.ssh_wire.proofs.Fields.{number_of-one}
 pub use Rattle.krl_entries.specs.Changes.{run_entries}

@@ -21,9 +21,8 @@ ghost use Rattle.krl_format.specs.FixedFields.{is_fixed};
 
 use krl_entries::{Item, Revocations, Store};
 use krl_format::{Field, Header, ItemKind, Place};
-use krl_types::{byte_of, u64_of};
 use serial_set::{BitRuns, Span, Spans, count_near};
-use ssh_wire::Bytes;
+use ssh_wire::{Bytes, byte_of, u64_of};
 use std::alloc::{AllocError, Global};
 use std::marker::Model;
 

@@ -2,7 +2,7 @@
 use Rattle.krl_entries.proofs.Common.{[], ◌*◌, ◌+◌, ◌-◌, ◌<◌, ◌∙◌, ◌∷◌, ◌≡◌, ◌≤◌, ap, arith, drop}
 use Rattle.krl_entries.proofs.Common.{drop-take, get_or, length, List, number_of, serial_at, sym}
 use Rattle.krl_entries.proofs.Common.{take, take-take, ℕ}
-use Rattle.krl_types.proofs.Numbers.{number_of-one}
+use Rattle.ssh_wire.proofs.Fields.{number_of-one}
 pub use Rattle.std.proofs.lemmas.List.{take-take as take_fewer}
 
 -- a serial number that lies within the first bytes is the same in them

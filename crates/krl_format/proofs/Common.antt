@@ -31,7 +31,7 @@ pub use Rattle.krl_format.specs.Front.{too_long}
 pub use Rattle.krl_format.specs.declared.header.Header.{Header}
 pub use Rattle.ssh_wire.specs.Wire.{IsBytes, strings}
 pub use Rattle.ssh_wire.proofs.Digits.{IsBytes-back, IsBytes-front, bytes_as_bits}
-pub use Rattle.ssh_wire.proofs.Fields.{IsBytes-in_string, length-number, length-numbers, length-string, number-number_of, number_of-number}
+pub use Rattle.ssh_wire.proofs.Fields.{IsBytes-in_string, length-number, length-numbers, length-string, number-number_of, number_of-number, number_of-one, one_byte}
 pub use Rattle.krl_format.specs.declared.section.ItemKind.{ItemKind}
 pub use Rattle.krl_types.specs.declared.krl_fault.KrlFault.{KrlFault}
 pub use Rattle.krl_format.specs.declared.place.Place.{Place}
@@ -49,5 +49,4 @@ pub use Rattle.krl_format.specs.Entries.{entries_of, section_entries, subsection
 pub use Rattle.ssh_wire.proofs.RowLaws.{table_front, table_more, unless_ok}
 pub use Rattle.ssh_wire.proofs.Steps.{never_err, ok_is, ok_or_not, passed_ok}
 unfoldable pub use Rattle.ssh_wire.specs.Wire.{number, number_of, string}
-pub use Rattle.krl_types.proofs.Numbers.{number_of-one, one_byte}
 pub use Rattle.std.specs.Prelude.{slice_index, slice_index_or}

@@ -15,7 +15,8 @@ use crate::judging::{
 };
 use crate::section::{ItemKind, Section, Subsection};
 pub use field::{Field, FieldPart, Table};
-use krl_types::{KrlFault, byte_of, u32_of, u64_of};
+use krl_types::KrlFault;
+use ssh_wire::{byte_of, u32_of, u64_of};
 
 /// The place of a walk in a list: the field that is expected next. A byte of a bitmap is a field.
 ///

@@ -10,9 +10,9 @@ ghost use Rattle.krl_openssh.specs.Difference.{section_difference, subsection_di
 ghost use Rattle.krl_openssh.specs.Difference.{table_difference, text_difference};
 
 use krl_format::{Field, ItemKind, Place, Section, Subsection, Table};
-use krl_types::{byte_of, u64_of};
 use openssh_keys::{Judgement, judge};
 use ssh_key::read_key;
+use ssh_wire::{byte_of, u64_of};
 
 /// Why OpenSSH refuses a list, or reads other names from it.
 #[derive(Clone, Copy, PartialEq, Eq)]

@@ -7,8 +7,8 @@ ghost use Rattle.krl_entries.specs.Scope.{NoneHolds};
 ghost use Rattle.krl_queries.specs.Questions.{IsFirst};
 
 use krl_entries::Revocations;
-use krl_types::u64_of;
 use serial_set::Spans;
+use ssh_wire::u64_of;
 
 // Whether some serial number from `lo` to `hi` may be a topic under exactly this authority.
 pub(crate) fn may_have<S: Spans>(

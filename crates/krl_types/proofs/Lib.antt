@@ -1,5 +1,4 @@
 mod Common
 pub mod Elements
-pub mod Numbers
 pub mod Equivalences
 pub mod SameNames

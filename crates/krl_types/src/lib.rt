@@ -2,10 +2,8 @@
 //! list cannot be read (ssh-keygen(1), KEY REVOCATION LISTS; PROTOCOL.krl).
 #![tactic(auto)]
 
-mod field;
 mod krl_fault;
 mod subject;
 
-pub use field::{byte_of, u32_of, u64_of};
 pub use krl_fault::KrlFault;
 pub use subject::{CertNames, Subject};

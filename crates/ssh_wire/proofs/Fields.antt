@@ -102,6 +102,15 @@ number_of-number size n lt =
     ap (λ (k : ℕ). big_number k bytes) (length-number size n)
     ∙ ap (big_number size) (sym (append-nil bytes)) ∙ big_number-reads_back size n [] lt
 
+-- a byte is its own number
+pub number_of-one : (byte : ℕ) → number_of (byte ∷ []) ≡ byte
+unfolding number_of
+number_of-one byte = omega arith
+
+pub one_byte : (field : List ℕ) → length field ≡ 1 → field ≡ number_of field ∷ []
+one_byte (a ∷ []) len = ap (λ (n : ℕ). n ∷ []) (sym (number_of-one a))
+one_byte _ len = absurd (omega arith)
+
 -- ---- strings
 
 pub length-string : (text : List ℕ) → length (string text) ≡ 4 + length text

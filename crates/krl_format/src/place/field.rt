@@ -11,7 +11,8 @@ ghost use Rattle.krl_format.specs.FixedFields.{is_header};
 use crate::header::MAGIC_NUMBER;
 use crate::judging::{judge, next_subsection, rest, within};
 use crate::place::Place;
-use krl_types::{KrlFault, byte_of, u32_of, u64_of};
+use krl_types::KrlFault;
+use ssh_wire::{byte_of, u32_of, u64_of};
 
 /// A table of fields. The last two are inside a part that has a length: an extension fills its
 /// part, and subsections follow the fields of a section of certificates.

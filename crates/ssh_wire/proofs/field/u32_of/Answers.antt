@@ -1,6 +1,7 @@
-use Rattle.krl_types.proofs.Common.{◌∙◌, ap, number_of, sym, ℕ}
+use Rattle.std.proofs.Common.{ℕ, ap, sym, ◌∙◌}
 use Rattle.byteorder.specs.Endian.{big_number}
-use Rattle.krl_types.proofs.field.u32_of.Goals as goal
+use Rattle.ssh_wire.specs.Wire.{number_of}
+use Rattle.ssh_wire.proofs.field.u32_of.Goals as goal
 
 pub returns : goal.returns
 unfolding number_of
