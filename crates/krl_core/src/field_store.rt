@@ -22,7 +22,7 @@ ghost use Rattle.krl_format.specs.FixedFields.{is_fixed};
 use krl_entries::{Item, Revocations, Store};
 use krl_format::{Field, Header, ItemKind, Place};
 use serial_set::{BitRuns, Span, Spans, count_near};
-use ssh_wire::{Bytes, byte_of, u64_of};
+use ssh_wire::{Bytes, array_of, byte_of, u64_of};
 use std::alloc::{AllocError, Global};
 use std::marker::Model;
 
@@ -329,14 +329,4 @@ impl<S: Spans> FieldStore<Revocations<S>> {
         };
         self.store.held() + open
     }
-}
-
-// The bytes of a field of this size, as an array.
-fn array_of<const N: usize>(field: &[u8]) -> [u8; N]
-    requires { length field.now ≡ N }
-    ensures { result ≡ field.now }
-{
-    let mut array = [0; N];
-    array.copy_from_slice(field);
-    array
 }

@@ -9,6 +9,7 @@ ghost use Rattle.list_diff.specs.Lost.{LostText, text_size};
 
 use krl_entries::{Revocations, Texts};
 use serial_set::Spans;
+use ssh_wire::array_of;
 use std::alloc::AllocError;
 use std::cmp::Ordering;
 use std::marker::Model;
@@ -127,16 +128,6 @@ fn add_text<S: Spans>(gone: &mut Revocations<S>, kind: Kind, text: &[u8]) -> Res
         Kind::Sha1 => gone.add_sha1(&array_of(text)),
         Kind::Sha256 => gone.add_sha256(&array_of(text)),
     }
-}
-
-// The bytes as an array.
-fn array_of<const N: usize>(bytes: &[u8]) -> [u8; N]
-    requires { length bytes.now ≡ N }
-    ensures { result ≡ bytes.now }
-{
-    let mut array = [0; N];
-    array.copy_from_slice(bytes);
-    array
 }
 
 /// Adds the key IDs that other revocations do not hold under exactly this authority.

@@ -1,4 +1,4 @@
-//! The numbers that fields spell (RFC 4251 section 5).
+//! The values of whole fields: the numbers that they spell (RFC 4251 section 5), and arrays.
 
 ghost use Rattle.std.specs.Prelude.{◌≡◌, length};
 ghost use Rattle.ssh_wire.specs.Wire.{number_of};
@@ -27,4 +27,14 @@ pub fn u64_of(field: &[u8]) -> u64
     ensures { result ≡ number_of field.now }
 {
     BigEndian::read_u64(field)
+}
+
+/// The bytes of a field of this size, as an array.
+pub fn array_of<const N: usize>(field: &[u8]) -> [u8; N]
+    requires { length field.now ≡ N }
+    ensures { result ≡ field.now }
+{
+    let mut array = [0; N];
+    array.copy_from_slice(field);
+    array
 }

@@ -13,6 +13,6 @@ mod put;
 pub use bytes::Bytes;
 pub use cursor::Cursor;
 pub use fault::WireFault;
-pub use field::{byte_of, u32_of, u64_of};
+pub use field::{array_of, byte_of, u32_of, u64_of};
 pub use pull_fault::PullFault;
 pub use put::{put_byte, put_mpint, put_string, put_u32, put_u64};
