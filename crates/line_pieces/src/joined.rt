@@ -15,6 +15,7 @@ pub struct Then<A, B> {
 impl<A: Printed, B: Printed> Printed for Then<A, B> {
     ghost text = { λ joined. A.text joined.first ++ B.text joined.rest };
 
+    #[inline(always)]
     fn push_to(&self, out: &mut Vec<u8>) -> Result<(), AllocError> {
         self.first.push_to(out)?;
         self.rest.push_to(out)

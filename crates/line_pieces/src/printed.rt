@@ -15,6 +15,7 @@ pub trait Printed {
 }
 
 /// Appends what is printed of the value. `put!` takes pieces.
+#[inline(always)]
 pub fn put<T: Printed + Drop>(out: &mut Vec<u8>, value: T) -> Result<(), AllocError>
     ensures { OnOk result (out.new.items ≡ out.old.items ++ T.text value) }
 {

@@ -12,6 +12,7 @@ pub struct Words<'a>(pub &'a [u8]);
 impl<'a> Printed for Words<'a> {
     ghost text = { λ words. words.0.now };
 
+    #[inline(always)]
     fn push_to(&self, out: &mut Vec<u8>) -> Result<(), AllocError> {
         out.extend_from_slice(self.0)
     }
