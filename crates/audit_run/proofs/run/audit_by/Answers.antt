@@ -15,5 +15,5 @@ returns g c =
           let audits = rw c.new-round.ensures at c.audit_all-stop.ensures.all in
           let was = audits entries taken means refl (rw (c.new-printer.ensures, c.requires.working) (begun taken _)) in
           let all = rw (sym c.round.view_is) at was in
-          (c.audit_all-stop.result, all.0, (all.1.0, (ends_there all.0 inside.auditor.counts taken _ _ _ _ _ _ (record { plain = c.finish.result.status; ends = c.finish.ensures.ends taken all.0 all.1.1.0; status_is = search rules }) (search rules) (search rules), stop_is_kept c.audit_all-stop.result all.0 taken _ _ _ _ _ all.1.1.0 c.finish.ensures.ends)));
+          (c.audit_all-stop.result, all.0, (all.1.0, (ends_there all.0 inside.auditor.counts taken _ _ _ _ _ _ (record { ends = (c.finish.ensures.ends taken all.0 all.1.1.0).0; status_is = search rules }) (search rules) (search rules), stop_is_kept c.audit_all-stop.result all.0 taken _ _ _ _ _ all.1.1.0 c.finish.ensures.ends)));
     }
