@@ -3,14 +3,18 @@
 set -l audits '__fish_seen_subcommand_from audit'
 set -l checks '__fish_seen_subcommand_from check'
 set -l shows '__fish_seen_subcommand_from show'
+set -l makes '__fish_seen_subcommand_from make'
 
 complete -c krl -f
-complete -c krl -n "not $audits; and not $checks; and not $shows" -a audit -d 'Find revoked keys in files'
-complete -c krl -n "not $audits; and not $checks; and not $shows" -a check \
+complete -c krl -n "not $audits; and not $checks; and not $shows; and not $makes" -a audit \
+  -d 'Find revoked keys in files'
+complete -c krl -n "not $audits; and not $checks; and not $shows; and not $makes" -a check \
   -d 'Check a list before it is put in force'
-complete -c krl -n "not $audits; and not $checks; and not $shows" -a show \
+complete -c krl -n "not $audits; and not $checks; and not $shows; and not $makes" -a show \
   -d 'Print what lists name'
-complete -c krl -n "not $audits; and not $checks; and not $shows" -a help \
+complete -c krl -n "not $audits; and not $checks; and not $shows; and not $makes" -a make \
+  -d 'Make a list of texts'
+complete -c krl -n "not $audits; and not $checks; and not $shows; and not $makes" -a help \
   -d 'Print the options of a task'
 complete -c krl -s h -l help -d 'Print the options'
 complete -c krl -s V -l version -d 'Print the name and version'
@@ -32,3 +36,9 @@ complete -c krl -n "$checks" -l allow-empty -d 'Take a list that revokes nobody'
 complete -c krl -n "$checks" -l print-version -d 'Print the version of the list alone'
 complete -c krl -n "$shows" -F
 complete -c krl -n "$shows" -l json -d 'Print JSON objects'
+complete -c krl -n "$makes" -F
+complete -c krl -n "$makes" -s f -rF -d 'The revocation list that is made'
+complete -c krl -n "$makes" -s z -x -d 'Its version'
+complete -c krl -n "$makes" -l comment -x -d 'Its comment'
+complete -c krl -n "$makes" -s q -d 'Do not say what was made'
+complete -c krl -n "$makes" -l allow-empty -d 'Make a list that revokes nobody'

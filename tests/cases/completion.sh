@@ -54,8 +54,8 @@ offers_krl() {
   judge "bash is offered $name" "$(differs words "$wanted" "$got")"
 }
 cd words || exit 1
-offers_krl 'the tasks of krl' --help,--version,audit,check,help,show ''
-offers_krl 'the tasks that have help' audit,check,show help ''
+offers_krl 'the tasks of krl' --help,--version,audit,check,help,make,show ''
+offers_krl 'the tasks that have help' audit,check,make,show help ''
 offers_krl 'the task that was begun' audit a
 offers_krl 'the options of an audit' --all,--files0-from,--help,--json,--version,-a,-f,-q audit -
 offers_krl 'a list' two.krl audit -f t
@@ -69,4 +69,7 @@ offers_krl 'a file to be kept' one.pub check --keep o
 offers_krl 'a list to check' two.krl check --keep one.pub t
 offers_krl 'the options of a shown list' --help,--json,--version show -
 offers_krl 'a list to show' two.krl show t
+offers_krl 'the options of a list that is made' \
+  --allow-empty,--comment,--help,--version,-f,-q,-z make -
+offers_krl 'texts to make a list of' "$every" make -f two.krl ''
 cd ..

@@ -112,6 +112,29 @@ cp revoked.krl lists/r.krl
 got=$(cd lists && PATH=$PWD/tools:$PATH git diff | grep '^[-+][^-+#]')
 judge 'git shows what changed' "$(differs 'the change' '+serial: 99' "$got")"
 
+# ---- a list without its text
+
+if has_krl; then
+  cp revoked.krl kept.krl
+  follows 'a list is shown as a text' 'krl show revoked.krl >' 0 '' again
+  sed -i '/^serial: 99$/d' revoked.txt
+  follows 'a list is made of its text' 'krl make -f revoked.krl revoked.txt' 0 '*' again
+  judge 'an entry is taken back' "$(
+    differs 'what is gone' '< serial: 99' "$(
+      diff <("$program" -Q -l -f kept.krl) <("$program" -Q -l -f revoked.krl) | grep '^[<>] [^#]'
+    )"
+  )"
+  "$program" -k -f hosts.krl -s host-ca.pub - <<<'serial: 99'
+  follows 'lists are merged' 'krl show revoked.krl hosts.krl' 0 '*' again
+  judge 'the merged list' "$(
+    differs 'what differs' '' "$(
+      diff <("$program" -Q -l -f kept.krl) <("$program" -Q -l -f both.krl) | grep '^[<>] [^#]'
+    )"
+  )"
+  mv kept.krl revoked.krl
+fi
+followed=$((followed + 3))
+
 # ---- the entries of one authority
 
 follows 'the entries of one authority' 'krl-keygen -Q -l -f revoked.krl |' 0 'serial: 6-9'

@@ -15,6 +15,7 @@ use program_edge::{end, print_line, stop};
 use run_faults::{Cause, FileFault, RunFault};
 use run_output::FAILED;
 use std::alloc::{AllocError, Global};
+use text_run::{MakeCause, MakeFault, fault_line as make_fault_line};
 
 // Why no audit is made by a list whose authorities OpenSSH compares otherwise.
 const OTHER_AUTHORITY: &[u8] = b"a certificate authority in it is no key in its one spelling, and \
@@ -59,6 +60,19 @@ pub fn end_audit(rt: &HostRuntime, list: &str, audited: Audited) -> u8
         Audited::OtherAuthority => fail_in_words(rt, list, OTHER_AUTHORITY),
         Audited::Refused(fault) => stop(rt, &Krl, &fault),
     }
+}
+
+/// Ends a run that made no list, and says why.
+pub fn fail_to_make(rt: &HostRuntime, fault: &MakeFault<'_>) -> u8
+    ensures { result ≡ 255 }
+{
+    if let MakeCause::Run(cause) = fault.cause {
+        return stop(rt, &Krl, &RunFault::whole(fault.name, cause));
+    }
+    if let Ok(line) = make_fault_line(rt.alloc(), fault) {
+        print_line(rt, line.as_slice());
+    }
+    FAILED
 }
 
 // Prints the last line of an audit on standard error. Where there is no memory for the line,

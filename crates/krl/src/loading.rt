@@ -13,6 +13,7 @@ use ssh_wire::Bytes;
 use std::alloc::AllocError;
 use std::fs::{self, File};
 use std::io::{self, ErrorKind, Read, Seek, SeekFrom};
+use text_run::Text;
 
 // How many bytes of a file are read at a time.
 const BATCH: usize = 8_192;
@@ -106,6 +107,31 @@ fn fill_front<R: Source>(reader: &mut R, front: &mut [u8; FRONT]) -> Result<usiz
         count += more;
     }
     Ok(count)
+}
+
+/// A text, or standard input if its name is `-`.
+pub fn text_of<'a>(rt: &HostRuntime, name: &'a str) -> Text<'a>
+    ensures { result.name ≡ name.now }
+{
+    let content = if name == "-" {
+        rest_of(rt, FromRead::new(rt.stdin()))
+    } else {
+        match fs::open(rt, name) {
+            Ok(file) => rest_of(rt, FromRead::new(file)),
+            Err(_) => Err(Cause::File(FileFault::Open)),
+        }
+    };
+    Text { name, content }
+}
+
+// All bytes of a reader, unless they are more than a list may have.
+fn rest_of<R: Source + Drop>(rt: &HostRuntime, reader: R) -> Result<Bytes, Cause>
+    requires { R.has_failed reader ≡ false }
+{
+    match Pull::new(reader, LIST_LIMIT).rest(rt.alloc()) {
+        Ok(bytes) => Ok(bytes),
+        Err(fault) => Err(cause_of(KrlFault::from(fault))),
+    }
 }
 
 /// The bytes of a list's file: of a longer one, one byte more than a list may have, so that it has

@@ -1,4 +1,4 @@
-//! Finds revoked keys in files of keys, and checks and shows lists, as krl(1) says.
+//! Finds revoked keys in files of keys, and checks, shows and makes lists, as krl(1) says.
 #![tactic(auto)]
 
 mod audit;
@@ -6,12 +6,14 @@ mod check;
 mod disk;
 mod ending;
 mod loading;
+mod make;
 mod screen;
 mod show;
 
 use crate::audit::audit;
 use crate::check::check;
 use crate::ending::{fault_line, reason_of};
+use crate::make::make;
 use crate::show::show;
 use krl_arguments::{Task, task_of};
 use option_table::CommandFault;
@@ -51,6 +53,7 @@ impl Program for Krl {
             Ok(Task::Audit(task)) => audit(rt, &task),
             Ok(Task::Check(task)) => check(rt, &task),
             Ok(Task::Show(task)) => show(rt, &task),
+            Ok(Task::Make(task)) => make(rt, &task),
             Err(fault) => refuse(rt, self, &fault),
         }
     }

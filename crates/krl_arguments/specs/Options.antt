@@ -2,9 +2,9 @@
 use Rattle.std.specs.Prelude.{ℕ, true, false, List, [], ◌∷◌, codes, map}
 use Rattle.clap.specs.Simple.{App, Shape, new_app, new_shape, with_subcommand}
 use Rattle.clap.specs.Walk.{Rule}
-use Rattle.option_table.specs.Argument.{letter_rule, long_rule, long_value_rule, long_values_rule}
-use Rattle.option_table.specs.Argument.{needed_rule, rule_by, some_words_rule, with_rules}
-use Rattle.option_table.specs.Argument.{word_rule, words_rule}
+use Rattle.option_table.specs.Argument.{letter_rule, letter_value_rule, long_rule}
+use Rattle.option_table.specs.Argument.{long_value_rule, long_values_rule, needed_rule, rule_by}
+use Rattle.option_table.specs.Argument.{some_words_rule, with_rules, word_rule, words_rule}
 use Rattle.krl_arguments.specs.declared.options.Subcommand.{Subcommand}
 
 -- krl audit: -f, -a, -q, --all, --json, --files0-from, and the files
@@ -33,6 +33,16 @@ check_rules =
 abbrev pub show_rules : List Rule
 show_rules = long_rule (codes "json") ∷ some_words_rule (codes "lists") ∷ []
 
+-- krl make: -f, -z, --comment, -q, --allow-empty, and the texts
+abbrev pub make_rules : List Rule
+make_rules =
+    needed_rule (codes "list") 102
+    ∷ letter_value_rule (codes "version") 122
+    ∷ long_value_rule (codes "comment")
+    ∷ letter_rule (codes "quiet") 113
+    ∷ long_rule (codes "allow-empty")
+    ∷ words_rule (codes "files") ∷ []
+
 -- a subcommand of these arguments
 abbrev pub with_all : List ℕ → List Rule → Shape
 with_all name rules = (with_rules (new_app name) rules).top
@@ -56,6 +66,8 @@ bare = record {
 abbrev pub program : App
 program = with_subcommand
     (with_subcommand
+    (with_subcommand
     (with_subcommand bare (with_all (codes "audit") audit_rules))
     (with_all (codes "check") check_rules))
-    (with_all (codes "show") show_rules)
+    (with_all (codes "show") show_rules))
+    (with_all (codes "make") make_rules)

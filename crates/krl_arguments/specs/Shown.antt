@@ -26,10 +26,16 @@ wrong_age = error_text
     (codes "--max-age takes a number and one of s, m, h and d, as in 24h")
     (codes "check --max-age <duration> <krl>")
 
+abbrev pub wrong_version : List ℕ
+wrong_version = error_text
+    (codes "-z takes a number below 2^64")
+    (codes "make -f <krl> [-z <number>] [--comment <text>] [-q] [--allow-empty] [file]...")
+
 -- why the options of a subcommand of this name do not go together
 abbrev pub misuse_of : List ℕ → List Row → List ℕ
 misuse_of name rows =
-    if bytes_eq name (codes "check")
+    if bytes_eq name (codes "make") then wrong_version
+    else if bytes_eq name (codes "check")
     then (if has_wrong_age rows then wrong_age else version_alone)
     else nothing_to_audit
 

@@ -7,6 +7,7 @@ use Rattle.clap.specs.Simple.{subcommand_of}
 use Rattle.clap.specs.Walk.{Row, first_of, is_empty}
 use Rattle.option_table.specs.Value.{is_set, values_in}
 use Rattle.krl_arguments.specs.Duration.{duration_of}
+use Rattle.krl_arguments.specs.Making.{Make, make_by, make_of}
 use Rattle.krl_arguments.specs.Options.{program}
 use Rattle.krl_arguments.specs.declared.task.Audit.{Audit as AuditOf}
 use Rattle.krl_arguments.specs.declared.task.Check.{Check as CheckOf}
@@ -43,6 +44,7 @@ pub data Task : Type 0 where
   AuditTask : Audit → Task
   CheckTask : Check → Task
   ShowTask : Show → Task
+  MakeTask : Make → Task
 
 -- ---- the values of the words
 
@@ -113,6 +115,7 @@ named_task name rows =
     if bytes_eq name (codes "audit") then option_map AuditTask (audit_of rows)
     else if bytes_eq name (codes "check") then option_map CheckTask (check_of rows)
     else if bytes_eq name (codes "show") then Some (ShowTask (show_with rows))
+    else if bytes_eq name (codes "make") then option_map MakeTask (make_of rows)
     else None
 
 abbrev pub task_in : Option (List ℕ × List Row) → Option Task
@@ -154,3 +157,4 @@ abbrev pub task_by : TaskOf → Task
 task_by (tasks.Audit audit) = AuditTask (audit_by audit)
 task_by (tasks.Check check) = CheckTask (check_by check)
 task_by (tasks.Show show) = ShowTask (show_by show)
+task_by (tasks.Make make) = MakeTask (make_by make)

@@ -3,10 +3,11 @@
 
 mod command;
 mod duration;
+mod making;
 mod options;
 mod shown;
 mod task;
 mod tasks;
 
 pub use command::task_of;
-pub use task::{Audit, Check, Show, Task};
+pub use task::{Audit, Check, Make, Show, Task};

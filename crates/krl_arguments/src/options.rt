@@ -109,6 +109,39 @@ const SHOW: [Argument; 2] = [
     },
 ];
 
+const MAKE: [Argument; 6] = [
+    Argument {
+        id: "list",
+        form: Form::Needed('f', "krl"),
+        help: "The revocation list that is made",
+    },
+    Argument {
+        id: "version",
+        form: Form::LetterValue('z', "number"),
+        help: "Its version; otherwise one above that of the list it replaces, or 1",
+    },
+    Argument {
+        id: "comment",
+        form: Form::LongValue("text"),
+        help: "Its comment",
+    },
+    Argument {
+        id: "quiet",
+        form: Form::Letter('q'),
+        help: "Do not say what was made",
+    },
+    Argument {
+        id: "allow-empty",
+        form: Form::Long,
+        help: "Make a list that revokes nobody",
+    },
+    Argument {
+        id: "files",
+        form: Form::Words("file"),
+        help: "The texts that it is made of; - is standard input",
+    },
+];
+
 /// `krl audit`.
 pub const AUDITING: Subcommand = Subcommand {
     name: "audit",
@@ -130,20 +163,31 @@ pub const SHOWING: Subcommand = Subcommand {
     arguments: &SHOW,
 };
 
+/// `krl make`.
+pub const MAKING: Subcommand = Subcommand {
+    name: "make",
+    about: "Makes a revocation list from texts",
+    arguments: &MAKE,
+};
+
 /// The program, for parsing its words. An option is refused if it is given twice, unless it may have
 /// several values.
 pub fn program<'a>(alloc: Global) -> Result<Command<'a>, AllocError>
     ensures { IfOk result (λ command. app_of command ≡ program) }
 {
     let bare = Command::new(alloc, NAME)
-        .about("Finds revoked keys, and checks and shows revocation lists")
+        .about("Finds revoked keys, and checks, shows and makes revocation lists")
         .version(VERSION)
         .propagate_version(true)
         .subcommand_required(true);
     let audit = subcommand_of(alloc, &AUDITING)?;
     let check = subcommand_of(alloc, &CHECKING)?;
     let show = subcommand_of(alloc, &SHOWING)?;
-    bare.subcommand(audit)?.subcommand(check)?.subcommand(show)
+    let make = subcommand_of(alloc, &MAKING)?;
+    bare.subcommand(audit)?
+        .subcommand(check)?
+        .subcommand(show)?
+        .subcommand(make)
 }
 
 // The subcommand in the form of the library.

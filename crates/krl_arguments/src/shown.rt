@@ -31,6 +31,14 @@ Usage: krl check --print-version <krl>
 For more information, try '--help'.
 ";
 
+// The text for a value of `-z` that is no number.
+const WRONG_VERSION: &str = "error: -z takes a number below 2^64
+
+Usage: krl make -f <krl> [-z <number>] [--comment <text>] [-q] [--allow-empty] [file]...
+
+For more information, try '--help'.
+";
+
 // The text for a value of `--max-age` that is no duration.
 const WRONG_AGE: &str = "error: --max-age takes a number and one of s, m, h and d, as in 24h
 
@@ -68,7 +76,9 @@ pub fn text_of_misuse(alloc: Global, matches: &ArgMatches<'_>) -> Result<String,
 fn misuse_of(name: &str, found: &ArgMatches<'_>) -> &'static str
     ensures { result.now ≡ misuse_of name.now (rows_of (found_of found.now)) }
 {
-    if name != "check" {
+    if name == "make" {
+        WRONG_VERSION
+    } else if name != "check" {
         NOTHING_TO_AUDIT
     } else if has_wrong_age(found) {
         WRONG_AGE

@@ -9,6 +9,8 @@ pub enum Task<'a> {
     Check(Check<'a>),
     /// `krl show`.
     Show(Show<'a>),
+    /// `krl make`.
+    Make(Make<'a>),
 }
 
 /// `krl audit`: the list, which findings are printed, and which files are audited.
@@ -56,4 +58,21 @@ pub struct Show<'a> {
     pub lists: Vec<&'a str>,
     /// True if they are printed as JSON, by `--json`.
     pub json: bool,
+}
+
+/// `krl make`: the list, its version and comment, and the texts that it is made of.
+#[derive(Drop)]
+pub struct Make<'a> {
+    /// The revocation list, the value of `-f`.
+    pub list: &'a str,
+    /// Its version, by `-z`.
+    pub version: Option<u64>,
+    /// Its comment, by `--comment`.
+    pub comment: Option<&'a str>,
+    /// True if nothing is said about the list that was made, by `-q`.
+    pub quiet: bool,
+    /// True if it may revoke nobody, by `--allow-empty`.
+    pub allow_empty: bool,
+    /// The texts.
+    pub files: Vec<&'a str>,
 }

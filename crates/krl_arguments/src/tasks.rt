@@ -10,6 +10,7 @@ ghost use Rattle.krl_arguments.specs.Task.{if_whole, max_age_of, named_task, sho
 ghost use Rattle.krl_arguments.specs.Task.{task_by, task_in};
 
 use crate::duration::duration_of;
+use crate::making::make_in;
 use crate::task::{Audit, Check, Show, Task};
 use clap::ArgMatches;
 use option_table::{is_set, value_of, values_of};
@@ -43,6 +44,9 @@ fn named_task<'a>(
     }
     if name == "show" {
         return Ok(Some(Task::Show(show_with(alloc, found)?)));
+    }
+    if name == "make" {
+        return Ok(make_in(alloc, found)?.map(Task::Make));
     }
     Ok(None)
 }

@@ -1,6 +1,6 @@
 //! The words of the command line.
 
-use krl_arguments::{Audit, Check, Show, Task, task_of};
+use krl_arguments::{Audit, Check, Make, Show, Task, task_of};
 use option_table::CommandFault;
 use std::alloc::Global;
 use std::test::Fail;
@@ -26,6 +26,14 @@ fn show_by<'a>(alloc: Global, words: &'a [&'a str]) -> Result<Show<'a>, &'static
     match task_of(alloc, words) {
         Ok(Task::Show(show)) => Ok(show),
         _ => Err("the words ask for lists"),
+    }
+}
+
+// The list that the words ask to make.
+fn make_by<'a>(alloc: Global, words: &'a [&'a str]) -> Result<Make<'a>, &'static str> {
+    match task_of(alloc, words) {
+        Ok(Task::Make(make)) => Ok(make),
+        _ => Err("the words ask for a list"),
     }
 }
 
@@ -90,6 +98,34 @@ fn shows(rt: HostRuntime) -> Result<(), Fail> {
     assert!(rt; show.json && show.lists.as_slice() == ["a", "b"].as_slice());
     let show = show_by(rt.alloc(), &["krl", "show", "--", "-a"])?;
     assert!(rt; !show.json && show.lists.as_slice() == ["-a"].as_slice());
+    Ok(())
+}
+
+#[test]
+fn makes(rt: HostRuntime) -> Result<(), Fail> {
+    let words = [
+        "krl",
+        "make",
+        "-qf",
+        "k",
+        "-z",
+        "7",
+        "--comment",
+        "c",
+        "a",
+        "--allow-empty",
+        "-",
+    ];
+    let make = make_by(rt.alloc(), &words)?;
+    assert!(rt; make.list == "k" && make.version == Some(7) && make.comment == Some("c"));
+    assert!(rt; make.quiet && make.allow_empty && make.files.as_slice() == ["a", "-"].as_slice());
+    let make = make_by(rt.alloc(), &["krl", "make", "-f", "k"])?;
+    assert!(rt; make.version.is_none() && make.comment.is_none() && make.files.is_empty());
+    assert!(rt; !make.quiet && !make.allow_empty);
+    for version in ["", "x", "-1", "18446744073709551616", "1 "] {
+        let words = ["krl", "make", "-f", "k", "-z", version, "a"];
+        assert!(rt; status_by(rt.alloc(), &words)? == 2, "{version}");
+    }
     Ok(())
 }
 

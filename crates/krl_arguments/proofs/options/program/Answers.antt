@@ -14,4 +14,5 @@ returns c =
     ap app_of_fields c.subcommand_required-bare.ensures ∙ ap (on_top (λ s. record s { subcommand_required = true })) passed in
     let first = c.in_ok-subcommand.ensures.shape c.in_ok-audit.ensures.local ∙ ap₂ with_subcommand whole c.in_ok-audit.ensures.shape in
     let second = c.in_ok-subcommand-2.ensures.shape c.in_ok-check.ensures.local ∙ ap₂ with_subcommand first c.in_ok-check.ensures.shape in
-    IfOk-weaker c.subcommand-3.result _ _ (λ command adds. adds.shape c.in_ok-show.ensures.local ∙ ap₂ with_subcommand second c.in_ok-show.ensures.shape) c.subcommand-3.ensures
+    let third = c.in_ok-subcommand-3.ensures.shape c.in_ok-show.ensures.local ∙ ap₂ with_subcommand second c.in_ok-show.ensures.shape in
+    IfOk-weaker c.subcommand-4.result _ _ (λ command adds. adds.shape c.in_ok-make.ensures.local ∙ ap₂ with_subcommand third c.in_ok-make.ensures.shape) c.subcommand-4.ensures

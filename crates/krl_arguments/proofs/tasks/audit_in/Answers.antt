@@ -1,5 +1,5 @@
 -- The list that was found is the one of the words.
-use Rattle.std.proofs.Common.{◌∙◌, ℕ, List, Option, None, ap}
+use Rattle.std.proofs.Common.{◌∙◌, ℕ, List, Option, ap}
 use Rattle.std.specs.Prelude.{option_and_then}
 use Rattle.clap.specs.Matches.{found_of}
 use Rattle.clap.specs.Walk.{rows_of}

@@ -1,5 +1,5 @@
 -- The value that was found is no duration.
-use Rattle.std.proofs.Common.{◌≡◌, rules, ◌∙◌, ℕ, Bool, false, not, List, Option, Some, None, ap}
+use Rattle.std.proofs.Common.{◌≡◌, rules, ◌∙◌, ℕ, false, not, List, Option, ap}
 use Rattle.std.specs.Prelude.{is_some}
 use Rattle.std.specs.Option.{option_map_or}
 use Rattle.krl_arguments.specs.Duration.{duration_of}

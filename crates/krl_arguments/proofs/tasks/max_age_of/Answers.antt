@@ -1,5 +1,5 @@
 -- The duration of the value that was found.
-use Rattle.std.proofs.Common.{◌∙◌, ℕ, List, Option, Some, None, ap}
+use Rattle.std.proofs.Common.{◌∙◌, ℕ, List, Option, ap}
 use Rattle.std.specs.Prelude.{option_and_then}
 use Rattle.krl_arguments.specs.Duration.{duration_of}
 use Rattle.krl_arguments.proofs.tasks.max_age_of.Goals as goal

@@ -1,0 +1,231 @@
+# krl make: each word of a text, each refusal by file and line, the version, and lists that are shown,
+# made and shown again, beside what OpenSSH's ssh-keygen says of them.
+
+keygen=$program
+program=$krl
+export SOURCE_DATE_EPOCH=0
+f=$(fingerprint "$G")
+g=$(line ssh-ed25519 "$G")
+a=$(line ssh-ed25519 "$A")
+all='0000000000000000'
+
+# makes NAME TEXT SAID DIGITS..: the text makes a list of version 1 with these sections, and this is
+# said.
+makes() {
+  printf "$2" >text
+  rm -f made.krl
+  run make -f made.krl text
+  judge "$1" "$(
+    differs 'exit status' 0 "$got_status"
+    differs 'standard output' '' "$got_output"
+    differs 'standard error' "krl make: made.krl: version 1: $3"$'\n' "$got_error"
+    differs 'the list' "$H$(printf %s "${@:4}")" "$(digits made.krl)"
+  )"
+}
+five=0100000015${all}20000000080000000000000005
+makes 'a serial number' 'ca: all\nserial: 5\n' '1 CA, 1 serial number' $five
+makes 'a range, blanks, a comment and upper case' '\t CA:all \r\nSeRiAl: 5 - 0x5 # 6\r\n# c\n\n' \
+  '1 CA, 1 serial number' $five
+makes 'two serial numbers' 'ca: all\nserial: 2-3' '1 CA, 2 serial numbers' \
+  010000001a${all}220000000d 0000000000000002 0000000103
+makes 'a key ID' 'ca: all\nid: a # b' '1 CA, 1 key ID' 0100000012${all}230000000500000001 61
+makes 'a key ID in digits' 'ca: all\nid-hex: 6F0a' '1 CA, 1 key ID' \
+  0100000013${all}230000000600000002 6f0a
+makes 'an empty key ID' 'ca: all\nid-hex:' '1 CA, 1 key ID' 0100000011${all}230000000400000000
+of_a=$(string "$A")00000000
+makes 'a CA' "ca: $a of a\nserial: 7\n" '1 CA, 1 serial number' \
+  "01$(string "${of_a}20000000080000000000000007")"
+makes 'a CA by its bytes' "ca-blob: $(bytes "$A" | base64 -w0)\nserial: 7\n" \
+  '1 CA, 1 serial number' "01$(string "${of_a}20000000080000000000000007")"
+makes 'another CA' "ca: $a\nca: all\nserial: 5\n" '1 CA, 1 serial number' $five
+makes 'two CAs' "ca: $a\nserial: 7\nca: all\nserial: 5\n" '2 CAs, 2 serial numbers' $five \
+  "01$(string "${of_a}20000000080000000000000007")"
+makes 'a CA that is no key' 'ca-blob: eA==\nid: a' '1 CA, 1 key ID' \
+  01000000130000000178 00000000230000000500000001 61
+makes 'keys' "$g c\nkey: $a\nkey-blob: AQ==" '3 keys' "$(section "$A" "$G" 01)"
+makes 'a SHA-256' "hash: $f" '1 hashed key' \
+  05000000240000 0020 "$(bytes "$G" | sha256sum | cut -c1-64)"
+makes 'the SHA-256 of a key' "sha256: $g" '1 hashed key' \
+  05000000240000 0020 "$(bytes "$G" | sha256sum | cut -c1-64)"
+makes 'a SHA-1' "hash: SHA1:$(bytes "$(repeat 20 ab)" | base64 | tr -d =)" '1 hashed key' \
+  030000001800000014 "$(repeat 20 ab)"
+certificate=$(line ssh-ed25519-cert-v01@openssh.com "$(certificate "$G" "$A" 0000000000000007 a)")
+makes 'a certificate, under its own CA' "ca: all\n$certificate\n" '1 CA, 1 serial number' \
+  "01$(string "${of_a}20000000080000000000000007")"
+
+# refuses NAME LINE WORDS FAULT TEXT: the text is refused at its line, and the list stays.
+refuses() {
+  printf "$5" >text
+  echo old >made.krl
+  run make -f made.krl -z 1 text
+  judge "$1" "$(
+    differs 'exit status' 255 "$got_status"
+    differs 'standard output' '' "$got_output"
+    differs 'standard error' "krl: text: line $2: $3 [$4]"$'\n' "$got_error"
+    differs 'the list' old "$(cat made.krl)"
+  )"
+}
+refuses 'a serial number before any CA' 1 'no ca: line stands before it' \
+  'text 1 Spec, spec 4 NoAuthority' 'serial: 5\nca: all\n'
+refuses 'a key ID before any CA' 2 'no ca: line stands before it' \
+  'text 1 Spec, spec 4 NoAuthority' '\nid: a\n'
+refuses 'a key ID in digits before any CA' 1 'no ca: line stands before it' \
+  'text 1 Spec, spec 4 NoAuthority' 'id-hex: 61\n'
+refuses 'a key ID with a #' 2 'a # with no blank before it would cut the key ID short' \
+  'text 6 CutId' 'ca: all\nid: eve#1\n'
+refuses 'odd digits' 2 'no pairs of hexadecimal digits' 'text 5 Hex' 'ca: all\nid-hex: 656\n'
+refuses 'digits that are none' 2 'no pairs of hexadecimal digits' 'text 5 Hex' \
+  'ca: all\nid-hex: 6g\n'
+refuses 'a CA that is a certificate' 1 'a CA is given by its key, and not by a certificate' \
+  'text 2 Certificate' "ca: $certificate\n"
+refuses 'a CA of no bytes' 1 'a CA has bytes' 'text 3 NoBytes' 'ca-blob: # x\n'
+refuses 'bytes without padding' 1 'no whole base64 with padding' 'text 4 Base64' 'key-blob: AQ\n'
+refuses 'a SHA-1 of 21 bytes' 1 'the hash is cut or misspelt' \
+  'text 1 Spec, spec 7 Fingerprint, fingerprint 3 Length' \
+  "hash: SHA1:$(bytes "$(repeat 21 ab)" | base64 | tr -d =)\n"
+refuses 'a CA that is no key' 1 'no key type stands there' \
+  'text 1 Spec, spec 6 Key, line 1 NoKey' 'ca: everyone\n'
+refuses 'a word that is one letter off' 2 'no key type stands there' \
+  'text 1 Spec, spec 6 Key, line 1 NoKey' 'ca: all\nserials: 5\n'
+refuses 'serial number 0' 2 'serial number 0 names no certificate' 'text 1 Spec, spec 2 Zero' \
+  'ca: all\nserial: 0\n'
+refuses 'a range that ends early' 2 'a range of serial numbers ends below its first one' \
+  'text 1 Spec, spec 3 Reversed' 'ca: all\nserial: 2-1\n'
+refuses 'a serial number that is none' 2 'no serial number below 2^64' 'text 1 Spec, spec 1 Number' \
+  'ca: all\nserial: 18446744073709551616\n'
+
+# Texts without an entry, and texts that are not read. The list stays.
+printf '# nobody\nca: all\n' >none
+cp made.krl before.krl
+for text in none /dev/null; do
+  expect "the text $text, which names nobody" 255 '' \
+    $'krl: made.krl: no text has an entry, and the list would revoke nobody [make 1 Empty]\n' \
+    make -f made.krl -z 1 $text
+done
+expect 'no text' 255 '' \
+  $'krl: made.krl: no text has an entry, and the list would revoke nobody [make 1 Empty]\n' \
+  make -f made.krl -z 1
+expect 'a text that is missing' 255 '' \
+  $'krl: missing: No such file or directory [file 1 Open]\n' make -f made.krl -z 1 none missing
+judge 'the list after texts that are refused' "$(asks 0 cmp before.krl made.krl)"
+rm made.krl
+expect 'a list that may be empty' 0 '' $'krl make: made.krl: version 1: nothing\n' \
+  make -f made.krl --allow-empty none
+judge 'the empty list' "$(differs bytes "$H" "$(digits made.krl)")"
+
+# Versions, the comment and the date.
+version() {
+  "$program" check --print-version made.krl
+}
+printf 'ca: all\nserial: 5\n' >text
+rm made.krl
+for wanted in 1 2 3; do
+  expect "version $wanted" 0 '' '' make -q -f made.krl text
+  judge "version $wanted is in the list" "$(differs version $wanted "$(version)")"
+done
+expect 'a given version' 0 '' $'krl make: made.krl: version 9: 1 CA, 1 serial number\n' \
+  make -f made.krl -z 9 text
+expect 'one above it' 0 '' $'krl make: made.krl: version 10: 1 CA, 1 serial number\n' \
+  make -f made.krl text
+expect 'the largest version' 0 '' '' make -q -f made.krl -z 18446744073709551615 text
+expect 'none above it' 255 '' \
+  $'krl: made.krl: its version is the largest that there is [run 2 VersionFull]\n' \
+  make -f made.krl text
+echo garbage >made.krl
+expect 'one above a list that is none' 255 '' \
+  $'krl: made.krl: it does not begin as a revocation list [krl 1 Magic]\n' make -f made.krl text
+judge 'a list that is none stays' "$(differs bytes garbage "$(cat made.krl)")"
+SOURCE_DATE_EPOCH=86400 run make -q -f made.krl -z 7 --comment 'of May' text
+expect 'the comment and the date' 0 $'# made.krl: version 7, 1970-01-02T00:00:00Z, of May
+ca: all
+serial: 5
+' '' show made.krl
+run make -q -f made.krl - <<<'ca: all
+serial: 5'
+judge 'standard input' "$(differs 'exit status' 0 "$got_status"; differs version 8 "$(version)")"
+printf 'serial: 6\n' >second
+expect 'a text does not fall under the CA of the one before it' 255 '' \
+  $'krl: second: line 1: no ca: line stands before it [text 1 Spec, spec 4 NoAuthority]\n' \
+  make -f made.krl text second
+
+# Wrong words.
+for words in '' '-f made.krl -z x text' '-f made.krl -z -1 text' '-f a -f b text' '-k -f made.krl'; do
+  # shellcheck disable=SC2086
+  run make $words
+  judge "the words 'make $words'" "$(
+    differs 'exit status' 2 "$got_status"
+    differs 'standard output' '' "$got_output"
+  )"
+done
+
+# again NAME LIST: the text that is shown of a list makes one whose text is the same. OpenSSH says the
+# same of both.
+again() {
+  "$program" show "$2" >shown
+  run make -q --allow-empty -f again.krl -z 1 shown
+  judge "$1" "$(
+    differs 'exit status' 0 "$got_status"
+    differs 'standard error' '' "$got_error"
+    asks 0 diff <(tail -n +2 shown) <("$program" show again.krl | tail -n +2)
+    [ -n "${3:-}" ] || asks 0 diff <("$openssh" -Q -l -f "$2" | tail -n +5) \
+      <("$openssh" -Q -l -f again.krl | tail -n +5)
+  )"
+}
+# list NAME DIGITS..: the same of the list with these sections.
+list() {
+  bytes "$H" "${@:2}" >list.krl
+  again "$1" list.krl own
+}
+list 'a list without sections'
+list 'the last serial number' 010000001d${all}21000000100000000000000001ffffffffffffffff
+list 'a bitmap' 010000001a${all}220000000d00000000000000010000000155
+for digits in 616161 '' 20 2061 6120 610962 610a62 6523 7f c3a9 00 0d 2d2d; do
+  list "the key ID of the bytes '$digits'" \
+    "01$(string "${all}23$(string "$(string $digits)")")"
+done
+list 'a CA that is no key' 01000000130000000178000000002300000005 0000000161
+odd=$(rsa "$(string 0003)" "$(string 00"$(repeat 128 a1)")")
+list 'keys that are none' "$(section "$G" "$odd" 01 00)"
+list 'hashes' 030000001800000014 "$(repeat 20 ab)" 050000002400000020 "$(repeat 32 cd)"
+
+# Lists that OpenSSH makes of three CAs.
+RANDOM=2611
+for name in key-one key-two ca-one ca-two; do
+  "$openssh" -q -t ed25519 -N '' -C "of $name" -f $name
+done
+lines_of() {
+  local i lo
+  for ((i = 0; i < $1; i++)); do
+    echo "serial: $((RANDOM % $2 + 1))"
+    lo=$((i * 100 + 5000))
+    [ $((RANDOM % 4)) != 0 ] || echo "serial: $lo-$((lo + RANDOM % 200))"
+    echo "id: id $((RANDOM % 50))"
+  done
+}
+for round in 1 2 3; do
+  lines_of $((round * 20)) $((10 ** (round + 1))) >spec
+  "$openssh" -q -k -f theirs.krl -s ca-one.pub -z $round spec 2>"$scratch/error"
+  lines_of 12 300 >spec
+  echo "key: $(cat key-one.pub)" >>spec
+  echo "sha256: $(cat key-two.pub)" >>spec
+  "$openssh" -q -k -u -f theirs.krl -s ca-two.pub spec 2>"$scratch/error"
+  lines_of 5 100 >spec
+  "$openssh" -q -k -u -f theirs.krl -s none spec 2>"$scratch/error"
+  again "the text of OpenSSH's list, $round" theirs.krl own
+  judge "what OpenSSH names in the list that is made of it, $round" "$(
+    facts() { "$openssh" -Q -l -f "$1" | grep -v '^# \(KRL version\|Generated at\)'; }
+    [ "$(facts theirs.krl | wc -l)" -gt 50 ] || echo '  too few facts'
+    asks 0 diff <(facts theirs.krl | sort) <(facts again.krl | sort)
+  )"
+done
+
+# Two lists make one that names what either names.
+"$program" make -q -f one.krl -z 1 - <<<"ca: $(cat ca-one.pub)
+serial: 1-5"
+"$program" make -q -f two.krl -z 1 - <<<"$g
+ca: $(cat ca-one.pub)
+serial: 4-9"
+"$program" show one.krl two.krl | "$program" make -q -f both.krl -z 1 -
+"$keygen" -k -f wanted.krl -z 1 -s ca-one.pub - <<<"serial: 1-9
+key: $g"
+judge 'two lists are one' "$(asks 0 cmp both.krl wanted.krl)"
