@@ -321,19 +321,6 @@ nothing_begun now = record {
   since = tt;
 }
 
-pub nothing_named : (now : State) → AuditsBy [] (Some stops.NoNames) now now
-nothing_named now = record {
-  judge = refl;
-  audits = λ entries means. record {
-    says = λ before said has.
-        subst (λ (items : List Item). HasSaid before items now.printer)
-        (sym (ap (λ (items : List Item). said ++ items) (items_none (reasons_of entries) now.judge.shown) ∙ append-nil said)) has;
-    tallies = tt;
-    timely = tt;
-    writer = refl;
-  };
-}
-
 tallied_then : (reasons : Subject → Reasons) (xs ys : List Visit) (stop : Option Stop) (old mid new : Tally)
     → mid ≡ all_tallied reasons old xs → IsTallied reasons ys stop mid new → IsTallied reasons (xs ++ ys) stop old new
 tallied_then reasons xs ys None old mid new first second =
@@ -342,7 +329,6 @@ tallied_then reasons xs ys (Some stops.Revoked) old mid new first second =
     second ∙ ap (λ (t : Tally). all_tallied reasons t ys) first ∙ sym (tallied_append reasons old xs ys)
 tallied_then reasons xs ys (Some stops.NoMemory) old mid new first second = tt
 tallied_then reasons xs ys (Some (stops.Lost count)) old mid new first second = tt
-tallied_then reasons xs ys (Some stops.NoNames) old mid new first second = tt
 
 audits_then : (reasons : Subject → Reasons) (xs ys : List Visit) (stop : Option Stop) (old mid new : State) → mid.judge ≡ old.judge
     → Audits reasons xs None old mid → Audits reasons ys stop mid new → Audits reasons (xs ++ ys) stop old new

@@ -7,7 +7,7 @@ use Rattle.std.specs.Prelude.{is_ok}
 use Rattle.audit_run.specs.Fact.{Fact}
 use Rattle.audit_run.specs.Named.{Each, IsOnList, IsOnNames, names_to, none, rest_after}
 use Rattle.audit_run.specs.Names.{names_after}
-use Rattle.audit_run.specs.Visits.{AuditsBy, Begun, Goes, Meets, State, Visit, Went}
+use Rattle.audit_run.specs.Visits.{AuditsBy, Begun, Goes, Meets, State, Took, Visit, Went, is_whole}
 use Rattle.audit_run.specs.declared.stop.Stop.{Stop}
 use Rattle.audit_run.specs.declared.stop.Stop.TheVariants as stops
 use Rattle.audit_run.proofs.Auditing.{by_then, nothing_begun, nothing_met}
@@ -143,14 +143,23 @@ listed_all Knows every all old new name result begun mid now was comes end went 
 
 -- no more names could be read
 pub listed_lost : (Knows : Fact → Type 0) (every : Bool) (all old : Option (List ℕ)) (name : List ℕ) (begun now : State)
-    → HasListed Knows every all old name begun now → AuditsBy [] (Some stops.NoNames) now now
-    → Went {A = Unit {0}} (λ whole. IsOnNames Knows every whole all) (Err stops.NoNames) begun now
-listed_lost Knows every all old name begun now was stopped = record {
+    → HasListed Knows every all old name begun now
+    → Took (λ result. IsOnNames Knows every (is_whole result) all) (Ok false) begun now
+listed_lost Knows every all old name begun now was = record {
   visits = was.visits;
   is = lost_listed Knows every all old was.front was.visits was.is;
-  audits = subst (λ (v : List Visit). AuditsBy v (Some stops.NoNames) begun now) (append-nil was.visits)
-      (by_then was.visits [] (Some stops.NoNames) begun now now was.audits stopped);
+  audits = was.audits;
 }
+
+-- ---- all of it, or a part
+
+pub took_all : (Is : Bool → List Visit → Type 0) (value : Unit {0}) (old new : State) → Went Is (Ok value) old new
+    → Took (λ result. Is (is_whole result)) (Ok true) old new
+took_all Is value old new went = record { visits = went.visits; is = went.is; audits = went.audits }
+
+pub took_part : (Is : Bool → List Visit → Type 0) (stop : Stop) (old new : State)
+    → Went {A = Unit {0}} Is (Err stop) old new → Took (λ result. Is (is_whole result)) (Err stop) old new
+took_part Is stop old new went = record { visits = went.visits; is = went.is; audits = went.audits }
 
 -- ---- what was met is audited
 

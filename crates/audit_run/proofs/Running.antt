@@ -15,7 +15,8 @@ use Rattle.krl_audit.specs.declared.counts.Counts.{Counts}
 use Rattle.krl_audit.specs.declared.judge.Judge.{Judge}
 use Rattle.krl_audit.specs.declared.judge.Shown.{Shown}
 use Rattle.audit_run.specs.Fact.{Fact}
-use Rattle.audit_run.specs.Run.{AreGiven, IsAudit, all_audited, ended_at_revoked, last_items, lost, names_fault, no_names, ran_out, stop_fault}
+use Rattle.audit_run.specs.Run.{AreGiven, AreUnread, IsAudit, all_audited, ended_at_revoked, in_names, last_items, lost, names_fault}
+use Rattle.audit_run.specs.Run.{no_names, ran_out, stop_fault}
 use Rattle.audit_run.specs.Visits.{Audits, Says, State, Tally, Visit, visits_items}
 use Rattle.audit_run.specs.declared.order.Order.{Order}
 use Rattle.audit_run.specs.declared.run.Queried.{Queried}
@@ -70,7 +71,7 @@ pub ended_stopped : (Knows : Fact → Type 0) (order : Order) (queried : Queried
     (entries : List Entry) (before : Option (List ℕ)) (visits : List Visit) (stop : Stop) (old new : State)
     → AreGiven Knows order.every_file false names order.paths.now visits → Audits (reasons_of entries) visits (Some stop) old new
     → new.judge ≡ old.judge → old.judge.shown ≡ order.shown → HasSaid before [] old.printer
-    → Ended Knows order queried names entries before (stop_fault order.names_from.now stop) old new
+    → Ended Knows order queried names entries before (stop_fault stop) old new
 ended_stopped Knows order queried names entries before visits stops.Revoked old new given audits judge shown said =
     let at = said_so order entries visits (Some stops.Revoked) before old new shown audits said in
     let kept : new.judge.shown ≡ order.shown = ap (λ (j : Judge). j.shown) judge ∙ shown in
@@ -124,7 +125,14 @@ ended_stopped Knows order queried names entries before visits (stops.Lost count)
     (said_so order entries visits (Some (stops.Lost count)) before old new shown audits said, audits.writer),
   ),
 )
-ended_stopped Knows order queried names entries before visits stops.NoNames old new given audits judge shown said =
+
+-- names could not be read to their end
+pub ended_unread : (Knows : Fact → Type 0) (order : Order) (queried : Queried) (names : Option (Option (List ℕ)))
+    (entries : List Entry) (before : Option (List ℕ)) (visits : List Visit) (old new : State)
+    → AreUnread Knows order.every_file names visits → Audits (reasons_of entries) visits None old new
+    → old.judge.shown ≡ order.shown → HasSaid before [] old.printer
+    → Ended Knows order queried names entries before (Some (names_fault order.names_from.now)) old new
+ended_unread Knows order queried names entries before visits old new unread audits shown said =
     let items = visits_items (reasons_of entries) order.shown visits in
     let end = names_fault order.names_from.now in (
       items ++ Stopped end ∷ [],
@@ -132,9 +140,9 @@ ended_stopped Knows order queried names entries before visits stops.NoNames old 
         record {
           visits = visits;
           whole = false;
-          given = given;
+          given = in_names unread.left unread.given refl unread.before;
           timely = audits.timely;
-          is_run = no_names refl refl refl;
+          is_run = no_names unread refl refl refl;
           tally_is = λ none. absurd (some_is _ none);
         },
         (
@@ -142,7 +150,7 @@ ended_stopped Knows order queried names entries before visits stops.NoNames old 
             said = items;
             later = [];
             parts = refl;
-            has_said = said_so order entries visits (Some stops.NoNames) before old new shown audits said;
+            has_said = said_so order entries visits None before old new shown audits said;
           },
           audits.writer,
         ),

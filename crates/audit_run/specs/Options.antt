@@ -4,6 +4,11 @@ use Rattle.krl_audit.specs.declared.judge.Form.{Form}
 use Rattle.krl_audit.specs.declared.judge.Form.TheVariants as forms
 use Rattle.krl_audit.specs.declared.judge.Shown.{Shown}
 use Rattle.audit_run.specs.declared.options.Options.{Options}
+use Rattle.audit_run.specs.declared.options.Terminal.{Terminal}
+
+-- Standard output is a terminal, NO_COLOR has no value, and TERM is not dumb.
+abbrev pub has_colours : Terminal → Bool
+has_colours terminal = terminal.is_terminal && (not terminal.no_colour && not terminal.is_dumb)
 
 -- No object is in colour, since programs read them.
 abbrev pub form_by : (json colours : Bool) → Form

@@ -1,23 +1,25 @@
--- What the command asks an audit for.
-use Rattle.std.specs.Prelude.{◌≡◌, ℕ, Bool, List, [], Option, Some, None}
+-- The audit that the command asks for.
+use Rattle.std.specs.Prelude.{◌≡◌, ℕ, List, [], Option, Some, None}
 use Rattle.std.specs.Borrow.{Bor}
 use Rattle.krl_arguments.specs.declared.task.Audit.{Audit}
 use Rattle.audit_run.specs.declared.order.Order.{Order}
-use Rattle.audit_run.specs.Options.{shown_by}
+use Rattle.audit_run.specs.Options.{has_colours, shown_by}
+use Rattle.audit_run.specs.declared.options.Terminal.{Terminal}
 
 -- the name of the file of names of files, which is empty if there is none
 abbrev pub name_or_nothing : Option (Bor (List ℕ)) → List ℕ
 name_or_nothing None = []
 name_or_nothing (Some name) = name.now
 
--- what this task asks for, if standard output shows colours or not
-pub record IsOrder (task : Audit) (colours : Bool) (order : Order) : Type 0 where
+-- This audit is what the task asks for, with its findings in colour where the terminal shows
+-- colours.
+pub record IsOrder (task : Audit) (terminal : Terminal) (order : Order) : Type 0 where
   pub list : order.list.now ≡ task.list.now
   pub shown : order.shown ≡ shown_by (record {
     quiet = task.quiet;
     all = task.all;
     json = task.json;
-    colours = colours;
+    colours = has_colours terminal;
   })
   pub every_file : order.every_file ≡ task.every_file
   pub names_from : order.names_from.now ≡ name_or_nothing task.names_from

@@ -1,6 +1,6 @@
 -- The whole audit, from a list that was read and what a tree states to the text and the status.
 use Rattle.std.specs.Prelude.{◌≡◌, ℕ, ◌<◌, Bool, true, false, List, [], ◌∷◌, ◌++◌, codes}
-use Rattle.std.specs.Prelude.{Option, Some, None, is_some, ◌↔◌}
+use Rattle.std.specs.Prelude.{Option, Some, None, is_some, Result, Ok, Err, ◌↔◌}
 use Rattle.std.specs.Borrow.{Bor}
 use Rattle.json_lines.specs.Field.{json_line}
 use Rattle.run_faults.specs.RunFault.{RunFault, output_run_fault, run_fault_of}
@@ -56,6 +56,21 @@ pub data AreGiven (Knows : Fact → Type 0) (every whole : Bool)
       → IsOnNames Knows every true left first → AreNamed Knows every whole paths rest
       → visits ≡ first ++ rest → AreGiven Knows every whole names paths visits
 
+-- A reader gives names, which cannot be read to their end: what the names before lead to.
+pub record AreUnread (Knows : Fact → Type 0) (every : Bool)
+    (names : Option (Option (List ℕ))) (visits : List Visit) : Type 0 where
+  pub left : Option (List ℕ)
+  pub given : names ≡ Some left
+  pub before : IsOnNames Knows every false left visits
+
+-- all of what is given, or the names of a reader that cannot be read to their end; or the audit was
+-- stopped
+abbrev pub IsGiven : (Fact → Type 0) → (every : Bool) → Option (Option (List ℕ))
+    → List (Bor (List ℕ)) → Result Bool Stop → List Visit → Type 0
+IsGiven Knows every names paths (Ok true) visits = AreGiven Knows every true names paths visits
+IsGiven Knows every names paths (Ok false) visits = AreUnread Knows every names visits
+IsGiven Knows every names paths (Err stop) visits = AreGiven Knows every false names paths visits
+
 -- ---- what is printed
 
 -- the last object, which has the SHA-256 of the list
@@ -76,29 +91,30 @@ abbrev pub names_fault : (names_from : List ℕ) → RunFault
 names_fault from = run_fault_of from (File Read)
 
 -- the fault of an audit that was stopped, if it is one
-abbrev pub stop_fault : (names_from : List ℕ) → Stop → Option RunFault
-stop_fault from stops.Revoked = None
-stop_fault from stops.NoMemory = Some (run_fault_of (codes "memory") NoMemory)
-stop_fault from (stops.Lost count) = Some (output_run_fault count)
-stop_fault from stops.NoNames = Some (names_fault from)
+abbrev pub stop_fault : Stop → Option RunFault
+stop_fault stops.Revoked = None
+stop_fault stops.NoMemory = Some (run_fault_of (codes "memory") NoMemory)
+stop_fault (stops.Lost count) = Some (output_run_fault count)
 
 -- The items that an audit of this prints, by its end: all of them, and the last object; those up to
 -- the first file with a revoked key, where no finding is asked for; those that were printed when an
--- allocation or the output failed; or those up to where the reader of names failed, whose fault
--- ends the audit.
-pub data IsRunOf (order : Order) (items last : List Item) (whole : Bool) (tally : Tally)
-    (stop : Option RunFault) (run : List Item) : Type 0 where
-  all_audited : whole ≡ true → run ≡ items ++ last → IsRunOf order items last whole tally stop run
+-- allocation or the output failed; or, where names are unread, those of the names before, and the
+-- fault that ends the audit.
+pub data IsRunOf (Unread : Type 0) (order : Order) (items last : List Item) (whole : Bool)
+    (tally : Tally) (stop : Option RunFault) (run : List Item) : Type 0 where
+  all_audited : whole ≡ true → run ≡ items ++ last
+      → IsRunOf Unread order items last whole tally stop run
   ended_at_revoked : order.shown.revoked ≡ false → 0 < tally.counts.revoked → stop ≡ None
-      → run ≡ items → IsRunOf order items last whole tally stop run
+      → run ≡ items → IsRunOf Unread order items last whole tally stop run
   ran_out : (said later : List Item) → items ≡ said ++ later
       → stop ≡ Some (run_fault_of (codes "memory") NoMemory)
-      → run ≡ said ++ Passed (codes "memory") ∷ [] → IsRunOf order items last whole tally stop run
+      → run ≡ said ++ Passed (codes "memory") ∷ []
+      → IsRunOf Unread order items last whole tally stop run
   lost : (count : ℕ) → stop ≡ Some (output_run_fault count) → run ≡ items
-      → IsRunOf order items last whole tally stop run
-  no_names : whole ≡ false → stop ≡ Some (names_fault order.names_from.now)
+      → IsRunOf Unread order items last whole tally stop run
+  no_names : Unread → whole ≡ false → stop ≡ Some (names_fault order.names_from.now)
       → run ≡ items ++ Stopped (names_fault order.names_from.now) ∷ []
-      → IsRunOf order items last whole tally stop run
+      → IsRunOf Unread order items last whole tally stop run
 
 -- An audit by these entries meets this, with each file once, and prints it.
 pub record IsAudit (Knows : Fact → Type 0) (order : Order) (queried : Queried)
@@ -108,7 +124,8 @@ pub record IsAudit (Knows : Fact → Type 0) (order : Order) (queried : Queried)
   pub whole : Bool
   pub given : AreGiven Knows order.every_file whole names order.paths.now visits
   pub timely : AreTimely (reasons_of entries) old visits
-  pub is_run : IsRunOf order (visits_items (reasons_of entries) order.shown visits)
+  pub is_run : IsRunOf (AreUnread Knows order.every_file names visits) order
+      (visits_items (reasons_of entries) order.shown visits)
       (last_items order.list.now queried tally) whole tally stop run
   pub tally_is : stop ≡ None → tally ≡ all_tallied (reasons_of entries) old visits
 

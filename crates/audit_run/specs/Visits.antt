@@ -161,14 +161,13 @@ abbrev pub stop_for : Cause → Stop
 stop_for (Output count) = stops.Lost count
 stop_for cause = stops.NoMemory
 
--- An audit was stopped: after all of these items, as a key is revoked and no finding is asked for,
--- or as no name could be read; or within them.
+-- An audit was stopped: after all of these items, as a key is revoked and no finding is asked for;
+-- or within them.
 abbrev pub IsStopped : Option (List ℕ) → List Item → Stop → State → Type 0
 IsStopped before items stops.Revoked now =
     HasSaid before items now.printer
     × ((now.judge.shown.revoked ≡ false) × (0 < now.tally.counts.revoked))
 IsStopped before items stops.NoMemory now = IsFront before items now.printer
-IsStopped before items stops.NoNames now = HasSaid before items now.printer
 IsStopped before items (stops.Lost count) now =
     IsLost before items count (output_run_fault count) now.printer
 
@@ -182,7 +181,6 @@ IsTallied reasons visits None old new = new ≡ all_tallied reasons old visits
 IsTallied reasons visits (Some stops.Revoked) old new = new ≡ all_tallied reasons old visits
 IsTallied reasons visits (Some stops.NoMemory) old new = Unit {0}
 IsTallied reasons visits (Some (stops.Lost count)) old new = Unit {0}
-IsTallied reasons visits (Some stops.NoNames) old new = Unit {0}
 
 -- This was met after whatever was met before: it was printed and counted, or the audit was stopped
 -- within it. Each file is audited once.
@@ -251,4 +249,16 @@ pub record Went {A : Type 0} (Is : (whole : Bool) → List Visit → Type 0) (re
     (old new : State) : Type 0 where
   pub visits : List Visit
   pub is : Is (is_ok result) visits
+  pub audits : AuditsBy visits (result_err result) old new
+
+-- all was audited; otherwise an audit was stopped, or came to the end of what can be read
+abbrev pub is_whole : Result Bool Stop → Bool
+is_whole (Ok whole) = whole
+is_whole (Err stop) = false
+
+-- Something that is so by this result was audited.
+pub record Took (Is : Result Bool Stop → List Visit → Type 0) (result : Result Bool Stop)
+    (old new : State) : Type 0 where
+  pub visits : List Visit
+  pub is : Is result visits
   pub audits : AuditsBy visits (result_err result) old new

@@ -15,7 +15,7 @@ mod tree;
 mod walk;
 
 pub use kind::{Found, Identity, Kind, Opened, What};
-pub use options::Options;
+pub use options::{Options, Terminal};
 pub use order::Order;
 pub use round::Screen;
 pub use run::{Audited, Given, audit_run};

@@ -8,7 +8,7 @@ ghost use Rattle.krl_audit.specs.Visible.{visible_bytes};
 ghost use Rattle.audit_run.specs.Named.{AreNamed, Each, IsNamed, IsOnList, IsOnNames, IsWaiting};
 ghost use Rattle.audit_run.specs.Named.{is_file, irregular_at, most_name, names_to, rest_after};
 ghost use Rattle.audit_run.specs.Names.{names_after};
-ghost use Rattle.audit_run.specs.Visits.{Goes, Meets, Went, refused};
+ghost use Rattle.audit_run.specs.Visits.{Goes, Meets, Took, Went, is_whole, refused};
 
 use crate::entries::{audit_opened, audit_read, audit_regular, is_directory};
 use crate::kind::What;
@@ -83,30 +83,31 @@ fn audit_waiting<T: Tree, W: Screen>(
 }
 
 /// Audits the files and directories whose names a reader gives, each ended by a zero byte. No pipe
-/// is waited for.
+/// is waited for. Returns false if the names cannot be read to their end.
 pub(crate) fn audit_listed<T: Tree, N: Source, W: Screen>(
     tree: &T,
     round: &mut Round<'_, '_, W>,
     every: bool,
     names: &mut N,
-) -> Result<(), Stop>
+) -> Result<bool, Stop>
     requires { N.has_failed names.old ≡ false }
-    ensures { Went (λ whole. IsOnNames (T.states tree.now) every whole (N.left names.old)) result
-        round.old round.new }
+    ensures { Took (λ result. IsOnNames (T.states tree.now) every (is_whole result)
+        (N.left names.old)) result round.old round.new }
 {
     let mut name = Vec::new(round.auditor.run.alloc);
     let mut batch = [0; BUFFER];
     // A bound that no reader reaches, so that this ends whatever the system returns.
     'batches: for _part in 0..u64::MAX {
         let Ok(count) = names.read(&mut batch) else {
-            return Err(Stop::NoNames);
+            return Ok(false);
         };
         if count == 0 {
-            return end_listed(tree, round, every, name.as_slice());
+            end_listed(tree, round, every, name.as_slice())?;
+            return Ok(true);
         }
         take_listed(tree, round, every, &batch[..count], &mut name)?;
     }
-    Err(Stop::NoNames)
+    Ok(false)
 }
 
 // Audits the names that end in these bytes, of which the first one may have begun before.

@@ -1,7 +1,7 @@
 //! Which findings are printed, and how, by the options of the command.
 
 ghost use Rattle.std.specs.Prelude.{◌≡◌};
-ghost use Rattle.audit_run.specs.Options.{form_by, shown_by};
+ghost use Rattle.audit_run.specs.Options.{form_by, has_colours, shown_by};
 
 use krl_audit::{Form, Shown};
 
@@ -16,6 +16,27 @@ pub struct Options {
     pub json: bool,
     /// True if standard output shows colours.
     pub colours: bool,
+}
+
+/// What the system says about standard output and the environment.
+#[derive(Clone, Copy)]
+pub struct Terminal {
+    /// True if standard output is a terminal.
+    pub is_terminal: bool,
+    /// True if `NO_COLOR` has a value that is not empty.
+    pub no_colour: bool,
+    /// True if `TERM` is `dumb`.
+    pub is_dumb: bool,
+}
+
+impl Terminal {
+    /// Whether standard output shows colours: it is a terminal that knows them, and the user has
+    /// not switched them off (https://no-color.org).
+    pub fn has_colours(self) -> bool
+        ensures { result ≡ has_colours self }
+    {
+        self.is_terminal && !self.no_colour && !self.is_dumb
+    }
 }
 
 impl Options {

@@ -1,13 +1,13 @@
-//! What the command asks an audit for.
+//! An audit that the command asks for.
 
 ghost use Rattle.std.specs.Prelude.{◌≡◌};
 ghost use Rattle.audit_run.specs.Order.{IsOrder};
 
-use crate::options::Options;
+use crate::options::{Options, Terminal};
 use krl_arguments::Audit;
 use krl_audit::Shown;
 
-/// What an audit is asked for.
+/// An audit that is asked for.
 #[derive(Clone, Copy)]
 pub struct Order<'a> {
     /// The name of the list.
@@ -23,15 +23,16 @@ pub struct Order<'a> {
 }
 
 impl<'a> Order<'a> {
-    /// What this task of the command asks for, if standard output shows colours or not.
-    pub fn of(task: &'a Audit<'a>, colours: bool) -> Order<'a>
-        ensures { IsOrder task.now colours result }
+    /// The audit that this task of the command asks for, with its findings in colour where the
+    /// terminal shows colours.
+    pub fn of(task: &'a Audit<'a>, terminal: Terminal) -> Order<'a>
+        ensures { IsOrder task.now terminal result }
     {
         let options = Options {
             quiet: task.quiet,
             all: task.all,
             json: task.json,
-            colours,
+            colours: terminal.has_colours(),
         };
         Order {
             list: task.list,

@@ -5,10 +5,10 @@ ghost use Rattle.std.specs.Result.{result_err};
 ghost use Rattle.krl_types.specs.Entry.{Entry};
 ghost use Rattle.krl_entries.specs.Revocations.{Means};
 ghost use Rattle.run_output.specs.Carries.{Carries};
-ghost use Rattle.audit_run.specs.Run.{AreGiven, AuditsAll, EndsAuditBy, EndsAuditRun, HasOther};
-ghost use Rattle.audit_run.specs.Run.{given_names, is_hashed, last_items, stop_fault};
+ghost use Rattle.audit_run.specs.Run.{AuditsAll, EndsAuditBy, EndsAuditRun, HasOther, IsGiven};
+ghost use Rattle.audit_run.specs.Run.{given_names, is_hashed, last_items, names_fault, stop_fault};
 ghost use Rattle.audit_run.specs.Run.{summary_of, summary_unless};
-ghost use Rattle.audit_run.specs.Visits.{Went};
+ghost use Rattle.audit_run.specs.Visits.{Took};
 
 use crate::named::{audit_listed, audit_paths};
 use crate::order::Order;
@@ -201,56 +201,68 @@ fn audit_all<'a, T: Tree, N: Source + Drop, W: Screen>(
     ensures writer { round.new.printer.writer ≡ round.old.printer.writer }
 {
     match audit_given(tree, round, order, names) {
-        Ok(()) => say_last(round, order, queried).err(),
-        Err(stop) => stop_fault(order, stop),
+        Ok(true) => say_last(round, order, queried).err(),
+        Ok(false) => Some(names_fault(order)),
+        Err(stop) => stop_fault(stop),
     }
 }
 
-// Audits all files, first those whose names a reader gives.
+// Audits all files, first those whose names a reader gives. Returns false if the names cannot be
+// read to their end.
 fn audit_given<T: Tree, N: Source + Drop, W: Screen>(
     tree: &T,
     round: &mut Round<'_, '_, W>,
     order: &Order<'_>,
     names: Option<N>,
-) -> Result<(), Stop>
+) -> Result<bool, Stop>
     requires names { IfSome names (λ names. N.has_failed names ≡ false) }
-    ensures { Went (λ whole. AreGiven (T.states tree.now) order.now.every_file whole
-        (given_names N.left names) order.now.paths.now) result round.old round.new }
+    ensures { Took (IsGiven (T.states tree.now) order.now.every_file (given_names N.left names)
+        order.now.paths.now) result round.old round.new }
 {
-    match names {
-        Some(names) => audit_both(tree, round, order, names),
-        None => audit_paths(tree, round, order.every_file, order.paths),
-    }
+    let Some(names) = names else {
+        audit_paths(tree, round, order.every_file, order.paths)?;
+        return Ok(true);
+    };
+    audit_both(tree, round, order, names)
 }
 
-// Audits the files whose names a reader gives, and then those that the command names.
+// Audits the files whose names a reader gives, and then those that the command names. Returns false
+// if the names cannot be read to their end.
 fn audit_both<T: Tree, N: Source + Drop, W: Screen>(
     tree: &T,
     round: &mut Round<'_, '_, W>,
     order: &Order<'_>,
     names: N,
-) -> Result<(), Stop>
+) -> Result<bool, Stop>
     requires names { N.has_failed names ≡ false }
-    ensures { Went (λ whole. AreGiven (T.states tree.now) order.now.every_file whole
-        (Some (N.left names)) order.now.paths.now) result round.old round.new }
+    ensures { Took (IsGiven (T.states tree.now) order.now.every_file (Some (N.left names))
+        order.now.paths.now) result round.old round.new }
 {
     let mut names = names;
-    audit_listed(tree, round, order.every_file, &mut names)?;
-    audit_paths(tree, round, order.every_file, order.paths)
+    let is_whole = audit_listed(tree, round, order.every_file, &mut names)?;
+    if is_whole {
+        audit_paths(tree, round, order.every_file, order.paths)?;
+        Ok(true)
+    } else {
+        Ok(false)
+    }
+}
+
+// The fault of names that cannot be read to their end.
+fn names_fault<'a>(order: &Order<'a>) -> RunFault<'a>
+    ensures { result ≡ names_fault order.now.names_from.now }
+{
+    RunFault::whole(order.names_from, Cause::File(FileFault::Read))
 }
 
 // The fault of an audit that was stopped, if it is one.
-fn stop_fault<'a>(order: &Order<'a>, stop: Stop) -> Option<RunFault<'a>>
-    ensures { result ≡ stop_fault order.now.names_from.now stop }
+fn stop_fault<'a>(stop: Stop) -> Option<RunFault<'a>>
+    ensures { result ≡ stop_fault stop }
 {
     match stop {
         Stop::Revoked => None,
         Stop::NoMemory => Some(RunFault::whole("memory", Cause::NoMemory)),
         Stop::Lost { count } => Some(RunFault::whole("output", Cause::Output { count })),
-        Stop::NoNames => {
-            let cause = Cause::File(FileFault::Read);
-            Some(RunFault::whole(order.names_from, cause))
-        }
     }
 }
 

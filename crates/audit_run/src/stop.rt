@@ -14,8 +14,6 @@ pub(crate) enum Stop {
     NoMemory,
     /// The output failed after this many bytes.
     Lost { count: u64 },
-    /// The names of files cannot be read to their end.
-    NoNames,
 }
 
 impl From<AllocError> for Stop {

@@ -6,7 +6,7 @@ use crate::Krl;
 use crate::disk::Disk;
 use crate::ending::end_audit;
 use crate::loading::bytes_of;
-use crate::screen::{Screen, has_colours};
+use crate::screen::{Screen, terminal};
 use audit_run::{Given, Order, audit_run};
 use byte_streams::{FromRead, Source};
 use krl_arguments::Audit;
@@ -38,7 +38,7 @@ pub fn audit(rt: &HostRuntime, task: &Audit) -> u8 {
 fn audit_by<N: Source + Drop>(rt: &HostRuntime, task: &Audit, list: Bytes, names: Option<N>) -> u8
     requires { IfSome names (λ names. N.has_failed names ≡ false) }
 {
-    let order = Order::of(task, has_colours(rt));
+    let order = Order::of(task, terminal(rt));
     let tree = &Disk::new(rt);
     let mut screen = Screen::new(rt);
     let audited = audit_run(rt.alloc(), &order, list, Given { tree, names }, &mut screen);

@@ -15,9 +15,8 @@ use std::alloc::AllocError;
 
 /// Checks what the task names. Answers the exit status.
 pub fn check(rt: &HostRuntime, task: &Check) -> u8 {
-    let host = System { rt };
     let mut out = ToWrite::new(rt.stdout());
-    match check_run(rt.alloc(), task, &host, &mut out) {
+    match check_run(rt.alloc(), task, &System { rt }, &mut out) {
         Ok(done) => end(rt, &Krl, &done),
         Err(why) => fail_in_words(rt, task.list, why.words()),
     }

@@ -2,7 +2,7 @@
 
 ghost use Rattle.std.specs.Prelude.{◌≡◌, false};
 
-use audit_run::Screen as Shows;
+use audit_run::{Screen as Shows, Terminal};
 use audit_tree::{Summary, push_progress, push_wipe};
 use byte_streams::{Failed, Sink, ToWrite, send};
 use std::env::{self, VarError};
@@ -14,14 +14,17 @@ const FIRST: u64 = 1_000;
 
 const NEXT: u64 = 100;
 
-/// Returns true if standard output shows colours: it is a terminal that knows them, and the user
-/// has not switched them off (https://no-color.org).
-pub fn has_colours(rt: &HostRuntime) -> bool {
-    rt.stdout().is_terminal() && !is_plain(rt) && !is_dumb(rt)
+/// Whether standard output is a terminal, and what the environment says about its colours.
+pub fn terminal(rt: &HostRuntime) -> Terminal {
+    Terminal {
+        is_terminal: rt.stdout().is_terminal(),
+        no_colour: has_no_colour(rt),
+        is_dumb: is_dumb(rt),
+    }
 }
 
 // Returns true if NO_COLOR has a value. One that cannot be read is a value too.
-fn is_plain(rt: &HostRuntime) -> bool {
+fn has_no_colour(rt: &HostRuntime) -> bool {
     match env::var(rt, "NO_COLOR") {
         Ok(value) => !value.is_empty(),
         Err(VarError::NotPresent) => false,
