@@ -4,9 +4,24 @@ use Rattle.list_text.specs.declared.counts.Counts.{Counts}
 use Rattle.list_text.specs.Facts.{Fact, ListFact, AuthorityFact, SerialsFact, IdFact, KeyFact}
 use Rattle.list_text.specs.Facts.{Sha1Fact, Sha256Fact}
 
+abbrev pub nothing_counted : Counts
+nothing_counted = record {
+  lists = 0;
+  authorities = 0;
+  entries = 0;
+  serials = 0;
+  ids = 0;
+  keys = 0;
+  hashes = 0;
+}
+
 -- this many more, but at most 2^64-1
 abbrev pub plus : (count more : ℕ) → ℕ
 plus count more = min (count + more) (2 ^ 64 - 1)
+
+-- one more entry: one line of the text, whose span or name is counted too
+abbrev pub and_entry : Counts → Counts
+and_entry counts = record counts { entries = plus counts.entries 1 }
 
 -- the counts after one more fact; a span counts as its serial numbers
 abbrev pub counted : Counts → Fact → Counts
@@ -14,11 +29,11 @@ counted counts (ListFact name header) = record counts { lists = plus counts.list
 counted counts (AuthorityFact authority) =
     record counts { authorities = plus counts.authorities 1 }
 counted counts (SerialsFact authority span) =
-    record counts { serials = plus (plus counts.serials (span.hi - span.lo)) 1 }
-counted counts (IdFact authority id) = record counts { ids = plus counts.ids 1 }
-counted counts (KeyFact blob) = record counts { keys = plus counts.keys 1 }
-counted counts (Sha1Fact hash) = record counts { hashes = plus counts.hashes 1 }
-counted counts (Sha256Fact hash) = record counts { hashes = plus counts.hashes 1 }
+    record (and_entry counts) { serials = plus (plus counts.serials (span.hi - span.lo)) 1 }
+counted counts (IdFact authority id) = record (and_entry counts) { ids = plus counts.ids 1 }
+counted counts (KeyFact blob) = record (and_entry counts) { keys = plus counts.keys 1 }
+counted counts (Sha1Fact hash) = record (and_entry counts) { hashes = plus counts.hashes 1 }
+counted counts (Sha256Fact hash) = record (and_entry counts) { hashes = plus counts.hashes 1 }
 
 abbrev pub counted_all : Counts → List Fact → Counts
 counted_all counts [] = counts

@@ -1,5 +1,6 @@
 pub mod Facts
 pub mod Text
+pub mod Changes
 pub mod Objects
 pub mod Counts
 pub mod Forms

@@ -1,6 +1,6 @@
 -- The facts about a list as JSON objects (krl(1), KRL SHOW).
-use Rattle.std.specs.Prelude.{ℕ, ◌==◌, if◌then◌else◌, List, [], ◌∷◌, codes, decimal, length, Option}
-use Rattle.std.specs.Prelude.{Some, None}
+use Rattle.std.specs.Prelude.{ℕ, ◌==◌, if◌then◌else◌, List, [], ◌∷◌, ◌++◌, codes, decimal, length}
+use Rattle.std.specs.Prelude.{Option, Some, None}
 use Rattle.json.specs.Json.{Json, number}
 use Rattle.json_lines.specs.Field.{Field, array_of, digits_field, field, json_line, number_field}
 use Rattle.json_lines.specs.Field.{object_of, text_field, word_field}
@@ -10,6 +10,9 @@ use Rattle.key_text.specs.declared.hash.Hash.TheVariants.{Sha256}
 use Rattle.cert_listing.specs.Time.{instant_text}
 use Rattle.krl_format.specs.declared.header.Header.{Header}
 use Rattle.list_text.specs.declared.counts.Counts.{Counts}
+use Rattle.list_text.specs.declared.side.Side.{Side}
+use Rattle.list_text.specs.declared.side.Side.TheVariants.{Added, Removed}
+use Rattle.list_text.specs.Changes.{side_word}
 use Rattle.list_text.specs.Facts.{Fact, ListFact, AuthorityFact, SerialsFact, IdFact, KeyFact}
 use Rattle.list_text.specs.Facts.{Sha1Fact, Sha256Fact}
 use Rattle.list_text.specs.Text.{hash_text}
@@ -50,21 +53,39 @@ fact_fields (KeyFact blob) =
 fact_fields (Sha1Fact hash) = hash_field (codes "SHA1:") hash ∷ []
 fact_fields (Sha256Fact hash) = hash_field (codes "SHA256:") hash ∷ []
 
--- The line of a fact. An authority has no line of its own: it is in those of its facts.
-unfoldable pub object_line : Fact → List ℕ
-object_line (AuthorityFact authority) = []
-object_line fact = json_line (object_of (fact_fields fact))
+-- the side of a fact about a change
+abbrev pub side_fields : Option Side → List Field
+side_fields None = []
+side_fields (Some side) = word_field (codes "change") (side_word side) ∷ []
 
-abbrev pub count_fields : Counts → List Field
-count_fields counts =
-    number_field (codes "lists") counts.lists
-    ∷ number_field (codes "cas") counts.authorities
+-- The line of a fact. An authority has no line of its own: it is in those of its facts.
+unfoldable pub object_line : Option Side → Fact → List ℕ
+object_line side (AuthorityFact authority) = []
+object_line side fact = json_line (object_of (side_fields side ++ fact_fields fact))
+
+-- how many facts of each kind
+abbrev pub kind_fields : Counts → List Field
+kind_fields counts =
+    number_field (codes "cas") counts.authorities
     ∷ number_field (codes "serials") counts.serials
     ∷ number_field (codes "ids") counts.ids
     ∷ number_field (codes "keys") counts.keys
     ∷ number_field (codes "hashes") counts.hashes ∷ []
 
+abbrev pub status_field : Field
+status_field = word_field (codes "status") (codes "done")
+
 -- the last object: how many facts were printed
 abbrev pub done_line : Counts → List ℕ
 done_line counts =
-    json_line (object_of (word_field (codes "status") (codes "done") ∷ count_fields counts))
+    json_line (object_of
+    (status_field ∷ number_field (codes "lists") counts.lists ∷ kind_fields counts))
+
+abbrev pub side_field : Side → Counts → Field
+side_field side counts = field (side_word side) (object_of (kind_fields counts))
+
+-- the last object of a comparison: how many facts were printed for each side
+abbrev pub changes_line : (added removed : Counts) → List ℕ
+changes_line added removed =
+    json_line (object_of
+    (status_field ∷ side_field Added added ∷ side_field Removed removed ∷ []))

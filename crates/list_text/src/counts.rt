@@ -13,6 +13,8 @@ pub struct Counts {
     pub lists: u64,
     /// Certificate authorities, in each list. All authorities count as one.
     pub authorities: u64,
+    /// Entries: lines of the text that are neither about a list nor an authority.
+    pub entries: u64,
     /// Serial numbers.
     pub serials: u64,
     /// Key IDs.
@@ -28,6 +30,7 @@ impl Counts {
     pub const NONE: Counts = Counts {
         lists: 0,
         authorities: 0,
+        entries: 0,
         serials: 0,
         ids: 0,
         keys: 0,
@@ -39,8 +42,14 @@ impl Counts {
         ensures { self.new ≡ counted self.old (fact_of fact.entry) }
     {
         match fact {
-            Fact::List(..) => self.lists = self.lists.saturating_add(1),
-            Fact::Authority(_) => self.authorities = self.authorities.saturating_add(1),
+            Fact::List(..) => {
+                self.lists = self.lists.saturating_add(1);
+                return;
+            }
+            Fact::Authority(_) => {
+                self.authorities = self.authorities.saturating_add(1);
+                return;
+            }
             Fact::Serials(_, span) => {
                 let between = span.hi.saturating_sub(span.lo);
                 self.serials = self.serials.saturating_add(between).saturating_add(1);
@@ -49,5 +58,6 @@ impl Counts {
             Fact::Key(_) => self.keys = self.keys.saturating_add(1),
             Fact::Sha1(_) | Fact::Sha256(_) => self.hashes = self.hashes.saturating_add(1),
         }
+        self.entries = self.entries.saturating_add(1);
     }
 }

@@ -1,4 +1,4 @@
-//! The two forms in which a list is shown.
+//! The forms in which a list is shown.
 
 ghost use Rattle.std.specs.Prelude.{◌≡◌, OnOk};
 ghost use Rattle.list_text.specs.Facts.{fact_of};
@@ -6,8 +6,9 @@ ghost use Rattle.list_text.specs.Forms.{form_line, last_line};
 
 use crate::counts::Counts;
 use crate::fact::Fact;
-use crate::line::write_line;
+use crate::line::{push_change, push_line};
 use crate::object::{write_done, write_object};
+use crate::side::Side;
 use std::alloc::{AllocError, Global};
 
 /// The form in which lists are shown.
@@ -17,6 +18,10 @@ pub enum Form {
     Text,
     /// As JSON objects.
     Json,
+    /// As text, each line with the mark of a side of a comparison.
+    Change(Side),
+    /// As JSON objects that say to which side of a comparison they belong.
+    JsonChange(Side),
 }
 
 impl Form {
@@ -29,13 +34,16 @@ impl Form {
     ) -> Result<(), AllocError>
         ensures { OnOk result (line.new.items ≡ form_line self (fact_of fact.entry)) }
     {
+        line.clear();
         match self {
-            Form::Text => write_line(alloc, fact, line),
-            Form::Json => write_object(alloc, fact, line),
+            Form::Text => push_line(alloc, fact, line),
+            Form::Json => write_object(alloc, None, fact, line),
+            Form::Change(side) => push_change(alloc, side, fact, line),
+            Form::JsonChange(side) => write_object(alloc, Some(side), fact, line),
         }
     }
 
-    /// Makes the line after all facts. It is empty in the text.
+    /// Makes the line after all facts. It is empty but for lists as JSON.
     pub fn write_last(
         self,
         alloc: Global,
@@ -45,11 +53,11 @@ impl Form {
         ensures { OnOk result (line.new.items ≡ last_line self counts) }
     {
         match self {
-            Form::Text => {
+            Form::Json => write_done(alloc, counts, line),
+            Form::Text | Form::Change(_) | Form::JsonChange(_) => {
                 line.clear();
                 Ok(())
             }
-            Form::Json => write_done(alloc, counts, line),
         }
     }
 }

@@ -6,7 +6,10 @@ mod fact;
 mod form;
 mod line;
 mod object;
+mod side;
 
 pub use counts::Counts;
 pub use fact::Fact;
 pub use form::Form;
+pub use object::write_changes;
+pub use side::Side;

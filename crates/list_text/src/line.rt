@@ -1,14 +1,16 @@
 //! The lines of the text of a list (krl(1), THE TEXT OF A LIST).
 
-ghost use Rattle.std.specs.Prelude.{◌≡◌, IfOk, OnOk, option_map};
+ghost use Rattle.std.specs.Prelude.{◌≡◌, ◌++◌, IfOk, OnOk, option_map};
 ghost use Rattle.std.specs.List.{list_all};
 ghost use Rattle.ssh_key.specs.KeyReading.{key_at};
 ghost use Rattle.list_text.specs.Facts.{fact_of};
 ghost use Rattle.list_text.specs.Text.{authority_line, fact_line, hash_line, hash_text, id_line};
 ghost use Rattle.list_text.specs.Text.{comment_part, has_blank_end, is_text, is_text_byte};
+ghost use Rattle.list_text.specs.Changes.{change_line, mark_of};
 ghost use Rattle.list_text.specs.Text.{list_line, named_line, serials_line};
 
 use crate::fact::Fact;
+use crate::side::Side;
 use base64::engine::general_purpose::{STANDARD, STANDARD_NO_PAD};
 use cert_listing::time_text;
 use key_text::{Hash, fingerprint};
@@ -19,23 +21,45 @@ use serial_set::Span;
 use ssh_key::read_key;
 use std::alloc::{AllocError, Global};
 
-/// Makes the line of a fact.
-#[tactic(auto, unfolding(crate::specs::Text::fact_line))]
-pub(crate) fn write_line(
+/// Appends the line of a change: the mark of its side, or blanks before an authority, and the line
+/// of the fact.
+pub(crate) fn push_change(
     alloc: Global,
+    side: Side,
     fact: Fact<'_>,
     line: &mut Vec<u8>,
 ) -> Result<(), AllocError>
-    ensures { OnOk result (line.new.items ≡ fact_line (fact_of fact.entry)) }
+    ensures { OnOk result (line.new.items
+        ≡ line.old.items ++ change_line side (fact_of fact.entry)) }
+{
+    line.extend_from_slice(mark_of(side, fact))?;
+    push_line(alloc, fact, line)
+}
+
+// The mark before the line of a change. An authority is not changed itself.
+fn mark_of(side: Side, fact: Fact<'_>) -> &'static [u8]
+    ensures { result.now ≡ mark_of side (fact_of fact.entry) }
+{
+    match (side, fact) {
+        (_, Fact::Authority(_)) => b"  ",
+        (Side::Added, _) => b"+ ",
+        (Side::Removed, _) => b"- ",
+    }
+}
+
+/// Appends the line of a fact.
+#[tactic(auto, unfolding(crate::specs::Text::fact_line))]
+pub(crate) fn push_line(alloc: Global, fact: Fact<'_>, line: &mut Vec<u8>) -> Result<(), AllocError>
+    ensures { OnOk result (line.new.items ≡ line.old.items ++ fact_line (fact_of fact.entry)) }
 {
     match fact {
-        Fact::List(name, header) => write_list(alloc, name, header, line),
-        Fact::Authority(authority) => write_authority(alloc, authority, line),
-        Fact::Serials(_, span) => write_serials(span, line),
-        Fact::Id(_, id) => write_id(alloc, id, line),
-        Fact::Key(blob) => write_named(alloc, b"key", blob, line),
-        Fact::Sha1(hash) => write_hash(alloc, b"SHA1:", hash, line),
-        Fact::Sha256(hash) => write_hash(alloc, b"SHA256:", hash, line),
+        Fact::List(name, header) => push_list(alloc, name, header, line),
+        Fact::Authority(authority) => push_authority(alloc, authority, line),
+        Fact::Serials(_, span) => push_serials(span, line),
+        Fact::Id(_, id) => push_id(alloc, id, line),
+        Fact::Key(blob) => push_named(alloc, b"key", blob, line),
+        Fact::Sha1(hash) => push_hash(alloc, b"SHA1:", hash, line),
+        Fact::Sha256(hash) => push_hash(alloc, b"SHA256:", hash, line),
     }
 }
 
@@ -54,17 +78,16 @@ impl<'a> Printed for Comment<'a> {
     }
 }
 
-// Makes the comment about a list.
-fn write_list(
+// Appends the comment about a list.
+fn push_list(
     alloc: Global,
     name: &str,
     header: Option<&Header>,
     line: &mut Vec<u8>,
 ) -> Result<(), AllocError>
-    ensures { OnOk result (line.new.items
-        ≡ list_line name.now (option_map (λ header. header.now) header.entry)) }
+    ensures { OnOk result (line.new.items ≡ line.old.items
+        ++ list_line name.now (option_map (λ header. header.now) header.entry)) }
 {
-    line.clear();
     let name = Visible(name.as_bytes(), false);
     let Some(header) = header else {
         return put!(line; b"# ", name, b": a plain list\n");
@@ -74,27 +97,26 @@ fn write_list(
         Comment(header.comment.as_slice()), b"\n")
 }
 
-// Makes the line of an authority.
-fn write_authority(alloc: Global, authority: &[u8], line: &mut Vec<u8>) -> Result<(), AllocError>
-    ensures { OnOk result (line.new.items ≡ authority_line authority.now) }
+// Appends the line of an authority.
+fn push_authority(alloc: Global, authority: &[u8], line: &mut Vec<u8>) -> Result<(), AllocError>
+    ensures { OnOk result (line.new.items ≡ line.old.items ++ authority_line authority.now) }
 {
     if authority.is_empty() {
-        line.clear();
         return put!(line; b"ca: all\n");
     }
-    write_named(alloc, b"ca", authority, line)
+    push_named(alloc, b"ca", authority, line)
 }
 
-// Makes the line of a key, or of bytes that are no key.
-fn write_named(
+// Appends the line of a key, or of bytes that are no key.
+fn push_named(
     alloc: Global,
     label: &[u8],
     blob: &[u8],
     line: &mut Vec<u8>,
 ) -> Result<(), AllocError>
-    ensures { OnOk result (line.new.items ≡ named_line label.now blob.now (key_at blob.now)) }
+    ensures { OnOk result (line.new.items ≡ line.old.items
+        ++ named_line label.now blob.now (key_at blob.now)) }
 {
-    line.clear();
     let encoded = STANDARD.encode(alloc, blob)?;
     let encoded = Words(encoded.as_bytes());
     let Ok(key) = read_key(blob) else {
@@ -105,22 +127,20 @@ fn write_named(
     put!(line; Words(label), b": ", kind, b" ", encoded, b" # ", Words(&print), b"\n")
 }
 
-// Makes the line of serial numbers: of one, or of the first and the last.
-fn write_serials(span: Span, line: &mut Vec<u8>) -> Result<(), AllocError>
-    ensures { OnOk result (line.new.items ≡ serials_line span) }
+// Appends the line of serial numbers: of one, or of the first and the last.
+fn push_serials(span: Span, line: &mut Vec<u8>) -> Result<(), AllocError>
+    ensures { OnOk result (line.new.items ≡ line.old.items ++ serials_line span) }
 {
-    line.clear();
     if span.lo == span.hi {
         return put!(line; b"serial: ", span.lo, b"\n");
     }
     put!(line; b"serial: ", span.lo, b"-", span.hi, b"\n")
 }
 
-// Makes the line of a key ID.
-fn write_id(alloc: Global, id: &[u8], line: &mut Vec<u8>) -> Result<(), AllocError>
-    ensures { OnOk result (line.new.items ≡ id_line id.now) }
+// Appends the line of a key ID.
+fn push_id(alloc: Global, id: &[u8], line: &mut Vec<u8>) -> Result<(), AllocError>
+    ensures { OnOk result (line.new.items ≡ line.old.items ++ id_line id.now) }
 {
-    line.clear();
     if is_text(id) {
         return put!(line; b"id: ", Words(id), b"\n");
     }
@@ -156,17 +176,11 @@ fn is_text_byte(byte: u8) -> bool
     32 <= byte && byte <= 126 && byte != b'#'
 }
 
-// Makes the line of a hash.
+// Appends the line of a hash.
 #[tactic(auto, unfolding(key_text::specs::Fingerprints::unpadded))]
-fn write_hash(
-    alloc: Global,
-    label: &[u8],
-    hash: &[u8],
-    line: &mut Vec<u8>,
-) -> Result<(), AllocError>
-    ensures { OnOk result (line.new.items ≡ hash_line label.now hash.now) }
+fn push_hash(alloc: Global, label: &[u8], hash: &[u8], line: &mut Vec<u8>) -> Result<(), AllocError>
+    ensures { OnOk result (line.new.items ≡ line.old.items ++ hash_line label.now hash.now) }
 {
-    line.clear();
     let text = STANDARD_NO_PAD.encode(alloc, hash)?;
     put!(line; b"hash: ", Words(label), Words(text.as_bytes()), b"\n")
 }

@@ -1,13 +1,15 @@
 //! The facts about a list as JSON objects.
 
 ghost use Rattle.std.specs.Prelude.{◌≡◌, ◌∷◌, ◌++◌, [], OnOk, option_map};
-ghost use Rattle.json_lines.specs.Field.{fields_tokens};
+ghost use Rattle.json_lines.specs.Field.{fields_tokens, json_line, object_of};
 ghost use Rattle.list_text.specs.Facts.{fact_of};
-ghost use Rattle.list_text.specs.Objects.{authority_field, count_fields, done_line, fact_fields};
-ghost use Rattle.list_text.specs.Objects.{hash_field, header_fields, object_line, serials_field};
+ghost use Rattle.list_text.specs.Objects.{authority_field, changes_line, done_line, fact_fields};
+ghost use Rattle.list_text.specs.Objects.{hash_field, header_fields, kind_fields, object_line};
+ghost use Rattle.list_text.specs.Objects.{serials_field, side_field, side_fields};
 
 use crate::counts::Counts;
 use crate::fact::Fact;
+use crate::side::Side;
 use base64::engine::general_purpose::STANDARD_NO_PAD;
 use cert_listing::time_text;
 use json::Token;
@@ -22,19 +24,45 @@ use std::alloc::{AllocError, Global};
 #[tactic(auto, unfolding(crate::specs::Objects::object_line))]
 pub(crate) fn write_object(
     alloc: Global,
+    side: Option<Side>,
     fact: Fact<'_>,
     line: &mut Vec<u8>,
 ) -> Result<(), AllocError>
-    ensures { OnOk result (line.new.items ≡ object_line (fact_of fact.entry)) }
+    ensures { OnOk result (line.new.items ≡ object_line side (fact_of fact.entry)) }
 {
     if let Fact::Authority(_) = fact {
         line.clear();
         return Ok(());
     }
+    write_fields(alloc, side, fact, line)
+}
+
+// Makes the line of an object with the side and the fields of a fact.
+fn write_fields(
+    alloc: Global,
+    side: Option<Side>,
+    fact: Fact<'_>,
+    line: &mut Vec<u8>,
+) -> Result<(), AllocError>
+    ensures { OnOk result (line.new.items
+        ≡ json_line (object_of (side_fields side ++ fact_fields (fact_of fact.entry)))) }
+{
     let mut out = LineWriter::object(alloc)?;
+    put_side(&mut out, side)?;
     put_fact(alloc, &mut out, fact)?;
     *line = out.end_object()?;
     Ok(())
+}
+
+// Writes the side of a comparison, if there is one.
+#[tactic(auto, unfolding(json_lines::specs::Field::fields_tokens))]
+fn put_side(out: &mut LineWriter, side: Option<Side>) -> Result<(), AllocError>
+    ensures { OnOk result (out.new ≡ out.old ++ fields_tokens (side_fields side)) }
+{
+    match side {
+        Some(side) => put_word(out, "change", side.word()),
+        None => Ok(()),
+    }
 }
 
 // Writes the fields of a fact.
@@ -138,16 +166,44 @@ pub(crate) fn write_done(
 {
     let mut out = LineWriter::object(alloc)?;
     put_word(&mut out, "status", "done")?;
-    put_counts(&mut out, counts)?;
+    put_number(&mut out, "lists", counts.lists)?;
+    put_kinds(&mut out, counts)?;
     *line = out.end_object()?;
     Ok(())
 }
 
-// Writes how many facts were printed.
-fn put_counts(out: &mut LineWriter, counts: Counts) -> Result<(), AllocError>
-    ensures { OnOk result (out.new ≡ out.old ++ fields_tokens (count_fields counts)) }
+/// Makes the last line of a comparison as JSON: how many facts were printed for each side.
+pub fn write_changes(
+    alloc: Global,
+    added: Counts,
+    removed: Counts,
+    line: &mut Vec<u8>,
+) -> Result<(), AllocError>
+    ensures { OnOk result (line.new.items ≡ changes_line added removed) }
 {
-    put_number(out, "lists", counts.lists)?;
+    let mut out = LineWriter::object(alloc)?;
+    put_word(&mut out, "status", "done")?;
+    put_counts(&mut out, Side::Added, added)?;
+    put_counts(&mut out, Side::Removed, removed)?;
+    *line = out.end_object()?;
+    Ok(())
+}
+
+// Writes how many facts were printed for a side.
+fn put_counts(out: &mut LineWriter, side: Side, counts: Counts) -> Result<(), AllocError>
+    ensures { OnOk result (out.new ≡ out.old ++ fields_tokens (side_field side counts ∷ [])) }
+{
+    out.token(Token::Key(side.word()))?;
+    out.token(Token::BeginObject)?;
+    put_kinds(out, counts)?;
+    out.token(Token::EndObject)?;
+    Ok(())
+}
+
+// Writes how many facts of each kind were printed.
+fn put_kinds(out: &mut LineWriter, counts: Counts) -> Result<(), AllocError>
+    ensures { OnOk result (out.new ≡ out.old ++ fields_tokens (kind_fields counts)) }
+{
     put_number(out, "cas", counts.authorities)?;
     put_number(out, "serials", counts.serials)?;
     put_number(out, "ids", counts.ids)?;

@@ -10,7 +10,7 @@ use Rattle.krl_format.specs.Front.{limit}
 use Rattle.krl_format.specs.declared.header.Header.{Header}
 use Rattle.krl_types.specs.Entry.{Entry}
 use Rattle.krl_writer.specs.KrlText.{IsKrlText}
-use Rattle.list_text.specs.Counts.{counted_all}
+use Rattle.list_text.specs.Counts.{counted_all, nothing_counted}
 use Rattle.list_text.specs.Facts.{facts_of}
 use Rattle.list_text.specs.declared.counts.Counts.{Counts}
 use Rattle.text_entries.specs.Lines.{lines_of}
@@ -80,12 +80,9 @@ pub record Wanted : Type 0 where
   pub header : Header
   pub allow_empty : Bool
 
-abbrev pub no_counts : Counts
-no_counts = record { lists = 0; authorities = 0; serials = 0; ids = 0; keys = 0; hashes = 0 }
-
 -- how many authorities, serial numbers, key IDs, keys and hashes are held
 abbrev pub counts_of : Revocations → Counts
-counts_of contents = counted_all no_counts (facts_of contents)
+counts_of contents = counted_all nothing_counted (facts_of contents)
 
 -- A list with this header that names exactly these entries: what is held of it, its bytes, and how
 -- much it names.

@@ -1,8 +1,6 @@
--- Six numbers, one after the other.
-use Rattle.json_lines.proofs.Objects.{four_fields, three_fields}
+-- An object in brackets.
+use Rattle.json_lines.proofs.Objects.{object_field}
 use Rattle.list_text.proofs.object.put_counts.Goals as goal
 
 pub returns : goal.returns
-returns c =
-    let front = three_fields c.args.out.now _ _ _ _ _ _ c.in_ok-put_number.ensures c.in_ok-put_number-2.ensures c.in_ok-put_number-3.ensures in
-    four_fields c.args.out.now _ _ _ _ _ _ _ _ front c.in_ok-put_number-4.ensures c.in_ok-put_number-5.ensures c.in_ok-put_number-6.ensures
+returns c = object_field c.args.out.now _ _ _ _ _ _ (rw c.word.ensures at c.in_ok-token.ensures) c.in_ok-token-2.ensures c.in_ok-put_kinds.ensures c.in_ok-token-3.ensures

@@ -1,0 +1,25 @@
+-- The changes from one list to another (krl(1), KRL DIFF).
+use Rattle.std.specs.Prelude.{ℕ, List, ◌++◌, codes}
+use Rattle.list_text.specs.declared.side.Side.{Side}
+use Rattle.list_text.specs.declared.side.Side.TheVariants.{Added, Removed}
+use Rattle.list_text.specs.Facts.{Fact, AuthorityFact}
+use Rattle.list_text.specs.Text.{fact_line}
+
+-- the name of a side in JSON objects
+abbrev pub side_word : Side → List ℕ
+side_word Added = codes "added"
+side_word Removed = codes "removed"
+
+abbrev pub side_mark : Side → List ℕ
+side_mark Added = codes "+ "
+side_mark Removed = codes "- "
+
+-- The mark before the line of a fact. An authority is not changed itself: its line says whose the
+-- serial numbers and key IDs below it are.
+abbrev pub mark_of : Side → Fact → List ℕ
+mark_of side (AuthorityFact authority) = codes "  "
+mark_of side fact = side_mark side
+
+-- the line of a change
+abbrev pub change_line : Side → Fact → List ℕ
+change_line side fact = mark_of side fact ++ fact_line fact
