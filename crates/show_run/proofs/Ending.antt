@@ -2,7 +2,8 @@
 use Rattle.show_run.proofs.Common.{[], ◌++◌, ◌∷◌, ◌≡◌, counted_all, Fact, fact_items, false, Form, line_item, List, lists_facts, refl, ℕ}
 use Rattle.run_output.specs.Run.{outcome_of}
 use Rattle.list_text.specs.Forms.{last_line}
-use Rattle.show_run.specs.Run.{nothing_shown, run_items}
+use Rattle.list_text.specs.Counts.{nothing_counted}
+use Rattle.show_run.specs.Run.{run_items}
 use Rattle.show_run.specs.declared.lists.Given.{Given}
 
 -- No line reports a revoked key.
@@ -12,4 +13,4 @@ plain_items form (fact ∷ facts) last = plain_items form facts last
 
 pub plain_run : (form : Form) (lists : List Given) → (outcome_of (run_items form lists)).revoked ≡ false
 unfolding run_items
-plain_run form lists = plain_items form (lists_facts lists) (last_line form (counted_all nothing_shown (lists_facts lists)))
+plain_run form lists = plain_items form (lists_facts lists) (last_line form (counted_all nothing_counted (lists_facts lists)))

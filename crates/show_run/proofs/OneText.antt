@@ -21,9 +21,15 @@ one_list false bytes one other entries others named also = (named.header_is ∙ 
 facts_with : (name other : List ℕ) (header more : Option Header) (held also : Revocations) → name ≡ other → header ≡ more → held ≡ also → (ListFact name header ∷ facts_of held) ≡ ListFact other more ∷ facts_of also
 facts_with name other header more held also names headers same = rw (names, headers, same) refl
 
+-- the bytes of a list decide what is held of it
+pub one_held : (name called bytes : List ℕ) (one other : Given) → IsGivenBy name bytes one → IsGivenBy called bytes other → one.revocations ≡ other.revocations
+one_held name called bytes one other is also =
+    let same = one_list (begins_list bytes) bytes one.header other.header is.entries also.entries is.names also.names in
+    one_meaning one.revocations other.revocations also.entries (subst (λ (entries : List Entry). Means one.revocations entries) same.1 is.means) also.means
+
 pub one_text : (name bytes : List ℕ) (one other : Given) → IsGivenBy name bytes one → IsGivenBy name bytes other → given_facts one ≡ given_facts other
 unfolding given_facts
 one_text name bytes one other is also =
     let same = one_list (begins_list bytes) bytes one.header other.header is.entries also.entries is.names also.names in
-    let held = one_meaning one.revocations other.revocations also.entries (subst (λ (entries : List Entry). Means one.revocations entries) same.1 is.means) also.means in
+    let held = one_held name name bytes one other is also in
     facts_with one.name.now other.name.now one.header other.header one.revocations other.revocations (is.name_is ∙ sym also.name_is) same.0 held

@@ -5,23 +5,18 @@ use Rattle.run_faults.specs.RunFault.{RunFault}
 use Rattle.run_faults.specs.declared.cause.Cause.{Cause}
 use Rattle.run_output.specs.Done.{Ends}
 use Rattle.run_output.specs.Run.{Item, outcome_of}
-use Rattle.list_text.specs.Counts.{counted_all}
+use Rattle.list_text.specs.Counts.{counted_all, nothing_counted}
 use Rattle.list_text.specs.Forms.{last_line}
-use Rattle.list_text.specs.declared.counts.Counts.{Counts}
 use Rattle.list_text.specs.declared.form.Form.{Form}
 use Rattle.show_run.specs.Lists.{AreGiven, IsFirstRefused}
 use Rattle.show_run.specs.Showing.{fact_items, line_item, lists_facts}
 use Rattle.show_run.specs.declared.lists.Given.{Given}
 
-abbrev pub nothing_shown : Counts
-nothing_shown =
-    record { lists = 0; authorities = 0; serials = 0; ids = 0; keys = 0; hashes = 0 }
-
 -- the lines of lists, and the last line
 unfoldable pub run_items : Form → List Given → List Item
 run_items form lists =
     fact_items form (lists_facts lists)
-    ++ line_item (last_line form (counted_all nothing_shown (lists_facts lists))) ∷ []
+    ++ line_item (last_line form (counted_all nothing_counted (lists_facts lists))) ∷ []
 
 -- The run printed the lines of these lists, or was stopped within them. The status is 0, or 255 if
 -- the run was stopped, since no line reports a revoked key.

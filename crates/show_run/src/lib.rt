@@ -3,9 +3,10 @@
 
 pub mod laws;
 mod lists;
+mod printing;
 mod run;
-mod shower;
 mod walk;
 
-pub use lists::Lists;
+pub use lists::{Given, Lists, read_given};
 pub use run::show_run;
+pub use walk::show_held;

@@ -29,10 +29,10 @@ pub trait Lists {
 /// A list that was read: the name of its file, its header unless it is a plain list, and what it
 /// names.
 #[derive(Drop)]
-pub(crate) struct Given<'a> {
-    pub(crate) name: &'a str,
-    pub(crate) header: Option<Header>,
-    pub(crate) revocations: Revocations<Held>,
+pub struct Given<'a> {
+    pub name: &'a str,
+    pub header: Option<Header>,
+    pub revocations: Revocations<Held>,
 }
 
 impl<'a> Given<'a> {
@@ -66,8 +66,8 @@ pub(crate) fn read_lists<'a, L: Lists>(
     Ok(all)
 }
 
-// Reads the list of this name.
-fn read_given<'a, L: Lists>(
+/// Reads the list of this name, or says why it is refused.
+pub fn read_given<'a, L: Lists>(
     alloc: Global,
     lists: &L,
     name: &'a str,

@@ -2,10 +2,10 @@
 
 ghost use Rattle.std.specs.Prelude.{◌≡◌, false};
 ghost use Rattle.run_output.specs.Carries.{Carries};
-ghost use Rattle.show_run.specs.Run.{EndsShowRun, EndsShown, nothing_shown, run_items};
+ghost use Rattle.show_run.specs.Run.{EndsShowRun, EndsShown, run_items};
 
 use crate::lists::{Given, Lists, read_lists};
-use crate::shower::{Shower, show_last};
+use crate::printing::show_last;
 use crate::walk::show_lists;
 use byte_streams::Sink;
 use list_text::{Counts, Form};
@@ -45,17 +45,13 @@ fn show_all<'a, W: Sink>(alloc: Global, lists: &[Given<'_>], form: Form, out: &m
     let mut buffer = Vec::new(alloc);
     let printer = Printer::new(&mut buffer, out);
     let line = Vec::new(alloc);
-    let mut shower = Shower {
-        run: Run {
-            alloc,
-            printer,
-            line,
-        },
-        counts: Counts::NONE,
+    let mut run = Run {
+        alloc,
+        printer,
+        line,
     };
-    let stop = show_each(&mut shower, form, lists);
-    let done = shower.run.printer.finish(stop.err());
-    let Shower { run, .. } = shower;
+    let stop = show_each(&mut run, form, lists);
+    let done = run.printer.finish(stop.err());
     let Run {
         printer,
         line: _line,
@@ -67,14 +63,13 @@ fn show_all<'a, W: Sink>(alloc: Global, lists: &[Given<'_>], form: Form, out: &m
 
 // Shows the lists and the last line.
 fn show_each<'a, W: Sink>(
-    shower: &mut Shower<'_, W>,
+    run: &mut Run<'_, W>,
     form: Form,
     lists: &[Given<'_>],
 ) -> Result<(), RunFault<'a>>
-    requires { shower.old.counts ≡ nothing_shown }
-    ensures { Carries (run_items form lists.now) result shower.old.run.printer
-        shower.new.run.printer }
+    ensures { Carries (run_items form lists.now) result run.old.printer run.new.printer }
 {
-    show_lists(shower, form, lists)?;
-    show_last(shower, form)
+    let mut counts = Counts::NONE;
+    show_lists(run, &mut counts, form, lists)?;
+    show_last(run, counts, form)
 }

@@ -6,11 +6,12 @@ ghost use Rattle.list_text.specs.Facts.{SerialsFact, fact_of, facts_of, section_
 ghost use Rattle.show_run.specs.Showing.{Shows, given_facts, kind_fact, lists_facts};
 
 use crate::lists::Given;
-use crate::shower::{Shower, show_fact};
+use crate::printing::show_fact;
 use byte_streams::Sink;
 use krl_core::{Listed, Revocations, Texts};
-use list_text::{Fact, Form};
+use list_text::{Counts, Fact, Form};
 use run_faults::RunFault;
+use run_output::Run;
 use serial_set::{Span, Spans};
 
 /// The kind of some bytes of a list.
@@ -42,91 +43,98 @@ impl<'a> Kind<'a> {
 
 /// Shows lists, one after the other.
 pub(crate) fn show_lists<'a, W: Sink>(
-    shower: &mut Shower<'_, W>,
+    run: &mut Run<'_, W>,
+    counts: &mut Counts,
     form: Form,
     lists: &[Given<'_>],
 ) -> Result<(), RunFault<'a>>
-    ensures { Shows form (lists_facts lists.now) result shower.old.run.printer
-        shower.new.run.printer shower.old.counts shower.new.counts }
+    ensures { Shows form (lists_facts lists.now) result run.old.printer
+        run.new.printer counts.old counts.new }
 {
     for given in lists {
-        show_list(shower, form, given)?;
+        show_list(run, counts, form, given)?;
     }
     Ok(())
 }
 
 // Shows a list: its name and header, and what it names.
 fn show_list<'a, W: Sink>(
-    shower: &mut Shower<'_, W>,
+    run: &mut Run<'_, W>,
+    counts: &mut Counts,
     form: Form,
     given: &Given<'_>,
 ) -> Result<(), RunFault<'a>>
-    ensures { Shows form (given_facts given.now) result shower.old.run.printer
-        shower.new.run.printer shower.old.counts shower.new.counts }
+    ensures { Shows form (given_facts given.now) result run.old.printer
+        run.new.printer counts.old counts.new }
 {
-    show_fact(shower, form, Fact::List(given.name, given.header()))?;
-    show_held(shower, form, &given.revocations)
+    show_fact(run, counts, form, Fact::List(given.name, given.header()))?;
+    show_held(run, counts, form, &given.revocations)
 }
 
-// Shows what is held.
-fn show_held<'a, S: Spans, W: Sink>(
-    shower: &mut Shower<'_, W>,
+/// Shows what is held, and counts it: each authority, with its serial numbers and key IDs, and then
+/// keys and hashes.
+pub fn show_held<'a, S: Spans, W: Sink>(
+    run: &mut Run<'_, W>,
+    counts: &mut Counts,
     form: Form,
     held: &Revocations<S>,
 ) -> Result<(), RunFault<'a>>
-    ensures { Shows form (facts_of held.now) result shower.old.run.printer
-        shower.new.run.printer shower.old.counts shower.new.counts }
+    ensures { Shows form (facts_of held.now) result run.old.printer
+        run.new.printer counts.old counts.new }
 {
-    show_sections(shower, form, held)?;
-    show_texts(shower, form, Kind::Key, held.iter_keys())?;
-    show_texts(shower, form, Kind::Sha1, held.iter_sha1s())?;
-    show_texts(shower, form, Kind::Sha256, held.iter_sha256s())
+    show_sections(run, counts, form, held)?;
+    show_texts(run, counts, form, Kind::Key, held.iter_keys())?;
+    show_texts(run, counts, form, Kind::Sha1, held.iter_sha1s())?;
+    show_texts(run, counts, form, Kind::Sha256, held.iter_sha256s())
 }
 
 // Shows the authorities, with their serial numbers and key IDs.
 fn show_sections<'a, S: Spans, W: Sink>(
-    shower: &mut Shower<'_, W>,
+    run: &mut Run<'_, W>,
+    counts: &mut Counts,
     form: Form,
     held: &Revocations<S>,
 ) -> Result<(), RunFault<'a>>
     ensures { Shows form (flat_map section_facts held.now.sections) result
-        shower.old.run.printer shower.new.run.printer shower.old.counts shower.new.counts }
+        run.old.printer run.new.printer counts.old counts.new }
 {
     for listed in held.iter_authorities() {
-        show_section(shower, form, &listed)?;
+        show_section(run, counts, form, &listed)?;
     }
     Ok(())
 }
 
 // Shows an authority, its serial numbers and its key IDs.
 fn show_section<'a, S: Spans, W: Sink>(
-    shower: &mut Shower<'_, W>,
+    run: &mut Run<'_, W>,
+    counts: &mut Counts,
     form: Form,
     listed: &Listed<'_, S>,
 ) -> Result<(), RunFault<'a>>
-    ensures { Shows form (section_facts listed.now) result shower.old.run.printer
-        shower.new.run.printer shower.old.counts shower.new.counts }
+    ensures { Shows form (section_facts listed.now) result run.old.printer
+        run.new.printer counts.old counts.new }
 {
     let authority = listed.authority();
-    show_fact(shower, form, Fact::Authority(authority))?;
-    show_spans(shower, form, authority, listed.spans())?;
-    show_texts(shower, form, Kind::Id(authority), listed.iter_ids())
+    show_fact(run, counts, form, Fact::Authority(authority))?;
+    show_spans(run, counts, form, authority, listed.spans())?;
+    show_texts(run, counts, form, Kind::Id(authority), listed.iter_ids())
 }
 
 // Shows spans of serial numbers, some at a time.
 fn show_spans<'a, S: Spans, W: Sink>(
-    shower: &mut Shower<'_, W>,
+    run: &mut Run<'_, W>,
+    counts: &mut Counts,
     form: Form,
     authority: &[u8],
     spans: &S,
 ) -> Result<(), RunFault<'a>>
     ensures { Shows form (map (SerialsFact authority.now) (S.spans spans.now)) result
-        shower.old.run.printer shower.new.run.printer shower.old.counts shower.new.counts }
+        run.old.printer run.new.printer counts.old counts.new }
 {
     let mut next = Some(0);
     while let Some(number) = next {
         let piece = spans.piece_from(number);
-        show_piece(shower, form, authority, piece.as_slice())?;
+        show_piece(run, counts, form, authority, piece.as_slice())?;
         next = piece.next();
     }
     Ok(())
@@ -134,32 +142,34 @@ fn show_spans<'a, S: Spans, W: Sink>(
 
 // Shows some spans.
 fn show_piece<'a, W: Sink>(
-    shower: &mut Shower<'_, W>,
+    run: &mut Run<'_, W>,
+    counts: &mut Counts,
     form: Form,
     authority: &[u8],
     piece: &[Span],
 ) -> Result<(), RunFault<'a>>
     ensures { Shows form (map (SerialsFact authority.now) piece.now) result
-        shower.old.run.printer shower.new.run.printer shower.old.counts shower.new.counts }
+        run.old.printer run.new.printer counts.old counts.new }
 {
     for span in piece {
-        show_fact(shower, form, Fact::Serials(authority, *span))?;
+        show_fact(run, counts, form, Fact::Serials(authority, *span))?;
     }
     Ok(())
 }
 
 // Shows key IDs, keys or hashes.
 fn show_texts<'a, W: Sink>(
-    shower: &mut Shower<'_, W>,
+    run: &mut Run<'_, W>,
+    counts: &mut Counts,
     form: Form,
     kind: Kind<'_>,
     texts: Texts<'_>,
 ) -> Result<(), RunFault<'a>>
     ensures { Shows form (map (kind_fact kind.entry) texts.entry) result
-        shower.old.run.printer shower.new.run.printer shower.old.counts shower.new.counts }
+        run.old.printer run.new.printer counts.old counts.new }
 {
     for bytes in texts {
-        show_fact(shower, form, kind.fact(bytes))?;
+        show_fact(run, counts, form, kind.fact(bytes))?;
     }
     Ok(())
 }

@@ -1,6 +1,6 @@
 -- The lists and the last line are shown, or end the run.
-use Rattle.show_run.proofs.Common.{◌∙◌, ap, carries_more, carries_then, counted_all, Counts}
-use Rattle.show_run.proofs.Common.{err_from_is_err_and, fact_items, lists_facts}
+use Rattle.show_run.proofs.Common.{carries_more, carries_then, err_from_is_err_and, fact_items}
+use Rattle.show_run.proofs.Common.{lists_facts}
 use Rattle.show_run.specs.Run.{run_items}
 use Rattle.show_run.proofs.run.show_each.Goals as goal
 
@@ -15,6 +15,5 @@ pub returns : goal.returns
 unfolding run_items
 returns g c =
     let facts = lists_facts c.args.lists.now in
-    let count = c.in_ok-show_lists.ensures.count ∙ ap (λ (counts : Counts). counted_all counts facts) c.requires in
-    let last = rw count at c.show_last.ensures in
+    let last = rw c.in_ok-show_lists.ensures.count at c.show_last.ensures in
     carries_then (fact_items c.args.form facts) _ tt _ _ _ _ c.in_ok-show_lists.ensures.carries last

@@ -4,4 +4,4 @@ use Rattle.show_run.proofs.Showing.{IsShown}
 use Rattle.show_run.proofs.walk.show_sections.Given as goal
 
 abbrev pub invariant-loop-listed : goal.invariant-loop-listed
-invariant-loop-listed g l = IsShown l.form (flat_map section_facts l.held.sections) (flat_map section_facts l.listed-iterator) l.initial.shower.run.printer l.shower.run.printer l.initial.shower.counts l.shower.counts
+invariant-loop-listed g l = IsShown l.form (flat_map section_facts l.held.sections) (flat_map section_facts l.listed-iterator) l.initial.run.printer l.run.printer l.initial.counts l.counts

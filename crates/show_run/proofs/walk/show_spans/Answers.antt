@@ -12,7 +12,7 @@ loop-next-init g c =
     let fact = SerialsFact c.args.authority.now in
     let spans = g.S.Spans.spans c.args.spans.now in
     let all = since_same 0 spans (g.met.S.Spans.law c.args.spans.now).0 in
-    subst (λ (l : List Span). IsShown c.args.form (map fact spans) (map fact l) c.args.shower.now.run.printer c.args.shower.now.run.printer c.args.shower.now.counts c.args.shower.now.counts) (sym all) (none_shown _ _ _ _)
+    subst (λ (l : List Span). IsShown c.args.form (map fact spans) (map fact l) c.args.run.now.printer c.args.run.now.printer c.args.counts.now c.args.counts.now) (sym all) (none_shown _ _ _ _)
 
 pub loop-next-smaller : goal.loop-next-smaller
 loop-next-smaller g c =

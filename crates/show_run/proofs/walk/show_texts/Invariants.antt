@@ -4,4 +4,4 @@ use Rattle.show_run.proofs.Showing.{IsShown}
 use Rattle.show_run.proofs.walk.show_texts.Given as goal
 
 abbrev pub invariant-loop-bytes : goal.invariant-loop-bytes
-invariant-loop-bytes g l = IsShown l.form (map (kind_fact l.kind) l.fn.texts) (map (kind_fact l.kind) l.bytes-iterator) l.initial.shower.run.printer l.shower.run.printer l.initial.shower.counts l.shower.counts
+invariant-loop-bytes g l = IsShown l.form (map (kind_fact l.kind) l.fn.texts) (map (kind_fact l.kind) l.bytes-iterator) l.initial.run.printer l.run.printer l.initial.counts l.counts
