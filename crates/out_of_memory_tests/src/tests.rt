@@ -5,6 +5,7 @@ mod answered;
 mod audits;
 mod buffer;
 mod checks;
+mod compared;
 mod differences;
 mod holding;
 mod keys;

@@ -1,5 +1,6 @@
 //! Printed lists, and the callers of the pages.
 
+mod comparisons;
 mod lines;
 mod page;
 mod runs;

@@ -1,4 +1,4 @@
-//! The callers of the pages of `list_text` and `show_run`.
+//! The callers of the pages of `list_text`, `show_run` and `diff_run`.
 
 ghost use Rattle.std.specs.Prelude.{◌≡◌, [], IfOk, false};
 ghost use Rattle.list_text.specs.Facts.{IdFact};
@@ -6,6 +6,7 @@ ghost use Rattle.list_text.specs.Text.{fact_line};
 
 use crate::tests::runs::Shelf;
 use byte_streams::{Sink, ToWrite};
+use diff_run::{Comparison, diff_run};
 use list_text::{Fact, Form};
 use show_run::{Lists, show_run};
 use std::alloc::{AllocError, Global};
@@ -27,6 +28,18 @@ fn are_shown<L: Lists, W: Sink>(alloc: Global, lists: &L, names: &[&str], out: &
     show_run(alloc, lists, names, Form::Text, out).status == 0
 }
 
+/// Whether the list of one name names exactly what the list of another name does.
+fn are_same<L: Lists, W: Sink>(
+    alloc: Global,
+    lists: &L,
+    comparison: Comparison,
+    out: &mut W,
+) -> bool
+    requires { W.has_failed out.old ≡ false }
+{
+    diff_run(alloc, lists, comparison, out).status == 0
+}
+
 #[test]
 fn the_callers_of_the_pages(rt: HostRuntime) {
     let line = id_line(rt.alloc(), b"bob").expect(&rt, "there is memory");
@@ -34,4 +47,10 @@ fn the_callers_of_the_pages(rt: HostRuntime) {
     let mut said = Taker::whole(rt.alloc());
     assert!(rt; are_shown(rt.alloc(), &Shelf, &["five"], &mut ToWrite::new(&mut said)));
     assert!(rt; !are_shown(rt.alloc(), &Shelf, &["gone"], &mut ToWrite::new(&mut said)));
+    let comparison = Comparison {
+        old: "hundreds",
+        new: "pieces",
+        json: false,
+    };
+    assert!(rt; are_same(rt.alloc(), &Shelf, comparison, &mut ToWrite::new(&mut said)));
 }

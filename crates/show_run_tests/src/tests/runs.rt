@@ -25,6 +25,12 @@ impl Lists for Shelf {
             "plain" => Vec::from_slice(alloc, GITHUB_LINE),
             "short" => Vec::from_slice(alloc, b"SSHKRL\n\0"),
             "said" => Vec::from_slice(alloc, SAID),
+            "hundred" => list_of(alloc, HUNDRED),
+            "hundreds" => list_of(alloc, HUNDREDS),
+            "pieces" => list_of(alloc, PIECES),
+            "own" => list_of(alloc, OWN),
+            "other" => list_of(alloc, OTHER_CA),
+            "sha1" => list_of(alloc, SHA1_SECTION),
             _ => return Err(Cause::File(FileFault::Open)),
         };
         match made {
@@ -37,6 +43,25 @@ impl Lists for Shelf {
 // A list of version 7 with the comment `a`, a line feed and `b`.
 const SAID: &[u8] = b"SSHKRL\n\0\0\0\0\x01\0\0\0\0\0\0\0\x07\0\0\0\0\0\0\0\0\
 \0\0\0\0\0\0\0\0\0\0\0\0\0\0\0\x03a\nb";
+
+// Serial number 100 of all authorities; 100 and 101, as a range and one by one.
+const HUNDRED: &[u8] = b"\x01\0\0\0\x15\0\0\0\0\0\0\0\0\x20\0\0\0\x08\0\0\0\0\0\0\0\x64";
+
+const HUNDREDS: &[u8] = b"\x01\0\0\0\x1d\0\0\0\0\0\0\0\0\x21\0\0\0\x10\0\0\0\0\0\0\0\x64\
+\0\0\0\0\0\0\0\x65";
+
+const PIECES: &[u8] = b"\x01\0\0\0\x1d\0\0\0\0\0\0\0\0\x20\0\0\0\x10\0\0\0\0\0\0\0\x64\
+\0\0\0\0\0\0\0\x65";
+
+// Serial number 7 and key ID `a` of the authority `x`, and those of `y`.
+const OWN: &[u8] = b"\x01\0\0\0\x20\0\0\0\x01x\0\0\0\0\x20\0\0\0\x08\0\0\0\0\0\0\0\x07\
+\x23\0\0\0\x05\0\0\0\x01a";
+
+const OTHER_CA: &[u8] = b"\x01\0\0\0\x20\0\0\0\x01y\0\0\0\0\x20\0\0\0\x08\0\0\0\0\0\0\0\x07\
+\x23\0\0\0\x05\0\0\0\x01a";
+
+// The section of a SHA-1 of zero bytes.
+const SHA1_SECTION: &[u8] = b"\x03\0\0\0\x18\0\0\0\x14\0\0\0\0\0\0\0\0\0\0\0\0\0\0\0\0\0\0\0\0";
 
 // The form of some lists, the text that is printed, the status, and the name and the cause of the
 // fault.

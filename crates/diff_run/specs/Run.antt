@@ -1,0 +1,54 @@
+-- A whole comparison: what it prints, and how it ends.
+use Rattle.std.specs.Prelude.{◌≡◌, ◌↔◌, ℕ, Bool, true, false, List, Option, Some, None, Result}
+use Rattle.run_faults.specs.RunFault.{RunFault}
+use Rattle.run_faults.specs.declared.cause.Cause.{Cause}
+use Rattle.run_output.specs.Done.{Ends}
+use Rattle.krl_types.specs.Entry.{Entry}
+use Rattle.krl_types.specs.Naming.{NamesSame}
+use Rattle.show_run.specs.Lists.{IsGiven}
+use Rattle.show_run.specs.declared.lists.Given.{Given}
+use Rattle.diff_run.specs.Changes.{AreChanges, IsUncompared, IsUnchanged}
+use Rattle.diff_run.specs.Printing.{change_items}
+use Rattle.diff_run.specs.declared.changes.Changes.{Changes}
+use Rattle.diff_run.specs.declared.run.Comparison.{Comparison}
+
+-- the exit status: 255 after a fault, otherwise 0 if both lists name the same, and 1 if not
+abbrev pub status_of : (same : Bool) → Option RunFault → ℕ
+status_of same (Some stop) = 255
+status_of true None = 0
+status_of false None = 1
+
+-- The lines of the changes were printed, or the run was stopped within them.
+pub record EndsPrinted (json : Bool) (changes : Changes) (before after : Option (List ℕ))
+    (failed : Bool) (status : ℕ) (fault : Option RunFault) : Type 0 where
+  pub same : Bool
+  pub same_is : same ≡ true ↔ IsUnchanged changes
+  pub printed : ℕ
+  pub ends : Ends (change_items json changes) before after failed printed fault
+  pub status_is : status ≡ status_of same fault
+
+-- Two lists that name these entries were compared: the lines of their changes were printed, or the
+-- run was stopped within them. The status is 0 exactly where the entries name the same.
+pub record EndsCompared (json : Bool) (old new : Given) (olds news : List Entry)
+    (before after : Option (List ℕ)) (failed : Bool) (status : ℕ) (fault : Option RunFault)
+    : Type 0 where
+  pub changes : Changes
+  pub are : AreChanges old.revocations new.revocations changes
+  pub same : Bool
+  pub same_is : same ≡ true ↔ NamesSame olds news
+  pub printed : ℕ
+  pub ends : Ends (change_items json changes) before after failed printed fault
+  pub status_is : status ≡ status_of same fault
+
+-- Both lists were read and compared; or one was not read, and nothing was printed.
+pub data EndsDiffRun (Knows : List ℕ → Result (List ℕ) Cause → Type 0) (comparison : Comparison)
+    (before after : Option (List ℕ)) (failed : Bool) (status : ℕ) (fault : Option RunFault)
+    : Type 0 where
+  compared : (old new : Given) → (from : IsGiven Knows comparison.old.now old)
+      → (to : IsGiven Knows comparison.new.now new)
+      → EndsCompared comparison.json old new from.is.entries to.is.entries before after failed
+      status fault
+      → EndsDiffRun Knows comparison before after failed status fault
+  refused : (stop : RunFault) → IsUncompared Knows comparison.old.now comparison.new.now stop
+      → fault ≡ Some stop → status ≡ 255 → after ≡ before → failed ≡ false
+      → EndsDiffRun Knows comparison before after failed status fault

@@ -1,0 +1,60 @@
+//! What each of two lists names and the other does not.
+
+ghost use Rattle.std.specs.Prelude.{◌↔◌, IfErr, IfOk, IsTrue};
+ghost use Rattle.diff_run.specs.Changes.{AreChanges, AreRead, IsUncompared, IsUnchanged};
+
+use krl_core::Revocations;
+use list_diff::{difference, is_nothing};
+use run_faults::{Cause, RunFault};
+use show_run::{Lists, read_given};
+use span_sets::Held;
+use std::alloc::{AllocError, Global};
+
+/// What each of two lists names and the other does not.
+#[derive(Drop)]
+pub(crate) struct Changes {
+    /// What only the new list names.
+    pub(crate) added: Revocations<Held>,
+    /// What only the old list names.
+    pub(crate) removed: Revocations<Held>,
+}
+
+impl Changes {
+    /// Whether both lists name the same.
+    pub(crate) fn is_none(&self) -> bool
+        ensures { IsTrue result ↔ IsUnchanged self.now }
+    {
+        is_nothing(&self.added) && is_nothing(&self.removed)
+    }
+}
+
+/// Reads two lists of these names, and compares what they name. Or says why one of them is refused.
+pub(crate) fn read_changes<'a, L: Lists>(
+    alloc: Global,
+    lists: &L,
+    old: &'a str,
+    new: &'a str,
+) -> Result<Changes, RunFault<'a>>
+    ensures found { IfOk result (λ changes. AreRead (L.states lists.now) old.now new.now changes) }
+    ensures fault { IfErr result (λ stop. IsUncompared (L.states lists.now) old.now new.now stop) }
+{
+    let before = read_given(alloc, lists, old)?;
+    let after = read_given(alloc, lists, new)?;
+    match changes_of(alloc, &before.revocations, &after.revocations) {
+        Ok(changes) => Ok(changes),
+        Err(_) => Err(RunFault::whole(new, Cause::NoMemory)),
+    }
+}
+
+// What each names and the other does not.
+fn changes_of(
+    alloc: Global,
+    old: &Revocations<Held>,
+    new: &Revocations<Held>,
+) -> Result<Changes, AllocError>
+    ensures { IfOk result (λ changes. AreChanges old.now new.now changes) }
+{
+    let added = difference(alloc, old, new)?;
+    let removed = difference(alloc, new, old)?;
+    Ok(Changes { added, removed })
+}
