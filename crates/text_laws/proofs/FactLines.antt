@@ -1,0 +1,94 @@
+-- The lines of facts are read as these facts.
+use Rattle.std.proofs.Common.{◌≡◌, ℕ, ◌+◌, List, [], ◌∷◌, ◌++◌, map, Option, Some, None, Ok, refl, ap, ◌∙◌, append_assoc}
+use Rattle.std.specs.List.{concat, flat_map, slice_split}
+use Rattle.std.proofs.lemmas.List.Splits.{slice_split_at}
+use Rattle.key_text.specs.Lines.{is_newline}
+use Rattle.krl_types.specs.Entry.{Entry, IdEntry, KeyEntry, RangeEntry, Sha1Entry, Sha256Entry}
+use Rattle.list_text.specs.Facts.{Fact, ListFact, AuthorityFact, SerialsFact, IdFact, KeyFact, Sha1Fact, Sha256Fact}
+use Rattle.list_text.specs.Text.{fact_line}
+use Rattle.text_entries.specs.Lines.{LineEntries, before_later, lines_from}
+use Rattle.text_laws.specs.FactLines.{FitsUnder, IsLineOf, fact_says}
+use Rattle.text_laws.proofs.CommentLines.{list_reads}
+use Rattle.text_laws.proofs.HashLines.{sha1_reads, sha256_reads}
+use Rattle.text_laws.proofs.IdLines.{id_reads}
+use Rattle.text_laws.proofs.JoinedTexts.{blank_says}
+use Rattle.text_laws.proofs.LineReads.{Reads}
+use Rattle.text_laws.proofs.NamedLines.{authority_reads, key_reads}
+use Rattle.text_laws.proofs.SerialLines.{serials_read}
+
+-- ---- a fact
+
+-- the entries that a fact names
+abbrev pub entries_of : Fact → List Entry
+entries_of (ListFact name header) = []
+entries_of (AuthorityFact authority) = []
+entries_of (SerialsFact authority span) = RangeEntry authority span.lo span.hi ∷ []
+entries_of (IdFact authority id) = IdEntry authority id ∷ []
+entries_of (KeyFact blob) = KeyEntry blob ∷ []
+entries_of (Sha1Fact hash) = Sha1Entry hash ∷ []
+entries_of (Sha256Fact hash) = Sha256Entry hash ∷ []
+
+-- the authority that is current after a fact
+abbrev pub after : Option (List ℕ) → Fact → Option (List ℕ)
+after current (AuthorityFact authority) = Some authority
+after current fact = current
+
+pub fact_reads : (current : Option (List ℕ)) (fact : Fact) → FitsUnder current fact → Reads current (fact_line fact) (fact_says fact)
+unfolding fact_line
+fact_reads current (ListFact name header) fits = list_reads current name header fits
+fact_reads current (AuthorityFact authority) fits = authority_reads current authority fits
+fact_reads current (SerialsFact authority span) fits = rw fits.0 (serials_read authority span fits.1)
+fact_reads current (IdFact authority id) fits = rw fits.0 (id_reads authority id fits.1)
+fact_reads current (KeyFact blob) fits = key_reads current blob fits
+fact_reads current (Sha1Fact hash) fits = sha1_reads current hash fits.0 fits.1
+fact_reads current (Sha256Fact hash) fits = sha256_reads current hash fits.0 fits.1
+
+-- the text of a fact is one line
+pub fact_is_line : (current : Option (List ℕ)) (fact : Fact) → FitsUnder current fact → IsLineOf current (fact_line fact) (fact_says fact)
+fact_is_line current fact fits =
+    let reads = fact_reads current fact fits in
+    record { line = reads.line; split = ap (slice_split is_newline) reads.ended ∙ slice_split_at is_newline reads.line 10 [] reads.no_feed refl; says = reads.says }
+
+-- ---- facts in a row
+
+-- each fact is under the authority that is current there
+abbrev pub AllFit : Option (List ℕ) → List Fact → Type 0
+AllFit current [] = Unit {0}
+AllFit current (fact ∷ facts) = FitsUnder current fact × AllFit (after current fact) facts
+
+abbrev pub all_entries : List Fact → List Entry
+all_entries facts = flat_map entries_of facts
+
+-- the lines have these entries and no fault
+pub record HasEntries (lines : LineEntries) (entries : List Entry) : Type 0 where
+  pub are : lines.entries ≡ entries
+  pub faultless : lines.fault ≡ None
+
+fact_first : (number : ℕ) (current : Option (List ℕ)) (fact : Fact) (later : Option (List ℕ) → LineEntries) (entries : List Entry)
+    → HasEntries (later (after current fact)) entries → HasEntries (before_later number current (Ok (fact_says fact)) later) (entries_of fact ++ entries)
+fact_first number current (ListFact name header) later entries has = has
+fact_first number current (AuthorityFact authority) later entries has = has
+fact_first number current (SerialsFact authority span) later entries has =
+    record { are = ap (λ (es : List Entry). RangeEntry authority span.lo span.hi ∷ es) has.are; faultless = has.faultless }
+fact_first number current (IdFact authority id) later entries has = record { are = ap (λ (es : List Entry). IdEntry authority id ∷ es) has.are; faultless = has.faultless }
+fact_first number current (KeyFact blob) later entries has = record { are = ap (λ (es : List Entry). KeyEntry blob ∷ es) has.are; faultless = has.faultless }
+fact_first number current (Sha1Fact hash) later entries has = record { are = ap (λ (es : List Entry). Sha1Entry hash ∷ es) has.are; faultless = has.faultless }
+fact_first number current (Sha256Fact hash) later entries has = record { are = ap (λ (es : List Entry). Sha256Entry hash ∷ es) has.are; faultless = has.faultless }
+
+-- the lines of a text of one line and of what follows
+abbrev rest_of : Option (List ℕ) → ℕ → List ℕ → LineEntries
+rest_of current number text = lines_from current number (slice_split is_newline text)
+
+fact_then : (number : ℕ) (current : Option (List ℕ)) (fact : Fact) (text : List ℕ) (entries : List Entry) → Reads current (fact_line fact) (fact_says fact)
+    → HasEntries (rest_of (after current fact) (number + 1) text) entries → HasEntries (rest_of current number (fact_line fact ++ text)) (entries_of fact ++ entries)
+fact_then number current fact text entries reads has =
+    let parts : fact_line fact ++ text ≡ reads.line ++ 10 ∷ text = ap (λ (t : List ℕ). t ++ text) reads.ended ∙ append_assoc reads.line (10 ∷ []) text in
+    let split : slice_split is_newline (fact_line fact ++ text) ≡ reads.line ∷ slice_split is_newline text =
+    ap (slice_split is_newline) parts ∙ slice_split_at is_newline reads.line 10 text reads.no_feed refl in
+    rw (split, reads.says) (fact_first number current fact (λ authority. rest_of authority (number + 1) text) entries has)
+
+pub facts_read : (number : ℕ) (current : Option (List ℕ)) (facts : List Fact) → AllFit current facts → HasEntries (rest_of current number (concat (map fact_line facts))) (all_entries facts)
+facts_read number current [] fit = let is = blank_says current in record { are = rw is refl; faultless = rw is refl }
+facts_read number current (fact ∷ facts) fit =
+    fact_then number current fact (concat (map fact_line facts)) (all_entries facts) (fact_reads current fact fit.0)
+    (facts_read (number + 1) (after current fact) facts fit.1)

@@ -1,0 +1,14 @@
+mod FreeLines
+mod JoinedTexts
+mod SolidBytes
+mod Contents
+mod Orders
+mod LineReads
+mod SerialLines
+mod IdLines
+mod KeyValues
+mod NamedLines
+mod HashLines
+mod CommentLines
+mod FactLines
+mod HeldTexts

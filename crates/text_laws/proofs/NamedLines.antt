@@ -1,0 +1,160 @@
+-- Lines of certificate authorities and keys.
+use Rattle.std.proofs.Common.{◌≡◌, ◌≢◌, ℕ, ◌==◌, false, List, [], ◌∷◌, ◌++◌, length, All, codes, Option, Some, None, Result, Ok, Err, refl, ◌∙◌, arith}
+use Rattle.std.proofs.lemmas.Bool.{ne_eqb}
+use Rattle.std.proofs.lemmas.List.Sums.{AllPass-from_list_all}
+use Rattle.std.proofs.lemmas.List.Elements.{All-append, All-cons, All-weaker}
+use Rattle.base64.proofs.EngineFacts.{decode_of-encode_of}
+use Rattle.base64.specs.Engines.{standard}
+use Rattle.base64.specs.GeneralPurpose.{encode_of}
+use Rattle.sha2.specs.Sha256.{sha256}
+use Rattle.ssh_wire.specs.Wire.{IsBytes}
+use Rattle.ssh_key.specs.Key.{PublicKey}
+use Rattle.ssh_key.specs.KeyReading.{key_at}
+use Rattle.ssh_key.specs.Kind.{type_name}
+use Rattle.ssh_key.specs.declared.fault.KeyFault.{KeyFault}
+use Rattle.ssh_key.specs.declared.kind.Kind.{Kind}
+use Rattle.ssh_key.specs.declared.kind.Kind.TheVariants.{Rsa, Dsa, Ecdsa256, Ecdsa384, Ecdsa521, Ed25519, EcdsaSk, Ed25519Sk}
+use Rattle.key_text.specs.Fingerprints.{fingerprint_text, unpadded}
+use Rattle.key_text.specs.declared.hash.Hash.TheVariants.{Sha256}
+use Rattle.krl_types.specs.Entry.{KeyEntry}
+use Rattle.krl_spec.specs.Directive.{directive_named}
+use Rattle.krl_spec.specs.Entries.{order_entry}
+use Rattle.krl_spec.specs.Keys.{plain_in}
+use Rattle.krl_spec.specs.declared.directive.Directive.TheVariants as directives
+use Rattle.list_text.specs.Text.{authority_line, key_line, named_line}
+use Rattle.text_entries.specs.Says.{Current, Names}
+use Rattle.text_entries.specs.Values.{authority_blob_in, authority_in, authority_key_in, blob_in, is_all, some_bytes}
+use Rattle.text_entries.specs.Word.{word_named}
+use Rattle.text_entries.specs.declared.word.Word.TheVariants as words
+use Rattle.text_laws.proofs.Contents.{IsName, IsRest, comment_left, nothing_left, solid_value}
+use Rattle.text_laws.proofs.KeyValues.{key_is_value, key_subject, key_value}
+use Rattle.text_laws.proofs.LineReads.{Reads, comment_text, line_reads, literal_name, plain_text}
+use Rattle.text_laws.proofs.Orders.{spec_line_says, word_line_says}
+use Rattle.text_laws.proofs.SolidBytes.{HasNoFeed, IsSolid, base64_solid, is_solid, kept_no_feed, solid_kept, unpadded_solid}
+
+-- ---- the fingerprint behind a key
+
+print_no_feed : (blob : List ℕ) → All HasNoFeed (fingerprint_text Sha256 blob)
+unfolding fingerprint_text
+print_no_feed blob =
+    let solid = All-append IsSolid (codes "SHA256:") (unpadded (sha256 blob)) (AllPass-from_list_all is_solid (codes "SHA256:") refl) (unpadded_solid (sha256 blob)) in
+    All-weaker IsSolid HasNoFeed (λ byte is. kept_no_feed byte (solid_kept byte is)) (codes "SHA256:" ++ unpadded (sha256 blob)) solid
+
+print_left : (blob : List ℕ) → IsRest (32 ∷ 35 ∷ 32 ∷ fingerprint_text Sha256 blob)
+print_left blob = comment_left (32 ∷ fingerprint_text Sha256 blob) (All-cons HasNoFeed 32 (fingerprint_text Sha256 blob) refl (print_no_feed blob))
+
+-- ---- bytes
+
+blob_again : (blob : List ℕ) → IsBytes blob → blob_in (encode_of standard blob) ≡ Ok blob
+unfolding blob_in
+blob_again blob bytes = rw (decode_of-encode_of standard blob refl bytes) refl
+
+-- ---- authorities
+
+ca_name : IsName (codes "ca")
+ca_name = literal_name (codes "ca") (omega arith) refl refl
+
+ca_word : word_named (codes "ca") ≡ Some words.Authority
+unfolding word_named
+ca_word = refl
+
+blob_name : IsName (codes "ca-blob")
+blob_name = literal_name (codes "ca-blob") (omega arith) refl refl
+
+blob_word : word_named (codes "ca-blob") ≡ Some words.AuthorityBlob
+unfolding word_named
+blob_word = refl
+
+all_read : (current : Option (List ℕ)) → Reads current (codes "ca: all\n") (Current [])
+unfolding authority_in
+all_read current =
+    let kept = solid_value (codes "all") (AllPass-from_list_all is_solid (codes "all") refl) in
+    line_reads current (codes "ca") (codes "all") [] (codes "ca: all\n") (Current []) ca_name kept nothing_left refl
+    (word_line_says current (codes "ca") (codes "all") [] words.Authority ca_name kept nothing_left ca_word)
+
+-- no type name is `all`
+not_all : (kind : Kind) (rest : List ℕ) → is_all (type_name kind ++ 32 ∷ rest) ≡ false
+not_all Rsa rest = refl
+not_all Dsa rest = refl
+not_all Ecdsa256 rest = refl
+not_all Ecdsa384 rest = refl
+not_all Ecdsa521 rest = refl
+not_all Ed25519 rest = refl
+not_all EcdsaSk rest = refl
+not_all Ed25519Sk rest = refl
+
+authority_again : (blob : List ℕ) (key : PublicKey) (bytes : IsBytes blob) (read : key_at blob ≡ Ok key) → authority_in (key_value blob key bytes read) ≡ Ok blob
+unfolding authority_in authority_key_in
+authority_again blob key bytes read = rw (not_all key.kind (encode_of standard blob), key_subject blob key bytes read) refl
+
+some_again : (blob : List ℕ) → blob ≢ [] → some_bytes blob ≡ Ok blob
+some_again [] some = absurd (some refl)
+some_again (byte ∷ blob) some = refl
+
+authority_blob_again : (blob : List ℕ) → IsBytes blob → blob ≢ [] → authority_blob_in (encode_of standard blob) ≡ Ok blob
+unfolding authority_blob_in
+authority_blob_again blob bytes some = rw (blob_again blob bytes) (some_again blob some)
+
+named_authority : (current : Option (List ℕ)) (blob : List ℕ) → IsBytes blob → blob ≢ [] → (read : Result PublicKey KeyFault) → key_at blob ≡ read
+    → Reads current (named_line (codes "ca") blob read) (Current blob)
+named_authority current blob bytes some (Ok key) read =
+    let kept = key_is_value blob key bytes read in
+    let rest : List ℕ = 32 ∷ 35 ∷ 32 ∷ fingerprint_text Sha256 blob in
+    let value : List ℕ = key_value blob key bytes read in
+    line_reads current (codes "ca") value rest (named_line (codes "ca") blob (Ok key)) (Current blob) ca_name kept (print_left blob)
+    (comment_text (codes "ca") (type_name key.kind) (encode_of standard blob) (fingerprint_text Sha256 blob))
+    (word_line_says current (codes "ca") value rest words.Authority ca_name kept (print_left blob) ca_word ∙ rw (authority_again blob key bytes read) refl)
+named_authority current blob bytes some (Err fault) read =
+    let value : List ℕ = encode_of standard blob in
+    let kept = solid_value value (base64_solid blob) in
+    line_reads current (codes "ca-blob") value [] (named_line (codes "ca") blob (Err fault)) (Current blob) blob_name kept nothing_left (plain_text (codes "ca-blob") value)
+    (word_line_says current (codes "ca-blob") value [] words.AuthorityBlob blob_name kept nothing_left blob_word ∙ rw (authority_blob_again blob bytes some) refl)
+
+pub authority_reads : (current : Option (List ℕ)) (authority : List ℕ) → IsBytes authority → Reads current (authority_line authority) (Current authority)
+authority_reads current [] bytes = all_read current
+authority_reads current (byte ∷ authority) bytes =
+    let some : (length (byte ∷ authority) == 0) ≡ false = ne_eqb (length (byte ∷ authority)) 0 (λ none. absurd (omega (arith, none))) in
+    rw some (named_authority current (byte ∷ authority) bytes (λ none. absurd cc) (key_at (byte ∷ authority)) refl)
+
+-- ---- keys
+
+key_name : IsName (codes "key")
+key_name = literal_name (codes "key") (omega arith) refl refl
+
+key_no_word : word_named (codes "key") ≡ None
+unfolding word_named
+key_no_word = refl
+
+key_directive : directive_named (codes "key") ≡ Some directives.Key
+unfolding directive_named
+key_directive = refl
+
+key_blob_name : IsName (codes "key-blob")
+key_blob_name = literal_name (codes "key-blob") (omega arith) refl refl
+
+key_blob_word : word_named (codes "key-blob") ≡ Some words.KeyBlob
+unfolding word_named
+key_blob_word = refl
+
+plain_again : (blob : List ℕ) (key : PublicKey) (bytes : IsBytes blob) (read : key_at blob ≡ Ok key) → plain_in (key_value blob key bytes read) ≡ Ok blob
+unfolding plain_in
+plain_again blob key bytes read = rw (key_subject blob key bytes read) refl
+
+named_key : (current : Option (List ℕ)) (blob : List ℕ) → IsBytes blob → (read : Result PublicKey KeyFault) → key_at blob ≡ read
+    → Reads current (named_line (codes "key") blob read) (Names (KeyEntry blob))
+named_key current blob bytes (Ok key) read =
+    let kept = key_is_value blob key bytes read in
+    let rest : List ℕ = 32 ∷ 35 ∷ 32 ∷ fingerprint_text Sha256 blob in
+    let value : List ℕ = key_value blob key bytes read in
+    let entry : order_entry current directives.Key value ≡ Ok (KeyEntry blob) = rw (plain_again blob key bytes read) refl in
+    line_reads current (codes "key") value rest (named_line (codes "key") blob (Ok key)) (Names (KeyEntry blob)) key_name kept (print_left blob)
+    (comment_text (codes "key") (type_name key.kind) (encode_of standard blob) (fingerprint_text Sha256 blob))
+    (spec_line_says current (codes "key") value rest directives.Key key_name kept (print_left blob) key_no_word key_directive ∙ rw entry refl)
+named_key current blob bytes (Err fault) read =
+    let value : List ℕ = encode_of standard blob in
+    let kept = solid_value value (base64_solid blob) in
+    line_reads current (codes "key-blob") value [] (named_line (codes "key") blob (Err fault)) (Names (KeyEntry blob)) key_blob_name kept nothing_left (plain_text (codes "key-blob") value)
+    (word_line_says current (codes "key-blob") value [] words.KeyBlob key_blob_name kept nothing_left key_blob_word ∙ rw (blob_again blob bytes) refl)
+
+pub key_reads : (current : Option (List ℕ)) (blob : List ℕ) → IsBytes blob → Reads current (key_line blob) (Names (KeyEntry blob))
+key_reads current blob bytes = named_key current blob bytes (key_at blob) refl

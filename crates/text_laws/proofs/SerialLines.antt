@@ -1,0 +1,79 @@
+-- Lines of serial numbers.
+use Rattle.std.proofs.Common.{◌≡◌, ℕ, ◌<◌, ◌^◌, ◌==◌, true, List, [], ◌∷◌, ◌++◌, codes, decimal, Some, None, Ok, refl, sym, ap, ◌∙◌, arith, append_assoc, inl, inr}
+use Rattle.std.specs.List.{AllPass}
+use Rattle.std.proofs.lemmas.Bool.{cases_Bool, eqb-true, le-ltb, ne_eqb}
+use Rattle.std.proofs.lemmas.Fmt.{decimal_is_IsNumeral, first_decimal}
+use Rattle.std.proofs.lemmas.List.Elements.{All-append, All-cons, All-nil}
+use Rattle.serial_set.specs.declared.span.Span.{Span}
+use Rattle.key_text.specs.Blanks.{is_blank}
+use Rattle.krl_types.specs.Entry.{RangeEntry}
+use Rattle.krl_spec.specs.Directive.{directive_named}
+use Rattle.krl_spec.specs.Entries.{order_entry}
+use Rattle.krl_spec.specs.Number.{serials_of_text}
+use Rattle.krl_spec.specs.Spelled.{AreBounds, IsNumber, decimal as is_decimal, one_number, two_numbers}
+use Rattle.krl_spec.specs.declared.directive.Directive.TheVariants as directives
+use Rattle.krl_spec.proofs.BoundsLaws.{bounds_again}
+use Rattle.list_text.specs.Text.{serials_line}
+use Rattle.text_entries.specs.Says.{Names}
+use Rattle.text_entries.specs.Word.{word_named}
+use Rattle.text_laws.specs.FactLines.{AreSerials}
+use Rattle.text_laws.proofs.Contents.{IsName, nothing_left, solid_value}
+use Rattle.text_laws.proofs.LineReads.{Reads, line_reads, literal_name, plain_text}
+use Rattle.text_laws.proofs.Orders.{spec_line_says}
+use Rattle.text_laws.proofs.SolidBytes.{IsSolid, decimal_solid, is_solid}
+
+abbrev span_of : ℕ → ℕ → Span
+span_of lo hi = record { lo = lo; hi = hi }
+
+number_is : (n : ℕ) → 0 < n → n < 2 ^ 64 → IsNumber (decimal n) n
+number_is n some small =
+    let is = decimal_is_IsNumeral n small in
+    let first = first_decimal n some small in
+    is_decimal (λ zero. absurd (omega (arith, first, zero))) (record { numeral = is.0; value = sym is.1; fits = small })
+
+serials_are : (text : List ℕ) (lo hi : ℕ) → AreBounds text lo hi → AreSerials (span_of lo hi) → serials_of_text text ≡ Ok (record { lo = lo; hi = hi })
+unfolding serials_of_text
+serials_are text lo hi are order =
+    let first = ne_eqb lo 0 (λ none. absurd (omega (arith, order.some, none))) in
+    let last = ne_eqb hi 0 (λ none. absurd (omega (arith, order.some, order.rises, none))) in
+    rw (bounds_again text lo hi are, first, last, le-ltb hi lo order.rises) refl
+
+serial_name : IsName (codes "serial")
+serial_name = literal_name (codes "serial") (omega arith) refl refl
+
+no_word : word_named (codes "serial") ≡ None
+unfolding word_named
+no_word = refl
+
+is_directive : directive_named (codes "serial") ≡ Some directives.Serial
+unfolding directive_named
+is_directive = refl
+
+serial_reads : (authority value text : List ℕ) (lo hi : ℕ) → AllPass is_solid value → AreBounds value lo hi → AreSerials (span_of lo hi)
+    → text ≡ codes "serial" ++ 58 ∷ 32 ∷ (value ++ 10 ∷ []) → Reads (Some authority) text (Names (RangeEntry authority lo hi))
+serial_reads authority value text lo hi solid are order spelled =
+    let kept = solid_value value solid in
+    let entry : order_entry (Some authority) directives.Serial value ≡ Ok (RangeEntry authority lo hi) = rw (serials_are value lo hi are order) refl in
+    line_reads (Some authority) (codes "serial") value [] text (Names (RangeEntry authority lo hi)) serial_name kept nothing_left (spelled ∙ plain_text (codes "serial") value)
+    (spec_line_says (Some authority) (codes "serial") value [] directives.Serial serial_name kept nothing_left no_word is_directive ∙ rw entry refl)
+
+one_solid : (n hi : ℕ) → AreSerials (span_of n hi) → AllPass is_solid (decimal n)
+one_solid n hi order = decimal_solid n (omega (arith, order.rises, order.fits))
+
+pub serials_read : (authority : List ℕ) (span : Span) → AreSerials span → Reads (Some authority) (serials_line span) (Names (RangeEntry authority span.lo span.hi))
+serials_read authority span order = elim (cases_Bool (span.lo == span.hi)) [
+  | inl one ↦
+      let same = eqb-true span.lo span.hi one in
+      serial_reads authority (decimal span.lo) (serials_line span) span.lo span.hi (one_solid span.lo span.hi order)
+      (one_number (number_is span.lo order.some (omega (arith, order.rises, order.fits))) same) order (rw one refl)
+  | inr two ↦
+      let first = number_is span.lo order.some (omega (arith, order.rises, order.fits)) in
+      let last = number_is span.hi (omega (arith, order.some, order.rises)) order.fits in
+      let value : List ℕ = decimal span.lo ++ 45 ∷ decimal span.hi in
+      let solid = All-append IsSolid (decimal span.lo) (45 ∷ decimal span.hi) (one_solid span.lo span.hi order)
+      (All-cons IsSolid 45 (decimal span.hi) refl (decimal_solid span.hi order.fits)) in
+      let none = All-nil (λ (byte : ℕ). is_blank byte ≡ true) in
+      serial_reads authority value (serials_line span) span.lo span.hi solid
+      (two_numbers (decimal span.lo) [] [] (decimal span.hi) refl none none first last) order
+      (rw two (ap (λ (xs : List ℕ). codes "serial: " ++ xs) (sym (append_assoc (decimal span.lo) (45 ∷ decimal span.hi) (10 ∷ [])))))
+]

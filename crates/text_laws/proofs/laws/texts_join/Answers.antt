@@ -1,0 +1,11 @@
+use Rattle.text_laws.proofs.JoinedTexts.{joined, stops_first}
+use Rattle.text_laws.proofs.laws.texts_join.Goals as goal
+
+pub returns-clause-entries : goal.returns-clause-entries
+returns-clause-entries c front back whole none lacks = (joined front back whole none lacks).entries
+
+pub returns-clause-fault : goal.returns-clause-fault
+returns-clause-fault c front back whole none lacks = (joined front back whole none lacks).fault
+
+pub returns-clause-stops : goal.returns-clause-stops
+returns-clause-stops c front back fault whole is = stops_first front back fault whole is

@@ -1,0 +1,50 @@
+-- Facts about lists, as the reader of texts takes their lines.
+use Rattle.std.specs.Prelude.{◌≡◌, ℕ, ◌<◌, ◌≤◌, ◌^◌, List, [], ◌∷◌, length, Option, Some, None}
+use Rattle.std.specs.Prelude.{Ok, ⊤}
+use Rattle.std.specs.List.{slice_split}
+use Rattle.serial_set.specs.declared.span.Span.{Span}
+use Rattle.ssh_wire.specs.Wire.{IsBytes}
+use Rattle.key_text.specs.Lines.{is_newline}
+use Rattle.krl_format.specs.declared.header.Header.{Header}
+use Rattle.krl_types.specs.Entry.{IdEntry, KeyEntry, RangeEntry, Sha1Entry, Sha256Entry}
+use Rattle.list_text.specs.Facts.{Fact, ListFact, AuthorityFact, SerialsFact, IdFact, KeyFact}
+use Rattle.list_text.specs.Facts.{Sha1Fact, Sha256Fact}
+use Rattle.text_entries.specs.Says.{Blank, Current, Names, Saying, line_says}
+
+-- what the line of a fact says
+abbrev pub fact_says : Fact → Saying
+fact_says (ListFact name header) = Blank
+fact_says (AuthorityFact authority) = Current authority
+fact_says (SerialsFact authority span) = Names (RangeEntry authority span.lo span.hi)
+fact_says (IdFact authority id) = Names (IdEntry authority id)
+fact_says (KeyFact blob) = Names (KeyEntry blob)
+fact_says (Sha1Fact hash) = Names (Sha1Entry hash)
+fact_says (Sha256Fact hash) = Names (Sha256Entry hash)
+
+-- The numbers of a header are below 2^64.
+abbrev pub HasNumbers : Option Header → Type 0
+HasNumbers None = ⊤
+HasNumbers (Some header) = (header.version < 2 ^ 64) × (header.date < 2 ^ 64)
+
+-- serial numbers: from 1 to 2^64-1, the last not below the first
+pub record AreSerials (span : Span) : Type 0 where
+  pub some : 0 < span.lo
+  pub rises : span.lo ≤ span.hi
+  pub fits : span.hi < 2 ^ 64
+
+-- The fact is about bytes and serial numbers, and the authority that it is under is the current
+-- one.
+abbrev pub FitsUnder : Option (List ℕ) → Fact → Type 0
+FitsUnder current (ListFact name header) = HasNumbers header
+FitsUnder current (AuthorityFact authority) = IsBytes authority
+FitsUnder current (SerialsFact authority span) = (current ≡ Some authority) × AreSerials span
+FitsUnder current (IdFact authority id) = (current ≡ Some authority) × IsBytes id
+FitsUnder current (KeyFact blob) = IsBytes blob
+FitsUnder current (Sha1Fact hash) = IsBytes hash × (length hash ≡ 20)
+FitsUnder current (Sha256Fact hash) = IsBytes hash × (length hash ≡ 32)
+
+-- The text is one line with its line feed, and the line says this.
+pub record IsLineOf (current : Option (List ℕ)) (text : List ℕ) (saying : Saying) : Type 0 where
+  pub line : List ℕ
+  pub split : slice_split is_newline text ≡ line ∷ [] ∷ []
+  pub says : line_says current line ≡ Ok saying

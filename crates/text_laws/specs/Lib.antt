@@ -1,0 +1,3 @@
+pub mod Joined
+pub mod FactLines
+pub mod ReadBack

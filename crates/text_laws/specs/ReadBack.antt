@@ -1,0 +1,58 @@
+-- Texts that are read as what they were printed from.
+use Rattle.std.specs.Prelude.{◌≡◌, ℕ, List, ◌∷◌, map, All, Option, None, Ok, Err}
+use Rattle.std.specs.List.{concat, flat_map}
+use Rattle.ssh_wire.specs.Wire.{IsBytes}
+use Rattle.krl_entries.specs.Canonical.{entries_in}
+use Rattle.krl_entries.specs.Revocations.{IsOrderly, Revocations}
+use Rattle.krl_format.specs.declared.header.Header.{Header}
+use Rattle.krl_types.specs.Entry.{Entry}
+use Rattle.list_text.specs.Facts.{Fact, ListFact, facts_of}
+use Rattle.list_text.specs.Text.{fact_line}
+use Rattle.text_entries.specs.Lines.{lines_of}
+use Rattle.text_entries.specs.Reading.{ReadsText}
+use Rattle.text_entries.specs.declared.text_fault.TextFault.{TextFault}
+use Rattle.text_laws.specs.FactLines.{HasNumbers}
+
+-- Everything is in order, and the authorities, key IDs, keys and hashes are bytes: so it is in
+-- memory.
+pub record IsStored (r : Revocations) : Type 0 where
+  pub orderly : IsOrderly r
+  pub authorities : All (λ section. IsBytes section.authority) r.sections
+  pub ids : All (λ section. All IsBytes section.ids) r.sections
+  pub keys : All IsBytes r.keys
+  pub sha1s : All IsBytes r.sha1s
+  pub sha256s : All IsBytes r.sha256s
+
+-- The text has no fault, and exactly these entries, in this order.
+abbrev pub IsReadAs : List ℕ → List Entry → Type 0
+IsReadAs text entries = ((lines_of text).fault ≡ None) × ((lines_of text).entries ≡ entries)
+
+-- The text is read, and changes what is held from the old to the new.
+abbrev pub IsReadInto : List ℕ → (old new : Revocations) → Type 0
+IsReadInto text old new = ReadsText {A = Unit {0}} text (Ok tt) old new
+
+-- Reading the text stops with the fault.
+abbrev pub StopsWith : List ℕ → TextFault → (old new : Revocations) → Type 0
+StopsWith text fault old new = ReadsText {A = Unit {0}} text (Err fault) old new
+
+-- ---- lists that are shown
+
+-- the name of a list, its header, which a plain list does not have, and what it names
+pub record Shown : Type 0 where
+  pub name : List ℕ
+  pub header : Option Header
+  pub contents : Revocations
+
+pub record CanBeShown (list : Shown) : Type 0 where
+  pub numbers : HasNumbers list.header
+  pub stored : IsStored list.contents
+
+abbrev pub facts_about : Shown → List Fact
+facts_about list = ListFact list.name list.header ∷ facts_of list.contents
+
+-- the texts of lists, one after the other
+abbrev pub text_of_lists : List Shown → List ℕ
+text_of_lists lists = concat (map fact_line (flat_map facts_about lists))
+
+abbrev pub entries_of_lists : List Shown → List Entry
+entries_of_lists lists = flat_map (λ list. entries_in list.contents) lists

@@ -1,0 +1,54 @@
+//! Laws of the texts of lists. Each function does nothing: its contract is the law.
+
+ghost use Rattle.std.specs.Prelude.{◌≡◌, ℕ, List, ◌++◌, All, Option, None, Some};
+ghost use Rattle.text_entries.specs.Lines.{lines_of};
+ghost use Rattle.text_entries.specs.declared.text_fault.TextFault.{TextFault};
+ghost use Rattle.krl_entries.specs.Canonical.{entries_in};
+ghost use Rattle.krl_entries.specs.Revocations.{Means, Revocations, nothing};
+ghost use Rattle.list_text.specs.Facts.{Fact};
+ghost use Rattle.list_text.specs.Text.{fact_line, text_of};
+ghost use Rattle.text_entries.specs.TextCause.{no_memory};
+ghost use Rattle.text_laws.specs.FactLines.{FitsUnder, IsLineOf, fact_says};
+ghost use Rattle.text_laws.specs.ReadBack.{CanBeShown, IsReadAs, IsReadInto, IsStored, Shown};
+ghost use Rattle.text_laws.specs.ReadBack.{StopsWith, entries_of_lists, text_of_lists};
+ghost use Rattle.text_laws.specs.Joined.{AreWholeLines, LacksNoAuthority, later_by, lines_in};
+
+/// The entries of a text and then another are those of both, whatever authority is current between
+/// them, and a fault of the second is at its line of the whole. A text that is read without a fault
+/// lacks no authority. Nothing is read after a fault of the first.
+pub fn texts_join()
+    ensures entries { (front back : List ℕ) → AreWholeLines front → (lines_of front).fault ≡ None
+        → LacksNoAuthority back
+        → (lines_of (front ++ back)).entries ≡ (lines_of front).entries ++ (lines_of back).entries }
+    ensures fault { (front back : List ℕ) → AreWholeLines front → (lines_of front).fault ≡ None
+        → LacksNoAuthority back
+        → (lines_of (front ++ back)).fault ≡ later_by (lines_in front) (lines_of back).fault }
+    ensures stops { (front back : List ℕ) (fault : TextFault) → AreWholeLines front
+        → (lines_of front).fault ≡ Some fault → lines_of (front ++ back) ≡ lines_of front }
+{}
+
+/// The text of a fact is one line, and reading it gives the fact: the authority, or the entry under
+/// the current authority, or nothing for the comment about a list.
+pub fn fact_reads_back()
+    ensures { (current : Option (List ℕ)) (fact : Fact) → FitsUnder current fact
+        → IsLineOf current (fact_line fact) (fact_says fact) }
+{}
+
+/// The text of what is held is read as its entries, in their order: one for each interval of serial
+/// numbers, each key ID, each key and each hash. Reading it into an empty store holds exactly what
+/// was held, and can stop only because an allocation fails.
+pub fn text_reads_back()
+    ensures read { (r : Revocations) → IsStored r → IsReadAs (text_of r) (entries_in r) }
+    ensures means { (r : Revocations) → IsStored r → Means r (lines_of (text_of r)).entries }
+    ensures same { (r held : Revocations) → IsStored r → IsReadInto (text_of r) nothing held
+        → held ≡ r }
+    ensures stops { (r old new : Revocations) (fault : TextFault) → IsStored r
+        → StopsWith (text_of r) fault old new → fault.cause ≡ no_memory }
+{}
+
+/// The texts of lists, one after the other and each with the comment about its list, are read as
+/// the entries of all lists.
+pub fn shown_lists_read_back()
+    ensures { (lists : List Shown) → All CanBeShown lists
+        → IsReadAs (text_of_lists lists) (entries_of_lists lists) }
+{}

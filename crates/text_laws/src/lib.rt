@@ -1,0 +1,4 @@
+//! Laws of the texts of lists: what reading them gives.
+#![tactic(auto)]
+
+pub mod laws;
