@@ -2,7 +2,7 @@
 use Rattle.std.proofs.Common.{◌≡◌, ℕ, ◌+◌, List, [], ◌∷◌, ◌++◌, length, map, All, Option, Some, None, refl, sym, subst, ◌∙◌, append_assoc, append-nil, arith, inl, inr}
 use Rattle.std.specs.List.{flat_map}
 use Rattle.std.proofs.lemmas.List.Concat.{flat_map-append}
-use Rattle.std.proofs.lemmas.List.Elements.{All-head, All-tail}
+use Rattle.std.proofs.lemmas.List.Elements.{All-cons, All-head, All-nil, All-tail}
 use Rattle.serial_set.specs.Span.{AreSerials, RunsFrom}
 use Rattle.serial_set.specs.declared.span.Span.{Span}
 use Rattle.ssh_wire.specs.Wire.{IsBytes}
@@ -19,6 +19,8 @@ use Rattle.text_entries.specs.declared.text_cause.TextCause.{TextCause}
 use Rattle.text_entries.specs.declared.text_cause.TextCause.TheVariants as causes
 use Rattle.text_entries.specs.declared.text_fault.TextFault.{TextFault}
 use Rattle.krl_types.specs.Entry.{Entry, IdEntry, KeyEntry, Sha1Entry, Sha256Entry}
+use Rattle.krl_types.specs.Naming.{NamesSame}
+use Rattle.std.proofs.Math.Logic.Iff as Iff
 use Rattle.list_text.specs.Facts.{Fact, SerialsFact, IdFact, KeyFact, Sha1Fact, Sha256Fact, facts_of, section_facts}
 use Rattle.list_text.specs.Text.{text_of}
 use Rattle.text_entries.specs.Lines.{lines_of}
@@ -192,3 +194,11 @@ unfolding lines_of
 lists_read_back lists shown =
     let read = facts_read 1 None (flat_map facts_about lists) (lists_fit lists shown None) in
     (read.faultless, read.are ∙ lists_named lists)
+
+-- One list: its entries and those of its text name the same.
+pub list_named_back : (list : Shown) (entries : List Entry) → CanBeShown list → Means list.contents entries
+    → ((lines_of (text_of_lists (list ∷ []))).fault ≡ None) × NamesSame entries (lines_of (text_of_lists (list ∷ []))).entries
+list_named_back list entries shown means =
+    let read = lists_read_back (list ∷ []) (All-cons CanBeShown list [] shown (All-nil CanBeShown)) in
+    let same : (lines_of (text_of_lists (list ∷ []))).entries ≡ entries_in list.contents = read.1 ∙ append-nil (entries_in list.contents) in
+    (read.0, subst (NamesSame entries) (sym same) (λ name. Iff.trans (Iff.symm (means.names name)) ((means_itself list.contents shown.stored.orderly).names name)))

@@ -1,11 +1,13 @@
 -- The type name and the base64 of a key are read as the key.
-use Rattle.std.proofs.Common.{◌≡◌, ℕ, ◌<◌, ◌-◌, true, List, [], ◌∷◌, ◌++◌, length, take, drop, Contains, Ok, refl, sym, ap, subst, ◌∙◌, arith, append-nil, length-append, inl}
-use Rattle.std.specs.List.{AllPass, prefix_len, suffix_len}
+use Rattle.std.proofs.Common.{◌≡◌, ℕ, ◌<◌, ◌-◌, true, List, [], ◌∷◌, ◌++◌, length, take, drop, Contains, Ok, refl, sym, ap, subst, ◌∙◌, arith, append-nil, length-append, inl, nat_lt}
+use Rattle.std.specs.List.{AllPass, list_all, prefix_len, suffix_len}
+use Rattle.std.proofs.lemmas.Bool.{and_parts, ltb-true}
 use Rattle.std.proofs.lemmas.List.Elements.{All-cons, All-nil}
 use Rattle.std.proofs.lemmas.List.Sums.{AllPass-from_list_all}
 use Rattle.base64.specs.Engines.{standard}
 use Rattle.base64.specs.GeneralPurpose.{encode_of}
 use Rattle.ssh_wire.specs.Wire.{BeginsWith, IsBytes, string}
+use Rattle.ssh_wire.proofs.Digits.{IsBytes-cons, IsBytes-nil}
 use Rattle.ssh_wire.proofs.Fields.{length-string}
 use Rattle.ssh_key.specs.Key.{IsKey, PublicKey}
 use Rattle.ssh_key.specs.KeyReading.{key_at}
@@ -29,6 +31,22 @@ use Rattle.text_laws.proofs.SolidBytes.{base64_solid, is_solid}
 
 -- ---- type names
 
+bytes_from_test : (text : List ℕ) → list_all (λ byte. nat_lt byte 256) text ≡ true → IsBytes text
+bytes_from_test [] passes = IsBytes-nil
+bytes_from_test (byte ∷ text) passes =
+    let parts = and_parts (nat_lt byte 256) (list_all (λ b. nat_lt b 256) text) passes in
+    IsBytes-cons byte text (ltb-true byte 256 parts.0) (bytes_from_test text parts.1)
+
+small_name : (kind : Kind) → list_all (λ byte. nat_lt byte 256) (type_name kind) ≡ true
+small_name Rsa = refl
+small_name Dsa = refl
+small_name Ecdsa256 = refl
+small_name Ecdsa384 = refl
+small_name Ecdsa521 = refl
+small_name Ed25519 = refl
+small_name EcdsaSk = refl
+small_name Ed25519Sk = refl
+
 name_solid : (kind : Kind) → AllPass is_solid (type_name kind)
 name_solid Rsa = AllPass-from_list_all is_solid (type_name Rsa) refl
 name_solid Dsa = AllPass-from_list_all is_solid (type_name Dsa) refl
@@ -38,6 +56,9 @@ name_solid Ecdsa521 = AllPass-from_list_all is_solid (type_name Ecdsa521) refl
 name_solid Ed25519 = AllPass-from_list_all is_solid (type_name Ed25519) refl
 name_solid EcdsaSk = AllPass-from_list_all is_solid (type_name EcdsaSk) refl
 name_solid Ed25519Sk = AllPass-from_list_all is_solid (type_name Ed25519Sk) refl
+
+pub name_bytes : (kind : Kind) → IsBytes (type_name kind)
+name_bytes kind = bytes_from_test (type_name kind) (small_name kind)
 
 is_name : (kind : Kind) → is_type_name (type_name kind) ≡ true
 unfolding is_type_name type_names plain_names certificate_names

@@ -12,3 +12,5 @@ mod HashLines
 mod CommentLines
 mod FactLines
 mod HeldTexts
+mod ReadBytes
+mod ShownLists

@@ -1,6 +1,6 @@
 //! Laws of the texts of lists. Each function does nothing: its contract is the law.
 
-ghost use Rattle.std.specs.Prelude.{◌≡◌, ℕ, List, ◌++◌, All, Option, None, Some};
+ghost use Rattle.std.specs.Prelude.{◌≡◌, ℕ, List, [], ◌∷◌, ◌++◌, All, Option, None, Some};
 ghost use Rattle.text_entries.specs.Lines.{lines_of};
 ghost use Rattle.text_entries.specs.declared.text_fault.TextFault.{TextFault};
 ghost use Rattle.krl_entries.specs.Canonical.{entries_in};
@@ -9,9 +9,15 @@ ghost use Rattle.list_text.specs.Facts.{Fact};
 ghost use Rattle.list_text.specs.Text.{fact_line, text_of};
 ghost use Rattle.text_entries.specs.TextCause.{no_memory};
 ghost use Rattle.text_laws.specs.FactLines.{FitsUnder, IsLineOf, fact_says};
+ghost use Rattle.krl_types.specs.Entry.{Entry};
+ghost use Rattle.krl_types.specs.Naming.{NamesSame};
+ghost use Rattle.plain_list.specs.Any.{Names};
+ghost use Rattle.ssh_wire.specs.Wire.{IsBytes};
 ghost use Rattle.text_laws.specs.ReadBack.{CanBeShown, IsReadAs, IsReadInto, IsStored, Shown};
 ghost use Rattle.text_laws.specs.ReadBack.{StopsWith, entries_of_lists, text_of_lists};
 ghost use Rattle.text_laws.specs.Joined.{AreWholeLines, LacksNoAuthority, later_by, lines_in};
+
+use plain_list::laws::line_read_as_spelled;
 
 /// The entries of a text and then another are those of both, whatever authority is current between
 /// them, and a fault of the second is at its line of the whole. A text that is read without a fault
@@ -52,3 +58,16 @@ pub fn shown_lists_read_back()
     ensures { (lists : List Shown) → All CanBeShown lists
         → IsReadAs (text_of_lists lists) (entries_of_lists lists) }
 {}
+
+/// Each list that is read from bytes can be shown, and its text has no fault and names exactly what
+/// the list names.
+pub fn shown_list_names_the_same()
+    ensures shown { (list : Shown) (bytes : List ℕ) (entries : List Entry) → IsBytes bytes
+        → Names bytes list.header entries → Means list.contents entries → CanBeShown list }
+    ensures names { (list : Shown) (bytes : List ℕ) (entries : List Entry) → IsBytes bytes
+        → Names bytes list.header entries → Means list.contents entries
+        → ((lines_of (text_of_lists (list ∷ []))).fault ≡ None)
+        × NamesSame entries (lines_of (text_of_lists (list ∷ []))).entries }
+{
+    line_read_as_spelled();
+}
