@@ -1,0 +1,320 @@
+"""What lists name: a model of lists (PROTOCOL.krl) and of their texts (krl(1), THE TEXT OF A LIST)
+that shares nothing with the program."""
+
+import base64
+import datetime
+import hashlib
+import struct
+import unicodedata
+
+from texts.keys import is_key, parts_of
+from wire import HIGHEST
+
+MAGIC = b"SSHKRL\n\0"
+# The first second of the year 9999.
+YEAR_9999 = 253_370_764_800
+
+
+class Named:
+    """Serial numbers and key IDs by the bytes of their certificate authority, which has none where
+    they count for all of them; keys, and hashes of keys."""
+
+    def __init__(self):
+        self.serials = {}
+        self.ids = {}
+        self.keys, self.sha1s, self.sha256s = set(), set(), set()
+
+    def add_serials(self, authority, least, most):
+        """Serial number 0 names no certificate."""
+        if max(least, 1) <= most:
+            self.serials.setdefault(authority, []).append((max(least, 1), most))
+
+    def add_id(self, authority, text):
+        self.ids.setdefault(authority, set()).add(text)
+
+    def add(self, other):
+        """All that another one names."""
+        for authority, spans in other.serials.items():
+            self.serials.setdefault(authority, []).extend(spans)
+        for authority, texts in other.ids.items():
+            self.ids.setdefault(authority, set()).update(texts)
+        self.keys |= other.keys
+        self.sha1s |= other.sha1s
+        self.sha256s |= other.sha256s
+
+    def spans(self, authority):
+        """Its serial numbers, as the fewest spans that rise."""
+        spans = []
+        for least, most in sorted(self.serials.get(authority, [])):
+            if spans and least <= spans[-1][1] + 1:
+                spans[-1][1] = max(spans[-1][1], most)
+            else:
+                spans.append([least, most])
+        return [tuple(it) for it in spans]
+
+    def authorities(self):
+        """Those with a serial number or a key ID, by their bytes."""
+        return sorted(set(self.serials) | set(self.ids))
+
+    def facts(self):
+        """All that is named, in the order in which it is shown. Each fact is a tuple of what it
+        is, its authority if it has one, and its value."""
+        for authority in self.authorities():
+            yield "ca", authority
+            yield from (("serial", authority, span) for span in self.spans(authority))
+            yield from (("id", authority, it) for it in sorted(self.ids.get(authority, [])))
+        yield from (("key", it) for it in sorted(self.keys))
+        yield from (("SHA1", it) for it in sorted(self.sha1s))
+        yield from (("SHA256", it) for it in sorted(self.sha256s))
+
+    def __eq__(self, other):
+        return list(self.facts()) == list(other.facts())
+
+    def counts(self):
+        """How many authorities, serial numbers, key IDs, keys and hashes there are."""
+        serials = sum(
+            most - least + 1 for it in self.authorities() for least, most in self.spans(it)
+        )
+        return (
+            len(self.authorities()),
+            min(serials, HIGHEST),
+            sum(map(len, self.ids.values())),
+            len(self.keys),
+            len(self.sha1s) + len(self.sha256s),
+        )
+
+    def revokes(self, key, authority=None, serial=0, key_id=b""):
+        """Whether a key is revoked, or its certificate by an authority."""
+        if any(it is not None and self.names_key(it) for it in (key, authority)):
+            return True
+        return authority is not None and any(
+            key_id in self.ids.get(it, ())
+            or any(least <= serial <= most for least, most in self.spans(it))
+            for it in (b"", authority)
+        )
+
+    def names_key(self, blob):
+        hashes = hashlib.sha1(blob).digest(), hashlib.sha256(blob).digest()
+        return blob in self.keys or hashes[0] in self.sha1s or hashes[1] in self.sha256s
+
+
+# ---- lists
+
+
+class Reader:
+    """Fields, one after the other."""
+
+    def __init__(self, content):
+        self.left = content
+
+    def take(self, size):
+        if size > len(self.left):
+            raise ValueError("the list is truncated")
+        part, self.left = self.left[:size], self.left[size:]
+        return part
+
+    def byte(self):
+        return self.take(1)[0]
+
+    def number(self, form):
+        return struct.unpack(form, self.take(struct.calcsize(form)))[0]
+
+    def string(self):
+        return self.take(self.number(">I"))
+
+
+def read_bitmap(named, authority, reader):
+    offset, bits = reader.number(">Q"), int.from_bytes(reader.string(), "big")
+    digits = bin(bits)[:1:-1]
+    for at, digit in enumerate(digits):
+        if digit == "1":
+            named.add_serials(authority, offset + at, offset + at)
+
+
+def read_certificates(named, content):
+    reader = Reader(content)
+    authority = reader.string()
+    reader.string()
+    while reader.left:
+        sort, inner = reader.byte(), Reader(reader.string())
+        if sort == 0x20:
+            while inner.left:
+                serial = inner.number(">Q")
+                named.add_serials(authority, serial, serial)
+        elif sort == 0x21:
+            named.add_serials(authority, inner.number(">Q"), inner.number(">Q"))
+        elif sort == 0x22:
+            read_bitmap(named, authority, inner)
+        elif sort == 0x23:
+            while inner.left:
+                named.add_id(authority, inner.string())
+        elif sort != 0x39:
+            raise ValueError("a subsection of type %d" % sort)
+
+
+def read_list(content):
+    """The version, the date and the comment of a list, and what it names."""
+    reader, named = Reader(content), Named()
+    if reader.take(8) != MAGIC or reader.number(">I") != 1:
+        raise ValueError("it does not begin as a list")
+    header = reader.number(">Q"), reader.number(">Q")
+    reader.take(8)
+    reader.string()
+    header += (reader.string(),)
+    blobs = {2: named.keys, 3: named.sha1s, 5: named.sha256s}
+    while reader.left:
+        sort = reader.byte()
+        if sort == 1:
+            read_certificates(named, reader.string())
+        elif sort in blobs:
+            blobs[sort].update(parts_of(reader.string()))
+        elif sort == 4:
+            reader.string()
+            reader.string()
+        elif sort == 255:
+            reader.string()
+        else:
+            raise ValueError("a section of type %d" % sort)
+    return header, named
+
+
+def read_keys(content):
+    """What a plain list of keys names, each of which has a line of its own."""
+    named = Named()
+    for line in content.splitlines():
+        named.keys.add(base64.b64decode(line.split()[1]))
+    return named
+
+
+# ---- texts
+
+
+def coded(content):
+    return base64.b64encode(content).decode()
+
+
+def unpadded(digest):
+    return coded(digest).rstrip("=")
+
+
+def fingerprint(blob):
+    return "SHA256:" + unpadded(hashlib.sha256(blob).digest())
+
+
+def of_blob(label, blob):
+    if not is_key(blob):
+        return "%s-blob: %s" % (label, coded(blob))
+    return "%s: %s %s # %s" % (label, parts_of(blob)[0].decode(), coded(blob), fingerprint(blob))
+
+
+def of_serials(span):
+    least, most = span
+    return "serial: %d" % least if least == most else "serial: %d-%d" % span
+
+
+def of_id(text):
+    plain = all(0x20 <= it < 0x7F and it != 0x23 for it in text)
+    if plain and text and text == text.strip(b" "):
+        return "id: " + text.decode()
+    return "id-hex: " + text.hex()
+
+
+def line_of(fact):
+    kind, value = fact[0], fact[-1]
+    if kind == "ca":
+        return of_blob("ca", value) if value else "ca: all"
+    if kind == "serial":
+        return of_serials(value)
+    if kind == "id":
+        return of_id(value)
+    if kind == "key":
+        return of_blob("key", value)
+    return "hash: %s:%s" % (kind, unpadded(value))
+
+
+def lines_of(named):
+    """The lines that name it."""
+    return [line_of(fact) for fact in named.facts()]
+
+
+# ---- the line about a list
+
+
+def visible(content):
+    """A text with control characters by their numbers."""
+    try:
+        text, numbered = content.decode(), lambda it: unicodedata.category(it) == "Cc"
+    except UnicodeDecodeError:
+        text, numbered = content.decode("latin-1"), lambda it: not " " <= it <= "~"
+    return "".join("\\x%02x" % ord(it) if numbered(it) else it for it in text)
+
+
+def date(seconds):
+    if seconds >= YEAR_9999:
+        return "@%d" % seconds
+    moment = datetime.datetime(1970, 1, 1) + datetime.timedelta(seconds=seconds)
+    return moment.strftime("%Y-%m-%dT%H:%M:%SZ")
+
+
+def first_line(name, header):
+    """The comment about a list of this name, or about a plain list, which has no header."""
+    if header is None:
+        return "# %s: a plain list" % visible(name)
+    version, seconds, comment = header
+    said = ", " + visible(comment) if comment else ""
+    return "# %s: version %d, %s%s" % (visible(name), version, date(seconds), said)
+
+
+# ---- objects
+
+
+def text_field(name, content):
+    """A text, in base64 where it is no UTF-8."""
+    try:
+        return {name: content.decode()}
+    except UnicodeDecodeError:
+        return {name + "_base64": coded(content)}
+
+
+def object_of(fact):
+    """The object of a fact. An authority has none of its own."""
+    kind, value = fact[0], fact[-1]
+    if kind == "key":
+        return {"key": fingerprint(value)}
+    if kind in ("SHA1", "SHA256"):
+        return {"hash": "%s:%s" % (kind, unpadded(value))}
+    authority = {"ca": fingerprint(fact[1]) if fact[1] else "all"}
+    if kind == "serial":
+        return {**authority, "serial": list(value)}
+    return {**authority, **text_field("id", value)}
+
+
+def objects_of(name, header, named):
+    first = {"list": name}
+    if header is not None:
+        version, seconds, comment = header
+        first.update(version=str(version), generated=date(seconds))
+        first.update(text_field("comment", comment))
+    return [first] + [object_of(it) for it in named.facts() if it[0] != "ca"]
+
+
+def last_object(lists):
+    """The counts of all lists."""
+    totals = [min(sum(it), HIGHEST) for it in zip(*(named.counts() for named in lists))]
+    names = ["cas", "serials", "ids", "keys", "hashes"]
+    return {"status": "done", "lists": len(lists), **dict(zip(names, totals))}
+
+
+# ---- the line of krl make
+
+NOUNS = ["CA", "serial number", "key ID", "key", "hashed key"]
+
+
+def said(name, version, named):
+    """The line about a list that was made."""
+    amounts = [
+        "%d %s%s" % (count, noun, "" if count == 1 else "s")
+        for count, noun in zip(named.counts(), NOUNS)
+        if count
+    ]
+    return "krl make: %s: version %d: %s" % (name, version, ", ".join(amounts) or "nothing")
