@@ -139,20 +139,19 @@ tools/systemctl reload ssh
 
 # ---- a person is locked out, and lists of several authorities are made anew
 
-anew='krl-keygen -k -f new.krl -z'
-echo 'id: alice' >users
-echo 'serial: 9' >hosts
-follows 'a list under two authorities' "$anew" 0 ''
+anew='krl make -f revoked.krl -z' shown='krl show revoked.krl >'
+lines_under user-ca.pub 'id: alice' host-ca.pub 'serial: 9' >revoked.txt
+follows 'a list under two authorities' "$anew" 0 '*'
 cp revoked.krl "$room/revoked.krl"
 lets_in 'the key, and another certificate of it, of a person whose key ID is revoked' user other
-# Its last line has no end.
-printf 'serial: 99' >users
+# The last line has no end, and is under another authority.
+lines_under user-ca.pub 'id: nobody' host-ca.pub 'serial: 99' | head -c -1 >revoked.txt
 cp "$room/user.pub" alice.pub
 cp "$room/alice.pub" alice-cert.pub
-follows 'a person is locked out' '[ -z "$(tail -c 1 users)" ]' 0 ''
+follows 'a person is locked out' '[ -z "$(tail -c 1 revoked.txt)" ]' 0 ''
 judge 'the line before those of this person is as it was' \
-  "$(differs lines $'serial: 99\nid: alice' "$(head -n 2 users)")"
-follows 'the list is made anew' "$anew" 0 '' again
+  "$(differs lines "serial: 99"$'\n'"ca: $(cat user-ca.pub)" "$(sed -n 4,5p revoked.txt)")"
+follows 'the list is made anew' "$anew" 0 '*' again
 cp revoked.krl "$room/revoked.krl"
 refuses 'the key, and all certificates of it, of a person who is locked out' user alice other
 lets_in 'another key again' one
@@ -170,33 +169,32 @@ answers() {
   done
   expect "$1" $(($# > 1)) "$wanted" '' -Q -f revoked.krl user-5.pub user-7.pub host-5.pub host-7.pub
 }
-printf 'serial: 5\nid: id of user-7\n' >users
-echo 'serial: 7' >hosts
-follows 'a list of other lines under two authorities' "$anew" 0 '' again
+lines_under user-ca.pub 'serial: 5\nid: id of user-7' host-ca.pub 'serial: 7' >revoked.txt
+follows 'a list of other lines under two authorities' "$anew" 0 '*' again
 answers 'each authority has its own serial numbers' user-5 user-7 host-7
 version() {
   "$program" -Q -l -f revoked.krl | sed -n 's/^# KRL version //p'
 }
 first=$(version)
 sleep 2
-sed -i 1d users
-follows 'a revocation is taken back' "$anew" 0 '' again
+follows 'a list is shown as a text' "$shown" 0 ''
+sed -i '/^serial: 5$/d' revoked.txt
+follows 'a revocation is taken back' "$anew" 0 '*' again
 answers 'what was taken back is fine, and all else revoked' user-7 host-7
 judge 'the version number rises' \
   "$([ "$(version)" -gt "$first" ] || echo "  it is $(version) after $first")"
 cp revoked.krl in-force
-echo 'serial: 9-7' >hosts
-follows 'a wrong line in the second file' "$anew" 255 '*' again
-stays 'the list stays, with the entries of both' revoked.krl
+echo 'serial: 9-7' >>revoked.txt
+follows 'a wrong line' "$anew" 255 '*' again
+stays 'the list stays' revoked.krl
 
 # ---- a canary
 
-echo 'serial: 7' >hosts
-printf 'serial: 5\nid: someone\nkey: %s\nsha1: %s' "$(cat "$room/one.pub")" \
-  "$(cat "$room/two.pub")" >users
+lines_under host-ca.pub 'serial: 7' user-ca.pub 'serial: 5\nid: someone' >revoked.txt
+printf 'key: %s\nsha1: %s' "$(cat "$room/one.pub")" "$(cat "$room/two.pub")" >>revoked.txt
 follows 'a canary' "ssh-keygen -q -t ed25519 -N '' -C canary" 0 ''
 judge 'its private key is gone' "$([ ! -e canary ] || echo '  it is there')"
-follows 'a list with a canary' "$anew" 0 '' again
+follows 'a list with a canary' "$anew" 0 '*' again
 expect 'the list revokes the canary' 1 $'canary.pub (canary): REVOKED\n' '' \
   -Q -f revoked.krl canary.pub
 judge 'no truncated list that can be read revokes the canary' "$(
@@ -281,7 +279,7 @@ $at/b/.ssh/authorized_keys: status 255
 $at/d/.ssh/authorized_keys (user): REVOKED
 $at/d/.ssh/authorized_keys: status 1" again
 followed=$((followed + 1))
-! has_krl || judge 'the revoked keys of a host' "$(
+judge 'the revoked keys of a host' "$(
   found=$(try_recipe 'krl audit' | grep "^$at" | cut -d: -f 1-3)
   differs 'what it finds' "$at/a/.ssh/authorized_keys:6: revoked
 $at/b/.ssh/authorized_keys:2: unread

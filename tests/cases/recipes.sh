@@ -21,13 +21,11 @@ follows 'a list is guarded without krl' "$remedy" 0 "user-ca.pub (user-ca): ok
 $room/host.pub (host): ok
 canary.pub (canary): REVOKED"
 cp "$room/revoked.krl" in-force
-! has_krl || follows 'a list is guarded' "$guard" 0 '' again
-followed=$((followed + 1))
+follows 'a list is guarded' "$guard" 0 ''
 # guarded NAME: neither recipe puts the list in force.
 guarded() {
   local it
   for it in "$guard" "$remedy"; do
-    has_krl || [ "$it" != "$guard" ] || continue
     judge "$1: ${it%% *}" "$(
       is_refused "$it"
       cmp in-force "$room/revoked.krl" 2>&1
@@ -43,7 +41,7 @@ guarded "a list that revokes the host's own key"
 
 cp in-force revoked.krl
 "$program" -k -f revoked.krl -z 9 -s user-ca.pub users
-! has_krl || judge 'an older list is refused' "$(
+judge 'an older list is refused' "$(
   is_refused "$guard"
   cmp in-force "$room/revoked.krl" 2>&1
 )"
@@ -67,7 +65,7 @@ if command -v systemd-analyze >/dev/null; then
     "$(asks 0 systemd-analyze verify "$room"/units/krl-pull.*)"
 fi
 
-if has_krl && need curl curl; then
+if need curl curl; then
   # pull.sh has what it refuses.
   judge 'the script that was installed fetches the list' "$(
     rm "$room/revoked.krl"
@@ -79,27 +77,29 @@ fi
 
 # ---- entries that expire
 
-cat >users <<'END'
-serial: 5 # until 2001-02-03
+user="ca: $(cut -d ' ' -f 1,2 user-ca.pub)" host="ca: $(cut -d ' ' -f 1,2 host-ca.pub)"
+# has NAME LIST LINE ..: the list has these lines, in any order.
+has() {
+  judge "$1" "$(differs lines "$(printf '%s\n' "${@:3}" | sort)" "$(contents "$2" | sort)")"
+}
+lines_under user-ca.pub 'serial: 5 # until 2001-02-03
 serial: 6 # until 2999-01-01
 serial: 7
 serial: 8 # until tomorrow
 # until 2001-02-03
-END
-echo "serial: 9 # until $(date +%F), and lost" >>users
-echo 'id: host' >hosts
-follows 'entries that expire' 'awk -v today' 0 ''
-judge 'what is over is left out' \
-  "$(differs entries $'id: host\nserial: 6-9' \
-  "$("$program" -Q -l -f revoked.krl | grep -v '^#' | sort)")"
+serial: 9 # until '"$(date +%F)"', and lost' host-ca.pub 'id: host' >revoked.txt
+follows 'entries that expire' 'awk -v today' 0 '*'
+has 'what is over is left out' revoked.krl "$user" 'serial: 6-9' "$host" 'id: host'
 
 # ---- what changed
 
 cp revoked.krl old.krl
-"$program" -k -u -f revoked.krl -s host-ca.pub - <<<'serial: 99'
+lines_under user-ca.pub 'serial: 6-8' host-ca.pub 'id: host\nserial: 99' >revoked.txt
+"$krl" make -q -f revoked.krl revoked.txt
 # Their versions and times differ too.
-got=$(PATH=$PWD/tools:$PATH bash -c "$(recipe 'diff ')" | grep '^[<>] [^#]')
-judge 'two lists are compared' "$(differs 'what differs' '> serial: 99' "$got")"
+got=$(PATH=$PWD/tools:$PATH bash -c "$(recipe 'diff ')" | grep '^[<>] [^#]' | sort)
+judge 'two lists are compared' \
+  "$(differs 'what differs' $'< serial: 6-9\n> serial: 6-8\n> serial: 99' "$got")"
 followed=$((followed + 1))
 need git git || judge 'git is there' '  install git'
 mkdir lists && cp old.krl lists/r.krl && (
@@ -109,40 +109,34 @@ mkdir lists && cp old.krl lists/r.krl && (
 cd lists && ln -s ../tools tools &&
   follows 'git is told how lists are shown' 'git config' 0 '' && cd ..
 cp revoked.krl lists/r.krl
-got=$(cd lists && PATH=$PWD/tools:$PATH git diff | grep '^[-+][^-+#]')
-judge 'git shows what changed' "$(differs 'the change' '+serial: 99' "$got")"
+got=$(cd lists && PATH=$PWD/tools:$PATH git diff | grep '^[-+][^-+#]' | sort)
+judge 'git shows what changed' \
+  "$(differs 'the change' $'+serial: 6-8\n+serial: 99\n-serial: 6-9' "$got")"
 
-# ---- a list without its text
+# ---- one list of two
 
-if has_krl; then
-  cp revoked.krl kept.krl
-  follows 'a list is shown as a text' 'krl show revoked.krl >' 0 '' again
-  sed -i '/^serial: 99$/d' revoked.txt
-  follows 'a list is made of its text' 'krl make -f revoked.krl revoked.txt' 0 '*' again
-  judge 'an entry is taken back' "$(
-    differs 'what is gone' '< serial: 99' "$(
-      diff <("$program" -Q -l -f kept.krl) <("$program" -Q -l -f revoked.krl) | grep '^[<>] [^#]'
-    )"
-  )"
-  "$program" -k -f hosts.krl -s host-ca.pub - <<<'serial: 99'
-  follows 'lists are merged' 'krl show revoked.krl hosts.krl' 0 '*' again
-  judge 'the merged list' "$(
-    differs 'what differs' '' "$(
-      diff <("$program" -Q -l -f kept.krl) <("$program" -Q -l -f both.krl) | grep '^[<>] [^#]'
-    )"
-  )"
-  mv kept.krl revoked.krl
-fi
-followed=$((followed + 3))
+lines_under user-ca.pub 'serial: 1-5' | "$krl" make -q -f revoked.krl -
+lines_under host-ca.pub 'serial: 1' user-ca.pub 'serial: 4-9' | "$krl" make -q -f hosts.krl -
+merge='krl show revoked.krl hosts.krl'
+follows 'lists are merged' "$merge" 0 '*'
+has 'the list has what either has' both.krl "$user" 'serial: 1-9' "$host" 'serial: 1'
+cp both.krl in-force
+head -c 60 in-force >hosts.krl
+follows 'a truncated list is not merged' "$merge" 255 '*' again
+stays 'the merged list stays' both.krl
 
 # ---- the entries of one authority
 
-follows 'the entries of one authority' 'krl-keygen -Q -l -f revoked.krl |' 0 'serial: 6-9'
-"$program" -k -u -f revoked.krl -s user-ca.pub - <<<$'id: bob\nserial: 1'
-"$program" -k -u -f revoked.krl -s none - <<<'serial: 3'
-"$program" -k -u -f revoked.krl alice.pub
-follows 'the entries of an authority among others' 'krl-keygen -Q -l -f revoked.krl |' 0 \
-  $'serial: 1\nserial: 6-9\nid: bob' again
+ours='krl show revoked.krl | awk'
+lines_under host-ca.pub 'serial: 2\nid: host' user-ca.pub 'serial: 6-9' |
+  "$krl" make -q -f revoked.krl -
+follows 'the entries of one authority' "$ours" 0 'serial: 6-9'
+{
+  lines_under user-ca.pub 'id: bob\nserial: 1\nid-hex: 2362' host-ca.pub 'id: host'
+  printf 'ca: all\nserial: 3\n' && cat alice.pub
+} | "$krl" make -q -f revoked.krl -
+follows 'the entries of an authority among others' "$ours" 0 \
+  $'serial: 1\nid-hex: 2362\nid: bob' again
 
 # ---- the line of a key
 
@@ -157,15 +151,15 @@ follows 'the line of a revoked key' 'paste' 0 '8:authorized_keys (alice): REVOKE
 
 # ---- the lines of a command
 
-cp revoked.krl old.krl
-printf '#!/bin/sh\nexit 1\n' >tools/leavers && chmod +x tools/leavers
-follows 'a command that fails' 'set -o pipefail' 1 ''
-judge 'the list stays' "$(cmp old.krl revoked.krl 2>&1)"
+cp revoked.krl in-force
+lines_under host-ca.pub 'serial: 7' >revoked.txt
+printf '#!/bin/sh\necho serial: 5\nexit 1\n' >tools/leavers && chmod +x tools/leavers
+leave="sed 's/^/ca: /' user-ca.pub >leavers.txt"
+follows 'a command that fails' "$leave" 1 ''
+stays 'the list stays' revoked.krl
 printf '#!/bin/sh\necho serial: 7\n' >tools/leavers
-follows 'a command that ends well' 'set -o pipefail' 0 '' again
-expect 'the list is that of its lines' 1 \
-  $'user-5.pub (alice): ok\nuser-7.pub (alice): REVOKED\n' '' \
-  -Q -f revoked.krl user-5.pub user-7.pub
+follows 'a command that ends well' "$leave" 0 '*' again
+has 'its lines are under the CA' revoked.krl "$user" 'serial: 7' "$host" 'serial: 7'
 
 # That for all keys of a host is followed by readme.sh, beside krl audit.
 followed=$((followed + 1))

@@ -46,24 +46,16 @@ recipe() {
 begin_recipes() {
   mkdir -p tools "$room"/{sshd_config.d,ssh_config.d,units}
   ln -s "$program" tools/krl-keygen
-  krl=$(realpath -- "${KRL:-$top/krl}")
-  if [ -x "$krl" ]; then
-    ln -s "$krl" tools/krl
-  else
-    echo '# there is no program krl: both others check lists, and what only it does is skipped'
-  fi
+  ln -s "$krl" tools/krl
   followed=0
 }
 
-# in_room TEXT: the text, with folders of the test's own for those of the system, and without krl
-# where that is missing.
+# in_room TEXT: the text, with folders of the test's own for those of the system.
 in_room() {
   local words=(-e "s|/etc/ssh/ssh_host_ed25519_key|$room/host|g; s|/etc/ssh|$room|g")
   words+=(-e "s|/usr/local|$room/local|g")
   words+=(-e "s|/etc/systemd/system|$room/units|g; s|/home|$PWD/home|g")
   words+=(-e "s|~root/|$PWD/of_root/|g; s|/root |$PWD/of_root |g")
-  [ -e tools/krl ] ||
-    words+=(-e 's/^\( *\)krl check \([^ ]*\)$/\1krl-keygen -Q -f \2\n\1ssh-keygen -Q -f \2/')
   sed "${words[@]}" <<<"$1"
 }
 
@@ -103,10 +95,17 @@ is_refused() {
   ends_script "$1" || echo '  a script with set -e goes on'
 }
 
-# has_krl: whether the program krl is there. A recipe that only it can follow counts where it is
-# not.
-has_krl() {
-  [ -e tools/krl ]
+# lines_under FILE LINES ..: a text with the CA of each file and its lines.
+lines_under() {
+  while [ $# -gt 0 ]; do
+    sed 's/^/ca: /' "$1" && printf "$2\n"
+    shift 2
+  done
+}
+
+# contents LIST: the lines of its text, without comments.
+contents() {
+  "$krl" show "$1" | sed 's/ # .*//; /^#/d'
 }
 
 # all_followed PAGE: each recipe of the page was.
