@@ -4,9 +4,9 @@ _krl() {
   local offered word=${COMP_WORDS[COMP_CWORD]} before=${COMP_WORDS[COMP_CWORD - 1]}
   COMPREPLY=()
   if [ "$COMP_CWORD" = 1 ]; then
-    offered=$(compgen -W 'audit check show make help --help --version' -- "$word")
+    offered=$(compgen -W 'audit check show make diff help --help --version' -- "$word")
   elif [ "${COMP_WORDS[1]}" = help ]; then
-    offered=$(compgen -W 'audit check show make' -- "$word")
+    offered=$(compgen -W 'audit check show make diff' -- "$word")
   elif [ "$before" = --max-age ]; then
     offered=$(compgen -W '90m 24h 7d' -- "$word")
   elif [[ $word != -* || $before == -*f ||
@@ -16,7 +16,7 @@ _krl() {
   elif [ "${COMP_WORDS[1]}" = check ]; then
     offered=$(compgen -W '--newer-than --max-age --keep --canary --allow-empty --print-version
       --help --version' -- "$word")
-  elif [ "${COMP_WORDS[1]}" = show ]; then
+  elif [[ ${COMP_WORDS[1]} == @(show|diff) ]]; then
     offered=$(compgen -W '--json --help --version' -- "$word")
   elif [ "${COMP_WORDS[1]}" = make ]; then
     offered=$(compgen -W '-f -q -z --comment --allow-empty --help --version' -- "$word")

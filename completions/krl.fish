@@ -4,17 +4,20 @@ set -l audits '__fish_seen_subcommand_from audit'
 set -l checks '__fish_seen_subcommand_from check'
 set -l shows '__fish_seen_subcommand_from show'
 set -l makes '__fish_seen_subcommand_from make'
+set -l diffs '__fish_seen_subcommand_from diff'
+set -l none "not $audits; and not $checks; and not $shows; and not $makes; and not $diffs"
 
 complete -c krl -f
-complete -c krl -n "not $audits; and not $checks; and not $shows; and not $makes" -a audit \
+complete -c krl -n "$none" -a audit \
   -d 'Find revoked keys in files'
-complete -c krl -n "not $audits; and not $checks; and not $shows; and not $makes" -a check \
+complete -c krl -n "$none" -a check \
   -d 'Check a list before it is put in force'
-complete -c krl -n "not $audits; and not $checks; and not $shows; and not $makes" -a show \
+complete -c krl -n "$none" -a show \
   -d 'Print what lists name'
-complete -c krl -n "not $audits; and not $checks; and not $shows; and not $makes" -a make \
+complete -c krl -n "$none" -a make \
   -d 'Make a list of texts'
-complete -c krl -n "not $audits; and not $checks; and not $shows; and not $makes" -a help \
+complete -c krl -n "$none" -a diff -d 'Print what one list names and another does not'
+complete -c krl -n "$none" -a help \
   -d 'Print the options of a task'
 complete -c krl -s h -l help -d 'Print the options'
 complete -c krl -s V -l version -d 'Print the name and version'
@@ -42,3 +45,5 @@ complete -c krl -n "$makes" -s z -x -d 'Its version'
 complete -c krl -n "$makes" -l comment -x -d 'Its comment'
 complete -c krl -n "$makes" -s q -d 'Do not say what was made'
 complete -c krl -n "$makes" -l allow-empty -d 'Make a list that revokes nobody'
+complete -c krl -n "$diffs" -F
+complete -c krl -n "$diffs" -l json -d 'Print JSON objects'

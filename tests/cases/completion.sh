@@ -54,8 +54,8 @@ offers_krl() {
   judge "bash is offered $name" "$(differs words "$wanted" "$got")"
 }
 cd words || exit 1
-offers_krl 'the tasks of krl' --help,--version,audit,check,help,make,show ''
-offers_krl 'the tasks that have help' audit,check,make,show help ''
+offers_krl 'the tasks of krl' --help,--version,audit,check,diff,help,make,show ''
+offers_krl 'the tasks that have help' audit,check,diff,make,show help ''
 offers_krl 'the task that was begun' audit a
 offers_krl 'the options of an audit' --all,--files0-from,--help,--json,--version,-a,-f,-q audit -
 offers_krl 'a list' two.krl audit -f t

@@ -9,8 +9,9 @@ use byte_streams::{FromRead, Pull, Source};
 use krl_audit::Refusal;
 use krl_core::{KrlFault, LIMIT as LIST_LIMIT};
 use run_faults::{Cause, FileFault, LIMIT, cause_of};
+use show_run::Lists;
 use ssh_wire::Bytes;
-use std::alloc::AllocError;
+use std::alloc::{AllocError, Global};
 use std::fs::{self, File};
 use std::io::{self, ErrorKind, Read, Seek, SeekFrom};
 use text_run::Text;
@@ -144,5 +145,26 @@ pub fn bytes_of(rt: &HostRuntime, name: &str) -> Result<Bytes, Cause> {
     match Pull::new(FromRead::new(file.take(most)), most).rest(rt.alloc()) {
         Ok(bytes) => Ok(bytes),
         Err(fault) => Err(cause_of(KrlFault::from(fault))),
+    }
+}
+
+/// The lists of the system. Nothing is claimed about their bytes.
+#[derive(Drop)]
+pub struct ListFiles<'a> {
+    rt: &'a HostRuntime,
+}
+
+impl<'a> ListFiles<'a> {
+    /// All lists.
+    pub fn new(rt: &'a HostRuntime) -> Self {
+        ListFiles { rt }
+    }
+}
+
+impl<'a> Lists for ListFiles<'a> {
+    ghost states = { λ _ _ _. Unit {0} };
+
+    fn read(&self, _alloc: Global, name: &str) -> Result<Bytes, Cause> {
+        bytes_of(self.rt, name)
     }
 }

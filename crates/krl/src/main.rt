@@ -1,8 +1,9 @@
-//! Finds revoked keys in files of keys, and checks, shows and makes lists, as krl(1) says.
+//! Finds revoked keys in files, and checks, shows, makes and compares lists, as krl(1) says.
 #![tactic(auto)]
 
 mod audit;
 mod check;
+mod diff;
 mod disk;
 mod ending;
 mod loading;
@@ -12,6 +13,7 @@ mod show;
 
 use crate::audit::audit;
 use crate::check::check;
+use crate::diff::diff;
 use crate::ending::{fault_line, reason_of};
 use crate::make::make;
 use crate::show::show;
@@ -54,6 +56,7 @@ impl Program for Krl {
             Ok(Task::Check(task)) => check(rt, &task),
             Ok(Task::Show(task)) => show(rt, &task),
             Ok(Task::Make(task)) => make(rt, &task),
+            Ok(Task::Diff(task)) => diff(rt, &task),
             Err(fault) => refuse(rt, self, &fault),
         }
     }

@@ -43,6 +43,11 @@ make_rules =
     ∷ long_rule (codes "allow-empty")
     ∷ words_rule (codes "files") ∷ []
 
+-- krl diff: --json, and both lists
+abbrev pub diff_rules : List Rule
+diff_rules =
+    long_rule (codes "json") ∷ word_rule (codes "old") ∷ word_rule (codes "new") ∷ []
+
 -- a subcommand of these arguments
 abbrev pub with_all : List ℕ → List Rule → Shape
 with_all name rules = (with_rules (new_app name) rules).top
@@ -67,7 +72,9 @@ abbrev pub program : App
 program = with_subcommand
     (with_subcommand
     (with_subcommand
+    (with_subcommand
     (with_subcommand bare (with_all (codes "audit") audit_rules))
     (with_all (codes "check") check_rules))
     (with_all (codes "show") show_rules))
-    (with_all (codes "make") make_rules)
+    (with_all (codes "make") make_rules))
+    (with_all (codes "diff") diff_rules)

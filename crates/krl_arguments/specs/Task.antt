@@ -11,6 +11,7 @@ use Rattle.krl_arguments.specs.Making.{Make, make_by, make_of}
 use Rattle.krl_arguments.specs.Options.{program}
 use Rattle.krl_arguments.specs.declared.task.Audit.{Audit as AuditOf}
 use Rattle.krl_arguments.specs.declared.task.Check.{Check as CheckOf}
+use Rattle.krl_arguments.specs.declared.task.Diff.{Diff as DiffOf}
 use Rattle.krl_arguments.specs.declared.task.Show.{Show as ShowOf}
 use Rattle.krl_arguments.specs.declared.task.Task.{Task as TaskOf}
 use Rattle.krl_arguments.specs.declared.task.Task.TheVariants as tasks
@@ -40,11 +41,18 @@ pub record Show : Type 0 where
   pub lists : List (List ℕ)
   pub json : Bool
 
+-- two lists that are compared, and whether --json is given
+pub record Diff : Type 0 where
+  pub old : List ℕ
+  pub new : List ℕ
+  pub json : Bool
+
 pub data Task : Type 0 where
   AuditTask : Audit → Task
   CheckTask : Check → Task
   ShowTask : Show → Task
   MakeTask : Make → Task
+  DiffTask : Diff → Task
 
 -- ---- the values of the words
 
@@ -109,6 +117,15 @@ abbrev pub show_with : List Row → Show
 show_with rows =
     record { lists = values_in (codes "lists") rows; json = is_set (codes "json") rows }
 
+abbrev pub diff_with : List Row → (old new : List ℕ) → Diff
+diff_with rows old new = record { old = old; new = new; json = is_set (codes "json") rows }
+
+abbrev pub diff_from : List Row → (old : List ℕ) → Option Diff
+diff_from rows old = option_map (diff_with rows old) (first_of (codes "new") rows)
+
+abbrev pub diff_of : List Row → Option Diff
+diff_of rows = option_and_then (diff_from rows) (first_of (codes "old") rows)
+
 -- the task of the subcommand of this name
 abbrev pub named_task : List ℕ → List Row → Option Task
 named_task name rows =
@@ -116,6 +133,7 @@ named_task name rows =
     else if bytes_eq name (codes "check") then option_map CheckTask (check_of rows)
     else if bytes_eq name (codes "show") then Some (ShowTask (show_with rows))
     else if bytes_eq name (codes "make") then option_map MakeTask (make_of rows)
+    else if bytes_eq name (codes "diff") then option_map DiffTask (diff_of rows)
     else None
 
 abbrev pub task_in : Option (List ℕ × List Row) → Option Task
@@ -153,8 +171,12 @@ check_by check = record {
 abbrev pub show_by : ShowOf → Show
 show_by show = record { lists = map (λ name. name.now) show.lists.items; json = show.json }
 
+abbrev pub diff_by : DiffOf → Diff
+diff_by diff = record { old = diff.old.now; new = diff.new.now; json = diff.json }
+
 abbrev pub task_by : TaskOf → Task
 task_by (tasks.Audit audit) = AuditTask (audit_by audit)
 task_by (tasks.Check check) = CheckTask (check_by check)
 task_by (tasks.Show show) = ShowTask (show_by show)
 task_by (tasks.Make make) = MakeTask (make_by make)
+task_by (tasks.Diff diff) = DiffTask (diff_by diff)

@@ -142,6 +142,24 @@ const MAKE: [Argument; 6] = [
     },
 ];
 
+const DIFF: [Argument; 3] = [
+    Argument {
+        id: "json",
+        form: Form::Long,
+        help: "Print one JSON object on a line for each entry",
+    },
+    Argument {
+        id: "old",
+        form: Form::Word("old"),
+        help: "The old revocation list",
+    },
+    Argument {
+        id: "new",
+        form: Form::Word("new"),
+        help: "The new revocation list",
+    },
+];
+
 /// `krl audit`.
 pub const AUDITING: Subcommand = Subcommand {
     name: "audit",
@@ -170,13 +188,20 @@ pub const MAKING: Subcommand = Subcommand {
     arguments: &MAKE,
 };
 
+/// `krl diff`.
+pub const COMPARING: Subcommand = Subcommand {
+    name: "diff",
+    about: "Prints what one revocation list names and another does not",
+    arguments: &DIFF,
+};
+
 /// The program, for parsing its words. An option is refused if it is given twice, unless it may have
 /// several values.
 pub fn program<'a>(alloc: Global) -> Result<Command<'a>, AllocError>
     ensures { IfOk result (λ command. app_of command ≡ program) }
 {
     let bare = Command::new(alloc, NAME)
-        .about("Finds revoked keys, and checks, shows and makes revocation lists")
+        .about("Finds revoked keys, and checks, shows, makes and compares revocation lists")
         .version(VERSION)
         .propagate_version(true)
         .subcommand_required(true);
@@ -184,10 +209,12 @@ pub fn program<'a>(alloc: Global) -> Result<Command<'a>, AllocError>
     let check = subcommand_of(alloc, &CHECKING)?;
     let show = subcommand_of(alloc, &SHOWING)?;
     let make = subcommand_of(alloc, &MAKING)?;
+    let diff = subcommand_of(alloc, &COMPARING)?;
     bare.subcommand(audit)?
         .subcommand(check)?
         .subcommand(show)?
-        .subcommand(make)
+        .subcommand(make)?
+        .subcommand(diff)
 }
 
 // The subcommand in the form of the library.

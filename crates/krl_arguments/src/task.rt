@@ -11,6 +11,8 @@ pub enum Task<'a> {
     Show(Show<'a>),
     /// `krl make`.
     Make(Make<'a>),
+    /// `krl diff`.
+    Diff(Diff<'a>),
 }
 
 /// `krl audit`: the list, which findings are printed, and which files are audited.
@@ -75,4 +77,15 @@ pub struct Make<'a> {
     pub allow_empty: bool,
     /// The texts.
     pub files: Vec<&'a str>,
+}
+
+/// `krl diff`: two lists, and how their difference is printed.
+#[derive(Clone, Copy)]
+pub struct Diff<'a> {
+    /// The old revocation list.
+    pub old: &'a str,
+    /// The new one.
+    pub new: &'a str,
+    /// True if JSON is printed, by `--json`.
+    pub json: bool,
 }

@@ -7,11 +7,11 @@ ghost use Rattle.clap.specs.Walk.{rows_of};
 ghost use Rattle.krl_arguments.specs.Task.{audit_by, audit_of, audit_with, check_by, check_of};
 ghost use Rattle.krl_arguments.specs.Task.{check_with, has_only_version, has_wrong_age, if_any};
 ghost use Rattle.krl_arguments.specs.Task.{if_whole, max_age_of, named_task, show_by, show_with};
-ghost use Rattle.krl_arguments.specs.Task.{task_by, task_in};
+ghost use Rattle.krl_arguments.specs.Task.{diff_by, diff_from, diff_of, task_by, task_in};
 
 use crate::duration::duration_of;
 use crate::making::make_in;
-use crate::task::{Audit, Check, Show, Task};
+use crate::task::{Audit, Check, Diff, Show, Task};
 use clap::ArgMatches;
 use option_table::{is_set, value_of, values_of};
 use std::alloc::{AllocError, Global};
@@ -47,6 +47,9 @@ fn named_task<'a>(
     }
     if name == "make" {
         return Ok(make_in(alloc, found)?.map(Task::Make));
+    }
+    if name == "diff" {
+        return Ok(diff_in(found).map(Task::Diff));
     }
     Ok(None)
 }
@@ -178,4 +181,28 @@ fn show_with<'a>(alloc: Global, found: &ArgMatches<'a>) -> Result<Show<'a>, Allo
         lists,
         json: is_set(found, "json"),
     })
+}
+
+// The lists that are compared.
+fn diff_in<'a>(found: &ArgMatches<'a>) -> Option<Diff<'a>>
+    ensures { option_map diff_by result ≡ diff_of (rows_of (found_of found.now)) }
+{
+    match value_of(found, "old") {
+        Some(old) => diff_from(found, old),
+        None => None,
+    }
+}
+
+// The comparison that begins with this old list.
+fn diff_from<'a>(found: &ArgMatches<'a>, old: &'a str) -> Option<Diff<'a>>
+    ensures { option_map diff_by result ≡ diff_from (rows_of (found_of found.now)) old.now }
+{
+    match value_of(found, "new") {
+        Some(new) => Some(Diff {
+            old,
+            new,
+            json: is_set(found, "json"),
+        }),
+        None => None,
+    }
 }

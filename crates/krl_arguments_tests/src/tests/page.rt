@@ -12,6 +12,7 @@ fn list_of<'a>(alloc: Global, words: &'a [&'a str]) -> Result<Option<&'a str>, C
         Task::Check(check) => Ok(Some(check.list)),
         Task::Show(_) => Ok(None),
         Task::Make(make) => Ok(Some(make.list)),
+        Task::Diff(diff) => Ok(Some(diff.new)),
     }
 }
 

@@ -1,6 +1,6 @@
 //! The words of the command line.
 
-use krl_arguments::{Audit, Check, Make, Show, Task, task_of};
+use krl_arguments::{Audit, Check, Diff, Make, Show, Task, task_of};
 use option_table::CommandFault;
 use std::alloc::Global;
 use std::test::Fail;
@@ -34,6 +34,14 @@ fn make_by<'a>(alloc: Global, words: &'a [&'a str]) -> Result<Make<'a>, &'static
     match task_of(alloc, words) {
         Ok(Task::Make(make)) => Ok(make),
         _ => Err("the words ask for a list"),
+    }
+}
+
+// The lists that the words ask to compare.
+fn diff_by<'a>(alloc: Global, words: &'a [&'a str]) -> Result<Diff<'a>, &'static str> {
+    match task_of(alloc, words) {
+        Ok(Task::Diff(diff)) => Ok(diff),
+        _ => Err("the words ask for two lists"),
     }
 }
 
@@ -166,8 +174,21 @@ fn durations(rt: HostRuntime) -> Result<(), Fail> {
 }
 
 #[test]
+fn comparisons(rt: HostRuntime) -> Result<(), Fail> {
+    let diff = diff_by(rt.alloc(), &["krl", "diff", "a", "--json", "b"])?;
+    assert!(rt; diff.old == "a" && diff.new == "b" && diff.json);
+    let diff = diff_by(rt.alloc(), &["krl", "diff", "--", "-a", "b"])?;
+    assert!(rt; diff.old == "-a" && diff.new == "b" && !diff.json);
+    Ok(())
+}
+
+#[test]
 fn refusals(rt: HostRuntime) -> Result<(), Fail> {
-    let refused: [&[&str]; 28] = [
+    let refused: [&[&str]; 32] = [
+        &["krl", "diff"],
+        &["krl", "diff", "a"],
+        &["krl", "diff", "a", "b", "c"],
+        &["krl", "diff", "a", "b", "--json", "--json"],
         &["krl", "show"],
         &["krl", "show", "--json"],
         &["krl", "show", "a", "--json", "--json"],
@@ -212,7 +233,8 @@ fn refusals(rt: HostRuntime) -> Result<(), Fail> {
 
 #[test]
 fn helps(rt: HostRuntime) -> Result<(), Fail> {
-    let asked: [&[&str]; 9] = [
+    let asked: [&[&str]; 10] = [
+        &["krl", "diff", "-h"],
         &["krl", "show", "-h"],
         &["krl", "-h"],
         &["krl", "help"],

@@ -15,4 +15,5 @@ returns c =
     let first = c.in_ok-subcommand.ensures.shape c.in_ok-audit.ensures.local ∙ ap₂ with_subcommand whole c.in_ok-audit.ensures.shape in
     let second = c.in_ok-subcommand-2.ensures.shape c.in_ok-check.ensures.local ∙ ap₂ with_subcommand first c.in_ok-check.ensures.shape in
     let third = c.in_ok-subcommand-3.ensures.shape c.in_ok-show.ensures.local ∙ ap₂ with_subcommand second c.in_ok-show.ensures.shape in
-    IfOk-weaker c.subcommand-4.result _ _ (λ command adds. adds.shape c.in_ok-make.ensures.local ∙ ap₂ with_subcommand third c.in_ok-make.ensures.shape) c.subcommand-4.ensures
+    let fourth = c.in_ok-subcommand-4.ensures.shape c.in_ok-make.ensures.local ∙ ap₂ with_subcommand third c.in_ok-make.ensures.shape in
+    IfOk-weaker c.subcommand-5.result _ _ (λ command adds. adds.shape c.in_ok-diff.ensures.local ∙ ap₂ with_subcommand fourth c.in_ok-diff.ensures.shape) c.subcommand-5.ensures

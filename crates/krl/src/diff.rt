@@ -1,0 +1,21 @@
+//! `krl diff`: what one list names and another does not.
+
+use crate::Krl;
+use crate::loading::ListFiles;
+use byte_streams::ToWrite;
+use diff_run::{Comparison, diff_run};
+use krl_arguments::Diff;
+use program_edge::end;
+
+/// Compares the lists of the task. Answers the exit status.
+pub fn diff(rt: &HostRuntime, task: &Diff) -> u8 {
+    let comparison = Comparison {
+        old: task.old,
+        new: task.new,
+        json: task.json,
+    };
+    let files = ListFiles::new(rt);
+    let mut out = ToWrite::new(rt.stdout());
+    let done = diff_run(rt.alloc(), &files, comparison, &mut out);
+    end(rt, &Krl, &done)
+}
