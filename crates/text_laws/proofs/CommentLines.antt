@@ -31,7 +31,8 @@ literal_no_feed : (text : List ℕ) → list_all (λ byte. not (is_newline byte)
 literal_no_feed text passes =
     All-weaker (λ byte. not (is_newline byte) ≡ true) HasNoFeed (λ byte. not-true (is_newline byte)) text (AllPass-from_list_all (λ byte. not (is_newline byte)) text passes)
 
-each_no_feed : (text : ℕ → List ℕ) → ((x : ℕ) → All HasNoFeed (text x)) → (xs : List ℕ) → All HasNoFeed (flat_map text xs)
+each_no_feed : (text : ℕ → List ℕ) → ((x : ℕ) → All HasNoFeed (text x)) → (xs : List ℕ)
+    → All HasNoFeed (flat_map text xs)
 each_no_feed text each [] = All-nil HasNoFeed
 each_no_feed text each (x ∷ xs) = All-append HasNoFeed (text x) (flat_map text xs) (each x) (each_no_feed text each xs)
 
@@ -134,11 +135,13 @@ comment_says : (current : Option (List ℕ)) (comment : List ℕ) → line_says 
 unfolding line_says bare_line after_endings before_ending order_in line_entry
 comment_says current comment = refl
 
-comment_reads : (current : Option (List ℕ)) (comment text : List ℕ) → IsInLine comment → text ≡ 35 ∷ (comment ++ 10 ∷ []) → Reads current text Blank
+comment_reads : (current : Option (List ℕ)) (comment text : List ℕ) → IsInLine comment
+    → text ≡ 35 ∷ (comment ++ 10 ∷ []) → Reads current text Blank
 comment_reads current comment text no_feed ended =
     record { line = 35 ∷ comment; ended = ended; no_feed = All-cons HasNoFeed 35 comment refl no_feed.each; says = comment_says current comment }
 
-pub list_reads : (current : Option (List ℕ)) (name : List ℕ) (header : Option Header) → HasNumbers header → Reads current (list_line name header) Blank
+pub list_reads : (current : Option (List ℕ)) (name : List ℕ) (header : Option Header) → HasNumbers header
+    → Reads current (list_line name header) Blank
 list_reads current name None fits =
     let comment : List ℕ = 32 ∷ (visible false name ++ codes ": a plain list") in
     comment_reads current comment (list_line name None) (before refl (joined (visible_in_line name) (literal_in_line (codes ": a plain list") refl))) (simp append_assoc)

@@ -53,7 +53,8 @@ solid_value value solid =
     }
 
 -- a value, a blank and another
-pub joined_value : (front back : List ℕ) → 0 < length front → 0 < length back → IsValue front → IsValue back → IsValue (front ++ 32 ∷ back)
+pub joined_value : (front back : List ℕ) → 0 < length front → 0 < length back → IsValue front → IsValue back
+    → IsValue (front ++ 32 ∷ back)
 joined_value front back some more first second = record {
   kept = All-append IsKept front (32 ∷ back) first.kept (All-cons IsKept 32 back refl second.kept);
   starts = front_stops is_ending front (32 ∷ back) some first.starts;
@@ -114,7 +115,8 @@ name_no_hash name is = All-weaker IsSolid IsNoHash (λ byte solid. kept_no_hash 
 name_starts : (name rest : List ℕ) → IsName name → prefix_len is_ending (name ++ rest) ≡ 0
 name_starts name rest is = front_stops is_ending name rest is.some (none_stops is_ending name (All-weaker IsSolid (λ byte. not (is_ending byte) ≡ true) solid_no_ending name is.solid))
 
-pub content_is : (name value rest : List ℕ) → IsName name → IsValue value → IsRest rest → HasContent (line_of name value rest) name value
+pub content_is : (name value rest : List ℕ) → IsName name → IsValue value → IsRest rest
+    → HasContent (line_of name value rest) name value
 content_is name [] rest is value left =
     let counts : Counts (line_of name [] rest) (name ++ 58 ∷ []) = record {
       front = [];
@@ -151,7 +153,8 @@ content_is name (byte ∷ value) rest is kept left =
     }
 
 -- a line without a comment has no `#`
-pub line_no_hash : (name value : List ℕ) → IsName name → IsValue value → AllPass (λ byte. not (is_hash byte)) (line_of name value [])
+pub line_no_hash : (name value : List ℕ) → IsName name → IsValue value
+    → AllPass (λ byte. not (is_hash byte)) (line_of name value [])
 line_no_hash name value is kept =
     All-append IsNoHash name (58 ∷ 32 ∷ (value ++ [])) (name_no_hash name is)
     (All-cons IsNoHash 58 (32 ∷ (value ++ [])) refl (All-cons IsNoHash 32 (value ++ []) refl

@@ -33,7 +33,8 @@ abbrev pub after : Option (List ℕ) → Fact → Option (List ℕ)
 after current (AuthorityFact authority) = Some authority
 after current fact = current
 
-pub fact_reads : (current : Option (List ℕ)) (fact : Fact) → FitsUnder current fact → Reads current (fact_line fact) (fact_says fact)
+pub fact_reads : (current : Option (List ℕ)) (fact : Fact) → FitsUnder current fact
+    → Reads current (fact_line fact) (fact_says fact)
 unfolding fact_line
 fact_reads current (ListFact name header) fits = list_reads current name header fits
 fact_reads current (AuthorityFact authority) fits = authority_reads current authority fits
@@ -44,7 +45,8 @@ fact_reads current (Sha1Fact hash) fits = sha1_reads current hash fits.0 fits.1
 fact_reads current (Sha256Fact hash) fits = sha256_reads current hash fits.0 fits.1
 
 -- the text of a fact is one line
-pub fact_is_line : (current : Option (List ℕ)) (fact : Fact) → FitsUnder current fact → IsLineOf current (fact_line fact) (fact_says fact)
+pub fact_is_line : (current : Option (List ℕ)) (fact : Fact) → FitsUnder current fact
+    → IsLineOf current (fact_line fact) (fact_says fact)
 fact_is_line current fact fits =
     let reads = fact_reads current fact fits in
     record { line = reads.line; split = ap (slice_split is_newline) reads.ended ∙ slice_split_at is_newline reads.line 10 [] reads.no_feed refl; says = reads.says }
@@ -65,7 +67,8 @@ pub record HasEntries (lines : LineEntries) (entries : List Entry) : Type 0 wher
   pub faultless : lines.fault ≡ None
 
 fact_first : (number : ℕ) (current : Option (List ℕ)) (fact : Fact) (later : Option (List ℕ) → LineEntries) (entries : List Entry)
-    → HasEntries (later (after current fact)) entries → HasEntries (before_later number current (Ok (fact_says fact)) later) (entries_of fact ++ entries)
+    → HasEntries (later (after current fact)) entries
+    → HasEntries (before_later number current (Ok (fact_says fact)) later) (entries_of fact ++ entries)
 fact_first number current (ListFact name header) later entries has = has
 fact_first number current (AuthorityFact authority) later entries has = has
 fact_first number current (SerialsFact authority span) later entries has =
@@ -79,15 +82,18 @@ fact_first number current (Sha256Fact hash) later entries has = record { are = a
 abbrev rest_of : Option (List ℕ) → ℕ → List ℕ → LineEntries
 rest_of current number text = lines_from current number (slice_split is_newline text)
 
-fact_then : (number : ℕ) (current : Option (List ℕ)) (fact : Fact) (text : List ℕ) (entries : List Entry) → Reads current (fact_line fact) (fact_says fact)
-    → HasEntries (rest_of (after current fact) (number + 1) text) entries → HasEntries (rest_of current number (fact_line fact ++ text)) (entries_of fact ++ entries)
+fact_then : (number : ℕ) (current : Option (List ℕ)) (fact : Fact) (text : List ℕ) (entries : List Entry)
+    → Reads current (fact_line fact) (fact_says fact)
+    → HasEntries (rest_of (after current fact) (number + 1) text) entries
+    → HasEntries (rest_of current number (fact_line fact ++ text)) (entries_of fact ++ entries)
 fact_then number current fact text entries reads has =
     let parts : fact_line fact ++ text ≡ reads.line ++ 10 ∷ text = ap (λ (t : List ℕ). t ++ text) reads.ended ∙ append_assoc reads.line (10 ∷ []) text in
     let split : slice_split is_newline (fact_line fact ++ text) ≡ reads.line ∷ slice_split is_newline text =
     ap (slice_split is_newline) parts ∙ slice_split_at is_newline reads.line 10 text reads.no_feed refl in
     rw (split, reads.says) (fact_first number current fact (λ authority. rest_of authority (number + 1) text) entries has)
 
-pub facts_read : (number : ℕ) (current : Option (List ℕ)) (facts : List Fact) → AllFit current facts → HasEntries (rest_of current number (concat (map fact_line facts))) (all_entries facts)
+pub facts_read : (number : ℕ) (current : Option (List ℕ)) (facts : List Fact) → AllFit current facts
+    → HasEntries (rest_of current number (concat (map fact_line facts))) (all_entries facts)
 facts_read number current [] fit = let is = blank_says current in record { are = rw is refl; faultless = rw is refl }
 facts_read number current (fact ∷ facts) fit =
     fact_then number current fact (concat (map fact_line facts)) (all_entries facts) (fact_reads current fact fit.0)

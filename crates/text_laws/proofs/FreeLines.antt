@@ -22,7 +22,8 @@ no_authority = causes.Spec specs.NoAuthority
 
 -- ---- lines of specification files
 
-directive_free : (authority given : List ℕ) (directive : Directive) → order_entry None directive given ≢ Err specs.NoAuthority
+directive_free : (authority given : List ℕ) (directive : Directive)
+    → order_entry None directive given ≢ Err specs.NoAuthority
     → order_entry (Some authority) directive given ≡ order_entry None directive given
 directive_free authority given directives.Serial lacks = absurd (lacks refl)
 directive_free authority given directives.Id lacks = absurd (lacks refl)
@@ -33,13 +34,15 @@ entry_free : (authority text : List ℕ) (order : Option SpecOrder) → text_ent
 entry_free authority text None lacks = refl
 entry_free authority text (Some order) lacks = directive_free authority order.given order.directive lacks
 
-counted_free : (authority text : List ℕ) → spec_says (counted_entry None text) ≢ Err no_authority → counted_entry (Some authority) text ≡ counted_entry None text
+counted_free : (authority text : List ℕ) → spec_says (counted_entry None text) ≢ Err no_authority
+    → counted_entry (Some authority) text ≡ counted_entry None text
 counted_free authority [] lacks = refl
 counted_free authority (byte ∷ bytes) lacks =
     ap (λ (read : Result Entry SpecCause). Some read)
     (entry_free authority (byte ∷ bytes) (spec_order_in (byte ∷ bytes)) (λ none. lacks (ap (λ (read : Result Entry SpecCause). spec_says (Some read)) none)))
 
-spec_free : (authority line : List ℕ) → spec_says (line_entry None line) ≢ Err no_authority → spec_says (line_entry (Some authority) line) ≡ spec_says (line_entry None line)
+spec_free : (authority line : List ℕ) → spec_says (line_entry None line) ≢ Err no_authority
+    → spec_says (line_entry (Some authority) line) ≡ spec_says (line_entry None line)
 unfolding line_entry
 spec_free authority line lacks = ap spec_says (counted_free authority (bare_line line) lacks)
 
@@ -58,11 +61,13 @@ word_free authority line given Hash lacks = elim (cases_Bool (is_sha1 given)) [
 ]
 word_free authority line given word lacks = refl
 
-order_free : (authority line : List ℕ) (order : Option Order) → order_says None line order ≢ Err no_authority → order_says (Some authority) line order ≡ order_says None line order
+order_free : (authority line : List ℕ) (order : Option Order) → order_says None line order ≢ Err no_authority
+    → order_says (Some authority) line order ≡ order_says None line order
 order_free authority line None lacks = spec_free authority line lacks
 order_free authority line (Some order) lacks = word_free authority line order.given order.word lacks
 
-pub says_free : (current : Option (List ℕ)) (line : List ℕ) → line_says None line ≢ Err no_authority → line_says current line ≡ line_says None line
+pub says_free : (current : Option (List ℕ)) (line : List ℕ) → line_says None line ≢ Err no_authority
+    → line_says current line ≡ line_says None line
 unfolding line_says
 says_free None line lacks = refl
 says_free (Some authority) line lacks = order_free authority line (order_in (bare_line line)) lacks

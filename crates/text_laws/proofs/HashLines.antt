@@ -39,7 +39,8 @@ sha1_again : (hash : List ℕ) → IsBytes hash → length hash ≡ 20 → sha1_
 unfolding sha1_in unpadded
 sha1_again hash bytes size = rw (decode_of-encode_of standard_no_pad hash refl bytes, eq-eqb (length hash) 20 size) refl
 
-sha256_again : (hash : List ℕ) → IsBytes hash → length hash ≡ 32 → fingerprint_at (codes "SHA256:" ++ unpadded hash) ≡ Ok hash
+sha256_again : (hash : List ℕ) → IsBytes hash → length hash ≡ 32
+    → fingerprint_at (codes "SHA256:" ++ unpadded hash) ≡ Ok hash
 sha256_again hash bytes size = fingerprint_again (codes "SHA256:" ++ unpadded hash) hash (record { encodes = record { spelled = refl; are_bytes = bytes }; size = size })
 
 sha1_value : (hash : List ℕ) → IsValue (codes "SHA1:" ++ unpadded hash)
@@ -50,14 +51,16 @@ sha256_value : (hash : List ℕ) → IsValue (codes "SHA256:" ++ unpadded hash)
 sha256_value hash =
     solid_value (codes "SHA256:" ++ unpadded hash) (All-append IsSolid (codes "SHA256:") (unpadded hash) (AllPass-from_list_all is_solid (codes "SHA256:") refl) (unpadded_solid hash))
 
-pub sha1_reads : (current : Option (List ℕ)) (hash : List ℕ) → IsBytes hash → length hash ≡ 20 → Reads current (hash_line (codes "SHA1:") hash) (Names (Sha1Entry hash))
+pub sha1_reads : (current : Option (List ℕ)) (hash : List ℕ) → IsBytes hash → length hash ≡ 20
+    → Reads current (hash_line (codes "SHA1:") hash) (Names (Sha1Entry hash))
 sha1_reads current hash bytes size =
     let value : List ℕ = codes "SHA1:" ++ unpadded hash in
     let kept = sha1_value hash in
     line_reads current (codes "hash") value [] (hash_line (codes "SHA1:") hash) (Names (Sha1Entry hash)) hash_name kept nothing_left (plain_text (codes "hash") value)
     (word_line_says current (codes "hash") value [] words.Hash hash_name kept nothing_left hash_word ∙ rw (sha1_again hash bytes size) refl)
 
-pub sha256_reads : (current : Option (List ℕ)) (hash : List ℕ) → IsBytes hash → length hash ≡ 32 → Reads current (hash_line (codes "SHA256:") hash) (Names (Sha256Entry hash))
+pub sha256_reads : (current : Option (List ℕ)) (hash : List ℕ) → IsBytes hash → length hash ≡ 32
+    → Reads current (hash_line (codes "SHA256:") hash) (Names (Sha256Entry hash))
 sha256_reads current hash bytes size =
     let value : List ℕ = codes "SHA256:" ++ unpadded hash in
     let kept = sha256_value hash in

@@ -30,11 +30,14 @@ use Rattle.text_laws.proofs.FactLines.{AllFit, all_entries, entries_of, facts_re
 
 -- ---- the entries of facts
 
-spans_entries : (authority : List ℕ) (spans : List Span) → all_entries (map (SerialsFact authority) spans) ≡ run_entries authority spans
+spans_entries : (authority : List ℕ) (spans : List Span)
+    → all_entries (map (SerialsFact authority) spans) ≡ run_entries authority spans
 spans_entries authority [] = refl
 spans_entries authority (span ∷ spans) = rw (spans_entries authority spans) refl
 
-one_each : (fact : List ℕ → Fact) (entry : List ℕ → Entry) → ((text : List ℕ) → entries_of (fact text) ≡ entry text ∷ []) → (texts : List (List ℕ)) → all_entries (map fact texts) ≡ map entry texts
+one_each : (fact : List ℕ → Fact) (entry : List ℕ → Entry)
+    → ((text : List ℕ) → entries_of (fact text) ≡ entry text ∷ []) → (texts : List (List ℕ))
+    → all_entries (map fact texts) ≡ map entry texts
 one_each fact entry is [] = refl
 one_each fact entry is (text ∷ texts) = rw (is text, one_each fact entry is texts) refl
 
@@ -46,7 +49,8 @@ section_named section =
     flat_map-append entries_of spans ids
     ∙ rw (spans_entries section.authority section.spans, one_each (IdFact section.authority) (IdEntry section.authority) (λ text. refl) section.ids) refl
 
-sections_named : (sections : List Section) → all_entries (flat_map section_facts sections) ≡ flat_map section_entries sections
+sections_named : (sections : List Section)
+    → all_entries (flat_map section_facts sections) ≡ flat_map section_entries sections
 sections_named [] = refl
 sections_named (section ∷ sections) =
     flat_map-append entries_of (section_facts section) (flat_map section_facts sections) ∙ rw (section_named section, sections_named sections) refl
@@ -69,7 +73,8 @@ held_named r =
 
 -- ---- each fact fits
 
-spans_fit : (authority : List ℕ) (least : ℕ) (spans : List Span) (more : List Fact) → RunsFrom least spans → AreSerials spans
+spans_fit : (authority : List ℕ) (least : ℕ) (spans : List Span) (more : List Fact) → RunsFrom least spans
+    → AreSerials spans
     → AllFit (Some authority) more → AllFit (Some authority) (map (SerialsFact authority) spans ++ more)
 spans_fit authority least [] more runs serials fit = fit
 spans_fit authority least (span ∷ spans) more runs serials fit =
@@ -78,7 +83,8 @@ spans_fit authority least (span ∷ spans) more runs serials fit =
     let order : AreSpanSerials span = record { some = first.0; rises = runs.1; fits = last.1 } in
     ((refl, order), spans_fit authority (span.hi + 2) spans more runs.2 (λ s covers. serials s (inr covers)) fit)
 
-ids_fit : (authority : List ℕ) (ids : List (List ℕ)) (more : List Fact) → All IsBytes ids → AllFit (Some authority) more
+ids_fit : (authority : List ℕ) (ids : List (List ℕ)) (more : List Fact) → All IsBytes ids
+    → AllFit (Some authority) more
     → AllFit (Some authority) (map (IdFact authority) ids ++ more)
 ids_fit authority [] more bytes fit = fit
 ids_fit authority (id ∷ ids) more bytes fit = ((refl, All-head IsBytes id ids bytes), ids_fit authority ids more (All-tail IsBytes id ids bytes) fit)
@@ -87,7 +93,8 @@ ids_fit authority (id ∷ ids) more bytes fit = ((refl, All-head IsBytes id ids 
 abbrev FitAnywhere : List Fact → Type 0
 FitAnywhere facts = (current : Option (List ℕ)) → AllFit current facts
 
-section_fits : (section : Section) (more : List Fact) → IsListed section → IsBytes section.authority → All IsBytes section.ids
+section_fits : (section : Section) (more : List Fact) → IsListed section → IsBytes section.authority
+    → All IsBytes section.ids
     → FitAnywhere more → FitAnywhere (section_facts section ++ more)
 unfolding section_facts
 section_fits section more listed authority ids fit current =
@@ -103,7 +110,8 @@ HasBytes section = IsBytes section.authority
 abbrev HasIds : Section → Type 0
 HasIds section = All IsBytes section.ids
 
-sections_fit : (sections : List Section) (more : List Fact) → All IsListed sections → All HasBytes sections → All HasIds sections
+sections_fit : (sections : List Section) (more : List Fact) → All IsListed sections → All HasBytes sections
+    → All HasIds sections
     → FitAnywhere more → FitAnywhere (flat_map section_facts sections ++ more)
 sections_fit [] more listed authorities ids fit = fit
 sections_fit (section ∷ sections) more listed authorities ids fit =
@@ -112,7 +120,8 @@ sections_fit (section ∷ sections) more listed authorities ids fit =
     (section_fits section (flat_map section_facts sections ++ more) (All-head IsListed section sections listed)
     (All-head HasBytes section sections authorities) (All-head HasIds section sections ids) later)
 
-keys_fit : (keys : List (List ℕ)) (more : List Fact) → All IsBytes keys → FitAnywhere more → FitAnywhere (map KeyFact keys ++ more)
+keys_fit : (keys : List (List ℕ)) (more : List Fact) → All IsBytes keys → FitAnywhere more
+    → FitAnywhere (map KeyFact keys ++ more)
 keys_fit [] more bytes fit current = fit current
 keys_fit (key ∷ keys) more bytes fit current = (All-head IsBytes key keys bytes, keys_fit keys more (All-tail IsBytes key keys bytes) fit current)
 
@@ -122,18 +131,21 @@ Is20 hash = length hash ≡ 20
 abbrev Is32 : List ℕ → Type 0
 Is32 hash = length hash ≡ 32
 
-sha1s_fit : (hashes : List (List ℕ)) (more : List Fact) → All IsBytes hashes → All Is20 hashes → FitAnywhere more → FitAnywhere (map Sha1Fact hashes ++ more)
+sha1s_fit : (hashes : List (List ℕ)) (more : List Fact) → All IsBytes hashes → All Is20 hashes → FitAnywhere more
+    → FitAnywhere (map Sha1Fact hashes ++ more)
 sha1s_fit [] more bytes sizes fit current = fit current
 sha1s_fit (hash ∷ hashes) more bytes sizes fit current =
     ((All-head IsBytes hash hashes bytes, All-head Is20 hash hashes sizes), sha1s_fit hashes more (All-tail IsBytes hash hashes bytes) (All-tail Is20 hash hashes sizes) fit current)
 
-sha256s_fit : (hashes : List (List ℕ)) (more : List Fact) → All IsBytes hashes → All Is32 hashes → FitAnywhere more → FitAnywhere (map Sha256Fact hashes ++ more)
+sha256s_fit : (hashes : List (List ℕ)) (more : List Fact) → All IsBytes hashes → All Is32 hashes → FitAnywhere more
+    → FitAnywhere (map Sha256Fact hashes ++ more)
 sha256s_fit [] more bytes sizes fit current = fit current
 sha256s_fit (hash ∷ hashes) more bytes sizes fit current =
     ((All-head IsBytes hash hashes bytes, All-head Is32 hash hashes sizes), sha256s_fit hashes more (All-tail IsBytes hash hashes bytes) (All-tail Is32 hash hashes sizes) fit current)
 
 -- the facts that are held, followed by others
-held_fit_before : (r : Revocations) (more : List Fact) → IsStored r → FitAnywhere more → FitAnywhere (facts_of r ++ more)
+held_fit_before : (r : Revocations) (more : List Fact) → IsStored r → FitAnywhere more
+    → FitAnywhere (facts_of r ++ more)
 unfolding facts_of
 held_fit_before r more stored fit =
     let sections : List Fact = flat_map section_facts r.sections in
@@ -173,7 +185,8 @@ only_memory : (text : List ℕ) (number : ℕ) (cause : TextCause) (old new : Re
 only_memory text number (causes.Spec specs.NoMemory) old new faultless stops = refl
 only_memory text number cause old new faultless stops = absurd (let is = stops.0 in cc)
 
-pub stops_for_memory : (r old new : Revocations) (fault : TextFault) → IsStored r → StopsWith (text_of r) fault old new → fault.cause ≡ no_memory
+pub stops_for_memory : (r old new : Revocations) (fault : TextFault) → IsStored r
+    → StopsWith (text_of r) fault old new → fault.cause ≡ no_memory
 stops_for_memory r old new fault stored stops = only_memory (text_of r) fault.line fault.cause old new (read_back r stored).0 stops
 
 -- ---- lists that are shown
@@ -189,7 +202,8 @@ lists_named [] = refl
 lists_named (list ∷ lists) =
     flat_map-append entries_of (facts_of list.contents) (flat_map facts_about lists) ∙ rw (held_named list.contents, lists_named lists) refl
 
-pub lists_read_back : (lists : List Shown) → All CanBeShown lists → IsReadAs (text_of_lists lists) (entries_of_lists lists)
+pub lists_read_back : (lists : List Shown) → All CanBeShown lists
+    → IsReadAs (text_of_lists lists) (entries_of_lists lists)
 unfolding lines_of
 lists_read_back lists shown =
     let read = facts_read 1 None (flat_map facts_about lists) (lists_fit lists shown None) in

@@ -104,11 +104,13 @@ whole : (line : List ℕ) → AllPass (λ byte. not (is_hash byte)) line → is_
 unfolding is_cut
 whole line clean = rw (no_cut 35 line clean) refl
 
-id_entry : (authority id : List ℕ) → id ≢ [] → order_entry (Some authority) directives.Id id ≡ Ok (IdEntry authority id)
+id_entry : (authority id : List ℕ) → id ≢ []
+    → order_entry (Some authority) directives.Id id ≡ Ok (IdEntry authority id)
 id_entry authority [] some = absurd (some refl)
 id_entry authority (byte ∷ id) some = refl
 
-plain_read : (authority id : List ℕ) → IsText id → Reads (Some authority) (codes "id: " ++ (id ++ codes "\n")) (Names (IdEntry authority id))
+plain_read : (authority id : List ℕ) → IsText id
+    → Reads (Some authority) (codes "id: " ++ (id ++ codes "\n")) (Names (IdEntry authority id))
 plain_read authority id is =
     let kept = text_value id is in
     let line : List ℕ = line_of (codes "id") id [] in
@@ -131,7 +133,8 @@ bytes_again : (id : List ℕ) → IsBytes id → bytes_in (encode_lower id) ≡ 
 unfolding bytes_in
 bytes_again id bytes = rw (decode_of-encode_lower id bytes) refl
 
-hex_read : (authority id : List ℕ) → IsBytes id → Reads (Some authority) (codes "id-hex: " ++ (encode_lower id ++ codes "\n")) (Names (IdEntry authority id))
+hex_read : (authority id : List ℕ) → IsBytes id
+    → Reads (Some authority) (codes "id-hex: " ++ (encode_lower id ++ codes "\n")) (Names (IdEntry authority id))
 hex_read authority id bytes =
     let kept = solid_value (encode_lower id) (hex_solid id) in
     line_reads (Some authority) (codes "id-hex") (encode_lower id) [] (codes "id-hex: " ++ (encode_lower id ++ codes "\n")) (Names (IdEntry authority id)) hex_name kept nothing_left
@@ -140,7 +143,8 @@ hex_read authority id bytes =
 
 -- ---- any key ID
 
-pub id_reads : (authority id : List ℕ) → IsBytes id → Reads (Some authority) (id_line id) (Names (IdEntry authority id))
+pub id_reads : (authority id : List ℕ) → IsBytes id
+    → Reads (Some authority) (id_line id) (Names (IdEntry authority id))
 id_reads authority id bytes = elim (cases_Bool (is_text id)) [
   | inl text ↦ rw text (plain_read authority id (text_is id text))
   | inr other ↦ rw other (hex_read authority id bytes)

@@ -23,7 +23,8 @@ Later = Option (List ℕ) → LineEntries
 
 -- ---- a line before others
 
-later_same : (number : ℕ) (current : Option (List ℕ)) (says : Result Saying TextCause) (one other : Later) → ((after : Option (List ℕ)) → one after ≡ other after)
+later_same : (number : ℕ) (current : Option (List ℕ)) (says : Result Saying TextCause) (one other : Later)
+    → ((after : Option (List ℕ)) → one after ≡ other after)
     → before_later number current says one ≡ before_later number current says other
 later_same number current (Ok Blank) one other same = same current
 later_same number current (Ok (Current authority)) one other same = same (Some authority)
@@ -35,7 +36,8 @@ pub blank_says : (current : Option (List ℕ)) → line_says current [] ≡ Ok B
 unfolding line_says bare_line after_endings before_ending order_in line_entry
 blank_says current = refl
 
-pub blank_last : (current : Option (List ℕ)) (number : ℕ) (lines : List (List ℕ)) → lines_from current number (lines ++ [] ∷ []) ≡ lines_from current number lines
+pub blank_last : (current : Option (List ℕ)) (number : ℕ) (lines : List (List ℕ))
+    → lines_from current number (lines ++ [] ∷ []) ≡ lines_from current number lines
 blank_last current number [] = rw (blank_says current) refl
 blank_last current number (line ∷ lines) =
     later_same number current (line_says current line) (λ after. lines_from after (number + 1) (lines ++ [] ∷ [])) (λ after. lines_from after (number + 1) lines)
@@ -53,7 +55,8 @@ later_stops number current (Ok (Names entry)) front all fault is step = rw (step
 later_stops number current (Err cause) front all fault is step = refl
 
 -- If the first lines have a fault, no later line is read.
-pub stopped : (current : Option (List ℕ)) (number : ℕ) (front back : List (List ℕ)) (fault : TextFault) → (lines_from current number front).fault ≡ Some fault
+pub stopped : (current : Option (List ℕ)) (number : ℕ) (front back : List (List ℕ)) (fault : TextFault)
+    → (lines_from current number front).fault ≡ Some fault
     → lines_from current number (front ++ back) ≡ lines_from current number front
 stopped current number [] back fault is = absurd cc
 stopped current number (line ∷ front) back fault is =
@@ -73,7 +76,8 @@ later_moved count number current (Ok (Current authority)) one other same = same 
 later_moved count number current (Ok (Names entry)) one other same = rw (same current) refl
 later_moved count number current (Err cause) one other same = refl
 
-lines_moved : (count number : ℕ) (current : Option (List ℕ)) (lines : List (List ℕ)) → lines_from current (count + number) lines ≡ moved count (lines_from current number lines)
+lines_moved : (count number : ℕ) (current : Option (List ℕ)) (lines : List (List ℕ))
+    → lines_from current (count + number) lines ≡ moved count (lines_from current number lines)
 lines_moved count number current [] = refl
 lines_moved count number current (line ∷ lines) =
     later_moved count number current (line_says current line) (λ after. lines_from after (count + number + 1) lines) (λ after. lines_from after (number + 1) lines)
@@ -98,14 +102,16 @@ later_free number current (Ok (Current authority)) later lacks step = (refl, ref
 later_free number current (Ok (Names entry)) later lacks step = let same = step lacks in (ap (λ (entries : List Entry). entry ∷ entries) same.0, same.1)
 later_free number current (Err cause) later lacks step = (refl, refl)
 
-step_free : (number : ℕ) (current : Option (List ℕ)) (line : List ℕ) (later : Later) (says : Result Saying TextCause) → line_says None line ≡ says
+step_free : (number : ℕ) (current : Option (List ℕ)) (line : List ℕ) (later : Later) (says : Result Saying TextCause)
+    → line_says None line ≡ says
     → LacksNone (before_later number None says later) → line_says current line ≡ line_says None line
 step_free number current line later (Err cause) is lacks =
     says_free current line (λ none. let same : cause ≡ no_authority = cc in lacks number (ap (λ (c : TextCause). Some (fault_at number c)) same))
 step_free number current line later (Ok saying) is lacks = says_free current line (λ none. absurd cc)
 
 -- Lines of which none lacks an authority say the same under any.
-lines_free : (current : Option (List ℕ)) (number : ℕ) (lines : List (List ℕ)) → LacksNone (lines_from None number lines)
+lines_free : (current : Option (List ℕ)) (number : ℕ) (lines : List (List ℕ))
+    → LacksNone (lines_from None number lines)
     → SaysSame (lines_from current number lines) (lines_from None number lines)
 lines_free current number [] lacks = (refl, refl)
 lines_free current number (line ∷ lines) lacks =
@@ -115,11 +121,13 @@ lines_free current number (line ∷ lines) lacks =
 
 -- ---- the lines of two texts
 
-onto_joined : (byte : ℕ) (parts others : List (List ℕ)) → 0 < length parts → onto_first byte (parts ++ others) ≡ onto_first byte parts ++ others
+onto_joined : (byte : ℕ) (parts others : List (List ℕ)) → 0 < length parts
+    → onto_first byte (parts ++ others) ≡ onto_first byte parts ++ others
 onto_joined byte [] others some = absurd (omega arith)
 onto_joined byte (part ∷ parts) others some = refl
 
-split_joined : (front back : List ℕ) → slice_split is_newline (front ++ 10 ∷ back) ≡ slice_split is_newline front ++ slice_split is_newline back
+split_joined : (front back : List ℕ)
+    → slice_split is_newline (front ++ 10 ∷ back) ≡ slice_split is_newline front ++ slice_split is_newline back
 split_joined [] back = refl
 split_joined (byte ∷ front) back = elim (cases_Bool (byte == 10)) [
   | inl feed ↦ rw (feed, split_joined front back) refl
@@ -169,7 +177,8 @@ pub record Joins (front back : List ℕ) : Type 0 where
   pub entries : (lines_of (front ++ back)).entries ≡ (lines_of front).entries ++ (lines_of back).entries
   pub fault : (lines_of (front ++ back)).fault ≡ later_by (lines_in front) (lines_of back).fault
 
-line_joined : (front back : List ℕ) → (lines_of (text front back)).fault ≡ None → LacksNoAuthority back → Joins (text front back) back
+line_joined : (front back : List ℕ) → (lines_of (text front back)).fault ≡ None → LacksNoAuthority back
+    → Joins (text front back) back
 line_joined front back none lacks =
     let same = back_free front back lacks in
     let is = after_front front back none in
@@ -192,18 +201,21 @@ none_joined back = record {
   fault = sym (by_none (lines_of back).fault);
 }
 
-pub joined : (front back : List ℕ) → AreWholeLines front → (lines_of front).fault ≡ None → LacksNoAuthority back → Joins front back
+pub joined : (front back : List ℕ) → AreWholeLines front → (lines_of front).fault ≡ None → LacksNoAuthority back
+    → Joins front back
 joined front back (inl empty) none lacks = subst (λ (t : List ℕ). Joins t back) (sym empty) (none_joined back)
 joined front back (inr (lines, is)) none lacks =
     subst (λ (t : List ℕ). (lines_of t).fault ≡ None → Joins t back) (sym is) (λ faultless. line_joined lines back faultless lacks) none
 
-line_stops : (front back : List ℕ) (fault : TextFault) → (lines_of (text front back)).fault ≡ Some fault → lines_of (text front back ++ back) ≡ lines_of (text front back)
+line_stops : (front back : List ℕ) (fault : TextFault) → (lines_of (text front back)).fault ≡ Some fault
+    → lines_of (text front back ++ back) ≡ lines_of (text front back)
 line_stops front back fault is =
     let before = first_lines front back in
     both_lines front back ∙ stopped None 1 (first front back) (second front back) fault (ap (λ (lines : LineEntries). lines.fault) (sym before) ∙ is) ∙ sym before
 
 -- Nothing is read after a fault.
-pub stops_first : (front back : List ℕ) (fault : TextFault) → AreWholeLines front → (lines_of front).fault ≡ Some fault → lines_of (front ++ back) ≡ lines_of front
+pub stops_first : (front back : List ℕ) (fault : TextFault) → AreWholeLines front
+    → (lines_of front).fault ≡ Some fault → lines_of (front ++ back) ≡ lines_of front
 stops_first front back fault (inl empty) is =
     let none : (lines_of front).fault ≡ None = ap (λ (t : List ℕ). (lines_of t).fault) empty ∙ ap (λ (lines : LineEntries). lines.fault) nothing_said in
     absurd cc

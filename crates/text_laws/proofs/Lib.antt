@@ -14,3 +14,4 @@ mod FactLines
 mod HeldTexts
 mod ReadBytes
 mod ShownLists
+mod MadeLists

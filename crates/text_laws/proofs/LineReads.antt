@@ -14,22 +14,26 @@ pub record Reads (current : Option (List ℕ)) (text : List ℕ) (saying : Sayin
   pub no_feed : All HasNoFeed line
   pub says : line_says current line ≡ Ok saying
 
-pub literal_name : (name : List ℕ) → 0 < length name → list_all is_solid name ≡ true → list_all (λ byte. not (byte == 58)) name ≡ true → IsName name
+pub literal_name : (name : List ℕ) → 0 < length name → list_all is_solid name ≡ true
+    → list_all (λ byte. not (byte == 58)) name ≡ true → IsName name
 literal_name name some solid clean = record {
   some = some;
   solid = AllPass-from_list_all is_solid name solid;
   no_colon = AllPass-from_list_all (λ byte. not (byte == 58)) name clean;
 }
 
-line_no_feed : (name value rest : List ℕ) → IsName name → IsValue value → IsRest rest → All HasNoFeed (line_of name value rest)
+line_no_feed : (name value rest : List ℕ) → IsName name → IsValue value → IsRest rest
+    → All HasNoFeed (line_of name value rest)
 line_no_feed name value rest is kept left =
     All-append HasNoFeed name (58 ∷ 32 ∷ (value ++ rest)) (All-weaker IsSolid HasNoFeed (λ byte solid. kept_no_feed byte (solid_kept byte solid)) name is.solid)
     (All-cons HasNoFeed 58 (32 ∷ (value ++ rest)) refl (All-cons HasNoFeed 32 (value ++ rest) refl
     (All-append HasNoFeed value rest (All-weaker IsKept HasNoFeed kept_no_feed value kept.kept) left.no_feed)))
 
 -- a line of a name and a value that says something
-pub line_reads : (current : Option (List ℕ)) (name value rest text : List ℕ) (saying : Saying) → IsName name → IsValue value → IsRest rest
-    → text ≡ line_of name value rest ++ 10 ∷ [] → line_says current (line_of name value rest) ≡ Ok saying → Reads current text saying
+pub line_reads : (current : Option (List ℕ)) (name value rest text : List ℕ) (saying : Saying) → IsName name
+    → IsValue value → IsRest rest
+    → text ≡ line_of name value rest ++ 10 ∷ [] → line_says current (line_of name value rest) ≡ Ok saying
+    → Reads current text saying
 line_reads current name value rest text saying is kept left ended says =
     record { line = line_of name value rest; ended = ended; no_feed = line_no_feed name value rest is kept left; says = says }
 

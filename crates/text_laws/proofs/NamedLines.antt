@@ -83,7 +83,8 @@ not_all Ed25519 rest = refl
 not_all EcdsaSk rest = refl
 not_all Ed25519Sk rest = refl
 
-authority_again : (blob : List ℕ) (key : PublicKey) (bytes : IsBytes blob) (read : key_at blob ≡ Ok key) → authority_in (key_value blob key bytes read) ≡ Ok blob
+authority_again : (blob : List ℕ) (key : PublicKey) (bytes : IsBytes blob) (read : key_at blob ≡ Ok key)
+    → authority_in (key_value blob key bytes read) ≡ Ok blob
 unfolding authority_in authority_key_in
 authority_again blob key bytes read = rw (not_all key.kind (encode_of standard blob), key_subject blob key bytes read) refl
 
@@ -91,11 +92,13 @@ some_again : (blob : List ℕ) → blob ≢ [] → some_bytes blob ≡ Ok blob
 some_again [] some = absurd (some refl)
 some_again (byte ∷ blob) some = refl
 
-authority_blob_again : (blob : List ℕ) → IsBytes blob → blob ≢ [] → authority_blob_in (encode_of standard blob) ≡ Ok blob
+authority_blob_again : (blob : List ℕ) → IsBytes blob → blob ≢ []
+    → authority_blob_in (encode_of standard blob) ≡ Ok blob
 unfolding authority_blob_in
 authority_blob_again blob bytes some = rw (blob_again blob bytes) (some_again blob some)
 
-named_authority : (current : Option (List ℕ)) (blob : List ℕ) → IsBytes blob → blob ≢ [] → (read : Result PublicKey KeyFault) → key_at blob ≡ read
+named_authority : (current : Option (List ℕ)) (blob : List ℕ) → IsBytes blob → blob ≢ []
+    → (read : Result PublicKey KeyFault) → key_at blob ≡ read
     → Reads current (named_line (codes "ca") blob read) (Current blob)
 named_authority current blob bytes some (Ok key) read =
     let kept = key_is_value blob key bytes read in
@@ -110,7 +113,8 @@ named_authority current blob bytes some (Err fault) read =
     line_reads current (codes "ca-blob") value [] (named_line (codes "ca") blob (Err fault)) (Current blob) blob_name kept nothing_left (plain_text (codes "ca-blob") value)
     (word_line_says current (codes "ca-blob") value [] words.AuthorityBlob blob_name kept nothing_left blob_word ∙ rw (authority_blob_again blob bytes some) refl)
 
-pub authority_reads : (current : Option (List ℕ)) (authority : List ℕ) → IsBytes authority → Reads current (authority_line authority) (Current authority)
+pub authority_reads : (current : Option (List ℕ)) (authority : List ℕ) → IsBytes authority
+    → Reads current (authority_line authority) (Current authority)
 authority_reads current [] bytes = all_read current
 authority_reads current (byte ∷ authority) bytes =
     let some : (length (byte ∷ authority) == 0) ≡ false = ne_eqb (length (byte ∷ authority)) 0 (λ none. absurd (omega (arith, none))) in
@@ -136,11 +140,13 @@ key_blob_word : word_named (codes "key-blob") ≡ Some words.KeyBlob
 unfolding word_named
 key_blob_word = refl
 
-plain_again : (blob : List ℕ) (key : PublicKey) (bytes : IsBytes blob) (read : key_at blob ≡ Ok key) → plain_in (key_value blob key bytes read) ≡ Ok blob
+plain_again : (blob : List ℕ) (key : PublicKey) (bytes : IsBytes blob) (read : key_at blob ≡ Ok key)
+    → plain_in (key_value blob key bytes read) ≡ Ok blob
 unfolding plain_in
 plain_again blob key bytes read = rw (key_subject blob key bytes read) refl
 
-named_key : (current : Option (List ℕ)) (blob : List ℕ) → IsBytes blob → (read : Result PublicKey KeyFault) → key_at blob ≡ read
+named_key : (current : Option (List ℕ)) (blob : List ℕ) → IsBytes blob → (read : Result PublicKey KeyFault)
+    → key_at blob ≡ read
     → Reads current (named_line (codes "key") blob read) (Names (KeyEntry blob))
 named_key current blob bytes (Ok key) read =
     let kept = key_is_value blob key bytes read in
@@ -156,5 +162,6 @@ named_key current blob bytes (Err fault) read =
     line_reads current (codes "key-blob") value [] (named_line (codes "key") blob (Err fault)) (Names (KeyEntry blob)) key_blob_name kept nothing_left (plain_text (codes "key-blob") value)
     (word_line_says current (codes "key-blob") value [] words.KeyBlob key_blob_name kept nothing_left key_blob_word ∙ rw (blob_again blob bytes) refl)
 
-pub key_reads : (current : Option (List ℕ)) (blob : List ℕ) → IsBytes blob → Reads current (key_line blob) (Names (KeyEntry blob))
+pub key_reads : (current : Option (List ℕ)) (blob : List ℕ) → IsBytes blob
+    → Reads current (key_line blob) (Names (KeyEntry blob))
 key_reads current blob bytes = named_key current blob bytes (key_at blob) refl

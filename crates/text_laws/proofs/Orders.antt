@@ -14,7 +14,8 @@ use Rattle.text_laws.proofs.Contents.{IsName, IsRest, IsValue, content_is, line_
 
 -- ---- the name and the value
 
-spec_order_is : (name gap value : List ℕ) → AllPass (λ byte. not (byte == 58)) name → AllPass is_blank gap → prefix_len is_blank value ≡ 0
+spec_order_is : (name gap value : List ℕ) → AllPass (λ byte. not (byte == 58)) name → AllPass is_blank gap
+    → prefix_len is_blank value ≡ 0
     → spec_order_in (name ++ 58 ∷ (gap ++ value)) ≡ option_map (spec_order value) (directive_named name)
 unfolding spec_order_in after_blanks
 spec_order_is name gap value clean blanks starts =
@@ -23,7 +24,8 @@ spec_order_is name gap value clean blanks starts =
     ap after_blanks cut.after ∙ front_gone is_blank gap value blanks starts in
     rw (cut.within, following, cut.before) refl
 
-order_is : (name gap value : List ℕ) → AllPass (λ byte. not (byte == 58)) name → AllPass is_blank gap → prefix_len is_blank value ≡ 0
+order_is : (name gap value : List ℕ) → AllPass (λ byte. not (byte == 58)) name → AllPass is_blank gap
+    → prefix_len is_blank value ≡ 0
     → order_in (name ++ 58 ∷ (gap ++ value)) ≡ option_map (order value) (word_named name)
 unfolding order_in after_blanks
 order_is name gap value clean blanks starts =
@@ -35,13 +37,16 @@ order_is name gap value clean blanks starts =
 -- ---- the line
 
 some_entry : (authority : Option (List ℕ)) (name rest value : List ℕ) (directive : Directive) → 0 < length name
-    → spec_order_in (name ++ rest) ≡ Some (spec_order value directive) → counted_entry authority (name ++ rest) ≡ Some (order_entry authority directive value)
+    → spec_order_in (name ++ rest) ≡ Some (spec_order value directive)
+    → counted_entry authority (name ++ rest) ≡ Some (order_entry authority directive value)
 some_entry authority [] rest value directive some is = absurd (omega arith)
 some_entry authority (byte ∷ name) rest value directive some is = rw is refl
 
 -- a line with the name of a directive
-pub entry_says : (authority : Option (List ℕ)) (name value rest : List ℕ) (directive : Directive) → IsName name → IsValue value → IsRest rest
-    → directive_named name ≡ Some directive → line_entry authority (line_of name value rest) ≡ Some (order_entry authority directive value)
+pub entry_says : (authority : Option (List ℕ)) (name value rest : List ℕ) (directive : Directive) → IsName name
+    → IsValue value → IsRest rest
+    → directive_named name ≡ Some directive
+    → line_entry authority (line_of name value rest) ≡ Some (order_entry authority directive value)
 unfolding line_entry
 entry_says authority name value rest directive is kept left named =
     let content = content_is name value rest is kept left in
@@ -50,7 +55,8 @@ entry_says authority name value rest directive is kept left named =
     ap (counted_entry authority) content.is ∙ some_entry authority name (58 ∷ (content.gap ++ value)) value directive is.some found
 
 -- a line with the name of a directive that is no word of texts
-pub spec_line_says : (current : Option (List ℕ)) (name value rest : List ℕ) (directive : Directive) → IsName name → IsValue value → IsRest rest
+pub spec_line_says : (current : Option (List ℕ)) (name value rest : List ℕ) (directive : Directive) → IsName name
+    → IsValue value → IsRest rest
     → word_named name ≡ None → directive_named name ≡ Some directive
     → line_says current (line_of name value rest) ≡ spec_says (Some (order_entry current directive value))
 unfolding line_says
@@ -61,8 +67,10 @@ spec_line_says current name value rest directive is kept left other named =
     rw none (ap spec_says (entry_says current name value rest directive is kept left named))
 
 -- a line with a word
-pub word_line_says : (current : Option (List ℕ)) (name value rest : List ℕ) (word : Word) → IsName name → IsValue value → IsRest rest
-    → word_named name ≡ Some word → line_says current (line_of name value rest) ≡ word_says current (line_of name value rest) word value
+pub word_line_says : (current : Option (List ℕ)) (name value rest : List ℕ) (word : Word) → IsName name
+    → IsValue value → IsRest rest
+    → word_named name ≡ Some word
+    → line_says current (line_of name value rest) ≡ word_says current (line_of name value rest) word value
 unfolding line_says
 word_line_says current name value rest word is kept left named =
     let content = content_is name value rest is kept left in

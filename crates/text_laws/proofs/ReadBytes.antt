@@ -44,7 +44,8 @@ both : (front back : List Entry) → AreBytes front → AreBytes back → AreByt
 both [] back first second = second
 both (entry ∷ front) back first second = (first.0, both front back first.1 second)
 
-mapped : (entry : List ℕ → Entry) → ((text : List ℕ) → IsBytes text → EntryIsBytes (entry text)) → (texts : List (List ℕ)) → IsBytes (strings texts) → AreBytes (map entry texts)
+mapped : (entry : List ℕ → Entry) → ((text : List ℕ) → IsBytes text → EntryIsBytes (entry text))
+    → (texts : List (List ℕ)) → IsBytes (strings texts) → AreBytes (map entry texts)
 mapped entry is [] bytes = tt
 mapped entry is (text ∷ texts) bytes =
     (is text (IsBytes-in_string text (IsBytes-front (string text) (strings texts) bytes)), mapped entry is texts (IsBytes-back (string text) (strings texts) bytes))
@@ -55,7 +56,8 @@ mapped entry is (text ∷ texts) bytes =
 inner : (type_byte : ℕ) (content text : List ℕ) → text ≡ type_byte ∷ string content → IsBytes text → IsBytes content
 inner type_byte content text spelled bytes = IsBytes-in_string content (IsBytes-tail type_byte (string content) (subst IsBytes spelled bytes))
 
-subsection_bytes : (authority text : List ℕ) (subsection : Subsection) → IsBytes authority → SpellsSubsection text subsection → IsBytes text → AreBytes (subsection_entries authority subsection)
+subsection_bytes : (authority text : List ℕ) (subsection : Subsection) → IsBytes authority
+    → SpellsSubsection text subsection → IsBytes text → AreBytes (subsection_entries authority subsection)
 subsection_bytes authority text (Serials numbers) named spelled bytes = (named, tt)
 subsection_bytes authority text (Range min max) named spelled bytes = (named, tt)
 subsection_bytes authority text (Bitmap offset number) named spelled bytes = (named, tt)
@@ -63,7 +65,8 @@ subsection_bytes authority text (Ids texts) named spelled bytes =
     mapped (IdEntry authority) (λ id is. (named, is)) texts (subst IsBytes spelled.content_is (inner _ spelled.content text spelled.spelled bytes))
 subsection_bytes authority text SubsectionExtension named spelled bytes = tt
 
-subsections_bytes : (authority text : List ℕ) (subsections : List Subsection) → IsBytes authority → SpellsEach SpellsSubsection text subsections → IsBytes text
+subsections_bytes : (authority text : List ℕ) (subsections : List Subsection) → IsBytes authority
+    → SpellsEach SpellsSubsection text subsections → IsBytes text
     → AreBytes (flat_map (subsection_entries authority) subsections)
 subsections_bytes authority text [] named spelled bytes = tt
 subsections_bytes authority text (subsection ∷ subsections) named (first, (rest, (parts, one, others))) bytes =
@@ -73,11 +76,13 @@ subsections_bytes authority text (subsection ∷ subsections) named (first, (res
     (subsections_bytes authority rest subsections named others (IsBytes-back first rest all))
 
 -- the first field of a section of certificates
-authority_bytes : (content : List ℕ) (values : List (List ℕ)) (body : List ℕ) → Leads authority_fields [] content values body → IsBytes content → IsBytes (slice_index_or values 0 [])
+authority_bytes : (content : List ℕ) (values : List (List ℕ)) (body : List ℕ)
+    → Leads authority_fields [] content values body → IsBytes content → IsBytes (slice_index_or values 0 [])
 authority_bytes content values body (value, left, stands, passed, (reserved, rest, others, none, (same, ended))) bytes =
     subst (λ (vs : List (List ℕ)). IsBytes (slice_index_or vs 0 [])) same (IsBytes-content content value left bytes stands.spelled)
 
-section_bytes : (text : List ℕ) (section : SpelledSection) → SpellsSection text section → IsBytes text → AreBytes (section_entries section)
+section_bytes : (text : List ℕ) (section : SpelledSection) → SpellsSection text section → IsBytes text
+    → AreBytes (section_entries section)
 section_bytes text (Certificates authority subsections) spelled bytes =
     let c : SpellsCertificates spelled.content authority subsections = spelled.content_is in
     let all : IsBytes spelled.content = inner _ spelled.content text spelled.spelled bytes in
@@ -90,20 +95,23 @@ section_bytes text (Sha256s hashes) spelled bytes = mapped Sha256Entry (λ t is.
 section_bytes text Signature spelled bytes = tt
 section_bytes text Extension spelled bytes = tt
 
-sections_bytes : (text : List ℕ) (sections : List SpelledSection) → SpellsEach SpellsSection text sections → IsBytes text → AreBytes (entries_of sections)
+sections_bytes : (text : List ℕ) (sections : List SpelledSection) → SpellsEach SpellsSection text sections
+    → IsBytes text → AreBytes (entries_of sections)
 sections_bytes text [] spelled bytes = tt
 sections_bytes text (section ∷ sections) (first, (rest, (parts, one, others))) bytes =
     let all : IsBytes (first ++ rest) = subst IsBytes parts bytes in
     both (section_entries section) (entries_of sections) (section_bytes first section one (IsBytes-front first rest all)) (sections_bytes rest sections others (IsBytes-back first rest all))
 
-pub list_bytes : (text : List ℕ) (header : Header) (sections : List SpelledSection) → Spells text header sections → IsBytes text → AreBytes (entries_of sections)
+pub list_bytes : (text : List ℕ) (header : Header) (sections : List SpelledSection) → Spells text header sections
+    → IsBytes text → AreBytes (entries_of sections)
 list_bytes text header sections spelled bytes =
     let front = leads_front header_fields [] text spelled.values spelled.body spelled.fields in
     sections_bytes spelled.body sections spelled.sections_are (IsBytes-back front.0 spelled.body (subst IsBytes front.1 bytes))
 
 -- ---- plain lists
 
-onto_bytes : (byte : ℕ) (parts : List (List ℕ)) → byte < 256 → AllByRecursion IsBytes parts → AllByRecursion IsBytes (onto_first byte parts)
+onto_bytes : (byte : ℕ) (parts : List (List ℕ)) → byte < 256 → AllByRecursion IsBytes parts
+    → AllByRecursion IsBytes (onto_first byte parts)
 onto_bytes byte [] small all = (IsBytes-cons byte [] small IsBytes-nil, tt)
 onto_bytes byte (part ∷ parts) small all = (IsBytes-cons byte part small all.0, all.1)
 
@@ -139,15 +147,18 @@ revoked_bytes line blob (one_key key has is some) =
 abbrev pub IsReadAsSpelled : Type 0
 IsReadAsSpelled = (line : List ℕ) (key : Option (List ℕ)) → IsBytes line → (line_key line ≡ Ok key) ↔ Revokes line key
 
-key_bytes : IsReadAsSpelled → (line : List ℕ) (read : Result (Option (List ℕ)) KeyCause) → IsBytes line → line_key line ≡ read → AreBytes (key_entries read)
+key_bytes : IsReadAsSpelled → (line : List ℕ) (read : Result (Option (List ℕ)) KeyCause) → IsBytes line
+    → line_key line ≡ read → AreBytes (key_entries read)
 key_bytes law line (Ok (Some blob)) bytes is = (revoked_bytes line blob ((law line (Some blob) bytes).0 is), tt)
 key_bytes law line (Ok None) bytes is = tt
 key_bytes law line (Err cause) bytes is = tt
 
-lines_bytes : IsReadAsSpelled → (lines : List (List ℕ)) → AllByRecursion IsBytes lines → AreBytes (entries_of_lines lines)
+lines_bytes : IsReadAsSpelled → (lines : List (List ℕ)) → AllByRecursion IsBytes lines
+    → AreBytes (entries_of_lines lines)
 unfolding entries_of_lines
 lines_bytes law [] bytes = tt
 lines_bytes law (line ∷ lines) bytes = both (line_entries line) (flat_map line_entries lines) (key_bytes law line (line_key line) bytes.0 refl) (lines_bytes law lines bytes.1)
 
-pub plain_bytes : IsReadAsSpelled → (text : List ℕ) → IsBytes text → AreBytes (entries_of_lines (slice_split is_newline text))
+pub plain_bytes : IsReadAsSpelled → (text : List ℕ) → IsBytes text
+    → AreBytes (entries_of_lines (slice_split is_newline text))
 plain_bytes law text bytes = lines_bytes law (slice_split is_newline text) (split_bytes text bytes)

@@ -31,7 +31,8 @@ number_is n some small =
     let first = first_decimal n some small in
     is_decimal (λ zero. absurd (omega (arith, first, zero))) (record { numeral = is.0; value = sym is.1; fits = small })
 
-serials_are : (text : List ℕ) (lo hi : ℕ) → AreBounds text lo hi → AreSerials (span_of lo hi) → serials_of_text text ≡ Ok (record { lo = lo; hi = hi })
+serials_are : (text : List ℕ) (lo hi : ℕ) → AreBounds text lo hi → AreSerials (span_of lo hi)
+    → serials_of_text text ≡ Ok (record { lo = lo; hi = hi })
 unfolding serials_of_text
 serials_are text lo hi are order =
     let first = ne_eqb lo 0 (λ none. absurd (omega (arith, order.some, none))) in
@@ -49,8 +50,10 @@ is_directive : directive_named (codes "serial") ≡ Some directives.Serial
 unfolding directive_named
 is_directive = refl
 
-serial_reads : (authority value text : List ℕ) (lo hi : ℕ) → AllPass is_solid value → AreBounds value lo hi → AreSerials (span_of lo hi)
-    → text ≡ codes "serial" ++ 58 ∷ 32 ∷ (value ++ 10 ∷ []) → Reads (Some authority) text (Names (RangeEntry authority lo hi))
+serial_reads : (authority value text : List ℕ) (lo hi : ℕ) → AllPass is_solid value → AreBounds value lo hi
+    → AreSerials (span_of lo hi)
+    → text ≡ codes "serial" ++ 58 ∷ 32 ∷ (value ++ 10 ∷ [])
+    → Reads (Some authority) text (Names (RangeEntry authority lo hi))
 serial_reads authority value text lo hi solid are order spelled =
     let kept = solid_value value solid in
     let entry : order_entry (Some authority) directives.Serial value ≡ Ok (RangeEntry authority lo hi) = rw (serials_are value lo hi are order) refl in
@@ -60,7 +63,8 @@ serial_reads authority value text lo hi solid are order spelled =
 one_solid : (n hi : ℕ) → AreSerials (span_of n hi) → AllPass is_solid (decimal n)
 one_solid n hi order = decimal_solid n (omega (arith, order.rises, order.fits))
 
-pub serials_read : (authority : List ℕ) (span : Span) → AreSerials span → Reads (Some authority) (serials_line span) (Names (RangeEntry authority span.lo span.hi))
+pub serials_read : (authority : List ℕ) (span : Span) → AreSerials span
+    → Reads (Some authority) (serials_line span) (Names (RangeEntry authority span.lo span.hi))
 serials_read authority span order = elim (cases_Bool (span.lo == span.hi)) [
   | inl one ↦
       let same = eqb-true span.lo span.hi one in

@@ -54,13 +54,15 @@ first_id : (ids : List (List ℕ)) → 0 < length ids → (id : List ℕ) × Con
 first_id [] some = absurd (omega arith)
 first_id (id ∷ ids) some = (id, (0, omega arith, refl))
 
-authority_bytes : (section : Section) (sections : List Section) → IsListed section → AreNamedByBytes (section ∷ sections) → IsBytes section.authority
+authority_bytes : (section : Section) (sections : List Section) → IsListed section
+    → AreNamedByBytes (section ∷ sections) → IsBytes section.authority
 authority_bytes section sections listed named = elim (listed.some) [
   | inl spans ↦ let first = first_serial section.spans listed.runs spans in named.serial section.authority first.0 (inl (refl, first.1))
   | inr ids ↦ let first = first_id section.ids ids in (named.id section.authority first.0 (inl (refl, first.1))).0
 ]
 
-later_named : (section : Section) (sections : List Section) → AreNamedByBytes (section ∷ sections) → AreNamedByBytes sections
+later_named : (section : Section) (sections : List Section) → AreNamedByBytes (section ∷ sections)
+    → AreNamedByBytes sections
 later_named section sections named = record { serial = λ a s held. named.serial a s (inr held); id = λ a text held. named.id a text (inr held) }
 
 abbrev HasBytes : Section → Type 0
@@ -69,7 +71,8 @@ HasBytes section = IsBytes section.authority
 abbrev HasIds : Section → Type 0
 HasIds section = All IsBytes section.ids
 
-authorities_bytes : (sections : List Section) → All IsListed sections → AreNamedByBytes sections → All HasBytes sections
+authorities_bytes : (sections : List Section) → All IsListed sections → AreNamedByBytes sections
+    → All HasBytes sections
 authorities_bytes [] listed named = All-nil HasBytes
 authorities_bytes (section ∷ sections) listed named =
     All-cons HasBytes section sections (authority_bytes section sections (All-head IsListed section sections listed) named)
@@ -98,7 +101,8 @@ stored_bytes r entries means bytes =
 
 -- ---- the header
 
-header_numbers : (bytes : List ℕ) (values : List (List ℕ)) (body : List ℕ) → Leads header_fields [] bytes values body → HasNumbers (Some (header_of values))
+header_numbers : (bytes : List ℕ) (values : List (List ℕ)) (body : List ℕ) → Leads header_fields [] bytes values body
+    → HasNumbers (Some (header_of values))
 header_numbers bytes values body (
   magic,
   after_magic,
@@ -138,12 +142,14 @@ header_numbers bytes values body (
 ) =
     subst (λ (vs : List (List ℕ)). HasNumbers (Some (header_of vs))) same (omega (arith, is_version.is_part.1), omega (arith, is_date.is_part.1))
 
-spelled_numbers : (bytes : List ℕ) (header : Header) (sections : List SpelledSection) → Spells bytes header sections → HasNumbers (Some header)
+spelled_numbers : (bytes : List ℕ) (header : Header) (sections : List SpelledSection) → Spells bytes header sections
+    → HasNumbers (Some header)
 spelled_numbers bytes header sections spelled = subst (λ (h : Header). HasNumbers (Some h)) spelled.header_is (header_numbers bytes spelled.values spelled.body spelled.fields)
 
 -- ---- any list
 
-by_magic : IsReadAsSpelled → (begins : Bool) (bytes : List ℕ) (list : Shown) (entries : List Entry) → IsBytes bytes → NamesIf begins bytes list.header entries → Means list.contents entries
+by_magic : IsReadAsSpelled → (begins : Bool) (bytes : List ℕ) (list : Shown) (entries : List Entry) → IsBytes bytes
+    → NamesIf begins bytes list.header entries → Means list.contents entries
     → CanBeShown list
 by_magic law true bytes list entries fits names means =
     let is = names.is in
@@ -156,5 +162,6 @@ by_magic law false bytes list entries fits names means = record {
   stored = stored_bytes list.contents entries means (subst AreBytes (sym names.is.entries_are) (plain_bytes law bytes fits));
 }
 
-pub can_be_shown : IsReadAsSpelled → (bytes : List ℕ) (list : Shown) (entries : List Entry) → IsBytes bytes → Names bytes list.header entries → Means list.contents entries → CanBeShown list
+pub can_be_shown : IsReadAsSpelled → (bytes : List ℕ) (list : Shown) (entries : List Entry) → IsBytes bytes
+    → Names bytes list.header entries → Means list.contents entries → CanBeShown list
 can_be_shown law bytes list entries fits names means = by_magic law (begins_list bytes) bytes list entries fits names means

@@ -1,3 +1,4 @@
 pub mod Joined
 pub mod FactLines
 pub mod ReadBack
+pub mod MadeLists
