@@ -1,10 +1,16 @@
-//! The callers of the pages of `text_entries` and `text_run`.
+//! The callers of the pages of `text_entries`, `text_run` and `text_laws`.
+
+ghost use Rattle.std.specs.Prelude.{◌≡◌, IfOk};
+ghost use Rattle.krl_entries.specs.Revocations.{Revocations as RevocationsOf};
+ghost use Rattle.list_text.specs.Text.{text_of};
+ghost use Rattle.text_laws.specs.ReadBack.{IsStored};
 
 use krl_core::{Header, Revocations};
 use span_sets::Held;
 use ssh_wire::Bytes;
 use std::alloc::Global;
 use text_entries::{TextFault, read_text};
+use text_laws::laws::text_reads_back;
 use text_run::{MakeFault, Text, Wanted, text_run};
 
 /// What a text names.
@@ -28,10 +34,23 @@ fn list_of<'a>(alloc: Global, texts: &'a [Text<'a>]) -> Result<Vec<u8>, MakeFaul
     Ok(text_run(alloc, &wanted, texts)?.bytes)
 }
 
+/// What the text of a list names: if it was printed from stored revocations, the same.
+fn restored(alloc: Global, text: &[u8]) -> Result<Revocations<Held>, TextFault>
+    ensures { (r : RevocationsOf) → IsStored r → text.now ≡ text_of r
+        → IfOk result (λ held. held ≡ r) }
+{
+    text_reads_back();
+    let mut held = Revocations::new(alloc);
+    read_text(alloc, &mut held, text)?;
+    Ok(held)
+}
+
 #[test]
 fn the_callers_of_the_pages(rt: HostRuntime) {
     let held = named_by(rt.alloc(), b"ca: all\nid: bob\n");
     assert!(rt; held.is_ok_and(|held| held.authorities() == 1));
     assert!(rt; named_by(rt.alloc(), b"id: bob\n").is_err());
+    let held = restored(rt.alloc(), b"ca: all\nserial: 9\n");
+    assert!(rt; held.is_ok_and(|held| held.authorities() == 1));
     assert!(rt; list_of(rt.alloc(), &[]).is_err());
 }
