@@ -74,6 +74,18 @@ SHAPES = {
     "in short rows": neighbouring_serials,
 }
 
+# The lines that lists are made of: their number and their shape.
+MADE = {
+    "200,000 random serials": (200000, random_serials),
+    "200,000 rising serials": (200000, rising_serials),
+    "each second of 400,000 serials": (200000, each_number(2)),
+    "each third of 600,000 serials": (200000, each_number(3)),
+    "each tenth of 2,000,000 serials": (200000, each_number(10)),
+    "200,000 ranges": (200000, ranges),
+    "200,000 key IDs": (200000, ids),
+    "100,000 keys": (100000, keys),
+}
+
 
 def write(lines, count, files):
     """The names of a number of files, each with a number of lines, together lines of the shape."""

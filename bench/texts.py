@@ -1,0 +1,73 @@
+"""Lists as texts: shown, made and compared, beside the commands that print and make the same
+lists."""
+
+import subprocess
+
+import lists
+import specs
+from measure import AUDIT, OURS, build_audit, least_in_turn, own
+
+LIST = 4 << 20
+# Bytes of each of two lists that are compared.
+COMPARED = 31 << 19
+# Shapes whose entries differ if the sizes do, and those whose entries then are nearly the same.
+PAIRS = ("random serials", "ranges", "key IDs", "many authorities", "explicit keys")
+
+
+def head(name, other):
+    print("%-48s %13s" % (name, "over " + other))
+    print("%-48s %6s %6s %15s" % ("", "time", "memory", "seconds, MiB"))
+
+
+def row(name, ours, other):
+    ratios = ours[0] / other[0], ours[1] / other[1]
+    print("%-48s %6.2f %6.2f %s" % (name, *ratios, own(ours)), flush=True)
+
+
+def save(name, content):
+    with open(name, "wb") as out:
+        out.write(content)
+
+
+def shown():
+    head("krl show, 4 MiB", "-Q -l")
+    for name, shape in lists.SHAPES.items():
+        save("list.krl", shape(LIST))
+        commands = [AUDIT, "show", "list.krl"], [OURS, "-Q", "-l", "-f", "list.krl"]
+        row(name, *least_in_turn(commands))
+
+
+def made():
+    """The text has the lines of -k, below one for all authorities."""
+    head("krl make", "-k")
+    for name, (count, lines) in specs.MADE.items():
+        (spec,) = specs.write(lines, count, 1)
+        with open(spec) as given, open("text", "w") as out:
+            out.write("ca: all\n" + given.read())
+        commands = (
+            [AUDIT, "make", "-q", "-f", "made.krl", "-z", "1", "text"],
+            [OURS, "-k", "-f", "other.krl", "-z", "1", "-s", "none", spec],
+        )
+        row(name, *least_in_turn(commands))
+
+
+def compared():
+    """Two lists, beside both of them printed."""
+    if subprocess.run([AUDIT, "help", "diff"], capture_output=True).returncode != 0:
+        return
+    head("krl diff, twice 15.5 MiB", "-Q -l")
+    for name in PAIRS:
+        save("old.krl", lists.SHAPES[name](COMPARED - (1 << 12)))
+        save("new.krl", lists.SHAPES[name](COMPARED))
+        printed = ([OURS, "-Q", "-l", "-f", it] for it in ("old.krl", "new.krl"))
+        differ, *both = least_in_turn([[AUDIT, "diff", "old.krl", "new.krl"], *printed])
+        times, memory = zip(*both)
+        row(name, differ, (sum(times), max(memory)))
+
+
+def texts():
+    """Each figure is that of krl, divided by that of the other command."""
+    build_audit()
+    shown()
+    made()
+    compared()
