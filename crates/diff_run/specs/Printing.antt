@@ -1,5 +1,5 @@
 -- The lines of changes (krl(1), KRL DIFF).
-use Rattle.std.specs.Prelude.{ℕ, Bool, true, false, List, [], ◌∷◌, ◌++◌}
+use Rattle.std.specs.Prelude.{Bool, true, false, List, [], ◌∷◌, ◌++◌}
 use Rattle.run_output.specs.Run.{Item}
 use Rattle.krl_entries.specs.Revocations.{Revocations}
 use Rattle.list_text.specs.Counts.{counted_all, nothing_counted}

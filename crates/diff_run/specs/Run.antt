@@ -2,7 +2,7 @@
 use Rattle.std.specs.Prelude.{◌≡◌, ◌↔◌, ℕ, Bool, true, false, List, Option, Some, None, Result}
 use Rattle.run_faults.specs.RunFault.{RunFault}
 use Rattle.run_faults.specs.declared.cause.Cause.{Cause}
-use Rattle.run_output.specs.Done.{Ends}
+use Rattle.run_output.specs.Done.{EndsWith}
 use Rattle.krl_types.specs.Entry.{Entry}
 use Rattle.krl_types.specs.Naming.{NamesSame}
 use Rattle.show_run.specs.Lists.{IsGiven}
@@ -23,8 +23,7 @@ pub record EndsPrinted (json : Bool) (changes : Changes) (before after : Option 
     (failed : Bool) (status : ℕ) (fault : Option RunFault) : Type 0 where
   pub same : Bool
   pub same_is : same ≡ true ↔ IsUnchanged changes
-  pub printed : ℕ
-  pub ends : Ends (change_items json changes) before after failed printed fault
+  pub ends : EndsWith (change_items json changes) before after failed fault
   pub status_is : status ≡ status_of same fault
 
 -- Two lists that name these entries were compared: the lines of their changes were printed, or the
@@ -36,8 +35,7 @@ pub record EndsCompared (json : Bool) (old new : Given) (olds news : List Entry)
   pub are : AreChanges old.revocations new.revocations changes
   pub same : Bool
   pub same_is : same ≡ true ↔ NamesSame olds news
-  pub printed : ℕ
-  pub ends : Ends (change_items json changes) before after failed printed fault
+  pub ends : EndsWith (change_items json changes) before after failed fault
   pub status_is : status ≡ status_of same fault
 
 -- Both lists were read and compared; or one was not read, and nothing was printed.

@@ -14,7 +14,6 @@ returns-in-Ok g c =
       are = read.are;
       same = printed.same;
       same_is = (λ h. law.1 (printed.same_is.0 h), λ h. printed.same_is.1 (law.0 h));
-      printed = printed.printed;
       ends = printed.ends;
       status_is = printed.status_is;
     })

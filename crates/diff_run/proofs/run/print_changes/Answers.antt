@@ -9,7 +9,6 @@ returns g c =
     record {
       same = c.is_none.result;
       same_is = c.is_none.ensures;
-      printed = c.finish-done.result.status;
-      ends = ends_known _ c.print_each-stop.result _ _ _ _ _ _ _ _ _ _ carries c.err.ensures.value c.finish-done.ensures.ends (search rules) (search rules);
+      ends = (ends_known _ c.print_each-stop.result _ _ _ _ _ _ _ _ _ _ carries c.err.ensures.value c.finish-done.ensures.ends (search rules) (search rules)).0;
       status_is = c.status_of-status.ensures;
     }
