@@ -10,12 +10,12 @@ _krl() {
   elif [ "$before" = --max-age ]; then
     offered=$(compgen -W '90m 24h 7d' -- "$word")
   elif [[ $word != -* || $before == -*f ||
-    $before == --@(files0-from|newer-than|keep|canary) ]]; then
+    $before == --@(files0-from|newer-than|superset-of|keep|canary) ]]; then
     offered=$(compgen -f -- "$word")
     compopt -o filenames 2>/dev/null
   elif [ "${COMP_WORDS[1]}" = check ]; then
-    offered=$(compgen -W '--newer-than --max-age --keep --canary --allow-empty --print-version
-      --help --version' -- "$word")
+    offered=$(compgen -W '--newer-than --superset-of --max-age --keep --canary --allow-empty
+      --print-version --help --version' -- "$word")
   elif [[ ${COMP_WORDS[1]} == @(show|diff) ]]; then
     offered=$(compgen -W '--json --help --version' -- "$word")
   elif [ "${COMP_WORDS[1]}" = make ]; then

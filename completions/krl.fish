@@ -30,6 +30,8 @@ complete -c krl -n "$audits" -l json -d 'Print JSON objects'
 complete -c krl -n "$audits" -l files0-from -rF -d 'Read names of files'
 complete -c krl -n "$checks" -F
 complete -c krl -n "$checks" -l newer-than -rF -d 'Refuse a version below that of this list'
+complete -c krl -n "$checks" -l superset-of -rF \
+  -d 'Refuse a list that does not name all of this list'
 complete -c krl -n "$checks" -l max-age -xa '90m 24h 7d' \
   -d 'Refuse a list that was made longer ago than this'
 complete -c krl -n "$checks" -l keep -rF -d 'Refuse a list that revokes a key of this file'

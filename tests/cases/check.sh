@@ -94,6 +94,22 @@ checks 'the lowest below the highest' 1 'version: r.krl: 1 is below 184467440737
 checks 'the version alone' 0 18446744073709551615 --print-version last.krl
 checks 'the version of another list' 0 7 --print-version 7.krl
 
+# The names of another list.
+bytes "$H" "$(section "$G")" >key.krl
+bytes "$H" "$(section "$G")" \
+  "01$(string "$(string '')" 00000000 21 "$(string 00000000000000640000000000000065)")" >more.krl
+range=$'  ca: all\n- serial: 100-101\n'
+checks 'a list and its own names' 0 '' --superset-of more.krl more.krl
+checks 'a list with more names' 0 '' --superset-of key.krl more.krl
+checks 'the names of a list without entries' 0 '' --superset-of 7.krl key.krl
+checks 'one entry that is lost' 1 "${range}lost: more.krl: 1 entry is not in key.krl" \
+  --superset-of more.krl key.krl
+checks 'entries that are lost, before a canary' 1 "empty: 8.krl: it revokes nobody
+$range- key: $(line ssh-ed25519 "$G") # $(fingerprint "$G")
+lost: more.krl: 2 entries are not in 8.krl
+a.pub:1: ok: ssh-ed25519 $(fingerprint "$A"): alice
+canary: a.pub: 0 of 1 key is revoked, $zeros" --canary a.pub --superset-of more.krl 8.krl
+
 # Lists that are not read.
 bytes "${H:0:80}00000001" >cut.krl
 missing=$'No such file or directory [file 1 Open]\n'
@@ -103,6 +119,8 @@ expect 'its version' 255 '' "krl: cut.krl: $cut_short" check --print-version cut
 expect 'a list that is missing' 255 '' "krl: no.krl: $missing" check no.krl
 expect 'another list that is missing' 255 '' "krl: no.krl: $missing" check \
   --newer-than no.krl r.krl
+expect 'a list whose names are wanted and that is missing' 255 '' "krl: no.krl: $missing" check \
+  --superset-of no.krl r.krl
 
 # Ages.
 # made_at SECONDS..: a list of this date, which revokes one key.
@@ -191,11 +209,13 @@ twice() {
   refuses "$option twice" "error: the argument '$option' cannot be used multiple times" "$@"
 }
 twice '--newer-than <krl>' check --newer-than 8.krl --newer-than 7.krl 7.krl
+twice '--superset-of <krl>' check --superset-of key.krl --superset-of key.krl key.krl
 twice '--max-age <duration>' check --max-age 1s --max-age 9d r.krl
 twice '--allow-empty' check --allow-empty --allow-empty r.krl
 twice '-f <krl>' audit -f r.krl -f empty g.pub
 twice '--files0-from <file>' audit -f r.krl --files0-from none --files0-from empty
-for it in '--newer-than last.krl' '--max-age 1s' --allow-empty '--keep g.pub' '--canary b.pub'; do
+for it in '--newer-than last.krl' '--superset-of 7.krl' '--max-age 1s' --allow-empty \
+  '--keep g.pub' '--canary b.pub'; do
   refuses "--print-version and ${it%% *}" 'error: --print-version goes with no other option' \
     check --print-version $it r.krl
 done

@@ -44,18 +44,17 @@ stop_is_kept items (Ok done) old mid before taken refused unread failed status f
 stop_is_kept items (Err stop) old mid before taken refused unread failed status None carries has ends is =
     let more = carries_more {A = Unit {0}} {B = Unit {0}} items (Stopped stop ∷ []) stop old mid carries in
     let ended = ends before (items ++ Stopped stop ∷ []) (more.says before [] has) in
-    absurd (never_none items stop ended.ends.0.reported)
+    absurd (never_none items stop ended.ends.reported)
 stop_is_kept items (Err stop) old mid before taken refused unread failed status (Some fault) carries has ends is = absurd (some_is fault is)
 
 ends_as : (result : Result (Unit {0}) RunFault) (items : List Item) (refused unread fails some : Bool) (before taken : Option (List ℕ)) (failed : Bool) (status : ℕ) (fault : Option RunFault)
     → OnOk result (refused ≡ fails) → OnOk result (unread ≡ some) → (fault ≡ None → result_err result ≡ None) → EndsCheck items refused unread before taken failed status fault → EndsCheck items fails some before taken failed status fault
 ends_as (Ok done) items refused unread fails some before taken failed status fault refused_is unread_is kept ends = record {
-  plain = ends.plain;
   ends = ends.ends;
   status_is = ends.status_is ∙ (ap (λ (u : Bool). check_status (is_some fault || u) refused) unread_is ∙ ap (λ (r : Bool). check_status (is_some fault || some) r) refused_is);
 }
 ends_as (Err stop) items refused unread fails some before taken failed status None refused_is unread_is kept ends = absurd (some_is stop (kept refl))
-ends_as (Err stop) items refused unread fails some before taken failed status (Some fault) refused_is unread_is kept ends = record { plain = ends.plain; ends = ends.ends; status_is = ends.status_is }
+ends_as (Err stop) items refused unread fails some before taken failed status (Some fault) refused_is unread_is kept ends = record { ends = ends.ends; status_is = ends.status_is }
 
 all_reached : (result : Result (Unit {0}) RunFault) (later : List Named) → result_err result ≡ None → OnOk result (later ≡ []) → later ≡ []
 all_reached (Ok done) later is all = all

@@ -14,7 +14,7 @@ use Rattle.any_list.specs.List.{IsReadList}
 use Rattle.any_list.specs.declared.list.List.{List as ReadList}
 use Rattle.check_run.specs.Fact.{Fact}
 use Rattle.check_run.specs.Files.{ChecksFiles, files_of, reads_fail, reads_items, some_unread}
-use Rattle.check_run.specs.Lists.{Checks, ChecksFormat, empty_fails, empty_said, stated_fail, stated_items}
+use Rattle.check_run.specs.Lists.{Checks, ChecksFormat, empty_fails, empty_said, limits_fail, limits_items}
 use Rattle.check_run.specs.Run.{ChecksAll, ChecksList, list_fails, list_items}
 use Rattle.check_run.specs.declared.limits.Limits.{Limits}
 use Rattle.check_run.proofs.Steps.{checks_more, checks_then}
@@ -23,31 +23,31 @@ abbrev EmptyChecks : (name : List ℕ) → Revocations → Check → Result (Uni
 EmptyChecks name held task = Checks (empty_said name (names_nobody held) task.allow_empty) (empty_fails (names_nobody held) task.allow_empty)
 
 abbrev StatedChecks : (name : List ℕ) → Option Stated → Limits → Result (Unit {0}) RunFault → Printer → Printer → Bool → Bool → Type 0
-StatedChecks name stated limits = Checks (stated_items name stated limits) (stated_fail stated limits)
+StatedChecks name stated limits = Checks (limits_items name stated limits) (limits_fail stated limits)
 
 -- ---- the list itself
 
 abbrev from_empty : List ℕ → Option Stated → Revocations → Check → Limits → List Item
-from_empty name stated held task limits = empty_said name (names_nobody held) task.allow_empty ++ stated_items name stated limits
+from_empty name stated held task limits = empty_said name (names_nobody held) task.allow_empty ++ limits_items name stated limits
 
 pub list_checked : (name bytes : List ℕ) (stated : Option Stated) (held : Revocations) (task : Check) (limits : Limits) (u v : Unit {0}) (result : Result (Unit {0}) RunFault) (p q r s : Printer) (a b c d : Bool)
     → ChecksFormat name bytes (Ok u) p q a b → EmptyChecks name held task (Ok v) q r b c → StatedChecks name stated limits result r s c d
     → ChecksList name bytes stated held task limits result p s a d
 list_checked name bytes stated held task limits u v result p q r s a b c d format empty last =
-    let two = checks_then (empty_said name (names_nobody held) task.allow_empty) (stated_items name stated limits) (empty_fails (names_nobody held) task.allow_empty) (stated_fail stated limits) v result q r s b c d empty last in
+    let two = checks_then (empty_said name (names_nobody held) task.allow_empty) (limits_items name stated limits) (empty_fails (names_nobody held) task.allow_empty) (limits_fail stated limits) v result q r s b c d empty last in
     record {
       list = record { difference = format.difference; nobody = names_nobody held; stated = stated; limits = limits };
       is_difference = format.is;
       nobody_is = refl;
       stated_is = refl;
       limits_are = refl;
-      checks = checks_then (difference_items name format.difference) (from_empty name stated held task limits) (is_some format.difference) (empty_fails (names_nobody held) task.allow_empty || stated_fail stated limits) u result p q s a b d format.checks two;
+      checks = checks_then (difference_items name format.difference) (from_empty name stated held task limits) (is_some format.difference) (empty_fails (names_nobody held) task.allow_empty || limits_fail stated limits) u result p q s a b d format.checks two;
     }
 
 pub format_stops : (name bytes : List ℕ) (stated : Option Stated) (held : Revocations) (task : Check) (limits : Limits) (stop : RunFault) (p q : Printer) (a b e : Bool)
     → ChecksFormat name bytes (Err stop) p q a b → ChecksList name bytes stated held task limits (Err stop) p q a e
 format_stops name bytes stated held task limits stop p q a b e format =
-    let fails : Bool = is_some format.difference || (empty_fails (names_nobody held) task.allow_empty || stated_fail stated limits) in
+    let fails : Bool = is_some format.difference || (empty_fails (names_nobody held) task.allow_empty || limits_fail stated limits) in
     record {
       list = record { difference = format.difference; nobody = names_nobody held; stated = stated; limits = limits };
       is_difference = format.is;
@@ -60,9 +60,9 @@ format_stops name bytes stated held task limits stop p q a b e format =
 pub empty_stops : (name bytes : List ℕ) (stated : Option Stated) (held : Revocations) (task : Check) (limits : Limits) (u : Unit {0}) (stop : RunFault) (p q r : Printer) (a b c e : Bool)
     → ChecksFormat name bytes (Ok u) p q a b → EmptyChecks name held task (Err stop) q r b c → ChecksList name bytes stated held task limits (Err stop) p r a e
 empty_stops name bytes stated held task limits u stop p q r a b c e format empty =
-    let fails : Bool = empty_fails (names_nobody held) task.allow_empty || stated_fail stated limits in
+    let fails : Bool = empty_fails (names_nobody held) task.allow_empty || limits_fail stated limits in
     let two : Checks (from_empty name stated held task limits) fails (Err stop) q r b e =
-    checks_more (empty_said name (names_nobody held) task.allow_empty) (stated_items name stated limits) (empty_fails (names_nobody held) task.allow_empty) fails stop q r b c e empty in
+    checks_more (empty_said name (names_nobody held) task.allow_empty) (limits_items name stated limits) (empty_fails (names_nobody held) task.allow_empty) fails stop q r b c e empty in
     record {
       list = record { difference = format.difference; nobody = names_nobody held; stated = stated; limits = limits };
       is_difference = format.is;

@@ -3,3 +3,4 @@ pub mod KeyFiles
 pub mod Formats
 pub mod Judging
 pub mod Ending
+pub mod Losing

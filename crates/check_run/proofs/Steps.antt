@@ -15,6 +15,10 @@ pub or_false : (a : Bool) → a ≡ (a || false)
 or_false true = refl
 or_false false = refl
 
+pub or_true : (a : Bool) → true ≡ (a || true)
+or_true true = refl
+or_true false = refl
+
 pub on_ok : {A : Type 0} (result : Result A RunFault) (one other : Bool) → one ≡ other → OnOk result (one ≡ other)
 on_ok (Ok done) one other is = is
 on_ok (Err stop) one other is = tt

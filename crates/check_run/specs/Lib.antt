@@ -1,4 +1,5 @@
 pub mod Fact
+pub mod Losses
 pub mod Lists
 pub mod Limits
 pub mod Files

@@ -21,6 +21,7 @@ use Rattle.krl_checker.specs.declared.plain.PlainRefusal.TheVariants as refusals
 use Rattle.plain_list.specs.Any.{Names, begins_list}
 use Rattle.any_list.specs.List.{IsListFault, IsReadList, stated_in}
 use Rattle.check_run.specs.Fact.{Fact, ListOf}
+use Rattle.check_run.specs.Losses.{losses_fail, losses_items}
 use Rattle.check_run.specs.declared.limits.AgeLimit.{AgeLimit}
 use Rattle.check_run.specs.declared.limits.Limits.{Limits}
 use Rattle.check_run.specs.declared.lists.Given.{Given}
@@ -152,12 +153,14 @@ abbrev pub ages_fail : Option Stated → Option AgeLimit → Bool
 ages_fail stated None = false
 ages_fail stated (Some limit) = limit_fails stated limit
 
--- ---- what a list states, by its limits
+-- ---- all that is limited
 
-abbrev pub stated_items : List ℕ → Option Stated → Limits → List Item
-stated_items name stated limits =
-    versions_items name (version_of stated) limits.other ++ ages_items name stated limits.age
+abbrev pub limits_items : List ℕ → Option Stated → Limits → List Item
+limits_items name stated limits =
+    versions_items name (version_of stated) limits.other
+    ++ (ages_items name stated limits.age ++ losses_items name limits.lost.now)
 
-abbrev pub stated_fail : Option Stated → Limits → Bool
-stated_fail stated limits =
-    versions_fail (version_of stated) limits.other || ages_fail stated limits.age
+abbrev pub limits_fail : Option Stated → Limits → Bool
+limits_fail stated limits =
+    versions_fail (version_of stated) limits.other
+    || (ages_fail stated limits.age || losses_fail limits.lost.now)

@@ -17,9 +17,9 @@ use Rattle.plain_list.specs.Any.{Names}
 use Rattle.check_run.specs.Fact.{Fact, ListOf}
 use Rattle.check_run.specs.Files.{AreRead, Named, Read, files_of, reads_fail, reads_items}
 use Rattle.check_run.specs.Files.{some_unread}
-use Rattle.check_run.specs.Limits.{AreLimits, IsClockless}
+use Rattle.check_run.specs.Limits.{AreLimits, IsClockless, IsLostUnknown}
 use Rattle.check_run.specs.Lists.{Checks, IsDifference, IsOtherRefused, IsRefused}
-use Rattle.check_run.specs.Lists.{empty_fails, empty_said, stated_by, stated_fail, stated_items}
+use Rattle.check_run.specs.Lists.{empty_fails, empty_said, stated_by, limits_fail, limits_items}
 use Rattle.check_run.specs.Version.{PrintsVersion}
 use Rattle.check_run.specs.declared.limits.Limits.{Limits}
 use Rattle.check_run.specs.declared.limits.Unanswered.{Unanswered}
@@ -38,12 +38,12 @@ abbrev pub list_items : List ℕ → Judged → Check → List Item
 list_items name list task =
     difference_items name list.difference
     ++ (empty_said name list.nobody task.allow_empty
-    ++ stated_items name list.stated list.limits)
+    ++ limits_items name list.stated list.limits)
 
 abbrev pub list_fails : Judged → Check → Bool
 list_fails list task =
     is_some list.difference
-    || (empty_fails list.nobody task.allow_empty || stated_fail list.stated list.limits)
+    || (empty_fails list.nobody task.allow_empty || limits_fail list.stated list.limits)
 
 -- A check of this list, by its limits, prints these items. It says whether a condition fails and
 -- whether a file was not read, and these files were not reached.
@@ -91,17 +91,20 @@ pub record EndsRefused (Is : RunFault → Type 0) (before after : Option (List �
   pub after_is : after ≡ before
   pub works : failed ≡ false
 
--- The check of a list that was read came to an end; or the other list is refused, or the clock
--- cannot be read, and nothing was printed.
+-- The check of a list that was read came to an end; or another list is refused, or the clock cannot
+-- be read, and nothing was printed.
 pub data EndsBeside (Knows : Fact → Type 0) (name bytes : List ℕ) (task : Check)
     (before after : Option (List ℕ)) (failed : Bool) (result : Result Done Unanswered) : Type 0
   where
-    beside : (limits : Limits) → AreLimits Knows task limits
+    beside : (limits : Limits) → AreLimits Knows bytes task limits
         → (done : Done) → result ≡ Ok done
         → EndsChecked Knows name bytes task limits before after failed done.status done.fault
         → EndsBeside Knows name bytes task before after failed result
     other_refused :
         EndsRefused (IsOtherRefused Knows task.newer_than) before after failed result
+        → EndsBeside Knows name bytes task before after failed result
+    lost_unknown :
+        EndsRefused (IsLostUnknown Knows task.superset_of) before after failed result
         → EndsBeside Knows name bytes task before after failed result
     clockless : (why : Unanswered) → IsClockless Knows task.max_age why
         → result ≡ Err why → after ≡ before → failed ≡ false

@@ -4,7 +4,7 @@ ghost use Rattle.std.specs.Prelude.{◌≡◌, false};
 ghost use Rattle.any_list.specs.List.{IsReadList};
 ghost use Rattle.check_run.specs.Run.{ChecksAll, ChecksList, EndsChecked};
 
-use crate::conditions::{check_empty, check_format, check_stated};
+use crate::conditions::{check_empty, check_format, check_limits};
 use crate::files::check_files;
 use crate::host::Host;
 use crate::limits::Limits;
@@ -20,16 +20,16 @@ use std::alloc::Global;
 
 /// A list that was read, its limits, and the task.
 #[derive(Clone, Copy)]
-pub(crate) struct Job<'a, 'l> {
-    pub(crate) given: &'l Given<'a>,
-    pub(crate) limits: Limits<'a>,
-    pub(crate) task: &'l Check<'a>,
+pub(crate) struct Job<'a, 'g, 'l> {
+    pub(crate) given: &'g Given<'a>,
+    pub(crate) limits: Limits<'a, 'l>,
+    pub(crate) task: &'g Check<'a>,
 }
 
 /// Checks a list that was read, by its limits.
 pub(crate) fn check_by<'a, H: Host, W: Sink>(
     alloc: Global,
-    job: Job<'a, '_>,
+    job: Job<'a, '_, '_>,
     host: &H,
     out: &mut W,
 ) -> Done<'a>
@@ -58,7 +58,7 @@ pub(crate) fn check_by<'a, H: Host, W: Sink>(
 // Checks each condition.
 fn check_all<'a, H: Host, W: Sink>(
     checker: &mut Checker<'_, '_, W>,
-    job: Job<'a, '_>,
+    job: Job<'a, '_, '_>,
     host: &H,
 ) -> Result<(), RunFault<'a>>
     requires read { IsReadList false job.given.now.bytes job.given.now.list }
@@ -80,7 +80,7 @@ fn check_all<'a, H: Host, W: Sink>(
 // Checks each condition for the list itself.
 fn check_list<'a, W: Sink>(
     checker: &mut Checker<'_, '_, W>,
-    job: Job<'a, '_>,
+    job: Job<'a, '_, '_>,
 ) -> Result<(), RunFault<'a>>
     requires { IsReadList false job.given.now.bytes job.given.now.list }
     ensures checks { ChecksList job.entry.given.now.name.now job.entry.given.now.bytes
@@ -94,5 +94,5 @@ fn check_list<'a, W: Sink>(
     let stated = job.given.list.stated;
     check_format(checker, job.given)?;
     check_empty(checker, name, job.task.allow_empty)?;
-    check_stated(checker, name, stated, job.limits)
+    check_limits(checker, name, stated, job.limits)
 }

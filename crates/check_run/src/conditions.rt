@@ -1,19 +1,22 @@
 //! The conditions for the list itself.
 
-ghost use Rattle.std.specs.Prelude.{◌≡◌, false};
+ghost use Rattle.std.specs.Prelude.{◌≡◌, false, true};
 ghost use Rattle.krl_checker.specs.Check.{names_nobody};
 ghost use Rattle.check_run.specs.Lists.{Checks, ChecksFormat, ages_fail, ages_items};
-ghost use Rattle.check_run.specs.Lists.{empty_fails, empty_said, stated_fail, stated_items};
+ghost use Rattle.check_run.specs.Lists.{empty_fails, empty_said, limits_fail, limits_items};
 ghost use Rattle.check_run.specs.Lists.{version_of, versions_fail, versions_items};
+ghost use Rattle.check_run.specs.Losses.{lost_said, losses_fail, losses_items};
 ghost use Rattle.any_list.specs.List.{IsReadList};
 
 use crate::limits::{AgeLimit, Limits};
-use crate::lists::{Given, Other, version_of};
+use crate::lists::{Given, Lost, Other, version_of};
 use byte_streams::Sink;
 use krl_audit::Stated;
-use krl_checker::{Checker, PlainRefusal};
+use krl_checker::{Checker, PlainRefusal, names_nobody};
 use krl_openssh::laws::read_lists_have_fields;
+use list_text::{Counts, Form, Side};
 use run_faults::RunFault;
+use show_run::show_held;
 
 /// Checks that OpenSSH reads a list alike. A plain list that was read is read alike.
 pub(crate) fn check_format<'a, W: Sink>(
@@ -56,22 +59,23 @@ pub(crate) fn check_empty<'a, W: Sink>(
     }
 }
 
-/// Checks the version and the date that a list states, by its limits.
-pub(crate) fn check_stated<'a, W: Sink>(
+/// Checks the version, the age and the names of a list by its limits.
+pub(crate) fn check_limits<'a, W: Sink>(
     checker: &mut Checker<'_, '_, W>,
     name: &'a str,
     stated: Option<Stated>,
-    limits: Limits<'a>,
+    limits: Limits<'a, '_>,
 ) -> Result<(), RunFault<'a>>
-    ensures checks { Checks (stated_items name.now stated limits.entry)
-        (stated_fail stated limits.entry) result
+    ensures checks { Checks (limits_items name.now stated limits.entry)
+        (limits_fail stated limits.entry) result
         checker.old.auditor.run.printer checker.new.auditor.run.printer checker.old.refused
         checker.new.refused }
     ensures unread { checker.new.unread ≡ checker.old.unread }
     ensures judge { checker.new.auditor.judge ≡ checker.old.auditor.judge }
 {
     check_version(checker, name, version_of(stated), limits.other)?;
-    check_age(checker, name, stated, limits.age)
+    check_age(checker, name, stated, limits.age)?;
+    check_lost(checker, name, limits.lost)
 }
 
 // Checks that the version of a list is not below that of the other one, if there is one.
@@ -118,4 +122,43 @@ fn check_age<'a, W: Sink>(
         Some(stated) => checker.check_age(name, stated.generated, now, max_age),
         None => checker.refuse_plain(name, PlainRefusal::NoDate),
     }
+}
+
+// Checks that a list names all that another one names, if there is one.
+fn check_lost<'a, W: Sink>(
+    checker: &mut Checker<'_, '_, W>,
+    name: &'a str,
+    lost: &Option<Lost<'a>>,
+) -> Result<(), RunFault<'a>>
+    ensures checks { Checks (losses_items name.now lost.now) (losses_fail lost.now) result
+        checker.old.auditor.run.printer checker.new.auditor.run.printer checker.old.refused
+        checker.new.refused }
+    ensures unread { checker.new.unread ≡ checker.old.unread }
+    ensures judge { checker.new.auditor.judge ≡ checker.old.auditor.judge }
+{
+    let Some(lost) = lost else {
+        return Ok(());
+    };
+    if names_nobody(&lost.held) {
+        return Ok(());
+    }
+    say_lost(checker, name, lost)
+}
+
+// Prints what a list lacks, and refuses it.
+fn say_lost<'a, W: Sink>(
+    checker: &mut Checker<'_, '_, W>,
+    name: &'a str,
+    lost: &Lost<'a>,
+) -> Result<(), RunFault<'a>>
+    ensures checks { Checks (lost_said name.now lost.now) true result
+        checker.old.auditor.run.printer checker.new.auditor.run.printer checker.old.refused
+        checker.new.refused }
+    ensures unread { checker.new.unread ≡ checker.old.unread }
+    ensures judge { checker.new.auditor.judge ≡ checker.old.auditor.judge }
+{
+    let form = Form::Change(Side::Removed);
+    let mut counts = Counts::NONE;
+    show_held(&mut checker.auditor.run, &mut counts, form, &lost.held)?;
+    checker.refuse_lost(name, lost.name, counts.entries)
 }

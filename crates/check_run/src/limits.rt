@@ -1,10 +1,10 @@
-//! The limits of a list: the version of another one, and an age.
+//! The limits of a list: the version of another one, an age, and the names of another one.
 
 ghost use Rattle.std.specs.Prelude.{◌≡◌, IfErr, IfOk};
 ghost use Rattle.check_run.specs.Limits.{IsAgeLimit, IsClockless, unanswered_words};
 
 use crate::host::Host;
-use crate::lists::Other;
+use crate::lists::{Lost, Other};
 
 /// The largest age of a list.
 #[derive(Clone, Copy)]
@@ -15,12 +15,13 @@ pub(crate) struct AgeLimit {
     pub(crate) max_age: u64,
 }
 
-/// The list whose version must not be higher, if there is one, and the largest age, if there is
-/// one.
+/// The list whose version must not be higher, the largest age, and what the list lacks of another
+/// one, each if there is such a limit.
 #[derive(Clone, Copy)]
-pub(crate) struct Limits<'a> {
+pub(crate) struct Limits<'a, 'l> {
     pub(crate) other: Option<Other<'a>>,
     pub(crate) age: Option<AgeLimit>,
+    pub(crate) lost: &'l Option<Lost<'a>>,
 }
 
 /// Why nothing is said about a list that was read.

@@ -1,13 +1,19 @@
 //! The lists that a check reads.
 
-ghost use Rattle.std.specs.Prelude.{◌≡◌, IfErr, IfOk};
+ghost use Rattle.std.specs.Prelude.{◌≡◌, IfErr, IfOk, List};
+ghost use Rattle.krl_entries.specs.Revocations.{Means};
+ghost use Rattle.krl_types.specs.Entry.{Entry};
 ghost use Rattle.check_run.specs.Lists.{IsGiven, IsOtherOf, IsOtherRefused, IsRefused};
 ghost use Rattle.check_run.specs.Lists.{version_of};
+ghost use Rattle.check_run.specs.Limits.{IsLostOf, IsLostUnknown};
 
 use crate::host::Host;
 use any_list::{List as ReadList, read_list};
 use krl_audit::Stated;
-use run_faults::RunFault;
+use krl_entries::Revocations;
+use list_diff::difference;
+use run_faults::{Cause, RunFault};
+use span_sets::Held;
 use ssh_wire::Bytes;
 use std::alloc::Global;
 
@@ -24,6 +30,13 @@ pub(crate) struct Given<'a> {
 pub(crate) struct Other<'a> {
     pub(crate) name: &'a str,
     pub(crate) version: Option<u64>,
+}
+
+/// What another list names and the checked one does not, and the name of the other one.
+#[derive(Drop)]
+pub(crate) struct Lost<'a> {
+    pub(crate) name: &'a str,
+    pub(crate) held: Revocations<Held>,
 }
 
 /// Reads a list, or says why it is refused.
@@ -64,6 +77,31 @@ pub(crate) fn read_other<'a, H: Host>(
             version: version_of(given.list.stated),
         })),
         Err(fault) => Err(fault),
+    }
+}
+
+/// Reads the list whose names the checked one must have, if there is one, and finds those that it
+/// lacks, or says why the other list is refused.
+pub(crate) fn read_lost<'a, H: Host>(
+    alloc: Global,
+    host: &H,
+    name: Option<&'a str>,
+    held: &Revocations<Held>,
+) -> Result<Option<Lost<'a>>, RunFault<'a>>
+    ensures found { IfOk result (λ lost. (own : List Entry) → Means held.now own
+        → IsLostOf (H.states host.now) own name.entry lost) }
+    ensures fault { IfErr result (λ stop. IsLostUnknown (H.states host.now) name.entry stop) }
+{
+    let Some(name) = name else {
+        return Ok(None);
+    };
+    let other = match read_file(alloc, host, name) {
+        Ok(other) => other,
+        Err(fault) => return Err(fault),
+    };
+    match difference(alloc, held, &other.list.revocations) {
+        Ok(held) => Ok(Some(Lost { name, held })),
+        Err(_) => Err(RunFault::whole(name, Cause::NoMemory)),
     }
 }
 

@@ -7,7 +7,7 @@ ghost use Rattle.check_run.specs.Run.{EndsBeside, EndsCheckRun};
 use crate::checking::{Job, check_by};
 use crate::host::Host;
 use crate::limits::{Limits, Unanswered, age_limit};
-use crate::lists::{Given, read_file, read_other};
+use crate::lists::{Given, read_file, read_lost, read_other};
 use crate::version::print_version;
 use byte_streams::Sink;
 use krl_arguments::Check;
@@ -16,9 +16,10 @@ use run_output::{Done, FAILED};
 use std::alloc::Global;
 
 /// Checks a list before it is put in force, or prints its version if the task says so. The list
-/// must be read, as must the list that is to be no newer. Then the conditions of krl(1) are checked
-/// in their order: OpenSSH reads the list alike, it revokes somebody, it is neither older than the
-/// other list nor older than it may be, and it does to the keys of each file what it must. For each
+/// must be read, as must the other lists of the task. Then the conditions of krl(1) are checked in
+/// their order: OpenSSH reads the list alike, it revokes somebody, it is neither older than another
+/// list nor older than it may be, it names all that another list names, and it does to the keys of
+/// each file what it must. For each
 /// condition that fails a line is printed, after the keys that do not meet it. The status is 255 if
 /// a list or a file was not read or the check was stopped, otherwise 1 if a condition failed,
 /// otherwise 0. `Err` is a list that was read and about which nothing was said.
@@ -54,11 +55,11 @@ fn refused<'a>(fault: RunFault<'a>) -> Done<'a>
     }
 }
 
-// Checks a list that was read, beside the other one.
-fn check_beside<'a, H: Host, W: Sink>(
+// Checks a list that was read, beside the other ones.
+fn check_beside<'a, 'g, H: Host, W: Sink>(
     alloc: Global,
-    given: &Given<'a>,
-    task: &Check<'a>,
+    given: &'g Given<'a>,
+    task: &'g Check<'a>,
     host: &H,
     out: &mut W,
 ) -> Result<Done<'a>, Unanswered>
@@ -71,9 +72,14 @@ fn check_beside<'a, H: Host, W: Sink>(
         Ok(other) => other,
         Err(fault) => return Ok(refused(fault)),
     };
+    let lost = match read_lost(alloc, host, task.superset_of, &given.list.revocations) {
+        Ok(lost) => lost,
+        Err(fault) => return Ok(refused(fault)),
+    };
     match age_limit(host, task.max_age) {
         Ok(age) => {
-            let limits = Limits { other, age };
+            let lost = &lost;
+            let limits = Limits { other, age, lost };
             let job = Job {
                 given,
                 limits,

@@ -18,11 +18,13 @@ audit_rules =
     ∷ long_value_rule (codes "files0-from")
     ∷ words_rule (codes "files") ∷ []
 
--- krl check: the list, --newer-than, --max-age, --keep, --canary, --allow-empty and --print-version
+-- krl check: the list, --newer-than, --superset-of, --max-age, --keep, --canary, --allow-empty and
+-- --print-version
 abbrev pub check_rules : List Rule
 check_rules =
     word_rule (codes "list")
     ∷ long_value_rule (codes "newer-than")
+    ∷ long_value_rule (codes "superset-of")
     ∷ long_value_rule (codes "max-age")
     ∷ long_values_rule (codes "keep")
     ∷ long_values_rule (codes "canary")

@@ -30,6 +30,7 @@ pub record Audit : Type 0 where
 pub record Check : Type 0 where
   pub list : List ℕ
   pub newer_than : Option (List ℕ)
+  pub superset_of : Option (List ℕ)
   pub max_age : Option ℕ
   pub keep : List (List ℕ)
   pub canary : List (List ℕ)
@@ -89,6 +90,7 @@ abbrev pub check_with : List Row → List ℕ → Check
 check_with rows list = record {
   list = list;
   newer_than = first_of (codes "newer-than") rows;
+  superset_of = first_of (codes "superset-of") rows;
   max_age = max_age_of rows;
   keep = values_in (codes "keep") rows;
   canary = values_in (codes "canary") rows;
@@ -99,8 +101,9 @@ check_with rows list = record {
 -- there is no condition
 abbrev pub has_only_version : Check → Bool
 has_only_version check =
-    not (is_some check.newer_than) && (not (is_some check.max_age) && (is_empty check.keep
-    && (is_empty check.canary && not check.allow_empty)))
+    not (is_some check.newer_than) && (not (is_some check.superset_of)
+    && (not (is_some check.max_age) && (is_empty check.keep
+    && (is_empty check.canary && not check.allow_empty))))
 
 -- The check, unless its age is no duration, or its version is requested together with a condition.
 abbrev pub if_whole : Bool → Check → Option Check
@@ -161,6 +164,7 @@ abbrev pub check_by : CheckOf → Check
 check_by check = record {
   list = check.list.now;
   newer_than = option_map (λ text. text.now) check.newer_than;
+  superset_of = option_map (λ text. text.now) check.superset_of;
   max_age = check.max_age;
   keep = map (λ name. name.now) check.keep.items;
   canary = map (λ name. name.now) check.canary.items;

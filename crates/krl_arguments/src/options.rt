@@ -58,7 +58,7 @@ const AUDIT: [Argument; 7] = [
     },
 ];
 
-const CHECK: [Argument; 7] = [
+const CHECK: [Argument; 8] = [
     Argument {
         id: "list",
         form: Form::Word("krl"),
@@ -68,6 +68,11 @@ const CHECK: [Argument; 7] = [
         id: "newer-than",
         form: Form::LongValue("krl"),
         help: "Refuse a version below that of this list",
+    },
+    Argument {
+        id: "superset-of",
+        form: Form::LongValue("krl"),
+        help: "Refuse a list that does not name all that this list names",
     },
     Argument {
         id: "max-age",

@@ -41,6 +41,8 @@ pub struct Check<'a> {
     pub list: &'a str,
     /// The list whose version must not be higher than its own, by `--newer-than`.
     pub newer_than: Option<&'a str>,
+    /// The list whose names it must all have, by `--superset-of`.
+    pub superset_of: Option<&'a str>,
     /// The largest number of seconds since it was made, by `--max-age`.
     pub max_age: Option<u64>,
     /// The files of keys that it must not revoke, by `--keep`.

@@ -122,6 +122,7 @@ fn check_with<'a>(
     Ok(Check {
         list,
         newer_than: value_of(found, "newer-than"),
+        superset_of: value_of(found, "superset-of"),
         max_age: max_age_of(found),
         keep,
         canary,
@@ -166,6 +167,7 @@ fn has_only_version(check: &Check<'_>) -> bool
     ensures { result ≡ has_only_version (check_by check.now) }
 {
     check.newer_than.is_none()
+        && check.superset_of.is_none()
         && check.max_age.is_none()
         && check.keep.is_empty()
         && check.canary.is_empty()

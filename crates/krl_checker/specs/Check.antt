@@ -4,7 +4,7 @@ use Rattle.std.specs.Prelude.{◌-◌, ◌==◌, ◌&&◌, nat_le, length, is_so
 use Rattle.std.specs.Prelude.{Result, Ok, Err}
 use Rattle.run_faults.specs.RunFault.{RunFault}
 use Rattle.run_output.specs.Carries.{Carries}
-use Rattle.run_output.specs.Done.{Ends}
+use Rattle.run_output.specs.Done.{EndsWith}
 use Rattle.run_output.specs.Printer.{Printer}
 use Rattle.run_output.specs.Run.{Item, said_of}
 use Rattle.krl_types.specs.Entry.{Entry}
@@ -113,9 +113,8 @@ check_status true refused = 255
 check_status false true = 1
 check_status false false = 0
 
--- The check ended as a run over its items does.
+-- The check ended as a run over its items does, with the status of its conditions.
 pub record EndsCheck (run : List Item) (refused unread : Bool) (before after : Option (List ℕ))
     (failed : Bool) (status : ℕ) (fault : Option RunFault) : Type 0 where
-  pub plain : ℕ
-  pub ends : Ends run before after failed plain fault
+  pub ends : EndsWith run before after failed fault
   pub status_is : status ≡ check_status (is_some fault || unread) refused

@@ -27,6 +27,18 @@ abbrev pub empty_line : List ℕ → List ℕ
 empty_line name =
     codes "empty: " ++ (visible false name ++ codes ": it revokes nobody\n")
 
+-- a number of entries, as the subject of a sentence, with its verb
+abbrev pub entries_text : ℕ → List ℕ
+entries_text count =
+    decimal count ++ (if count == 1 then codes " entry is" else codes " entries are")
+
+-- the line for a list that does not name all that another one names
+abbrev pub lost_line : (name other : List ℕ) → (entries : ℕ) → List ℕ
+lost_line name other entries =
+    codes "lost: " ++ (visible false other
+    ++ (codes ": " ++ (entries_text entries
+    ++ (codes " not in " ++ (visible false name ++ 10 ∷ [])))))
+
 -- A number of seconds, rounded down to minutes from 2 minutes on, and to hours from 2 hours on.
 abbrev pub span_text : ℕ → List ℕ
 span_text seconds =

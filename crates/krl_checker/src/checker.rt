@@ -15,12 +15,12 @@ ghost use Rattle.krl_checker.specs.Check.{ChecksFile, EndsCheck, check_status, d
 ghost use Rattle.krl_checker.specs.Check.{age_items, counts_items, empty_items, is_fresh};
 ghost use Rattle.krl_checker.specs.Check.{lines_counted, names_nobody, version_items};
 ghost use Rattle.krl_checker.specs.Role.{is_met};
-ghost use Rattle.krl_checker.specs.Text.{plain_line};
+ghost use Rattle.krl_checker.specs.Text.{lost_line, plain_line};
 
 use crate::plain::PlainRefusal;
 use crate::role::Role;
 use crate::text::{
-    write_age, write_difference, write_empty, write_file, write_plain, write_version,
+    write_age, write_difference, write_empty, write_file, write_lost, write_plain, write_version,
 };
 use byte_streams::Sink;
 use krl_audit::{Auditor, Counts, Judge, Refusal, keyless_lines};
@@ -167,6 +167,24 @@ impl<'q, 'w, W: Sink> Checker<'q, 'w, W> {
         self.refuse(name, made)
     }
 
+    /// Refuses a list that lacks as many entries of another list. The lines of these entries are
+    /// printed before.
+    pub fn refuse_lost<'a>(
+        &mut self,
+        name: &'a str,
+        other: &str,
+        entries: u64,
+    ) -> Result<(), RunFault<'a>>
+        ensures carries { Carries (said_of name.now (lost_line name.now other.now entries) ∷ [])
+            result self.old.auditor.run.printer self.new.auditor.run.printer }
+        ensures refused { self.new.refused ≡ true }
+        ensures unread { self.new.unread ≡ self.old.unread }
+        ensures judge { self.new.auditor.judge ≡ self.old.auditor.judge }
+    {
+        let made = write_lost(&mut self.auditor.run.line, name, other, entries);
+        self.refuse(name, made)
+    }
+
     /// Checks that a list revokes none of the keys of a file, or each of them, given the bytes of
     /// the file or why there are none. Prints the keys that do not meet the condition, in the form
     /// of an audit, and then the file.
@@ -283,8 +301,8 @@ fn is_fresh(generated: u64, now: u64, max_age: u64) -> bool
     generated.saturating_sub(now) <= MOST_AHEAD && now.saturating_sub(generated) <= max_age
 }
 
-// Returns true if a list revokes nobody.
-fn names_nobody(list: &Revocations<Held>) -> bool
+/// Returns true if a list revokes nobody.
+pub fn names_nobody(list: &Revocations<Held>) -> bool
     ensures { result ≡ names_nobody list.now }
 {
     list.authorities() == 0 && list.keys() == 0 && list.sha1s() == 0 && list.sha256s() == 0

@@ -8,6 +8,6 @@ mod plain;
 mod role;
 mod text;
 
-pub use checker::Checker;
+pub use checker::{Checker, names_nobody};
 pub use plain::PlainRefusal;
 pub use role::Role;

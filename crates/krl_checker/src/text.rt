@@ -2,7 +2,8 @@
 
 ghost use Rattle.std.specs.Prelude.{◌≡◌, OnOk};
 ghost use Rattle.krl_checker.specs.Text.{age_line, dated_line, difference_line, distance_text};
-ghost use Rattle.krl_checker.specs.Text.{empty_line, file_line, plain_line, span_text};
+ghost use Rattle.krl_checker.specs.Text.{empty_line, entries_text, file_line, lost_line};
+ghost use Rattle.krl_checker.specs.Text.{plain_line, span_text};
 ghost use Rattle.krl_checker.specs.Text.{subject_text};
 ghost use Rattle.krl_checker.specs.Text.{version_line};
 
@@ -59,6 +60,37 @@ pub(crate) fn write_empty(line: &mut Vec<u8>, name: &str) -> Result<(), AllocErr
 {
     line.clear();
     put!(line; b"empty: ", Visible(name.as_bytes(), false), b": it revokes nobody\n")
+}
+
+/// Makes the line for a list that does not name all that another one names.
+pub(crate) fn write_lost(
+    line: &mut Vec<u8>,
+    name: &str,
+    other: &str,
+    entries: u64,
+) -> Result<(), AllocError>
+    ensures { OnOk result (line.new.items ≡ lost_line name.now other.now entries) }
+{
+    line.clear();
+    put!(line; b"lost: ", Visible(other.as_bytes(), false), b": ", Entries(entries), b" not in ",
+        Visible(name.as_bytes(), false), b"\n")
+}
+
+// A number of entries, as the subject of a sentence, with its verb.
+#[derive(Clone, Copy)]
+struct Entries(u64);
+
+impl Printed for Entries {
+    ghost text = { λ entries. entries_text entries.0 };
+
+    fn push_to(&self, out: &mut Vec<u8>) -> Result<(), AllocError> {
+        let noun: &[u8] = if self.0 == 1 {
+            b" entry is"
+        } else {
+            b" entries are"
+        };
+        put!(out; self.0, Words(noun))
+    }
 }
 
 /// Makes the line for a list that was made too long ago, or after the present moment.

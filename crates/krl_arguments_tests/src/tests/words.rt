@@ -179,16 +179,20 @@ fn comparisons(rt: HostRuntime) -> Result<(), Fail> {
     assert!(rt; diff.old == "a" && diff.new == "b" && diff.json);
     let diff = diff_by(rt.alloc(), &["krl", "diff", "--", "-a", "b"])?;
     assert!(rt; diff.old == "-a" && diff.new == "b" && !diff.json);
+    let check = check_by(rt.alloc(), &["krl", "check", "k", "--superset-of", "s"])?;
+    assert!(rt; check.superset_of == Some("s") && check.newer_than.is_none());
     Ok(())
 }
 
 #[test]
 fn refusals(rt: HostRuntime) -> Result<(), Fail> {
-    let refused: [&[&str]; 32] = [
+    let refused: [&[&str]; 34] = [
         &["krl", "diff"],
         &["krl", "diff", "a"],
         &["krl", "diff", "a", "b", "c"],
         &["krl", "diff", "a", "b", "--json", "--json"],
+        &["krl", "check", "k", "--superset-of", "a", "--superset-of=b"],
+        &["krl", "check", "k", "--print-version", "--superset-of", "a"],
         &["krl", "show"],
         &["krl", "show", "--json"],
         &["krl", "show", "a", "--json", "--json"],

@@ -27,6 +27,8 @@ pub enum Asked<'a> {
     Age(u64, u64, u64),
     /// That it revokes somebody.
     Empty,
+    /// That it lacks this many entries of another list.
+    Lost(u64),
 }
 
 /// Checks a list.
@@ -41,6 +43,7 @@ pub fn check<'a, W: Sink>(
         Asked::Plain(why) => checker.refuse_plain("r.krl", why),
         Asked::Age(generated, now, most) => checker.check_age("r.krl", generated, now, most),
         Asked::Empty => checker.check_empty("r.krl"),
+        Asked::Lost(entries) => checker.refuse_lost("r.krl", "old.krl", entries),
     }
 }
 
@@ -81,7 +84,7 @@ fn said_into<W: Sink>(
 }
 
 // One condition, what is said, and the status.
-const CHECKS: [(Asked<'static>, &[u8], u8); 31] = [
+const CHECKS: [(Asked<'static>, &[u8], u8); 34] = [
     (Asked::OpenSsh(&HEADER), b"", 0),
     (Asked::Version(7, 7), b"", 0),
     (Asked::Version(8, 7), b"", 0),
@@ -102,6 +105,21 @@ const CHECKS: [(Asked<'static>, &[u8], u8); 31] = [
         1,
     ),
     (Asked::Empty, b"", 0),
+    (
+        Asked::Lost(0),
+        b"lost: old.krl: 0 entries are not in r.krl\n",
+        1,
+    ),
+    (
+        Asked::Lost(1),
+        b"lost: old.krl: 1 entry is not in r.krl\n",
+        1,
+    ),
+    (
+        Asked::Lost(100),
+        b"lost: old.krl: 100 entries are not in r.krl\n",
+        1,
+    ),
     // The largest age, and 5 minutes after the present moment.
     (Asked::Age(NINE, NINE + 60, 60), b"", 0),
     (Asked::Age(NINE + 300, NINE, 0), b"", 0),

@@ -68,6 +68,7 @@ fn the_callers_of_the_pages(rt: HostRuntime) {
     let task = Check {
         list: "l",
         newer_than: None,
+        superset_of: None,
         max_age: None,
         keep: Vec::new(rt.alloc()),
         canary: Vec::new(rt.alloc()),
@@ -78,6 +79,7 @@ fn the_callers_of_the_pages(rt: HostRuntime) {
         alloc: rt.alloc(),
         list: Ok(SEVEN),
         other: Ok(SEVEN),
+        base: Ok(SEVEN),
         moment: None,
     };
     let mut said = Taker::whole(rt.alloc());

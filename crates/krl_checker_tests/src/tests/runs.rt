@@ -15,13 +15,14 @@ use ssh_wire::Bytes;
 use std::alloc::{AllocError, Global};
 use test_fixtures::{GITHUB_LINE, OTHER_LINE, Taker};
 
-/// A list that is named `l`, or `o`, and the time of the clock. As files of keys there are the
+/// Lists that are named `l`, `o` and `b`, and the time of the clock. As files of keys there are the
 /// published key in `key` and another one in `other`. There is no memory for `large`.
 #[derive(Drop)]
 pub struct Shelf {
     pub alloc: Global,
     pub list: Result<&'static [u8], Cause>,
     pub other: Result<&'static [u8], Cause>,
+    pub base: Result<&'static [u8], Cause>,
     pub moment: Option<u64>,
 }
 
@@ -31,7 +32,11 @@ impl Host for Shelf {
     ghost states = { λ _ _. Unit {0} };
 
     fn list(&self, name: &str) -> Result<Bytes, Cause> {
-        let bytes = if name == "l" { self.list? } else { self.other? };
+        let bytes = match name {
+            "l" => self.list?,
+            "o" => self.other?,
+            _ => self.base?,
+        };
         match Vec::from_slice(self.alloc, bytes) {
             Ok(bytes) => Ok(Bytes::from_vec(bytes)),
             Err(_) => Err(Cause::NoMemory),
@@ -61,12 +66,21 @@ pub const SEVEN: &[u8] = b"SSHKRL\n\0\0\0\0\x01\0\0\0\0\0\0\0\x07\0\0\0\0\0\0\0\
 \xe3\x2a\xaa\x79\x15\xce\xb9\xb4\x49\xd1\xba\x50\xea\x2a\x28\xbb\
 \x1a\x6e\x01\xf9\x0b\xda\x24\x5a\x2d\x1d\x87\x69\x7d\x18\xa2\x65";
 
-// A list, the one that it must not be older than, the time of the clock, the largest age, and the
-// files of keys that it must not revoke, and must revoke.
+// The same with serial numbers 100 and 101 of all authorities.
+const MORE: &[u8] = b"SSHKRL\n\0\0\0\0\x01\0\0\0\0\0\0\0\x07\0\0\0\0\0\0\0\0\
+\0\0\0\0\0\0\0\0\0\0\0\0\0\0\0\0\
+\x01\0\0\0\x1d\0\0\0\0\0\0\0\0\x21\0\0\0\x10\0\0\0\0\0\0\0\x64\0\0\0\0\0\0\0\x65\
+\x02\0\0\0\x37\0\0\0\x33\0\0\0\x0bssh-ed25519\0\0\0\x20\
+\xe3\x2a\xaa\x79\x15\xce\xb9\xb4\x49\xd1\xba\x50\xea\x2a\x28\xbb\
+\x1a\x6e\x01\xf9\x0b\xda\x24\x5a\x2d\x1d\x87\x69\x7d\x18\xa2\x65";
+
+// A list, the one that it must not be older than, the one whose names it must have, the time of the
+// clock, the largest age, and the files of keys that it must not revoke, and must revoke.
 #[derive(Clone, Copy)]
 struct Asked {
     list: Result<&'static [u8], Cause>,
     other: Option<Result<&'static [u8], Cause>>,
+    base: Option<Result<&'static [u8], Cause>>,
     moment: Option<u64>,
     max_age: Option<u64>,
     keep: &'static [&'static str],
@@ -79,6 +93,7 @@ struct Asked {
 const NOTHING: Asked = Asked {
     list: Ok(SEVEN),
     other: None,
+    base: None,
     moment: None,
     max_age: None,
     keep: &[],
@@ -97,7 +112,7 @@ type Row = (
     Option<(&'static str, Option<u64>, Cause)>,
 );
 
-const ROWS: [Row; 14] = [
+const ROWS: [Row; 19] = [
     (NOTHING, b"", 0, None),
     (
         Asked {
@@ -166,6 +181,62 @@ keep: key: 1 of 1 key is revoked, 0 lines are not read\n",
         b"version: o: a plain list has no version\n",
         1,
         None,
+    ),
+    // A list that names all of another one, and lists that lack some of it.
+    (
+        Asked {
+            list: Ok(MORE),
+            base: Some(Ok(GITHUB_LINE)),
+            ..NOTHING
+        },
+        b"",
+        0,
+        None,
+    ),
+    (
+        Asked {
+            base: Some(Ok(MORE)),
+            ..NOTHING
+        },
+        b"  ca: all\n- serial: 100-101\nlost: b: 1 entry is not in l\n",
+        1,
+        None,
+    ),
+    (
+        Asked {
+            list: Ok(OTHER_LINE),
+            base: Some(Ok(MORE)),
+            canary: &["key"],
+            ..NOTHING
+        },
+        b"  ca: all\n- serial: 100-101
+- key: ssh-ed25519 AAAAC3NzaC1lZDI1NTE5AAAAIOMqqnkVzrm0SdG6UOoqKLsabgH5C9okWi0dh2l9GKJl \
+# SHA256:+DiY3wvvV6TuJJhbpZisF/zLDA0zPMSvHdkr4UvCOqU
+lost: b: 2 entries are not in l
+key:1: ok: ssh-ed25519 SHA256:+DiY3wvvV6TuJJhbpZisF/zLDA0zPMSvHdkr4UvCOqU
+canary: key: 0 of 1 key is revoked, 0 lines are not read\n",
+        1,
+        None,
+    ),
+    (
+        Asked {
+            list: Ok(SERIAL_ZERO),
+            base: Some(Err(NO_FILE)),
+            ..NOTHING
+        },
+        b"",
+        255,
+        Some(("b", None, NO_FILE)),
+    ),
+    (
+        Asked {
+            other: Some(Ok(b"SSHKRL\n\0")),
+            base: Some(Err(NO_FILE)),
+            ..NOTHING
+        },
+        b"",
+        255,
+        Some(("o", None, Cause::Krl(KrlFault::EndsEarly))),
     ),
     // Lists that are not read.
     (
@@ -263,11 +334,13 @@ fn checked<W: Sink>(
         alloc,
         list: asked.list,
         other: asked.other.unwrap_or(Err(NO_FILE)),
+        base: asked.base.unwrap_or(Err(NO_FILE)),
         moment: asked.moment,
     };
     let task = Check {
         list: "l",
         newer_than: asked.other.is_some().then_some("o"),
+        superset_of: asked.base.is_some().then_some("b"),
         max_age: asked.max_age,
         keep: Vec::from_slice(alloc, asked.keep)?,
         canary: Vec::from_slice(alloc, asked.canary)?,

@@ -26,6 +26,9 @@ const SIGNED: &[u8] = b"SSHKRL\n\0\0\0\0\x01\0\0\0\0\0\0\0\x01\0\0\0\0\0\0\0\0\
 // The output of the check.
 const SAID: &[u8] = b"openssh: r.krl: it has a signature
 version: p: a plain list has no version
+- key: ssh-ed25519 AAAAC3NzaC1lZDI1NTE5AAAAIBERERERERERERERERERERERERERERERERERERERERER \
+# SHA256:SQfC+vTbLURn9cTkVxIS8fGQ3FKNAJWeB0o139+gV4M
+lost: p: 1 entry is not in r.krl
 f:1: revoked: ssh-ed25519 SHA256:+DiY3wvvV6TuJJhbpZisF/zLDA0zPMSvHdkr4UvCOqU by its key
 keep: f: 1 of 1 key is revoked, 0 lines are not read
 ";
@@ -68,6 +71,7 @@ fn runs_out<W: Sink>(alloc: Global, print_version: bool, out: &mut W) -> Result<
     let task = Check {
         list: "r.krl",
         newer_than: Some("p"),
+        superset_of: Some("p"),
         max_age: None,
         keep: Vec::from_slice(alloc, &["f", "g"])?,
         canary: Vec::new(alloc),

@@ -17,4 +17,4 @@ returns-in_err-check_empty-clause-checks g c =
 pub returns-clause-checks : goal.returns-clause-checks
 returns-clause-checks g c =
     let empty = rw c.in_ok-check_format.ensures.judge at c.in_ok-check_empty.ensures.checks in
-    list_checked _ _ _ _ _ _ _ _ _ _ _ _ _ _ _ _ _ c.in_ok-check_format.ensures.checks empty c.check_stated.ensures.checks
+    list_checked _ _ _ _ _ _ _ _ _ _ _ _ _ _ _ _ _ c.in_ok-check_format.ensures.checks empty c.check_limits.ensures.checks

@@ -1,0 +1,30 @@
+-- What a list lacks of another one.
+use Rattle.std.proofs.Common.{◌≡◌, ℕ, Bool, true, false, List, Ok, Result, Some}
+use Rattle.run_faults.specs.RunFault.{RunFault}
+use Rattle.run_output.specs.Printer.{Printer}
+use Rattle.krl_types.specs.Entry.{Entry}
+use Rattle.krl_checker.specs.Check.{names_nobody}
+use Rattle.krl_entries.specs.Revocations.{Means, Revocations}
+use Rattle.list_diff.specs.Without.{HoldsWithout}
+use Rattle.check_run.specs.Lists.{Checks}
+use Rattle.check_run.specs.Losses.{AreLost, lost_said, losses_fail, losses_items}
+use Rattle.check_run.specs.declared.lists.Lost.{Lost}
+use Rattle.check_run.proofs.Steps.{checks_none}
+
+pub all_lost : (held other lost : Revocations) (own others : List Entry) → Means held own → Means other others → HoldsWithout held other lost → AreLost own others lost
+all_lost held other lost own others m n is = record {
+  orderly = is.orderly;
+  names = λ name. (
+    λ h. let both = (is.names name).0 h in ((n.names name).0 both.0, λ named. both.1 ((m.names name).1 named)),
+    λ h. (is.names name).1 ((n.names name).1 h.0, λ also. h.1 ((m.names name).0 also)),
+  );
+}
+
+-- where nothing is lost, nothing is said
+pub nothing_lost : (name : List ℕ) (lost : Lost) (now : Printer) (refused : Bool) → names_nobody lost.held ≡ true
+    → Checks (losses_items name (Some lost)) (losses_fail (Some lost)) (Ok tt) now now refused refused
+nothing_lost name lost now refused is = rw is (checks_none now refused)
+
+pub some_lost : (name : List ℕ) (lost : Lost) (result : Result (Unit {0}) RunFault) (old new : Printer) (before after : Bool) → names_nobody lost.held ≡ false
+    → Checks (lost_said name lost) true result old new before after → Checks (losses_items name (Some lost)) (losses_fail (Some lost)) result old new before after
+some_lost name lost result old new before after is checks = rw is checks
