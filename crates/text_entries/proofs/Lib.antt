@@ -1,2 +1,3 @@
 pub mod ReadLines
 pub mod Said
+pub mod OneOff

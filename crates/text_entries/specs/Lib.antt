@@ -4,3 +4,5 @@ pub mod Values
 pub mod Says
 pub mod Lines
 pub mod Reading
+pub mod OneOff
+pub mod Misspelt

@@ -1,14 +1,19 @@
 //! The text of a revocation list: the entries that its lines name.
 #![tactic(auto)]
 
+mod any_word;
 mod authority;
 mod line;
+mod misspelt;
+mod one_off;
 mod reading;
 mod text_cause;
 mod text_fault;
 mod values;
 mod word;
 
+pub use misspelt::{Misspelt, misspelt_at};
+pub use one_off::one_off_where_spelled;
 pub use reading::read_text;
 pub use text_cause::TextCause;
 pub use text_fault::TextFault;
