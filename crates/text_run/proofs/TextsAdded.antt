@@ -23,7 +23,7 @@ bytes_added name bytes old new reads few =
 
 pub bytes_stop : (name bytes : List ℕ) (number : ℕ) (cause : TextCause) (old new : Revocations)
     → ReadsText {A = Unit {0}} bytes (Err (record { line = number; cause = cause })) old new
-    → AddsTexts {A = Unit {0}} (entries_in name bytes) (Err (line_fault name number cause)) old new
+    → AddsTexts {A = Unit {0}} (entries_in name bytes) (Err (line_fault name bytes number cause)) old new
 bytes_stop name bytes number (text_causes.Spec specs.NoMemory) old new reads = tt
 bytes_stop name bytes number cause old new reads = rw reads.0 refl
 

@@ -26,13 +26,15 @@ pub record Text : Type 0 where
   pub name : List ℕ
   pub content : Result (List ℕ) Cause
 
-abbrev pub unless_fault : List ℕ → List Entry → Option TextFault → Result (List Entry) MakeFault
-unless_fault name entries None = Ok entries
-unless_fault name entries (Some fault) = Err (line_fault name fault.line fault.cause)
+abbrev pub unless_fault : List ℕ → List ℕ → List Entry → Option TextFault
+    → Result (List Entry) MakeFault
+unless_fault name bytes entries None = Ok entries
+unless_fault name bytes entries (Some fault) =
+    Err (line_fault name bytes fault.line fault.cause)
 
 -- the entries of the bytes of a text with this name, or its first fault
 abbrev pub entries_in : List ℕ → List ℕ → Result (List Entry) MakeFault
-entries_in name bytes = unless_fault name (lines_of bytes).entries (lines_of bytes).fault
+entries_in name bytes = unless_fault name bytes (lines_of bytes).entries (lines_of bytes).fault
 
 abbrev pub unread : List ℕ → Cause → MakeFault
 unread name cause = whole_fault name (Run cause)

@@ -1,11 +1,12 @@
 -- The line about a fault that stopped the run (krl(1), KRL MAKE).
-use Rattle.std.specs.Prelude.{ℕ, false, List, ◌++◌, codes}
+use Rattle.std.specs.Prelude.{ℕ, false, true, List, ◌++◌, codes, Option, Some, None}
 use Rattle.run_faults.specs.RunFault.{cause_text, line_part}
 use Rattle.run_faults.specs.declared.cause.Cause.TheVariants as runs
 use Rattle.run_faults.specs.declared.spec_cause.SpecCause.{SpecCause}
 use Rattle.run_faults.specs.declared.spec_cause.SpecCause.TheVariants as specs
 use Rattle.krl_audit.specs.Causes.{cause_words}
 use Rattle.krl_audit.specs.Visible.{visible}
+use Rattle.text_entries.specs.Misspelt.{Misspelt}
 use Rattle.text_entries.specs.TextCause.{text_cause_text}
 use Rattle.text_entries.specs.declared.text_cause.TextCause.{TextCause}
 use Rattle.text_entries.specs.declared.text_cause.TextCause.TheVariants as texts
@@ -38,6 +39,18 @@ make_words (Run cause) = cause_words cause
 make_words (Line cause) = text_words cause
 make_words Empty = codes "no text has an entry, and the list would revoke nobody"
 
+-- a misspelt word, and the one that was meant
+abbrev pub meant_words : Misspelt → List ℕ
+meant_words misspelt =
+    codes "\""
+    ++ (visible true misspelt.word
+    ++ (codes "\" is no word of a text: did you mean \"" ++ (misspelt.meant ++ codes "\"?")))
+
+-- why no list is made, or what was meant where a word is misspelt
+abbrev pub why_words : Option Misspelt → MakeCause → List ℕ
+why_words None cause = make_words cause
+why_words (Some misspelt) cause = meant_words misspelt
+
 -- ---- by its number
 
 abbrev pub make_cause_text : MakeCause → List ℕ
@@ -53,4 +66,5 @@ fault_line fault =
     codes "krl: "
     ++ (visible false fault.name
     ++ (codes ": " ++ (line_part fault.line
-    ++ (make_words fault.cause ++ (codes " [" ++ (make_cause_text fault.cause ++ codes "]\n"))))))
+    ++ (why_words fault.misspelt fault.cause
+    ++ (codes " [" ++ (make_cause_text fault.cause ++ codes "]\n"))))))

@@ -44,12 +44,12 @@ fn add_bytes<'a, S: Spans>(
     alloc: Global,
     revocations: &mut Revocations<S>,
     name: &'a str,
-    bytes: &[u8],
+    bytes: &'a [u8],
 ) -> Result<(), MakeFault<'a>>
     ensures { AddsTexts (entries_in name.now bytes.now) result revocations.old revocations.new }
 {
     match read_text(alloc, revocations, bytes) {
         Ok(()) => Ok(()),
-        Err(fault) => Err(line_fault(name, fault)),
+        Err(fault) => Err(line_fault(name, bytes, fault)),
     }
 }

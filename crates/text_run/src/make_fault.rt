@@ -7,7 +7,7 @@ ghost use Rattle.text_run.specs.Words.{make_cause_text};
 use run_faults::{Cause, SpecCause};
 use std::fmt;
 use std::marker::Model;
-use text_entries::{TextCause, TextFault};
+use text_entries::{Misspelt, TextCause, TextFault, misspelt_at};
 
 /// Why no list is made.
 #[derive(Clone, Copy, Debug, PartialEq, Eq)]
@@ -41,6 +41,8 @@ pub struct MakeFault<'a> {
     pub line: Option<u64>,
     /// Why no list is made.
     pub cause: MakeCause,
+    /// The misspelt word of the line, and the one that was meant.
+    pub misspelt: Option<Misspelt<'a>>,
 }
 
 impl<'a> Model for MakeFault<'a> {
@@ -52,6 +54,7 @@ impl<'a> Model for MakeFault<'a> {
       name = fault.name.now;
       line = fault.line;
       cause = fault.cause;
+      misspelt = fault.misspelt;
     } };
 }
 
@@ -64,14 +67,15 @@ impl<'a> MakeFault<'a> {
             name,
             line: None,
             cause,
+            misspelt: None,
         }
     }
 }
 
 /// The fault of a line of a text. A failed allocation is a fault of the run itself, so no line is
 /// reported.
-pub(crate) fn line_fault<'a>(name: &'a str, fault: TextFault) -> MakeFault<'a>
-    ensures { result ≡ line_fault name.now fault.line fault.cause }
+pub(crate) fn line_fault<'a>(name: &'a str, text: &'a [u8], fault: TextFault) -> MakeFault<'a>
+    ensures { result ≡ line_fault name.now text.now fault.line fault.cause }
 {
     if fault.cause == TextCause::Spec(SpecCause::NoMemory) {
         return MakeFault::whole(name, MakeCause::Run(Cause::NoMemory));
@@ -80,5 +84,6 @@ pub(crate) fn line_fault<'a>(name: &'a str, fault: TextFault) -> MakeFault<'a>
         name,
         line: Some(fault.line),
         cause: MakeCause::Line(fault.cause),
+        misspelt: misspelt_at(text, fault),
     }
 }

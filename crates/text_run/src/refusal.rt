@@ -2,14 +2,15 @@
 
 ghost use Rattle.std.specs.Prelude.{◌≡◌, IfOk};
 ghost use Rattle.run_faults.specs.RunFault.{line_part};
-ghost use Rattle.text_run.specs.Words.{fault_line, make_words, spec_words, text_words};
+ghost use Rattle.text_run.specs.Words.{fault_line, make_words, meant_words, spec_words, text_words};
+ghost use Rattle.text_run.specs.Words.{why_words};
 
 use crate::make_fault::{MakeCause, MakeFault};
 use krl_audit::{Visible, cause_words};
 use line_pieces::{Printed, Words, put};
 use run_faults::{Cause, SpecCause};
 use std::alloc::{AllocError, Global};
-use text_entries::TextCause;
+use text_entries::{Misspelt, TextCause};
 
 // The number of a line, if there is one.
 #[derive(Clone, Copy)]
@@ -32,9 +33,30 @@ pub fn fault_line(alloc: Global, fault: &MakeFault<'_>) -> Result<Vec<u8>, Alloc
     ensures { IfOk result (λ text. text.items ≡ fault_line fault.now) }
 {
     let cause = fault.cause.to_string(alloc)?;
+    let why = why_words(alloc, fault)?;
     let mut text = Vec::new(alloc);
     put!(&mut text; b"krl: ", Visible(fault.name.as_bytes(), false), b": ", Line(fault.line),
-        Words(make_words(fault.cause)), b" [", Words(cause.as_bytes()), b"]\n")?;
+        Words(&why), b" [", Words(cause.as_bytes()), b"]\n")?;
+    Ok(text)
+}
+
+// Why no list is made, or what was meant where a word is misspelt.
+fn why_words(alloc: Global, fault: &MakeFault<'_>) -> Result<Vec<u8>, AllocError>
+    ensures { IfOk result (λ text. text.items ≡ why_words fault.now.misspelt fault.now.cause) }
+{
+    match &fault.misspelt {
+        None => Vec::from_slice(alloc, make_words(fault.cause)),
+        Some(misspelt) => meant_words(alloc, misspelt),
+    }
+}
+
+// A misspelt word, and the one that was meant.
+fn meant_words(alloc: Global, misspelt: &Misspelt<'_>) -> Result<Vec<u8>, AllocError>
+    ensures { IfOk result (λ text. text.items ≡ meant_words misspelt.now) }
+{
+    let mut text = Vec::new(alloc);
+    put!(&mut text; b"\"", Visible(misspelt.word, true),
+        b"\" is no word of a text: did you mean \"", Words(misspelt.meant.as_bytes()), b"\"?")?;
     Ok(text)
 }
 
