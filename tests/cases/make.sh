@@ -85,8 +85,16 @@ refuses 'a SHA-1 of 21 bytes' 1 'the hash is cut or misspelt' \
   "hash: SHA1:$(bytes "$(repeat 21 ab)" | base64 | tr -d =)\n"
 refuses 'a CA that is no key' 1 'no key type stands there' \
   'text 1 Spec, spec 6 Key, line 1 NoKey' 'ca: everyone\n'
-refuses 'a word that is one letter off' 2 'no key type stands there' \
-  'text 1 Spec, spec 6 Key, line 1 NoKey' 'ca: all\nserials: 5\n'
+meant() {
+  refuses "$1" 2 "\"$2\" is no word of a text: did you mean \"$3\"?" \
+    'text 1 Spec, spec 6 Key, line 1 NoKey' "ca: all\n$4\n"
+}
+meant 'a word with a letter more' serials serial 'serials: 5'
+meant 'a word with a letter less, in upper case' SERIA serial ' SERIA : 5'
+meant 'a word with another letter' sha255 sha256 'sha255: x'
+meant 'a word with a byte that a terminal obeys' 'ca\x1b' ca 'ca\033: all'
+refuses 'a word that is two letters off' 2 'no key type stands there' \
+  'text 1 Spec, spec 6 Key, line 1 NoKey' 'ca: all\nserail: 5\n'
 refuses 'serial number 0' 2 'serial number 0 names no certificate' 'text 1 Spec, spec 2 Zero' \
   'ca: all\nserial: 0\n'
 refuses 'a range that ends early' 2 'a range of serial numbers ends below its first one' \

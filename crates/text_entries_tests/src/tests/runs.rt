@@ -92,6 +92,67 @@ fn faults(rt: HostRuntime) {
     }
 }
 
+// A text, its line with a misspelt word, that word as it is shown, and the word that was meant.
+const MISSPELT: [(&[u8], &[u8], &[u8], &[u8]); 10] = [
+    (b"serials: 5", b"1", b"serials", b"serial"),
+    (b"ca: all\n# c\nseria: 5", b"3", b"seria", b"serial"),
+    (b"\tSERIALS : 5\r\n", b"1", b"SERIALS", b"serial"),
+    (b"ke: x", b"1", b"ke", b"key"),
+    (b"ids: a", b"1", b"ids", b"id"),
+    (b"ca_blob: eA==", b"1", b"ca_blob", b"ca-blob"),
+    (b"sha255: x", b"1", b"sha255", b"sha256"),
+    // The first of two words.
+    (b"ia: x", b"1", b"ia", b"ca"),
+    // No byte of a text is printed that a terminal obeys, and none ends the quotes.
+    (b"ca\x1b: all", b"1", b"ca\\x1b", b"ca"),
+    (b"i\"d: a", b"1", b"i\\\"d", b"id"),
+];
+
+// Lines without a key that are two letters off, have no colon, or begin with a word of a text.
+const KEYLESS: [&[u8]; 8] = [
+    b"serail: 5",
+    b"Serals: 5",
+    b"kye: x",
+    b"hsah: x",
+    b"serials",
+    b"seri#ls: 5",
+    b"Serial : 5",
+    b"ca: ids: 5",
+];
+
+// The line about the fault of one text.
+fn said_of(rt: &impl Abort, alloc: Global, bytes: &[u8]) -> Vec<u8> {
+    let texts = [text(rt, alloc, Some(&[bytes]))];
+    let made = text_run(alloc, &wanted(alloc, false), &texts);
+    said(rt, alloc, &made.err().expect(rt, "there is a fault"))
+}
+
+#[test]
+fn misspelt_words(rt: HostRuntime) {
+    let alloc = rt.alloc();
+    for (i, (text, line, word, meant)) in MISSPELT.iter().enumerate() {
+        let parts: [&[u8]; 7] = [
+            b"krl: t: line ",
+            line,
+            b": \"",
+            word,
+            b"\" is no word of a text: did you mean \"",
+            meant,
+            b"\"? [text 1 Spec, spec 6 Key, line 1 NoKey]\n",
+        ];
+        let wanted = joined(alloc, &parts).expect(&rt, "there is memory");
+        assert!(rt; said_of(&rt, alloc, text) == wanted, "in row {i}");
+    }
+    let keyless: &[u8] =
+        b"krl: t: line 1: no key type stands there [text 1 Spec, spec 6 Key, line 1 NoKey]\n";
+    for (i, text) in KEYLESS.iter().enumerate() {
+        assert!(rt;
+            said_of(&rt, alloc, text).as_slice() == keyless,
+            "in row {i}"
+        );
+    }
+}
+
 #[test]
 fn an_empty_list(rt: HostRuntime) {
     let alloc = rt.alloc();
