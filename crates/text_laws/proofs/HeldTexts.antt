@@ -8,7 +8,7 @@ use Rattle.serial_set.specs.declared.span.Span.{Span}
 use Rattle.ssh_wire.specs.Wire.{IsBytes}
 use Rattle.krl_entries.specs.Canonical.{entries_in, section_entries}
 use Rattle.krl_entries.specs.Changes.{run_entries}
-use Rattle.krl_entries.specs.Revocations.{IsListed, Means, Revocations, Section, nothing}
+use Rattle.krl_entries.specs.Revocations.{IsOrderlySection, Means, Revocations, Section, nothing}
 use Rattle.krl_entries.proofs.OneMeaning.{one_meaning}
 use Rattle.krl_entries.proofs.OwnEntries.{means_itself}
 use Rattle.krl_entries.proofs.SameMeaning.{nothing_meant}
@@ -93,7 +93,7 @@ ids_fit authority (id ∷ ids) more bytes fit = ((refl, All-head IsBytes id ids 
 abbrev FitAnywhere : List Fact → Type 0
 FitAnywhere facts = (current : Option (List ℕ)) → AllFit current facts
 
-section_fits : (section : Section) (more : List Fact) → IsListed section → IsBytes section.authority
+section_fits : (section : Section) (more : List Fact) → IsOrderlySection section → IsBytes section.authority
     → All IsBytes section.ids
     → FitAnywhere more → FitAnywhere (section_facts section ++ more)
 unfolding section_facts
@@ -110,14 +110,14 @@ HasBytes section = IsBytes section.authority
 abbrev HasIds : Section → Type 0
 HasIds section = All IsBytes section.ids
 
-sections_fit : (sections : List Section) (more : List Fact) → All IsListed sections → All HasBytes sections
+sections_fit : (sections : List Section) (more : List Fact) → All IsOrderlySection sections → All HasBytes sections
     → All HasIds sections
     → FitAnywhere more → FitAnywhere (flat_map section_facts sections ++ more)
 sections_fit [] more listed authorities ids fit = fit
 sections_fit (section ∷ sections) more listed authorities ids fit =
-    let later = sections_fit sections more (All-tail IsListed section sections listed) (All-tail HasBytes section sections authorities) (All-tail HasIds section sections ids) fit in
+    let later = sections_fit sections more (All-tail IsOrderlySection section sections listed) (All-tail HasBytes section sections authorities) (All-tail HasIds section sections ids) fit in
     subst FitAnywhere (sym (append_assoc (section_facts section) (flat_map section_facts sections) more))
-    (section_fits section (flat_map section_facts sections ++ more) (All-head IsListed section sections listed)
+    (section_fits section (flat_map section_facts sections ++ more) (All-head IsOrderlySection section sections listed)
     (All-head HasBytes section sections authorities) (All-head HasIds section sections ids) later)
 
 keys_fit : (keys : List (List ℕ)) (more : List Fact) → All IsBytes keys → FitAnywhere more

@@ -3,11 +3,11 @@ use Rattle.std.proofs.Common.{◌≡◌, ℕ, ◌<◌, ◌==◌, ◌↔◌, List
 use Rattle.std.specs.List.{AllByRecursion, flat_map, onto_first, slice_split}
 use Rattle.std.specs.Prelude.{slice_index_or}
 use Rattle.std.proofs.lemmas.Bool.{cases_Bool}
-use Rattle.ssh_wire.specs.Rows.{Leads}
+use Rattle.ssh_wire.specs.Rows.{BeginsWithTable}
 use Rattle.ssh_wire.specs.Wire.{IsBytes, string, strings}
 use Rattle.ssh_wire.proofs.Digits.{IsBytes-append, IsBytes-back, IsBytes-cons, IsBytes-front, IsBytes-nil, IsBytes-tail}
 use Rattle.ssh_wire.proofs.Fields.{IsBytes-content, IsBytes-in_string, IsBytes-string}
-use Rattle.ssh_wire.proofs.RowLaws.{leads_front}
+use Rattle.ssh_wire.proofs.RowLaws.{table_front}
 use Rattle.ssh_key.specs.Key.{blob_of}
 use Rattle.ssh_key.specs.Kind.{type_name}
 use Rattle.ssh_cert.specs.Cert.{opening_values}
@@ -77,7 +77,7 @@ subsections_bytes authority text (subsection ∷ subsections) named (first, (res
 
 -- the first field of a section of certificates
 authority_bytes : (content : List ℕ) (values : List (List ℕ)) (body : List ℕ)
-    → Leads authority_fields [] content values body → IsBytes content → IsBytes (slice_index_or values 0 [])
+    → BeginsWithTable authority_fields [] content values body → IsBytes content → IsBytes (slice_index_or values 0 [])
 authority_bytes content values body (value, left, stands, passed, (reserved, rest, others, none, (same, ended))) bytes =
     subst (λ (vs : List (List ℕ)). IsBytes (slice_index_or vs 0 [])) same (IsBytes-content content value left bytes stands.spelled)
 
@@ -87,7 +87,7 @@ section_bytes text (Certificates authority subsections) spelled bytes =
     let c : SpellsCertificates spelled.content authority subsections = spelled.content_is in
     let all : IsBytes spelled.content = inner _ spelled.content text spelled.spelled bytes in
     let named : IsBytes authority = subst IsBytes c.authority_is (authority_bytes spelled.content c.values c.body c.fields all) in
-    let front = leads_front authority_fields [] spelled.content c.values c.body c.fields in
+    let front = table_front authority_fields [] spelled.content c.values c.body c.fields in
     subsections_bytes authority c.body subsections named c.subsections_are (IsBytes-back front.0 c.body (subst IsBytes front.1 all))
 section_bytes text (Keys blobs) spelled bytes = mapped KeyEntry (λ t is. is) blobs (subst IsBytes spelled.content_is (inner _ spelled.content text spelled.spelled bytes))
 section_bytes text (Sha1s hashes) spelled bytes = mapped Sha1Entry (λ t is. is) hashes (subst IsBytes spelled.content_is.0 (inner _ spelled.content text spelled.spelled bytes))
@@ -105,7 +105,7 @@ sections_bytes text (section ∷ sections) (first, (rest, (parts, one, others)))
 pub list_bytes : (text : List ℕ) (header : Header) (sections : List SpelledSection) → Spells text header sections
     → IsBytes text → AreBytes (entries_of sections)
 list_bytes text header sections spelled bytes =
-    let front = leads_front header_fields [] text spelled.values spelled.body spelled.fields in
+    let front = table_front header_fields [] text spelled.values spelled.body spelled.fields in
     sections_bytes spelled.body sections spelled.sections_are (IsBytes-back front.0 spelled.body (subst IsBytes front.1 bytes))
 
 -- ---- plain lists
@@ -128,7 +128,7 @@ split_bytes (byte ∷ text) bytes =
 subject_bytes : (blob : List ℕ) (asked : Subject) → IsBytes blob → IsSubject blob asked → IsBytes asked.plain
 subject_bytes blob asked bytes (plain_key key is_key same) = rw same bytes
 subject_bytes blob asked bytes (certified certificate is same) =
-    let front = leads_front opening_fields [] blob (opening_values certificate) is.fields is.opening in
+    let front = table_front opening_fields [] blob (opening_values certificate) is.fields is.opening in
     let fields : IsBytes is.fields = IsBytes-back front.0 is.fields (subst IsBytes front.1 bytes) in
     let key : IsBytes certificate.key.fields = IsBytes-front certificate.key.fields is.rest (subst IsBytes is.public.spelled fields) in
     let whole : IsBytes (blob_of certificate.key) =

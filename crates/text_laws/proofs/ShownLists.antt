@@ -3,11 +3,11 @@ use Rattle.std.proofs.Common.{ℕ, ◌<◌, Bool, true, false, List, [], ◌∷�
 use Rattle.std.proofs.lemmas.List.Elements.{All-cons, All-contains_itself, All-head, All-nil, All-tail, All-weaker}
 use Rattle.serial_set.specs.Span.{Covers, RunsFrom}
 use Rattle.serial_set.specs.declared.span.Span.{Span}
-use Rattle.ssh_wire.specs.Rows.{Leads}
+use Rattle.ssh_wire.specs.Rows.{BeginsWithTable}
 use Rattle.ssh_wire.specs.Wire.{IsBytes}
 use Rattle.krl_types.specs.Entry.{Entry, SerialsEntry, RangeEntry, BitmapEntry, IdEntry, KeyEntry, Sha1Entry, Sha256Entry}
 use Rattle.krl_types.specs.Naming.{EntryNames, IdOf, KeyOf, Name, SerialOf, Sha1Of, Sha256Of, SomeNames}
-use Rattle.krl_entries.specs.Revocations.{HoldsId, HoldsName, HoldsSerial, IsListed, Means, Revocations, Section}
+use Rattle.krl_entries.specs.Revocations.{HoldsId, HoldsName, HoldsSerial, IsOrderlySection, Means, Revocations, Section}
 use Rattle.krl_format.specs.Krl.{SpelledSection, Spells, header_fields, header_of}
 use Rattle.krl_format.specs.declared.header.Header.{Header}
 use Rattle.plain_list.specs.Any.{Names, NamesIf, begins_list}
@@ -54,7 +54,7 @@ first_id : (ids : List (List ℕ)) → 0 < length ids → (id : List ℕ) × Con
 first_id [] some = absurd (omega arith)
 first_id (id ∷ ids) some = (id, (0, omega arith, refl))
 
-authority_bytes : (section : Section) (sections : List Section) → IsListed section
+authority_bytes : (section : Section) (sections : List Section) → IsOrderlySection section
     → AreNamedByBytes (section ∷ sections) → IsBytes section.authority
 authority_bytes section sections listed named = elim (listed.some) [
   | inl spans ↦ let first = first_serial section.spans listed.runs spans in named.serial section.authority first.0 (inl (refl, first.1))
@@ -71,12 +71,12 @@ HasBytes section = IsBytes section.authority
 abbrev HasIds : Section → Type 0
 HasIds section = All IsBytes section.ids
 
-authorities_bytes : (sections : List Section) → All IsListed sections → AreNamedByBytes sections
+authorities_bytes : (sections : List Section) → All IsOrderlySection sections → AreNamedByBytes sections
     → All HasBytes sections
 authorities_bytes [] listed named = All-nil HasBytes
 authorities_bytes (section ∷ sections) listed named =
-    All-cons HasBytes section sections (authority_bytes section sections (All-head IsListed section sections listed) named)
-    (authorities_bytes sections (All-tail IsListed section sections listed) (later_named section sections named))
+    All-cons HasBytes section sections (authority_bytes section sections (All-head IsOrderlySection section sections listed) named)
+    (authorities_bytes sections (All-tail IsOrderlySection section sections listed) (later_named section sections named))
 
 ids_bytes : (sections : List Section) → AreNamedByBytes sections → All HasIds sections
 ids_bytes [] named = All-nil HasIds
@@ -101,7 +101,7 @@ stored_bytes r entries means bytes =
 
 -- ---- the header
 
-header_numbers : (bytes : List ℕ) (values : List (List ℕ)) (body : List ℕ) → Leads header_fields [] bytes values body
+header_numbers : (bytes : List ℕ) (values : List (List ℕ)) (body : List ℕ) → BeginsWithTable header_fields [] bytes values body
     → HasNumbers (Some (header_of values))
 header_numbers bytes values body (
   magic,

@@ -1,9 +1,17 @@
 -- Lists that are made of the texts of lists.
 use Rattle.std.specs.Prelude.{ℕ, List, [], ◌∷◌, Ok}
-use Rattle.text_laws.specs.ReadBack.{Shown, text_of_lists}
+use Rattle.krl_entries.specs.Revocations.{Means, Revocations}
+use Rattle.krl_format.specs.declared.header.Header.{Header}
+use Rattle.krl_writer.specs.KrlText.{IsKrlText}
+use Rattle.text_laws.specs.ReadBack.{Shown, entries_of_lists, text_of_lists}
 use Rattle.text_run.specs.Making.{Text}
 
--- the text of a list, as the only text that another is made of
-abbrev pub only_text_of : (name : List ℕ) → Shown → List Text
-only_text_of name list =
-    record { name = name; content = Ok (text_of_lists (list ∷ [])) } ∷ []
+-- the texts of lists, one after the other, as the only text that another list is made of
+abbrev pub only_text_of : (name : List ℕ) → List Shown → List Text
+only_text_of name lists = record { name = name; content = Ok (text_of_lists lists) } ∷ []
+
+-- The bytes are those of a list with this header that names exactly what the lists name.
+pub record IsMergedOf (lists : List Shown) (header : Header) (bytes : List ℕ) : Type 0 where
+  pub contents : Revocations
+  pub means : Means contents (entries_of_lists lists)
+  pub written : IsKrlText header contents bytes

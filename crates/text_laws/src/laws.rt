@@ -18,7 +18,7 @@ ghost use Rattle.text_laws.specs.ReadBack.{StopsWith, entries_of_lists, text_of_
 ghost use Rattle.text_laws.specs.Joined.{AreWholeLines, LacksNoAuthority, later_by, lines_in};
 ghost use Rattle.krl_writer.specs.KrlText.{IsKrlText};
 ghost use Rattle.list_text.specs.declared.counts.Counts.{Counts as CountsOf};
-ghost use Rattle.text_laws.specs.MadeLists.{only_text_of};
+ghost use Rattle.text_laws.specs.MadeLists.{IsMergedOf, only_text_of};
 ghost use Rattle.text_run.specs.Making.{Makes, Wanted as WantedOf};
 
 use plain_list::laws::line_read_as_spelled;
@@ -76,10 +76,14 @@ pub fn shown_list_names_the_same()
     line_read_as_spelled();
 }
 
-/// A list that is made of the text of a list holds exactly what that list holds: the bytes are those
-/// of a list with the wanted header and the same contents. So both have the same text.
-pub fn shown_list_is_made_again()
-    ensures { (list : Shown) (wanted : WantedOf) (name bytes : List ℕ) (counts : CountsOf)
-        → CanBeShown list → Makes wanted (only_text_of name list) bytes counts
+/// A list that is made of the texts of lists names exactly what these lists name. Made of the text of
+/// one list, it has the wanted header and the same contents, so both have the same lines.
+pub fn shown_lists_are_made_again()
+    ensures merged { (lists : List Shown) (wanted : WantedOf) (name bytes : List ℕ)
+        (counts : CountsOf) → All CanBeShown lists
+        → Makes wanted (only_text_of name lists) bytes counts
+        → IsMergedOf lists wanted.header bytes }
+    ensures same { (list : Shown) (wanted : WantedOf) (name bytes : List ℕ) (counts : CountsOf)
+        → CanBeShown list → Makes wanted (only_text_of name (list ∷ [])) bytes counts
         → IsKrlText wanted.header list.contents bytes }
 {}
