@@ -58,7 +58,8 @@ plays() {
   PATH=$PWD/tools:$PATH HOME=$PWD ANSIBLE_CONFIG=$PWD/ansible.cfg ANSIBLE_NOCOLOR=1 \
     ANSIBLE_PIPELINING=1 \
     timeout 300 ansible-playbook -i inventory \
-    -e '{"krl_serial": ['"${step:-1}"', "100%"]}' "$@" "$top/examples/ansible/krl.yml" \
+    -e '{"krl_serial": ['"${step:-1}"', "100%"], "krl_superset": '"${superset:-false}"'}' \
+    "$@" "$top/examples/ansible/krl.yml" \
     >output 2>&1 </dev/null
   differs 'status' "$wanted" $?
 }
@@ -128,17 +129,25 @@ judge 'a newer list is put in force' "$(plays 0 && in_force 20 20)"
 
 version 10
 plays_ill 'an older list is refused' 'failed to validate' 20 20
+version 25
+superset=true
+plays_ill 'a list that lacks an entry is refused where that is wanted' 'lost: ' 20 20
+version 25 leaver.pub user-ca.pub
+plays_ill 'so is one with more entries that revokes a key to keep' 'user_ca.pub' 20 20
+version 25 leaver.pub
+judge 'a list that has all entries is put in force' "$(plays 0 && in_force 25 25)"
+superset=false
 version 30 user-ca.pub
-plays_ill 'a list that revokes a key to keep is refused' 'user_ca.pub' 20 20
+plays_ill 'a list that revokes a key to keep is refused' 'user_ca.pub' 25 25
 version 30 first/etc/ssh/ssh_host_ed25519_key.pub
-plays_ill 'a list that revokes the second key to keep is refused' 'ssh_host_ed25519_key.pub' 20 20
+plays_ill 'a list that revokes the second key to keep is refused' 'ssh_host_ed25519_key.pub' 25 25
 cp canary.pub revoked.krl
-plays_ill 'a plain list is refused' 'a plain list has no version' 20 20
+plays_ill 'a plain list is refused' 'a plain list has no version' 25 25
 "$program" -k -f revoked.krl -z 30 leaver.pub >/dev/null
-plays_ill 'a list without the canary is refused' 'canary' 20 20
+plays_ill 'a list without the canary is refused' 'canary' 25 25
 version 30
 truncate -s -1 revoked.krl
-plays_ill 'a truncated list is refused' 'revoked.krl' 20 20
+plays_ill 'a truncated list is refused' 'revoked.krl' 25 25
 
 version 30
 : >first/etc/ssh/revoked.krl

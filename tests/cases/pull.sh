@@ -114,20 +114,33 @@ pulls 'a list in force that has become too old' 1 50 'age: '
 publish 51 alice.pub
 options=(--max-age 7d --allow-empty)
 pulls 'a list of today' 0 51
+publish 52 signing.pub
+options=(--superset)
+pulls 'a list that lacks an entry of the list in force' 1 51 'lost: '
+publish 52 alice.pub signing.pub
+pulls 'a list that has them all' 0 52
+publish 53 alice.pub
+options=()
+pulls 'a list that lacks an entry, where that is allowed' 0 53
+truncate -s 20 "$room/revoked.krl"
+options=(--superset)
+pulls 'any list, where that in force is damaged and is to be kept' 0 53
 publish 60 alice.pub
+options=(--superset --superset)
+pulls 'another flag that is given twice' 2 53 once
 options=(--max-age 7d --max-age 9d)
-pulls 'an option that is given twice' 2 51 once
+pulls 'an option that is given twice' 2 53 once
 options=(--allow-empty --allow-empty)
-pulls 'a flag that is given twice' 2 51 once
+pulls 'a flag that is given twice' 2 53 once
 options=(--max-age '')
-pulls 'a duration that is empty' 2 51 'with a duration'
+pulls 'a duration that is empty' 2 53 'with a duration'
 options=(--max-ages 7d)
-pulls 'an unknown option' 2 51 'no option'
+pulls 'an unknown option' 2 53 'no option'
 options=()
 
 # ---- how it fetches and ends
 
-url=$secure/a.endless pulls 'no more than a list may have is fetched' 23 51 'curl: (23)'
+url=$secure/a.endless pulls 'no more than a list may have is fetched' 23 53 'curl: (23)'
 for it in HUP INT TERM; do
   (url=$secure/a.slow pull) &
   for _ in {1..100}; do pgrep -P $! curl >/dev/null && break || sleep 0.1; done
@@ -140,7 +153,7 @@ for it in HUP INT TERM; do
     ((SECONDS < begun + 10)) || echo '  it ends late'
     [ -n "$fetching" ] || echo '  it did not fetch'
     ! kill -0 $fetching 2>/dev/null || echo '  curl is left'
-    in_force 51
+    in_force 53
   )"
 done
 for it in sync mv; do

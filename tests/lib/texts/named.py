@@ -70,6 +70,18 @@ class Named:
     def __eq__(self, other):
         return list(self.facts()) == list(other.facts())
 
+    def without(self, other):
+        """What is named here and not there."""
+        lost = Named()
+        for authority in self.authorities():
+            for least, most in left_of(self.spans(authority), other.spans(authority)):
+                lost.add_serials(authority, least, most)
+            for it in self.ids.get(authority, set()) - other.ids.get(authority, set()):
+                lost.add_id(authority, it)
+        lost.keys = self.keys - other.keys
+        lost.sha1s, lost.sha256s = self.sha1s - other.sha1s, self.sha256s - other.sha256s
+        return lost
+
     def counts(self):
         """How many authorities, serial numbers, key IDs, keys and hashes there are."""
         serials = sum(
@@ -96,6 +108,18 @@ class Named:
     def names_key(self, blob):
         hashes = hashlib.sha1(blob).digest(), hashlib.sha256(blob).digest()
         return blob in self.keys or hashes[0] in self.sha1s or hashes[1] in self.sha256s
+
+
+def left_of(spans, others):
+    """The parts of spans that rise, without those of others that rise."""
+    for least, most in spans:
+        for first, last in others:
+            if first <= most and least <= last:
+                if least < first:
+                    yield least, first - 1
+                least = last + 1
+        if least <= most:
+            yield least, most
 
 
 # ---- lists
@@ -235,6 +259,29 @@ def line_of(fact):
 def lines_of(named):
     """The lines that name it."""
     return [line_of(fact) for fact in named.facts()]
+
+
+# ---- changes
+
+
+def marked(mark, named):
+    """The lines of what one of two lists names, each authority without the mark."""
+    return [("  " if fact[0] == "ca" else mark) + line_of(fact) for fact in named.facts()]
+
+
+def changes(old, new):
+    """The lines of what only the new one names, and then of what only the old one does."""
+    return marked("+ ", new.without(old)) + marked("- ", old.without(new))
+
+
+def lost(name, named, other_name, other):
+    """The lines about a list that is to name all that another one names."""
+    lines = marked("- ", other.without(named))
+    count = sum(line.startswith("- ") for line in lines)
+    if not lines:
+        return []
+    entries = "1 entry is" if count == 1 else "%d entries are" % count
+    return [*lines, "lost: %s: %s not in %s" % (other_name, entries, name)]
 
 
 # ---- the line about a list
