@@ -152,7 +152,8 @@ lines_of() {
   for ((i = 0; i < $1; i++)); do
     echo "serial: $((RANDOM % $2 + 1))"
     lo=$((RANDOM % $2 + 1))
-    [ $((RANDOM % 3)) != 0 ] || echo "serial: $lo-$((lo + RANDOM % 20))"
+    # OpenSSH takes no range of one serial number.
+    [ $((RANDOM % 3)) != 0 ] || echo "serial: $lo-$((lo + 1 + RANDOM % 20))"
     echo "id: id $((RANDOM % 40))"
   done
 }
