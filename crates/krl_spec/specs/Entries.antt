@@ -1,6 +1,6 @@
 -- The entries of the lines of specification files (ssh-keygen(1), KEY REVOCATION LISTS).
-use Rattle.std.specs.Prelude.{ℕ, ◌<◌, ◌≤◌, ◌==◌, if◌then◌else◌, List, [], ◌∷◌, Option, Some}
-use Rattle.std.specs.Prelude.{None, Result, Ok, Err, ⊤}
+use Rattle.std.specs.Prelude.{ℕ, ◌==◌, if◌then◌else◌, List, [], ◌∷◌, Option, Some, None, Result}
+use Rattle.std.specs.Prelude.{Ok, Err}
 use Rattle.sha1.specs.Sha1.{sha1}
 use Rattle.sha2.specs.Sha256.{sha256}
 use Rattle.ssh_wire.specs.Reading.{◌>>=◌, in_fault}
@@ -17,8 +17,6 @@ use Rattle.krl_spec.specs.declared.directive.Directive.TheVariants.{Serial, Id, 
 use Rattle.krl_spec.specs.declared.directive.Directive.TheVariants.{Hash}
 use Rattle.run_faults.specs.declared.spec_cause.SpecCause.{SpecCause}
 use Rattle.run_faults.specs.declared.spec_cause.SpecCause.TheVariants as causes
-use Rattle.krl_spec.specs.declared.entries.LineEntry.{LineEntry}
-use Rattle.krl_spec.specs.declared.entries.LineEntry.TheVariants as entries
 
 -- ---- serials and key IDs, under the current authority
 
@@ -95,18 +93,3 @@ counted_entry authority (byte ∷ bytes) =
 -- empty bytes.
 unfoldable pub line_entry : Option (List ℕ) → List ℕ → Option (Result Entry SpecCause)
 line_entry authority line = counted_entry authority (bare_line line)
-
--- ---- how a line was read
-
--- the entry that it represents
-abbrev pub entry_of : LineEntry → Entry
-entry_of (entries.Serials authority serials) = RangeEntry authority.now serials.lo serials.hi
-entry_of (entries.Id authority id) = IdEntry authority.now id.now
-entry_of (entries.Key blob) = KeyEntry blob
-entry_of (entries.Sha1 hash) = Sha1Entry hash
-entry_of (entries.Sha256 hash) = Sha256Entry hash
-
--- serials are a range above 0
-abbrev pub IsSound : LineEntry → Type 0
-IsSound (entries.Serials authority serials) = (0 < serials.lo) × (serials.lo ≤ serials.hi)
-IsSound entry = ⊤

@@ -1,45 +1,21 @@
 //! Adding the entry of a line of a specification file.
 
-ghost use Rattle.std.specs.Prelude.{◌≡◌, ◌+◌, ◌≤◌, ℕ, List, [], ◌∷◌, OnErr, OnOk, length};
-ghost use Rattle.krl_entries.specs.Changes.{MeansMore};
-ghost use Rattle.krl_entries.specs.Revocations.{held};
+ghost use Rattle.std.specs.Prelude.{ℕ, List, length};
 ghost use Rattle.krl_spec.specs.Adding.{AddsEntry, AddsLine};
 ghost use Rattle.krl_spec.specs.Under.{authority_under};
 ghost use Rattle.krl_spec.specs.Entries.{bare_entry, line_entry, text_entry};
 ghost use Rattle.krl_spec.specs.Directive.{order_in};
-ghost use Rattle.krl_spec.specs.Entries.{IsSound, entry_of};
-ghost use Rattle.krl_spec.specs.Stored.{Fits, GrowsBy, GrowsUnder};
+ghost use Rattle.krl_spec.specs.Stored.{GrowsBy, GrowsUnder};
 
 use crate::blanks::bare_line;
 use crate::directive::order_in;
-use crate::entries::{LineEntry, read_order, subject_entry};
+use crate::entries::{add_order, add_subject};
 use crate::keys::{ask, key_line};
 use crate::under::Under;
 use krl_entries::Revocations;
 use run_faults::SpecCause;
 use serial_set::Spans;
-use std::alloc::{AllocError, Global};
-
-// Adds an entry.
-fn add<S: Spans>(revocations: &mut Revocations<S>, entry: LineEntry) -> Result<(), AllocError>
-    requires { IsSound entry }
-    ensures means { OnOk result (MeansMore revocations.old revocations.new
-        (entry_of entry.entry ∷ [])) }
-    ensures held { held revocations.new ≤ held revocations.old + 1 }
-    ensures refused { OnErr result (revocations.new ≡ revocations.old) }
-    ensures grows { (current : List ℕ) (size : ℕ) → Fits current size (entry_of entry.entry)
-        → GrowsUnder current size revocations.old revocations.new }
-{
-    match entry {
-        LineEntry::Serials(authority, serials) => {
-            revocations.add_serials(authority, serials.lo, serials.hi)
-        }
-        LineEntry::Id(authority, id) => revocations.add_id(authority, id),
-        LineEntry::Key(blob) => revocations.add_key(blob.as_slice()),
-        LineEntry::Sha1(hash) => revocations.add_sha1(&hash),
-        LineEntry::Sha256(hash) => revocations.add_sha256(&hash),
-    }
-}
+use std::alloc::Global;
 
 // Adds the entry of a line without a directive.
 #[tactic(auto, unfolding(keyed_lines::specs::Keys::subject_in))]
@@ -54,7 +30,7 @@ fn add_bare<S: Spans>(
 {
     let line = key_line(alloc, text)?;
     let asked = ask(alloc, line.blob.as_slice())?;
-    add(revocations, subject_entry(asked))?;
+    add_subject(revocations, &asked)?;
     Ok(())
 }
 
@@ -73,9 +49,7 @@ fn add_text<S: Spans>(
     let Some((directive, given)) = order_in(text) else {
         return add_bare(alloc, revocations, text);
     };
-    let entry = read_order(alloc, under, directive, given)?;
-    add(revocations, entry)?;
-    Ok(())
+    add_order(alloc, revocations, under, directive, given)
 }
 
 /// Adds the entry of a line, if the line has content.

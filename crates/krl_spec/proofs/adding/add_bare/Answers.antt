@@ -4,7 +4,6 @@ use Rattle.ssh_wire.proofs.Steps.{in_fault_ok}
 use Rattle.keyed_lines.specs.Keys.{subject_in}
 use Rattle.keyed_lines.specs.declared.key_cause.KeyCause.TheVariants as keys
 use Rattle.run_faults.specs.declared.spec_cause.SpecCause.TheVariants.{Key}
-use Rattle.krl_spec.specs.Entries.{entry_of}
 use Rattle.krl_spec.proofs.Growth.{subject_fits}
 use Rattle.krl_spec.proofs.adding.add_bare.Goals as goal
 
@@ -13,9 +12,9 @@ unfolding subject_in
 returns-clause-adds g c =
     let line = in_fault_ok keys.Line _ _ (in_fault_ok Key _ _ c.in_ok-line.ensures.read) in
     let asked = in_fault_ok keys.Subject _ _ (in_fault_ok Key _ _ (rw c.as_slice.ensures at c.in_ok-asked.ensures.asked)) in
-    (entry_of c.subject_entry.result, rw (line, asked, c.subject_entry.ensures.named) refl, c.in_ok-add.ensures.means, c.in_ok-add.ensures.held)
+    (_, rw (line, asked) refl, c.in_ok-add_subject.ensures.means, c.in_ok-add_subject.ensures.held)
 
 pub returns-clause-grows : goal.returns-clause-grows
 returns-clause-grows g c = λ current.
     let within = rw c.as_slice.ensures at c.in_ok-asked.ensures.room in
-    c.in_ok-add.ensures.grows current (length c.args.text.now) (rw c.subject_entry.ensures.named (subject_fits current _ _ _ c.in_ok-line.ensures.room within))
+    c.in_ok-add_subject.ensures.grows current (length c.args.text.now) (subject_fits current _ _ _ c.in_ok-line.ensures.room within)
