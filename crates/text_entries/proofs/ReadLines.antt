@@ -8,9 +8,8 @@ use Rattle.krl_types.specs.Entry.{Entry}
 use Rattle.krl_entries.specs.Changes.{MeansMore}
 use Rattle.krl_entries.specs.Revocations.{Revocations, held}
 use Rattle.text_entries.specs.Lines.{LineEntries, before_later, fault_at, lines_from, lines_of}
-use Rattle.text_entries.specs.Reading.{IsDone, LacksMemoryAt, ReadsText, StopsAt, TakesLine}
+use Rattle.text_entries.specs.Reading.{IsDone, LacksMemory, LacksMemoryAt, ReadsText, ReportsLine, StopsAt, TakesLine}
 use Rattle.text_entries.specs.Says.{Blank, Current, Names, Saying, line_says}
-use Rattle.text_entries.specs.TextCause.{Reports}
 use Rattle.text_entries.specs.declared.text_cause.TextCause.{TextCause}
 use Rattle.text_entries.specs.declared.text_cause.TextCause.TheVariants as causes
 
@@ -151,21 +150,22 @@ reported text passed line rest current old new cause at is =
     (ap (λ (n : LineEntries). n.fault) whole, λ entries means. rw (whole, append-nil e) (at.adds entries means))
 
 lacking : (lines : List (List ℕ)) (passed : ℕ) (line : List ℕ) (rest : List (List ℕ)) (current : Option (List ℕ)) (old new : Revocations)
-    → IsAt lines passed (line ∷ rest) current old new → LacksMemoryAt lines (passed + 1) old new
-lacking lines passed line rest current old new at = record {
+    → IsAt lines passed (line ∷ rest) current old new → LacksMemory (line_says current line) → LacksMemoryAt lines (passed + 1) old new
+lacking lines passed line rest current old new at lacks = record {
   before = at.before;
   line = line;
   after = rest;
   parts = at.parts;
   counted = omega (arith, at.counted);
   faultless = at.faultless;
+  lacks = rw at.current_is lacks;
   adds = at.adds;
 }
 
 stops : (text : List ℕ) (passed : ℕ) (line : List ℕ) (rest : List (List ℕ)) (current : Option (List ℕ)) (old new : Revocations)
     (cause : TextCause) → IsAt (slice_split is_newline text) passed (line ∷ rest) current old new
-    → Reports cause (line_says current line) → StopsAt text (passed + 1) cause old new
-stops text passed line rest current old new (causes.Spec specs.NoMemory) at reports = lacking _ passed line rest current old new at
+    → ReportsLine cause (line_says current line) → StopsAt text (passed + 1) cause old new
+stops text passed line rest current old new (causes.Spec specs.NoMemory) at reports = lacking _ passed line rest current old new at reports
 stops text passed line rest current old new cause at reports = reported text passed line rest current old new cause at reports
 
 -- Reading stops at a line, with its fault or because an allocation failed.

@@ -6,16 +6,17 @@ use Rattle.run_faults.specs.declared.spec_cause.SpecCause.TheVariants as specs
 use Rattle.key_text.specs.LineReading.{KeyLine, line_at}
 use Rattle.krl_entries.specs.Changes.{MeansMore}
 use Rattle.krl_entries.specs.Revocations.{Revocations, held}
-use Rattle.krl_spec.specs.Adding.{AddsLine, Reports as ReportsSpec}
+use Rattle.krl_spec.specs.Adding.{AddsLine, MayLackMemory as MayLackSpec, Reports as ReportsSpec}
 use Rattle.keyed_lines.specs.Keys.{subject_in}
 use Rattle.keyed_lines.specs.declared.key_cause.KeyCause.{KeyCause}
 use Rattle.keyed_lines.specs.declared.key_cause.KeyCause.TheVariants as keys
 use Rattle.krl_types.specs.Entry.{Entry}
-use Rattle.krl_types.specs.Subject.{Subject}
+use Rattle.krl_types.specs.Subject.{CertNames, Subject}
 use Rattle.ssh_cert.specs.SubjectReading.{subject_of}
+use Rattle.ssh_cert.specs.declared.subject_fault.SubjectFault.{SubjectFault}
 use Rattle.text_entries.specs.Reading.{IsDone}
 use Rattle.text_entries.specs.Says.{Blank, Names, Saying, spec_says}
-use Rattle.text_entries.specs.TextCause.{Reports}
+use Rattle.text_entries.specs.TextCause.{MayLackMemory, Reports}
 use Rattle.text_entries.specs.Values.{authority_key_in, unless_certified}
 use Rattle.text_entries.specs.declared.text_cause.TextCause.{TextCause}
 use Rattle.text_entries.specs.declared.text_cause.TextCause.TheVariants.{Spec}
@@ -34,6 +35,22 @@ line_in text = in_fault keys.Line (line_at text)
 abbrev asked_in : KeyLine → Result Subject KeyCause
 asked_in line = in_fault keys.Subject (subject_of line.blob)
 
+abbrev plain_of : Result Subject KeyCause → Result (List ℕ) TextCause
+plain_of read = in_fault Spec (in_fault specs.Key read) >>= λ (asked : Subject). unless_certified asked.plain asked.cert
+
+unless_may : (plain : List ℕ) (cert : Option CertNames) → MayLackMemory (unless_certified plain cert)
+unless_may plain None = tt
+unless_may plain (Some names) = tt
+
+subject_may : (read : Result Subject SubjectFault) → MayLackMemory (plain_of (in_fault keys.Subject read))
+subject_may (Ok asked) = unless_may asked.plain asked.cert
+subject_may (Err fault) = tt
+
+-- Memory may run out where it may for the line, since the subject needs some.
+line_may : (read : Result KeyLine KeyCause) → MayLackSpec (in_fault specs.Key read) → MayLackMemory (plain_of (read >>= asked_in))
+line_may (Ok line) may = subject_may (subject_of line.blob)
+line_may (Err cause) may = may
+
 pub key_read : (text : List ℕ) (line : KeyLine) (asked : Subject) → in_fault specs.Key (line_in text) ≡ Ok line
     → in_fault specs.Key (asked_in line) ≡ Ok asked → authority_key_in text ≡ unless_certified asked.plain asked.cert
 unfolding authority_key_in subject_in
@@ -41,13 +58,13 @@ key_read text line asked read is = rw (in_fault_then specs.Key (line_in text) as
 
 pub line_stops : (text : List ℕ) (cause : SpecCause) → ReportsSpec cause (in_fault specs.Key (line_in text)) → Reports (Spec cause) (authority_key_in text)
 unfolding authority_key_in subject_in
-line_stops text specs.NoMemory is = tt
+line_stops text specs.NoMemory is = line_may (line_in text) is
 line_stops text cause is = rw (in_fault_then specs.Key (line_in text) asked_in, is) refl
 
 pub subject_stops : (text : List ℕ) (line : KeyLine) (cause : SpecCause) → in_fault specs.Key (line_in text) ≡ Ok line
     → ReportsSpec cause (in_fault specs.Key (asked_in line)) → Reports (Spec cause) (authority_key_in text)
 unfolding authority_key_in subject_in
-subject_stops text line specs.NoMemory read is = tt
+subject_stops text line specs.NoMemory read is = rw (in_fault_then specs.Key (line_in text) asked_in, read) (subject_may (subject_of line.blob))
 subject_stops text line cause read is = rw (in_fault_then specs.Key (line_in text) asked_in, read, is) refl
 
 -- ---- entries

@@ -7,8 +7,8 @@ use Rattle.run_faults.specs.declared.spec_cause.SpecCause.TheVariants as specs
 use Rattle.krl_entries.specs.Changes.{MeansMore}
 use Rattle.krl_entries.specs.Revocations.{Revocations, held}
 use Rattle.text_entries.specs.Lines.{fault_at, lines_from, lines_of}
-use Rattle.text_entries.specs.Says.{Blank, Current, Names, Saying}
-use Rattle.text_entries.specs.TextCause.{Reports}
+use Rattle.text_entries.specs.Says.{Blank, Current, Names, Saying, line_says}
+use Rattle.text_entries.specs.TextCause.{MayLackMemory}
 use Rattle.text_entries.specs.declared.text_cause.TextCause.{TextCause}
 use Rattle.text_entries.specs.declared.text_cause.TextCause.TheVariants as causes
 use Rattle.text_entries.specs.declared.text_fault.TextFault.{TextFault}
@@ -23,17 +23,28 @@ IsDone (Current authority) before after old new = (after ≡ Some authority) × 
 IsDone (Names entry) before after old new =
     (after ≡ before) × MeansMore old new (entry ∷ []) × (held new ≤ held old + 1)
 
--- The same, or the line has the fault that is reported and nothing changed.
+-- An allocation may fail before what the line says is done. A line that says nothing needs none.
+abbrev pub LacksMemory : Result Saying TextCause → Type 0
+LacksMemory (Ok Blank) = ⊥
+LacksMemory says = MayLackMemory says
+
+-- The line has the fault that is reported, or an allocation failed.
+abbrev pub ReportsLine : TextCause → Result Saying TextCause → Type 0
+ReportsLine (causes.Spec specs.NoMemory) says = LacksMemory says
+ReportsLine cause says = says ≡ Err cause
+
+-- What the line says was done; or its fault is reported, and nothing changed.
 abbrev pub TakesLine : {A : Type 0} → Result Saying TextCause → Result A TextCause
     → (before after : Option (List ℕ)) → (old new : Revocations) → Type 0
 TakesLine says (Ok done) before after old new =
     (saying : Saying) × (says ≡ Ok saying) × IsDone saying before after old new
 TakesLine says (Err cause) before after old new =
-    Reports cause says × (after ≡ before) × (new ≡ old)
+    ReportsLine cause says × (after ≡ before) × (new ≡ old)
 
 -- ---- a text
 
--- An allocation failed at a line: those before it have no fault, and their entries were added.
+-- An allocation failed at a line, before a fault of it that needs none: those before it have no
+-- fault, and their entries were added.
 pub record LacksMemoryAt (lines : List (List ℕ)) (number : ℕ) (old new : Revocations) : Type 0 where
   pub before : List (List ℕ)
   pub line : List ℕ
@@ -41,6 +52,7 @@ pub record LacksMemoryAt (lines : List (List ℕ)) (number : ℕ) (old new : Rev
   pub parts : lines ≡ before ++ line ∷ after
   pub counted : length before + 1 ≡ number
   pub faultless : (lines_from None 1 before).fault ≡ None
+  pub lacks : LacksMemory (line_says (lines_from None 1 before).current line)
   pub adds : MeansMore old new (lines_from None 1 before).entries
 
 -- The entries up to the first fault were added, and the fault is reported.

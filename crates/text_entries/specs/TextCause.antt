@@ -1,7 +1,8 @@
 -- The numbers and the printed names of the faults of a line of the text of a list.
-use Rattle.std.specs.Prelude.{◌≡◌, ℕ, List, ◌++◌, codes, Result, Err, ⊤}
+use Rattle.std.specs.Prelude.{◌≡◌, ℕ, List, ◌++◌, codes, Result, Ok, Err, ⊤}
 use Rattle.run_faults.specs.SpecCause.{spec_cause_text}
 use Rattle.run_faults.specs.declared.spec_cause.SpecCause.TheVariants as specs
+use Rattle.krl_spec.specs.Adding.{MayHide as SpecMayHide}
 use Rattle.text_entries.specs.declared.text_cause.TextCause.{TextCause}
 use Rattle.text_entries.specs.declared.text_cause.TextCause.TheVariants.{Spec, Certificate, NoBytes}
 use Rattle.text_entries.specs.declared.text_cause.TextCause.TheVariants.{Base64, Hex, CutId}
@@ -26,7 +27,21 @@ text_cause_text CutId = codes "text 6 CutId"
 abbrev pub no_memory : TextCause
 no_memory = Spec specs.NoMemory
 
+-- A fault that is found only after an allocation.
+abbrev pub MayHide : TextCause → Type 0
+MayHide (Spec cause) = SpecMayHide cause
+MayHide Certificate = ⊤
+MayHide NoBytes = ⊤
+MayHide Base64 = ⊤
+MayHide Hex = ⊤
+MayHide CutId = ⊥
+
+-- An allocation may fail before this is found.
+abbrev pub MayLackMemory : {A : Type 0} → Result A TextCause → Type 0
+MayLackMemory (Ok found) = ⊤
+MayLackMemory (Err cause) = MayHide cause
+
 -- The cause is the one that was read, or an allocation failed.
 abbrev pub Reports : {A : Type 0} → TextCause → Result A TextCause → Type 0
-Reports (Spec specs.NoMemory) read = ⊤
+Reports (Spec specs.NoMemory) read = MayLackMemory read
 Reports cause read = read ≡ Err cause
