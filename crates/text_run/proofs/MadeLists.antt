@@ -6,7 +6,7 @@ use Rattle.krl_types.specs.Entry.{Entry}
 use Rattle.krl_writer.specs.KrlText.{IsKrlText}
 use Rattle.list_text.specs.declared.counts.Counts.{Counts}
 use Rattle.text_run.specs.Fault.{MakeFault, whole_fault}
-use Rattle.text_run.specs.Making.{AddsTexts, HoldsMore, IsUnmade, IsWritten, Makes, Text, Wanted, counts_of, empty, refused, texts_entries, too_long}
+use Rattle.text_run.specs.Making.{AddsTexts, HoldsMore, IsUnmade, IsWritten, Makes, Text, Wanted, counts_of, empty, ran_out, too_long}
 use Rattle.text_run.specs.declared.make_fault.MakeCause.TheVariants.{Empty}
 
 abbrev fine : Result (Unit {0}) MakeFault
@@ -20,7 +20,7 @@ few : (contents : Revocations) (entries : List Entry) → HoldsMore nothing cont
 few contents entries holds = omega (arith, holds.held_is)
 
 pub list_made : (wanted : Wanted) (texts : List Text) (contents : Revocations) (bytes : List ℕ) (counts : Counts)
-    → AddsTexts (texts_entries texts) fine nothing contents → Means nothing [] → (wanted.allow_empty ≡ false → contents ≢ nothing)
+    → AddsTexts texts fine nothing contents → Means nothing [] → (wanted.allow_empty ≡ false → contents ≢ nothing)
     → IsKrlText wanted.header contents bytes → length bytes ≤ limit → counts ≡ counts_of contents → Makes wanted texts bytes counts
 list_made wanted texts contents bytes counts (entries, read, holds) none some written within counted = record {
   entries = entries;
@@ -37,14 +37,14 @@ list_made wanted texts contents bytes counts (entries, read, holds) none some wr
 }
 
 pub none_made : (wanted : Wanted) (texts : List Text) (contents : Revocations) (fault : MakeFault)
-    → AddsTexts (texts_entries texts) fine nothing contents → Means nothing [] → contents ≡ nothing → wanted.allow_empty ≡ false
+    → AddsTexts texts fine nothing contents → Means nothing [] → contents ≡ nothing → wanted.allow_empty ≡ false
     → fault ≡ whole_fault wanted.name Empty → IsUnmade wanted texts fault
 none_made wanted texts contents fault (entries, read, holds) none same strict is =
     empty entries read (subst (λ (r : Revocations). Means r entries) same (meant contents entries none holds)) strict is
 
 pub not_written : (wanted : Wanted) (texts : List Text) (contents : Revocations) (fault : MakeFault)
-    → AddsTexts (texts_entries texts) fine nothing contents → Means nothing []
+    → AddsTexts texts fine nothing contents → Means nothing []
     → IsWritten {X = List ℕ} (λ bytes. bytes) wanted contents (Err fault) → IsUnmade wanted texts fault
-not_written wanted texts contents fault (entries, read, holds) none (inl is) = rw is (refused tt)
+not_written wanted texts contents fault (entries, read, holds) none (inl is) = ran_out entries read is
 not_written wanted texts contents fault (entries, read, holds) none (inr (is, long)) =
     too_long entries contents read (meant contents entries none holds) long is

@@ -1,6 +1,6 @@
 -- Making a list of texts (krl(1), KRL MAKE).
 use Rattle.std.specs.Prelude.{◌≡◌, ◌≢◌, ℕ, Bool, false, ◌+◌, ◌≤◌, ◌<◌, ◌⊎◌}
-use Rattle.std.specs.Prelude.{List, [], ◌∷◌, ◌++◌, length, Option, Some, None, Result, Ok, Err, ⊤}
+use Rattle.std.specs.Prelude.{List, [], ◌∷◌, ◌++◌, length, Option, Some, None, Result, Ok, Err}
 use Rattle.ssh_wire.specs.Reading.{◌>>=◌, in_fault}
 use Rattle.run_faults.specs.declared.cause.Cause.{Cause}
 use Rattle.run_faults.specs.declared.cause.Cause.TheVariants as causes
@@ -58,21 +58,44 @@ texts_entries (text ∷ texts) = then_entries (text_entries text) (texts_entries
 
 -- ---- adding them
 
--- The cause is the one that reading gives, or an allocation failed.
-abbrev pub IsMakeFault : {A : Type 0} → MakeCause → Result A MakeFault → MakeFault → Type 0
-IsMakeFault (Run causes.NoMemory) read fault = ⊤
-IsMakeFault cause read fault = read ≡ Err fault
+-- An allocation failed at a text of this name: the texts before it have no fault.
+pub record LacksMemoryAt (texts : List Text) (name : List ℕ) : Type 0 where
+  pub before : List Text
+  pub text : Text
+  pub after : List Text
+  pub parts : texts ≡ before ++ text ∷ after
+  pub named : name ≡ text.name
+  pub entries : List Entry
+  pub faultless : texts_entries before ≡ Ok entries
+
+-- The fault is the one that reading gives. Or an allocation failed, which is the fault of a text as
+-- a whole: it has a name at which that can be, and no line.
+abbrev pub IsMakeFault : {A : Type 0} → (Lacks : List ℕ → Type 0) → MakeCause
+    → Result A MakeFault → MakeFault → Type 0
+IsMakeFault Lacks (Run causes.NoMemory) read fault =
+    (fault ≡ whole_fault fault.name (Run causes.NoMemory)) × Lacks fault.name
+IsMakeFault Lacks cause read fault = read ≡ Err fault
 
 -- The entries that were read are held, and at most one more interval for each.
 pub record HoldsMore (old new : Revocations) (entries : List Entry) : Type 0 where
   pub means : MeansMore old new entries
   pub held_is : held new ≤ held old + length entries
 
-abbrev pub AddsTexts : {A : Type 0} → Result (List Entry) MakeFault → Result A MakeFault
-    → (old new : Revocations) → Type 0
-AddsTexts read (Ok done) old new =
+abbrev pub AddsEntries : {A : Type 0} → (Lacks : List ℕ → Type 0)
+    → Result (List Entry) MakeFault → Result A MakeFault → (old new : Revocations) → Type 0
+AddsEntries Lacks read (Ok done) old new =
     (entries : List Entry) × (read ≡ Ok entries) × HoldsMore old new entries
-AddsTexts read (Err fault) old new = IsMakeFault fault.cause read fault
+AddsEntries Lacks read (Err fault) old new = IsMakeFault Lacks fault.cause read fault
+
+-- the entries of a text with this name
+abbrev pub AddsText : {A : Type 0} → (name : List ℕ) → Result (List Entry) MakeFault
+    → Result A MakeFault → (old new : Revocations) → Type 0
+AddsText name = AddsEntries (λ other. other ≡ name)
+
+-- the entries of all texts
+abbrev pub AddsTexts : {A : Type 0} → List Text → Result A MakeFault → (old new : Revocations)
+    → Type 0
+AddsTexts texts = AddsEntries (LacksMemoryAt texts) (texts_entries texts)
 
 -- ---- the list
 
@@ -117,10 +140,13 @@ IsWritten view wanted contents (Err fault) =
     ⊎ ((fault ≡ whole_fault wanted.name (Run causes.TextTooLong))
     × ((bytes : List ℕ) → IsKrlText wanted.header contents bytes → limit < length bytes))
 
--- Why no list is made: the first fault of the texts, or an allocation failed; or no entry names
--- anything; or the list would be too long to be read.
+-- Why no list is made: the first fault of the texts; or an allocation failed, at a text or at the
+-- list; or no entry names anything; or the list would be too long to be read.
 pub data IsUnmade (wanted : Wanted) (texts : List Text) (fault : MakeFault) : Type 0 where
-  refused : IsMakeFault fault.cause (texts_entries texts) fault → IsUnmade wanted texts fault
+  refused : IsMakeFault (LacksMemoryAt texts) fault.cause (texts_entries texts) fault
+      → IsUnmade wanted texts fault
+  ran_out : (entries : List Entry) → texts_entries texts ≡ Ok entries
+      → fault ≡ whole_fault wanted.name (Run causes.NoMemory) → IsUnmade wanted texts fault
   empty : (entries : List Entry) → texts_entries texts ≡ Ok entries → Means nothing entries
       → wanted.allow_empty ≡ false → fault ≡ whole_fault wanted.name Empty
       → IsUnmade wanted texts fault

@@ -1,7 +1,7 @@
 //! Adding the entries of texts.
 
 ghost use Rattle.std.specs.Prelude.{◌≡◌};
-ghost use Rattle.text_run.specs.Making.{AddsTexts, entries_in, text_entries, texts_entries};
+ghost use Rattle.text_run.specs.Making.{AddsText, AddsTexts, entries_in, text_entries};
 
 use crate::make_fault::{MakeCause, MakeFault, line_fault};
 use crate::text::Text;
@@ -16,7 +16,7 @@ pub(crate) fn add_texts<'a, S: Spans>(
     revocations: &mut Revocations<S>,
     texts: &'a [Text<'a>],
 ) -> Result<(), MakeFault<'a>>
-    ensures { AddsTexts (texts_entries texts.now) result revocations.old revocations.new }
+    ensures { AddsTexts texts.now result revocations.old revocations.new }
 {
     for text in texts {
         add_text(alloc, revocations, text)?;
@@ -31,7 +31,8 @@ fn add_text<'a, S: Spans>(
     revocations: &mut Revocations<S>,
     text: &'a Text<'a>,
 ) -> Result<(), MakeFault<'a>>
-    ensures { AddsTexts (text_entries text.now) result revocations.old revocations.new }
+    ensures { AddsText text.now.name (text_entries text.now) result
+        revocations.old revocations.new }
 {
     match &text.content {
         Ok(bytes) => add_bytes(alloc, revocations, text.name, bytes.as_slice()),
@@ -46,7 +47,8 @@ fn add_bytes<'a, S: Spans>(
     name: &'a str,
     bytes: &'a [u8],
 ) -> Result<(), MakeFault<'a>>
-    ensures { AddsTexts (entries_in name.now bytes.now) result revocations.old revocations.new }
+    ensures { AddsText name.now (entries_in name.now bytes.now) result
+        revocations.old revocations.new }
 {
     match read_text(alloc, revocations, bytes) {
         Ok(()) => Ok(()),
