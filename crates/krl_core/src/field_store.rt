@@ -19,7 +19,7 @@ ghost use Rattle.krl_core.specs.FieldStore.{held_with_open, stored_header};
 ghost use Rattle.krl_format.specs.Place.{item_entry, item_size};
 ghost use Rattle.krl_format.specs.FixedFields.{is_fixed};
 
-use krl_entries::{Item, Revocations, Store};
+use krl_entries::{Addition, Certificates, Revocations, Store};
 use krl_format::{Field, Header, ItemKind, Place};
 use serial_set::{BitRuns, Span, Spans, count_near};
 use ssh_wire::{Bytes, array_of, byte_of, u64_of};
@@ -218,7 +218,9 @@ impl<T: Store> FieldStore<T> {
         ensures stored { StoresNoMore self.old self.new }
         ensures rest { ChangesOnlyEntries self.old self.new }
     {
-        self.store.store_serials(self.authority.as_slice(), near)
+        let serials = Certificates::Serials(near);
+        self.store
+            .store(Addition::Under(self.authority.as_slice(), serials))
     }
 
     // Adds a key, a hash, or a key ID under the authority in force.
@@ -229,10 +231,14 @@ impl<T: Store> FieldStore<T> {
         ensures grows { GrowsAtMost (length item.now) self.old self.new }
     {
         match kind {
-            ItemKind::Key => self.store.store(Item::Key(item)),
-            ItemKind::Sha1 => self.store.store(Item::Sha1(&array_of(item))),
-            ItemKind::Sha256 => self.store.store(Item::Sha256(&array_of(item))),
-            ItemKind::Id => self.store.store(Item::Id(self.authority.as_slice(), item)),
+            ItemKind::Key => self.store.store(Addition::Key(item)),
+            ItemKind::Sha1 => self.store.store(Addition::Sha1(&array_of(item))),
+            ItemKind::Sha256 => self.store.store(Addition::Sha256(&array_of(item))),
+            ItemKind::Id => {
+                let id = Certificates::Id(item);
+                self.store
+                    .store(Addition::Under(self.authority.as_slice(), id))
+            }
         }
     }
 

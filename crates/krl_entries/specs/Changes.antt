@@ -5,8 +5,8 @@ use Rattle.serial_set.specs.declared.span.Span.{Span}
 use Rattle.serial_set.specs.BitRuns.{IsInterval}
 use Rattle.serial_set.specs.Near.{AddsSpans, AreNear}
 use Rattle.serial_set.specs.Span.{AreSerials}
-use Rattle.krl_entries.specs.declared.addition.Addition.{Addition}
-use Rattle.krl_entries.specs.declared.addition.Addition.TheVariants.{Serials, Id}
+use Rattle.krl_entries.specs.declared.addition.Certificates.{Certificates}
+use Rattle.krl_entries.specs.declared.addition.Certificates.TheVariants.{Serials, Id}
 use Rattle.krl_entries.specs.Revocations.{Revocations, Means, Section, section_with}
 use Rattle.krl_types.specs.Entry.{Entry, IdEntry, RangeEntry}
 use Rattle.krl_entries.specs.Inserting.{Inserts}
@@ -28,13 +28,13 @@ pub record TakesId (text : List ℕ) (from to : Section) : Type 0 where
   pub put : Puts from.ids text to.ids
 
 -- a section takes an addition
-abbrev pub TakesAddition : Addition → Section → Section → Type 0
+abbrev pub TakesAddition : Certificates → Section → Section → Type 0
 TakesAddition (Serials near) from to = TakesSerials near.now from to
 TakesAddition (Id text) from to = TakesId text.now from to
 
 -- one change can make the addition: it is a key ID, or at least one span, and the spans lie near
 -- each other
-abbrev pub IsOneChange : Addition → Type 0
+abbrev pub IsOneChange : Certificates → Type 0
 IsOneChange (Serials near) =
     (0 < length near.now) × (All IsInterval near.now × AreNear near.now)
 IsOneChange (Id text) = ⊤
@@ -56,13 +56,13 @@ pub record ChangesOne (Change : Section → Section → Type 0) (authority : Lis
   pub changed : Change from to
 
 -- a section that holds only the addition is inserted
-pub record Starts (addition : Addition) (authority : List ℕ) (old new : List Section) : Type 0 where
+pub record Starts (addition : Certificates) (authority : List ℕ) (old new : List Section) : Type 0 where
   pub section : Section
   pub takes : TakesAddition addition (empty_section authority) section
   pub put : Inserts (λ section. section.authority) old section new
 
 -- the addition goes to the section that the authority has, or to a new one
-abbrev pub AddsTo : Addition → List ℕ → (old new : List Section) → Type 0
+abbrev pub AddsTo : Certificates → List ℕ → (old new : List Section) → Type 0
 AddsTo addition authority old new =
     ChangesOne (TakesAddition addition) authority old new ⊎ Starts addition authority old new
 
@@ -73,17 +73,17 @@ run_entries authority (run ∷ runs) =
     RangeEntry authority run.lo run.hi ∷ run_entries authority runs
 
 -- the entries of an addition under an authority
-abbrev pub added_entries : List ℕ → Addition → List Entry
-added_entries authority (Serials near) = run_entries authority near.now
-added_entries authority (Id text) = IdEntry authority text.now ∷ []
+abbrev pub entries_under : List ℕ → Certificates → List Entry
+entries_under authority (Serials near) = run_entries authority near.now
+entries_under authority (Id text) = IdEntry authority text.now ∷ []
 
 -- how many bytes an addition has, without its authority
-abbrev pub bytes_in : Addition → ℕ
+abbrev pub bytes_in : Certificates → ℕ
 bytes_in (Serials near) = 0
 bytes_in (Id text) = length text.now
 
 -- An addition of spans makes at most as many spans more, and a key ID makes none.
-abbrev pub HoldsMore : Addition → (old new : ℕ) → Type 0
+abbrev pub HoldsMore : Certificates → (old new : ℕ) → Type 0
 HoldsMore (Serials near) old new = new ≤ old + length near.now
 HoldsMore (Id text) old new = new ≡ old
 

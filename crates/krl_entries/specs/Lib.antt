@@ -1,8 +1,8 @@
+pub mod Addition
 pub mod Changes
 pub mod Revocations
 pub mod Ids
 pub mod Inserting
-pub mod Item
 pub mod Named
 pub mod Revoked
 pub mod Scope

@@ -6,12 +6,11 @@ ghost use Rattle.krl_entries.specs.Gathered.{AddsUnder, HasPlace, IsAt, whole};
 ghost use Rattle.krl_entries.specs.AuthorityEntries.{apart_of};
 ghost use Rattle.krl_entries.specs.Revocations.{IsOrderly, nothing};
 
-use crate::addition::Addition;
+use crate::addition::{Addition, Certificates};
 use crate::authority_entries::Apart;
-use crate::item::Item;
 use crate::revocations::Revocations;
 use crate::store::Store;
-use serial_set::{Span, Spans};
+use serial_set::Spans;
 use std::alloc::{AllocError, Global};
 use std::marker::Model;
 
@@ -65,7 +64,7 @@ impl<S: Spans> Gathered<S> {
     }
 
     // Adds under an authority. No section of another authority is kept apart.
-    fn put(&mut self, authority: &[u8], addition: Addition<'_>) -> Result<(), AllocError>
+    fn put(&mut self, authority: &[u8], addition: Certificates<'_>) -> Result<(), AllocError>
         requires one { IsOneChange addition }
         requires at { IsAt self.old authority.now }
         ensures adds { OnOk result
@@ -120,15 +119,12 @@ impl<S: Spans> Store for Gathered<S> {
         comment
     }
 
-    fn store_serials(&mut self, authority: &[u8], near: &[Span]) -> Result<(), AllocError> {
-        self.put(authority, Addition::Serials(near))
-    }
-
-    fn store(&mut self, item: Item<'_>) -> Result<(), AllocError> {
-        if let Item::Id(authority, id) = item {
-            return self.put(authority, Addition::Id(id));
+    #[inline(always)]
+    fn store(&mut self, addition: Addition<'_>) -> Result<(), AllocError> {
+        if let Addition::Under(authority, certificates) = addition {
+            return self.put(authority, certificates);
         }
         settle(&mut self.rest, &mut self.apart);
-        self.rest.add_item(item)
+        self.rest.add(addition)
     }
 }

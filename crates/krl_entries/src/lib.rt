@@ -8,7 +8,6 @@ mod entries_by_authority;
 mod gathered;
 mod getters;
 mod ids;
-mod item;
 pub mod laws;
 mod listed;
 mod name;
@@ -17,8 +16,8 @@ mod revocations;
 mod store;
 mod texts;
 
+pub use addition::{Addition, Certificates};
 pub use gathered::Gathered;
-pub use item::Item;
 pub use listed::{Authorities, Listed};
 pub use name::Name;
 pub use reasons::{Reason, Reasons};

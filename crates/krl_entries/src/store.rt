@@ -1,20 +1,16 @@
 //! Stores, which take the entries of a list while it is read.
 
-ghost use Rattle.std.specs.Prelude.{◌≡◌, ◌+◌, ◌%◌, ◌<◌, ◌≤◌, ◌∷◌, [], ℕ, List, length, All};
-ghost use Rattle.std.specs.Prelude.{OnOk, false, ⊤};
-ghost use Rattle.serial_set.specs.BitRuns.{IsInterval};
-ghost use Rattle.serial_set.specs.Near.{AreNear};
-ghost use Rattle.krl_entries.specs.Changes.{run_entries};
-ghost use Rattle.krl_entries.specs.Revocations.{IsStoredAtMost, held};
-ghost use Rattle.krl_entries.specs.Item.{IsTakenAt, LeavesAt, StoresItem, entry_in};
+ghost use Rattle.std.specs.Prelude.{◌≡◌, ◌%◌, ◌≤◌, ℕ, List, length, OnOk, false, ⊤};
+ghost use Rattle.krl_entries.specs.Addition.{HoldsMore, IsOneAddition, IsTakenAt, LeavesAt};
+ghost use Rattle.krl_entries.specs.Addition.{StoresMore, added_entries};
+ghost use Rattle.krl_entries.specs.Revocations.{held};
 ghost use Rattle.krl_types.specs.Naming.{SerialOf};
 ghost use Rattle.krl_entries.specs.Scope.{AreOutOfScope, InScope, MeansMoreInScope, IsInScope};
 ghost use Rattle.krl_entries.specs.Scope.{stored_comment};
 
 use crate::addition::Addition;
-use crate::item::Item;
 use crate::revocations::Revocations;
-use serial_set::{Span, Spans};
+use serial_set::Spans;
 use std::alloc::AllocError;
 
 /// A store takes the entries of a list while it is read. It holds a name in its scope exactly if
@@ -55,35 +51,19 @@ pub trait Store: Drop {
         ensures whole { result % 8 ≡ 0 }
         ensures out_of_scope { AreOutOfScope (scope self.now) authority.now serials.now result };
 
-    /// Takes serials under an authority, or under all authorities if it is empty. The serials are
-    /// spans that lie near each other.
-    fn store_serials(&mut self, authority: &[u8], near: &[Span]) -> Result<(), AllocError>
-        requires some { 0 < length near.now }
-        requires intervals { All IsInterval near.now }
-        requires near { AreNear near.now }
-        requires at { is_at self.old authority.now }
-        ensures at { is_at self.new authority.now }
+    /// Takes an addition.
+    fn store(&mut self, addition: Addition<'_>) -> Result<(), AllocError>
+        requires one { IsOneAddition addition }
+        requires at { IsTakenAt (is_at self.old) addition }
+        ensures at { LeavesAt (is_at self.old) (is_at self.new) addition.entry }
         ensures means { OnOk result (MeansMoreInScope (scope self.old) (contents self.old)
-            (contents self.new) (run_entries authority.now near.now)) }
+            (contents self.new) (added_entries addition.entry)) }
         ensures scope { scope self.new ≡ scope self.old }
         ensures within { IsInScope (scope self.old) (contents self.old)
             → IsInScope (scope self.new) (contents self.new) }
-        ensures held { held (contents self.new) ≤ held (contents self.old) + length near.now }
-        ensures stored { (n : ℕ)
-            → IsStoredAtMost authority.now (contents self.old) n
-            → IsStoredAtMost authority.now (contents self.new) n };
-
-    /// Takes a key ID or a key.
-    fn store(&mut self, item: Item<'_>) -> Result<(), AllocError>
-        requires { IsTakenAt (is_at self.old) item }
-        ensures at { LeavesAt (is_at self.old) (is_at self.new) item.entry }
-        ensures means { OnOk result (MeansMoreInScope (scope self.old) (contents self.old)
-            (contents self.new) (entry_in item.entry ∷ [])) }
-        ensures scope { scope self.new ≡ scope self.old }
-        ensures within { IsInScope (scope self.old) (contents self.old)
-            → IsInScope (scope self.new) (contents self.new) }
-        ensures held { held (contents self.new) ≡ held (contents self.old) }
-        ensures stored { StoresItem item.entry (contents self.old) (contents self.new) };
+        ensures held { HoldsMore addition.entry (held (contents self.old))
+            (held (contents self.new)) }
+        ensures stored { StoresMore addition.entry (contents self.old) (contents self.new) };
 }
 
 impl<S: Spans> Store for Revocations<S> {
@@ -109,11 +89,8 @@ impl<S: Spans> Store for Revocations<S> {
         0
     }
 
-    fn store_serials(&mut self, authority: &[u8], near: &[Span]) -> Result<(), AllocError> {
-        self.add(authority, Addition::Serials(near))
-    }
-
-    fn store(&mut self, item: Item<'_>) -> Result<(), AllocError> {
-        self.add_item(item)
+    #[inline(always)]
+    fn store(&mut self, addition: Addition<'_>) -> Result<(), AllocError> {
+        self.add(addition)
     }
 }

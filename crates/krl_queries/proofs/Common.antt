@@ -3,7 +3,7 @@ pub use Rattle.std.proofs.Common.{[], ⊎_elim, ◌%◌, ◌*◌, ◌++◌, ◌+
 pub use Rattle.std.proofs.Common.{◌≤◌, ◌⊎◌, All, ap, append-nil, append_assoc, ap₂, arith, Bool}
 pub use Rattle.std.proofs.Common.{Contains, drop, eqb, Err, false, flat_map, get_or, inl, inr}
 pub use Rattle.std.proofs.Common.{IsTrue, length, List, map, map-id, max, mul-le-mul_right, None}
-pub use Rattle.std.proofs.Common.{Ok, OnErr, OnOk, Option, refl, Result, Some, subst, subst₂, suc}
+pub use Rattle.std.proofs.Common.{Ok, OnErr, OnOk, Option, refl, Result, rules, Some, subst, subst₂, suc}
 pub use Rattle.std.proofs.Common.{sum_by, sym, take, take_all, zero, ℕ}
 pub use Rattle.krl_entries.specs.Canonical.{entries_in}
 pub use Rattle.krl_entries.specs.Changes.{MeansMore, Puts, run_entries}

@@ -5,7 +5,10 @@ use Rattle.serial_set.specs.declared.span.Span.{Span}
 use Rattle.krl_types.specs.Subject.{CertNames, Subject}
 use Rattle.krl_entries.specs.Revocations.{Revocations, Section, HoldsId, HoldsSerial}
 use Rattle.krl_entries.specs.Revocations.{held, stored}
-use Rattle.krl_types.specs.Naming.{Name, SerialOf}
+use Rattle.krl_types.specs.Naming.{IdOf, KeyOf, Name, SerialOf, Sha1Of, Sha256Of}
+use Rattle.krl_entries.specs.declared.addition.Addition.{Addition}
+use Rattle.krl_entries.specs.declared.addition.Addition.TheVariants.{Under, Key, Sha1, Sha256}
+use Rattle.krl_entries.specs.declared.addition.Certificates.TheVariants.{Serials, Id}
 use Rattle.krl_entries.specs.Reasons.{name_asked}
 use Rattle.krl_entries.specs.declared.reasons.Reason.{Reason}
 use Rattle.krl_entries.specs.Scope.{IsTopic, Scope}
@@ -18,6 +21,14 @@ pub record Asked : Type 0 where
 -- the names that are asked about
 abbrev pub asked_in : Asked → Scope
 asked_in asked = Some asked.topics
+
+-- the one name of the addition is a topic; serials are asked about one after another
+abbrev pub AsksAbout : (topics : Revocations) → Addition → Type 0
+AsksAbout topics (Under authority (Serials near)) = ⊥
+AsksAbout topics (Under authority (Id id)) = IsTopic topics (IdOf authority.now id.now)
+AsksAbout topics (Key blob) = IsTopic topics (KeyOf blob.now)
+AsksAbout topics (Sha1 hash) = IsTopic topics (Sha1Of hash.now)
+AsksAbout topics (Sha256 hash) = IsTopic topics (Sha256Of hash.now)
 
 -- every topic stays one
 abbrev pub AsksMore : (old new : Revocations) → Type 0

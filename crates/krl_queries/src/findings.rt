@@ -1,17 +1,16 @@
 //! The findings: a store that takes from a list what the questions are about.
 
 ghost use Rattle.std.specs.Prelude.{◌≡◌, ◌↔◌, ◌+◌, ◌≤◌, ◌∷◌, [], ℕ, IfOk, IsTrue, OnOk, ⊤};
-ghost use Rattle.krl_entries.specs.Item.{name_in};
 ghost use Rattle.serial_set.specs.BitRuns.{IsInterval};
 ghost use Rattle.krl_entries.specs.Revocations.{IsStoredAtMost, held};
 ghost use Rattle.krl_types.specs.Entry.{RangeEntry};
-ghost use Rattle.krl_queries.specs.Questions.{asked_in};
-ghost use Rattle.krl_entries.specs.Scope.{HoldsOnlyTopics, IsTopic, MeansMoreInScope};
+ghost use Rattle.krl_queries.specs.Questions.{AsksAbout, asked_in};
+ghost use Rattle.krl_entries.specs.Scope.{HoldsOnlyTopics, MeansMoreInScope};
 
 use crate::key_hashes::asks_hash;
 use crate::questions::Questions;
 use crate::topics::{count_skipped, first_serial, may_have};
-use krl_entries::{Item, Store};
+use krl_entries::{Addition, Certificates, Store};
 use serial_set::{Span, Spans};
 use sha1::Sha1;
 use sha2::Sha256;
@@ -37,23 +36,26 @@ impl<S: Spans> Questions<S> {
         }
     }
 
-    // Whether the item names what is asked about. Computes the hashes of the keys that are asked
-    // about at the first hash.
-    fn asks(&mut self, item: Item<'_>) -> Result<bool, AllocError>
+    // Whether the key ID or the key that is added is asked about. Computes the hashes of the keys
+    // that are asked about at the first hash.
+    fn asks(&mut self, addition: Addition<'_>) -> Result<bool, AllocError>
         ensures asked { IfOk result (λ asked.
-            IsTrue asked ↔ IsTopic self.old.topics (name_in item.entry)) }
+            IsTrue asked ↔ AsksAbout self.old.topics addition.entry) }
         ensures same { self.new ≡ self.old }
     {
-        match item {
-            Item::Id(authority, id) => Ok(self.topics.has_id(authority, id)),
-            Item::Key(blob) => Ok(self.topics.has_blob(blob)),
-            Item::Sha1(hash) => asks_hash::<Sha1, S, 20>(
+        match addition {
+            Addition::Under(_, Certificates::Serials(_)) => Ok(false),
+            Addition::Under(authority, Certificates::Id(id)) => {
+                Ok(self.topics.has_id(authority, id))
+            }
+            Addition::Key(blob) => Ok(self.topics.has_blob(blob)),
+            Addition::Sha1(hash) => asks_hash::<Sha1, S, 20>(
                 &self.topics,
                 &mut self.has_sha1s,
                 &mut self.sha1s,
                 hash,
             ),
-            Item::Sha256(hash) => asks_hash::<Sha256, S, 32>(
+            Addition::Sha256(hash) => asks_hash::<Sha256, S, 32>(
                 &self.topics,
                 &mut self.has_sha256s,
                 &mut self.sha256s,
@@ -86,18 +88,18 @@ impl<S: Spans> Store for Questions<S> {
         count_skipped(&self.topics, authority, serials)
     }
 
-    fn store_serials(&mut self, authority: &[u8], near: &[Span]) -> Result<(), AllocError> {
-        for span in near {
-            self.store_span(authority, *span)?;
+    #[inline(always)]
+    fn store(&mut self, addition: Addition<'_>) -> Result<(), AllocError> {
+        if let Addition::Under(authority, Certificates::Serials(near)) = addition {
+            for span in near {
+                self.store_span(authority, *span)?;
+            }
+            return Ok(());
         }
-        Ok(())
-    }
-
-    fn store(&mut self, item: Item<'_>) -> Result<(), AllocError> {
-        let asked = self.asks(item)?;
+        let asked = self.asks(addition)?;
         if !asked {
             return Ok(());
         }
-        self.found.add_item(item)
+        self.found.add(addition)
     }
 }

@@ -1,5 +1,5 @@
 use Rattle.krl_queries.proofs.AddedFindings.{PutsFirst}
-use Rattle.krl_queries.proofs.findings.QuestionsStore.store_serials.Given as goal
+use Rattle.krl_queries.proofs.findings.QuestionsStore.store.Given as goal
 
 -- the spans so far were put
 abbrev pub invariant-loop-span : goal.invariant-loop-span
