@@ -1,6 +1,6 @@
 //! Queries of a list for the keys of files (ssh-keygen(1), KEY REVOCATION LISTS).
 
-ghost use Rattle.std.specs.Prelude.{◌≡◌, ◌++◌, IfOk, List, Ok, Result, OnOk, false};
+ghost use Rattle.std.specs.Prelude.{◌≡◌, IfOk, List, Ok, Result, false};
 ghost use Rattle.krl_entries.specs.Reasons.{revokes};
 ghost use Rattle.krl_types.specs.declared.krl_fault.KrlFault.{KrlFault as FaultOf};
 ghost use Rattle.run_output.specs.Carries.{Carries};
@@ -16,10 +16,11 @@ use byte_streams::{Sink, Source};
 use krl_core::{Header, Revocations, read_krl};
 use krl_queries::Questions;
 use krl_types::Subject;
+use line_pieces::{Escaped, Printed, Words, put};
 use run_faults::{FileFault, FileKey, Named, RunFault, cause_of};
 use run_output::{Answer, Answers, Done, Printer, Run, print_files};
 use span_sets::Held;
-use ssh_cert::{AnyKey, push_escaped};
+use ssh_cert::AnyKey;
 use ssh_wire::Bytes;
 use std::alloc::{AllocError, Global};
 
@@ -72,10 +73,7 @@ fn query_line(alloc: Global, name: &str, comment: &[u8], revoked: bool) -> Resul
     ensures { IfOk result (λ text. text ≡ query_line name.now comment.now revoked) }
 {
     let mut text = Vec::new(alloc);
-    push_escaped(&mut text, name.as_bytes())?;
-    push_comment(&mut text, comment)?;
-    text.extend_from_slice(verdict(revoked))?;
-    text.push(b'\n')?;
+    put!(&mut text; Escaped(name.as_bytes()), Comment(comment), Words(verdict(revoked)), b"\n")?;
     Ok(Bytes::from_vec(text))
 }
 
@@ -86,16 +84,19 @@ fn verdict(revoked: bool) -> &'static [u8]
     if revoked { b": REVOKED" } else { b": ok" }
 }
 
-// Appends a comment in parentheses, escaped, if there is one.
-fn push_comment(text: &mut Vec<u8>, comment: &[u8]) -> Result<(), AllocError>
-    ensures { OnOk result (text.new.items ≡ text.old.items ++ comment_part comment.now) }
-{
-    if !comment.is_empty() {
-        text.extend_from_slice(b" (")?;
-        push_escaped(text, comment)?;
-        text.extend_from_slice(b")")?;
+// A comment in parentheses, escaped, if there is one.
+#[derive(Clone, Copy)]
+struct Comment<'a>(&'a [u8]);
+
+impl<'a> Printed for Comment<'a> {
+    ghost text = { λ comment. comment_part comment.0.now };
+
+    fn push_to(&self, out: &mut Vec<u8>) -> Result<(), AllocError> {
+        if self.0.is_empty() {
+            return Ok(());
+        }
+        put!(out; b" (", Escaped(self.0), b")")
     }
-    Ok(())
 }
 
 /// Reads a list, prints its contents if `dump` is true, queries it for each key of each file, and

@@ -1,11 +1,11 @@
 //! Key IDs, keys and hashes, as a list's contents are printed.
 
-ghost use Rattle.std.specs.Prelude.{◌≡◌, ◌++◌, OnOk};
+ghost use Rattle.std.specs.Prelude.{◌≡◌, OnOk};
 ghost use Rattle.krl_runs.specs.Contents.{fact_line, fact_text, label_of};
 
 use base64::engine::general_purpose::{STANDARD, STANDARD_NO_PAD};
 use krl_format::ItemKind;
-use ssh_cert::push_escaped;
+use line_pieces::{Escaped, Printed, Words, put};
 use std::alloc::{AllocError, Global};
 
 /// Makes the line of an item of this kind, with its line feed.
@@ -19,10 +19,7 @@ pub fn write_fact(
     ensures { OnOk result (line.new.items ≡ fact_line kind bytes.now) }
 {
     line.clear();
-    line.extend_from_slice(label_of(kind))?;
-    push_text(alloc, kind, bytes, line)?;
-    line.push(b'\n')?;
-    Ok(())
+    put!(line; Words(label_of(kind)), Value { alloc, kind, bytes }, b"\n")
 }
 
 // The text before the value in its line.
@@ -37,21 +34,25 @@ fn label_of(kind: ItemKind) -> &'static [u8]
     }
 }
 
-// Appends the value as it is printed.
-#[tactic(auto, unfolding(key_text::specs::Fingerprints::unpadded))]
-fn push_text(
+// A value as it is printed.
+#[derive(Clone, Copy)]
+struct Value<'a> {
     alloc: Global,
     kind: ItemKind,
-    bytes: &[u8],
-    line: &mut Vec<u8>,
-) -> Result<(), AllocError>
-    ensures { OnOk result (line.new.items ≡ line.old.items ++ fact_text kind bytes.now) }
-{
-    let text = match kind {
-        ItemKind::Id => return push_escaped(line, bytes),
-        ItemKind::Key => STANDARD.encode(alloc, bytes)?,
-        ItemKind::Sha1 => hex::encode(alloc, bytes)?,
-        ItemKind::Sha256 => STANDARD_NO_PAD.encode(alloc, bytes)?,
-    };
-    line.extend_from_slice(text.as_bytes())
+    bytes: &'a [u8],
+}
+
+impl<'a> Printed for Value<'a> {
+    ghost text = { λ value. fact_text value.kind value.bytes.now };
+
+    #[tactic(auto, unfolding(key_text::specs::Fingerprints::unpadded))]
+    fn push_to(&self, out: &mut Vec<u8>) -> Result<(), AllocError> {
+        let text = match self.kind {
+            ItemKind::Id => return put!(out; Escaped(self.bytes)),
+            ItemKind::Key => STANDARD.encode(self.alloc, self.bytes)?,
+            ItemKind::Sha1 => hex::encode(self.alloc, self.bytes)?,
+            ItemKind::Sha256 => STANDARD_NO_PAD.encode(self.alloc, self.bytes)?,
+        };
+        put!(out; Words(text.as_bytes()))
+    }
 }
