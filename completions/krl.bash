@@ -15,7 +15,7 @@ _krl() {
     compopt -o filenames 2>/dev/null
   elif [ "${COMP_WORDS[1]}" = check ]; then
     offered=$(compgen -W '--newer-than --superset-of --max-age --keep --canary --allow-empty
-      --print-version --help --version' -- "$word")
+      --json --print-version --help --version' -- "$word")
   elif [[ ${COMP_WORDS[1]} == @(show|diff) ]]; then
     offered=$(compgen -W '--json --help --version' -- "$word")
   elif [ "${COMP_WORDS[1]}" = make ]; then

@@ -38,6 +38,7 @@ complete -c krl -n "$checks" -l keep -rF -d 'Refuse a list that revokes a key of
 complete -c krl -n "$checks" -l canary -rF \
   -d 'Refuse a list that does not revoke each key of this file'
 complete -c krl -n "$checks" -l allow-empty -d 'Take a list that revokes nobody'
+complete -c krl -n "$checks" -l json -d 'Print each condition as a JSON object'
 complete -c krl -n "$checks" -l print-version -d 'Print the version of the list alone'
 complete -c krl -n "$shows" -F
 complete -c krl -n "$shows" -l json -d 'Print JSON objects'

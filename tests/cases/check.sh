@@ -201,6 +201,38 @@ checks 'a list and the version of a plain list' 1 "version: two: $unversioned" \
 expect 'the version of a plain list' 255 '' "krl: two: $unversioned"$'\n' check --print-version two
 expect 'a plain list to be compared that is wrong' 255 '' "$no_key" check --newer-than wrong r.krl
 
+# Objects: one for each condition, also where it holds.
+openssh_holds='{"condition":"openssh","passed":true,"list":"r.krl"}'
+revokes_somebody='{"condition":"empty","passed":true,"list":"r.krl"}'
+checks 'the objects of a list that passes' 0 "$openssh_holds
+$revokes_somebody
+{\"condition\":\"version\",\"passed\":true,\"list\":\"r.krl\",\"version\":\"1\",\"least\":\"1\"}
+{\"condition\":\"lost\",\"passed\":true,\"list\":\"r.krl\",\"other\":\"r.krl\",\"entries\":0}
+{\"condition\":\"keep\",\"passed\":true,\"file\":\"b.pub\",\"keys\":1,\"revoked\":0,\"unread\":0}
+{\"condition\":\"canary\",\"passed\":true,\"file\":\"g.pub\",\"keys\":1,\"revoked\":1,\"unread\":0}
+{\"status\":\"done\",\"passed\":true}" \
+  --json --newer-than r.krl --superset-of r.krl --keep b.pub --canary g.pub r.krl
+checks 'the objects of a list that may revoke nobody' 0 \
+  '{"condition":"openssh","passed":true,"list":"7.krl"}
+{"status":"done","passed":true}' --json --allow-empty 7.krl
+checks 'the objects of entries that are lost' 1 \
+  '{"condition":"openssh","passed":true,"list":"key.krl"}
+{"condition":"empty","passed":true,"list":"key.krl"}
+{"change":"removed","ca":"all","serial":[100,101]}
+{"condition":"lost","passed":false,"list":"key.krl","other":"more.krl","entries":1}
+{"status":"done","passed":false}' --json --superset-of more.krl key.krl
+checks 'the objects of a file that is missing' 255 "$openssh_holds
+$revokes_somebody
+{\"file\":\"gone\",\"status\":\"unread\",\"fault\":\"file 1 Open\",\"why\":\"No such file or directory\"}
+{\"condition\":\"keep\",\"passed\":false,\"file\":\"gone\",\"keys\":0,\"revoked\":0,\"unread\":1}
+{\"status\":\"done\",\"passed\":false}" --json --keep gone r.krl
+checks 'the objects of a plain list' 1 \
+  "{\"condition\":\"openssh\",\"passed\":true,\"list\":\"two\"}
+{\"condition\":\"empty\",\"passed\":true,\"list\":\"two\"}
+{\"condition\":\"version\",\"passed\":false,\"list\":\"two\",\"why\":\"$unversioned\"}
+{\"status\":\"done\",\"passed\":false}" --json --newer-than r.krl two
+expect 'no object of a list that is cut' 255 '' "krl: cut.krl: $cut_short" check --json cut.krl
+
 # Options that are given twice, and others that do not go together.
 # twice OPTION WORD..: OPTION is named, and nothing is checked.
 twice() {
@@ -212,9 +244,10 @@ twice '--newer-than <krl>' check --newer-than 8.krl --newer-than 7.krl 7.krl
 twice '--superset-of <krl>' check --superset-of key.krl --superset-of key.krl key.krl
 twice '--max-age <duration>' check --max-age 1s --max-age 9d r.krl
 twice '--allow-empty' check --allow-empty --allow-empty r.krl
+twice '--json' check --json --json r.krl
 twice '-f <krl>' audit -f r.krl -f empty g.pub
 twice '--files0-from <file>' audit -f r.krl --files0-from none --files0-from empty
-for it in '--newer-than last.krl' '--superset-of 7.krl' '--max-age 1s' --allow-empty \
+for it in '--newer-than last.krl' '--superset-of 7.krl' '--max-age 1s' --allow-empty --json \
   '--keep g.pub' '--canary b.pub'; do
   refuses "--print-version and ${it%% *}" 'error: --print-version goes with no other option' \
     check --print-version $it r.krl

@@ -61,8 +61,8 @@ offers_krl 'the options of an audit' --all,--files0-from,--help,--json,--version
 offers_krl 'a list' two.krl audit -f t
 offers_krl 'files to audit' "$every" audit -f two.krl ''
 offers_krl 'a file of names' one.pub audit -f two.krl --files0-from o
-offers_krl 'the options of a check' "--allow-empty,--canary,--help,--keep,--max-age,--newer-than,\
---print-version,--superset-of,--version" check -
+offers_krl 'the options of a check' "--allow-empty,--canary,--help,--json,--keep,--max-age,\
+--newer-than,--print-version,--superset-of,--version" check -
 offers_krl 'durations' 24h,7d,90m check --max-age ''
 offers_krl 'the duration that was begun' 24h check --max-age 2
 offers_krl 'a file to be kept' one.pub check --keep o

@@ -13,6 +13,7 @@ use Rattle.run_output.specs.Run.{Item, Passed}
 use Rattle.run_output.proofs.RunParts.{carries_more, carries_withheld}
 use Rattle.krl_types.specs.Subject.{Subject}
 use Rattle.krl_entries.specs.declared.reasons.Reasons.{Reasons}
+use Rattle.krl_audit.specs.declared.judge.Form.{Form}
 use Rattle.krl_audit.specs.declared.why.Refusal.{Refusal}
 use Rattle.krl_checker.specs.Check.{ChecksFile}
 use Rattle.krl_checker.specs.declared.role.Role.{Role}
@@ -45,18 +46,18 @@ read_stops Knows files others reads later first = record {
   known = first.known;
 }
 
-items_then : (reasons : Subject → Reasons) (reads more : List Read) (later : List Named) → reads_items reasons (reads ++ more) later ≡ reads_items reasons reads [] ++ reads_items reasons more later
+items_then : (form : Form) (reasons : Subject → Reasons) (reads more : List Read) (later : List Named) → reads_items form reasons (reads ++ more) later ≡ reads_items form reasons reads [] ++ reads_items form reasons more later
 unfolding reads_items
-items_then reasons reads more later =
-    let front : List Item = flat_map (read_items reasons) reads in
-    let back : List Item = flat_map (read_items reasons) more in
-    ap (λ (xs : List Item). xs ++ map passed later) (flat_map-append (read_items reasons) reads more)
+items_then form reasons reads more later =
+    let front : List Item = flat_map (read_items form reasons) reads in
+    let back : List Item = flat_map (read_items form reasons) more in
+    ap (λ (xs : List Item). xs ++ map passed later) (flat_map-append (read_items form reasons) reads more)
     ∙ (append_assoc front back (map passed later) ∙ ap (λ (xs : List Item). xs ++ (back ++ map passed later)) (sym (append-nil front)))
 
-items_stop : (reasons : Subject → Reasons) (reads : List Read) (later others : List Named) → reads_items reasons reads (later ++ others) ≡ reads_items reasons reads later ++ map passed others
+items_stop : (form : Form) (reasons : Subject → Reasons) (reads : List Read) (later others : List Named) → reads_items form reasons reads (later ++ others) ≡ reads_items form reasons reads later ++ map passed others
 unfolding reads_items
-items_stop reasons reads later others =
-    let front : List Item = flat_map (read_items reasons) reads in
+items_stop form reasons reads later others =
+    let front : List Item = flat_map (read_items form reasons) reads in
     ap (λ (xs : List Item). front ++ xs) (map-append passed later others) ∙ sym (append_assoc front (map passed later) (map passed others))
 
 fail_then : (reasons : Subject → Reasons) (reads more : List Read) → (reads_fail reasons reads || reads_fail reasons more) ≡ reads_fail reasons (reads ++ more)
@@ -69,9 +70,9 @@ unread_then reads more = sym (list_any-append is_unread reads more)
 
 -- ---- checks of rows of files
 
-pub no_file : (Knows : Fact → Type 0) (reasons : Subject → Reasons) (now : Printer) (refused unread : Bool) → ChecksFiles Knows reasons [] (Ok tt) now now refused refused unread unread
+pub no_file : (Knows : Fact → Type 0) (form : Form) (reasons : Subject → Reasons) (now : Printer) (refused unread : Bool) → ChecksFiles Knows form reasons [] (Ok tt) now now refused refused unread unread
 unfolding reads_items reads_fail some_unread
-no_file Knows reasons now refused unread = record {
+no_file Knows form reasons now refused unread = record {
   reads = [];
   later = [];
   are_read = record { files_are = refl; known = tt };
@@ -80,33 +81,33 @@ no_file Knows reasons now refused unread = record {
   all = refl;
 }
 
-pub files_then : (Knows : Fact → Type 0) (reasons : Subject → Reasons) (files others : List Named) (value : Unit {0}) (result : Result (Unit {0}) RunFault) (old mid new : Printer) (a b c u v w : Bool)
-    → ChecksFiles Knows reasons files (Ok value) old mid a b u v → ChecksFiles Knows reasons others result mid new b c v w → ChecksFiles Knows reasons (files ++ others) result old new a c u w
-files_then Knows reasons files others value result old mid new a b c u v w first second =
-    let xs : List Item = reads_items reasons first.reads [] in
-    let ys : List Item = reads_items reasons second.reads second.later in
+pub files_then : (Knows : Fact → Type 0) (form : Form) (reasons : Subject → Reasons) (files others : List Named) (value : Unit {0}) (result : Result (Unit {0}) RunFault) (old mid new : Printer) (a b c u v w : Bool)
+    → ChecksFiles Knows form reasons files (Ok value) old mid a b u v → ChecksFiles Knows form reasons others result mid new b c v w → ChecksFiles Knows form reasons (files ++ others) result old new a c u w
+files_then Knows form reasons files others value result old mid new a b c u v w first second =
+    let xs : List Item = reads_items form reasons first.reads [] in
+    let ys : List Item = reads_items form reasons second.reads second.later in
     let read : AreRead Knows files first.reads [] = subst (λ (fs : List Named). AreRead Knows files first.reads fs) first.all first.are_read in
     let checks : Checks xs (reads_fail reasons first.reads) (Ok value) old mid a b =
-    subst (λ (fs : List Named). Checks (reads_items reasons first.reads fs) (reads_fail reasons first.reads) (Ok value) old mid a b) first.all first.checks in
+    subst (λ (fs : List Named). Checks (reads_items form reasons first.reads fs) (reads_fail reasons first.reads) (Ok value) old mid a b) first.all first.checks in
     let both = checks_then xs ys (reads_fail reasons first.reads) (reads_fail reasons second.reads) value result old mid new a b c checks second.checks in
     record {
       reads = first.reads ++ second.reads;
       later = second.later;
       are_read = read_then Knows files others first.reads second.reads second.later read second.are_read;
-      checks = rw (items_then reasons first.reads second.reads second.later, ← (fail_then reasons first.reads second.reads)) both;
+      checks = rw (items_then form reasons first.reads second.reads second.later, ← (fail_then reasons first.reads second.reads)) both;
       unread = on_ok_or result w (v || some_unread second.reads) (u || some_unread (first.reads ++ second.reads))
           (ap (λ (x : Bool). x || some_unread second.reads) first.unread ∙ (or_assoc u (some_unread first.reads) (some_unread second.reads) ∙ ap (λ (x : Bool). u || x) (unread_then first.reads second.reads))) second.unread;
       all = second.all;
     }
 
-pub files_stop : (Knows : Fact → Type 0) (reasons : Subject → Reasons) (files others : List Named) (stop : RunFault) (old new : Printer) (a b c u v w : Bool)
-    → ChecksFiles Knows reasons files (Err stop) old new a b u v → ChecksFiles Knows reasons (files ++ others) (Err stop) old new a c u w
-files_stop Knows reasons files others stop old new a b c u v w first = record {
+pub files_stop : (Knows : Fact → Type 0) (form : Form) (reasons : Subject → Reasons) (files others : List Named) (stop : RunFault) (old new : Printer) (a b c u v w : Bool)
+    → ChecksFiles Knows form reasons files (Err stop) old new a b u v → ChecksFiles Knows form reasons (files ++ others) (Err stop) old new a c u w
+files_stop Knows form reasons files others stop old new a b c u v w first = record {
   reads = first.reads;
   later = first.later ++ others;
   are_read = read_stops Knows files others first.reads first.later first.are_read;
   checks = record {
-    carries = rw (items_stop reasons first.reads first.later others) (carries_more {A = Unit {0}} (reads_items reasons first.reads first.later) (map passed others) stop old new first.checks.carries);
+    carries = rw (items_stop form reasons first.reads first.later others) (carries_more {A = Unit {0}} (reads_items form reasons first.reads first.later) (map passed others) stop old new first.checks.carries);
     refused = tt;
   };
   unread = tt;
@@ -115,9 +116,9 @@ files_stop Knows reasons files others stop old new a b c u v w first = record {
 
 -- ---- one file
 
-one_items : (reasons : Subject → Reasons) (read : Read) → reads_items reasons (read ∷ []) [] ≡ read_items reasons read
+one_items : (form : Form) (reasons : Subject → Reasons) (read : Read) → reads_items form reasons (read ∷ []) [] ≡ read_items form reasons read
 unfolding reads_items
-one_items reasons read = append-nil (flat_map (read_items reasons) (read ∷ [])) ∙ append-nil (read_items reasons read)
+one_items form reasons read = append-nil (flat_map (read_items form reasons) (read ∷ [])) ∙ append-nil (read_items form reasons read)
 
 one_fails : (reasons : Subject → Reasons) (read : Read) → read_fails reasons read ≡ reads_fail reasons (read ∷ [])
 unfolding reads_fail
@@ -131,16 +132,16 @@ on_ok_all : (result : Result (Unit {0}) RunFault) (later : List Named) → later
 on_ok_all (Ok done) later is = is
 on_ok_all (Err stop) later is = tt
 
-pub file_checked : (Knows : Fact → Type 0) (reasons : Subject → Reasons) (role : Role) (name : List ℕ) (content : Result (List ℕ) Refusal) (result : Result (Unit {0}) RunFault) (old new : Printer) (a b u w : Bool)
-    → Knows (FileOf name content) → ChecksFile role reasons name content result old new a b → w ≡ (u || is_err content) → ChecksFiles Knows reasons (named role name ∷ []) result old new a b u w
-file_checked Knows reasons role name content result old new a b u w knows checks unread =
+pub file_checked : (Knows : Fact → Type 0) (form : Form) (reasons : Subject → Reasons) (role : Role) (name : List ℕ) (content : Result (List ℕ) Refusal) (result : Result (Unit {0}) RunFault) (old new : Printer) (a b u w : Bool)
+    → Knows (FileOf name content) → ChecksFile form role reasons name content result old new a b → w ≡ (u || is_err content) → ChecksFiles Knows form reasons (named role name ∷ []) result old new a b u w
+file_checked Knows form reasons role name content result old new a b u w knows checks unread =
     let read : Read = record { file = named role name; content = content } in
     record {
       reads = read ∷ [];
       later = [];
       are_read = record { files_are = refl; known = (knows, tt) };
       checks = record {
-        carries = rw (one_items reasons read) checks.carries;
+        carries = rw (one_items form reasons read) checks.carries;
         refused = on_ok_or result b (a || read_fails reasons read) (a || reads_fail reasons (read ∷ [])) (ap (λ (x : Bool). a || x) (one_fails reasons read)) checks.refused;
       };
       unread = on_ok result w (u || some_unread (read ∷ [])) (unread ∙ ap (λ (x : Bool). u || x) (one_unread read));
@@ -148,10 +149,10 @@ file_checked Knows reasons role name content result old new a b u w knows checks
     }
 
 -- An allocation for the content of a file failed.
-pub file_not_reached : (Knows : Fact → Type 0) (reasons : Subject → Reasons) (role : Role) (name : List ℕ) (now : Printer) (a b u w : Bool)
-    → ChecksFiles Knows reasons (named role name ∷ []) (Err (run_fault_of name NoMemory)) now now a b u w
+pub file_not_reached : (Knows : Fact → Type 0) (form : Form) (reasons : Subject → Reasons) (role : Role) (name : List ℕ) (now : Printer) (a b u w : Bool)
+    → ChecksFiles Knows form reasons (named role name ∷ []) (Err (run_fault_of name NoMemory)) now now a b u w
 unfolding reads_items
-file_not_reached Knows reasons role name now a b u w = record {
+file_not_reached Knows form reasons role name now a b u w = record {
   reads = [];
   later = named role name ∷ [];
   are_read = record { files_are = refl; known = tt };

@@ -1,15 +1,16 @@
 -- What a list lacks of another one.
-use Rattle.std.proofs.Common.{◌≡◌, ℕ, Bool, true, false, List, Ok, Result, Some}
+use Rattle.std.proofs.Common.{◌≡◌, ℕ, Bool, true, false, List, Result, Some}
 use Rattle.run_faults.specs.RunFault.{RunFault}
 use Rattle.run_output.specs.Printer.{Printer}
 use Rattle.krl_types.specs.Entry.{Entry}
-use Rattle.krl_checker.specs.Check.{names_nobody}
+use Rattle.krl_audit.specs.declared.judge.Form.{Form}
+use Rattle.krl_checker.specs.Check.{condition_items, names_nobody}
+use Rattle.krl_checker.specs.declared.condition.Condition.TheVariants.{NothingLost}
 use Rattle.krl_entries.specs.Revocations.{Means, Revocations}
 use Rattle.list_diff.specs.Without.{HoldsWithout}
 use Rattle.check_run.specs.Lists.{Checks}
-use Rattle.check_run.specs.Losses.{AreLost, lost_said, losses_fail, losses_items}
+use Rattle.check_run.specs.Losses.{AreLost, lost_items, losses_fail, losses_items}
 use Rattle.check_run.specs.declared.lists.Lost.{Lost}
-use Rattle.check_run.proofs.Steps.{checks_none}
 
 pub all_lost : (held other lost : Revocations) (own others : List Entry) → Means held own → Means other others → HoldsWithout held other lost → AreLost own others lost
 all_lost held other lost own others m n is = record {
@@ -20,11 +21,11 @@ all_lost held other lost own others m n is = record {
   );
 }
 
--- where nothing is lost, nothing is said
-pub nothing_lost : (name : List ℕ) (lost : Lost) (now : Printer) (refused : Bool) → names_nobody lost.held ≡ true
-    → Checks (losses_items name (Some lost)) (losses_fail (Some lost)) (Ok tt) now now refused refused
-nothing_lost name lost now refused is = rw is (checks_none now refused)
+-- whether something is lost decides what is said
+pub nothing_lost : (form : Form) (name : List ℕ) (lost : Lost) (result : Result (Unit {0}) RunFault) (old new : Printer) (before after : Bool) → names_nobody lost.held ≡ true
+    → Checks (condition_items form name (NothingLost lost.name)) false result old new before after → Checks (losses_items form name (Some lost)) (losses_fail (Some lost)) result old new before after
+nothing_lost form name lost result old new before after is checks = rw is checks
 
-pub some_lost : (name : List ℕ) (lost : Lost) (result : Result (Unit {0}) RunFault) (old new : Printer) (before after : Bool) → names_nobody lost.held ≡ false
-    → Checks (lost_said name lost) true result old new before after → Checks (losses_items name (Some lost)) (losses_fail (Some lost)) result old new before after
-some_lost name lost result old new before after is checks = rw is checks
+pub some_lost : (form : Form) (name : List ℕ) (lost : Lost) (result : Result (Unit {0}) RunFault) (old new : Printer) (before after : Bool) → names_nobody lost.held ≡ false
+    → Checks (lost_items form name lost) true result old new before after → Checks (losses_items form name (Some lost)) (losses_fail (Some lost)) result old new before after
+some_lost form name lost result old new before after is checks = rw is checks

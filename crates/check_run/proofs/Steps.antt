@@ -2,6 +2,7 @@
 use Rattle.std.proofs.Common.{◌≡◌, ◌||◌, Bool, true, false, List, [], ◌++◌, Result, Ok, Err, refl, ap, ◌∙◌}
 use Rattle.std.specs.Prelude.{OnOk}
 use Rattle.run_faults.specs.RunFault.{RunFault}
+use Rattle.run_output.specs.Carries.{Carries}
 use Rattle.run_output.specs.Printer.{Printer}
 use Rattle.run_output.specs.Run.{Item}
 use Rattle.run_output.proofs.RunParts.{carries_more, carries_none, carries_then}
@@ -43,3 +44,7 @@ checks_more xs ys one two stop old new before after other first = record {
   carries = carries_more {A = Unit {0}} xs ys stop old new first.carries;
   refused = tt;
 }
+
+-- A condition that was checked, for which this much is known.
+pub checks_of : (items : List Item) (fails : Bool) (result : Result (Unit {0}) RunFault) (old new : Printer) (before after : Bool) → Carries items result old new → after ≡ (before || fails) → Checks items fails result old new before after
+checks_of items fails result old new before after carries is = record { carries = carries; refused = on_ok result after (before || fails) is }

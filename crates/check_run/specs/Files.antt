@@ -7,6 +7,7 @@ use Rattle.run_output.specs.Printer.{Printer}
 use Rattle.run_output.specs.Run.{Item, Passed}
 use Rattle.krl_types.specs.Subject.{Subject}
 use Rattle.krl_entries.specs.declared.reasons.Reasons.{Reasons}
+use Rattle.krl_audit.specs.declared.judge.Form.{Form}
 use Rattle.krl_audit.specs.declared.why.Refusal.{Refusal}
 use Rattle.krl_arguments.specs.declared.task.Check.{Check}
 use Rattle.krl_checker.specs.Check.{counts_of, keys_items}
@@ -44,8 +45,9 @@ pub record AreRead (Knows : Fact → Type 0) (files : List Named) (reads : List 
 
 -- ---- what is printed, and what fails
 
-abbrev pub read_items : (Subject → Reasons) → Read → List Item
-read_items reasons read = keys_items read.file.role reasons read.file.name read.content
+abbrev pub read_items : Form → (Subject → Reasons) → Read → List Item
+read_items form reasons read =
+    keys_items form read.file.role reasons read.file.name read.content
 
 abbrev pub read_fails : (Subject → Reasons) → Read → Bool
 read_fails reasons read =
@@ -58,8 +60,9 @@ is_unread read = is_err read.content
 abbrev pub passed : Named → Item
 passed file = Passed file.name
 
-unfoldable pub reads_items : (Subject → Reasons) → List Read → (later : List Named) → List Item
-reads_items reasons reads later = flat_map (read_items reasons) reads ++ map passed later
+unfoldable pub reads_items : Form → (Subject → Reasons) → List Read → (later : List Named)
+    → List Item
+reads_items form reasons reads later = flat_map (read_items form reasons) reads ++ map passed later
 
 unfoldable pub reads_fail : (Subject → Reasons) → List Read → Bool
 reads_fail reasons reads = list_any (read_fails reasons) reads
@@ -68,13 +71,13 @@ unfoldable pub some_unread : List Read → Bool
 some_unread reads = list_any is_unread reads
 
 -- The keys of the files were checked, or the check was stopped within them.
-pub record ChecksFiles (Knows : Fact → Type 0) (reasons : Subject → Reasons)
+pub record ChecksFiles (Knows : Fact → Type 0) (form : Form) (reasons : Subject → Reasons)
     (files : List Named) (result : Result (Unit {0}) RunFault)
     (old new : Printer) (before after : Bool) (unread_before unread_after : Bool) : Type 0 where
   pub reads : List Read
   pub later : List Named
   pub are_read : AreRead Knows files reads later
-  pub checks : Checks (reads_items reasons reads later) (reads_fail reasons reads) result old new
+  pub checks : Checks (reads_items form reasons reads later) (reads_fail reasons reads) result old new
       before after
   pub unread : OnOk result (unread_after ≡ (unread_before || some_unread reads))
   pub all : OnOk result (later ≡ [])

@@ -1,23 +1,23 @@
 -- The conditions for the list itself.
 use Rattle.std.specs.Borrow.{Bor}
-use Rattle.std.specs.Prelude.{◌≡◌, ℕ, ◌||◌, ◌&&◌, nat_lt, not, Bool, true, false, List, [], ◌∷◌, ◌++◌}
+use Rattle.std.specs.Prelude.{◌≡◌, ℕ, ◌||◌, ◌&&◌, nat_lt, not, Bool, true, false, List, [], ◌++◌}
 use Rattle.std.specs.Prelude.{Option, Some, None, Result, Ok, Err, OnOk, is_some, option_map}
+use Rattle.std.specs.Prelude.{if◌then◌else◌}
 use Rattle.run_faults.specs.RunFault.{RunFault, run_fault_of}
 use Rattle.run_faults.specs.declared.cause.Cause.{Cause}
 use Rattle.run_output.specs.Carries.{Carries}
 use Rattle.run_output.specs.Printer.{Printer}
-use Rattle.run_output.specs.Run.{Item, said_of}
-use Rattle.krl_format.specs.Front.{start}
+use Rattle.run_output.specs.Run.{Item}
 use Rattle.krl_format.specs.declared.header.Header.{Header}
 use Rattle.krl_types.specs.Entry.{Entry}
 use Rattle.krl_audit.specs.declared.done.Stated.{Stated}
-use Rattle.krl_openssh.specs.Difference.{first_difference}
-use Rattle.krl_openssh.specs.Fields.{HasFields}
+use Rattle.krl_audit.specs.declared.judge.Form.{Form}
+use Rattle.krl_openssh.specs.Fields.{IsFirstDifference}
 use Rattle.krl_openssh.specs.declared.difference.Difference.{Difference}
-use Rattle.krl_checker.specs.Check.{age_items, difference_items, is_fresh, said_where}
-use Rattle.krl_checker.specs.Check.{version_items}
-use Rattle.krl_checker.specs.Text.{empty_line, plain_line}
-use Rattle.krl_checker.specs.declared.plain.PlainRefusal.TheVariants as refusals
+use Rattle.krl_checker.specs.Check.{condition_items}
+use Rattle.krl_checker.specs.Condition.{is_fresh}
+use Rattle.krl_checker.specs.declared.condition.Condition.TheVariants.{Age, Empty, NoDate}
+use Rattle.krl_checker.specs.declared.condition.Condition.TheVariants.{NoVersion, OpenSsh, Version}
 use Rattle.plain_list.specs.Any.{Names, begins_list}
 use Rattle.any_list.specs.List.{IsListFault, IsReadList, stated_in}
 use Rattle.check_run.specs.Fact.{Fact, ListOf}
@@ -85,45 +85,42 @@ pub record Checks (items : List Item) (fails : Bool) (result : Result (Unit {0})
 
 -- The first difference of a key revocation list for OpenSSH. A plain list that is read has none.
 abbrev pub IsDifferenceIf : Bool → List ℕ → Option Difference → Type 0
-IsDifferenceIf true bytes difference =
-    (fields : List (List ℕ))
-    × (HasFields bytes fields × (difference ≡ first_difference start.place fields))
+IsDifferenceIf true bytes difference = IsFirstDifference bytes difference
 IsDifferenceIf false bytes difference = difference ≡ None
 
 abbrev pub IsDifference : List ℕ → Option Difference → Type 0
 IsDifference bytes difference = IsDifferenceIf (begins_list bytes) bytes difference
 
 -- The format of a list was checked.
-pub record ChecksFormat (name bytes : List ℕ) (result : Result (Unit {0}) RunFault)
+pub record ChecksFormat (form : Form) (name bytes : List ℕ) (result : Result (Unit {0}) RunFault)
     (old new : Printer) (before after : Bool) : Type 0 where
   pub difference : Option Difference
   pub is : IsDifference bytes difference
-  pub checks : Checks (difference_items name difference) (is_some difference) result old new before
-      after
+  pub checks : Checks (condition_items form name (OpenSsh difference)) (is_some difference) result
+      old new before after
 
 -- ---- lists that revoke nobody
 
 abbrev pub empty_fails : (nobody allow_empty : Bool) → Bool
 empty_fails nobody allow_empty = not allow_empty && nobody
 
-abbrev pub empty_said : List ℕ → (nobody allow_empty : Bool) → List Item
-empty_said name nobody allow_empty =
-    said_where (empty_fails nobody allow_empty) name (empty_line name)
+abbrev pub empty_items : Form → List ℕ → (nobody allow_empty : Bool) → List Item
+empty_items form name nobody allow_empty =
+    if allow_empty then [] else condition_items form name (Empty nobody)
 
 -- ---- the version
 
 -- a plain list has no version
-abbrev pub no_version : List ℕ → List Item
-no_version name = said_of name (plain_line name refusals.NoVersion) ∷ []
+abbrev pub items_beside : Form → List ℕ → Option ℕ → (other : List ℕ) → Option ℕ → List Item
+items_beside form name (Some version) other (Some least) =
+    condition_items form name (Version version least)
+items_beside form name (Some version) other None = condition_items form other NoVersion
+items_beside form name None other least = condition_items form name NoVersion
 
-abbrev pub items_beside : List ℕ → Option ℕ → (other : List ℕ) → Option ℕ → List Item
-items_beside name (Some version) other (Some least) = version_items name version least
-items_beside name (Some version) other None = no_version other
-items_beside name None other least = no_version name
-
-abbrev pub versions_items : List ℕ → Option ℕ → Option Other → List Item
-versions_items name version None = []
-versions_items name version (Some other) = items_beside name version other.name.now other.version
+abbrev pub versions_items : Form → List ℕ → Option ℕ → Option Other → List Item
+versions_items form name version None = []
+versions_items form name version (Some other) =
+    items_beside form name version other.name.now other.version
 
 abbrev pub fails_beside : Option ℕ → Option ℕ → Bool
 fails_beside (Some version) (Some least) = nat_lt version least
@@ -137,13 +134,14 @@ versions_fail version (Some other) = fails_beside version other.version
 -- ---- the age
 
 -- a plain list has no date
-abbrev pub limited_items : List ℕ → Option Stated → AgeLimit → List Item
-limited_items name (Some stated) limit = age_items name stated.generated limit.now limit.max_age
-limited_items name None limit = said_of name (plain_line name refusals.NoDate) ∷ []
+abbrev pub limited_items : Form → List ℕ → Option Stated → AgeLimit → List Item
+limited_items form name (Some stated) limit =
+    condition_items form name (Age stated.generated limit.now limit.max_age)
+limited_items form name None limit = condition_items form name NoDate
 
-abbrev pub ages_items : List ℕ → Option Stated → Option AgeLimit → List Item
-ages_items name stated None = []
-ages_items name stated (Some limit) = limited_items name stated limit
+abbrev pub ages_items : Form → List ℕ → Option Stated → Option AgeLimit → List Item
+ages_items form name stated None = []
+ages_items form name stated (Some limit) = limited_items form name stated limit
 
 abbrev pub limit_fails : Option Stated → AgeLimit → Bool
 limit_fails (Some stated) limit = not (is_fresh stated.generated limit.now limit.max_age)
@@ -155,10 +153,10 @@ ages_fail stated (Some limit) = limit_fails stated limit
 
 -- ---- all that is limited
 
-abbrev pub limits_items : List ℕ → Option Stated → Limits → List Item
-limits_items name stated limits =
-    versions_items name (version_of stated) limits.other
-    ++ (ages_items name stated limits.age ++ losses_items name limits.lost.now)
+abbrev pub limits_items : Form → List ℕ → Option Stated → Limits → List Item
+limits_items form name stated limits =
+    versions_items form name (version_of stated) limits.other
+    ++ (ages_items form name stated limits.age ++ losses_items form name limits.lost.now)
 
 abbrev pub limits_fail : Option Stated → Limits → Bool
 limits_fail stated limits =

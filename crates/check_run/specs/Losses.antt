@@ -1,15 +1,18 @@
 -- The names that the checked list lacks.
-use Rattle.std.specs.Prelude.{◌↔◌, ℕ, not, Bool, false, List, [], ◌∷◌, ◌++◌, Option, Some, None}
+use Rattle.std.specs.Prelude.{◌↔◌, ℕ, not, Bool, false, List, [], ◌++◌, Option, Some, None}
 use Rattle.std.specs.Prelude.{if◌then◌else◌}
-use Rattle.run_output.specs.Run.{Item, said_of}
+use Rattle.run_output.specs.Run.{Item}
 use Rattle.krl_types.specs.Entry.{Entry}
 use Rattle.krl_types.specs.Naming.{Name, SomeNames}
 use Rattle.krl_entries.specs.Revocations.{HoldsName, IsOrderly, Revocations}
-use Rattle.krl_checker.specs.Check.{names_nobody}
-use Rattle.krl_checker.specs.Text.{lost_line}
+use Rattle.krl_audit.specs.declared.judge.Form.{Form}
+use Rattle.krl_checker.specs.Check.{condition_items, is_json, names_nobody}
+use Rattle.krl_checker.specs.declared.condition.Condition.TheVariants.{Lost as LostEntries}
+use Rattle.krl_checker.specs.declared.condition.Condition.TheVariants.{NothingLost}
 use Rattle.list_text.specs.Counts.{counted_all, nothing_counted}
 use Rattle.list_text.specs.Facts.{facts_of}
-use Rattle.list_text.specs.declared.form.Form.TheVariants.{Change}
+use Rattle.list_text.specs.declared.form.Form.{Form as TextForm}
+use Rattle.list_text.specs.declared.form.Form.TheVariants.{Change, JsonChange}
 use Rattle.list_text.specs.declared.side.Side.TheVariants.{Removed}
 use Rattle.show_run.specs.Showing.{fact_items}
 use Rattle.check_run.specs.declared.lists.Lost.{Lost}
@@ -21,15 +24,20 @@ pub record AreLost (own others : List Entry) (lost : Revocations) : Type 0 where
       → HoldsName lost name ↔ (SomeNames others name × (SomeNames own name → ⊥))
 
 -- the lines of what is lost, and how many entries they are
-abbrev pub lost_said : List ℕ → Lost → List Item
-lost_said name lost =
-    fact_items (Change Removed) (facts_of lost.held)
-    ++ said_of name (lost_line name lost.name.now
-    (counted_all nothing_counted (facts_of lost.held)).entries) ∷ []
+abbrev pub lost_form : Form → TextForm
+lost_form form = if is_json form then JsonChange Removed else Change Removed
 
-abbrev pub losses_items : List ℕ → Option Lost → List Item
-losses_items name None = []
-losses_items name (Some lost) = if names_nobody lost.held then [] else lost_said name lost
+abbrev pub lost_items : Form → List ℕ → Lost → List Item
+lost_items form name lost =
+    fact_items (lost_form form) (facts_of lost.held)
+    ++ condition_items form name
+    (LostEntries lost.name (counted_all nothing_counted (facts_of lost.held)).entries)
+
+abbrev pub losses_items : Form → List ℕ → Option Lost → List Item
+losses_items form name None = []
+losses_items form name (Some lost) =
+    if names_nobody lost.held then condition_items form name (NothingLost lost.name)
+    else lost_items form name lost
 
 abbrev pub losses_fail : Option Lost → Bool
 losses_fail None = false

@@ -1,6 +1,6 @@
 -- A whole check: what it prints, and how it ends.
 use Rattle.std.specs.Prelude.{◌≡◌, ◌↔◌, ℕ, ◌||◌, Bool, true, false, List, [], ◌++◌, Option, Some}
-use Rattle.std.specs.Prelude.{None, Result, Ok, Err, OnOk, is_some}
+use Rattle.std.specs.Prelude.{None, Result, Ok, Err, OnOk, if◌then◌else◌, is_some}
 use Rattle.run_faults.specs.RunFault.{RunFault}
 use Rattle.run_output.specs.Printer.{Printer}
 use Rattle.run_output.specs.Run.{Item}
@@ -11,15 +11,19 @@ use Rattle.krl_types.specs.Entry.{Entry}
 use Rattle.krl_entries.specs.Reasons.{reasons_of}
 use Rattle.krl_entries.specs.Revocations.{Revocations}
 use Rattle.krl_audit.specs.declared.done.Stated.{Stated}
+use Rattle.krl_audit.specs.declared.judge.Form.{Form}
+use Rattle.krl_audit.specs.declared.judge.Form.TheVariants.{Json, Text}
 use Rattle.krl_openssh.specs.declared.difference.Difference.{Difference}
-use Rattle.krl_checker.specs.Check.{EndsCheck, NamesNobody, difference_items, names_nobody}
+use Rattle.krl_checker.specs.Check.{EndsCheck, NamesNobody, condition_items, end_items}
+use Rattle.krl_checker.specs.Check.{names_nobody}
+use Rattle.krl_checker.specs.declared.condition.Condition.TheVariants.{OpenSsh}
 use Rattle.plain_list.specs.Any.{Names}
 use Rattle.check_run.specs.Fact.{Fact, ListOf}
 use Rattle.check_run.specs.Files.{AreRead, Named, Read, files_of, reads_fail, reads_items}
 use Rattle.check_run.specs.Files.{some_unread}
 use Rattle.check_run.specs.Limits.{AreLimits, IsClockless, IsLostUnknown}
 use Rattle.check_run.specs.Lists.{Checks, IsDifference, IsOtherRefused, IsRefused}
-use Rattle.check_run.specs.Lists.{empty_fails, empty_said, stated_by, limits_fail, limits_items}
+use Rattle.check_run.specs.Lists.{empty_fails, empty_items, stated_by, limits_fail, limits_items}
 use Rattle.check_run.specs.Version.{PrintsVersion}
 use Rattle.check_run.specs.declared.limits.Limits.{Limits}
 use Rattle.check_run.specs.declared.limits.Unanswered.{Unanswered}
@@ -34,11 +38,15 @@ pub record Judged : Type 0 where
   pub stated : Option Stated
   pub limits : Limits
 
-abbrev pub list_items : List ℕ → Judged → Check → List Item
-list_items name list task =
-    difference_items name list.difference
-    ++ (empty_said name list.nobody task.allow_empty
-    ++ limits_items name list.stated list.limits)
+-- the form in which a task wants what is printed
+abbrev pub form_of : Check → Form
+form_of task = if task.json then Json else Text
+
+abbrev pub list_items : Form → List ℕ → Judged → Check → List Item
+list_items form name list task =
+    condition_items form name (OpenSsh list.difference)
+    ++ (empty_items form name list.nobody task.allow_empty
+    ++ limits_items form name list.stated list.limits)
 
 abbrev pub list_fails : Judged → Check → Bool
 list_fails list task =
@@ -61,7 +69,9 @@ pub record IsChecked (Knows : Fact → Type 0) (name bytes : List ℕ) (task : C
     pub reads : List Read
     pub are_read : AreRead Knows (files_of task) reads later
     pub items_are : items
-        ≡ list_items name list task ++ reads_items (reasons_of entries) reads later
+        ≡ list_items (form_of task) name list task
+        ++ (reads_items (form_of task) (reasons_of entries) reads later
+        ++ end_items (form_of task) name fails)
     pub fails_is : fails ≡ (list_fails list task || reads_fail (reasons_of entries) reads)
     pub unread_is : unread ≡ some_unread reads
 
@@ -131,7 +141,7 @@ pub data EndsCheckRun (Knows : Fact → Type 0) (task : Check) (before after : O
 -- ---- the parts of a run
 
 -- The conditions for the list itself were checked, or the check was stopped within them.
-pub record ChecksList (name bytes : List ℕ) (stated : Option Stated) (held : Revocations)
+pub record ChecksList (form : Form) (name bytes : List ℕ) (stated : Option Stated) (held : Revocations)
     (task : Check) (limits : Limits) (result : Result (Unit {0}) RunFault)
     (old new : Printer) (before after : Bool) : Type 0 where
   pub list : Judged
@@ -139,7 +149,7 @@ pub record ChecksList (name bytes : List ℕ) (stated : Option Stated) (held : R
   pub nobody_is : list.nobody ≡ names_nobody held
   pub stated_is : list.stated ≡ stated
   pub limits_are : list.limits ≡ limits
-  pub checks : Checks (list_items name list task) (list_fails list task) result old new before
+  pub checks : Checks (list_items form name list task) (list_fails list task) result old new before
       after
 
 -- All conditions were checked, or the check was stopped within them.

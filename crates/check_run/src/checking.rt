@@ -2,7 +2,7 @@
 
 ghost use Rattle.std.specs.Prelude.{◌≡◌, false};
 ghost use Rattle.any_list.specs.List.{IsReadList};
-ghost use Rattle.check_run.specs.Run.{ChecksAll, ChecksList, EndsChecked};
+ghost use Rattle.check_run.specs.Run.{ChecksAll, ChecksList, EndsChecked, form_of};
 
 use crate::conditions::{check_empty, check_format, check_limits};
 use crate::files::check_files;
@@ -11,7 +11,7 @@ use crate::limits::Limits;
 use crate::lists::Given;
 use byte_streams::Sink;
 use krl_arguments::Check;
-use krl_audit::Auditor;
+use krl_audit::{Auditor, Form};
 use krl_checker::Checker;
 use krl_checker::laws::nobody_is_named;
 use run_faults::RunFault;
@@ -41,7 +41,8 @@ pub(crate) fn check_by<'a, H: Host, W: Sink>(
 {
     let mut buffer = Vec::new(alloc);
     let printer = Printer::new(&mut buffer, out);
-    let mut checker = Checker::new(alloc, &job.given.list.revocations, printer);
+    let form = form_of(job.task);
+    let mut checker = Checker::new(alloc, &job.given.list.revocations, form, printer);
     let stop = check_all(&mut checker, job, host);
     let done = checker.finish(stop.err());
     let Checker { auditor, .. } = checker;
@@ -55,6 +56,13 @@ pub(crate) fn check_by<'a, H: Host, W: Sink>(
     done
 }
 
+// The form in which a task wants what is printed.
+fn form_of(task: &Check) -> Form
+    ensures { result ≡ form_of task.now }
+{
+    if task.json { Form::Json } else { Form::Text }
+}
+
 // Checks each condition.
 fn check_all<'a, H: Host, W: Sink>(
     checker: &mut Checker<'_, '_, W>,
@@ -63,6 +71,7 @@ fn check_all<'a, H: Host, W: Sink>(
 ) -> Result<(), RunFault<'a>>
     requires read { IsReadList false job.given.now.bytes job.given.now.list }
     requires judge { checker.old.auditor.judge.list.now ≡ job.given.now.list.revocations }
+    requires form { checker.old.auditor.judge.shown.form ≡ form_of job.task.now }
     requires refused { checker.old.refused ≡ false }
     requires unread { checker.old.unread ≡ false }
     ensures all { ChecksAll (H.states host.now) job.entry.given.now.name.now
@@ -74,7 +83,8 @@ fn check_all<'a, H: Host, W: Sink>(
 {
     nobody_is_named();
     check_list(checker, job)?;
-    check_files(checker, host, job.task)
+    check_files(checker, host, job.task)?;
+    checker.say_end(job.given.name)
 }
 
 // Checks each condition for the list itself.
@@ -83,8 +93,8 @@ fn check_list<'a, W: Sink>(
     job: Job<'a, '_, '_>,
 ) -> Result<(), RunFault<'a>>
     requires { IsReadList false job.given.now.bytes job.given.now.list }
-    ensures checks { ChecksList job.entry.given.now.name.now job.entry.given.now.bytes
-        job.entry.given.now.list.stated checker.old.auditor.judge.list.now
+    ensures checks { ChecksList checker.old.auditor.judge.shown.form job.entry.given.now.name.now
+        job.entry.given.now.bytes job.entry.given.now.list.stated checker.old.auditor.judge.list.now
         job.entry.task.now job.entry.limits result checker.old.auditor.run.printer
         checker.new.auditor.run.printer checker.old.refused checker.new.refused }
     ensures unread { checker.new.unread ≡ checker.old.unread }

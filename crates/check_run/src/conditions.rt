@@ -2,19 +2,19 @@
 
 ghost use Rattle.std.specs.Prelude.{◌≡◌, false, true};
 ghost use Rattle.krl_checker.specs.Check.{names_nobody};
-ghost use Rattle.check_run.specs.Lists.{Checks, ChecksFormat, ages_fail, ages_items};
-ghost use Rattle.check_run.specs.Lists.{empty_fails, empty_said, limits_fail, limits_items};
+ghost use Rattle.check_run.specs.Lists.{Checks, ChecksFormat, IsDifference, ages_fail, ages_items};
+ghost use Rattle.check_run.specs.Lists.{empty_fails, empty_items, limits_fail, limits_items};
 ghost use Rattle.check_run.specs.Lists.{version_of, versions_fail, versions_items};
-ghost use Rattle.check_run.specs.Losses.{lost_said, losses_fail, losses_items};
+ghost use Rattle.check_run.specs.Losses.{lost_form, lost_items, losses_fail, losses_items};
 ghost use Rattle.any_list.specs.List.{IsReadList};
 
 use crate::limits::{AgeLimit, Limits};
 use crate::lists::{Given, Lost, Other, version_of};
 use byte_streams::Sink;
-use krl_audit::Stated;
-use krl_checker::{Checker, PlainRefusal, names_nobody};
-use krl_openssh::laws::read_lists_have_fields;
-use list_text::{Counts, Form, Side};
+use krl_audit::{Form, Stated};
+use krl_checker::{Checker, Condition, names_nobody};
+use krl_openssh::{Difference, first_difference};
+use list_text::{Counts, Form as TextForm, Side};
 use run_faults::RunFault;
 use show_run::show_held;
 
@@ -24,18 +24,24 @@ pub(crate) fn check_format<'a, W: Sink>(
     given: &Given<'a>,
 ) -> Result<(), RunFault<'a>>
     requires { IsReadList false given.now.bytes given.now.list }
-    ensures checks { ChecksFormat given.now.name.now given.now.bytes result
+    ensures checks { ChecksFormat checker.old.auditor.judge.shown.form given.now.name.now
+        given.now.bytes result
         checker.old.auditor.run.printer checker.new.auditor.run.printer checker.old.refused
         checker.new.refused }
     ensures unread { checker.new.unread ≡ checker.old.unread }
     ensures judge { checker.new.auditor.judge ≡ checker.old.auditor.judge }
 {
+    checker.check(given.name, Condition::OpenSsh(difference_of(given)))
+}
+
+// The first difference of a list for OpenSSH, if there is one.
+fn difference_of(given: &Given<'_>) -> Option<Difference>
+    requires { IsReadList false given.now.bytes given.now.list }
+    ensures { IsDifference given.now.bytes result }
+{
     match given.list.stated {
-        Some(_) => {
-            read_lists_have_fields();
-            checker.check_openssh(given.name, given.bytes.as_slice())
-        }
-        None => Ok(()),
+        Some(_) => first_difference(given.bytes.as_slice()),
+        None => None,
     }
 }
 
@@ -46,17 +52,18 @@ pub(crate) fn check_empty<'a, W: Sink>(
     allow_empty: bool,
 ) -> Result<(), RunFault<'a>>
     ensures checks { let nobody = names_nobody checker.old.auditor.judge.list.now in
-        Checks (empty_said name.now nobody allow_empty) (empty_fails nobody allow_empty) result
+        Checks (empty_items checker.old.auditor.judge.shown.form name.now nobody allow_empty)
+        (empty_fails nobody allow_empty) result
         checker.old.auditor.run.printer checker.new.auditor.run.printer checker.old.refused
         checker.new.refused }
     ensures unread { checker.new.unread ≡ checker.old.unread }
     ensures judge { checker.new.auditor.judge ≡ checker.old.auditor.judge }
 {
     if allow_empty {
-        Ok(())
-    } else {
-        checker.check_empty(name)
+        return Ok(());
     }
+    let nobody = names_nobody(checker.auditor.judge.list);
+    checker.check(name, Condition::Empty(nobody))
 }
 
 /// Checks the version, the age and the names of a list by its limits.
@@ -66,7 +73,8 @@ pub(crate) fn check_limits<'a, W: Sink>(
     stated: Option<Stated>,
     limits: Limits<'a, '_>,
 ) -> Result<(), RunFault<'a>>
-    ensures checks { Checks (limits_items name.now stated limits.entry)
+    ensures checks { Checks (limits_items checker.old.auditor.judge.shown.form name.now stated
+        limits.entry)
         (limits_fail stated limits.entry) result
         checker.old.auditor.run.printer checker.new.auditor.run.printer checker.old.refused
         checker.new.refused }
@@ -85,7 +93,8 @@ fn check_version<'a, W: Sink>(
     version: Option<u64>,
     other: Option<Other<'a>>,
 ) -> Result<(), RunFault<'a>>
-    ensures checks { Checks (versions_items name.now version other.entry)
+    ensures checks { Checks (versions_items checker.old.auditor.judge.shown.form name.now version
+        other.entry)
         (versions_fail version other.entry) result
         checker.old.auditor.run.printer checker.new.auditor.run.printer checker.old.refused
         checker.new.refused }
@@ -96,9 +105,9 @@ fn check_version<'a, W: Sink>(
         return Ok(());
     };
     match (version, other.version) {
-        (Some(version), Some(least)) => checker.check_version(name, version, least),
-        (Some(_), None) => checker.refuse_plain(other.name, PlainRefusal::NoVersion),
-        (None, _) => checker.refuse_plain(name, PlainRefusal::NoVersion),
+        (Some(version), Some(least)) => checker.check(name, Condition::Version(version, least)),
+        (Some(_), None) => checker.check(other.name, Condition::NoVersion),
+        (None, _) => checker.check(name, Condition::NoVersion),
     }
 }
 
@@ -109,7 +118,8 @@ fn check_age<'a, W: Sink>(
     stated: Option<Stated>,
     limit: Option<AgeLimit>,
 ) -> Result<(), RunFault<'a>>
-    ensures checks { Checks (ages_items name.now stated limit) (ages_fail stated limit) result
+    ensures checks { Checks (ages_items checker.old.auditor.judge.shown.form name.now stated limit)
+        (ages_fail stated limit) result
         checker.old.auditor.run.printer checker.new.auditor.run.printer checker.old.refused
         checker.new.refused }
     ensures unread { checker.new.unread ≡ checker.old.unread }
@@ -119,8 +129,8 @@ fn check_age<'a, W: Sink>(
         return Ok(());
     };
     match stated {
-        Some(stated) => checker.check_age(name, stated.generated, now, max_age),
-        None => checker.refuse_plain(name, PlainRefusal::NoDate),
+        Some(stated) => checker.check(name, Condition::Age(stated.generated, now, max_age)),
+        None => checker.check(name, Condition::NoDate),
     }
 }
 
@@ -130,7 +140,8 @@ fn check_lost<'a, W: Sink>(
     name: &'a str,
     lost: &Option<Lost<'a>>,
 ) -> Result<(), RunFault<'a>>
-    ensures checks { Checks (losses_items name.now lost.now) (losses_fail lost.now) result
+    ensures checks { Checks (losses_items checker.old.auditor.judge.shown.form name.now lost.now)
+        (losses_fail lost.now) result
         checker.old.auditor.run.printer checker.new.auditor.run.printer checker.old.refused
         checker.new.refused }
     ensures unread { checker.new.unread ≡ checker.old.unread }
@@ -140,7 +151,7 @@ fn check_lost<'a, W: Sink>(
         return Ok(());
     };
     if names_nobody(&lost.held) {
-        return Ok(());
+        return checker.check(name, Condition::NothingLost(lost.name));
     }
     say_lost(checker, name, lost)
 }
@@ -151,14 +162,25 @@ fn say_lost<'a, W: Sink>(
     name: &'a str,
     lost: &Lost<'a>,
 ) -> Result<(), RunFault<'a>>
-    ensures checks { Checks (lost_said name.now lost.now) true result
+    ensures checks { Checks (lost_items checker.old.auditor.judge.shown.form name.now lost.now)
+        true result
         checker.old.auditor.run.printer checker.new.auditor.run.printer checker.old.refused
         checker.new.refused }
     ensures unread { checker.new.unread ≡ checker.old.unread }
     ensures judge { checker.new.auditor.judge ≡ checker.old.auditor.judge }
 {
-    let form = Form::Change(Side::Removed);
+    let form = lost_form(checker.auditor.judge.shown.form);
     let mut counts = Counts::NONE;
     show_held(&mut checker.auditor.run, &mut counts, form, &lost.held)?;
-    checker.refuse_lost(name, lost.name, counts.entries)
+    checker.check(name, Condition::Lost(lost.name, counts.entries))
+}
+
+// The form of the lines of what is lost.
+fn lost_form(form: Form) -> TextForm
+    ensures { result ≡ lost_form form }
+{
+    match form {
+        Form::Text | Form::Colour => TextForm::Change(Side::Removed),
+        Form::Json => TextForm::JsonChange(Side::Removed),
+    }
 }

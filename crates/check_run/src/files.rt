@@ -18,10 +18,12 @@ pub(crate) fn check_files<'a, H: Host, W: Sink>(
     host: &H,
     task: &Check<'a>,
 ) -> Result<(), RunFault<'a>>
-    ensures { (entries : List Entry) → Means checker.old.auditor.judge.list.now entries
-        → ChecksFiles (H.states host.now) (reasons_of entries) (files_of task.now) result
-        checker.old.auditor.run.printer checker.new.auditor.run.printer
-        checker.old.refused checker.new.refused checker.old.unread checker.new.unread }
+    ensures checks { (entries : List Entry) → Means checker.old.auditor.judge.list.now entries
+        → ChecksFiles (H.states host.now) checker.old.auditor.judge.shown.form
+        (reasons_of entries) (files_of task.now) result checker.old.auditor.run.printer
+        checker.new.auditor.run.printer checker.old.refused checker.new.refused
+        checker.old.unread checker.new.unread }
+    ensures form { checker.new.auditor.judge.shown.form ≡ checker.old.auditor.judge.shown.form }
 {
     check_each(checker, host, Role::Keep, task.keep.as_slice())?;
     check_each(checker, host, Role::Canary, task.canary.as_slice())
@@ -35,10 +37,12 @@ fn check_each<'a, H: Host, W: Sink>(
     names: &[&'a str],
 ) -> Result<(), RunFault<'a>>
     ensures checks { (entries : List Entry) → Means checker.old.auditor.judge.list.now entries
-        → ChecksFiles (H.states host.now) (reasons_of entries) (named_all role names.now) result
-        checker.old.auditor.run.printer checker.new.auditor.run.printer
-        checker.old.refused checker.new.refused checker.old.unread checker.new.unread }
+        → ChecksFiles (H.states host.now) checker.old.auditor.judge.shown.form
+        (reasons_of entries) (named_all role names.now) result checker.old.auditor.run.printer
+        checker.new.auditor.run.printer checker.old.refused checker.new.refused
+        checker.old.unread checker.new.unread }
     ensures list { checker.new.auditor.judge.list ≡ checker.old.auditor.judge.list }
+    ensures form { checker.new.auditor.judge.shown.form ≡ checker.old.auditor.judge.shown.form }
 {
     for name in names {
         check_file(checker, host, role, *name)?;
@@ -54,10 +58,12 @@ fn check_file<'a, H: Host, W: Sink>(
     name: &'a str,
 ) -> Result<(), RunFault<'a>>
     ensures checks { (entries : List Entry) → Means checker.old.auditor.judge.list.now entries
-        → ChecksFiles (H.states host.now) (reasons_of entries) (named role name.now ∷ []) result
-        checker.old.auditor.run.printer checker.new.auditor.run.printer
-        checker.old.refused checker.new.refused checker.old.unread checker.new.unread }
+        → ChecksFiles (H.states host.now) checker.old.auditor.judge.shown.form
+        (reasons_of entries) (named role name.now ∷ []) result checker.old.auditor.run.printer
+        checker.new.auditor.run.printer checker.old.refused checker.new.refused
+        checker.old.unread checker.new.unread }
     ensures list { checker.new.auditor.judge.list ≡ checker.old.auditor.judge.list }
+    ensures form { checker.new.auditor.judge.shown.form ≡ checker.old.auditor.judge.shown.form }
 {
     let mut text = Vec::new(checker.auditor.run.alloc);
     match host.read(name, &mut text) {

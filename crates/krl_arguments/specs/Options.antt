@@ -18,8 +18,8 @@ audit_rules =
     ∷ long_value_rule (codes "files0-from")
     ∷ words_rule (codes "files") ∷ []
 
--- krl check: the list, --newer-than, --superset-of, --max-age, --keep, --canary, --allow-empty and
--- --print-version
+-- krl check: the list, --newer-than, --superset-of, --max-age, --keep, --canary, --allow-empty,
+-- --json and --print-version
 abbrev pub check_rules : List Rule
 check_rules =
     word_rule (codes "list")
@@ -29,6 +29,7 @@ check_rules =
     ∷ long_values_rule (codes "keep")
     ∷ long_values_rule (codes "canary")
     ∷ long_rule (codes "allow-empty")
+    ∷ long_rule (codes "json")
     ∷ long_rule (codes "print-version") ∷ []
 
 -- krl show: --json, and the lists

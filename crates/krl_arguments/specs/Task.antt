@@ -26,7 +26,8 @@ pub record Audit : Type 0 where
   pub names_from : Option (List ℕ)
   pub files : List (List ℕ)
 
--- a check: the list, its conditions, and whether only its version is printed
+-- a check: the list, its conditions, whether --json is given, and whether only its version is
+-- printed
 pub record Check : Type 0 where
   pub list : List ℕ
   pub newer_than : Option (List ℕ)
@@ -35,6 +36,7 @@ pub record Check : Type 0 where
   pub keep : List (List ℕ)
   pub canary : List (List ℕ)
   pub allow_empty : Bool
+  pub json : Bool
   pub print_version : Bool
 
 -- lists that are shown, and whether --json is given
@@ -95,15 +97,16 @@ check_with rows list = record {
   keep = values_in (codes "keep") rows;
   canary = values_in (codes "canary") rows;
   allow_empty = is_set (codes "allow-empty") rows;
+  json = is_set (codes "json") rows;
   print_version = is_set (codes "print-version") rows;
 }
 
--- there is no condition
+-- there is neither a condition nor a form for them
 abbrev pub has_only_version : Check → Bool
 has_only_version check =
     not (is_some check.newer_than) && (not (is_some check.superset_of)
     && (not (is_some check.max_age) && (is_empty check.keep
-    && (is_empty check.canary && not check.allow_empty))))
+    && (is_empty check.canary && (not check.allow_empty && not check.json)))))
 
 -- The check, unless its age is no duration, or its version is requested together with a condition.
 abbrev pub if_whole : Bool → Check → Option Check
@@ -169,6 +172,7 @@ check_by check = record {
   keep = map (λ name. name.now) check.keep.items;
   canary = map (λ name. name.now) check.canary.items;
   allow_empty = check.allow_empty;
+  json = check.json;
   print_version = check.print_version;
 }
 

@@ -58,7 +58,7 @@ const AUDIT: [Argument; 7] = [
     },
 ];
 
-const CHECK: [Argument; 8] = [
+const CHECK: [Argument; 9] = [
     Argument {
         id: "list",
         form: Form::Word("krl"),
@@ -93,6 +93,11 @@ const CHECK: [Argument; 8] = [
         id: "allow-empty",
         form: Form::Long,
         help: "Take a list that revokes nobody",
+    },
+    Argument {
+        id: "json",
+        form: Form::Long,
+        help: "Print each condition as a JSON object, also those that hold",
     },
     Argument {
         id: "print-version",

@@ -51,6 +51,8 @@ pub struct Check<'a> {
     pub canary: Vec<&'a str>,
     /// True if it may revoke nobody, by `--allow-empty`.
     pub allow_empty: bool,
+    /// True if each condition is printed as JSON, by `--json`.
+    pub json: bool,
     /// True if only its version is printed, by `--print-version`.
     pub print_version: bool,
 }

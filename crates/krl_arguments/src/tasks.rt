@@ -127,6 +127,7 @@ fn check_with<'a>(
         keep,
         canary,
         allow_empty: is_set(found, "allow-empty"),
+        json: is_set(found, "json"),
         print_version: is_set(found, "print-version"),
     })
 }
@@ -162,7 +163,7 @@ fn if_whole(has_wrong_age: bool, check: Check<'_>) -> Option<Check<'_>>
     }
 }
 
-// Returns true if there is no condition.
+// Returns true if there is neither a condition nor a form for them.
 fn has_only_version(check: &Check<'_>) -> bool
     ensures { result ≡ has_only_version (check_by check.now) }
 {
@@ -172,6 +173,7 @@ fn has_only_version(check: &Check<'_>) -> bool
         && check.keep.is_empty()
         && check.canary.is_empty()
         && !check.allow_empty
+        && !check.json
 }
 
 // The lists of these matches, and how they are shown.

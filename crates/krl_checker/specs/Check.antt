@@ -1,25 +1,31 @@
 -- The lines that a check prints for each condition, and its end.
-use Rattle.std.specs.Prelude.{◌≡◌, ℕ, ◌||◌, nat_lt, not, Bool, true, false, List, [], ◌∷◌, ◌++◌}
-use Rattle.std.specs.Prelude.{◌-◌, ◌==◌, ◌&&◌, nat_le, length, is_some, OnOk, Option, Some, None}
+use Rattle.std.specs.Prelude.{◌≡◌, ℕ, ◌||◌, not, Bool, true, false, List, [], ◌∷◌, ◌++◌}
+use Rattle.std.specs.Prelude.{◌==◌, ◌&&◌, if◌then◌else◌, length, is_some, OnOk, Option, Some, None}
 use Rattle.std.specs.Prelude.{Result, Ok, Err}
+use Rattle.json_lines.specs.Field.{json_line}
 use Rattle.run_faults.specs.RunFault.{RunFault}
 use Rattle.run_output.specs.Carries.{Carries}
 use Rattle.run_output.specs.Done.{EndsWith}
 use Rattle.run_output.specs.Printer.{Printer}
-use Rattle.run_output.specs.Run.{Item, said_of}
+use Rattle.run_output.specs.Run.{Item, Passed, said_of}
 use Rattle.krl_types.specs.Entry.{Entry}
 use Rattle.krl_types.specs.Naming.{Name, SomeNames}
 use Rattle.krl_types.specs.Subject.{Subject}
 use Rattle.krl_entries.specs.Revocations.{Revocations}
 use Rattle.krl_entries.specs.declared.reasons.Reasons.{Reasons}
-use Rattle.krl_audit.specs.Audit.{file_items, file_kinds, said_if}
+use Rattle.krl_audit.specs.Audit.{file_items, file_kinds}
 use Rattle.krl_audit.specs.Counts.{all_counted}
 use Rattle.krl_audit.specs.Keyless.{keyless_lines}
 use Rattle.krl_audit.specs.declared.counts.Counts.{Counts}
+use Rattle.krl_audit.specs.declared.judge.Form.{Form}
+use Rattle.krl_audit.specs.declared.judge.Form.TheVariants as forms
 use Rattle.krl_audit.specs.declared.why.Refusal.{Refusal}
-use Rattle.krl_openssh.specs.declared.difference.Difference.{Difference}
+use Rattle.krl_checker.specs.Condition.{fails}
+use Rattle.krl_checker.specs.Object.{condition_object, end_object}
 use Rattle.krl_checker.specs.Role.{is_met, shown_for}
-use Rattle.krl_checker.specs.Text.{age_line, difference_line, empty_line, file_line, version_line}
+use Rattle.krl_checker.specs.Text.{condition_line}
+use Rattle.krl_checker.specs.declared.condition.Condition.{Condition}
+use Rattle.krl_checker.specs.declared.condition.Condition.TheVariants.{Keys}
 use Rattle.krl_checker.specs.declared.role.Role.{Role}
 
 -- a line is printed if a condition fails
@@ -27,29 +33,25 @@ abbrev pub said_where : Bool → List ℕ → List ℕ → List Item
 said_where true name text = said_of name text ∷ []
 said_where false name text = []
 
-abbrev pub difference_items : List ℕ → Option Difference → List Item
-difference_items name None = []
-difference_items name (Some difference) = said_of name (difference_line name difference) ∷ []
+abbrev pub is_json : Form → Bool
+is_json forms.Text = false
+is_json forms.Colour = false
+is_json forms.Json = true
 
-abbrev pub version_items : List ℕ → (version other : ℕ) → List Item
-version_items name version other =
-    said_where (nat_lt version other) name (version_line name version other)
+-- the line of a condition, for people or as a JSON object
+abbrev pub condition_said : Form → List ℕ → Condition → List ℕ
+condition_said form name condition =
+    if is_json form then json_line (condition_object name condition)
+    else condition_line name condition
 
--- ---- age
+-- A condition that holds has a line only as JSON.
+abbrev pub condition_items : Form → List ℕ → Condition → List Item
+condition_items form name condition =
+    said_where (is_json form || fails condition) name (condition_said form name condition)
 
--- how many seconds after the present moment a list may have been made, since clocks differ
-abbrev pub most_ahead : ℕ
-most_ahead = 300
-
--- A list that was made at this moment is not too old and not from the future. The moments are in
--- seconds since 1970.
-abbrev pub is_fresh : (generated now max_age : ℕ) → Bool
-is_fresh generated now max_age =
-    nat_le (generated - now) most_ahead && nat_le (now - generated) max_age
-
-abbrev pub age_items : List ℕ → (generated now max_age : ℕ) → List Item
-age_items name generated now max_age =
-    said_where (not (is_fresh generated now max_age)) name (age_line name generated now)
+-- the last line, which only JSON has
+abbrev pub end_items : Form → List ℕ → (refused : Bool) → List Item
+end_items form name refused = said_where (is_json form) name (json_line (end_object refused))
 
 -- ---- lists that revoke nobody
 
@@ -63,15 +65,7 @@ names_nobody list =
     (length list.sections == 0) && ((length list.keys == 0)
     && ((length list.sha1s == 0) && (length list.sha256s == 0)))
 
-abbrev pub empty_items : List ℕ → Revocations → List Item
-empty_items name list = said_where (names_nobody list) name (empty_line name)
-
 -- ---- the keys of a file
-
--- a line is printed for the file if its keys do not meet the condition
-abbrev pub counts_items : Role → List ℕ → Counts → List Item
-counts_items role name counts =
-    said_if (not (is_met role counts)) name (file_line role name counts) ∷ []
 
 -- nothing was counted
 abbrev pub none_counted : Counts
@@ -93,17 +87,23 @@ abbrev pub counts_of : (Subject → Reasons) → List ℕ → Result (List ℕ) 
 counts_of reasons name content =
     lines_counted name content (all_counted none_counted (file_kinds reasons name content))
 
+-- The file may be too large to count its lines again.
+abbrev pub counts_items : Form → Role → List ℕ → Counts → List Item
+counts_items form role name counts =
+    Passed name ∷ condition_items form name (Keys role counts)
+
 -- the keys that do not meet the condition, and then the file
-abbrev pub keys_items : Role → (Subject → Reasons) → List ℕ → Result (List ℕ) Refusal → List Item
-keys_items role reasons name content =
-    file_items reasons (shown_for role) name content
-    ++ counts_items role name (counts_of reasons name content)
+abbrev pub keys_items : Form → Role → (Subject → Reasons) → List ℕ → Result (List ℕ) Refusal
+    → List Item
+keys_items form role reasons name content =
+    file_items reasons (shown_for role form) name content
+    ++ counts_items form role name (counts_of reasons name content)
 
 -- The keys of a file were checked, after the earlier checks; or the check was stopped.
-pub record ChecksFile (role : Role) (reasons : Subject → Reasons) (name : List ℕ)
+pub record ChecksFile (form : Form) (role : Role) (reasons : Subject → Reasons) (name : List ℕ)
     (content : Result (List ℕ) Refusal) (result : Result (Unit {0}) RunFault) (old new : Printer)
     (before after : Bool) : Type 0 where
-  pub carries : Carries (keys_items role reasons name content) result old new
+  pub carries : Carries (keys_items form role reasons name content) result old new
   pub refused : OnOk result
       (after ≡ (before || not (is_met role (counts_of reasons name content))))
 

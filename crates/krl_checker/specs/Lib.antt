@@ -1,3 +1,5 @@
 pub mod Role
+pub mod Condition
 pub mod Text
+pub mod Object
 pub mod Check

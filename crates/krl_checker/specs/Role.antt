@@ -8,7 +8,7 @@ use Rattle.krl_audit.specs.Outcome.{Empty, Key, Outcome, Placed, Unread}
 use Rattle.krl_audit.specs.declared.counts.LineKind.{LineKind}
 use Rattle.krl_audit.specs.declared.counts.LineKind.TheVariants as kinds
 use Rattle.krl_audit.specs.declared.counts.Counts.{Counts}
-use Rattle.krl_audit.specs.declared.judge.Form.TheVariants.{Text}
+use Rattle.krl_audit.specs.declared.judge.Form.{Form}
 use Rattle.krl_audit.specs.declared.judge.Shown.{Shown}
 use Rattle.krl_checker.specs.declared.role.Role.{Role}
 use Rattle.krl_checker.specs.declared.role.Role.TheVariants as roles
@@ -24,13 +24,13 @@ is_met role counts =
     if (counts.keys == 0) || nat_lt 0 counts.unread then false else are_right role counts
 
 -- the keys that do not meet the condition are printed, and the lines that are not read
-abbrev pub shown_for : Role → Shown
-shown_for roles.Keep = record { revoked = true; unread = true; fine = false; form = Text }
-shown_for roles.Canary = record { revoked = false; unread = true; fine = true; form = Text }
+abbrev pub shown_for : Role → Form → Shown
+shown_for roles.Keep form = record { revoked = true; unread = true; fine = false; form = form }
+shown_for roles.Canary form = record { revoked = false; unread = true; fine = true; form = form }
 
 abbrev pub role_word : Role → List ℕ
-role_word roles.Keep = codes "keep: "
-role_word roles.Canary = codes "canary: "
+role_word roles.Keep = codes "keep"
+role_word roles.Canary = codes "canary"
 
 -- ---- the same of the lines of a file
 

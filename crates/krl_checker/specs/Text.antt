@@ -1,43 +1,20 @@
--- The lines that are printed for a condition that fails, and why it fails.
+-- The line that is printed for a condition that fails: which one, about what, and why it fails.
 use Rattle.std.specs.Prelude.{ℕ, ◌-◌, ◌/◌, false, nat_lt, if◌then◌else◌, ◌==◌, List, [], ◌∷◌, ◌++◌}
-use Rattle.std.specs.Prelude.{codes, decimal}
+use Rattle.std.specs.Prelude.{codes, decimal, Option, Some, None}
 use Rattle.cert_listing.specs.Time.{instant_text}
 use Rattle.krl_audit.specs.Amount.{amount_text}
 use Rattle.krl_audit.specs.Visible.{visible}
 use Rattle.krl_audit.specs.declared.counts.Counts.{Counts}
 use Rattle.krl_openssh.specs.Difference.{difference_words}
 use Rattle.krl_openssh.specs.declared.difference.Difference.{Difference}
-use Rattle.krl_checker.specs.Role.{role_word}
-use Rattle.krl_checker.specs.declared.plain.PlainRefusal.{PlainRefusal}
-use Rattle.krl_checker.specs.declared.plain.PlainRefusal.TheVariants as refusals
-use Rattle.krl_checker.specs.declared.role.Role.{Role}
-
-abbrev pub difference_line : List ℕ → Difference → List ℕ
-difference_line name difference =
-    codes "openssh: " ++ (visible false name
-    ++ (codes ": " ++ (difference_words difference ++ 10 ∷ [])))
-
-abbrev pub version_line : List ℕ → (version other : ℕ) → List ℕ
-version_line name version other =
-    codes "version: " ++ (visible false name
-    ++ (codes ": " ++ (decimal version ++ (codes " is below " ++ (decimal other ++ 10 ∷ [])))))
-
--- the line for a list that revokes nobody
-abbrev pub empty_line : List ℕ → List ℕ
-empty_line name =
-    codes "empty: " ++ (visible false name ++ codes ": it revokes nobody\n")
+use Rattle.krl_checker.specs.Condition.{condition_word}
+use Rattle.krl_checker.specs.declared.condition.Condition.{Condition}
+use Rattle.krl_checker.specs.declared.condition.Condition.TheVariants as conditions
 
 -- a number of entries, as the subject of a sentence, with its verb
 abbrev pub entries_text : ℕ → List ℕ
 entries_text count =
     decimal count ++ (if count == 1 then codes " entry is" else codes " entries are")
-
--- the line for a list that does not name all that another one names
-abbrev pub lost_line : (name other : List ℕ) → (entries : ℕ) → List ℕ
-lost_line name other entries =
-    codes "lost: " ++ (visible false other
-    ++ (codes ": " ++ (entries_text entries
-    ++ (codes " not in " ++ (visible false name ++ 10 ∷ [])))))
 
 -- A number of seconds, rounded down to minutes from 2 minutes on, and to hours from 2 hours on.
 abbrev pub span_text : ℕ → List ℕ
@@ -52,38 +29,48 @@ distance_text instant now =
     if nat_lt now instant then span_text (instant - now) ++ codes " from now"
     else span_text (now - instant) ++ codes " ago"
 
--- the line for a list of this date, and how far that is from the present moment
-abbrev pub dated_line : (name date distance : List ℕ) → List ℕ
-dated_line name date distance =
-    codes "age: " ++ (visible false name
-    ++ (codes ": generated " ++ (date ++ (codes ", " ++ (distance ++ 10 ∷ [])))))
-
--- the line for a list that was made too long ago, or after the present moment
-abbrev pub age_line : List ℕ → (generated now : ℕ) → List ℕ
-age_line name generated now =
-    dated_line name (instant_text generated) (distance_text generated now)
-
 -- a number of things, as the subject of a sentence, with its verb
 abbrev pub subject_text : ℕ → List ℕ → List ℕ
 subject_text count word =
     amount_text count word ++ (if count == 1 then codes " is" else codes " are")
 
-abbrev pub file_line : Role → List ℕ → Counts → List ℕ
-file_line role name counts =
-    role_word role ++ (visible false name
-    ++ (codes ": " ++ (decimal counts.revoked
+abbrev pub difference_text : Option Difference → List ℕ
+difference_text None = []
+difference_text (Some difference) = difference_words difference
+
+abbrev pub counts_text : Counts → List ℕ
+counts_text counts =
+    decimal counts.revoked
     ++ (codes " of " ++ (subject_text counts.keys (codes "key")
-    ++ (codes " revoked, " ++ (subject_text counts.unread (codes "line")
-    ++ codes " not read\n")))))))
+    ++ (codes " revoked, " ++ (subject_text counts.unread (codes "line") ++ codes " not read"))))
 
-abbrev pub plain_word : PlainRefusal → List ℕ
-plain_word refusals.NoVersion = codes "version: "
-plain_word refusals.NoDate = codes "age: "
+abbrev pub no_version : List ℕ
+no_version = codes "a plain list has no version"
 
-abbrev pub plain_why : PlainRefusal → List ℕ
-plain_why refusals.NoVersion = codes "a plain list has no version"
-plain_why refusals.NoDate = codes "a plain list has no date"
+abbrev pub no_date : List ℕ
+no_date = codes "a plain list has no date"
 
-abbrev pub plain_line : List ℕ → PlainRefusal → List ℕ
-plain_line name why =
-    plain_word why ++ (visible false name ++ (codes ": " ++ (plain_why why ++ 10 ∷ [])))
+-- what was found about the list or the file of this name
+abbrev pub finding_text : List ℕ → Condition → List ℕ
+finding_text name (conditions.OpenSsh difference) = difference_text difference
+finding_text name (conditions.Empty nobody) = codes "it revokes nobody"
+finding_text name (conditions.Version version least) =
+    decimal version ++ (codes " is below " ++ decimal least)
+finding_text name conditions.NoVersion = no_version
+finding_text name (conditions.Age generated now max_age) =
+    codes "generated " ++ (instant_text generated ++ (codes ", " ++ distance_text generated now))
+finding_text name conditions.NoDate = no_date
+finding_text name (conditions.NothingLost other) = []
+finding_text name (conditions.Lost other entries) =
+    entries_text entries ++ (codes " not in " ++ visible false name)
+finding_text name (conditions.Keys role counts) = counts_text counts
+
+-- The line is about the list or the file of this name, or about the list whose entries are lost.
+abbrev pub named_by : List ℕ → Condition → List ℕ
+named_by name (conditions.Lost other entries) = other.now
+named_by name condition = name
+
+abbrev pub condition_line : List ℕ → Condition → List ℕ
+condition_line name condition =
+    condition_word condition ++ (codes ": " ++ (visible false (named_by name condition)
+    ++ (codes ": " ++ (finding_text name condition ++ 10 ∷ []))))

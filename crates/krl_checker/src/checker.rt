@@ -1,42 +1,33 @@
 //! Checking a list, one condition after the other.
 
-ghost use Rattle.std.specs.Prelude.{◌≡◌, ◌∷◌, [], ◌||◌, nat_lt, not, true, ℕ, List, Option, OnOk};
-ghost use Rattle.std.specs.Prelude.{IfOk, None, false, is_err, is_some};
+ghost use Rattle.std.specs.Prelude.{◌≡◌, ◌||◌, not, ℕ, List, Option, OnOk, IfOk, false, is_err};
 ghost use Rattle.run_output.specs.Carries.{Carries, Reaches};
-ghost use Rattle.run_output.specs.Run.{Item, said_of};
-ghost use Rattle.krl_format.specs.Front.{IsFirstKrlFault, start};
+ghost use Rattle.run_output.specs.Run.{Item};
 ghost use Rattle.krl_types.specs.Entry.{Entry};
 ghost use Rattle.krl_entries.specs.Reasons.{reasons_of};
 ghost use Rattle.krl_entries.specs.Revocations.{Means};
 ghost use Rattle.krl_audit.specs.Audit.{content_of};
-ghost use Rattle.krl_openssh.specs.Difference.{first_difference};
-ghost use Rattle.krl_openssh.specs.Fields.{HasFields};
-ghost use Rattle.krl_checker.specs.Check.{ChecksFile, EndsCheck, check_status, difference_items};
-ghost use Rattle.krl_checker.specs.Check.{age_items, counts_items, empty_items, is_fresh};
-ghost use Rattle.krl_checker.specs.Check.{lines_counted, names_nobody, version_items};
+ghost use Rattle.krl_checker.specs.Check.{ChecksFile, EndsCheck, check_status, condition_items};
+ghost use Rattle.krl_checker.specs.Check.{condition_said, counts_items, end_items, is_json};
+ghost use Rattle.krl_checker.specs.Check.{lines_counted, names_nobody};
+ghost use Rattle.krl_checker.specs.Condition.{fails};
 ghost use Rattle.krl_checker.specs.Role.{is_met};
-ghost use Rattle.krl_checker.specs.Text.{lost_line, plain_line};
 
-use crate::plain::PlainRefusal;
+use crate::condition::Condition;
+use crate::object::{write_end, write_object};
 use crate::role::Role;
-use crate::text::{
-    write_age, write_difference, write_empty, write_file, write_lost, write_plain, write_version,
-};
+use crate::text::write_line;
 use byte_streams::Sink;
-use krl_audit::{Auditor, Counts, Judge, Refusal, keyless_lines};
+use krl_audit::{Auditor, Counts, Form, Judge, Refusal, keyless_lines};
 use krl_entries::Revocations;
-use krl_openssh::first_difference;
-use krl_openssh::laws::read_lists_have_fields;
 use run_faults::{Cause, RunFault};
 use run_output::{Done, Printer, Run};
 use span_sets::Held;
 use std::alloc::{AllocError, Global};
 
-// How many seconds after the present moment a list may have been made, since clocks differ.
-const MOST_AHEAD: u64 = 300;
-
 /// Checks a list: has the auditor that queries it for the keys of files and prints, whether a
-/// condition failed, and whether a file was not read. Prints nothing for a condition that holds.
+/// condition failed, and whether a file was not read. Only as JSON it prints a line for a condition
+/// that holds.
 #[derive(Drop)]
 pub struct Checker<'q, 'w, W: Sink> {
     /// The list, and the printer.
@@ -48,14 +39,20 @@ pub struct Checker<'q, 'w, W: Sink> {
 }
 
 impl<'q, 'w, W: Sink> Checker<'q, 'w, W> {
-    /// A checker of a list, which has checked nothing.
-    pub fn new(alloc: Global, list: &'q Revocations<Held>, printer: Printer<'w, W>) -> Self
+    /// A checker of a list, which has checked nothing and prints in this form.
+    pub fn new(
+        alloc: Global,
+        list: &'q Revocations<Held>,
+        form: Form,
+        printer: Printer<'w, W>,
+    ) -> Self
         ensures list { result.auditor.judge.list ≡ list.entry }
+        ensures form { result.auditor.judge.shown.form ≡ form }
         ensures printer { result.auditor.run.printer ≡ printer.entry }
         ensures refused { result.refused ≡ false }
         ensures unread { result.unread ≡ false }
     {
-        let shown = Role::Keep.shown();
+        let shown = Role::Keep.shown(form);
         let line = Vec::new(alloc);
         Checker {
             auditor: Auditor {
@@ -72,117 +69,40 @@ impl<'q, 'w, W: Sink> Checker<'q, 'w, W> {
         }
     }
 
-    /// Checks that OpenSSH also reads a list, and reads the same names. `list` is the bytes of the
-    /// list, which has no fault.
-    pub fn check_openssh<'a>(&mut self, name: &'a str, list: &[u8]) -> Result<(), RunFault<'a>>
-        requires { IsFirstKrlFault list.now None }
-        ensures carries { (fields : List (List ℕ)) → HasFields list.now fields
-            → Carries (difference_items name.now (first_difference start.place fields)) result
-            self.old.auditor.run.printer self.new.auditor.run.printer }
-        ensures refused { (fields : List (List ℕ)) → HasFields list.now fields
-            → self.new.refused
-            ≡ (self.old.refused || is_some (first_difference start.place fields)) }
+    /// Checks a condition about the list or the file of this name, and prints its line if it fails or
+    /// each condition has one.
+    pub fn check<'a>(&mut self, name: &'a str, condition: Condition<'_>) -> Result<(), RunFault<'a>>
+        ensures carries { Carries (condition_items self.old.auditor.judge.shown.form name.now
+            condition.entry) result self.old.auditor.run.printer self.new.auditor.run.printer }
+        ensures refused { self.new.refused ≡ (self.old.refused || fails condition.entry) }
         ensures unread { self.new.unread ≡ self.old.unread }
         ensures judge { self.new.auditor.judge ≡ self.old.auditor.judge }
     {
-        read_lists_have_fields();
-        match first_difference(list) {
-            None => Ok(()),
-            Some(difference) => {
-                let made = write_difference(&mut self.auditor.run.line, name, difference);
-                self.refuse(name, made)
-            }
-        }
-    }
-
-    /// Checks that the version of a list is not lower than that of another.
-    pub fn check_version<'a>(
-        &mut self,
-        name: &'a str,
-        version: u64,
-        other: u64,
-    ) -> Result<(), RunFault<'a>>
-        ensures carries { Carries (version_items name.now version other) result
-            self.old.auditor.run.printer self.new.auditor.run.printer }
-        ensures refused { self.new.refused ≡ (self.old.refused || nat_lt version other) }
-        ensures unread { self.new.unread ≡ self.old.unread }
-        ensures judge { self.new.auditor.judge ≡ self.old.auditor.judge }
-    {
-        if version >= other {
+        let form = self.auditor.judge.shown.form;
+        let fails = condition.fails();
+        self.refused |= fails;
+        if !is_json(form) && !fails {
             return Ok(());
         }
-        let made = write_version(&mut self.auditor.run.line, name, version, other);
-        self.refuse(name, made)
+        let run = &mut self.auditor.run;
+        let made = write_condition(run.alloc, form, name, condition, &mut run.line);
+        run.say_line(name, made)
     }
 
-    /// Checks that a list was made at most `max_age` seconds ago, and at most 5 minutes after the
-    /// present moment. The moments are in seconds since 1970.
-    pub fn check_age<'a>(
-        &mut self,
-        name: &'a str,
-        generated: u64,
-        now: u64,
-        max_age: u64,
-    ) -> Result<(), RunFault<'a>>
-        ensures carries { Carries (age_items name.now generated now max_age) result
-            self.old.auditor.run.printer self.new.auditor.run.printer }
-        ensures refused { self.new.refused
-            ≡ (self.old.refused || not (is_fresh generated now max_age)) }
+    /// Prints the last line, if the form has one: whether all conditions held.
+    pub fn say_end<'a>(&mut self, name: &'a str) -> Result<(), RunFault<'a>>
+        ensures carries { Carries (end_items self.old.auditor.judge.shown.form name.now
+            self.old.refused) result self.old.auditor.run.printer self.new.auditor.run.printer }
+        ensures refused { self.new.refused ≡ self.old.refused }
         ensures unread { self.new.unread ≡ self.old.unread }
         ensures judge { self.new.auditor.judge ≡ self.old.auditor.judge }
     {
-        if is_fresh(generated, now, max_age) {
+        if !is_json(self.auditor.judge.shown.form) {
             return Ok(());
         }
-        let alloc = self.auditor.run.alloc;
-        let made = write_age(alloc, &mut self.auditor.run.line, name, generated, now);
-        self.refuse(name, made)
-    }
-
-    /// Checks that the list of the auditor revokes somebody.
-    pub fn check_empty<'a>(&mut self, name: &'a str) -> Result<(), RunFault<'a>>
-        ensures carries { Carries (empty_items name.now self.old.auditor.judge.list.now) result
-            self.old.auditor.run.printer self.new.auditor.run.printer }
-        ensures refused { self.new.refused
-            ≡ (self.old.refused || names_nobody self.old.auditor.judge.list.now) }
-        ensures unread { self.new.unread ≡ self.old.unread }
-        ensures judge { self.new.auditor.judge ≡ self.old.auditor.judge }
-    {
-        if !names_nobody(self.auditor.judge.list) {
-            return Ok(());
-        }
-        let made = write_empty(&mut self.auditor.run.line, name);
-        self.refuse(name, made)
-    }
-
-    /// Refuses a plain list.
-    pub fn refuse_plain<'a>(&mut self, name: &'a str, why: PlainRefusal) -> Result<(), RunFault<'a>>
-        ensures carries { Carries (said_of name.now (plain_line name.now why) ∷ []) result
-            self.old.auditor.run.printer self.new.auditor.run.printer }
-        ensures refused { self.new.refused ≡ true }
-        ensures unread { self.new.unread ≡ self.old.unread }
-        ensures judge { self.new.auditor.judge ≡ self.old.auditor.judge }
-    {
-        let made = write_plain(&mut self.auditor.run.line, name, why);
-        self.refuse(name, made)
-    }
-
-    /// Refuses a list that lacks as many entries of another list. The lines of these entries are
-    /// printed before.
-    pub fn refuse_lost<'a>(
-        &mut self,
-        name: &'a str,
-        other: &str,
-        entries: u64,
-    ) -> Result<(), RunFault<'a>>
-        ensures carries { Carries (said_of name.now (lost_line name.now other.now entries) ∷ [])
-            result self.old.auditor.run.printer self.new.auditor.run.printer }
-        ensures refused { self.new.refused ≡ true }
-        ensures unread { self.new.unread ≡ self.old.unread }
-        ensures judge { self.new.auditor.judge ≡ self.old.auditor.judge }
-    {
-        let made = write_lost(&mut self.auditor.run.line, name, other, entries);
-        self.refuse(name, made)
+        let run = &mut self.auditor.run;
+        let made = write_end(run.alloc, self.refused, &mut run.line);
+        run.say_line(name, made)
     }
 
     /// Checks that a list revokes none of the keys of a file, or each of them, given the bytes of
@@ -195,14 +115,15 @@ impl<'q, 'w, W: Sink> Checker<'q, 'w, W> {
         content: Result<&[u8], Refusal>,
     ) -> Result<(), RunFault<'a>>
         ensures checks { (entries : List Entry) → Means self.old.auditor.judge.list.now entries
-            → ChecksFile role (reasons_of entries) name.now (content_of content.entry) result
+            → ChecksFile self.old.auditor.judge.shown.form role (reasons_of entries) name.now (content_of content.entry) result
             self.old.auditor.run.printer self.new.auditor.run.printer self.old.refused
             self.new.refused }
         ensures unread { self.new.unread ≡ (self.old.unread || is_err content.entry) }
         ensures list { self.new.auditor.judge.list ≡ self.old.auditor.judge.list }
+        ensures form { self.new.auditor.judge.shown.form ≡ self.old.auditor.judge.shown.form }
     {
         self.unread |= content.is_err();
-        self.auditor.judge.shown = role.shown();
+        self.auditor.judge.shown = role.shown(self.auditor.judge.shown.form);
         self.auditor.counts = Counts::NONE;
         self.auditor.audit_file(name, content)?;
         self.check_counts(role, name, content)
@@ -215,7 +136,7 @@ impl<'q, 'w, W: Sink> Checker<'q, 'w, W> {
         name: &'a str,
         content: Result<&[u8], Refusal>,
     ) -> Result<(), RunFault<'a>>
-        ensures carries { Carries (counts_items role name.now
+        ensures carries { Carries (counts_items self.old.auditor.judge.shown.form role name.now
             (lines_counted name.now (content_of content.entry) self.old.auditor.counts)) result
             self.old.auditor.run.printer self.new.auditor.run.printer }
         ensures refused { OnOk result (self.new.refused ≡ (self.old.refused || not (is_met role
@@ -224,32 +145,10 @@ impl<'q, 'w, W: Sink> Checker<'q, 'w, W> {
         ensures judge { self.new.auditor.judge ≡ self.old.auditor.judge }
     {
         let audited = self.auditor.counts;
-        let Ok(counts) = lines_counted(self.auditor.run.alloc, name, content, audited) else {
-            return Err(RunFault::whole(name, Cause::NoMemory));
-        };
-        if role.is_met(counts) {
-            return Ok(());
+        match lines_counted(self.auditor.run.alloc, name, content, audited) {
+            Ok(counts) => self.check(name, Condition::Keys(role, counts)),
+            Err(_) => Err(RunFault::whole(name, Cause::NoMemory)),
         }
-        let made = write_file(&mut self.auditor.run.line, role, name, counts);
-        self.refuse(name, made)
-    }
-
-    // Prints the line that was made for a condition that fails.
-    fn refuse<'a>(
-        &mut self,
-        name: &'a str,
-        made: Result<(), AllocError>,
-    ) -> Result<(), RunFault<'a>>
-        ensures carries { (text : List ℕ)
-            → OnOk made (self.old.auditor.run.line.items ≡ text)
-            → Carries (said_of name.now text ∷ []) result self.old.auditor.run.printer
-            self.new.auditor.run.printer }
-        ensures refused { self.new.refused ≡ true }
-        ensures unread { self.new.unread ≡ self.old.unread }
-        ensures judge { self.new.auditor.judge ≡ self.old.auditor.judge }
-    {
-        self.refused = true;
-        self.auditor.run.say_line(name, made)
     }
 
     /// Ends a check, whether a fault stopped it or not: sends the waiting output. The status is 255
@@ -294,11 +193,31 @@ fn lines_counted(
     }
 }
 
-// Returns true if a list was made neither too long ago nor after the present moment.
-fn is_fresh(generated: u64, now: u64, max_age: u64) -> bool
-    ensures { result ≡ is_fresh generated now max_age }
+// Makes the line of a condition in a form.
+fn write_condition(
+    alloc: Global,
+    form: Form,
+    name: &str,
+    condition: Condition<'_>,
+    line: &mut Vec<u8>,
+) -> Result<(), AllocError>
+    ensures { OnOk result (line.new.items ≡ condition_said form name.now condition.entry) }
 {
-    generated.saturating_sub(now) <= MOST_AHEAD && now.saturating_sub(generated) <= max_age
+    if is_json(form) {
+        write_object(alloc, name, condition, line)
+    } else {
+        write_line(alloc, name, condition, line)
+    }
+}
+
+// Returns true if each condition is an object.
+fn is_json(form: Form) -> bool
+    ensures { result ≡ is_json form }
+{
+    match form {
+        Form::Text | Form::Colour => false,
+        Form::Json => true,
+    }
 }
 
 /// Returns true if a list revokes nobody.

@@ -3,11 +3,12 @@
 #![tactic(auto)]
 
 mod checker;
+mod condition;
 pub mod laws;
-mod plain;
+mod object;
 mod role;
 mod text;
 
 pub use checker::{Checker, names_nobody};
-pub use plain::PlainRefusal;
+pub use condition::Condition;
 pub use role::Role;

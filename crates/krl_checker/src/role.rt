@@ -31,32 +31,33 @@ impl Role {
 
     /// The lines that are printed: keys that do not meet the condition, and lines that are not
     /// read.
-    pub(crate) fn shown(self) -> Shown
-        ensures { result ≡ shown_for self }
+    pub(crate) fn shown(self, form: Form) -> Shown
+        ensures shown { result ≡ shown_for self form }
+        ensures form { result.form ≡ form }
     {
         match self {
             Role::Keep => Shown {
                 revoked: true,
                 unread: true,
                 fine: false,
-                form: Form::Text,
+                form,
             },
             Role::Canary => Shown {
                 revoked: false,
                 unread: true,
                 fine: true,
-                form: Form::Text,
+                form,
             },
         }
     }
 
     /// The word for the condition.
-    pub(crate) fn word(self) -> &'static [u8]
+    pub(crate) fn word(self) -> &'static str
         ensures { result.now ≡ role_word self }
     {
         match self {
-            Role::Keep => b"keep: ",
-            Role::Canary => b"canary: ",
+            Role::Keep => "keep",
+            Role::Canary => "canary",
         }
     }
 }

@@ -1,79 +1,113 @@
-//! The lines that are printed for a condition that fails, and why it fails.
+//! The line of a condition for people: which one fails, about what, and why.
 
 ghost use Rattle.std.specs.Prelude.{◌≡◌, OnOk};
-ghost use Rattle.krl_checker.specs.Text.{age_line, dated_line, difference_line, distance_text};
-ghost use Rattle.krl_checker.specs.Text.{empty_line, entries_text, file_line, lost_line};
-ghost use Rattle.krl_checker.specs.Text.{plain_line, span_text};
-ghost use Rattle.krl_checker.specs.Text.{subject_text};
-ghost use Rattle.krl_checker.specs.Text.{version_line};
+ghost use Rattle.krl_checker.specs.Text.{condition_line, counts_text, difference_text};
+ghost use Rattle.krl_checker.specs.Text.{distance_text, entries_text, finding_text, named_by};
+ghost use Rattle.krl_checker.specs.Text.{no_date, no_version, span_text, subject_text};
 
-use crate::plain::PlainRefusal;
-use crate::role::Role;
+use crate::condition::Condition;
 use cert_listing::time_text;
 use krl_audit::{Amount, Counts, Visible};
 use krl_openssh::Difference;
 use line_pieces::{Printed, Words, put};
 use std::alloc::{AllocError, Global};
 
-/// Makes the line for a list that OpenSSH does not read, or from which it reads other names.
-pub(crate) fn write_difference(
-    line: &mut Vec<u8>,
-    name: &str,
-    difference: Difference,
-) -> Result<(), AllocError>
-    ensures { OnOk result (line.new.items ≡ difference_line name.now difference) }
+/// Why a plain list is refused whose version is compared.
+pub(crate) fn no_version() -> &'static str
+    ensures { result.now ≡ no_version }
 {
-    let why = difference.words().as_bytes();
-    line.clear();
-    put!(line; b"openssh: ", Visible(name.as_bytes(), false), b": ", Words(why), b"\n")
+    "a plain list has no version"
 }
 
-/// Makes the line for a list whose version is lower than that of another.
-pub(crate) fn write_version(
-    line: &mut Vec<u8>,
-    name: &str,
-    version: u64,
-    other: u64,
-) -> Result<(), AllocError>
-    ensures { OnOk result (line.new.items ≡ version_line name.now version other) }
+/// Why a plain list is refused whose age is limited.
+pub(crate) fn no_date() -> &'static str
+    ensures { result.now ≡ no_date }
 {
-    line.clear();
-    put!(line; b"version: ", Visible(name.as_bytes(), false), b": ", version, b" is below ", other,
-        b"\n")
+    "a plain list has no date"
 }
 
-/// Makes the line for a plain list.
-pub(crate) fn write_plain(
-    line: &mut Vec<u8>,
+/// Makes the line of a condition about the list or the file of this name.
+pub(crate) fn write_line(
+    alloc: Global,
     name: &str,
-    why: PlainRefusal,
+    condition: Condition<'_>,
+    line: &mut Vec<u8>,
 ) -> Result<(), AllocError>
-    ensures { OnOk result (line.new.items ≡ plain_line name.now why) }
+    ensures { OnOk result (line.new.items ≡ condition_line name.now condition.entry) }
 {
+    let finding = Finding {
+        alloc,
+        name,
+        condition,
+    };
+    let named = named_by(name, condition);
     line.clear();
-    put!(line; Words(why.word()), Visible(name.as_bytes(), false), b": ", Words(why.why()), b"\n")
+    put!(line; Words(condition.word().as_bytes()), b": ", Visible(named.as_bytes(), false), b": ",
+        finding, b"\n")
 }
 
-/// Makes the line for a list that revokes nobody.
-pub(crate) fn write_empty(line: &mut Vec<u8>, name: &str) -> Result<(), AllocError>
-    ensures { OnOk result (line.new.items ≡ empty_line name.now) }
+// The name with which the line begins.
+fn named_by<'a>(name: &'a str, condition: Condition<'a>) -> &'a str
+    ensures { result.now ≡ named_by name.now condition.entry }
 {
-    line.clear();
-    put!(line; b"empty: ", Visible(name.as_bytes(), false), b": it revokes nobody\n")
+    match condition {
+        Condition::Lost(other, _) => other,
+        _ => name,
+    }
 }
 
-/// Makes the line for a list that does not name all that another one names.
-pub(crate) fn write_lost(
-    line: &mut Vec<u8>,
-    name: &str,
-    other: &str,
-    entries: u64,
-) -> Result<(), AllocError>
-    ensures { OnOk result (line.new.items ≡ lost_line name.now other.now entries) }
+// What was found about the list or the file of this name.
+#[derive(Clone, Copy)]
+struct Finding<'a> {
+    alloc: Global,
+    name: &'a str,
+    condition: Condition<'a>,
+}
+
+impl<'a> Printed for Finding<'a> {
+    ghost text = { λ finding. finding_text finding.name.now finding.condition };
+
+    fn push_to(&self, out: &mut Vec<u8>) -> Result<(), AllocError> {
+        match self.condition {
+            Condition::OpenSsh(difference) => put!(out; Words(why_of(difference))),
+            Condition::Empty(_) => put!(out; b"it revokes nobody"),
+            Condition::Version(version, least) => put!(out; version, b" is below ", least),
+            Condition::NoVersion => put!(out; Words(no_version().as_bytes())),
+            Condition::Age(instant, now, _) => {
+                let date = time_text(self.alloc, instant)?;
+                put!(out; b"generated ", Words(&date), b", ", Distance { instant, now })
+            }
+            Condition::NoDate => put!(out; Words(no_date().as_bytes())),
+            Condition::NothingLost(_) => Ok(()),
+            Condition::Lost(_, entries) => {
+                put!(out; Entries(entries), b" not in ", Visible(self.name.as_bytes(), false))
+            }
+            Condition::Keys(_, counts) => put!(out; Counted(counts)),
+        }
+    }
+}
+
+// The words of a difference, if there is one.
+fn why_of(difference: Option<Difference>) -> &'static [u8]
+    ensures { result.now ≡ difference_text difference }
 {
-    line.clear();
-    put!(line; b"lost: ", Visible(other.as_bytes(), false), b": ", Entries(entries), b" not in ",
-        Visible(name.as_bytes(), false), b"\n")
+    match difference {
+        None => b"",
+        Some(difference) => difference.words().as_bytes(),
+    }
+}
+
+// The counts of a file.
+#[derive(Clone, Copy)]
+struct Counted(Counts);
+
+impl Printed for Counted {
+    ghost text = { λ counted. counts_text counted.0 };
+
+    fn push_to(&self, out: &mut Vec<u8>) -> Result<(), AllocError> {
+        put!(out; self.0.revoked, b" of ", Subject(self.0.keys, b"key"), b" revoked, ",
+            Subject(self.0.unread, b"line"), b" not read")
+    }
 }
 
 // A number of entries, as the subject of a sentence, with its verb.
@@ -91,36 +125,6 @@ impl Printed for Entries {
         };
         put!(out; self.0, Words(noun))
     }
-}
-
-/// Makes the line for a list that was made too long ago, or after the present moment.
-pub(crate) fn write_age(
-    alloc: Global,
-    line: &mut Vec<u8>,
-    name: &str,
-    generated: u64,
-    now: u64,
-) -> Result<(), AllocError>
-    ensures { OnOk result (line.new.items ≡ age_line name.now generated now) }
-{
-    let date = time_text(alloc, generated)?;
-    let instant = generated;
-    write_dated(line, name, &date, Distance { instant, now })
-}
-
-// Makes the line for a list of this date.
-fn write_dated(
-    line: &mut Vec<u8>,
-    name: &str,
-    date: &[u8],
-    distance: Distance,
-) -> Result<(), AllocError>
-    ensures { OnOk result (line.new.items ≡ dated_line name.now date.now
-        (distance_text distance.instant distance.now)) }
-{
-    line.clear();
-    put!(line; b"age: ", Visible(name.as_bytes(), false), b": generated ", Words(date), b", ",
-        distance, b"\n")
 }
 
 // How far an instant is from the present one, in seconds since 1970.
@@ -171,19 +175,4 @@ impl<'a> Printed for Subject<'a> {
         let verb: &[u8] = if self.0 == 1 { b" is" } else { b" are" };
         put!(out; Amount(self.0, self.1), Words(verb))
     }
-}
-
-/// Makes the line for a file whose keys do not meet the condition, or are not all read.
-pub(crate) fn write_file(
-    line: &mut Vec<u8>,
-    role: Role,
-    name: &str,
-    counts: Counts,
-) -> Result<(), AllocError>
-    ensures { OnOk result (line.new.items ≡ file_line role name.now counts) }
-{
-    line.clear();
-    put!(line; Words(role.word()), Visible(name.as_bytes(), false), b": ", counts.revoked, b" of ",
-        Subject(counts.keys, b"key"), b" revoked, ", Subject(counts.unread, b"line"),
-        b" not read\n")
 }

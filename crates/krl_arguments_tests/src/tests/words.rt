@@ -85,6 +85,7 @@ fn checks(rt: HostRuntime) -> Result<(), Fail> {
         "--max-age",
         "24h",
         "--allow-empty",
+        "--json",
         "--newer-than",
         "o",
     ];
@@ -93,10 +94,10 @@ fn checks(rt: HostRuntime) -> Result<(), Fail> {
     assert!(rt; check.keep.as_slice() == ["ca.pub", "b"].as_slice());
     assert!(rt; check.canary.as_slice() == ["c", "d"].as_slice());
     assert!(rt; check.newer_than == Some("o") && check.max_age == Some(86_400));
-    assert!(rt; check.allow_empty && !check.print_version);
+    assert!(rt; check.allow_empty && check.json && !check.print_version);
     let check = check_by(rt.alloc(), &["krl", "check", "k", "--print-version"])?;
     assert!(rt; check.print_version && check.keep.is_empty() && check.max_age.is_none());
-    assert!(rt; !check.allow_empty);
+    assert!(rt; !check.allow_empty && !check.json);
     Ok(())
 }
 
@@ -212,6 +213,7 @@ fn refusals(rt: HostRuntime) -> Result<(), Fail> {
         &["krl", "check", "k", "--print-version", "--newer-than", "c"],
         &["krl", "check", "k", "--print-version", "--max-age", "1h"],
         &["krl", "check", "k", "--print-version", "--allow-empty"],
+        &["krl", "check", "k", "--print-version", "--json"],
         &["krl", "audit", "-f", "k", "-f", "l", "a"],
         &["krl", "audit", "-fk", "-fk", "a"],
         &[

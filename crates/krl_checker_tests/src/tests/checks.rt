@@ -1,10 +1,11 @@
 //! Each condition both ways, and how a check ends.
 
 use byte_streams::{FromRead, Sink, ToWrite};
-use krl_audit::Refusal;
-use krl_checker::{Checker, PlainRefusal, Role};
+use krl_audit::{Form, Refusal};
+use krl_checker::{Checker, Condition, Role, names_nobody};
 use krl_core::read_krl;
 use krl_entries::Revocations;
+use krl_openssh::first_difference;
 use run_faults::{RunFault, cause_of};
 use run_output::Printer;
 use span_sets::Held;
@@ -17,18 +18,10 @@ use test_fixtures::{CONTAINER, FIVE, GITHUB, GITHUB_LINE, HEADER, OTHER_LINE, Ta
 pub enum Asked<'a> {
     /// These bytes, which OpenSSH is to read.
     OpenSsh(&'a [u8]),
-    /// Its version, and another one.
-    Version(u64, u64),
     /// A file of keys.
     Keys(Role, &'a str, Result<&'a [u8], Refusal>),
-    /// That it is a plain list that is refused.
-    Plain(PlainRefusal),
-    /// When it was made, the present moment, and the largest age.
-    Age(u64, u64, u64),
-    /// That it revokes somebody.
-    Empty,
-    /// That it lacks this many entries of another list.
-    Lost(u64),
+    /// Another condition.
+    That(Condition<'a>),
 }
 
 /// Checks a list.
@@ -38,12 +31,8 @@ pub fn check<'a, W: Sink>(
 ) -> Result<(), RunFault<'a>> {
     match asked {
         Asked::OpenSsh(bytes) => check_format(checker, bytes),
-        Asked::Version(version, other) => checker.check_version("r.krl", version, other),
         Asked::Keys(role, name, content) => checker.check_keys(role, name, content),
-        Asked::Plain(why) => checker.refuse_plain("r.krl", why),
-        Asked::Age(generated, now, most) => checker.check_age("r.krl", generated, now, most),
-        Asked::Empty => checker.check_empty("r.krl"),
-        Asked::Lost(entries) => checker.refuse_lost("r.krl", "old.krl", entries),
+        Asked::That(condition) => checker.check("r.krl", condition),
     }
 }
 
@@ -54,17 +43,17 @@ fn check_format<W: Sink>(
 ) -> Result<(), RunFault<'static>> {
     let (read, _reader) = read_krl::<Held, _>(checker.auditor.run.alloc, FromRead::new(bytes));
     match read {
-        Ok(_) => checker.check_openssh("r.krl", bytes),
+        Ok(_) => checker.check("r.krl", Condition::OpenSsh(first_difference(bytes))),
         Err(fault) => Err(RunFault::whole("r.krl", cause_of(fault))),
     }
 }
 
 // The output and the status of checks of a list that revokes the published key.
-fn said(rt: &impl Abort, alloc: Global, asked: &[Asked<'_>]) -> (Vec<u8>, u8) {
+fn said(rt: &impl Abort, alloc: Global, form: Form, asked: &[Asked<'_>]) -> (Vec<u8>, u8) {
     let mut list: Revocations<Held> = Revocations::new(alloc);
     list.add_key(GITHUB).expect(rt, "there is memory");
     let mut taker = Taker::whole(alloc);
-    let status = said_into(rt, alloc, &list, asked, &mut ToWrite::new(&mut taker));
+    let status = said_into(rt, alloc, &list, form, asked, &mut ToWrite::new(&mut taker));
     (taker.taken, status)
 }
 
@@ -72,89 +61,96 @@ fn said_into<W: Sink>(
     rt: &impl Abort,
     alloc: Global,
     list: &Revocations<Held>,
+    form: Form,
     asked: &[Asked<'_>],
     out: &mut W,
 ) -> u8 {
     let mut buffer = Vec::new(alloc);
-    let mut checker = Checker::new(alloc, list, Printer::new(&mut buffer, out));
+    let mut checker = Checker::new(alloc, list, form, Printer::new(&mut buffer, out));
     for condition in asked {
         check(&mut checker, *condition).expect(rt, "there is memory");
     }
+    checker.say_end("r.krl").expect(rt, "there is memory");
     checker.finish(None).status
 }
 
 // One condition, what is said, and the status.
-const CHECKS: [(Asked<'static>, &[u8], u8); 34] = [
+const CHECKS: [(Asked<'static>, &[u8], u8); 35] = [
     (Asked::OpenSsh(&HEADER), b"", 0),
-    (Asked::Version(7, 7), b"", 0),
-    (Asked::Version(8, 7), b"", 0),
-    (Asked::Version(6, 7), b"version: r.krl: 6 is below 7\n", 1),
+    (Asked::That(Condition::Version(7, 7)), b"", 0),
+    (Asked::That(Condition::Version(8, 7)), b"", 0),
     (
-        Asked::Version(0, 18_446_744_073_709_551_615),
+        Asked::That(Condition::Version(6, 7)),
+        b"version: r.krl: 6 is below 7\n",
+        1,
+    ),
+    (
+        Asked::That(Condition::Version(0, 18_446_744_073_709_551_615)),
         b"version: r.krl: 0 is below 18446744073709551615\n",
         1,
     ),
     (
-        Asked::Plain(PlainRefusal::NoVersion),
+        Asked::That(Condition::NoVersion),
         b"version: r.krl: a plain list has no version\n",
         1,
     ),
     (
-        Asked::Plain(PlainRefusal::NoDate),
+        Asked::That(Condition::NoDate),
         b"age: r.krl: a plain list has no date\n",
         1,
     ),
-    (Asked::Empty, b"", 0),
+    (Asked::That(Condition::Empty(false)), b"", 0),
+    (Asked::That(Condition::NothingLost("old.krl")), b"", 0),
     (
-        Asked::Lost(0),
+        Asked::That(Condition::Lost("old.krl", 0)),
         b"lost: old.krl: 0 entries are not in r.krl\n",
         1,
     ),
     (
-        Asked::Lost(1),
+        Asked::That(Condition::Lost("old.krl", 1)),
         b"lost: old.krl: 1 entry is not in r.krl\n",
         1,
     ),
     (
-        Asked::Lost(100),
+        Asked::That(Condition::Lost("old.krl", 100)),
         b"lost: old.krl: 100 entries are not in r.krl\n",
         1,
     ),
     // The largest age, and 5 minutes after the present moment.
-    (Asked::Age(NINE, NINE + 60, 60), b"", 0),
-    (Asked::Age(NINE + 300, NINE, 0), b"", 0),
+    (Asked::That(Condition::Age(NINE, NINE + 60, 60)), b"", 0),
+    (Asked::That(Condition::Age(NINE + 300, NINE, 0)), b"", 0),
     (
-        Asked::Age(NINE, NINE + 61, 60),
+        Asked::That(Condition::Age(NINE, NINE + 61, 60)),
         b"age: r.krl: generated 2026-11-26T09:00:00Z, 61s ago\n",
         1,
     ),
     (
-        Asked::Age(NINE, NINE + 119, 60),
+        Asked::That(Condition::Age(NINE, NINE + 119, 60)),
         b"age: r.krl: generated 2026-11-26T09:00:00Z, 119s ago\n",
         1,
     ),
     (
-        Asked::Age(NINE, NINE + 7_199, 60),
+        Asked::That(Condition::Age(NINE, NINE + 7_199, 60)),
         b"age: r.krl: generated 2026-11-26T09:00:00Z, 119m ago\n",
         1,
     ),
     (
-        Asked::Age(NINE, NINE + 49 * 3_600 + 3_599, 86_400),
+        Asked::That(Condition::Age(NINE, NINE + 49 * 3_600 + 3_599, 86_400)),
         b"age: r.krl: generated 2026-11-26T09:00:00Z, 49h ago\n",
         1,
     ),
     (
-        Asked::Age(NINE + 301, NINE, 86_400),
+        Asked::That(Condition::Age(NINE + 301, NINE, 86_400)),
         b"age: r.krl: generated 2026-11-26T09:05:01Z, 5m from now\n",
         1,
     ),
     (
-        Asked::Age(18_446_744_073_709_551_615, 0, 18_446_744_073_709_551_615),
+        Asked::That(Condition::Age(18_446_744_073_709_551_615, 0, 18_446_744_073_709_551_615)),
         b"age: r.krl: generated @18446744073709551615, 5124095576030431h from now\n",
         1,
     ),
     (
-        Asked::Age(0, 18_446_744_073_709_551_615, 1),
+        Asked::That(Condition::Age(0, 18_446_744_073_709_551_615, 1)),
         b"age: r.krl: generated 1970-01-01T00:00:00Z, 5124095576030431h ago\n",
         1,
     ),
@@ -228,6 +224,99 @@ canary: gone: 0 of 0 keys are revoked, 1 line is not read\n",
     ),
 ];
 
+// One condition, and its object.
+const OBJECTS: [(Asked<'static>, &[u8]); 14] = [
+    (
+        Asked::OpenSsh(&HEADER),
+        b"{\"condition\":\"openssh\",\"passed\":true,\"list\":\"r.krl\"}\n",
+    ),
+    (
+        Asked::OpenSsh(SERIAL_ZERO),
+        b"{\"condition\":\"openssh\",\"passed\":false,\"list\":\"r.krl\",\
+\"why\":\"it names serial number 0\"}\n",
+    ),
+    (
+        Asked::That(Condition::Empty(false)),
+        b"{\"condition\":\"empty\",\"passed\":true,\"list\":\"r.krl\"}\n",
+    ),
+    (
+        Asked::That(Condition::Empty(true)),
+        b"{\"condition\":\"empty\",\"passed\":false,\"list\":\"r.krl\"}\n",
+    ),
+    (
+        Asked::That(Condition::Version(7, 7)),
+        b"{\"condition\":\"version\",\"passed\":true,\"list\":\"r.krl\",\
+\"version\":\"7\",\"least\":\"7\"}\n",
+    ),
+    (
+        Asked::That(Condition::Version(0, 18_446_744_073_709_551_615)),
+        b"{\"condition\":\"version\",\"passed\":false,\"list\":\"r.krl\",\
+\"version\":\"0\",\"least\":\"18446744073709551615\"}\n",
+    ),
+    (
+        Asked::That(Condition::NoVersion),
+        b"{\"condition\":\"version\",\"passed\":false,\"list\":\"r.krl\",\
+\"why\":\"a plain list has no version\"}\n",
+    ),
+    (
+        Asked::That(Condition::Age(NINE, NINE + 60, 60)),
+        b"{\"condition\":\"age\",\"passed\":true,\"list\":\"r.krl\",\
+\"generated\":\"2026-11-26T09:00:00Z\",\"now\":\"2026-11-26T09:01:00Z\",\"max_age\":60}\n",
+    ),
+    (
+        Asked::That(Condition::Age(NINE + 301, NINE, 86_400)),
+        b"{\"condition\":\"age\",\"passed\":false,\"list\":\"r.krl\",\
+\"generated\":\"2026-11-26T09:05:01Z\",\"now\":\"2026-11-26T09:00:00Z\",\"max_age\":86400}\n",
+    ),
+    (
+        Asked::That(Condition::NoDate),
+        b"{\"condition\":\"age\",\"passed\":false,\"list\":\"r.krl\",\
+\"why\":\"a plain list has no date\"}\n",
+    ),
+    (
+        Asked::That(Condition::NothingLost("old.krl")),
+        b"{\"condition\":\"lost\",\"passed\":true,\"list\":\"r.krl\",\
+\"other\":\"old.krl\",\"entries\":0}\n",
+    ),
+    (
+        Asked::That(Condition::Lost("old\".krl", 3)),
+        b"{\"condition\":\"lost\",\"passed\":false,\"list\":\"r.krl\",\
+\"other\":\"old\\\".krl\",\"entries\":3}\n",
+    ),
+    (
+        Asked::Keys(Role::Keep, "f", Ok(OTHER_LINE)),
+        b"{\"condition\":\"keep\",\"passed\":true,\"file\":\"f\",\
+\"keys\":1,\"revoked\":0,\"unread\":0}\n",
+    ),
+    (
+        Asked::Keys(Role::Canary, "f", Ok(OTHER_LINE)),
+        b"{\"file\":\"f\",\"line\":1,\"status\":\"ok\",\"type\":\"ssh-ed25519\",\
+\"fingerprint\":\"SHA256:SQfC+vTbLURn9cTkVxIS8fGQ3FKNAJWeB0o139+gV4M\",\"comment\":\"\",\
+\"reasons\":[]}
+{\"condition\":\"canary\",\"passed\":false,\"file\":\"f\",\
+\"keys\":1,\"revoked\":0,\"unread\":0}\n",
+    ),
+];
+
+// The last objects of checks whose conditions hold, and of others.
+const ENDS: [&[u8]; 2] = [
+    b"{\"status\":\"done\",\"passed\":true}\n",
+    b"{\"status\":\"done\",\"passed\":false}\n",
+];
+
+#[test]
+fn each_object(rt: HostRuntime) {
+    for (i, (asked, wanted)) in OBJECTS.iter().enumerate() {
+        let (text, status) = said(&rt, rt.alloc(), Form::Json, &[*asked]);
+        let end = ENDS[usize::from(status != 0)];
+        assert!(rt;
+            text.starts_with(*wanted) && text.ends_with(end),
+            "object {i}"
+        );
+        assert_eq!(rt; text.len(), wanted.len() + end.len(), "object {i}");
+    }
+}
+
 /// 9:00:00 on 26 November 2026, in seconds since 1970.
 pub const NINE: u64 = 1_795_683_600;
 
@@ -239,7 +328,7 @@ pub const SERIAL_ZERO: &[u8] = b"SSHKRL\n\0\0\0\0\x01\0\0\0\0\0\0\0\x01\0\0\0\0\
 #[test]
 fn each_condition(rt: HostRuntime) {
     for (i, (asked, wanted, status)) in CHECKS.iter().enumerate() {
-        let (text, got) = said(&rt, rt.alloc(), &[*asked]);
+        let (text, got) = said(&rt, rt.alloc(), Form::Text, &[*asked]);
         assert_eq!(rt; text.as_slice(), *wanted, "check {i}");
         assert_eq!(rt; got, *status, "check {i}");
     }
@@ -259,7 +348,7 @@ const ROWS: [(&[Asked<'static>], &[u8], u8); 4] = [
             Asked::OpenSsh(&HEADER),
             Asked::Keys(Role::Keep, "other", Ok(OTHER_LINE)),
             Asked::Keys(Role::Canary, "canary", Ok(GITHUB_LINE)),
-            Asked::Version(1, 1),
+            Asked::That(Condition::Version(1, 1)),
         ],
         b"",
         0,
@@ -267,7 +356,7 @@ const ROWS: [(&[Asked<'static>], &[u8], u8); 4] = [
     (
         &[
             Asked::Keys(Role::Keep, "both", Ok(BOTH)),
-            Asked::Version(1, 1),
+            Asked::That(Condition::Version(1, 1)),
         ],
         b"keep: both: 1 of 2 keys are revoked, 0 lines are not read\n",
         1,
@@ -286,7 +375,7 @@ const ROWS: [(&[Asked<'static>], &[u8], u8); 4] = [
 #[test]
 fn many_conditions(rt: HostRuntime) {
     for (i, (asked, wanted, status)) in ROWS.iter().enumerate() {
-        let (text, got) = said(&rt, rt.alloc(), *asked);
+        let (text, got) = said(&rt, rt.alloc(), Form::Text, *asked);
         assert!(rt; text.ends_with(*wanted), "row {i}");
         assert!(rt; text.is_empty() == wanted.is_empty(), "row {i}");
         assert_eq!(rt; got, *status, "row {i}");
@@ -298,7 +387,10 @@ fn nobody_is_revoked(rt: HostRuntime) {
     let list: Revocations<Held> = Revocations::new(rt.alloc());
     let mut taker = Taker::whole(rt.alloc());
     let mut out = ToWrite::new(&mut taker);
-    let asked = [Asked::Empty, Asked::Version(1, 1)];
-    assert!(rt; said_into(&rt, rt.alloc(), &list, &asked, &mut out) == 1);
+    let asked = [
+        Asked::That(Condition::Empty(names_nobody(&list))),
+        Asked::That(Condition::Version(1, 1)),
+    ];
+    assert!(rt; said_into(&rt, rt.alloc(), &list, Form::Text, &asked, &mut out) == 1);
     assert!(rt; taker.taken.as_slice() == b"empty: r.krl: it revokes nobody\n".as_slice());
 }

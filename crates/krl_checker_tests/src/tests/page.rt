@@ -7,9 +7,11 @@ use any_list::read_list;
 use byte_streams::{FromRead, Sink, ToWrite};
 use check_run::{Host, check_run};
 use krl_arguments::Check;
-use krl_checker::{Checker, Role};
+use krl_audit::Form;
+use krl_checker::{Checker, Condition, Role};
 use krl_core::read_krl;
 use krl_entries::Revocations;
+use krl_openssh::first_difference;
 use run_faults::{RunFault, cause_of};
 use run_output::Printer;
 use span_sets::Held;
@@ -25,7 +27,7 @@ fn status_of<W: Sink>(
 ) -> Result<u8, RunFault<'static>> {
     let (read, _reader) = read_krl::<Held, _>(checker.auditor.run.alloc, FromRead::new(bytes));
     match read {
-        Ok(_) => checker.check_openssh("revoked.krl", bytes)?,
+        Ok(_) => { checker.check("revoked.krl", Condition::OpenSsh(first_difference(bytes)))? }
         Err(fault) => return Err(RunFault::whole("revoked.krl", cause_of(fault))),
     }
     checker.check_keys(Role::Keep, "keep.pub", Ok(keep))?;
@@ -60,7 +62,7 @@ fn the_callers_of_the_pages(rt: HostRuntime) {
     let mut buffer = Vec::new(rt.alloc());
     let mut out = ToWrite::new(&mut taker);
     let printer = Printer::new(&mut buffer, &mut out);
-    let mut checker = Checker::new(rt.alloc(), &list, printer);
+    let mut checker = Checker::new(rt.alloc(), &list, Form::Text, printer);
     let status = status_of(&mut checker, &bytes, OTHER_LINE, GITHUB_LINE);
     assert!(rt; status.expect(&rt, "there is memory") == 0);
     assert!(rt; version_of(rt.alloc(), &HEADER) == Some(1));
@@ -73,6 +75,7 @@ fn the_callers_of_the_pages(rt: HostRuntime) {
         keep: Vec::new(rt.alloc()),
         canary: Vec::new(rt.alloc()),
         allow_empty: false,
+        json: false,
         print_version: false,
     };
     let shelf = Shelf {

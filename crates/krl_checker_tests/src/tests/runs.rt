@@ -86,6 +86,7 @@ struct Asked {
     keep: &'static [&'static str],
     canary: &'static [&'static str],
     allow_empty: bool,
+    json: bool,
     print_version: bool,
 }
 
@@ -99,6 +100,7 @@ const NOTHING: Asked = Asked {
     keep: &[],
     canary: &[],
     allow_empty: false,
+    json: false,
     print_version: false,
 };
 
@@ -112,7 +114,7 @@ type Row = (
     Option<(&'static str, Option<u64>, Cause)>,
 );
 
-const ROWS: [Row; 19] = [
+const ROWS: [Row; 23] = [
     (NOTHING, b"", 0, None),
     (
         Asked {
@@ -299,6 +301,69 @@ canary: key: 0 of 1 key is revoked, 0 lines are not read\n",
         255,
         Some(("large", None, Cause::NoMemory)),
     ),
+    // As JSON each condition has an object, and a list that may revoke nobody has one fewer.
+    (
+        Asked {
+            json: true,
+            ..NOTHING
+        },
+        b"{\"condition\":\"openssh\",\"passed\":true,\"list\":\"l\"}
+{\"condition\":\"empty\",\"passed\":true,\"list\":\"l\"}
+{\"status\":\"done\",\"passed\":true}\n",
+        0,
+        None,
+    ),
+    (
+        Asked {
+            list: Ok(GITHUB_LINE),
+            other: Some(Ok(SEVEN)),
+            base: Some(Ok(SEVEN)),
+            moment: Some(NINE),
+            max_age: Some(60),
+            keep: &["none"],
+            canary: &["key"],
+            allow_empty: true,
+            json: true,
+            ..NOTHING
+        },
+        b"{\"condition\":\"openssh\",\"passed\":true,\"list\":\"l\"}
+{\"condition\":\"version\",\"passed\":false,\"list\":\"l\",\"why\":\"a plain list has no version\"}
+{\"condition\":\"age\",\"passed\":false,\"list\":\"l\",\"why\":\"a plain list has no date\"}
+{\"condition\":\"lost\",\"passed\":true,\"list\":\"l\",\"other\":\"b\",\"entries\":0}
+{\"file\":\"none\",\"status\":\"unread\",\"fault\":\"file 1 Open\",\
+\"why\":\"No such file or directory\"}
+{\"condition\":\"keep\",\"passed\":false,\"file\":\"none\",\"keys\":0,\"revoked\":0,\"unread\":1}
+{\"condition\":\"canary\",\"passed\":true,\"file\":\"key\",\"keys\":1,\"revoked\":1,\"unread\":0}
+{\"status\":\"done\",\"passed\":false}\n",
+        255,
+        None,
+    ),
+    (
+        Asked {
+            base: Some(Ok(MORE)),
+            json: true,
+            ..NOTHING
+        },
+        b"{\"condition\":\"openssh\",\"passed\":true,\"list\":\"l\"}
+{\"condition\":\"empty\",\"passed\":true,\"list\":\"l\"}
+{\"change\":\"removed\",\"ca\":\"all\",\"serial\":[100,101]}
+{\"condition\":\"lost\",\"passed\":false,\"list\":\"l\",\"other\":\"b\",\"entries\":1}
+{\"status\":\"done\",\"passed\":false}\n",
+        1,
+        None,
+    ),
+    // A check that is stopped has no last object.
+    (
+        Asked {
+            canary: &["large"],
+            json: true,
+            ..NOTHING
+        },
+        b"{\"condition\":\"openssh\",\"passed\":true,\"list\":\"l\"}
+{\"condition\":\"empty\",\"passed\":true,\"list\":\"l\"}\n",
+        255,
+        Some(("large", None, Cause::NoMemory)),
+    ),
     // The version alone.
     (
         Asked {
@@ -345,6 +410,7 @@ fn checked<W: Sink>(
         keep: Vec::from_slice(alloc, asked.keep)?,
         canary: Vec::from_slice(alloc, asked.canary)?,
         allow_empty: asked.allow_empty,
+        json: asked.json,
         print_version: asked.print_version,
     };
     Ok(check_run(alloc, &task, &shelf, out))

@@ -33,6 +33,21 @@ f:1: revoked: ssh-ed25519 SHA256:+DiY3wvvV6TuJJhbpZisF/zLDA0zPMSvHdkr4UvCOqU by 
 keep: f: 1 of 1 key is revoked, 0 lines are not read
 ";
 
+// The same as JSON.
+const OBJECTS: &[u8] = b"{\"condition\":\"openssh\",\"passed\":false,\"list\":\"r.krl\",\
+\"why\":\"it has a signature\"}
+{\"condition\":\"empty\",\"passed\":true,\"list\":\"r.krl\"}
+{\"condition\":\"version\",\"passed\":false,\"list\":\"p\",\"why\":\"a plain list has no version\"}
+{\"change\":\"removed\",\"key\":\"SHA256:SQfC+vTbLURn9cTkVxIS8fGQ3FKNAJWeB0o139+gV4M\"}
+{\"condition\":\"lost\",\"passed\":false,\"list\":\"r.krl\",\"other\":\"p\",\"entries\":1}
+{\"file\":\"f\",\"line\":1,\"status\":\"revoked\",\"type\":\"ssh-ed25519\",\
+\"fingerprint\":\"SHA256:+DiY3wvvV6TuJJhbpZisF/zLDA0zPMSvHdkr4UvCOqU\",\"comment\":\"\",\
+\"reasons\":[{\"by\":\"key\"}]}
+{\"condition\":\"keep\",\"passed\":false,\"file\":\"f\",\"keys\":1,\"revoked\":1,\"unread\":0}
+{\"condition\":\"keep\",\"passed\":true,\"file\":\"g\",\"keys\":1,\"revoked\":0,\"unread\":0}
+{\"status\":\"done\",\"passed\":false}
+";
+
 // The files: the list in `r.krl`, a plain list in `p`, the published key in `f`, and another one in
 // other files.
 #[derive(Drop)]
@@ -64,8 +79,19 @@ impl Host for Shelf {
     }
 }
 
+// What is printed.
+#[derive(Clone, Copy, PartialEq, Eq)]
+enum Wanted {
+    // Each condition that fails, in words.
+    Words,
+    // Each condition, as JSON.
+    Objects,
+    // The version of the list.
+    Version,
+}
+
 // Checks the list beside a plain one, or prints its version. Says whether an allocation failed.
-fn runs_out<W: Sink>(alloc: Global, print_version: bool, out: &mut W) -> Result<bool, AllocError>
+fn runs_out<W: Sink>(alloc: Global, wanted: Wanted, out: &mut W) -> Result<bool, AllocError>
     requires { W.has_failed out.old ≡ false }
 {
     let task = Check {
@@ -76,7 +102,8 @@ fn runs_out<W: Sink>(alloc: Global, print_version: bool, out: &mut W) -> Result<
         keep: Vec::from_slice(alloc, &["f", "g"])?,
         canary: Vec::new(alloc),
         allow_empty: false,
-        print_version,
+        json: wanted == Wanted::Objects,
+        print_version: wanted == Wanted::Version,
     };
     match check_run(alloc, &task, &Shelf { alloc }, out) {
         Ok(
@@ -93,11 +120,11 @@ fn runs_out<W: Sink>(alloc: Global, print_version: bool, out: &mut W) -> Result<
 fn prints(
     rt: &(impl AllocGlobal + Abort + Print),
     alloc: Global,
-    print_version: bool,
+    wanted: Wanted,
     text: &[u8],
 ) -> bool {
     let mut said = Buffer::new();
-    match runs_out(alloc, print_version, &mut ToWrite::new(&mut said)) {
+    match runs_out(alloc, wanted, &mut ToWrite::new(&mut said)) {
         Ok(false) => said.text() == text,
         _ => {
             ran_out(rt);
@@ -108,10 +135,15 @@ fn prints(
 
 #[test]
 fn each_condition_is_checked(rt: HostRuntime) {
-    assert!(rt; prints(&rt, rt.alloc(), false, SAID));
+    assert!(rt; prints(&rt, rt.alloc(), Wanted::Words, SAID));
+}
+
+#[test]
+fn each_condition_is_an_object(rt: HostRuntime) {
+    assert!(rt; prints(&rt, rt.alloc(), Wanted::Objects, OBJECTS));
 }
 
 #[test]
 fn the_version_is_printed(rt: HostRuntime) {
-    assert!(rt; prints(&rt, rt.alloc(), true, b"1\n"));
+    assert!(rt; prints(&rt, rt.alloc(), Wanted::Version, b"1\n"));
 }

@@ -3,23 +3,22 @@ use Rattle.std.proofs.Common.{◌∙◌}
 use Rattle.std.proofs.lemmas.Result.{err_from_is_err_and}
 use Rattle.run_output.proofs.RunParts.{carries_more, carries_then}
 use Rattle.list_text.specs.Facts.{facts_of}
-use Rattle.list_text.specs.declared.form.Form.TheVariants.{Change}
-use Rattle.list_text.specs.declared.side.Side.TheVariants.{Removed}
 use Rattle.show_run.specs.Showing.{fact_items}
-use Rattle.check_run.proofs.Steps.{on_ok, or_true}
+use Rattle.check_run.specs.Losses.{lost_form}
+use Rattle.check_run.proofs.Steps.{on_ok}
 use Rattle.check_run.proofs.conditions.say_lost.Goals as goal
 
 pub returns-in_err-show_held-clause-checks : goal.returns-in_err-show_held-clause-checks
 returns-in_err-show_held-clause-checks g c =
     let p = err_from_is_err_and c.from_residual.result c.from_residual.ensures.1 in
-    let lines = fact_items (Change Removed) (facts_of c.args.lost.now.held) in
-    rw (p.1, p.2) (record { carries = carries_more {A = Unit {0}} {B = Unit {0}} lines _ _ _ _ c.in_err-show_held.ensures.carries; refused = tt })
+    let lines = fact_items (lost_form c.args.checker.now.auditor.judge.shown.form) (facts_of c.args.lost.now.held) in
+    rw (p.1, p.2) (record { carries = carries_more {A = Unit {0}} {B = Unit {0}} lines _ _ _ _ (rw c.lost_form-form.ensures at c.in_err-show_held.ensures.carries); refused = tt })
 
 pub returns-clause-checks : goal.returns-clause-checks
 returns-clause-checks g c =
-    let lines = fact_items (Change Removed) (facts_of c.args.lost.now.held) in
-    let last = rw c.in_ok-show_held.ensures.count at c.refuse_lost.ensures.carries in
+    let lines = fact_items (lost_form c.args.checker.now.auditor.judge.shown.form) (facts_of c.args.lost.now.held) in
+    let last = rw c.in_ok-show_held.ensures.count at c.check.ensures.carries in
     record {
-      carries = carries_then lines _ tt _ _ _ _ c.in_ok-show_held.ensures.carries last;
-      refused = on_ok c.refuse_lost.result _ _ (c.refuse_lost.ensures.refused ∙ or_true c.args.checker.now.refused);
+      carries = carries_then lines _ tt _ _ _ _ (rw c.lost_form-form.ensures at c.in_ok-show_held.ensures.carries) last;
+      refused = on_ok c.check.result _ _ c.check.ensures.refused;
     }

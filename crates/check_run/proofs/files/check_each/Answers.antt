@@ -13,38 +13,45 @@ abbrev nobody : Bor (List ℕ)
 nobody = record { ref_ptr = (0, 0); now = [] }
 
 pub loop-name-init : goal.loop-name-init
-loop-name-init g c = record { checks = λ entries means. rw (named_none c.args.role) (no_file (g.H.Host.states c.args.host.now) (reasons_of entries) _ _ _); list = refl }
+loop-name-init g c = record {
+  checks = λ entries means. rw (named_none c.args.role) (no_file (g.H.Host.states c.args.host.now) c.args.checker.now.auditor.judge.shown.form (reasons_of entries) _ _ _);
+  list = refl;
+  form = refl;
+}
 
 pub returns-in_err-check_file-clause-checks : goal.returns-in_err-check_file-clause-checks
 returns-in_err-check_file-clause-checks g c =
     let p = err_from_is_err_and c.from_residual.result c.from_residual.ensures.1 in
     let Knows = g.H.Host.states c.args.host.now in
+    let form = c.args.checker.now.auditor.judge.shown.form in
     let role = c.args.role in
     let names = c.args.names.now in
     let i = c.loop-name.name-index in
-    let checks = rw c.loop-name.invariant.list at c.in_err-check_file.ensures.checks in
+    let checks = rw (c.loop-name.invariant.list, c.loop-name.invariant.form) at c.in_err-check_file.ensures.checks in
     let name = get_or names i nobody in
     let is = get_or_default names i nobody name c.loop-name-test.true in
     let stop = c.in_err-check_file.field-0.0 in
     rw (p.1, p.2) (λ entries means.
-    let front = files_then Knows (reasons_of entries) (named_all role (take i names)) (named role name.now ∷ []) (tt {0}) (Err stop) _ _ _ _ _ _ _ _ _ (c.loop-name.invariant.checks entries means) (checks entries means) in
+    let front = files_then Knows form (reasons_of entries) (named_all role (take i names)) (named role name.now ∷ []) (tt {0}) (Err stop) _ _ _ _ _ _ _ _ _ (c.loop-name.invariant.checks entries means) (checks entries means) in
     rw (named_split role names (i + 1), named_more role names i name c.loop-name-test.true is)
-    (files_stop Knows (reasons_of entries) (named_all role (take i names) ++ named role name.now ∷ []) (named_all role (drop (i + 1) names)) stop _ _ _ _ _ _ _ _ front))
+    (files_stop Knows form (reasons_of entries) (named_all role (take i names) ++ named role name.now ∷ []) (named_all role (drop (i + 1) names)) stop _ _ _ _ _ _ _ _ front))
 
 pub loop-name-preserved : goal.loop-name-preserved
 loop-name-preserved g c =
     let Knows = g.H.Host.states c.args.host.now in
+    let form = c.args.checker.now.auditor.judge.shown.form in
     let role = c.args.role in
     let names = c.args.names.now in
     let i = c.loop-name.name-index in
-    let checks = rw c.loop-name.invariant.list at c.in_ok-check_file.ensures.checks in
+    let checks = rw (c.loop-name.invariant.list, c.loop-name.invariant.form) at c.in_ok-check_file.ensures.checks in
     let name = get_or names i nobody in
     let is = get_or_default names i nobody name c.loop-name-test.true in
     record {
       checks = λ entries means.
           rw (named_more role names i name c.loop-name-test.true is)
-          (files_then Knows (reasons_of entries) (named_all role (take i names)) (named role name.now ∷ []) (tt {0}) (Ok (tt {0})) _ _ _ _ _ _ _ _ _ (c.loop-name.invariant.checks entries means) (checks entries means));
+          (files_then Knows form (reasons_of entries) (named_all role (take i names)) (named role name.now ∷ []) (tt {0}) (Ok (tt {0})) _ _ _ _ _ _ _ _ _ (c.loop-name.invariant.checks entries means) (checks entries means));
       list = c.in_ok-check_file.ensures.list ∙ c.loop-name.invariant.list;
+      form = c.in_ok-check_file.ensures.form ∙ c.loop-name.invariant.form;
     }
 
 pub returns-clause-checks : goal.returns-clause-checks

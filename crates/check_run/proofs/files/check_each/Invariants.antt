@@ -9,7 +9,8 @@ use Rattle.check_run.proofs.files.check_each.Given as goal
 abbrev pub invariant-loop-name : goal.invariant-loop-name
 invariant-loop-name g l = record {
   checks : (entries : List Entry) → Means l.initial.checker.auditor.judge.list.now entries
-      → ChecksFiles (g.H.Host.states l.host) (reasons_of entries) (named_all l.role (take l.name-index l.names)) (Ok (tt {0})) l.initial.checker.auditor.run.printer l.checker.auditor.run.printer
+      → ChecksFiles (g.H.Host.states l.host) l.initial.checker.auditor.judge.shown.form (reasons_of entries) (named_all l.role (take l.name-index l.names)) (Ok (tt {0})) l.initial.checker.auditor.run.printer l.checker.auditor.run.printer
       l.initial.checker.refused l.checker.refused l.initial.checker.unread l.checker.unread;
   list : l.checker.auditor.judge.list ≡ l.initial.checker.auditor.judge.list;
+  form : l.checker.auditor.judge.shown.form ≡ l.initial.checker.auditor.judge.shown.form;
 }

@@ -6,13 +6,15 @@ use Rattle.check_run.specs.Files.{named_all}
 use Rattle.check_run.proofs.KeyFiles.{files_stop, files_then}
 use Rattle.check_run.proofs.files.check_files.Goals as goal
 
-pub returns-in_err-check_each : goal.returns-in_err-check_each
-returns-in_err-check_each g c =
+pub returns-in_err-check_each-clause-checks : goal.returns-in_err-check_each-clause-checks
+returns-in_err-check_each-clause-checks g c =
+    let form = c.args.checker.now.auditor.judge.shown.form in
     let p = err_from_is_err_and c.from_residual.result c.from_residual.ensures.1 in
     rw (p.1, p.2) (λ entries means.
-    files_stop (g.H.Host.states c.args.host.now) (reasons_of entries) (named_all Keep c.args.task.now.keep.items) (named_all Canary c.args.task.now.canary.items) c.in_err-check_each.field-0.0 _ _ _ _ _ _ _ _ (rw c.as_slice.ensures.value at (c.in_err-check_each.ensures.checks entries means)))
+    files_stop (g.H.Host.states c.args.host.now) form (reasons_of entries) (named_all Keep c.args.task.now.keep.items) (named_all Canary c.args.task.now.canary.items) c.in_err-check_each.field-0.0 _ _ _ _ _ _ _ _ (rw c.as_slice.ensures.value at (c.in_err-check_each.ensures.checks entries means)))
 
-pub returns : goal.returns
-returns g c = λ entries means.
-    let second = rw c.in_ok-check_each.ensures.list at c.check_each-2.ensures.checks in
-    files_then (g.H.Host.states c.args.host.now) (reasons_of entries) (named_all Keep c.args.task.now.keep.items) (named_all Canary c.args.task.now.canary.items) (tt {0}) _ _ _ _ _ _ _ _ _ _ (rw c.as_slice.ensures.value at (c.in_ok-check_each.ensures.checks entries means)) (rw c.as_slice-2.ensures.value at (second entries means))
+pub returns-clause-checks : goal.returns-clause-checks
+returns-clause-checks g c = λ entries means.
+    let form = c.args.checker.now.auditor.judge.shown.form in
+    let second = rw (c.in_ok-check_each.ensures.list, c.in_ok-check_each.ensures.form) at c.check_each-2.ensures.checks in
+    files_then (g.H.Host.states c.args.host.now) form (reasons_of entries) (named_all Keep c.args.task.now.keep.items) (named_all Canary c.args.task.now.canary.items) (tt {0}) _ _ _ _ _ _ _ _ _ _ (rw c.as_slice.ensures.value at (c.in_ok-check_each.ensures.checks entries means)) (rw c.as_slice-2.ensures.value at (second entries means))

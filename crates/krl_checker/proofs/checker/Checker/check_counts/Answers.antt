@@ -1,14 +1,13 @@
--- Nothing is printed for a file that meets the condition.
-use Rattle.std.proofs.Common.{◌≡◌, ◌∙◌, true, ap, sym}
-use Rattle.krl_audit.specs.Audit.{content_of}
-use Rattle.krl_audit.specs.declared.counts.Counts.{Counts}
-use Rattle.krl_checker.proofs.Checking.{met_items}
-use Rattle.krl_checker.specs.Check.{lines_counted}
-use Rattle.krl_checker.specs.Role.{is_met}
+-- The counts are checked, or there is no memory for counting.
+use Rattle.std.proofs.Common.{refl, [], ◌∷◌}
+use Rattle.run_output.specs.Run.{Passed}
+use Rattle.run_output.proofs.RunParts.{carries_more, carries_passed, carries_then, carries_withheld}
 use Rattle.krl_checker.proofs.checker.Checker.check_counts.Goals as goal
 
-pub returns-then-is_met-clause-carries : goal.returns-then-is_met-clause-carries
-returns-then-is_met-clause-carries g c =
-    let met : is_met c.args.role (lines_counted c.args.name.now (content_of c.args.content) c.args.self.now.auditor.counts) ≡ true =
-    ap (λ (n : Counts). is_met c.args.role n) (sym c.in-Ok.ensures) ∙ sym c.is_met.ensures ∙ c.if-is_met.true in
-    met_items c.args.role c.args.name.now (lines_counted c.args.name.now (content_of c.args.content) c.args.self.now.auditor.counts) c.args.self.now.auditor.run.printer met
+pub returns-in-Ok-clause-carries : goal.returns-in-Ok-clause-carries
+returns-in-Ok-clause-carries g c =
+    carries_then (Passed c.args.name.now ∷ []) _ (tt {0}) _ _ _ _ (carries_passed (tt {0}) c.args.name.now _) (rw c.in-Ok.ensures at c.check.ensures.carries)
+
+pub returns-in-Err-clause-carries : goal.returns-in-Err-clause-carries
+returns-in-Err-clause-carries g c =
+    carries_more {A = Unit {0}} {B = Unit {0}} (Passed c.args.name.now ∷ []) _ _ _ _ (carries_withheld {A = Unit {0}} (Passed c.args.name.now) _ _ (rw c.whole.ensures refl))

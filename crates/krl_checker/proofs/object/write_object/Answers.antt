@@ -1,0 +1,10 @@
+-- The condition, and what was found.
+use Rattle.std.proofs.Common.{[], ◌∷◌}
+use Rattle.json.specs.Token.{begin_object}
+use Rattle.json_lines.proofs.Objects.{two_fields}
+use Rattle.krl_checker.proofs.object.write_object.Goals as goal
+
+pub returns : goal.returns
+returns c =
+    let verdict = rw c.in_ok-out.ensures at c.in_ok-put_verdict.ensures in
+    c.in_ok-line.ensures _ (two_fields (begin_object ∷ []) _ _ _ _ verdict c.in_ok-put_finding.ensures)

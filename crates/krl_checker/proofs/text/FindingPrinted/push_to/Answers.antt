@@ -1,0 +1,5 @@
+-- What was found.
+use Rattle.krl_checker.proofs.text.FindingPrinted.push_to.Goals as goal
+
+pub returns-in-Version : goal.returns-in-Version
+returns-in-Version c = rw c.in-Version.is c.put-in-Version.ensures
