@@ -11,6 +11,9 @@ itself takes from the kit's rtlib.py. The user's cache keeps each proved library
 the kit, of the crate's files and of the libraries below. So a build that was interrupted continues
 where it stopped, and each clone of the repository uses the proofs of the others. rt keeps its own
 work in crates/NAME/out, and build.py writes nothing there.
+
+The version of the programs gets the commit of their sources, in a copy of the one crate that has
+it. What rt itself builds, also in make test, has no commit in its version.
 """
 
 import contextlib
@@ -38,6 +41,18 @@ TOOLS = ("rattle", "rattle-link", "rtlib.py")
 CPU = "x86-64"
 # The memory in bytes of a process that proves a crate.
 NEED = 2_500_000_000
+# The crate that has the version of the programs in src/lib.rt, and no other file of a crate.
+VERSION = "program_version"
+# What the programs are made of, as git's patterns. No other file changes their version.
+SOURCES = (
+    "crates.txt",
+    ":(glob)crates/**/*.rt",
+    ":(glob)crates/**/*.antt",
+    ":(exclude,glob)crates/*_tests/**",
+    ":(exclude)crates/test_fixtures",
+)
+# In an archive that `git archive` made, this is the archived commit.
+ARCHIVED = "$Format:%H$"
 # How many builds of a crate stay in the cache; each stays for this many seconds after its last use.
 STAY, LEAST_AGE = 3, 86400
 
@@ -160,6 +175,34 @@ def count_lanes():
     return min(len(os.sched_getaffinity(0)), free // NEED)
 
 
+def ask_git(*words):
+    """Returns git's answer about this repository, and about no other that is around it or that the
+    environment names. Git asks no server and no user, and sees files that the user's settings
+    ignore."""
+    env = {name: it for name, it in os.environ.items() if not name.startswith("GIT_")}
+    env["GIT_CEILING_DIRECTORIES"] = os.path.dirname(TOP)
+    how = {"cwd": TOP, "env": env, "stdin": subprocess.DEVNULL, "stderr": subprocess.DEVNULL}
+    git = ["git", "--no-optional-locks", "-c", "protocol.allow=never", "-c", "core.fsmonitor=false"]
+    git += ["-c", "core.excludesFile=/dev/null"]
+    ran = subprocess.run([*git, *words], check=True, stdout=subprocess.PIPE, **how)
+    return ran.stdout.decode(errors="replace").strip()
+
+
+def find_commit():
+    """Returns the last commit that changed a source, in 12 digits, with -dirty if the sources are
+    changed. If git does not know it, it is the commit of the archive, or None."""
+    found, changes = ARCHIVED, ""
+    with contextlib.suppress(OSError, subprocess.CalledProcessError):
+        last = ask_git("rev-list", "-1", "HEAD", "--", *SOURCES)
+        status = ask_git("status", "--porcelain", "--untracked-files=all", "--", *SOURCES)
+        if last:
+            found, changes = last, status
+    found = found[:12]
+    if not re.fullmatch("[0-9a-f]{12}", found):
+        return None
+    return f"{found}-dirty" if changes else found
+
+
 class Task:
     """A crate of the build: the crates that it depends on, and the place of its library in the
     cache."""
@@ -234,6 +277,8 @@ class Build:
         with words_of_kit():
             last = self.rtlib.Crate(f"{TOP}/crates/{top}", TOP, {})
             for crate in [*last.below(), last]:
+                if crate.name == VERSION:
+                    self.add_commit(crate)
                 tasks[crate.name] = Task(crate, [tasks[it.name] for it in crate.below()])
         self.tasks, self.last = [*tasks.values()], tasks[top]
         # If rt ci has just proved all crates, this build uses the libraries that it left.
@@ -246,6 +291,19 @@ class Build:
         for it in reversed(self.tasks):
             above = [self.chain[other] for other in self.chain if it in other.below]
             self.chain[it] = it.seconds + max(above, default=0)
+
+    def add_commit(self, crate):
+        """Lets a copy of the crate be built whose version has the commit, if a commit is known. The
+        copy is not in built/, since rt refuses sources there."""
+        commit = find_commit()
+        if not commit:
+            return
+        text = read(f"{crate.folder}/src/lib.rt").decode()
+        self.room = tempfile.TemporaryDirectory(prefix="krl-keygen-")
+        crate.folder = self.room.name
+        os.mkdir(f"{crate.folder}/src")
+        with open(f"{crate.folder}/src/lib.rt", "w", encoding="utf-8") as it:
+            it.write(re.sub(r'(VERSION: &str = "[^"]*)', rf"\1 ({commit})", text))
 
     def run(self):
         """Returns the file that was made, once all is proved."""
@@ -379,8 +437,9 @@ class Build:
             self.give_up(it, status)
 
     def set_pace(self, it):
-        """The crates that this build has proved show how quick this machine is."""
-        if it is self.last:
+        """The crates that this build has proved show how quick this machine is, except the last one
+        and the one of the version, which is too small."""
+        if it is self.last or it.name == VERSION:
             return
         is_first = not self.pace
         self.taken += time.time() - it.began

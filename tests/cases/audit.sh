@@ -481,7 +481,17 @@ expect 'help for audit, as a task' 0 "$wanted"$'\n' '' help audit
 wanted=$("$program" --help)
 expect 'help, as a task' 0 "$wanted"$'\n' '' help
 expect_text 'help for a task that is not known' 2 error help other
-expect 'the version' 0 "krl $("$keygen" --version | sed 's/.* //')"$'\n' '' --version
+# One of the programs may have been built before a commit, and the other one after it.
+number=$("$keygen" --version | cut -d ' ' -f 2)
+for words in --version -V; do
+  run $words
+  judge "the version by $words" "$(
+    differs 'exit status' 0 "$got_status"
+    differs 'standard error' '' "$got_error"
+    commit='[0-9a-f]{12}(-dirty)?'
+    [[ $got_output =~ ^"krl $number"(\ [(]$commit[)])?$'\n'$ ]] || echo "  it says $got_output"
+  )"
+done
 run audit -f r.krl $'--\e[2J'
 judge 'no word of a refusal moves the terminal' "$(differs status 2 $got_status
   [[ $got_error == *'\x1b[2J'* ]] || echo '  it does not repeat the word'

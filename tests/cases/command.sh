@@ -157,8 +157,11 @@ judge 'a fault of a command called krl-keygen' \
   "$(links/krl-keygen -l -f none 2>&1)")"
 
 version=$("$program" --version 2>/dev/null)
-judge 'the version has three numbers' \
-  "$([[ $version =~ ^krl-keygen\ [0-9]+[.][0-9]+[.][0-9]+$ ]] || echo "  it says $version")"
+judge 'the version has three numbers, and may have a commit' "$(
+  commit='[0-9a-f]{12}(-dirty)?'
+  [[ $version =~ ^krl-keygen\ [0-9]+[.][0-9]+[.][0-9]+(\ [(]$commit[)])?$ ]] ||
+    echo "  it says $version"
+)"
 for words in '--version' '-Q --version' '--version -Z'; do
   expect "the version by $words" 0 "$version"$'\n' '' $words
 done

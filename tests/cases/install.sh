@@ -190,7 +190,7 @@ umask 077
 packed
 umask 022
 judge 'the name of the package' "$(differs name krl-keygen "$(field Package)")"
-number=$("$binary" --version | sed 's/.* //')
+number=$("$binary" --version | cut -d ' ' -f 2)
 judge 'its version has the number of the program, the time and the commit' "$(
   commit=$(git -C "$top" rev-parse --short HEAD)
   [[ "$(field Version)" =~ ^"$number"[+][0-9]{8}[.][0-9]{6}[.]"$commit"([.]changed)?$ ]] ||

@@ -1,6 +1,6 @@
 # The launchers ./ssh-keygen and ./krl: from anywhere, by links, and without the toolchain once the
 # program is built; and what it does where the program is not built, over a toolchain that proves
-# nothing.
+# nothing: what is proved, and which commit is in the version.
 
 launcher=$top/ssh-keygen
 line ssh-ed25519 "$G" >g.pub
@@ -275,6 +275,199 @@ go
 whole 'the first of two clones at once'
 judge 'the second of two clones at once' \
   "$(differs 'standard output' "$(made_of 6 4)" "$(cat second)")"
+
+# The version of the programs, with the commit of their sources. These files may themselves come from
+# an archive.
+plain=$scratch/here/plain
+cp -r away "$plain" && rm -rf "$plain/built" && cp -r "$top/crates/program_version" "$plain/crates/"
+sed -i -e '1i program_version:' -e 's/^\(krl_keygen\|krl\):.*/& program_version/' \
+  "$plain/crates.txt"
+cp "$top"/.git{attributes,ignore} "$plain/"
+sed -i -E 's/^(ARCHIVED = ")[0-9a-f]{40,64}"$/\1$Format:%H$"/' "$plain/build.py"
+echo '# The page' >"$plain/README.md" && echo '# A crate' >"$plain/crates/low/README.md"
+cp -r "$plain"/crates/{low_tests,test_fixtures}
+mkdir rooms settings && cat >settings/.gitconfig <<END
+[user]
+  name = me
+  email = me@here
+[core]
+  excludesFile = $PWD/settings/ignored
+[status]
+  showUntrackedFiles = no
+END
+echo '*.rt' >settings/ignored
+# Git has these settings, and none of this machine.
+export GIT_CONFIG_NOSYSTEM=1 HOME=$PWD/settings
+unset XDG_CONFIG_HOME
+# number: the number of the version in the sources.
+number=$(sed -n 's/^pub const VERSION: &str = "\(.*\)";$/\1/p' \
+  "$top/crates/program_version/src/lib.rt")
+# has_version NAME FOLDER VERSION PROVED WORD..: the repository in the folder is built anew, by the
+# command that the words begin. The program has this version, with _ for blanks, git says nothing,
+# and no copy of a source is left.
+has_version() {
+  local name=$1 folder=$2 version=$3
+  rm -rf "$folder/built"
+  away=$folder build "$name" 0 any any "$4" env TMPDIR="$scratch/here/rooms" RT_JOBS=1 "${@:5}"
+  judge "$name: the version" "$(
+    differs 'standard output' \
+      "made of aside:1,2,3 krl_keygen:1,2 low:6 program_version:$version side:1,2,3,4 upper:6" \
+      "$(sed 's/:1,2,3,4,5,6/:6/g' said)"
+    ! grep -v -e '^ssh-keygen: proving ' -e '^ssh-keygen: this takes .* judging by \(low\|upper\)$' \
+      "$scratch/error"
+    [ -z "$(ls -A rooms)" ] || echo '  a copy of a source is left'
+  )"
+}
+# commit_of FOLDER [REVISION]: the commit, as the version has it.
+commit_of() {
+  git -C "$1" rev-parse "${2:-HEAD}" | cut -c 1-12
+}
+# adds FOLDER FILE..: these files are in the next commit, also those that the settings ignore.
+adds() {
+  git -C "$1" -c core.excludesFile=/dev/null add -- "${@:2}"
+}
+# commits FOLDER FILE..: commits these files.
+commits() {
+  adds "$@" && git -C "$1" commit -q -m "$2"
+}
+both='program_version krl_keygen '
+has_version 'the sources alone' "$plain" "$number" "$both"
+
+git init -q around && cp -r plain around/inner && rm -rf around/inner/built
+commits around inner
+has_version 'the sources in another repository' "$PWD/around/inner" "$number" ''
+dated=$scratch/here/dated
+cp -r plain dated && rm -rf dated/built && git init -q dated
+has_version 'a repository without a commit' "$dated" "$number" ''
+commits dated README.md
+has_version 'a repository whose commits have no source' "$dated" "$number" ''
+commits dated .
+first=$(commit_of dated)
+has_version 'a commit of the sources' "$dated" "${number}_($first)" "$both"
+judge 'git keeps nothing of the build' "$(asks 0 git -C dated status --porcelain)"
+PATH=$scratch/here/kit/bin:/usr/bin:/bin "${one[@]}" dated/krl >said 2>"$scratch/error"
+judge 'the version of krl has the commit' "$(differs 'standard output' \
+  "made of krl:1,2 low:1,2,3,4,5,6 program_version:${number}_($first)" "$(cat said)")"
+away=$dated build 'the second use of that only runs' 0 any '' ''
+for it in README.md crates/low/README.md crates/{low_tests,test_fixtures}/src/lib.rt; do
+  echo '// a remark' >>"dated/$it"
+  has_version "a changed file $it" "$dated" "${number}_($first)" ''
+  commits dated "$it"
+  has_version "a commit of $it" "$dated" "${number}_($first)" ''
+done
+echo '// a remark' >>dated/crates/low/src/lib.rt
+has_version 'a changed source' "$dated" "${number}_($first-dirty)" "low $both"
+adds dated crates/low/src/lib.rt
+has_version 'a changed source that will be committed' "$dated" "${number}_($first-dirty)" ''
+git -C dated reset -q --hard
+has_version 'a source that is as it was' "$dated" "${number}_($first)" ''
+echo '// a remark' >dated/crates/upper/src/more.rt
+has_version 'a new source that the settings hide' "$dated" "${number}_($first-dirty)" 'upper '
+rm dated/crates/upper/src/more.rt
+echo >>dated/crates.txt
+has_version 'a changed list of crates' "$dated" "${number}_($first-dirty)" ''
+git -C dated checkout -q crates.txt
+echo '// a remark' >>dated/crates/low/specs/Lib.antt
+commits dated crates/low/specs/Lib.antt
+last=$(commit_of dated)
+has_version 'a new commit of the sources' "$dated" "${number}_($last)" "low $both"
+
+# other NAME WORD..: a build by the command that the words begin has the version as before.
+other() {
+  has_version "$1" "$dated" "${number}_($last)" '' "${@:2}"
+}
+touch dated/crates/low/src/lib.rt
+index=$(md5sum dated/.git/index)
+other 'a source with a new time'
+judge 'git writes nothing' "$(differs index "$index" "$(md5sum dated/.git/index)")"
+other 'the environment names another repository' GIT_DIR="$PWD/around/.git" \
+  GIT_WORK_TREE="$PWD/around"
+other 'the environment has other words for git' GIT_LITERAL_PATHSPECS=1 GIT_TRACE=1
+git init -q --bare away.git && git -C dated push -q "$PWD/away.git" HEAD:refs/heads/main
+git clone -q --depth 1 --branch main "file://$PWD/away.git" shallow
+has_version 'a clone without the commits before' "$PWD/shallow" "${number}_($last)" ''
+git -C dated worktree add -q ../beside
+has_version 'a second folder of the repository' "$PWD/beside" "${number}_($last)" ''
+
+# unknown NAME FOLDER WORD..: no commit is known.
+unknown() {
+  has_version "$1" "$2" "$number" '' "${@:3}"
+}
+mkdir bare && ln -s /usr/bin/* bare/ && rm bare/git
+unknown 'git is not there' "$dated" PATH="$scratch/here/kit/bin:$PWD/bare"
+# git_says TEXT: a command git that says this.
+git_says() {
+  mkdir -p fake && printf '#!/bin/sh\n%s\n' "$1" >fake/git && chmod +x fake/git
+}
+fake=(PATH="$scratch/here/kit/bin:$PWD/fake:/usr/bin:/bin")
+git_says "echo '\"; // no commit'"
+unknown 'git says no commit' "$dated" "${fake[@]}"
+git_says 'printf "0123456789a\n0123456789ab"'
+unknown 'git says a commit of too few digits' "$dated" "${fake[@]}"
+git_says 'printf "0123\37756789abcdef"'
+unknown 'git says no text' "$dated" "${fake[@]}"
+git_says 'case "$*" in *status*) echo no status >&2; exit 1 ;; esac; echo 0123456789abcdef'
+unknown 'git does not say what was changed' "$dated" "${fake[@]}"
+git_says 'echo 0123456789abcdef; echo a fault >&2; exit 1'
+unknown 'git fails' "$dated" "${fake[@]}"
+: >fake/git
+unknown 'git cannot be run' "$dated" PATH="$scratch/here/kit/bin:$PWD/fake:$PWD/bare"
+if [ "$(id -u)" = 0 ]; then
+  cp -r dated foreign && chown -R 65534 foreign
+  # The system may be set so that git trusts all users.
+  env -u GIT_CONFIG_NOSYSTEM git -C foreign status >/dev/null 2>&1 ||
+    unknown 'a repository of another user' "$PWD/foreign"
+fi
+
+# A part of a clone that is still on the server, and a program that git is to ask for changes.
+printf '#!/bin/sh\necho "$0" >>%s/asked\n' "$PWD" >asked.sh && chmod +x asked.sh
+git -C away.git config uploadpack.allowFilter true
+git clone -q --filter=tree:0 --branch main "file://$PWD/away.git" part
+git -C part config remote.origin.uploadpack "$PWD/asked.sh"
+unknown 'commits that are still on the server' "$PWD/part"
+git -C dated config core.fsmonitor "$PWD/asked.sh"
+other 'a repository that names a program'
+git -C dated config --unset core.fsmonitor
+judge 'git asks no server and no program' "$([ ! -e asked ] || cat asked)"
+
+# unpack FOLDER: the archive of the repository, in that folder.
+unpack() {
+  mkdir -p "$1" && git -C dated archive HEAD | tar -x -C "$1"
+}
+unpack archive
+has_version 'an archive' "$PWD/archive" "${number}_($last)" ''
+has_version 'an archive without git' "$PWD/archive" "${number}_($last)" '' \
+  PATH="$scratch/here/kit/bin:$PWD/bare"
+unpack around/archive
+commits around archive
+has_version 'an archive in another repository' "$PWD/around/archive" "${number}_($last)" ''
+git init -q archive && commits archive README.md
+has_version 'an archive with commits of documents' "$PWD/archive" "${number}_($last)" ''
+sed -i 's/^ARCHIVED = .*/ARCHIVED = "0123456789a\\"; evil"/' archive/build.py
+unknown 'an archive with another text' "$PWD/archive"
+
+# A build that ends early leaves no copy either. The version is the same in a clone, which proves
+# nothing.
+echo '// another remark' >>dated/crates/low/specs/Lib.antt
+commits dated crates/low/specs/Lib.antt
+rm -rf dated/built
+echo program_version >calls.hold
+(away=$dated use "${one[@]}" TMPDIR="$PWD/rooms") >said 2>"$scratch/error" &
+await grep -qs 'program_version begins' calls
+judge 'the version is built of a copy' "$([ -n "$(ls -A rooms)" ] || echo '  there is none')"
+kill -TERM $!
+wait $!
+rm calls.hold
+judge 'a build that ends early leaves no copy' "$(asks 0 ls -A rooms; nothing_left)"
+last=$(commit_of dated)
+has_version 'the next build continues' "$dated" "${number}_($last)" "$both"
+git clone -q dated again
+has_version 'a clone of the repository' "$PWD/again" "${number}_($last)" ''
+judge 'a commit proves only the programs anew, and no libkrl' "$(
+  differs 'what is above the version' 'krl krl_keygen ' \
+    "$(sed -n 's/^\([a-z0-9_]*\).*:.* program_version\( .*\)\{0,1\}$/\1/p' "$top/crates.txt" |
+    grep -v '_tests$' | sort | tr '\n' ' ')"
+)"
 
 anew taskset -c "$(taskset -cp $$ | sed 's/.*[ ,-]//')"
 wait

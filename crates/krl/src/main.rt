@@ -20,6 +20,7 @@ use crate::show::show;
 use krl_arguments::{Task, task_of};
 use option_table::CommandFault;
 use program_edge::{Lines, Program, refuse, run};
+use program_version::VERSION;
 use run_faults::RunFault;
 use std::alloc::AllocError;
 use std::process::ExitCode;
@@ -51,7 +52,7 @@ impl Lines for Krl {
 
 impl Program for Krl {
     fn run(&self, rt: &HostRuntime, words: &[String]) -> u8 {
-        match task_of(rt.alloc(), words) {
+        match task_of(rt.alloc(), VERSION, words) {
             Ok(Task::Audit(task)) => audit(rt, &task),
             Ok(Task::Check(task)) => check(rt, &task),
             Ok(Task::Show(task)) => show(rt, &task),

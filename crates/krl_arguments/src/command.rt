@@ -15,13 +15,18 @@ use std::convert::AsStr;
 
 /// Returns the task that the words ask for, the program's name before them (krl(1), SYNOPSIS).
 /// Returns `Words` if they ask for help or the version, cannot be parsed, or do not go together.
-pub fn task_of<'a, S: AsStr>(alloc: Global, words: &'a [S]) -> Result<Task<'a>, CommandFault>
+/// The version is what `--version` prints after the name.
+pub fn task_of<'a, S: AsStr>(
+    alloc: Global,
+    version: &'a str,
+    words: &'a [S],
+) -> Result<Task<'a>, CommandFault>
     ensures { IsCommand (map S.text words.entry.now) result }
 {
-    let program = program(alloc)?;
+    let program = program(alloc, version)?;
     match program.try_get_matches_from(words) {
         Ok(matches) => asked_for(alloc, &matches),
-        Err(error) => Err(fault_of(&error, text_for(alloc, words))),
+        Err(error) => Err(fault_of(&error, text_for(alloc, version, words))),
     }
 }
 

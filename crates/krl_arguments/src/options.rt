@@ -6,7 +6,7 @@ ghost use Rattle.clap.specs.declared.builder.command.Command.TheViews.{out-Comma
 ghost use Rattle.krl_arguments.specs.Options.{program, subcommand_by};
 
 use clap::Command;
-use option_table::{Argument, Form, VERSION, with_arguments};
+use option_table::{Argument, Form, with_arguments};
 use std::alloc::{AllocError, Global};
 
 /// The program's own name, whatever name it is called by.
@@ -205,14 +205,14 @@ pub const COMPARING: Subcommand = Subcommand {
     arguments: &DIFF,
 };
 
-/// The program, for parsing its words. An option is refused if it is given twice, unless it may have
-/// several values.
-pub fn program<'a>(alloc: Global) -> Result<Command<'a>, AllocError>
+/// The program of this version, for parsing its words. An option is refused if it is given twice,
+/// unless it may have several values.
+pub fn program<'a>(alloc: Global, version: &'a str) -> Result<Command<'a>, AllocError>
     ensures { IfOk result (λ command. app_of command ≡ program) }
 {
     let bare = Command::new(alloc, NAME)
         .about("Finds revoked keys, and checks, shows, makes and compares revocation lists")
-        .version(VERSION)
+        .version(version)
         .propagate_version(true)
         .subcommand_required(true);
     let audit = subcommand_of(alloc, &AUDITING)?;

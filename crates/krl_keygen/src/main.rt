@@ -9,6 +9,7 @@ use krl_words::command_of;
 use list_making::make_list;
 use option_table::CommandFault;
 use program_edge::{Lines, Program, end, refuse, run, stop};
+use program_version::VERSION;
 use run_faults::{Cause, RunFault, fault_text};
 use run_output::{ListMode, list_run};
 use std::alloc::AllocError;
@@ -39,7 +40,7 @@ impl Lines for Tool {
 
 impl Program for Tool {
     fn run(&self, rt: &HostRuntime, words: &[String]) -> u8 {
-        match command_of(rt.alloc(), words) {
+        match command_of(rt.alloc(), VERSION, words) {
             Ok(job) => run_job(rt, &job),
             Err(fault) => refuse(rt, self, &fault),
         }

@@ -19,14 +19,18 @@ use std::convert::AsStr;
 /// Returns the job that the words ask for, the program's name before them (ssh-keygen(1),
 /// SYNOPSIS). Returns `Words` if they cannot be parsed or ask for help or the version, `Usage` if
 /// the options do not go together, a file is named between two uses of `-s`, or a value is invalid,
-/// `NoMemory` if an allocation fails.
-pub fn command_of<'a, S: AsStr>(alloc: Global, words: &'a [S]) -> Result<Job<'a>, CommandFault>
+/// `NoMemory` if an allocation fails. The version is what `--version` prints after the name.
+pub fn command_of<'a, S: AsStr>(
+    alloc: Global,
+    version: &'a str,
+    words: &'a [S],
+) -> Result<Job<'a>, CommandFault>
     ensures { IsCommand (map S.text words.entry.now) result }
 {
-    let program = program(alloc)?;
+    let program = program(alloc, version)?;
     match program.try_get_matches_from(words) {
         Ok(matches) => job_in(alloc, &matches, is_divided(words)),
-        Err(error) => Err(fault_of(&error, text_for(alloc, words))),
+        Err(error) => Err(fault_of(&error, text_for(alloc, version, words))),
     }
 }
 

@@ -5,7 +5,7 @@ ghost use Rattle.clap.specs.Simple.{app_of};
 ghost use Rattle.krl_words.specs.Options.{program};
 
 use clap::Command;
-use option_table::{Argument, Form, VERSION, with_arguments};
+use option_table::{Argument, Form, with_arguments};
 use std::alloc::{AllocError, Global};
 
 /// The program's own name, whatever name it is called by.
@@ -70,13 +70,14 @@ pub const ARGUMENTS: [Argument; 11] = [
     },
 ];
 
-/// The program, for parsing its words. If an option is given more than once, the last one counts.
-pub fn program<'a>(alloc: Global) -> Result<Command<'a>, AllocError>
+/// The program of this version, for parsing its words. If an option is given more than once, the
+/// last one counts.
+pub fn program<'a>(alloc: Global, version: &'a str) -> Result<Command<'a>, AllocError>
     ensures { IfOk result (λ command. app_of command ≡ program) }
 {
     let bare = Command::new(alloc, NAME)
         .about("Lists keys and certificates; makes, prints and asks key revocation lists")
-        .version(VERSION)
+        .version(version)
         .disable_version_flag(true)
         .args_override_self(true);
     with_arguments(alloc, bare, &ARGUMENTS)

@@ -5,10 +5,8 @@ mod argument;
 mod fault;
 mod shown;
 mod value;
-mod version;
 
 pub use argument::{Argument, Form, with_arguments};
 pub use fault::{CommandFault, fault_of};
 pub use shown::shown_words;
 pub use value::{is_set, value_of, values_of};
-pub use version::VERSION;

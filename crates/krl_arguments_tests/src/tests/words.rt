@@ -5,9 +5,12 @@ use option_table::CommandFault;
 use std::alloc::Global;
 use std::test::Fail;
 
+// The version of the program.
+const VERSION: &str = "12.3.45 (0123456789ab)";
+
 // The audit that the words ask for, the program's name before them.
 fn audit_by<'a>(alloc: Global, words: &'a [&'a str]) -> Result<Audit<'a>, &'static str> {
-    match task_of(alloc, words) {
+    match task_of(alloc, VERSION, words) {
         Ok(Task::Audit(audit)) => Ok(audit),
         _ => Err("the words ask for an audit"),
     }
@@ -15,7 +18,7 @@ fn audit_by<'a>(alloc: Global, words: &'a [&'a str]) -> Result<Audit<'a>, &'stat
 
 // The check that the words ask for.
 fn check_by<'a>(alloc: Global, words: &'a [&'a str]) -> Result<Check<'a>, &'static str> {
-    match task_of(alloc, words) {
+    match task_of(alloc, VERSION, words) {
         Ok(Task::Check(check)) => Ok(check),
         _ => Err("the words ask for a check"),
     }
@@ -23,7 +26,7 @@ fn check_by<'a>(alloc: Global, words: &'a [&'a str]) -> Result<Check<'a>, &'stat
 
 // The lists that the words ask to show.
 fn show_by<'a>(alloc: Global, words: &'a [&'a str]) -> Result<Show<'a>, &'static str> {
-    match task_of(alloc, words) {
+    match task_of(alloc, VERSION, words) {
         Ok(Task::Show(show)) => Ok(show),
         _ => Err("the words ask for lists"),
     }
@@ -31,7 +34,7 @@ fn show_by<'a>(alloc: Global, words: &'a [&'a str]) -> Result<Show<'a>, &'static
 
 // The list that the words ask to make.
 fn make_by<'a>(alloc: Global, words: &'a [&'a str]) -> Result<Make<'a>, &'static str> {
-    match task_of(alloc, words) {
+    match task_of(alloc, VERSION, words) {
         Ok(Task::Make(make)) => Ok(make),
         _ => Err("the words ask for a list"),
     }
@@ -39,7 +42,7 @@ fn make_by<'a>(alloc: Global, words: &'a [&'a str]) -> Result<Make<'a>, &'static
 
 // The lists that the words ask to compare.
 fn diff_by<'a>(alloc: Global, words: &'a [&'a str]) -> Result<Diff<'a>, &'static str> {
-    match task_of(alloc, words) {
+    match task_of(alloc, VERSION, words) {
         Ok(Task::Diff(diff)) => Ok(diff),
         _ => Err("the words ask for two lists"),
     }
@@ -47,7 +50,7 @@ fn diff_by<'a>(alloc: Global, words: &'a [&'a str]) -> Result<Diff<'a>, &'static
 
 // The status of words that ask for no task.
 fn status_by(alloc: Global, words: &[&str]) -> Result<u8, &'static str> {
-    match task_of(alloc, words) {
+    match task_of(alloc, VERSION, words) {
         Ok(_) => Err("the words ask for nothing"),
         Err(fault) => Ok(fault.status()),
     }
@@ -257,6 +260,29 @@ fn helps(rt: HostRuntime) -> Result<(), Fail> {
     Ok(())
 }
 
+// Words that ask for the version, and the name before it.
+const VERSIONS: [(&[&str], &str); 4] = [
+    (&["krl", "--version"], "krl"),
+    (&["other", "-V"], "krl"),
+    (&["krl", "audit", "--version"], "krl-audit"),
+    (&["krl", "make", "-f", "k", "-V"], "krl-make"),
+];
+
+#[test]
+fn versions(rt: HostRuntime) -> Result<(), Fail> {
+    for (words, name) in VERSIONS {
+        let wanted = format!(in rt.alloc(); "{name} {VERSION}\n")?;
+        match task_of(rt.alloc(), VERSION, words) {
+            Err(CommandFault::Words { help, text }) => assert!(rt;
+                help && text == wanted,
+                "{text}"
+            ),
+            _ => return Err(Fail::from("the words ask for the version")),
+        }
+    }
+    Ok(())
+}
+
 // Words that are refused, and the beginning of what is said.
 const SAID: [(&[&str], &str); 6] = [
     (
@@ -296,7 +322,7 @@ const SAID: [(&[&str], &str); 6] = [
 #[test]
 fn what_is_said(rt: HostRuntime) -> Result<(), Fail> {
     for (words, wanted) in SAID {
-        match task_of(rt.alloc(), words) {
+        match task_of(rt.alloc(), VERSION, words) {
             Err(CommandFault::Words { help, text }) => {
                 assert!(rt; !help && text.as_str().starts_with(wanted), "{wanted}");
             }

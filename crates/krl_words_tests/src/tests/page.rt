@@ -1,4 +1,4 @@
-//! The callers of the pages of `krl_words`, `krl_job` and `option_table`.
+//! The callers of the pages of `krl_words`, `krl_job`, `option_table` and `program_version`.
 
 ghost use Rattle.std.specs.Prelude.{◌≡◌, option_map};
 ghost use Rattle.krl_job.specs.Given.{given_by};
@@ -8,12 +8,22 @@ use clap::Command;
 use krl_job::{Given, Mode, job_of};
 use krl_words::command_of;
 use option_table::{Argument, CommandFault, Form, is_set, with_arguments};
+use program_version::VERSION;
 use std::alloc::{AllocError, Global};
 
 /// The mode of the job that words ask for, the program's name before them.
-fn mode_of<'a>(alloc: Global, words: &'a [&'a str]) -> Result<Mode, CommandFault> {
-    let job = command_of(alloc, words)?;
+fn mode_of<'a>(
+    alloc: Global,
+    version: &'a str,
+    words: &'a [&'a str],
+) -> Result<Mode, CommandFault> {
+    let job = command_of(alloc, version, words)?;
     Ok(job.mode)
+}
+
+/// The line that `--version` prints.
+fn version_line(alloc: Global, name: &str) -> Result<String, AllocError> {
+    format!(in alloc; "{name} {VERSION}\n")
 }
 
 /// The mode of the job that options ask for, if they ask for one.
@@ -53,12 +63,25 @@ fn a_letter_is_given(rt: HostRuntime) {
 #[test]
 fn words_have_a_mode(rt: HostRuntime) {
     let words = ["ssh-keygen", "-Q", "-l", "-f", "list"];
-    let mode = mode_of(rt.alloc(), &words).expect(&rt, "the words ask for a job");
+    let mode = mode_of(rt.alloc(), "1.2.3", &words).expect(&rt, "the words ask for a job");
     assert!(rt; mode == Mode::Query);
-    let none = mode_of(rt.alloc(), &["ssh-keygen", "-Q", "-f"])
+    let none = mode_of(rt.alloc(), "1.2.3", &["ssh-keygen", "-Q", "-f"])
         .err()
         .expect(&rt, "the file is missing");
     assert!(rt; none.number() == 2);
+}
+
+#[test]
+fn a_program_has_a_version(rt: HostRuntime) {
+    let wanted = version_line(rt.alloc(), "krl-keygen").expect(&rt, "there is memory");
+    let words = ["krl-keygen", "--version"];
+    let fault = mode_of(rt.alloc(), VERSION, &words)
+        .err()
+        .expect(&rt, "the words ask for the version");
+    match fault {
+        CommandFault::Words { help, text } => assert!(rt; help && text == wanted),
+        _ => assert!(rt; false, "the version has a text"),
+    }
 }
 
 #[test]

@@ -7,9 +7,12 @@ use option_table::CommandFault;
 use std::alloc::{AllocError, Global};
 use std::test::Fail;
 
+// The version of the program.
+const VERSION: &str = "12.3.45 (0123456789ab)";
+
 // The job that the words ask for, after the name of the program.
 fn job_by<'a>(alloc: Global, words: &'a [&'a str]) -> Result<Job<'a>, &'static str> {
-    match command_of(alloc, words) {
+    match command_of(alloc, VERSION, words) {
         Ok(job) => Ok(job),
         Err(_) => Err("the words ask for a job"),
     }
@@ -17,7 +20,7 @@ fn job_by<'a>(alloc: Global, words: &'a [&'a str]) -> Result<Job<'a>, &'static s
 
 // Why the words ask for no job.
 fn fault_by(alloc: Global, words: &[&str]) -> Result<CommandFault, &'static str> {
-    match command_of(alloc, words) {
+    match command_of(alloc, VERSION, words) {
         Ok(_) => Err("the words ask for nothing"),
         Err(fault) => Ok(fault),
     }
@@ -278,6 +281,27 @@ fn answered_in_words(rt: HostRuntime) -> Result<(), Fail> {
     for (i, (words, help)) in ANSWERED.iter().enumerate() {
         let fault = fault_by(rt.alloc(), *words)?;
         assert!(rt; reports(&fault, *help), "in row {i}");
+    }
+    Ok(())
+}
+
+// Words that ask for the version.
+const VERSIONS: [&[&str]; 3] = [
+    &["ssh-keygen", "--version"],
+    &["krl-keygen", "-Q", "--version", "-Z"],
+    &["other", "-f", "k", "--version"],
+];
+
+#[test]
+fn the_version(rt: HostRuntime) -> Result<(), Fail> {
+    for (i, words) in VERSIONS.iter().enumerate() {
+        match fault_by(rt.alloc(), *words)? {
+            CommandFault::Words { help, text } => {
+                let wanted = "krl-keygen 12.3.45 (0123456789ab)\n";
+                assert!(rt; help && text.as_str() == wanted, "in row {i}");
+            }
+            _ => return Err(Fail::from("the words ask for the version")),
+        }
     }
     Ok(())
 }

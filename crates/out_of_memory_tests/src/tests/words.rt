@@ -6,6 +6,9 @@ use krl_job::{Job, Mode};
 use krl_words::command_of;
 use option_table::CommandFault;
 
+// The version of both programs.
+const VERSION: &str = "1.2.3";
+
 #[test]
 fn a_command(rt: HostRuntime) {
     let words = [
@@ -21,7 +24,7 @@ fn a_command(rt: HostRuntime) {
         "a",
         "b",
     ];
-    match command_of(rt.alloc(), &words) {
+    match command_of(rt.alloc(), VERSION, &words) {
         Ok(
             Job {
                 mode,
@@ -43,7 +46,7 @@ fn a_command(rt: HostRuntime) {
 // Words that cannot be parsed, whose fault has a text.
 #[test]
 fn words_that_are_refused(rt: HostRuntime) {
-    match command_of(rt.alloc(), &["ssh-keygen", "-Y"]) {
+    match command_of(rt.alloc(), VERSION, &["ssh-keygen", "-Y"]) {
         Err(CommandFault::Words { help, text }) => assert!(rt; !help && !text.is_empty()),
         Err(CommandFault::NoMemory) => ran_out(&rt),
         _ => assert!(rt; false, "the words are refused"),
@@ -53,7 +56,7 @@ fn words_that_are_refused(rt: HostRuntime) {
 #[test]
 fn a_task(rt: HostRuntime) {
     let words = ["krl", "audit", "-f", "r.krl", "-a", "--json", "x", "y"];
-    match task_of(rt.alloc(), &words) {
+    match task_of(rt.alloc(), VERSION, &words) {
         Ok(
             Task::Audit(
                 Audit {
@@ -74,7 +77,7 @@ fn a_task(rt: HostRuntime) {
 #[test]
 fn a_task_that_is_refused(rt: HostRuntime) {
     let words = ["krl", "check", "--print-version", "--canary", "c", "r.krl"];
-    match task_of(rt.alloc(), &words) {
+    match task_of(rt.alloc(), VERSION, &words) {
         Err(CommandFault::Words { help, text }) => assert!(rt; !help && !text.is_empty()),
         Err(CommandFault::NoMemory) => ran_out(&rt),
         _ => assert!(rt; false, "the words are refused"),
