@@ -192,7 +192,7 @@ pub record Audits (reasons : Subject → Reasons) (visits : List Visit) (stop : 
   pub timely : AreTimely reasons old.tally visits
   pub writer : new.printer.writer ≡ old.printer.writer
 
--- The same by a list, for each row of entries that it means.
+-- An audit by a list is one for each row of entries that it means.
 pub record AuditsBy (visits : List Visit) (stop : Option Stop) (old new : State) : Type 0 where
   pub judge : new.judge ≡ old.judge
   pub audits : (entries : List Entry) → Means old.judge.list.now entries
@@ -225,7 +225,7 @@ IsSince visits None old new =
     (new.gave ≡ old.gave || gives visits) × (new.passed ≡ old.passed || passes visits)
 IsSince visits (Some stop) old new = Unit {0}
 
--- The same, and what was met since a directory that is named was entered.
+-- An audit by a list, and what was met since a directory that is named was entered.
 pub record Meets (visits : List Visit) (stop : Option Stop) (old new : State) : Type 0 where
   pub audits : AuditsBy visits stop old new
   pub since : IsSince visits stop old.since new.since

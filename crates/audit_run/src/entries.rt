@@ -206,7 +206,7 @@ pub(crate) fn audit_regular<T: Tree, W: Screen>(
     }
 }
 
-// The same where it is audited only if it is a private key file.
+// Audits a file of a directory only if it is a private key file.
 fn audit_private<T: Tree, W: Screen>(
     tree: &T,
     round: &mut Round<'_, '_, W>,

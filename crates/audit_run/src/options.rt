@@ -18,7 +18,7 @@ pub struct Options {
     pub colours: bool,
 }
 
-/// What the system says about standard output and the environment.
+/// The facts about standard output and the environment.
 #[derive(Clone, Copy)]
 pub struct Terminal {
     /// True if standard output is a terminal.

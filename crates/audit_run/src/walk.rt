@@ -162,7 +162,7 @@ fn push_entered(entered: &mut Vec<Entered>, last: Entered) -> Result<(), AllocEr
     Ok(())
 }
 
-// The same of a directory that was entered, if it was.
+// Puts a directory on top of those that were entered, if it was entered.
 fn push_below(entered: &mut Vec<Entered>, below: Option<Entered>) -> Result<(), AllocError>
     ensures { OnOk result (levels_of entered.new.items
         ≡ levels_of entered.old.items ++ level_in below) }

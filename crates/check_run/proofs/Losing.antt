@@ -1,4 +1,4 @@
--- What a list lacks of another one.
+-- The entries of another list that a list lacks.
 use Rattle.std.proofs.Common.{◌≡◌, ℕ, Bool, true, false, List, Result, Some}
 use Rattle.run_faults.specs.RunFault.{RunFault}
 use Rattle.run_output.specs.Printer.{Printer}

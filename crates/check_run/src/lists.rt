@@ -32,7 +32,7 @@ pub(crate) struct Other<'a> {
     pub(crate) version: Option<u64>,
 }
 
-/// What another list names and the checked one does not, and the name of the other one.
+/// The revocations of another list that the checked one lacks, and the name of the other one.
 #[derive(Drop)]
 pub(crate) struct Lost<'a> {
     pub(crate) name: &'a str,

@@ -1,4 +1,4 @@
--- What each of two lists names and the other does not.
+-- The revocations of each of two lists that the other lacks.
 use Rattle.std.specs.Prelude.{◌≡◌, ℕ, List, Result}
 use Rattle.run_faults.specs.RunFault.{RunFault}
 use Rattle.run_faults.specs.declared.cause.Cause.{Cause}

@@ -10,12 +10,12 @@ use show_run::{Lists, read_given};
 use span_sets::Held;
 use std::alloc::{AllocError, Global};
 
-/// What each of two lists names and the other does not.
+/// The revocations of each of two lists that the other lacks.
 #[derive(Drop)]
 pub(crate) struct Changes {
-    /// What only the new list names.
+    /// Those of the new list alone.
     pub(crate) added: Revocations<Held>,
-    /// What only the old list names.
+    /// Those of the old list alone.
     pub(crate) removed: Revocations<Held>,
 }
 
@@ -46,7 +46,7 @@ pub(crate) fn read_changes<'a, L: Lists>(
     }
 }
 
-// What each names and the other does not.
+// The revocations of each that the other lacks.
 fn changes_of(
     alloc: Global,
     old: &Revocations<Held>,

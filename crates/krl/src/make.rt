@@ -115,7 +115,7 @@ fn make_list<'a>(rt: &HostRuntime, inputs: &'a Inputs<'a>) -> Result<Done, MakeF
     Err(fault_of(inputs.name, Cause::Output { count: 0 }))
 }
 
-// The same, or nothing if it has to be made again.
+// Makes the list once. Returns none if it has to be made again.
 fn make_once<'a>(
     rt: &HostRuntime,
     inputs: &'a Inputs<'a>,

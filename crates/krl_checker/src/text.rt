@@ -56,7 +56,7 @@ fn named_by<'a>(name: &'a str, condition: Condition<'a>) -> &'a str
     }
 }
 
-// What was found about the list or the file of this name.
+// The finding about the list or the file of this name.
 #[derive(Clone, Copy)]
 struct Finding<'a> {
     alloc: Global,

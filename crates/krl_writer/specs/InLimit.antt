@@ -29,7 +29,8 @@ abbrev pub AddsAtMost : {A : Type 0} → Result A TextFault → List ℕ → Lis
 AddsAtMost (Ok done) old new text = (new ≡ old ++ text) × (length new ≤ limit)
 AddsAtMost (Err fault) old new text = Refuses fault (old ++ text)
 
--- The same for the section of an authority, by the least plan of its runs.
+-- The section of an authority was appended by the least plan of its runs, and the whole is within
+-- the limit, or it would exceed the limit.
 abbrev pub AddsAuthority : {A : Type 0} → Result A TextFault → List ℕ → List ℕ → Section → Type 0
 AddsAuthority (Ok done) old new listed =
     (plan : List Group) × (IsLeastPlan listed.spans plan
@@ -38,7 +39,8 @@ AddsAuthority (Err fault) old new listed =
     (plan : List Group) → IsLeastPlan listed.spans plan
     → Refuses fault (old ++ authority_text plan listed)
 
--- The same for the sections of several authorities.
+-- The sections of several authorities were appended by least plans, and the whole is within the
+-- limit, or it would exceed the limit.
 abbrev pub AddsAuthorities : {A : Type 0}
     → Result A TextFault → List ℕ → List ℕ → List Section → Type 0
 AddsAuthorities (Ok done) old new listed =

@@ -1,4 +1,4 @@
--- What one list names and another does not.
+-- The names of one list that another lacks.
 use Rattle.std.specs.Prelude.{◌↔◌, List}
 use Rattle.krl_types.specs.Entry.{Entry}
 use Rattle.krl_types.specs.Naming.{Name, SomeNames}

@@ -13,7 +13,7 @@ use krl_entries::{Listed, Revocations};
 use serial_set::Spans;
 use std::alloc::{AllocError, Global};
 
-/// What the new revocations name and the old ones do not. Fails only if an allocation fails.
+/// The new revocations without the names of the old ones. Fails only if an allocation fails.
 pub fn difference<'a, S: Spans>(
     alloc: Global,
     old: &'a Revocations<S>,

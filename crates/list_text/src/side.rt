@@ -6,9 +6,9 @@ ghost use Rattle.list_text.specs.Changes.{side_word};
 /// The side of a comparison of two lists that a fact is about.
 #[derive(Clone, Copy)]
 pub enum Side {
-    /// What the new list names and the old one does not.
+    /// The new list names it, and the old one does not.
     Added,
-    /// What the old list names and the new one does not.
+    /// The old list names it, and the new one does not.
     Removed,
 }
 

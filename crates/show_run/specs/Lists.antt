@@ -18,7 +18,7 @@ pub record IsGivenBy (name bytes : List ℕ) (given : Given) : Type 0 where
   pub names : Names bytes given.header entries
   pub means : Means given.revocations entries
 
--- The same, where these are bytes that were stated for the name.
+-- A list was read from bytes that were stated for the name.
 pub record IsGiven (Knows : List ℕ → Result (List ℕ) Cause → Type 0) (name : List ℕ)
     (given : Given) : Type 0 where
   pub bytes : List ℕ

@@ -1,4 +1,4 @@
--- What a line of the text of a list says (krl(1), THE TEXT OF A LIST).
+-- The meaning of a line of the text of a list (krl(1), THE TEXT OF A LIST).
 use Rattle.std.specs.Prelude.{ℕ, List, Option, Some, None, Result, Ok, Err, if◌then◌else◌}
 use Rattle.ssh_wire.specs.Reading.{◌>>=◌}
 use Rattle.run_faults.specs.declared.spec_cause.SpecCause.{SpecCause}
@@ -69,6 +69,6 @@ abbrev pub order_says : Option (List ℕ) → List ℕ → Option Order → Resu
 order_says current line None = spec_says (line_entry current line)
 order_says current line (Some order) = word_says current line order.word order.given
 
--- What a line says. The current authority is None if no line before it has given one.
+-- The meaning of a line. The current authority is None if no line before it has given one.
 unfoldable pub line_says : Option (List ℕ) → List ℕ → Result Saying TextCause
 line_says current line = order_says current line (order_in (bare_line line))

@@ -69,7 +69,7 @@ impl Word {
 pub struct Order<'a> {
     /// The word.
     pub word: Word,
-    /// What is after the colon and blanks.
+    /// The text after the colon and blanks.
     pub given: &'a [u8],
 }
 

@@ -1,4 +1,4 @@
--- What a line that is a name, a colon, a blank and a value says.
+-- Lines that are a name, a colon, a blank and a value.
 use Rattle.std.proofs.Common.{◌≡◌, ℕ, ◌+◌, ◌<◌, ◌==◌, not, List, [], ◌∷◌, ◌++◌, length, drop, Option, Some, None, option_map, refl, ap, ◌∙◌, arith}
 use Rattle.std.specs.List.{AllPass, position_or_len, prefix_len}
 use Rattle.key_text.specs.Blanks.{after_blanks, is_blank}

@@ -85,7 +85,7 @@ fn text_words(cause: TextCause) -> &'static [u8]
     }
 }
 
-// The same for a fault that lines of specification files can have too.
+// The words for a fault that lines of specification files can have too.
 fn spec_words(cause: SpecCause) -> &'static [u8]
     ensures { result.now ≡ spec_words cause }
 {

@@ -33,7 +33,7 @@ f:1: revoked: ssh-ed25519 SHA256:+DiY3wvvV6TuJJhbpZisF/zLDA0zPMSvHdkr4UvCOqU by 
 keep: f: 1 of 1 key is revoked, 0 lines are not read
 ";
 
-// The same as JSON.
+// The objects of the same check.
 const OBJECTS: &[u8] = b"{\"condition\":\"openssh\",\"passed\":false,\"list\":\"r.krl\",\
 \"why\":\"it has a signature\"}
 {\"condition\":\"empty\",\"passed\":true,\"list\":\"r.krl\"}
@@ -79,7 +79,7 @@ impl Host for Shelf {
     }
 }
 
-// What is printed.
+// The output that is wanted.
 #[derive(Clone, Copy, PartialEq, Eq)]
 enum Wanted {
     // Each condition that fails, in words.

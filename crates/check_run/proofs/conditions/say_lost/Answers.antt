@@ -1,4 +1,4 @@
--- What is lost is printed, and then how many entries it is; or the check is stopped.
+-- The lost entries are printed, and then their number; or the check is stopped.
 use Rattle.std.proofs.Common.{◌∙◌}
 use Rattle.std.proofs.lemmas.Result.{err_from_is_err_and}
 use Rattle.run_output.proofs.RunParts.{carries_more, carries_then}

@@ -1,4 +1,4 @@
--- What is in both is named by both.
+-- A name that is in both is named by both.
 use Rattle.list_diff.proofs.Differences.{same_lost}
 use Rattle.list_diff.proofs.laws.same_without_difference.Goals as goal
 

@@ -1,4 +1,4 @@
--- What was found.
+-- Each finding is its text.
 use Rattle.krl_checker.proofs.text.FindingPrinted.push_to.Goals as goal
 
 pub returns-in-Version : goal.returns-in-Version
