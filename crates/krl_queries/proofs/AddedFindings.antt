@@ -1,6 +1,6 @@
 -- Additions to the findings.
 use Rattle.krl_queries.proofs.Common.{[], ◌++◌, ◌+◌, ◌<◌, ◌↔◌, ◌∙◌, ◌∷◌, ◌≡◌, ◌≤◌, AllocError, ap}
-use Rattle.krl_queries.proofs.Common.{append-nil, append_assoc, arith, Asked, cases_lt, Entry, Err}
+use Rattle.krl_queries.proofs.Common.{append_assoc, arith, Asked, cases_lt, Entry, Err}
 use Rattle.krl_queries.proofs.Common.{get_or, held, HoldsOnlyTopics, HoldsSerial, inl, inr, InScope}
 use Rattle.krl_queries.proofs.Common.{IsStoredAtMost, length, List, MeansInScope, MeansMore}
 use Rattle.krl_queries.proofs.Common.{MeansMoreInScope, Name, Ok, OnErr, OnOk, RangeEntry, refl}
@@ -59,15 +59,6 @@ pub record PutsFirst (a : List ℕ) (old : Asked) (near : List Span) (count : �
   pub within : HoldsOnlyTopics old.topics old.found → HoldsOnlyTopics new.topics new.found
   pub held_is : held new.found ≤ held old.found + count
   pub stored_is : (n : ℕ) → IsStoredAtMost a old.found n → IsStoredAtMost a new.found n
-
-pub puts_none : (a : List ℕ) (old : Asked) (near : List Span) → PutsFirst a old near 0 old
-puts_none a old near = record {
-  means = λ entries m. subst (MeansInScope (Some old.topics) old.found) (sym (append-nil entries)) m;
-  topics_is = refl;
-  within = λ w. w;
-  held_is = omega arith;
-  stored_is = λ n s. s;
-}
 
 pub puts_more : (a : List ℕ) (old mid new : Asked) (near : List Span) (count : ℕ) (span : Span) → PutsFirst a old near count mid → take (count + 1) near ≡ take count near ++ span ∷ []
     → MeansMoreInScope (Some mid.topics) mid.found new.found (RangeEntry a span.lo span.hi ∷ []) → new.topics ≡ mid.topics → (HoldsOnlyTopics mid.topics mid.found → HoldsOnlyTopics new.topics new.found)
