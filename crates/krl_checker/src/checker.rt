@@ -69,8 +69,8 @@ impl<'q, 'w, W: Sink> Checker<'q, 'w, W> {
         }
     }
 
-    /// Checks a condition about the list or the file of this name, and prints its line if it fails or
-    /// each condition has one.
+    /// Checks a condition about the list or the file of this name, and prints its line if it fails
+    /// or each condition has one.
     pub fn check<'a>(&mut self, name: &'a str, condition: Condition<'_>) -> Result<(), RunFault<'a>>
         ensures carries { Carries (condition_items self.old.auditor.judge.shown.form name.now
             condition.entry) result self.old.auditor.run.printer self.new.auditor.run.printer }
@@ -115,9 +115,9 @@ impl<'q, 'w, W: Sink> Checker<'q, 'w, W> {
         content: Result<&[u8], Refusal>,
     ) -> Result<(), RunFault<'a>>
         ensures checks { (entries : List Entry) → Means self.old.auditor.judge.list.now entries
-            → ChecksFile self.old.auditor.judge.shown.form role (reasons_of entries) name.now (content_of content.entry) result
-            self.old.auditor.run.printer self.new.auditor.run.printer self.old.refused
-            self.new.refused }
+            → ChecksFile self.old.auditor.judge.shown.form role (reasons_of entries) name.now
+            (content_of content.entry) result self.old.auditor.run.printer
+            self.new.auditor.run.printer self.old.refused self.new.refused }
         ensures unread { self.new.unread ≡ (self.old.unread || is_err content.entry) }
         ensures list { self.new.auditor.judge.list ≡ self.old.auditor.judge.list }
         ensures form { self.new.auditor.judge.shown.form ≡ self.old.auditor.judge.shown.form }

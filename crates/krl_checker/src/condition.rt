@@ -13,7 +13,8 @@ const MOST_AHEAD: u64 = 300;
 /// A condition, with what was found about it. Moments are in seconds since 1970.
 #[derive(Clone, Copy)]
 pub enum Condition<'a> {
-    /// OpenSSH also reads the list, and reads the same names: the first difference, if there is one.
+    /// OpenSSH also reads the list, and reads the same names: the first difference, if there is
+    /// one.
     OpenSsh(Option<Difference>),
     /// It revokes somebody: true if it revokes nobody.
     Empty(bool),
@@ -21,8 +22,8 @@ pub enum Condition<'a> {
     Version(u64, u64),
     /// Two versions are compared, and this list, a plain one, has none.
     NoVersion,
-    /// It was made at most so many seconds ago, and at most 5 minutes after the present moment: when
-    /// it was made, the present moment, and the seconds.
+    /// It was made at most so many seconds ago, and at most 5 minutes after the present moment:
+    /// when it was made, the present moment, and the seconds.
     Age(u64, u64, u64),
     /// Its age is limited, and as a plain list it has no date.
     NoDate,

@@ -1,4 +1,4 @@
--- What one call adds, and how stores take it.
+-- An addition by one call, and how stores take it.
 use Rattle.std.specs.Prelude.{◌≡◌, ℕ, ◌+◌, List, [], ◌∷◌, length, ⊤}
 use Rattle.krl_types.specs.Entry.{Entry, KeyEntry, Sha1Entry, Sha256Entry}
 use Rattle.krl_entries.specs.Changes.{IsOneChange, bytes_in, entries_under}

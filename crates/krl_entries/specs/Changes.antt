@@ -56,7 +56,8 @@ pub record ChangesOne (Change : Section → Section → Type 0) (authority : Lis
   pub changed : Change from to
 
 -- a section that holds only the addition is inserted
-pub record Starts (addition : Certificates) (authority : List ℕ) (old new : List Section) : Type 0 where
+pub record Starts (addition : Certificates) (authority : List ℕ) (old new : List Section)
+    : Type 0 where
   pub section : Section
   pub takes : TakesAddition addition (empty_section authority) section
   pub put : Inserts (λ section. section.authority) old section new

@@ -50,8 +50,8 @@ IsTaken addition from (Some taken) left =
     × TakesAddition addition (empty_section from.authority) left
 
 -- the same for the section of an authority, among all sections
-pub record Opens (addition : Certificates) (authority : List ℕ) (old : List Section) (taken : Section)
-    (rest : List Section) : Type 0 where
+pub record Opens (addition : Certificates) (authority : List ℕ) (old : List Section)
+    (taken : Section) (rest : List Section) : Type 0 where
   pub front : List Section
   pub back : List Section
   pub from : Section

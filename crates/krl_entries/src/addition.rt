@@ -1,8 +1,8 @@
-//! What is added to revocations.
+//! Additions to revocations.
 
 use serial_set::Span;
 
-/// What one call adds: certificates under an authority, or a key.
+/// An addition by one call: certificates under an authority, or a key.
 #[derive(Clone, Copy)]
 pub enum Addition<'a> {
     /// Certificates under an authority, or under all authorities if it has no bytes.

@@ -76,8 +76,8 @@ pub fn shown_list_names_the_same()
     line_read_as_spelled();
 }
 
-/// A list that is made of the texts of lists names exactly what these lists name. Made of the text of
-/// one list, it has the wanted header and the same contents, so both have the same lines.
+/// A list that is made of the texts of lists names exactly what these lists name. Made of the text
+/// of one list, it has the wanted header and the same contents, so both have the same lines.
 pub fn shown_lists_are_made_again()
     ensures merged { (lists : List Shown) (wanted : WantedOf) (name bytes : List ℕ)
         (counts : CountsOf) → All CanBeShown lists

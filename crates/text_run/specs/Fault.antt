@@ -8,7 +8,8 @@ use Rattle.text_entries.specs.declared.text_cause.TextCause.TheVariants.{Spec}
 use Rattle.text_run.specs.declared.make_fault.MakeCause.{MakeCause}
 use Rattle.text_run.specs.declared.make_fault.MakeCause.TheVariants.{Run, Line}
 
--- the name of a text or of the list, the line of the text, why no list is made, and the misspelt word
+-- the name of a text or of the list, the line of the text, why no list is made, and the misspelt
+-- word
 -- of the line
 pub record MakeFault : Type 0 where
   pub name : List ℕ
