@@ -28,7 +28,7 @@ use Rattle.krl_checker.specs.declared.condition.Condition.{Condition}
 use Rattle.krl_checker.specs.declared.condition.Condition.TheVariants.{Keys}
 use Rattle.krl_checker.specs.declared.role.Role.{Role}
 
--- a line is printed if a condition fails
+-- a line is printed, or nothing
 abbrev pub said_where : Bool → List ℕ → List ℕ → List Item
 said_where true name text = said_of name text ∷ []
 said_where false name text = []
@@ -87,7 +87,7 @@ abbrev pub counts_of : (Subject → Reasons) → List ℕ → Result (List ℕ) 
 counts_of reasons name content =
     lines_counted name content (all_counted none_counted (file_kinds reasons name content))
 
--- The file may be too large to count its lines again.
+-- There may be no memory to count the lines of the file again.
 abbrev pub counts_items : Form → Role → List ℕ → Counts → List Item
 counts_items form role name counts =
     Passed name ∷ condition_items form name (Keys role counts)
