@@ -31,7 +31,7 @@ stored_header scope header = record header { comment = stored_comment scope head
 
 -- the stored parts of the header after a field
 abbrev pub stored_header_after : Scope → Place → Header → List ℕ → Header
-stored_header_after scope (places.Content fields.Comment size left after) header field =
+stored_header_after scope (places.Content fields.Comment size room_before room_after) header field =
     record header { comment = stored_comment scope field }
 stored_header_after scope place header field = header_after place header field
 
@@ -48,12 +48,12 @@ pub record StoresEntries (stored : FieldStore) (entries : List Entry) : Type 0 w
 
 -- At a byte of a bitmap, the bytes before it were fed. At other places, no run is open.
 abbrev pub InStep : Place → BitRuns → Type 0
-InStep (places.Byte offset size left after) bitmap =
-    (0 < left)
+InStep (places.Byte offset size room_before room_after) bitmap =
+    (0 < room_before)
     × (bitmap ≡ record {
       offset = offset;
       len = size;
-      bytes_left = left;
+      bytes_left = room_before;
       pending = bitmap.pending;
       fault = None;
     })

@@ -63,26 +63,29 @@ fn skip_out_of_scope<T: Store>(
     ensures { ReadsSome bytes.now result.0 result.1 place.old stored.old place.new stored.new }
 {
     match *place {
-        Place::Serial { left, after } => {
-            let count = serials_out_of_scope(stored, left, bytes);
+        Place::Serial {
+            room_before,
+            room_after,
+        } => {
+            let count = serials_out_of_scope(stored, room_before, bytes);
             if count == 0 {
                 return (0, Ok(()));
             }
-            *place = next_serial(left - count as u32, after);
+            *place = next_serial(room_before - count as u32, room_after);
             (count, Ok(()))
         }
         Place::Byte {
             offset,
             size,
-            left,
-            after,
+            room_before,
+            room_after,
         } => {
-            let count = bits_out_of_scope(stored, offset, size, left, bytes);
+            let count = bits_out_of_scope(stored, offset, size, room_before, bytes);
             if count == 0 {
                 return (0, Ok(()));
             }
             let done = stored.skip(count as u32);
-            *place = next_bits(offset, size, left - count as u32, after);
+            *place = next_bits(offset, size, room_before - count as u32, room_after);
             (count, done)
         }
         _ => (0, Ok(())),
@@ -206,19 +209,19 @@ fn read_next<T: Store>(
         place, stored, bytes, empty:
         SectionType { signed },
         SectionLength { section },
-        SubsectionType { left },
-        SubsectionLength { subsection, left },
-        Field { field: Field::Authority, left, after },
-        Content { field: Field::Authority, size, left, after },
-        Field { field: Field::CertificatesReserved, left, after },
-        Content { field: Field::CertificatesReserved, size, left, after },
-        ItemLength { kind, left, after },
-        Item { kind, size, left, after },
-        Serial { left, after },
-        RangeMin { after },
-        RangeMax { min, after },
-        Offset { left, after },
-        BitmapSize { offset, left, after };
+        SubsectionType { room_before },
+        SubsectionLength { subsection, room_before },
+        Field { field: Field::Authority, room_before, room_after },
+        Content { field: Field::Authority, size, room_before, room_after },
+        Field { field: Field::CertificatesReserved, room_before, room_after },
+        Content { field: Field::CertificatesReserved, size, room_before, room_after },
+        ItemLength { kind, room_before, room_after },
+        Item { kind, size, room_before, room_after },
+        Serial { room_before, room_after },
+        RangeMin { room_after },
+        RangeMax { min, room_after },
+        Offset { room_before, room_after },
+        BitmapSize { offset, room_before, room_after };
         Field, Content, Byte
     }
 }

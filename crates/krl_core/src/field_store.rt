@@ -131,11 +131,15 @@ impl<T: Store> FieldStore<T> {
             }
             Place::Serial { .. } => self.add_serial(u64_of(field)),
             Place::RangeMax { min, .. } => self.add_range(min, u64_of(field)),
-            Place::BitmapSize { offset, left, .. } => {
-                self.bitmap = BitRuns::new(offset, left - 4);
+            Place::BitmapSize {
+                offset,
+                room_before,
+                ..
+            } => {
+                self.bitmap = BitRuns::new(offset, room_before - 4);
                 Ok(())
             }
-            Place::Byte { left, .. } => self.add_bits(byte_of(field), left == 1),
+            Place::Byte { room_before, .. } => self.add_bits(byte_of(field), room_before == 1),
             Place::Item { kind, .. } => self.add_item(kind, field),
             Place::SectionLength { .. }
             | Place::SubsectionType { .. }

@@ -16,7 +16,7 @@ is_header _ = false
 -- A number of the header, or the length of one of its strings. Those before the first content of a
 -- string have 40 bytes together.
 abbrev pub is_fixed : Place → Bool
-is_fixed (places.Field field left after) = is_header (row_of field).table
+is_fixed (places.Field field room_before room_after) = is_header (row_of field).table
 is_fixed _ = false
 
 -- The text begins with these first fields, each of which passes its judgement, and may have more

@@ -22,15 +22,15 @@ judge good fault next = if good then Ok next else Err fault
 -- the next subsection, or the end of the section
 abbrev pub next_subsection : ℕ → Place
 next_subsection zero = places.SectionType false
-next_subsection (suc left) = places.SubsectionType (suc left)
+next_subsection (suc room_before) = places.SubsectionType (suc room_before)
 
-abbrev pub next_item : ItemKind → (left after : ℕ) → Place
-next_item kind zero after = next_subsection after
-next_item kind (suc left) after = places.ItemLength kind (suc left) after
+abbrev pub next_item : ItemKind → (room_before room_after : ℕ) → Place
+next_item kind zero room_after = next_subsection room_after
+next_item kind (suc room_before) room_after = places.ItemLength kind (suc room_before) room_after
 
-abbrev pub next_serial : (left after : ℕ) → Place
-next_serial zero after = next_subsection after
-next_serial (suc left) after = places.Serial (suc left) after
+abbrev pub next_serial : (room_before room_after : ℕ) → Place
+next_serial zero room_after = next_subsection room_after
+next_serial (suc room_before) room_after = places.Serial (suc room_before) room_after
 
 -- ---- the rows
 
@@ -40,9 +40,9 @@ next_serial (suc left) after = places.Serial (suc left) after
 pub record SectionRow : Type 0 where
   pub type_byte : ℕ
   pub may_have : ℕ → Bool
-  pub first : (size after : ℕ) → Place
+  pub first : (size room_after : ℕ) → Place
 
-abbrev row : ℕ → (ℕ → Bool) → ((size after : ℕ) → Place) → SectionRow
+abbrev row : ℕ → (ℕ → Bool) → ((size room_after : ℕ) → Place) → SectionRow
 row type_byte may_have first =
     record { type_byte = type_byte; may_have = may_have; first = first }
 
@@ -52,13 +52,15 @@ any_length size = true
 -- the sections that have a length
 abbrev pub section_row : Section → SectionRow
 section_row section_kinds.Certificates =
-    row 1 any_length (λ size after. places.Field fields.Authority size after)
-section_row section_kinds.Keys = row 2 any_length (λ size after. next_item kinds.Key size after)
-section_row section_kinds.Sha1s = row 3 any_length (λ size after. next_item kinds.Sha1 size after)
+    row 1 any_length (λ size room_after. places.Field fields.Authority size room_after)
+section_row section_kinds.Keys =
+    row 2 any_length (λ size room_after. next_item kinds.Key size room_after)
+section_row section_kinds.Sha1s =
+    row 3 any_length (λ size room_after. next_item kinds.Sha1 size room_after)
 section_row section_kinds.Sha256s =
-    row 5 any_length (λ size after. next_item kinds.Sha256 size after)
+    row 5 any_length (λ size room_after. next_item kinds.Sha256 size room_after)
 section_row section_kinds.Extension =
-    row 255 any_length (λ size after. places.Field fields.ExtensionName size after)
+    row 255 any_length (λ size room_after. places.Field fields.ExtensionName size room_after)
 
 -- a signature has no length
 abbrev pub signature_type : ℕ
@@ -67,19 +69,19 @@ signature_type = 4
 -- the subsections of a section of certificates
 abbrev pub subsection_row : Subsection → SectionRow
 subsection_row subsection_kinds.Serials =
-    row 0x20 (λ size. size % 8 == 0) (λ size after. next_serial size after)
+    row 0x20 (λ size. size % 8 == 0) (λ size room_after. next_serial size room_after)
 subsection_row subsection_kinds.Range =
-    row 0x21 (λ size. size == 16) (λ size after. places.RangeMin after)
+    row 0x21 (λ size. size == 16) (λ size room_after. places.RangeMin room_after)
 subsection_row subsection_kinds.Bitmap =
-    row 0x22 any_length (λ size after. places.Offset size after)
+    row 0x22 any_length (λ size room_after. places.Offset size room_after)
 subsection_row subsection_kinds.Ids =
-    row 0x23 any_length (λ size after. next_item kinds.Id size after)
+    row 0x23 any_length (λ size room_after. next_item kinds.Id size room_after)
 subsection_row subsection_kinds.Extension =
-    row 0x39 any_length (λ size after. places.Field fields.ExtensionName size after)
+    row 0x39 any_length (λ size room_after. places.Field fields.ExtensionName size room_after)
 
 -- the first place in a content of this length, or why the length is refused
-abbrev pub content_of : SectionRow → (size after : ℕ) → Result Place KrlFault
-content_of row size after = judge (row.may_have size) faults.Length (row.first size after)
+abbrev pub content_of : SectionRow → (size room_after : ℕ) → Result Place KrlFault
+content_of row size room_after = judge (row.may_have size) faults.Length (row.first size room_after)
 
 -- ---- the part of a type byte
 
@@ -116,8 +118,9 @@ section_of_type signed type_byte =
     else if signed then Err faults.AfterSignature
     else length_of faults.UnknownSection places.SectionLength (section_of type_byte)
 
--- The place after the type byte of a subsection, in a section that has `left` bytes after it.
-abbrev pub subsection_of_type : (left type_byte : ℕ) → Result Place KrlFault
-subsection_of_type left type_byte =
-    length_of faults.UnknownCertSection (λ part. places.SubsectionLength part left)
+-- The place after the type byte of a subsection, in a section that has `room_before` bytes after
+-- it.
+abbrev pub subsection_of_type : (room_before type_byte : ℕ) → Result Place KrlFault
+subsection_of_type room_before type_byte =
+    length_of faults.UnknownCertSection (λ part. places.SubsectionLength part room_before)
     (subsection_of type_byte)

@@ -22,8 +22,8 @@ pub(crate) fn first_field(field: Field) -> Place
 {
     Place::Field {
         field,
-        left: 0,
-        after: 0,
+        room_before: 0,
+        room_after: 0,
     }
 }
 
@@ -35,11 +35,15 @@ pub(crate) fn judge(good: bool, fault: KrlFault, next: Place) -> Result<Place, K
 }
 
 // The place after a length, unless it counts more bytes than are left after it.
-pub(crate) fn within(left: u32, size: u32, next: Result<Place, KrlFault>) -> Result<Place, KrlFault>
-    requires { 4 ≤ left }
-    ensures { result ≡ within_of left (λ _. next) size }
+pub(crate) fn within(
+    room_before: u32,
+    size: u32,
+    next: Result<Place, KrlFault>,
+) -> Result<Place, KrlFault>
+    requires { 4 ≤ room_before }
+    ensures { result ≡ within_of room_before (λ _. next) size }
 {
-    if size > left - 4 {
+    if size > room_before - 4 {
         Err(KrlFault::Length)
     } else {
         next
@@ -47,57 +51,64 @@ pub(crate) fn within(left: u32, size: u32, next: Result<Place, KrlFault>) -> Res
 }
 
 // The number of bytes that are left after a length and the bytes that it counts.
-pub(crate) fn rest(left: u32, size: u32) -> u32
-    ensures { result ≡ left - 4 - size }
+pub(crate) fn rest(room_before: u32, size: u32) -> u32
+    ensures { result ≡ room_before - 4 - size }
 {
-    left.saturating_sub(4).saturating_sub(size)
+    room_before.saturating_sub(4).saturating_sub(size)
 }
 
 // The place of the next subsection, or of the next section if no bytes are left.
-pub(crate) fn next_subsection(left: u32) -> Place
-    ensures { result ≡ subsection_after left }
+pub(crate) fn next_subsection(room_before: u32) -> Place
+    ensures { result ≡ subsection_after room_before }
 {
-    if left == 0 {
+    if room_before == 0 {
         Place::SectionType { signed: false }
     } else {
-        Place::SubsectionType { left }
+        Place::SubsectionType { room_before }
     }
 }
 
 // The place of the next item of a list, or the place after the list if no bytes are left.
-pub(crate) fn next_item(kind: ItemKind, left: u32, after: u32) -> Place
-    ensures { result ≡ item_after kind left after }
+pub(crate) fn next_item(kind: ItemKind, room_before: u32, room_after: u32) -> Place
+    ensures { result ≡ item_after kind room_before room_after }
 {
-    if left == 0 {
-        next_subsection(after)
+    if room_before == 0 {
+        next_subsection(room_after)
     } else {
-        Place::ItemLength { kind, left, after }
+        Place::ItemLength {
+            kind,
+            room_before,
+            room_after,
+        }
     }
 }
 
 /// The place of the next serial number, or the place after the subsection if no bytes are left.
-pub fn next_serial(left: u32, after: u32) -> Place
-    ensures { result ≡ serial_after left after }
+pub fn next_serial(room_before: u32, room_after: u32) -> Place
+    ensures { result ≡ serial_after room_before room_after }
 {
-    if left == 0 {
-        next_subsection(after)
+    if room_before == 0 {
+        next_subsection(room_after)
     } else {
-        Place::Serial { left, after }
+        Place::Serial {
+            room_before,
+            room_after,
+        }
     }
 }
 
 /// The place of the next byte of a bitmap, or the place after the subsection if none is left.
-pub fn next_bits(offset: u64, size: u32, left: u32, after: u32) -> Place
-    ensures { result ≡ bits_after offset size left after }
+pub fn next_bits(offset: u64, size: u32, room_before: u32, room_after: u32) -> Place
+    ensures { result ≡ bits_after offset size room_before room_after }
 {
-    if left == 0 {
-        next_subsection(after)
+    if room_before == 0 {
+        next_subsection(room_after)
     } else {
         Place::Byte {
             offset,
             size,
-            left,
-            after,
+            room_before,
+            room_after,
         }
     }
 }
@@ -119,11 +130,14 @@ pub(crate) fn section_of_type(signed: bool, type_byte: u8) -> Result<Place, KrlF
 }
 
 // The place after the type byte of a subsection.
-pub(crate) fn subsection_of_type(left: u32, type_byte: u8) -> Result<Place, KrlFault>
-    ensures { result ≡ subsection_of left type_byte }
+pub(crate) fn subsection_of_type(room_before: u32, type_byte: u8) -> Result<Place, KrlFault>
+    ensures { result ≡ subsection_of room_before type_byte }
 {
     match Subsection::of_type(type_byte) {
-        Some(subsection) => Ok(Place::SubsectionLength { subsection, left }),
+        Some(subsection) => Ok(Place::SubsectionLength {
+            subsection,
+            room_before,
+        }),
         None => Err(KrlFault::UnknownCertSection),
     }
 }
@@ -131,56 +145,57 @@ pub(crate) fn subsection_of_type(left: u32, type_byte: u8) -> Result<Place, KrlF
 // The place after the length of an item.
 pub(crate) fn after_item_length(
     kind: ItemKind,
-    left: u32,
-    after: u32,
+    room_before: u32,
+    room_after: u32,
     size: u32,
 ) -> Result<Place, KrlFault>
-    requires { 4 ≤ left }
-    ensures { result ≡ within_of left (λ size. judged_by (size == item_size kind size)
-        faults.HashLength (places.Item kind size (left - 4 - size) after)) size }
+    requires { 4 ≤ room_before }
+    ensures { result ≡ within_of room_before (λ size. judged_by (size == item_size kind size)
+        faults.HashLength (places.Item kind size (room_before - 4 - size) room_after)) size }
 {
     let next = Place::Item {
         kind,
         size,
-        left: rest(left, size),
-        after,
+        room_before: rest(room_before, size),
+        room_after,
     };
     within(
-        left,
+        room_before,
         size,
         judge(size == kind.size(size), KrlFault::HashLength, next),
     )
 }
 
-// Judges a byte of a bitmap. The bitmap has `left` of its `size` bytes left, with this one.
+// Judges a byte of a bitmap. The bitmap has `room_before` of its `size` bytes left, with this one.
 #[inline(always)]
 pub(crate) fn bits_judged(
     offset: u64,
     size: u32,
-    left: u32,
-    after: u32,
+    room_before: u32,
+    room_after: u32,
     byte: u8,
 ) -> Result<Place, KrlFault>
-    ensures { result ≡ bits_judged_of offset size left after byte }
+    ensures { result ≡ bits_judged_of offset size room_before room_after byte }
 {
-    if left == size && byte >= 128 {
+    if room_before == size && byte >= 128 {
         return Err(KrlFault::BitmapNegative);
     }
-    if passes_end(offset, left, byte) {
+    if passes_end(offset, room_before, byte) {
         return Err(KrlFault::BitmapWraps);
     }
-    Ok(next_bits(offset, size, left.saturating_sub(1), after))
+    Ok(next_bits(offset, size, room_before.saturating_sub(1), room_after))
 }
 
 // Whether a set bit of the byte is the bit of a number past 2^64-1. The byte is the first of the
-// last `left` bytes of a bitmap.
+// last `room_before` bytes of a bitmap.
 #[inline(always)]
-pub(crate) fn passes_end(offset: u64, left: u32, byte: u8) -> bool
-    ensures { result ≡ passes_end_of (base_of offset left) byte }
+pub(crate) fn passes_end(offset: u64, room_before: u32, byte: u8) -> bool
+    ensures { result ≡ passes_end_of (base_of offset room_before) byte }
 {
     if byte == 0 {
         return false;
     }
-    let highest = 8 * u64::from(left.saturating_sub(1)) + u64::from(7 - byte.leading_zeros());
+    let highest = 8 * u64::from(room_before.saturating_sub(1))
+        + u64::from(7 - byte.leading_zeros());
     highest > u64::MAX - offset
 }

@@ -20,23 +20,23 @@ use ssh_wire::{byte_of, u32_of, u64_of};
 
 /// The place of a walk in a list: the field that is expected next. A byte of a bitmap is a field.
 ///
-/// `left` is the number of bytes that are left of the part around the field. It counts the field,
-/// unless the place has the field's `size`. `after` is the number of bytes of the section after
-/// that part. Both are 0 in the header and in a signature, which are not inside a part.
+/// `room_before` is the number of bytes before the end of the part around the field. It counts the
+/// field, unless the place has the field's `size`. `room_after` is the number of bytes of the
+/// section after that end. Both are 0 in the header and in a signature, which are in no part.
 #[derive(Clone, Copy)]
 pub enum Place {
     /// A number of a table, or the length of a string.
     Field {
         field: Field,
-        left: u32,
-        after: u32,
+        room_before: u32,
+        room_after: u32,
     },
     /// The content of a string of a table.
     Content {
         field: Field,
         size: u32,
-        left: u32,
-        after: u32,
+        room_before: u32,
+        room_after: u32,
     },
     /// The next section, or the end of the list. `signed` is true after a signature.
     SectionType {
@@ -48,51 +48,52 @@ pub enum Place {
     },
     /// The next subsection.
     SubsectionType {
-        left: u32,
+        room_before: u32,
     },
     /// The length of a subsection.
     SubsectionLength {
         subsection: Subsection,
-        left: u32,
+        room_before: u32,
     },
     ItemLength {
         kind: ItemKind,
-        left: u32,
-        after: u32,
+        room_before: u32,
+        room_after: u32,
     },
     Item {
         kind: ItemKind,
         size: u32,
-        left: u32,
-        after: u32,
+        room_before: u32,
+        room_after: u32,
     },
     Serial {
-        left: u32,
-        after: u32,
+        room_before: u32,
+        room_after: u32,
     },
     RangeMin {
-        after: u32,
+        room_after: u32,
     },
     RangeMax {
         min: u64,
-        after: u32,
+        room_after: u32,
     },
     /// The first serial number of a bitmap.
     Offset {
-        left: u32,
-        after: u32,
+        room_before: u32,
+        room_after: u32,
     },
     BitmapSize {
         offset: u64,
-        left: u32,
-        after: u32,
+        room_before: u32,
+        room_after: u32,
     },
-    /// One byte of a bitmap, with `left` of its `size` bytes left. The highest byte comes first.
+    /// One byte of a bitmap, with `room_before` of its `size` bytes left. The highest byte comes
+    /// first.
     Byte {
         offset: u64,
         size: u32,
-        left: u32,
-        after: u32,
+        room_before: u32,
+        room_after: u32,
     },
 }
 
@@ -104,16 +105,23 @@ impl Place {
         ensures room { result.1 ≡ (expected self).room }
     {
         match self {
-            Place::Field { field, left, .. } => field.size_and_room(left),
+            Place::Field {
+                field,
+                room_before,
+                ..
+            } => field.size_and_room(room_before),
             Place::Content { size, .. } => (size, None),
             Place::SectionType { .. } | Place::Byte { .. } => (1, None),
             Place::SectionLength { .. } => (4, None),
-            Place::SubsectionType { left } => (1, Some(left)),
-            Place::SubsectionLength { left, .. }
-            | Place::ItemLength { left, .. }
-            | Place::BitmapSize { left, .. } => (4, Some(left)),
+            Place::SubsectionType { room_before } => (1, Some(room_before)),
+            Place::SubsectionLength { room_before, .. }
+            | Place::ItemLength { room_before, .. }
+            | Place::BitmapSize { room_before, .. } => (4, Some(room_before)),
             Place::Item { kind, size, .. } => (kind.size(size), None),
-            Place::Serial { left, .. } | Place::Offset { left, .. } => (8, Some(left)),
+            Place::Serial { room_before, .. } | Place::Offset { room_before, .. } => (
+                8,
+                Some(room_before),
+            ),
             Place::RangeMin { .. } | Place::RangeMax { .. } => (8, None),
         }
     }
@@ -132,7 +140,7 @@ impl Place {
         ensures { IsTrue result ↔ HasRoom (expected self) }
     {
         match self.size_and_room() {
-            (size, Some(left)) => left >= size,
+            (size, Some(room_before)) => room_before >= size,
             (_, None) => true,
         }
     }
@@ -175,66 +183,81 @@ impl Place {
         match self {
             Place::Field {
                 field: expected,
-                left,
-                after,
-            } => expected.judge_part(left, after, field),
+                room_before,
+                room_after,
+            } => expected.judge_part(room_before, room_after, field),
             Place::Content {
                 field: expected,
-                left,
-                after,
+                room_before,
+                room_after,
                 ..
-            } => Ok(expected.place_after(left, after)),
+            } => Ok(expected.place_after(room_before, room_after)),
             Place::SectionType { signed } => section_of_type(signed, byte_of(field)),
             Place::SectionLength { section } => section.first_place(u32_of(field)),
-            Place::SubsectionType { left } => subsection_of_type(left - 1, byte_of(field)),
-            Place::SubsectionLength { subsection, left } => {
-                let size = u32_of(field);
-                within(left, size, subsection.first_place(size, rest(left, size)))
-            }
-            Place::ItemLength { kind, left, after } => after_item_length(
-                kind,
-                left,
-                after,
-                u32_of(field),
+            Place::SubsectionType { room_before } => subsection_of_type(
+                room_before - 1,
+                byte_of(field),
             ),
+            Place::SubsectionLength {
+                subsection,
+                room_before,
+            } => {
+                let size = u32_of(field);
+                within(
+                    room_before,
+                    size,
+                    subsection.first_place(size, rest(room_before, size)),
+                )
+            }
+            Place::ItemLength {
+                kind,
+                room_before,
+                room_after,
+            } => after_item_length(kind, room_before, room_after, u32_of(field)),
             Place::Item {
                 kind,
-                left,
-                after,
+                room_before,
+                room_after,
                 ..
-            } => Ok(next_item(kind, left, after)),
-            Place::Serial { left, after } => Ok(next_serial(left - 8, after)),
-            Place::RangeMin { after } => Ok(Place::RangeMax {
+            } => Ok(next_item(kind, room_before, room_after)),
+            Place::Serial {
+                room_before,
+                room_after,
+            } => Ok(next_serial(room_before - 8, room_after)),
+            Place::RangeMin { room_after } => Ok(Place::RangeMax {
                 min: u64_of(field),
-                after,
+                room_after,
             }),
-            Place::RangeMax { min, after } => {
+            Place::RangeMax { min, room_after } => {
                 judge(
                     min <= u64_of(field),
                     KrlFault::RangeReversed,
-                    next_subsection(after),
+                    next_subsection(room_after),
                 )
             }
-            Place::Offset { left, after } => Ok(Place::BitmapSize {
+            Place::Offset {
+                room_before,
+                room_after,
+            } => Ok(Place::BitmapSize {
                 offset: u64_of(field),
-                left: left - 8,
-                after,
+                room_before: room_before - 8,
+                room_after,
             }),
             Place::BitmapSize {
                 offset,
-                left,
-                after,
+                room_before,
+                room_after,
             } => {
-                let size = left - 4;
-                let next = next_bits(offset, size, size, after);
+                let size = room_before - 4;
+                let next = next_bits(offset, size, size, room_after);
                 judge(u32_of(field) == size, KrlFault::Length, next)
             }
             Place::Byte {
                 offset,
                 size,
-                left,
-                after,
-            } => bits_judged(offset, size, left, after, byte_of(field)),
+                room_before,
+                room_after,
+            } => bits_judged(offset, size, room_before, room_after, byte_of(field)),
         }
     }
 

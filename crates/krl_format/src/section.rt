@@ -87,16 +87,16 @@ impl Section {
         match self {
             Section::Certificates => Ok(Place::Field {
                 field: Field::Authority,
-                left: size,
-                after: 0,
+                room_before: size,
+                room_after: 0,
             }),
             Section::Keys => Ok(next_item(ItemKind::Key, size, 0)),
             Section::Sha1s => Ok(next_item(ItemKind::Sha1, size, 0)),
             Section::Sha256s => Ok(next_item(ItemKind::Sha256, size, 0)),
             Section::Extension => Ok(Place::Field {
                 field: Field::ExtensionName,
-                left: size,
-                after: 0,
+                room_before: size,
+                room_after: 0,
             }),
         }
     }
@@ -119,20 +119,31 @@ impl Section {
 
 impl Subsection {
     // The first place in a content of this length, or why the length is refused. The section has
-    // `after` bytes after the content.
+    // `room_after` bytes after the content.
     #[inline(always)]
-    pub(crate) fn first_place(self, size: u32, after: u32) -> Result<Place, KrlFault>
-        ensures { result ≡ content_of (subsection_row self) size after }
+    pub(crate) fn first_place(self, size: u32, room_after: u32) -> Result<Place, KrlFault>
+        ensures { result ≡ content_of (subsection_row self) size room_after }
     {
         match self {
-            Subsection::Serials => judge(size % 8 == 0, KrlFault::Length, next_serial(size, after)),
-            Subsection::Range => judge(size == 16, KrlFault::Length, Place::RangeMin { after }),
-            Subsection::Bitmap => Ok(Place::Offset { left: size, after }),
-            Subsection::Ids => Ok(next_item(ItemKind::Id, size, after)),
+            Subsection::Serials => judge(
+                size % 8 == 0,
+                KrlFault::Length,
+                next_serial(size, room_after),
+            ),
+            Subsection::Range => judge(
+                size == 16,
+                KrlFault::Length,
+                Place::RangeMin { room_after },
+            ),
+            Subsection::Bitmap => Ok(Place::Offset {
+                room_before: size,
+                room_after,
+            }),
+            Subsection::Ids => Ok(next_item(ItemKind::Id, size, room_after)),
             Subsection::Extension => Ok(Place::Field {
                 field: Field::ExtensionName,
-                left: size,
-                after,
+                room_before: size,
+                room_after,
             }),
         }
     }

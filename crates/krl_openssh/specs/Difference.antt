@@ -121,23 +121,23 @@ bits_difference offset size left byte =
 
 -- a whole field at a place
 abbrev pub difference_at : Place → List ℕ → Option Difference
-difference_at (places.Field row left after) field = table_difference (row_of row).table
-difference_at (places.Content row size left after) field = text_difference row field
+difference_at (places.Field row room_before room_after) field = table_difference (row_of row).table
+difference_at (places.Content row size room_before room_after) field = text_difference row field
 difference_at (places.SectionType signed) field = None
 difference_at (places.SectionLength section) field = section_difference section
-difference_at (places.SubsectionType left) field = None
-difference_at (places.SubsectionLength part left) field = subsection_difference part
-difference_at (places.ItemLength kind left after) field = None
-difference_at (places.Item kind size left after) field = item_difference kind field
-difference_at (places.Serial left after) field =
+difference_at (places.SubsectionType room_before) field = None
+difference_at (places.SubsectionLength part room_before) field = subsection_difference part
+difference_at (places.ItemLength kind room_before room_after) field = None
+difference_at (places.Item kind size room_before room_after) field = item_difference kind field
+difference_at (places.Serial room_before room_after) field =
     found_if (number_of field == 0) differences.SerialZero
-difference_at (places.RangeMin after) field =
+difference_at (places.RangeMin room_after) field =
     found_if (number_of field == 0) differences.SerialZero
-difference_at (places.RangeMax min after) field = None
-difference_at (places.Offset left after) field = None
-difference_at (places.BitmapSize offset left after) field = None
-difference_at (places.Byte offset size left after) field =
-    bits_difference offset size left (number_of field)
+difference_at (places.RangeMax min room_after) field = None
+difference_at (places.Offset room_before room_after) field = None
+difference_at (places.BitmapSize offset room_before room_after) field = None
+difference_at (places.Byte offset size room_before room_after) field =
+    bits_difference offset size room_before (number_of field)
 
 -- ---- all fields
 

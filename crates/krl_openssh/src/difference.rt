@@ -75,9 +75,9 @@ pub(crate) fn difference_at(place: Place, field: &[u8]) -> Option<Difference>
         Place::Byte {
             offset,
             size,
-            left,
+            room_before,
             ..
-        } => bits_difference(offset, size, left, byte_of(field)),
+        } => bits_difference(offset, size, room_before, byte_of(field)),
         Place::SectionType { .. }
         | Place::SubsectionType { .. }
         | Place::ItemLength { .. }

@@ -103,47 +103,56 @@ impl Field {
 
     // Returns the size of the expected number or length, and the bytes that are left for it.
     #[inline(always)]
-    pub(super) fn size_and_room(self, left: u32) -> (u32, Option<u32>)
+    pub(super) fn size_and_room(self, room_before: u32) -> (u32, Option<u32>)
         ensures size { result.0 ≡ part_size (row_of self).row.part }
-        ensures room { result.1 ≡ room_of (row_of self).table left }
+        ensures room { result.1 ≡ room_of (row_of self).table room_before }
     {
         let (table, part, _) = self.row();
         match table {
-            Table::Certificates | Table::Extension => (part.size(), Some(left)),
+            Table::Certificates | Table::Extension => (part.size(), Some(room_before)),
             Table::Header | Table::Signature => (part.size(), None),
         }
     }
 
     // The place after the field.
     #[inline(always)]
-    pub(super) fn place_after(self, left: u32, after: u32) -> Place
-        ensures { result ≡ place_after self left after }
+    pub(super) fn place_after(self, room_before: u32, room_after: u32) -> Place
+        ensures { result ≡ place_after self room_before room_after }
     {
         let (table, _, next) = self.row();
         if let Some(field) = next {
-            return Place::Field { field, left, after };
+            return Place::Field {
+                field,
+                room_before,
+                room_after,
+            };
         }
         match table {
             Table::Header => Place::SectionType { signed: false },
             Table::Signature => Place::SectionType { signed: true },
-            Table::Certificates => next_subsection(left),
-            Table::Extension => next_subsection(after),
+            Table::Certificates => next_subsection(room_before),
+            Table::Extension => next_subsection(room_after),
         }
     }
 
     // Judges a number, or the length of a string.
     #[inline(always)]
-    pub(super) fn judge_part(self, left: u32, after: u32, field: &[u8]) -> Result<Place, KrlFault>
-        requires whole { length field.now ≡ (row_expected self left after).size }
-        requires room { HasRoom (row_expected self left after) }
-        ensures { result ≡ (row_expected self left after).judged field.now }
+    pub(super) fn judge_part(
+        self,
+        room_before: u32,
+        room_after: u32,
+        field: &[u8],
+    ) -> Result<Place, KrlFault>
+        requires whole { length field.now ≡ (row_expected self room_before room_after).size }
+        requires room { HasRoom (row_expected self room_before room_after) }
+        ensures { result ≡ (row_expected self room_before room_after).judged field.now }
     {
         match self.row().1 {
             FieldPart::Number(size) => match self.fault(field) {
-                None => Ok(self.place_after(left.saturating_sub(size), after)),
+                None => Ok(self.place_after(room_before.saturating_sub(size), room_after)),
                 Some(fault) => Err(fault),
             },
-            FieldPart::Text => self.judge_length(left, after, u32_of(field)),
+            FieldPart::Text => self.judge_length(room_before, room_after, u32_of(field)),
         }
     }
 
@@ -163,39 +172,39 @@ impl Field {
 
     // Judges the length of a string. The last string of an extension fills it.
     #[inline(always)]
-    fn judge_length(self, left: u32, after: u32, size: u32) -> Result<Place, KrlFault>
-        requires { IfSome (room_of (row_of self).table left) (λ room. 4 ≤ room) }
-        ensures { result
-            ≡ length_judged self (row_of self).table (row_of self).next left after size }
+    fn judge_length(self, room_before: u32, room_after: u32, size: u32) -> Result<Place, KrlFault>
+        requires { IfSome (room_of (row_of self).table room_before) (λ room. 4 ≤ room) }
+        ensures { result ≡ length_judged self (row_of self).table (row_of self).next
+            room_before room_after size }
     {
         let (table, _, next) = self.row();
-        let (field, inner) = (self, rest(left, size));
+        let (field, inner) = (self, rest(room_before, size));
         match (table, next) {
             (Table::Extension, None) => judge(
-                size == left - 4,
+                size == room_before - 4,
                 KrlFault::Length,
                 Place::Content {
                     field,
                     size,
-                    left: 0,
-                    after,
+                    room_before: 0,
+                    room_after,
                 },
             ),
             (Table::Certificates | Table::Extension, _) => within(
-                left,
+                room_before,
                 size,
                 Ok(Place::Content {
                     field,
                     size,
-                    left: inner,
-                    after,
+                    room_before: inner,
+                    room_after,
                 }),
             ),
             (Table::Header | Table::Signature, _) => Ok(Place::Content {
                 field,
                 size,
-                left,
-                after,
+                room_before,
+                room_after,
             }),
         }
     }

@@ -22,7 +22,7 @@ returns-in-Certificates-clause-judged c = λ section first rest spells parts.
 pub returns-in-Field-clause-judged : goal.returns-in-Field-clause-judged
 returns-in-Field-clause-judged c = λ section first rest spells parts.
     let next = next_is section first rest c.rest-bytes.result.now c.new.result c.in-Some.size c.in-Some.next spells (c.rest-bytes.ensures ∙ parts) c.in-Some.ensures.within c.in-Some.ensures.passes c.new.ensures in
-    judged_signature section first rest c.new.result c.in-Some-take_string.content.now c.take_string.new.left c.skips_string.new.left c.skips_string.result c.in-Some.next c.in-Field.field c.in-Field.left c.in-Field.after spells next c.in-Field.is c.in-Some-take_string.ensures.text c.skips_string.ensures.text
+    judged_signature section first rest c.new.result c.in-Some-take_string.content.now c.take_string.new.left c.skips_string.new.left c.skips_string.result c.in-Some.next c.in-Field.field c.in-Field.room_before c.in-Field.room_after spells next c.in-Field.is c.in-Some-take_string.ensures.text c.skips_string.ensures.text
 
 pub returns-in-Keys-clause-judged : goal.returns-in-Keys-clause-judged
 returns-in-Keys-clause-judged c = λ section first rest spells parts.

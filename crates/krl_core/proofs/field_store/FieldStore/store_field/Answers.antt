@@ -25,7 +25,7 @@ add_bits-requires g c =
     let judged = rw (b.is, ← c.byte_of.ensures) at c.requires.passes.judged in
     record {
       bytes_left = omega (arith, step.0, ap (λ p. p.bytes_left) step.1);
-      good = good_bits c.args.self.now.bitmap b.offset b.size b.left b.after c.byte_of.result c.args.next (omega arith) step.1 judged;
+      good = good_bits c.args.self.now.bitmap b.offset b.size b.room_before b.room_after c.byte_of.result c.args.next (omega arith) step.1 judged;
     }
 
 pub returns-in-Byte-clause-stores : goal.returns-in-Byte-clause-stores
@@ -34,7 +34,7 @@ returns-in-Byte-clause-stores g c =
     let step = subst (λ (p : Place). InStep p c.args.self.now.bitmap) b.is c.requires.in_step in
     let judged = rw (b.is, ← c.byte_of.ensures) at c.requires.passes.judged in
     rw b.is (on_ok_weaker c.add_bits.result
-    (stores_bits c.args.self.now c.add_bits.new.self b.offset b.size b.left b.after c.byte_of.result c.args.field.now c.args.next
+    (stores_bits c.args.self.now c.add_bits.new.self b.offset b.size b.room_before b.room_after c.byte_of.result c.args.field.now c.args.next
     step c.byte_of.ensures judged) c.add_bits.ensures.stores)
 
 pub returns-in-SectionLength-clause-stores : goal.returns-in-SectionLength-clause-stores
