@@ -42,6 +42,8 @@ makes 'two CAs' "ca: $a\nserial: 7\nca: all\nserial: 5\n" '2 CAs, 2 serial numbe
   "01$(string "${of_a}20000000080000000000000007")"
 makes 'a CA that is no key' 'ca-blob: eA==\nid: a' '1 CA, 1 key ID' \
   01000000130000000178 00000000230000000500000001 61
+makes 'keys behind options' "environment=\"A=b:c\" $g\ncommand=\"a: b\",no-pty $a c:d" '2 keys' \
+  "$(section "$A" "$G")"
 makes 'keys' "$g c\nkey: $a\nkey-blob: AQ==" '3 keys' "$(section "$A" "$G" 01)"
 makes 'a SHA-256' "hash: $f" '1 hashed key' \
   05000000240000 0020 "$(bytes "$G" | sha256sum | cut -c1-64)"
@@ -71,7 +73,8 @@ refuses 'a key ID before any CA' 2 'no ca: line stands before it' \
   'text 1 Spec, spec 4 NoAuthority' '\nid: a\n'
 refuses 'a key ID in digits before any CA' 1 'no ca: line stands before it' \
   'text 1 Spec, spec 4 NoAuthority' 'id-hex: 61\n'
-refuses 'a key ID with a #' 2 'a # with no blank before it would cut the key ID short' \
+refuses 'a key ID with a #' 2 \
+  'a # with no blank before it would cut the key ID short: use id-hex:' \
   'text 6 CutId' 'ca: all\nid: eve#1\n'
 refuses 'odd digits' 2 'no pairs of hexadecimal digits' 'text 5 Hex' 'ca: all\nid-hex: 656\n'
 refuses 'digits that are none' 2 'no pairs of hexadecimal digits' 'text 5 Hex' \
@@ -80,27 +83,40 @@ refuses 'a CA that is a certificate' 1 'a CA is given by its key, and not by a c
   'text 2 Certificate' "ca: $certificate\n"
 refuses 'a CA of no bytes' 1 'a CA has bytes' 'text 3 NoBytes' 'ca-blob: # x\n'
 refuses 'bytes without padding' 1 'no whole base64 with padding' 'text 4 Base64' 'key-blob: AQ\n'
-refuses 'a SHA-1 of 21 bytes' 1 'the hash is cut or misspelt' \
+refuses 'a SHA-1 of 21 bytes' 1 'the hash is cut, padded or misspelt' \
   'text 1 Spec, spec 7 Fingerprint, fingerprint 3 Length' \
   "hash: SHA1:$(bytes "$(repeat 21 ab)" | base64 | tr -d =)\n"
 refuses 'a CA that is no key' 1 'no key type stands there' \
   'text 1 Spec, spec 6 Key, line 1 NoKey' 'ca: everyone\n'
 meant() {
-  refuses "$1" 2 "\"$2\" is no word of a text: did you mean \"$3\"?" \
-    'text 1 Spec, spec 6 Key, line 1 NoKey' "ca: all\n$4\n"
+  refuses "$1" 2 "\"$2\" is no word of a text: did you mean \"$3\"?" "${5-text 7 UnknownWord}" \
+    "ca: all\n$4\n"
 }
 meant 'a word with a letter more' serials serial 'serials: 5'
-meant 'a word with a letter less, in upper case' SERIA serial ' SERIA : 5'
+meant 'a word with a letter less, in upper case, and a blank' SERIA serial ' SERIA : 5' \
+  'text 1 Spec, spec 6 Key, line 1 NoKey'
 meant 'a word with another letter' sha255 sha256 'sha255: x'
 meant 'a word with a byte that a terminal obeys' 'ca\x1b' ca 'ca\033: all'
-refuses 'a word that is two letters off' 2 'no key type stands there' \
-  'text 1 Spec, spec 6 Key, line 1 NoKey' 'ca: all\nserail: 5\n'
+unknown() {
+  refuses "$1" 2 "the word before the colon is none of ca, ca-blob, serial, id, id-hex, key, \
+key-blob, sha1, sha256 and hash" 'text 7 UnknownWord' "ca: all\n$2\n"
+}
+unknown 'a word that is two letters off' 'serail: 5'
+unknown 'no word before a colon' ': 5'
+
+# With a key behind it an unknown word would be options of the key, and the list would revoke a CA.
+meant 'a misspelt word before a key' cas ca "cas: $a"
+meant 'a misspelt word before options and a key' cas ca "cas:cert-authority $a"
+unknown 'a word behind a byte order mark' "\\357\\273\\277ca: $a"
+unknown 'no word before a colon and a key' ": $a"
+unknown 'a quoted word before a key' "\"ca\": $a"
+unknown 'another word before a key' "user: $a"
 refuses 'serial number 0' 2 'serial number 0 names no certificate' 'text 1 Spec, spec 2 Zero' \
   'ca: all\nserial: 0\n'
 refuses 'a range that ends early' 2 'a range of serial numbers ends below its first one' \
   'text 1 Spec, spec 3 Reversed' 'ca: all\nserial: 2-1\n'
-refuses 'a serial number that is none' 2 'no serial number below 2^64' 'text 1 Spec, spec 1 Number' \
-  'ca: all\nserial: 18446744073709551616\n'
+refuses 'a serial number that is none' 2 'a serial number is a number below 2^64' \
+  'text 1 Spec, spec 1 Number' 'ca: all\nserial: 18446744073709551616\n'
 
 # Texts without an entry, and texts that are not read. The list stays.
 printf '# nobody\nca: all\n' >none

@@ -77,7 +77,8 @@ pub record ChecksFiles (Knows : Fact → Type 0) (form : Form) (reasons : Subjec
   pub reads : List Read
   pub later : List Named
   pub are_read : AreRead Knows files reads later
-  pub checks : Checks (reads_items form reasons reads later) (reads_fail reasons reads) result old new
+  pub checks
+      : Checks (reads_items form reasons reads later) (reads_fail reasons reads) result old new
       before after
   pub unread : OnOk result (unread_after ≡ (unread_before || some_unread reads))
   pub all : OnOk result (later ≡ [])

@@ -141,8 +141,8 @@ pub data EndsCheckRun (Knows : Fact → Type 0) (task : Check) (before after : O
 -- ---- the parts of a run
 
 -- The conditions for the list itself were checked, or the check was stopped within them.
-pub record ChecksList (form : Form) (name bytes : List ℕ) (stated : Option Stated) (held : Revocations)
-    (task : Check) (limits : Limits) (result : Result (Unit {0}) RunFault)
+pub record ChecksList (form : Form) (name bytes : List ℕ) (stated : Option Stated)
+    (held : Revocations) (task : Check) (limits : Limits) (result : Result (Unit {0}) RunFault)
     (old new : Printer) (before after : Bool) : Type 0 where
   pub list : Judged
   pub is_difference : IsDifference bytes list.difference

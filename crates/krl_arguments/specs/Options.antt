@@ -58,8 +58,8 @@ with_all name rules = (with_rules (new_app name) rules).top
 abbrev pub subcommand_by : Subcommand → Shape
 subcommand_by subcommand = with_all subcommand.name.now (map rule_by subcommand.arguments.now)
 
--- The program without its subcommands. No use of an option overrides an earlier one: a second use of
--- an option is a conflict with the first, unless the option may have any number of values.
+-- The program without its subcommands. No use of an option overrides an earlier one: a second use
+-- of an option is a conflict with the first, unless the option may have any number of values.
 abbrev pub bare : App
 bare = record {
   top = record (new_shape (codes "krl")) {

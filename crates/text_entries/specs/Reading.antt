@@ -15,15 +15,15 @@ use Rattle.text_entries.specs.declared.text_fault.TextFault.{TextFault}
 
 -- ---- a line
 
--- What a line says was done: its authority is current, or its entry is held, which makes at most
--- one more interval.
+-- A line was obeyed: its authority is current, or its entry is held, which makes at most one more
+-- interval.
 abbrev pub IsDone : Saying → (before after : Option (List ℕ)) → (old new : Revocations) → Type 0
 IsDone Blank before after old new = (after ≡ before) × (new ≡ old)
 IsDone (Current authority) before after old new = (after ≡ Some authority) × (new ≡ old)
 IsDone (Names entry) before after old new =
     (after ≡ before) × MeansMore old new (entry ∷ []) × (held new ≤ held old + 1)
 
--- An allocation may fail before what the line says is done. A line that says nothing needs none.
+-- An allocation may fail before a line is obeyed. A line that says nothing needs none.
 abbrev pub LacksMemory : Result Saying TextCause → Type 0
 LacksMemory (Ok Blank) = ⊥
 LacksMemory says = MayLackMemory says
@@ -33,7 +33,7 @@ abbrev pub ReportsLine : TextCause → Result Saying TextCause → Type 0
 ReportsLine (causes.Spec specs.NoMemory) says = LacksMemory says
 ReportsLine cause says = says ≡ Err cause
 
--- What the line says was done; or its fault is reported, and nothing changed.
+-- The line was obeyed; or its fault is reported, and nothing changed.
 abbrev pub TakesLine : {A : Type 0} → Result Saying TextCause → Result A TextCause
     → (before after : Option (List ℕ)) → (old new : Revocations) → Type 0
 TakesLine says (Ok done) before after old new =

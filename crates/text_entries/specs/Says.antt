@@ -8,7 +8,7 @@ use Rattle.krl_spec.specs.Blanks.{bare_line}
 use Rattle.krl_spec.specs.Entries.{line_entry}
 use Rattle.text_entries.specs.Values.{authority_blob_in, authority_in, blob_in, bytes_in, is_cut}
 use Rattle.text_entries.specs.Values.{is_sha1, sha1_in}
-use Rattle.text_entries.specs.Word.{Order, order_in}
+use Rattle.text_entries.specs.Word.{Order, begins_with_word, order_in}
 use Rattle.text_entries.specs.declared.text_cause.TextCause.{TextCause}
 use Rattle.text_entries.specs.declared.text_cause.TextCause.TheVariants as causes
 use Rattle.text_entries.specs.declared.word.Word.{Word}
@@ -52,7 +52,7 @@ sha1_says given = do
   hash ← sha1_in given
   Ok (Names (Sha1Entry hash))
 
--- A key ID as it stands, and a SHA-256, are as in a specification file.
+-- The other lines are as in a specification file.
 abbrev pub word_says : Option (List ℕ) → List ℕ → Word → List ℕ → Result Saying TextCause
 word_says current line Authority given = current_says (authority_in given)
 word_says current line AuthorityBlob given = current_says (authority_blob_in given)
@@ -62,11 +62,16 @@ word_says current line IdHex given = id_hex_says current given
 word_says current line KeyBlob given = key_blob_says given
 word_says current line Hash given =
     if is_sha1 given then sha1_says given else spec_says (line_entry current line)
+word_says current line word given = spec_says (line_entry current line)
 
 -- ---- any line
 
+-- A line without a word is a key line. With an unknown one it would be too, since a key line may
+-- have options first.
 abbrev pub order_says : Option (List ℕ) → List ℕ → Option Order → Result Saying TextCause
-order_says current line None = spec_says (line_entry current line)
+order_says current line None =
+    if begins_with_word (bare_line line) then Err causes.UnknownWord
+    else spec_says (line_entry current line)
 order_says current line (Some order) = word_says current line order.word order.given
 
 -- The meaning of a line. The current authority is None if no line before it has given one.

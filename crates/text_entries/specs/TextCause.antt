@@ -6,6 +6,7 @@ use Rattle.krl_spec.specs.Adding.{MayHide as SpecMayHide}
 use Rattle.text_entries.specs.declared.text_cause.TextCause.{TextCause}
 use Rattle.text_entries.specs.declared.text_cause.TextCause.TheVariants.{Spec, Certificate, NoBytes}
 use Rattle.text_entries.specs.declared.text_cause.TextCause.TheVariants.{Base64, Hex, CutId}
+use Rattle.text_entries.specs.declared.text_cause.TextCause.TheVariants.{UnknownWord}
 
 abbrev pub text_cause_number : TextCause → ℕ
 text_cause_number (Spec cause) = 1
@@ -14,6 +15,7 @@ text_cause_number NoBytes = 3
 text_cause_number Base64 = 4
 text_cause_number Hex = 5
 text_cause_number CutId = 6
+text_cause_number UnknownWord = 7
 
 abbrev pub text_cause_text : TextCause → List ℕ
 text_cause_text (Spec cause) = codes "text 1 Spec, " ++ spec_cause_text cause
@@ -22,6 +24,7 @@ text_cause_text NoBytes = codes "text 3 NoBytes"
 text_cause_text Base64 = codes "text 4 Base64"
 text_cause_text Hex = codes "text 5 Hex"
 text_cause_text CutId = codes "text 6 CutId"
+text_cause_text UnknownWord = codes "text 7 UnknownWord"
 
 -- an allocation failed
 abbrev pub no_memory : TextCause
@@ -35,6 +38,7 @@ MayHide NoBytes = ⊤
 MayHide Base64 = ⊤
 MayHide Hex = ⊤
 MayHide CutId = ⊥
+MayHide UnknownWord = ⊥
 
 -- An allocation may fail before this is found.
 abbrev pub MayLackMemory : {A : Type 0} → Result A TextCause → Type 0

@@ -1,26 +1,32 @@
--- The words of the text of a list that specification files lack, or in which they say less (krl(1),
--- THE TEXT OF A LIST).
-use Rattle.std.specs.Prelude.{ℕ, Bool, ◌+◌, nat_lt, if◌then◌else◌, List, [], ◌∷◌, length, drop}
-use Rattle.std.specs.Prelude.{codes, Option, None, option_map}
-use Rattle.std.specs.List.{before_first, find, position_or_len}
+-- The words that a line of the text of a list can begin with (krl(1), THE TEXT OF A LIST).
+use Rattle.std.specs.Prelude.{ℕ, Bool, not, ◌+◌, ◌==◌, ◌||◌, ◌&&◌, nat_lt, if◌then◌else◌, List}
+use Rattle.std.specs.Prelude.{[], ◌∷◌, length, drop, codes, Option, None, option_map}
+use Rattle.std.specs.List.{before_first, find, list_any, position_or_len}
 use Rattle.std.specs.Str.{str_eq_ignore_ascii_case}
-use Rattle.key_text.specs.Blanks.{after_blanks}
-use Rattle.krl_spec.specs.Directive.{is_colon}
+use Rattle.key_text.specs.Blanks.{after_blanks, is_blank}
+use Rattle.krl_spec.specs.Directive.{is_colon, name_of as spec_name}
+use Rattle.krl_spec.specs.declared.directive.Directive.TheVariants as directives
 use Rattle.text_entries.specs.declared.word.Word.{Word}
-use Rattle.text_entries.specs.declared.word.Word.TheVariants.{Authority, AuthorityBlob, Id, IdHex}
-use Rattle.text_entries.specs.declared.word.Word.TheVariants.{KeyBlob, Hash}
+use Rattle.text_entries.specs.declared.word.Word.TheVariants.{Authority, AuthorityBlob, Serial, Id}
+use Rattle.text_entries.specs.declared.word.Word.TheVariants.{IdHex, Key, KeyBlob, Sha1, Sha256}
+use Rattle.text_entries.specs.declared.word.Word.TheVariants.{Hash}
 
--- the name of a word, in lower case
+-- The name of a word, in lower case. Those of specification files are words of texts too.
 abbrev pub name_of : Word → List ℕ
 name_of Authority = codes "ca"
 name_of AuthorityBlob = codes "ca-blob"
-name_of Id = codes "id"
+name_of Serial = spec_name directives.Serial
+name_of Id = spec_name directives.Id
 name_of IdHex = codes "id-hex"
+name_of Key = spec_name directives.Key
 name_of KeyBlob = codes "key-blob"
-name_of Hash = codes "hash"
+name_of Sha1 = spec_name directives.Sha1
+name_of Sha256 = spec_name directives.Sha256
+name_of Hash = spec_name directives.Hash
 
 abbrev pub words : List Word
-words = Authority ∷ AuthorityBlob ∷ Id ∷ IdHex ∷ KeyBlob ∷ Hash ∷ []
+words =
+    Authority ∷ AuthorityBlob ∷ Serial ∷ Id ∷ IdHex ∷ Key ∷ KeyBlob ∷ Sha1 ∷ Sha256 ∷ Hash ∷ []
 
 -- the name is that of the word, in upper or lower case
 abbrev pub is_named : Word → List ℕ → Bool
@@ -44,3 +50,16 @@ order_in line =
     then option_map (order (after_blanks (drop (position_or_len is_colon line + 1) line)))
     (word_named (before_first is_colon line))
     else None
+
+-- ---- words of any name
+
+-- a word ends before an equals sign or a blank
+abbrev pub is_word_end : ℕ → Bool
+is_word_end byte = byte == 61 || is_blank byte
+
+-- The line begins with a word and a colon. Options that sshd takes before a key have a colon only
+-- after an equals sign.
+unfoldable pub begins_with_word : List ℕ → Bool
+begins_with_word line =
+    nat_lt (position_or_len is_colon line) (length line)
+    && not (list_any is_word_end (before_first is_colon line))

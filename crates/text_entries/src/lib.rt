@@ -1,7 +1,6 @@
 //! The text of a revocation list: the entries that its lines name.
 #![tactic(auto)]
 
-mod any_word;
 mod authority;
 mod line;
 mod misspelt;

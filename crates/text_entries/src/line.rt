@@ -10,7 +10,7 @@ ghost use Rattle.text_entries.specs.Values.{is_sha1};
 use crate::authority::{read_authority, read_authority_blob, under};
 use crate::text_cause::TextCause;
 use crate::values::{is_cut, is_sha1, read_blob, read_bytes, read_sha1};
-use crate::word::{Order, Word, order_in};
+use crate::word::{Order, Word, begins_with_word, order_in};
 use krl_entries::Revocations;
 use krl_spec::{SpecCause, add_line, bare_line};
 use serial_set::Spans;
@@ -28,8 +28,10 @@ pub fn take_line<S: Spans>(
     ensures { TakesLine (line_says current.old line.now) result current.old current.new
         revocations.old revocations.new }
 {
-    match order_in(bare_line(line)) {
+    let bare = bare_line(line);
+    match order_in(bare) {
         Some(order) => take_order(alloc, revocations, current, line, order),
+        None if begins_with_word(bare) => Err(TextCause::UnknownWord),
         None => take_spec_line(alloc, revocations, current, line),
     }
 }
@@ -59,7 +61,9 @@ fn take_order<S: Spans>(
         Word::IdHex => take_id_hex(alloc, revocations, current, order.given),
         Word::KeyBlob => take_key_blob(alloc, revocations, order.given),
         Word::Hash if is_sha1(order.given) => take_sha1(alloc, revocations, order.given),
-        Word::Id | Word::Hash => take_spec_line(alloc, revocations, current, line),
+        Word::Serial | Word::Id | Word::Key | Word::Sha1 | Word::Sha256 | Word::Hash => {
+            take_spec_line(alloc, revocations, current, line)
+        }
     }
 }
 

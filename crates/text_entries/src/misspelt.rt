@@ -3,9 +3,9 @@
 ghost use Rattle.std.specs.Prelude.{◌≡◌, MatchOption, None, Some};
 ghost use Rattle.text_entries.specs.Misspelt.{misspelt_at, misspelt_in, numbered_line};
 
-use crate::any_word::AnyWord;
 use crate::text_cause::TextCause;
 use crate::text_fault::TextFault;
+use crate::word::Word;
 use key_text::{LineFault, before_ending, split_line};
 use keyed_lines::KeyCause;
 use krl_spec::{SpecCause, bare_line, position_of};
@@ -32,12 +32,13 @@ impl<'a> Model for Misspelt<'a> {
 }
 
 /// The misspelt word of the line of a text that has this fault, if a word of texts is one letter
-/// off. Letters in upper and lower case count the same. Only a line without a key has one.
+/// off. Letters in upper and lower case count the same. Only a line that begins with an unknown
+/// word or has no key has one.
 #[tactic(auto, unfolding(crate::specs::Misspelt::misspelt_at))]
 pub fn misspelt_at(text: &[u8], fault: TextFault) -> Option<Misspelt<'_>>
     ensures { result ≡ misspelt_at text.now fault.line fault.cause }
 {
-    if fault.cause != NO_KEY {
+    if fault.cause != TextCause::UnknownWord && fault.cause != NO_KEY {
         return None;
     }
     let line = numbered_line(text, fault.line)?;
@@ -74,9 +75,6 @@ fn misspelt_in(line: &[u8]) -> Option<Misspelt<'_>>
         return None;
     }
     let word = before_ending(&line[..colon]);
-    let known = AnyWord::meant(word)?;
-    Some(Misspelt {
-        word,
-        meant: known.name(),
-    })
+    let meant = Word::meant(word)?.name();
+    Some(Misspelt { word, meant })
 }

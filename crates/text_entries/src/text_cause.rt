@@ -24,10 +24,12 @@ pub enum TextCause {
     Hex,
     /// A `#` with no blank before it cuts a key ID short.
     CutId,
+    /// The word before a colon at its beginning is none of a text.
+    UnknownWord,
 }
 
 impl TextCause {
-    /// The fault's number, 1 to 6 in the order of the variants.
+    /// The fault's number, 1 to 7 in the order of the variants.
     pub fn number(self) -> u8
         ensures { result ≡ text_cause_number self }
     {
@@ -38,6 +40,7 @@ impl TextCause {
             TextCause::Base64 => 4,
             TextCause::Hex => 5,
             TextCause::CutId => 6,
+            TextCause::UnknownWord => 7,
         }
     }
 }
@@ -53,6 +56,7 @@ impl fmt::Display for TextCause {
             TextCause::Base64 => f.write_str("text 4 Base64"),
             TextCause::Hex => f.write_str("text 5 Hex"),
             TextCause::CutId => f.write_str("text 6 CutId"),
+            TextCause::UnknownWord => f.write_str("text 7 UnknownWord"),
         }
     }
 }

@@ -1,18 +1,25 @@
-//! The words of the text of a list that specification files lack, or in which they say less
-//! (krl(1), THE TEXT OF A LIST).
+//! The words that a line of the text of a list can begin with (krl(1), THE TEXT OF A LIST).
 
 ghost use Rattle.std.specs.Prelude.{◌≡◌, MatchOption, None, Some};
-ghost use Rattle.text_entries.specs.Word.{is_named, name_of, order, order_in, word_named};
+ghost use Rattle.std.specs.List.{list_any};
+ghost use Rattle.text_entries.specs.Misspelt.{is_meant, meant};
+ghost use Rattle.text_entries.specs.Word.{begins_with_word, is_named, is_word_end, name_of};
+ghost use Rattle.text_entries.specs.Word.{order, order_in, word_named};
 
-use key_text::after_blanks;
+use crate::one_off::is_one_off;
+use key_text::{after_blanks, is_blank};
 use krl_spec::position_of;
 
-const WORDS: [Word; 6] = [
+const WORDS: [Word; 10] = [
     Word::Authority,
     Word::AuthorityBlob,
+    Word::Serial,
     Word::Id,
     Word::IdHex,
+    Word::Key,
     Word::KeyBlob,
+    Word::Sha1,
+    Word::Sha256,
     Word::Hash,
 ];
 
@@ -23,27 +30,39 @@ pub enum Word {
     Authority,
     /// The authority of the lines that follow, by its bytes.
     AuthorityBlob,
+    /// A serial under the current authority, or a range of them.
+    Serial,
     /// A key ID under the current authority.
     Id,
     /// A key ID under the current authority, by its bytes.
     IdHex,
+    /// A key, by its line.
+    Key,
     /// A key, by its bytes.
     KeyBlob,
+    /// A key, by its line and revoked by its SHA-1.
+    Sha1,
+    /// A key, by its line and revoked by its SHA-256.
+    Sha256,
     /// A key, by a hash of its bytes.
     Hash,
 }
 
 impl Word {
-    // The word's name, in lower case.
-    fn name(self) -> &'static str
+    /// The word's name, in lower case.
+    pub fn name(self) -> &'static str
         ensures { result.now ≡ name_of self }
     {
         match self {
             Word::Authority => "ca",
             Word::AuthorityBlob => "ca-blob",
+            Word::Serial => "serial",
             Word::Id => "id",
             Word::IdHex => "id-hex",
+            Word::Key => "key",
             Word::KeyBlob => "key-blob",
+            Word::Sha1 => "sha1",
+            Word::Sha256 => "sha256",
             Word::Hash => "hash",
         }
     }
@@ -61,6 +80,22 @@ impl Word {
         ensures { result ≡ is_named self name.now }
     {
         name.eq_ignore_ascii_case(self.name().as_bytes())
+    }
+
+    /// The first word that is one letter off from the given one. Letters in upper and lower case
+    /// count the same.
+    #[tactic(auto, unfolding(crate::specs::Misspelt::meant))]
+    pub fn meant(name: &[u8]) -> Option<Word>
+        ensures { result ≡ meant name.now }
+    {
+        WORDS.iter().copied().find(|word| word.is_meant(name))
+    }
+
+    // Whether the given word is one letter off.
+    fn is_meant(self, name: &[u8]) -> bool
+        ensures { result ≡ is_meant self name.now }
+    {
+        is_one_off(name, self.name().as_bytes())
     }
 }
 
@@ -86,4 +121,21 @@ pub fn order_in(line: &[u8]) -> Option<Order<'_>>
     let word = Word::named(&line[..colon])?;
     let given = after_blanks(&line[colon + 1..]);
     Some(Order { word, given })
+}
+
+/// Whether the line begins with a word and a colon: no blank and no equals sign stands before the
+/// first colon. Options that sshd takes before a key have a colon only after an equals sign.
+#[tactic(auto, unfolding(crate::specs::Word::begins_with_word))]
+pub fn begins_with_word(line: &[u8]) -> bool
+    ensures { result ≡ begins_with_word line.now }
+{
+    let colon = position_of(line, b':');
+    colon < line.len() && !ends_word(&line[..colon])
+}
+
+// Whether a word ends in the text: a blank or an equals sign is in it.
+fn ends_word(text: &[u8]) -> bool
+    ensures { result ≡ list_any is_word_end text.now }
+{
+    text.iter().any(|byte| *byte == b'=' || is_blank(*byte))
 }

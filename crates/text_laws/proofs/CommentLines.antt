@@ -17,7 +17,7 @@ use Rattle.krl_spec.specs.Entries.{line_entry}
 use Rattle.list_text.specs.Text.{comment_part, list_line}
 use Rattle.ssh_cert.specs.Escape.{hex_digit, numbered}
 use Rattle.text_entries.specs.Says.{Blank, line_says}
-use Rattle.text_entries.specs.Word.{order_in}
+use Rattle.text_entries.specs.Word.{begins_with_word, order_in}
 use Rattle.text_laws.specs.FactLines.{HasNumbers}
 use Rattle.text_laws.proofs.LineReads.{Reads}
 use Rattle.text_laws.proofs.SolidBytes.{HasNoFeed, IsSolid, decimal_solid, hex_symbol, kept_no_feed, solid_kept}
@@ -132,7 +132,7 @@ comment_in_line comment = elim (cases_Bool (length comment == 0)) [
 -- ---- the line
 
 comment_says : (current : Option (List ℕ)) (comment : List ℕ) → line_says current (35 ∷ comment) ≡ Ok Blank
-unfolding line_says bare_line after_endings before_ending order_in line_entry
+unfolding line_says bare_line after_endings before_ending order_in begins_with_word line_entry
 comment_says current comment = refl
 
 comment_reads : (current : Option (List ℕ)) (comment text : List ℕ) → IsInLine comment

@@ -11,11 +11,11 @@ use Rattle.krl_spec.specs.declared.directive.Directive.{Directive}
 use Rattle.krl_spec.specs.declared.directive.Directive.TheVariants as directives
 use Rattle.text_entries.specs.Says.{line_says, order_says, spec_says, word_says}
 use Rattle.text_entries.specs.Values.{is_cut, is_sha1}
-use Rattle.text_entries.specs.Word.{Order, order_in}
+use Rattle.text_entries.specs.Word.{Order, begins_with_word, order_in}
 use Rattle.text_entries.specs.declared.text_cause.TextCause.{TextCause}
 use Rattle.text_entries.specs.declared.text_cause.TextCause.TheVariants as causes
 use Rattle.text_entries.specs.declared.word.Word.{Word}
-use Rattle.text_entries.specs.declared.word.Word.TheVariants.{Id, IdHex, Hash}
+use Rattle.text_entries.specs.declared.word.Word.TheVariants.{Authority, AuthorityBlob, Id, IdHex, KeyBlob, Hash}
 
 abbrev pub no_authority : TextCause
 no_authority = causes.Spec specs.NoAuthority
@@ -59,11 +59,17 @@ word_free authority line given Hash lacks = elim (cases_Bool (is_sha1 given)) [
   | inl short ↦ rw short refl
   | inr other ↦ rw other (spec_free authority line (rw other at lacks))
 ]
-word_free authority line given word lacks = refl
+word_free authority line given Authority lacks = refl
+word_free authority line given AuthorityBlob lacks = refl
+word_free authority line given KeyBlob lacks = refl
+word_free authority line given word lacks = spec_free authority line lacks
 
 order_free : (authority line : List ℕ) (order : Option Order) → order_says None line order ≢ Err no_authority
     → order_says (Some authority) line order ≡ order_says None line order
-order_free authority line None lacks = spec_free authority line lacks
+order_free authority line None lacks = elim (cases_Bool (begins_with_word (bare_line line))) [
+  | inl unknown ↦ rw unknown refl
+  | inr key ↦ rw key (spec_free authority line (rw key at lacks))
+]
 order_free authority line (Some order) lacks = word_free authority line order.given order.word lacks
 
 pub says_free : (current : Option (List ℕ)) (line : List ℕ) → line_says None line ≢ Err no_authority

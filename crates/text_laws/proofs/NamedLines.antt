@@ -1,5 +1,5 @@
 -- Lines of certificate authorities and keys.
-use Rattle.std.proofs.Common.{◌≡◌, ◌≢◌, ℕ, ◌==◌, false, List, [], ◌∷◌, ◌++◌, length, All, codes, Option, Some, None, Result, Ok, Err, refl, ◌∙◌, arith}
+use Rattle.std.proofs.Common.{◌≡◌, ◌≢◌, ℕ, ◌==◌, false, List, [], ◌∷◌, ◌++◌, length, All, codes, Option, Some, Result, Ok, Err, refl, ◌∙◌, arith}
 use Rattle.std.proofs.lemmas.Bool.{ne_eqb}
 use Rattle.std.proofs.lemmas.List.Sums.{AllPass-from_list_all}
 use Rattle.std.proofs.lemmas.List.Elements.{All-append, All-cons, All-weaker}
@@ -125,9 +125,9 @@ authority_reads current (byte ∷ authority) bytes =
 key_name : IsName (codes "key")
 key_name = literal_name (codes "key") (omega arith) refl refl
 
-key_no_word : word_named (codes "key") ≡ None
+key_word : word_named (codes "key") ≡ Some words.Key
 unfolding word_named
-key_no_word = refl
+key_word = refl
 
 key_directive : directive_named (codes "key") ≡ Some directives.Key
 unfolding directive_named
@@ -155,7 +155,7 @@ named_key current blob bytes (Ok key) read =
     let entry : order_entry current directives.Key value ≡ Ok (KeyEntry blob) = rw (plain_again blob key bytes read) refl in
     line_reads current (codes "key") value rest (named_line (codes "key") blob (Ok key)) (Names (KeyEntry blob)) key_name kept (print_left blob)
     (comment_text (codes "key") (type_name key.kind) (encode_of standard blob) (fingerprint_text Sha256 blob))
-    (spec_line_says current (codes "key") value rest directives.Key key_name kept (print_left blob) key_no_word key_directive ∙ rw entry refl)
+    (spec_line_says current (codes "key") value rest words.Key directives.Key key_name kept (print_left blob) key_word key_directive refl ∙ rw entry refl)
 named_key current blob bytes (Err fault) read =
     let value : List ℕ = encode_of standard blob in
     let kept = solid_value value (base64_solid blob) in

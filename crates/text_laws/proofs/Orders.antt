@@ -1,5 +1,5 @@
 -- Lines that are a name, a colon, a blank and a value.
-use Rattle.std.proofs.Common.{◌≡◌, ℕ, ◌+◌, ◌<◌, ◌==◌, not, List, [], ◌∷◌, ◌++◌, length, drop, Option, Some, None, option_map, refl, ap, ◌∙◌, arith}
+use Rattle.std.proofs.Common.{◌≡◌, ℕ, ◌+◌, ◌<◌, ◌==◌, not, List, [], ◌∷◌, ◌++◌, length, drop, Option, Some, option_map, refl, ap, ◌∙◌, arith}
 use Rattle.std.specs.List.{AllPass, position_or_len, prefix_len}
 use Rattle.key_text.specs.Blanks.{after_blanks, is_blank}
 use Rattle.krl_spec.specs.Blanks.{bare_line}
@@ -54,18 +54,6 @@ entry_says authority name value rest directive is kept left named =
     spec_order_is name content.gap value is.no_colon content.blanks (no_blank value kept.starts) ∙ ap (option_map (spec_order value)) named in
     ap (counted_entry authority) content.is ∙ some_entry authority name (58 ∷ (content.gap ++ value)) value directive is.some found
 
--- a line with the name of a directive that is no word of texts
-pub spec_line_says : (current : Option (List ℕ)) (name value rest : List ℕ) (directive : Directive) → IsName name
-    → IsValue value → IsRest rest
-    → word_named name ≡ None → directive_named name ≡ Some directive
-    → line_says current (line_of name value rest) ≡ spec_says (Some (order_entry current directive value))
-unfolding line_says
-spec_line_says current name value rest directive is kept left other named =
-    let content = content_is name value rest is kept left in
-    let none : order_in (bare_line (line_of name value rest)) ≡ None =
-    ap order_in content.is ∙ order_is name content.gap value is.no_colon content.blanks (no_blank value kept.starts) ∙ ap (option_map (order value)) other in
-    rw none (ap spec_says (entry_says current name value rest directive is kept left named))
-
 -- a line with a word
 pub word_line_says : (current : Option (List ℕ)) (name value rest : List ℕ) (word : Word) → IsName name
     → IsValue value → IsRest rest
@@ -77,3 +65,13 @@ word_line_says current name value rest word is kept left named =
     let found : order_in (bare_line (line_of name value rest)) ≡ Some (order value word) =
     ap order_in content.is ∙ order_is name content.gap value is.no_colon content.blanks (no_blank value kept.starts) ∙ ap (option_map (order value)) named in
     rw found refl
+
+-- a line with a word whose line is as in a specification file
+pub spec_line_says : (current : Option (List ℕ)) (name value rest : List ℕ) (word : Word) (directive : Directive) → IsName name
+    → IsValue value → IsRest rest
+    → word_named name ≡ Some word → directive_named name ≡ Some directive
+    → word_says current (line_of name value rest) word value ≡ spec_says (line_entry current (line_of name value rest))
+    → line_says current (line_of name value rest) ≡ spec_says (Some (order_entry current directive value))
+spec_line_says current name value rest word directive is kept left named directed same =
+    word_line_says current name value rest word is kept left named ∙ same
+    ∙ ap spec_says (entry_says current name value rest directive is kept left directed)

@@ -1,5 +1,5 @@
 -- Lines of serial numbers.
-use Rattle.std.proofs.Common.{◌≡◌, ℕ, ◌<◌, ◌^◌, ◌==◌, true, List, [], ◌∷◌, ◌++◌, codes, decimal, Some, None, Ok, refl, sym, ap, ◌∙◌, arith, append_assoc, inl, inr}
+use Rattle.std.proofs.Common.{◌≡◌, ℕ, ◌<◌, ◌^◌, ◌==◌, true, List, [], ◌∷◌, ◌++◌, codes, decimal, Some, Ok, refl, sym, ap, ◌∙◌, arith, append_assoc, inl, inr}
 use Rattle.std.specs.List.{AllPass}
 use Rattle.std.proofs.lemmas.Bool.{cases_Bool, eqb-true, le-ltb, ne_eqb}
 use Rattle.std.proofs.lemmas.Fmt.{decimal_is_IsNumeral, first_decimal}
@@ -16,6 +16,7 @@ use Rattle.krl_spec.proofs.BoundsLaws.{bounds_again}
 use Rattle.list_text.specs.Text.{serials_line}
 use Rattle.text_entries.specs.Says.{Names}
 use Rattle.text_entries.specs.Word.{word_named}
+use Rattle.text_entries.specs.declared.word.Word.TheVariants as words
 use Rattle.text_laws.specs.FactLines.{AreSerials}
 use Rattle.text_laws.proofs.Contents.{IsName, nothing_left, solid_value}
 use Rattle.text_laws.proofs.LineReads.{Reads, line_reads, literal_name, plain_text}
@@ -42,9 +43,9 @@ serials_are text lo hi are order =
 serial_name : IsName (codes "serial")
 serial_name = literal_name (codes "serial") (omega arith) refl refl
 
-no_word : word_named (codes "serial") ≡ None
+serial_word : word_named (codes "serial") ≡ Some words.Serial
 unfolding word_named
-no_word = refl
+serial_word = refl
 
 is_directive : directive_named (codes "serial") ≡ Some directives.Serial
 unfolding directive_named
@@ -58,7 +59,7 @@ serial_reads authority value text lo hi solid are order spelled =
     let kept = solid_value value solid in
     let entry : order_entry (Some authority) directives.Serial value ≡ Ok (RangeEntry authority lo hi) = rw (serials_are value lo hi are order) refl in
     line_reads (Some authority) (codes "serial") value [] text (Names (RangeEntry authority lo hi)) serial_name kept nothing_left (spelled ∙ plain_text (codes "serial") value)
-    (spec_line_says (Some authority) (codes "serial") value [] directives.Serial serial_name kept nothing_left no_word is_directive ∙ rw entry refl)
+    (spec_line_says (Some authority) (codes "serial") value [] words.Serial directives.Serial serial_name kept nothing_left serial_word is_directive refl ∙ rw entry refl)
 
 one_solid : (n hi : ℕ) → AreSerials (span_of n hi) → AllPass is_solid (decimal n)
 one_solid n hi order = decimal_solid n (omega (arith, order.rises, order.fits))

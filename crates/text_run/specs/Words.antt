@@ -17,13 +17,13 @@ use Rattle.text_run.specs.declared.make_fault.MakeCause.TheVariants.{Run, Line, 
 -- ---- in words
 
 abbrev pub spec_words : SpecCause → List ℕ
-spec_words specs.Number = codes "no serial number below 2^64"
+spec_words specs.Number = codes "a serial number is a number below 2^64"
 spec_words specs.Zero = codes "serial number 0 names no certificate"
 spec_words specs.Reversed = codes "a range of serial numbers ends below its first one"
 spec_words specs.NoAuthority = codes "no ca: line stands before it"
 spec_words specs.EmptyId = codes "a key ID is empty"
 spec_words (specs.Key cause) = cause_words (runs.Key cause)
-spec_words (specs.Fingerprint fault) = codes "the hash is cut or misspelt"
+spec_words (specs.Fingerprint fault) = codes "the hash is cut, padded or misspelt"
 spec_words specs.NoMemory = codes "out of memory"
 
 abbrev pub text_words : TextCause → List ℕ
@@ -32,7 +32,11 @@ text_words texts.Certificate = codes "a CA is given by its key, and not by a cer
 text_words texts.NoBytes = codes "a CA has bytes"
 text_words texts.Base64 = codes "no whole base64 with padding"
 text_words texts.Hex = codes "no pairs of hexadecimal digits"
-text_words texts.CutId = codes "a # with no blank before it would cut the key ID short"
+text_words texts.CutId =
+    codes "a # with no blank before it would cut the key ID short: use id-hex:"
+text_words texts.UnknownWord =
+    codes "the word before the colon is none of ca, ca-blob, serial, id, id-hex, key, key-blob, "
+    ++ codes "sha1, sha256 and hash"
 
 abbrev pub make_words : MakeCause → List ℕ
 make_words (Run cause) = cause_words cause

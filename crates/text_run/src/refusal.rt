@@ -12,6 +12,9 @@ use run_faults::{Cause, SpecCause};
 use std::alloc::{AllocError, Global};
 use text_entries::{Misspelt, TextCause};
 
+const UNKNOWN_WORD: &[u8] = b"the word before the colon is none of ca, ca-blob, serial, id, \
+id-hex, key, key-blob, sha1, sha256 and hash";
+
 // The number of a line, if there is one.
 #[derive(Clone, Copy)]
 struct Line(Option<u64>);
@@ -81,7 +84,8 @@ fn text_words(cause: TextCause) -> &'static [u8]
         TextCause::NoBytes => b"a CA has bytes",
         TextCause::Base64 => b"no whole base64 with padding",
         TextCause::Hex => b"no pairs of hexadecimal digits",
-        TextCause::CutId => b"a # with no blank before it would cut the key ID short",
+        TextCause::CutId => b"a # with no blank before it would cut the key ID short: use id-hex:",
+        TextCause::UnknownWord => UNKNOWN_WORD,
     }
 }
 
@@ -90,13 +94,13 @@ fn spec_words(cause: SpecCause) -> &'static [u8]
     ensures { result.now ≡ spec_words cause }
 {
     match cause {
-        SpecCause::Number => b"no serial number below 2^64",
+        SpecCause::Number => b"a serial number is a number below 2^64",
         SpecCause::Zero => b"serial number 0 names no certificate",
         SpecCause::Reversed => b"a range of serial numbers ends below its first one",
         SpecCause::NoAuthority => b"no ca: line stands before it",
         SpecCause::EmptyId => b"a key ID is empty",
         SpecCause::Key(cause) => cause_words(Cause::Key(cause)),
-        SpecCause::Fingerprint(_) => b"the hash is cut or misspelt",
+        SpecCause::Fingerprint(_) => b"the hash is cut, padded or misspelt",
         SpecCause::NoMemory => b"out of memory",
     }
 }

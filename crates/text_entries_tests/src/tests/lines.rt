@@ -25,7 +25,7 @@ fn made(rt: &impl Abort, alloc: Global, text: &[u8]) -> Result<Vec<u8>, TextFaul
 }
 
 // The parts of a text, and the sections of the list that it names.
-const NAMED: [(&[&[u8]], &[&[u8]]); 20] = [
+const NAMED: [(&[&[u8]], &[&[u8]]); 22] = [
     (&[b""], &[]),
     (&[b"# a comment\n \t\r\n"], &[]),
     (&[b"ca: all"], &[]),
@@ -50,6 +50,12 @@ const NAMED: [(&[&[u8]], &[&[u8]]); 20] = [
     // A key needs no CA, and a certificate is under its own.
     (&[b"key: ", GITHUB_LINE, b" # a"], &[KEY_SECTION]),
     (&[GITHUB_LINE], &[KEY_SECTION]),
+    // Options of a key may have a colon, after an equals sign.
+    (
+        &[b"environment=\"A=b:c\" ", GITHUB_LINE, b" d:e"],
+        &[KEY_SECTION],
+    ),
+    (&[b"no-pty,command=\"a: b\" ", GITHUB_LINE], &[KEY_SECTION]),
     (&[b"ca: all\n", CERT_LINE], &[SEVEN_OF_OTHER]),
     (&[b"key-blob: AQ=="], &[KEY_OF_ONE]),
     (&[b"hash: ", GITHUB_PRINT], &[SHA256_SECTION]),
@@ -85,7 +91,7 @@ fn what_texts_name(rt: HostRuntime) {
 }
 
 // The parts of a text, its first line with a fault, and how that fault prints.
-const REFUSED: [(&[&[u8]], u64, &str); 22] = [
+const REFUSED: [(&[&[u8]], u64, &str); 30] = [
     (&[b"serial: 5"], 1, "text 1 Spec, spec 4 NoAuthority"),
     (&[b"id: a"], 1, "text 1 Spec, spec 4 NoAuthority"),
     (&[b"\nid-hex: xx"], 2, "text 1 Spec, spec 4 NoAuthority"),
@@ -123,7 +129,24 @@ const REFUSED: [(&[&[u8]], u64, &str); 22] = [
         1,
         "text 1 Spec, spec 7 Fingerprint, fingerprint 1 Prefix",
     ),
-    (&[b"serials: 5"], 1, "text 1 Spec, spec 6 Key, line 1 NoKey"),
+    (&[b"serials 5"], 1, "text 1 Spec, spec 6 Key, line 1 NoKey"),
+    (
+        &[b"ca : ", OTHER_LINE],
+        1,
+        "text 1 Spec, spec 6 Key, line 1 NoKey",
+    ),
+    (&[b"serials: 5"], 1, "text 7 UnknownWord"),
+    (&[b":"], 1, "text 7 UnknownWord"),
+    // Without the colon these would be options before the key.
+    (&[b"ca: all\ncas: ", OTHER_LINE], 2, "text 7 UnknownWord"),
+    (
+        &[b"cas:cert-authority ", OTHER_LINE],
+        1,
+        "text 7 UnknownWord",
+    ),
+    (&[b"\"ca\": ", OTHER_LINE], 1, "text 7 UnknownWord"),
+    (&[b"\xef\xbb\xbfca: ", OTHER_LINE], 1, "text 7 UnknownWord"),
+    (&[b": ", CERT_LINE], 1, "text 7 UnknownWord"),
 ];
 
 #[test]

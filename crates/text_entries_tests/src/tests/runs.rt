@@ -62,7 +62,8 @@ const REFUSED: [(&[Option<&[&[u8]]>], &[u8]); 5] = [
     ),
     (
         &[Some(&[b"ca: all\nid: a\nid: b#"])],
-        b"krl: t: line 3: a # with no blank before it would cut the key ID short [text 6 CutId]\n",
+        b"krl: t: line 3: a # with no blank before it would cut the key ID short: use id-hex: \
+[text 6 CutId]\n",
     ),
     // No authority is current in the second text.
     (
@@ -96,7 +97,7 @@ fn faults(rt: HostRuntime) {
 const MISSPELT: [(&[u8], &[u8], &[u8], &[u8]); 10] = [
     (b"serials: 5", b"1", b"serials", b"serial"),
     (b"ca: all\n# c\nseria: 5", b"3", b"seria", b"serial"),
-    (b"\tSERIALS : 5\r\n", b"1", b"SERIALS", b"serial"),
+    (b"\tSERIALS: 5\r\n", b"1", b"SERIALS", b"serial"),
     (b"ke: x", b"1", b"ke", b"key"),
     (b"ids: a", b"1", b"ids", b"id"),
     (b"ca_blob: eA==", b"1", b"ca_blob", b"ca-blob"),
@@ -108,17 +109,11 @@ const MISSPELT: [(&[u8], &[u8], &[u8], &[u8]); 10] = [
     (b"i\"d: a", b"1", b"i\\\"d", b"id"),
 ];
 
-// Lines without a key that are two letters off, have no colon, or begin with a word of a text.
-const KEYLESS: [&[u8]; 8] = [
-    b"serail: 5",
-    b"Serals: 5",
-    b"kye: x",
-    b"hsah: x",
-    b"serials",
-    b"seri#ls: 5",
-    b"Serial : 5",
-    b"ca: ids: 5",
-];
+// Lines with a word that is two letters off.
+const UNKNOWN: [&[u8]; 4] = [b"serail: 5", b"Serals: 5", b"kye: x", b"hsah: x"];
+
+// Lines without a key that have no colon or a blank before it, or begin with a word of a text.
+const KEYLESS: [&[u8]; 4] = [b"serials", b"seri#ls: 5", b"Serial : 5", b"ca: ids: 5"];
 
 // The line about the fault of one text.
 fn said_of(rt: &impl Abort, alloc: Global, bytes: &[u8]) -> Vec<u8> {
@@ -138,19 +133,42 @@ fn misspelt_words(rt: HostRuntime) {
             word,
             b"\" is no word of a text: did you mean \"",
             meant,
-            b"\"? [text 1 Spec, spec 6 Key, line 1 NoKey]\n",
+            b"\"? [text 7 UnknownWord]\n",
         ];
         let wanted = joined(alloc, &parts).expect(&rt, "there is memory");
         assert!(rt; said_of(&rt, alloc, text) == wanted, "in row {i}");
     }
-    let keyless: &[u8] =
-        b"krl: t: line 1: no key type stands there [text 1 Spec, spec 6 Key, line 1 NoKey]\n";
-    for (i, text) in KEYLESS.iter().enumerate() {
-        assert!(rt;
-            said_of(&rt, alloc, text).as_slice() == keyless,
-            "in row {i}"
-        );
+}
+
+// The line about a word before a blank and a colon.
+const BEFORE_A_BLANK: &[u8] = b"krl: t: line 1: \"SERIALS\" is no word of a text: \
+did you mean \"serial\"? [text 1 Spec, spec 6 Key, line 1 NoKey]\n";
+
+#[test]
+fn misspelt_words_before_a_blank(rt: HostRuntime) {
+    let line = said_of(&rt, rt.alloc(), b"SERIALS : 5");
+    assert!(rt; line.as_slice() == BEFORE_A_BLANK);
+}
+
+// The line about the one fault of each of these texts.
+fn all_say(rt: &impl Abort, alloc: Global, texts: &[&[u8]], line: &[u8]) {
+    for (i, text) in texts.iter().enumerate() {
+        assert!(rt; said_of(rt, alloc, text).as_slice() == line, "in row {i}");
     }
+}
+
+#[test]
+fn unknown_words(rt: HostRuntime) {
+    let line = b"krl: t: line 1: the word before the colon is none of ca, ca-blob, serial, id, \
+id-hex, key, key-blob, sha1, sha256 and hash [text 7 UnknownWord]\n";
+    all_say(&rt, rt.alloc(), &UNKNOWN, line);
+}
+
+#[test]
+fn lines_without_a_key(rt: HostRuntime) {
+    let line =
+        b"krl: t: line 1: no key type stands there [text 1 Spec, spec 6 Key, line 1 NoKey]\n";
+    all_say(&rt, rt.alloc(), &KEYLESS, line);
 }
 
 #[test]
