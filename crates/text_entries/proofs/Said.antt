@@ -1,21 +1,24 @@
 -- What lines say, and what was done.
-use Rattle.std.proofs.Common.{◌≡◌, ℕ, List, [], ◌∷◌, Option, Some, None, Result, Ok, Err, refl, ap, arith}
+use Rattle.std.proofs.lemmas.Bool.{false≢true}
+use Rattle.std.proofs.Common.{◌≡◌, ◌==◌, length, false, ℕ, List, [], ◌∷◌, Option, Some, None, Result, Ok, Err, refl, ap, arith}
 use Rattle.ssh_wire.specs.Reading.{◌>>=◌, in_fault}
 use Rattle.run_faults.specs.declared.spec_cause.SpecCause.{SpecCause}
 use Rattle.run_faults.specs.declared.spec_cause.SpecCause.TheVariants as specs
 use Rattle.key_text.specs.LineReading.{KeyLine, line_at}
 use Rattle.krl_entries.specs.Changes.{MeansMore}
 use Rattle.krl_entries.specs.Revocations.{Revocations, held}
-use Rattle.krl_spec.specs.Adding.{AddsLine, MayLackMemory as MayLackSpec, Reports as ReportsSpec}
+use Rattle.krl_spec.specs.Adding.{AddsEntry, MayLackMemory as MayLackSpec, Reports as ReportsSpec}
 use Rattle.keyed_lines.specs.Keys.{subject_in}
 use Rattle.keyed_lines.specs.declared.key_cause.KeyCause.{KeyCause}
 use Rattle.keyed_lines.specs.declared.key_cause.KeyCause.TheVariants as keys
 use Rattle.krl_types.specs.Entry.{Entry}
+use Rattle.krl_spec.specs.Entries.{bare_entry}
 use Rattle.krl_types.specs.Subject.{CertNames, Subject}
 use Rattle.ssh_cert.specs.SubjectReading.{subject_of}
 use Rattle.ssh_cert.specs.declared.subject_fault.SubjectFault.{SubjectFault}
 use Rattle.text_entries.specs.Reading.{IsDone}
-use Rattle.text_entries.specs.Says.{Blank, Names, Saying, spec_says}
+use Rattle.text_entries.specs.Says.{Names, Saying, entry_says, key_line_says}
+use Rattle.text_entries.specs.Word.{begins_with_word}
 use Rattle.text_entries.specs.TextCause.{MayLackMemory, Reports}
 use Rattle.text_entries.specs.Values.{authority_key_in, unless_certified}
 use Rattle.text_entries.specs.declared.text_cause.TextCause.{TextCause}
@@ -69,12 +72,16 @@ subject_stops text line cause read is = rw (in_fault_then specs.Key (line_in tex
 
 -- ---- entries
 
--- a line of a specification file
-pub spec_done : (read : Option (Result Entry SpecCause)) (current : Option (List ℕ)) (old new : Revocations) → AddsLine {A = Unit {0}} read (Ok tt) old new
-    → (saying : Saying) × (spec_says read ≡ Ok saying) × IsDone saying current current old new
-spec_done None current old new same = (Blank, refl, (refl, same))
-spec_done (Some read) current old new (entry, is, adds, few) =
-    (Names entry, ap (λ (r : Result Entry SpecCause). spec_says (Some r)) is, (refl, adds, few))
+-- an entry as in a specification file
+pub entry_done : (read : Result Entry SpecCause) (current : Option (List ℕ)) (old new : Revocations) → AddsEntry {A = Unit {0}} read (Ok tt) old new
+    → (saying : Saying) × (entry_says read ≡ Ok saying) × IsDone saying current current old new
+entry_done read current old new (entry, is, adds, few) = (Names entry, ap entry_says is, (refl, adds, few))
+
+-- content that begins with no word
+pub key_line_is : (content : List ℕ) → false ≡ (length content == 0) → begins_with_word content ≡ false
+    → key_line_says content ≡ entry_says (bare_entry content)
+key_line_is [] some no_word = absurd (false≢true some)
+key_line_is (byte ∷ bytes) some no_word = rw no_word refl
 
 -- an entry of bytes that a line gives
 pub names_one : (read : Result (List ℕ) TextCause) (value : List ℕ) (entry : List ℕ → Entry) (current : Option (List ℕ)) (old new : Revocations)

@@ -1,19 +1,22 @@
 -- The meaning of a line of the text of a list (krl(1), THE TEXT OF A LIST).
-use Rattle.std.specs.Prelude.{ℕ, List, Option, Some, None, Result, Ok, Err, if◌then◌else◌}
+use Rattle.std.specs.Prelude.{ℕ, List, [], ◌∷◌, Option, Some, None, Result, Ok, Err}
+use Rattle.std.specs.Prelude.{if◌then◌else◌}
 use Rattle.ssh_wire.specs.Reading.{◌>>=◌}
 use Rattle.run_faults.specs.declared.spec_cause.SpecCause.{SpecCause}
 use Rattle.run_faults.specs.declared.spec_cause.SpecCause.TheVariants as specs
 use Rattle.krl_types.specs.Entry.{Entry, IdEntry, KeyEntry, Sha1Entry}
 use Rattle.krl_spec.specs.Blanks.{bare_line}
-use Rattle.krl_spec.specs.Entries.{line_entry}
+use Rattle.krl_spec.specs.Entries.{bare_entry, order_entry}
+use Rattle.krl_spec.specs.declared.directive.Directive.TheVariants as directives
 use Rattle.text_entries.specs.Values.{authority_blob_in, authority_in, blob_in, bytes_in, is_cut}
 use Rattle.text_entries.specs.Values.{is_sha1, sha1_in}
 use Rattle.text_entries.specs.Word.{Order, begins_with_word, order_in}
 use Rattle.text_entries.specs.declared.text_cause.TextCause.{TextCause}
 use Rattle.text_entries.specs.declared.text_cause.TextCause.TheVariants as causes
 use Rattle.text_entries.specs.declared.word.Word.{Word}
-use Rattle.text_entries.specs.declared.word.Word.TheVariants.{Authority, AuthorityBlob, Id, IdHex}
-use Rattle.text_entries.specs.declared.word.Word.TheVariants.{KeyBlob, Hash}
+use Rattle.text_entries.specs.declared.word.Word.TheVariants.{Authority, AuthorityBlob, Serial, Id}
+use Rattle.text_entries.specs.declared.word.Word.TheVariants.{IdHex, Key, KeyBlob, Sha1, Sha256}
+use Rattle.text_entries.specs.declared.word.Word.TheVariants.{Hash}
 
 pub data Saying : Type 0 where
   -- nothing
@@ -22,11 +25,10 @@ pub data Saying : Type 0 where
   Current : (authority : List ℕ) → Saying
   Names : Entry → Saying
 
--- as in a specification file, under the current authority
-abbrev pub spec_says : Option (Result Entry SpecCause) → Result Saying TextCause
-spec_says None = Ok Blank
-spec_says (Some (Ok entry)) = Ok (Names entry)
-spec_says (Some (Err cause)) = Err (causes.Spec cause)
+-- an entry, or a fault that a line of a specification file can have too
+abbrev pub entry_says : Result Entry SpecCause → Result Saying TextCause
+entry_says (Ok entry) = Ok (Names entry)
+entry_says (Err cause) = Err (causes.Spec cause)
 
 -- ---- the lines of each word
 
@@ -52,26 +54,35 @@ sha1_says given = do
   hash ← sha1_in given
   Ok (Names (Sha1Entry hash))
 
--- The other lines are as in a specification file.
+-- A word of specification files says what it says there, under the current authority.
 abbrev pub word_says : Option (List ℕ) → List ℕ → Word → List ℕ → Result Saying TextCause
 word_says current line Authority given = current_says (authority_in given)
 word_says current line AuthorityBlob given = current_says (authority_blob_in given)
+word_says current line Serial given = entry_says (order_entry current directives.Serial given)
 word_says current line Id given =
-    if is_cut line then Err causes.CutId else spec_says (line_entry current line)
+    if is_cut line then Err causes.CutId
+    else entry_says (order_entry current directives.Id given)
 word_says current line IdHex given = id_hex_says current given
+word_says current line Key given = entry_says (order_entry current directives.Key given)
 word_says current line KeyBlob given = key_blob_says given
+word_says current line Sha1 given = entry_says (order_entry current directives.Sha1 given)
+word_says current line Sha256 given = entry_says (order_entry current directives.Sha256 given)
 word_says current line Hash given =
-    if is_sha1 given then sha1_says given else spec_says (line_entry current line)
-word_says current line word given = spec_says (line_entry current line)
+    if is_sha1 given then sha1_says given
+    else entry_says (order_entry current directives.Hash given)
 
 -- ---- any line
 
--- A line without a word is a key line. With an unknown one it would be too, since a key line may
--- have options first.
+-- Content without a word is a key line, as in a specification file. With an unknown word it would
+-- be one too, since a key line may have options first.
+abbrev pub key_line_says : List ℕ → Result Saying TextCause
+key_line_says [] = Ok Blank
+key_line_says (byte ∷ bytes) =
+    if begins_with_word (byte ∷ bytes) then Err causes.UnknownWord
+    else entry_says (bare_entry (byte ∷ bytes))
+
 abbrev pub order_says : Option (List ℕ) → List ℕ → Option Order → Result Saying TextCause
-order_says current line None =
-    if begins_with_word (bare_line line) then Err causes.UnknownWord
-    else spec_says (line_entry current line)
+order_says current line None = key_line_says (bare_line line)
 order_says current line (Some order) = word_says current line order.word order.given
 
 -- The meaning of a line. The current authority is None if no line before it has given one.

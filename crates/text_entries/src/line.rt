@@ -1,10 +1,10 @@
 //! Doing what a line of the text of a list says.
 
 ghost use Rattle.std.specs.Prelude.{◌≡◌, ℕ, List, Option, true};
-ghost use Rattle.krl_spec.specs.Entries.{line_entry};
+ghost use Rattle.krl_spec.specs.Entries.{order_entry};
 ghost use Rattle.text_entries.specs.Reading.{TakesLine};
-ghost use Rattle.text_entries.specs.Says.{id_hex_says, key_blob_says, line_says, sha1_says};
-ghost use Rattle.text_entries.specs.Says.{spec_says, word_says};
+ghost use Rattle.text_entries.specs.Says.{entry_says, id_hex_says, key_blob_says, key_line_says};
+ghost use Rattle.text_entries.specs.Says.{line_says, sha1_says, word_says};
 ghost use Rattle.text_entries.specs.Values.{is_sha1};
 
 use crate::authority::{read_authority, read_authority_blob, under};
@@ -12,7 +12,7 @@ use crate::text_cause::TextCause;
 use crate::values::{is_cut, is_sha1, read_blob, read_bytes, read_sha1};
 use crate::word::{Order, Word, begins_with_word, order_in};
 use krl_entries::Revocations;
-use krl_spec::{SpecCause, add_line, bare_line};
+use krl_spec::{Directive, SpecCause, add_bare, add_order, bare_line};
 use serial_set::Spans;
 use ssh_wire::Bytes;
 use std::alloc::Global;
@@ -28,11 +28,10 @@ pub fn take_line<S: Spans>(
     ensures { TakesLine (line_says current.old line.now) result current.old current.new
         revocations.old revocations.new }
 {
-    let bare = bare_line(line);
-    match order_in(bare) {
+    let content = bare_line(line);
+    match order_in(content) {
         Some(order) => take_order(alloc, revocations, current, line, order),
-        None if begins_with_word(bare) => Err(TextCause::UnknownWord),
-        None => take_spec_line(alloc, revocations, current, line),
+        None => take_key_line(alloc, revocations, content),
     }
 }
 
@@ -61,23 +60,48 @@ fn take_order<S: Spans>(
         Word::IdHex => take_id_hex(alloc, revocations, current, order.given),
         Word::KeyBlob => take_key_blob(alloc, revocations, order.given),
         Word::Hash if is_sha1(order.given) => take_sha1(alloc, revocations, order.given),
-        Word::Serial | Word::Id | Word::Key | Word::Sha1 | Word::Sha256 | Word::Hash => {
-            take_spec_line(alloc, revocations, current, line)
-        }
+        Word::Serial => take_directive(alloc, revocations, current, Directive::Serial, order.given),
+        Word::Id => take_directive(alloc, revocations, current, Directive::Id, order.given),
+        Word::Key => take_directive(alloc, revocations, current, Directive::Key, order.given),
+        Word::Sha1 => take_directive(alloc, revocations, current, Directive::Sha1, order.given),
+        Word::Sha256 => take_directive(alloc, revocations, current, Directive::Sha256, order.given),
+        Word::Hash => take_directive(alloc, revocations, current, Directive::Hash, order.given),
     }
 }
 
-// Does what a line of a specification file says.
-fn take_spec_line<S: Spans>(
+// Adds the entry of a directive of specification files.
+fn take_directive<S: Spans>(
     alloc: Global,
     revocations: &mut Revocations<S>,
     current: &Option<Bytes>,
-    line: &[u8],
+    directive: Directive,
+    given: &[u8],
 ) -> Result<(), TextCause>
-    ensures { TakesLine (spec_says (line_entry current.now line.now)) result
+    ensures { TakesLine (entry_says (order_entry current.now directive given.now)) result
         current.now current.now revocations.old revocations.new }
 {
-    match add_line(alloc, revocations, under(current), line) {
+    match add_order(alloc, revocations, under(current), directive, given) {
+        Ok(()) => Ok(()),
+        Err(cause) => Err(TextCause::Spec(cause)),
+    }
+}
+
+// Adds the entry of content without a word.
+fn take_key_line<S: Spans>(
+    alloc: Global,
+    revocations: &mut Revocations<S>,
+    content: &[u8],
+) -> Result<(), TextCause>
+    ensures { (current : Option (List ℕ)) → TakesLine (key_line_says content.now) result
+        current current revocations.old revocations.new }
+{
+    if content.is_empty() {
+        return Ok(());
+    }
+    if begins_with_word(content) {
+        return Err(TextCause::UnknownWord);
+    }
+    match add_bare(alloc, revocations, content) {
         Ok(()) => Ok(()),
         Err(cause) => Err(TextCause::Spec(cause)),
     }

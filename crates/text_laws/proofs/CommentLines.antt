@@ -13,11 +13,10 @@ use Rattle.key_text.specs.Lines.{is_newline}
 use Rattle.krl_audit.specs.Visible.{visible, visible_byte, visible_char}
 use Rattle.krl_format.specs.declared.header.Header.{Header}
 use Rattle.krl_spec.specs.Blanks.{after_endings, bare_line}
-use Rattle.krl_spec.specs.Entries.{line_entry}
 use Rattle.list_text.specs.Text.{comment_part, list_line}
 use Rattle.ssh_cert.specs.Escape.{hex_digit, numbered}
 use Rattle.text_entries.specs.Says.{Blank, line_says}
-use Rattle.text_entries.specs.Word.{begins_with_word, order_in}
+use Rattle.text_entries.specs.Word.{order_in}
 use Rattle.text_laws.specs.FactLines.{HasNumbers}
 use Rattle.text_laws.proofs.LineReads.{Reads}
 use Rattle.text_laws.proofs.SolidBytes.{HasNoFeed, IsSolid, decimal_solid, hex_symbol, kept_no_feed, solid_kept}
@@ -132,7 +131,7 @@ comment_in_line comment = elim (cases_Bool (length comment == 0)) [
 -- ---- the line
 
 comment_says : (current : Option (List ℕ)) (comment : List ℕ) → line_says current (35 ∷ comment) ≡ Ok Blank
-unfolding line_says bare_line after_endings before_ending order_in begins_with_word line_entry
+unfolding line_says bare_line after_endings before_ending order_in
 comment_says current comment = refl
 
 comment_reads : (current : Option (List ℕ)) (comment text : List ℕ) → IsInLine comment

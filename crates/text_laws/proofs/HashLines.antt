@@ -1,5 +1,5 @@
 -- Lines of the hashes of keys.
-use Rattle.std.proofs.Common.{◌≡◌, ℕ, List, [], ◌++◌, length, codes, Option, Some, Result, Ok, refl, ap, ◌∙◌, arith}
+use Rattle.std.proofs.Common.{◌≡◌, ℕ, List, [], ◌++◌, length, codes, Option, Some, Ok, refl, ◌∙◌, arith}
 use Rattle.std.proofs.lemmas.Bool.{eq-eqb}
 use Rattle.std.proofs.lemmas.List.Elements.{All-append}
 use Rattle.std.proofs.lemmas.List.Sums.{AllPass-from_list_all}
@@ -9,19 +9,17 @@ use Rattle.ssh_wire.specs.Wire.{IsBytes}
 use Rattle.key_text.specs.FingerprintReading.{fingerprint_at}
 use Rattle.key_text.specs.Fingerprints.{unpadded}
 use Rattle.key_text.proofs.FingerprintLaws.{fingerprint_again}
-use Rattle.run_faults.specs.declared.spec_cause.SpecCause.{SpecCause}
-use Rattle.krl_types.specs.Entry.{Entry, Sha1Entry, Sha256Entry}
-use Rattle.krl_spec.specs.Directive.{directive_named}
-use Rattle.krl_spec.specs.Entries.{line_entry, order_entry}
+use Rattle.krl_types.specs.Entry.{Sha1Entry, Sha256Entry}
+use Rattle.krl_spec.specs.Entries.{order_entry}
 use Rattle.krl_spec.specs.declared.directive.Directive.TheVariants as directives
 use Rattle.list_text.specs.Text.{hash_line}
 use Rattle.text_entries.specs.Says.{Names}
 use Rattle.text_entries.specs.Values.{sha1_in}
 use Rattle.text_entries.specs.Word.{word_named}
 use Rattle.text_entries.specs.declared.word.Word.TheVariants as words
-use Rattle.text_laws.proofs.Contents.{IsName, IsValue, line_of, nothing_left, solid_value}
+use Rattle.text_laws.proofs.Contents.{IsName, IsValue, nothing_left, solid_value}
 use Rattle.text_laws.proofs.LineReads.{Reads, line_reads, literal_name, plain_text}
-use Rattle.text_laws.proofs.Orders.{entry_says, word_line_says}
+use Rattle.text_laws.proofs.Orders.{word_line_says}
 use Rattle.text_laws.proofs.SolidBytes.{IsSolid, is_solid, unpadded_solid}
 
 hash_name : IsName (codes "hash")
@@ -30,10 +28,6 @@ hash_name = literal_name (codes "hash") (omega arith) refl refl
 hash_word : word_named (codes "hash") ≡ Some words.Hash
 unfolding word_named
 hash_word = refl
-
-hash_directive : directive_named (codes "hash") ≡ Some directives.Hash
-unfolding directive_named
-hash_directive = refl
 
 sha1_again : (hash : List ℕ) → IsBytes hash → length hash ≡ 20 → sha1_in (codes "SHA1:" ++ unpadded hash) ≡ Ok hash
 unfolding sha1_in unpadded
@@ -64,9 +58,6 @@ pub sha256_reads : (current : Option (List ℕ)) (hash : List ℕ) → IsBytes h
 sha256_reads current hash bytes size =
     let value : List ℕ = codes "SHA256:" ++ unpadded hash in
     let kept = sha256_value hash in
-    let line : List ℕ = line_of (codes "hash") value [] in
     let entry : order_entry current directives.Hash value ≡ Ok (Sha256Entry hash) = rw (sha256_again hash bytes size) refl in
-    let read : line_entry current line ≡ Some (Ok (Sha256Entry hash)) =
-    entry_says current (codes "hash") value [] directives.Hash hash_name kept nothing_left hash_directive ∙ ap (λ (e : Result Entry SpecCause). Some e) entry in
     line_reads current (codes "hash") value [] (hash_line (codes "SHA256:") hash) (Names (Sha256Entry hash)) hash_name kept nothing_left (plain_text (codes "hash") value)
-    (word_line_says current (codes "hash") value [] words.Hash hash_name kept nothing_left hash_word ∙ rw read refl)
+    (word_line_says current (codes "hash") value [] words.Hash hash_name kept nothing_left hash_word ∙ rw entry refl)

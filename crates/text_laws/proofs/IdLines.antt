@@ -1,6 +1,6 @@
 -- Lines of key IDs.
 use Rattle.std.proofs.lemmas.Grind.{common_steps}
-use Rattle.std.proofs.Common.{◌≡◌, ◌≢◌, ℕ, ◌==◌, ◌&&◌, nat_eq, Bool, true, false, not, List, [], ◌∷◌, ◌++◌, length, codes, Contains, Some, Result, Ok, refl, sym, ap, subst, ◌∙◌, arith, inl, inr}
+use Rattle.std.proofs.Common.{◌≡◌, ◌≢◌, ℕ, ◌==◌, ◌&&◌, nat_eq, Bool, true, false, not, List, [], ◌∷◌, ◌++◌, length, codes, Contains, Some, Ok, refl, sym, ap, subst, ◌∙◌, arith, inl, inr}
 use Rattle.std.specs.List.{AllPass, ends_with, list_all, prefix_len, starts_with, suffix_len}
 use Rattle.std.proofs.lemmas.Bool.{and_parts, cases_Bool, eqb-true, not-true, or_cases, or_parts}
 use Rattle.std.proofs.lemmas.Bool.Decides.{Decides-eqb}
@@ -12,11 +12,9 @@ use Rattle.hex.proofs.HexLemmas.{decode_of-encode_lower}
 use Rattle.hex.specs.Hex.{encode_lower}
 use Rattle.ssh_wire.specs.Wire.{IsBytes}
 use Rattle.key_text.specs.Blanks.{is_ending}
-use Rattle.run_faults.specs.declared.spec_cause.SpecCause.{SpecCause}
-use Rattle.krl_types.specs.Entry.{Entry, IdEntry}
+use Rattle.krl_types.specs.Entry.{IdEntry}
 use Rattle.krl_spec.specs.Blanks.{is_hash}
-use Rattle.krl_spec.specs.Directive.{directive_named}
-use Rattle.krl_spec.specs.Entries.{line_entry, order_entry}
+use Rattle.krl_spec.specs.Entries.{order_entry}
 use Rattle.krl_spec.specs.declared.directive.Directive.TheVariants as directives
 use Rattle.krl_spec.proofs.LongestParts.{no_cut}
 use Rattle.list_text.specs.Text.{has_blank_end, id_line, is_text, is_text_byte}
@@ -26,7 +24,7 @@ use Rattle.text_entries.specs.Word.{word_named}
 use Rattle.text_entries.specs.declared.word.Word.TheVariants as words
 use Rattle.text_laws.proofs.Contents.{IsName, IsValue, line_no_hash, line_of, nothing_left, solid_value}
 use Rattle.text_laws.proofs.LineReads.{Reads, line_reads, literal_name, plain_text}
-use Rattle.text_laws.proofs.Orders.{entry_says, word_line_says}
+use Rattle.text_laws.proofs.Orders.{word_line_says}
 use Rattle.text_laws.proofs.SolidBytes.{IsKept, hex_solid}
 
 -- ---- a key ID as it is
@@ -96,10 +94,6 @@ id_word : word_named (codes "id") ≡ Some words.Id
 unfolding word_named
 id_word = refl
 
-id_directive : directive_named (codes "id") ≡ Some directives.Id
-unfolding directive_named
-id_directive = refl
-
 whole : (line : List ℕ) → AllPass (λ byte. not (is_hash byte)) line → is_cut line ≡ false
 unfolding is_cut
 whole line clean = rw (no_cut 35 line clean) refl
@@ -114,11 +108,9 @@ plain_read : (authority id : List ℕ) → IsText id
 plain_read authority id is =
     let kept = text_value id is in
     let line : List ℕ = line_of (codes "id") id [] in
-    let entry : line_entry (Some authority) line ≡ Some (Ok (IdEntry authority id)) =
-    entry_says (Some authority) (codes "id") id [] directives.Id id_name kept nothing_left id_directive ∙ ap (λ (read : Result Entry SpecCause). Some read) (id_entry authority id is.some) in
     let uncut : is_cut line ≡ false = whole line (line_no_hash (codes "id") id id_name kept) in
     line_reads (Some authority) (codes "id") id [] (codes "id: " ++ (id ++ codes "\n")) (Names (IdEntry authority id)) id_name kept nothing_left (plain_text (codes "id") id)
-    (word_line_says (Some authority) (codes "id") id [] words.Id id_name kept nothing_left id_word ∙ rw (uncut, entry) refl)
+    (word_line_says (Some authority) (codes "id") id [] words.Id id_name kept nothing_left id_word ∙ rw (uncut, id_entry authority id is.some) refl)
 
 -- ---- a key ID by its bytes
 

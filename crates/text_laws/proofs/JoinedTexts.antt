@@ -7,11 +7,10 @@ use Rattle.std.proofs.lemmas.List.Sums.{sum_by_push}
 use Rattle.key_text.specs.Lines.{is_newline}
 use Rattle.krl_types.specs.Entry.{Entry}
 use Rattle.krl_spec.specs.Blanks.{after_endings, bare_line}
-use Rattle.krl_spec.specs.Entries.{line_entry}
 use Rattle.key_text.specs.Blanks.{before_ending}
 use Rattle.text_entries.specs.Lines.{LineEntries, before_later, fault_at, lines_from, lines_of}
 use Rattle.text_entries.specs.Says.{Blank, Current, Names, Saying, line_says}
-use Rattle.text_entries.specs.Word.{begins_with_word, order_in}
+use Rattle.text_entries.specs.Word.{order_in}
 use Rattle.text_entries.specs.declared.text_cause.TextCause.{TextCause}
 use Rattle.text_entries.specs.declared.text_fault.TextFault.{TextFault}
 use Rattle.text_entries.proofs.ReadLines.{named_parts, with_entries}
@@ -33,7 +32,7 @@ later_same number current (Err cause) one other same = refl
 
 -- an empty line says nothing
 pub blank_says : (current : Option (List ℕ)) → line_says current [] ≡ Ok Blank
-unfolding line_says bare_line after_endings before_ending order_in begins_with_word line_entry
+unfolding line_says bare_line after_endings before_ending order_in
 blank_says current = refl
 
 pub blank_last : (current : Option (List ℕ)) (number : ℕ) (lines : List (List ℕ))

@@ -15,3 +15,4 @@ mod HeldTexts
 mod ReadBytes
 mod ShownLists
 mod MadeLists
+mod SpecLines

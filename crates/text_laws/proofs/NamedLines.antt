@@ -17,7 +17,6 @@ use Rattle.ssh_key.specs.declared.kind.Kind.TheVariants.{Rsa, Dsa, Ecdsa256, Ecd
 use Rattle.key_text.specs.Fingerprints.{fingerprint_text, unpadded}
 use Rattle.key_text.specs.declared.hash.Hash.TheVariants.{Sha256}
 use Rattle.krl_types.specs.Entry.{KeyEntry}
-use Rattle.krl_spec.specs.Directive.{directive_named}
 use Rattle.krl_spec.specs.Entries.{order_entry}
 use Rattle.krl_spec.specs.Keys.{plain_in}
 use Rattle.krl_spec.specs.declared.directive.Directive.TheVariants as directives
@@ -29,7 +28,7 @@ use Rattle.text_entries.specs.declared.word.Word.TheVariants as words
 use Rattle.text_laws.proofs.Contents.{IsName, IsRest, comment_left, nothing_left, solid_value}
 use Rattle.text_laws.proofs.KeyValues.{key_is_value, key_subject, key_value}
 use Rattle.text_laws.proofs.LineReads.{Reads, comment_text, line_reads, literal_name, plain_text}
-use Rattle.text_laws.proofs.Orders.{spec_line_says, word_line_says}
+use Rattle.text_laws.proofs.Orders.{word_line_says}
 use Rattle.text_laws.proofs.SolidBytes.{HasNoFeed, IsSolid, base64_solid, is_solid, kept_no_feed, solid_kept, unpadded_solid}
 
 -- ---- the fingerprint behind a key
@@ -129,10 +128,6 @@ key_word : word_named (codes "key") ≡ Some words.Key
 unfolding word_named
 key_word = refl
 
-key_directive : directive_named (codes "key") ≡ Some directives.Key
-unfolding directive_named
-key_directive = refl
-
 key_blob_name : IsName (codes "key-blob")
 key_blob_name = literal_name (codes "key-blob") (omega arith) refl refl
 
@@ -155,7 +150,7 @@ named_key current blob bytes (Ok key) read =
     let entry : order_entry current directives.Key value ≡ Ok (KeyEntry blob) = rw (plain_again blob key bytes read) refl in
     line_reads current (codes "key") value rest (named_line (codes "key") blob (Ok key)) (Names (KeyEntry blob)) key_name kept (print_left blob)
     (comment_text (codes "key") (type_name key.kind) (encode_of standard blob) (fingerprint_text Sha256 blob))
-    (spec_line_says current (codes "key") value rest words.Key directives.Key key_name kept (print_left blob) key_word key_directive refl ∙ rw entry refl)
+    (word_line_says current (codes "key") value rest words.Key key_name kept (print_left blob) key_word ∙ rw entry refl)
 named_key current blob bytes (Err fault) read =
     let value : List ℕ = encode_of standard blob in
     let kept = solid_value value (base64_solid blob) in

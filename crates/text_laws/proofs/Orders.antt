@@ -1,28 +1,16 @@
 -- Lines that are a name, a colon, a blank and a value.
-use Rattle.std.proofs.Common.{◌≡◌, ℕ, ◌+◌, ◌<◌, ◌==◌, not, List, [], ◌∷◌, ◌++◌, length, drop, Option, Some, option_map, refl, ap, ◌∙◌, arith}
+use Rattle.std.proofs.Common.{◌≡◌, ℕ, ◌+◌, ◌==◌, not, List, ◌∷◌, ◌++◌, drop, Option, Some, option_map, refl, ap, ◌∙◌}
 use Rattle.std.specs.List.{AllPass, position_or_len, prefix_len}
 use Rattle.key_text.specs.Blanks.{after_blanks, is_blank}
 use Rattle.krl_spec.specs.Blanks.{bare_line}
-use Rattle.krl_spec.specs.Directive.{directive_named, is_colon, order as spec_order, order_in as spec_order_in}
-use Rattle.krl_spec.specs.Entries.{counted_entry, line_entry, order_entry}
-use Rattle.krl_spec.specs.declared.directive.Directive.{Directive}
+use Rattle.krl_spec.specs.Directive.{is_colon}
 use Rattle.krl_spec.proofs.LongestParts.{cut_again, front_gone}
-use Rattle.text_entries.specs.Says.{line_says, spec_says, word_says}
+use Rattle.text_entries.specs.Says.{line_says, word_says}
 use Rattle.text_entries.specs.Word.{order, order_in, word_named}
 use Rattle.text_entries.specs.declared.word.Word.{Word}
 use Rattle.text_laws.proofs.Contents.{IsName, IsRest, IsValue, content_is, line_of, no_blank}
 
 -- ---- the name and the value
-
-spec_order_is : (name gap value : List ℕ) → AllPass (λ byte. not (byte == 58)) name → AllPass is_blank gap
-    → prefix_len is_blank value ≡ 0
-    → spec_order_in (name ++ 58 ∷ (gap ++ value)) ≡ option_map (spec_order value) (directive_named name)
-unfolding spec_order_in after_blanks
-spec_order_is name gap value clean blanks starts =
-    let cut = cut_again 58 name (gap ++ value) clean in
-    let following : after_blanks (drop (position_or_len is_colon (name ++ 58 ∷ (gap ++ value)) + 1) (name ++ 58 ∷ (gap ++ value))) ≡ value =
-    ap after_blanks cut.after ∙ front_gone is_blank gap value blanks starts in
-    rw (cut.within, following, cut.before) refl
 
 order_is : (name gap value : List ℕ) → AllPass (λ byte. not (byte == 58)) name → AllPass is_blank gap
     → prefix_len is_blank value ≡ 0
@@ -36,24 +24,6 @@ order_is name gap value clean blanks starts =
 
 -- ---- the line
 
-some_entry : (authority : Option (List ℕ)) (name rest value : List ℕ) (directive : Directive) → 0 < length name
-    → spec_order_in (name ++ rest) ≡ Some (spec_order value directive)
-    → counted_entry authority (name ++ rest) ≡ Some (order_entry authority directive value)
-some_entry authority [] rest value directive some is = absurd (omega arith)
-some_entry authority (byte ∷ name) rest value directive some is = rw is refl
-
--- a line with the name of a directive
-pub entry_says : (authority : Option (List ℕ)) (name value rest : List ℕ) (directive : Directive) → IsName name
-    → IsValue value → IsRest rest
-    → directive_named name ≡ Some directive
-    → line_entry authority (line_of name value rest) ≡ Some (order_entry authority directive value)
-unfolding line_entry
-entry_says authority name value rest directive is kept left named =
-    let content = content_is name value rest is kept left in
-    let found : spec_order_in (name ++ 58 ∷ (content.gap ++ value)) ≡ Some (spec_order value directive) =
-    spec_order_is name content.gap value is.no_colon content.blanks (no_blank value kept.starts) ∙ ap (option_map (spec_order value)) named in
-    ap (counted_entry authority) content.is ∙ some_entry authority name (58 ∷ (content.gap ++ value)) value directive is.some found
-
 -- a line with a word
 pub word_line_says : (current : Option (List ℕ)) (name value rest : List ℕ) (word : Word) → IsName name
     → IsValue value → IsRest rest
@@ -65,13 +35,3 @@ word_line_says current name value rest word is kept left named =
     let found : order_in (bare_line (line_of name value rest)) ≡ Some (order value word) =
     ap order_in content.is ∙ order_is name content.gap value is.no_colon content.blanks (no_blank value kept.starts) ∙ ap (option_map (order value)) named in
     rw found refl
-
--- a line with a word whose line is as in a specification file
-pub spec_line_says : (current : Option (List ℕ)) (name value rest : List ℕ) (word : Word) (directive : Directive) → IsName name
-    → IsValue value → IsRest rest
-    → word_named name ≡ Some word → directive_named name ≡ Some directive
-    → word_says current (line_of name value rest) word value ≡ spec_says (line_entry current (line_of name value rest))
-    → line_says current (line_of name value rest) ≡ spec_says (Some (order_entry current directive value))
-spec_line_says current name value rest word directive is kept left named directed same =
-    word_line_says current name value rest word is kept left named ∙ same
-    ∙ ap spec_says (entry_says current name value rest directive is kept left directed)

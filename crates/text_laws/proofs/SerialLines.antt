@@ -7,7 +7,6 @@ use Rattle.std.proofs.lemmas.List.Elements.{All-append, All-cons, All-nil}
 use Rattle.serial_set.specs.declared.span.Span.{Span}
 use Rattle.key_text.specs.Blanks.{is_blank}
 use Rattle.krl_types.specs.Entry.{RangeEntry}
-use Rattle.krl_spec.specs.Directive.{directive_named}
 use Rattle.krl_spec.specs.Entries.{order_entry}
 use Rattle.krl_spec.specs.Number.{serials_of_text}
 use Rattle.krl_spec.specs.Spelled.{AreBounds, IsNumber, decimal as is_decimal, one_number, two_numbers}
@@ -20,7 +19,7 @@ use Rattle.text_entries.specs.declared.word.Word.TheVariants as words
 use Rattle.text_laws.specs.FactLines.{AreSerials}
 use Rattle.text_laws.proofs.Contents.{IsName, nothing_left, solid_value}
 use Rattle.text_laws.proofs.LineReads.{Reads, line_reads, literal_name, plain_text}
-use Rattle.text_laws.proofs.Orders.{spec_line_says}
+use Rattle.text_laws.proofs.Orders.{word_line_says}
 use Rattle.text_laws.proofs.SolidBytes.{IsSolid, decimal_solid, is_solid}
 
 abbrev span_of : ℕ → ℕ → Span
@@ -47,10 +46,6 @@ serial_word : word_named (codes "serial") ≡ Some words.Serial
 unfolding word_named
 serial_word = refl
 
-is_directive : directive_named (codes "serial") ≡ Some directives.Serial
-unfolding directive_named
-is_directive = refl
-
 serial_reads : (authority value text : List ℕ) (lo hi : ℕ) → AllPass is_solid value → AreBounds value lo hi
     → AreSerials (span_of lo hi)
     → text ≡ codes "serial" ++ 58 ∷ 32 ∷ (value ++ 10 ∷ [])
@@ -59,7 +54,7 @@ serial_reads authority value text lo hi solid are order spelled =
     let kept = solid_value value solid in
     let entry : order_entry (Some authority) directives.Serial value ≡ Ok (RangeEntry authority lo hi) = rw (serials_are value lo hi are order) refl in
     line_reads (Some authority) (codes "serial") value [] text (Names (RangeEntry authority lo hi)) serial_name kept nothing_left (spelled ∙ plain_text (codes "serial") value)
-    (spec_line_says (Some authority) (codes "serial") value [] words.Serial directives.Serial serial_name kept nothing_left serial_word is_directive refl ∙ rw entry refl)
+    (word_line_says (Some authority) (codes "serial") value [] words.Serial serial_name kept nothing_left serial_word ∙ rw entry refl)
 
 one_solid : (n hi : ℕ) → AreSerials (span_of n hi) → AllPass is_solid (decimal n)
 one_solid n hi order = decimal_solid n (omega (arith, order.rises, order.fits))

@@ -2,3 +2,4 @@ pub mod Joined
 pub mod FactLines
 pub mod ReadBack
 pub mod MadeLists
+pub mod SpecLines

@@ -1,13 +1,19 @@
 //! Laws of the texts of lists. Each function does nothing: its contract is the law.
 
-ghost use Rattle.std.specs.Prelude.{◌≡◌, ℕ, List, [], ◌∷◌, ◌++◌, All, Option, None, Some};
+ghost use Rattle.std.specs.Prelude.{◌≡◌, ℕ, List, [], ◌∷◌, ◌++◌, All, Option, None, Some, false};
+ghost use Rattle.krl_spec.specs.Blanks.{bare_line};
+ghost use Rattle.krl_spec.specs.Directive.{order as spec_order, order_in as spec_order_in};
+ghost use Rattle.krl_spec.specs.Entries.{line_entry};
+ghost use Rattle.krl_spec.specs.declared.directive.Directive.{Directive};
 ghost use Rattle.text_entries.specs.Lines.{lines_of};
 ghost use Rattle.text_entries.specs.declared.text_fault.TextFault.{TextFault};
 ghost use Rattle.krl_entries.specs.Canonical.{entries_in};
 ghost use Rattle.krl_entries.specs.Revocations.{Means, Revocations, nothing};
 ghost use Rattle.list_text.specs.Facts.{Fact};
 ghost use Rattle.list_text.specs.Text.{fact_line, text_of};
+ghost use Rattle.text_entries.specs.Says.{line_says};
 ghost use Rattle.text_entries.specs.TextCause.{no_memory};
+ghost use Rattle.text_entries.specs.Word.{begins_with_word, order_in};
 ghost use Rattle.text_laws.specs.FactLines.{FitsUnder, IsLineOf, fact_says};
 ghost use Rattle.krl_types.specs.Entry.{Entry};
 ghost use Rattle.krl_types.specs.Naming.{NamesSame};
@@ -15,6 +21,7 @@ ghost use Rattle.plain_list.specs.Any.{Names};
 ghost use Rattle.ssh_wire.specs.Wire.{IsBytes};
 ghost use Rattle.text_laws.specs.ReadBack.{CanBeShown, IsReadAs, IsReadInto, IsStored, Shown};
 ghost use Rattle.text_laws.specs.ReadBack.{StopsWith, entries_of_lists, text_of_lists};
+ghost use Rattle.text_laws.specs.SpecLines.{IsReadAlike, spec_says};
 ghost use Rattle.text_laws.specs.Joined.{AreWholeLines, LacksNoAuthority, later_by, lines_in};
 ghost use Rattle.krl_writer.specs.KrlText.{IsKrlText};
 ghost use Rattle.list_text.specs.declared.counts.Counts.{Counts as CountsOf};
@@ -35,6 +42,18 @@ pub fn texts_join()
         → (lines_of (front ++ back)).fault ≡ later_by (lines_in front) (lines_of back).fault }
     ensures stops { (front back : List ℕ) (fault : TextFault) → AreWholeLines front
         → (lines_of front).fault ≡ Some fault → lines_of (front ++ back) ≡ lines_of front }
+{}
+
+/// A line of a specification file says the same in a text: one with a directive, but for a key ID
+/// that is cut short and a SHA-1, and one without, unless it begins with a word and a colon.
+pub fn spec_lines_say_the_same()
+    ensures directives { (current : Option (List ℕ)) (line given : List ℕ) (directive : Directive)
+        → spec_order_in (bare_line line) ≡ Some (spec_order given directive)
+        → IsReadAlike line directive given
+        → line_says current line ≡ spec_says (line_entry current line) }
+    ensures keys { (current : Option (List ℕ)) (line : List ℕ)
+        → order_in (bare_line line) ≡ None → begins_with_word (bare_line line) ≡ false
+        → line_says current line ≡ spec_says (line_entry current line) }
 {}
 
 /// The text of a fact is one line, and reading it gives the fact: the authority, or the entry under

@@ -1,8 +1,0 @@
--- The line is added under the current authority.
-use Rattle.text_entries.proofs.Said.{spec_done}
-use Rattle.text_entries.proofs.line.take_spec_line.Goals as goal
-
-pub returns-in-Ok : goal.returns-in-Ok
-returns-in-Ok g c =
-    let adds = rw c.under.ensures at c.in-Ok.ensures.adds in
-    spec_done _ c.args.current.now _ _ adds
