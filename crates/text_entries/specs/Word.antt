@@ -26,7 +26,7 @@ name_of Hash = spec_name directives.Hash
 
 abbrev pub words : List Word
 words =
-    Authority ∷ AuthorityBlob ∷ Serial ∷ Id ∷ IdHex ∷ Key ∷ KeyBlob ∷ Sha1 ∷ Sha256 ∷ Hash ∷ []
+    Serial ∷ Id ∷ Hash ∷ Key ∷ Authority ∷ AuthorityBlob ∷ IdHex ∷ KeyBlob ∷ Sha1 ∷ Sha256 ∷ []
 
 -- the name is that of the word, in upper or lower case
 abbrev pub is_named : Word → List ℕ → Bool

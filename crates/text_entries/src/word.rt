@@ -10,17 +10,18 @@ use crate::one_off::is_one_off;
 use key_text::{after_blanks, is_blank};
 use krl_spec::position_of;
 
+// Those that most lines begin with come first.
 const WORDS: [Word; 10] = [
-    Word::Authority,
-    Word::AuthorityBlob,
     Word::Serial,
     Word::Id,
-    Word::IdHex,
+    Word::Hash,
     Word::Key,
+    Word::Authority,
+    Word::AuthorityBlob,
+    Word::IdHex,
     Word::KeyBlob,
     Word::Sha1,
     Word::Sha256,
-    Word::Hash,
 ];
 
 /// The word at the beginning of a line, before a colon.

@@ -103,7 +103,7 @@ const MISSPELT: [(&[u8], &[u8], &[u8], &[u8]); 10] = [
     (b"ca_blob: eA==", b"1", b"ca_blob", b"ca-blob"),
     (b"sha255: x", b"1", b"sha255", b"sha256"),
     // The first of two words.
-    (b"ia: x", b"1", b"ia", b"ca"),
+    (b"ia: x", b"1", b"ia", b"id"),
     // No byte of a text is printed that a terminal obeys, and none ends the quotes.
     (b"ca\x1b: all", b"1", b"ca\\x1b", b"ca"),
     (b"i\"d: a", b"1", b"i\\\"d", b"id"),
