@@ -38,6 +38,7 @@ impl Counts {
     };
 
     /// Counts a fact.
+    #[inline(always)]
     pub fn add(&mut self, fact: Fact<'_>)
         ensures { self.new ≡ counted self.old (fact_of fact.entry) }
     {

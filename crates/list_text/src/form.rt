@@ -26,6 +26,7 @@ pub enum Form {
 
 impl Form {
     /// Makes the line of a fact, with its line feed. It is empty for an authority as JSON.
+    #[inline(always)]
     pub fn write_fact(
         self,
         alloc: Global,

@@ -48,6 +48,7 @@ fn mark_of(side: Side, fact: Fact<'_>) -> &'static [u8]
 }
 
 /// Appends the line of a fact.
+#[inline(always)]
 #[tactic(auto, unfolding(crate::specs::Text::fact_line))]
 pub(crate) fn push_line(alloc: Global, fact: Fact<'_>, line: &mut Vec<u8>) -> Result<(), AllocError>
     ensures { OnOk result (line.new.items ≡ line.old.items ++ fact_line (fact_of fact.entry)) }

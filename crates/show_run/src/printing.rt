@@ -14,7 +14,8 @@ use run_output::Run;
 // The name in the fault of a line for which there is no memory.
 const MEMORY: &str = "memory";
 
-/// Shows a fact, and counts it.
+/// Shows a fact, and counts it. Each call has the code of its own kind of fact alone.
+#[inline(always)]
 pub(crate) fn show_fact<'a, W: Sink>(
     run: &mut Run<'_, W>,
     counts: &mut Counts,
