@@ -3,11 +3,12 @@ use Rattle.std.proofs.Common.{◌-◌, ◌≡◌, Bool, Err, false, List, None, 
 use Rattle.std.specs.Prelude.{◌==◌, nat_le, nat_lt, not, if◌then◌else◌}
 use Rattle.ssh_wire.specs.Rows.{fault_unless, unless}
 use Rattle.ssh_wire.specs.Wire.{number_of}
+use Rattle.krl_types.specs.Item.{item_size}
 use Rattle.krl_types.specs.declared.krl_fault.KrlFault.{KrlFault}
 use Rattle.krl_types.specs.declared.krl_fault.KrlFault.TheVariants as faults
 use Rattle.krl_format.specs.Field.{magic_number}
 use Rattle.krl_format.specs.Front.{IsFirstKrlFault, Reported, ended, ends_early, no_room, refused, too_long}
-use Rattle.krl_format.specs.Place.{base_of, bits_within, expected, item_size, next_bits, passes_end, place_after}
+use Rattle.krl_format.specs.Place.{base_of, bits_within, expected, next_bits, passes_end, place_after}
 use Rattle.krl_format.specs.Section.{SectionRow, content_of, length_of, next_subsection, section_of, section_row, signature_type, subsection_of, subsection_row}
 use Rattle.krl_format.specs.declared.place.Place.{Place}
 use Rattle.krl_format.specs.declared.place.Place.TheVariants as places

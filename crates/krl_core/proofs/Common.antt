@@ -36,8 +36,9 @@ pub use Rattle.krl_format.specs.Faults.{Says, failed_read, first, ran_out}
 pub use Rattle.serial_set.specs.declared.span.Span.{Span}
 pub use Rattle.krl_format.specs.Krl.{Spells}
 pub use Rattle.krl_types.proofs.Elements.{all_append, contains_cases, contains_none}
-pub use Rattle.krl_format.specs.Place.{authority_after, base_of, bits_judged, can_end, expected, header_after, highest_bit, item_entry}
-pub use Rattle.krl_format.specs.Place.{item_size, names, next_bits, passes_end}
+pub use Rattle.krl_format.specs.Place.{authority_after, base_of, bits_judged, can_end, expected, header_after, highest_bit}
+pub use Rattle.krl_format.specs.Place.{names, next_bits, passes_end}
+pub use Rattle.krl_types.specs.Item.{IsItem, item_entry, item_size}
 pub use Rattle.krl_format.specs.Section.{next_serial, next_subsection}
 pub use Rattle.std.proofs.lemmas.Bool.{cases_Bool, false≢true, lt-leb}
 pub use Rattle.std.proofs.lemmas.List.Folds.{concat-append}

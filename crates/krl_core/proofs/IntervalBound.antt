@@ -20,7 +20,7 @@ use Rattle.krl_entries.proofs.Intervals.{length-intervals, most}
 use Rattle.krl_entries.proofs.OneMeaning.{section_authority, held_first, not_before_itself}
 use Rattle.krl_entries.proofs.OneMeaning.{above_named}
 use Rattle.std.proofs.Math.Logic.Iff as Iff
-use Rattle.krl_format.specs.declared.section.ItemKind.TheVariants as kinds
+use Rattle.krl_types.specs.declared.item_kind.ItemKind.TheVariants as kinds
 use Rattle.krl_format.specs.declared.place.Place.TheVariants as places
 
 -- ---- the intervals of entries under one authority

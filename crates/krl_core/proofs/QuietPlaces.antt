@@ -5,12 +5,13 @@ use Rattle.ssh_wire.proofs.Steps.{passed_ok}
 use Rattle.ssh_wire.specs.Wire.{number_of}
 use Rattle.krl_types.specs.Entry.{Entry}
 use Rattle.krl_types.specs.declared.krl_fault.KrlFault.TheVariants as faults
-use Rattle.krl_format.specs.Place.{authority_after, expected, item_size, names}
+use Rattle.krl_format.specs.Place.{authority_after, expected, names}
+use Rattle.krl_types.specs.Item.{item_size}
 use Rattle.krl_format.specs.Section.{content_of, next_item, next_serial, next_subsection, section_row, subsection_of, subsection_row}
 use Rattle.krl_format.specs.declared.place.Place.{Place}
 use Rattle.krl_format.specs.declared.place.Place.TheVariants as places
-use Rattle.krl_format.specs.declared.section.ItemKind.{ItemKind}
-use Rattle.krl_format.specs.declared.section.ItemKind.TheVariants as kinds
+use Rattle.krl_types.specs.declared.item_kind.ItemKind.{ItemKind}
+use Rattle.krl_types.specs.declared.item_kind.ItemKind.TheVariants as kinds
 use Rattle.krl_format.specs.declared.section.Section.{Section}
 use Rattle.krl_format.specs.declared.section.Section.TheVariants as section_kinds
 use Rattle.krl_format.specs.declared.section.Subsection.{Subsection}

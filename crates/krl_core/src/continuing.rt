@@ -1,17 +1,17 @@
 //! Continuing over another store.
 
-ghost use Rattle.std.specs.Prelude.{◌≡◌, ◌≢◌, [], All, IfOk, List, None, OnErr, OnOk, length, map};
+ghost use Rattle.std.specs.Prelude.{◌≡◌, ◌≢◌, [], All, IfOk, List, None, OnErr, OnOk, map};
 ghost use Rattle.krl_core.specs.FieldStore.{Gains, StoresEntries, StoresInScope, stored_header};
-ghost use Rattle.krl_format.specs.Place.{item_entry, item_size};
 ghost use Rattle.krl_entries.specs.Canonical.{entries_in, section_entries};
 ghost use Rattle.krl_entries.specs.Changes.{run_entries};
 ghost use Rattle.krl_types.specs.Entry.{Entry};
+ghost use Rattle.krl_types.specs.Item.{IsItem, item_entry};
 ghost use Rattle.krl_entries.specs.Revocations.{nothing};
 ghost use Rattle.krl_entries.specs.Scope.{all};
 
 use crate::field_store::FieldStore;
 use krl_entries::{Listed, Revocations, Store, Texts};
-use krl_format::ItemKind;
+use krl_types::ItemKind;
 use serial_set::Spans;
 use std::alloc::{AllocError, Global};
 
@@ -90,7 +90,7 @@ impl<T: Store> FieldStore<T> {
 
     // Adds keys, hashes of one kind, or key IDs under the authority in force.
     fn add_items(&mut self, kind: ItemKind, items: Texts<'_>) -> Result<(), AllocError>
-        requires { All (λ item. length item ≡ item_size kind (length item)) items }
+        requires { All (IsItem kind) items }
         ensures gains { OnOk result (Gains self.old
             (map (item_entry kind self.old.authority) items.entry) self.new) }
         ensures some { OnErr result (items.entry ≢ []) }

@@ -6,6 +6,7 @@ ghost use Rattle.serial_set.specs.BitRuns.{IsInterval};
 ghost use Rattle.serial_set.specs.Near.{AreNear};
 ghost use Rattle.krl_entries.specs.Revocations.{nothing};
 ghost use Rattle.krl_types.specs.Entry.{Entry, SerialsEntry, RangeEntry};
+ghost use Rattle.krl_types.specs.Item.{IsItem, item_entry};
 ghost use Rattle.krl_types.specs.Naming.{SerialOf};
 ghost use Rattle.krl_entries.specs.Scope.{AreOutOfScope, InScope, all};
 ghost use Rattle.krl_entries.specs.Scope.{stored_comment};
@@ -16,13 +17,13 @@ ghost use Rattle.krl_core.specs.FieldStore.{StoresBits, StoresField, ChangesOnly
 ghost use Rattle.krl_core.specs.FieldStore.{StoresInScope, Skips, StoresNoMore, TakesByte};
 ghost use Rattle.krl_entries.specs.Changes.{run_entries};
 ghost use Rattle.krl_core.specs.FieldStore.{held_with_open, stored_header};
-ghost use Rattle.krl_format.specs.Place.{item_entry, item_size};
 ghost use Rattle.krl_format.specs.FixedFields.{is_fixed};
 
-use krl_entries::{Addition, Certificates, Revocations, Store};
-use krl_format::{Field, Header, ItemKind, Place};
+use krl_entries::{Addition, Revocations, Store};
+use krl_format::{Field, Header, Place};
+use krl_types::ItemKind;
 use serial_set::{BitRuns, Span, Spans, count_near};
-use ssh_wire::{Bytes, array_of, byte_of, u64_of};
+use ssh_wire::{Bytes, byte_of, u64_of};
 use std::alloc::{AllocError, Global};
 use std::marker::Model;
 
@@ -222,28 +223,19 @@ impl<T: Store> FieldStore<T> {
         ensures stored { StoresNoMore self.old self.new }
         ensures rest { ChangesOnlyEntries self.old self.new }
     {
-        let serials = Certificates::Serials(near);
         self.store
-            .store(Addition::Under(self.authority.as_slice(), serials))
+            .store(self.authority.as_slice(), Addition::Serials(near))
     }
 
     // Adds a key, a hash, or a key ID under the authority in force.
     pub(crate) fn add_item(&mut self, kind: ItemKind, item: &[u8]) -> Result<(), AllocError>
-        requires { length item.now ≡ item_size kind (length item.now) }
+        requires { IsItem kind item.now }
         ensures adds { OnOk result
             (Adds self.old (item_entry kind self.old.authority item.now ∷ []) self.new) }
         ensures grows { GrowsAtMost (length item.now) self.old self.new }
     {
-        match kind {
-            ItemKind::Key => self.store.store(Addition::Key(item)),
-            ItemKind::Sha1 => self.store.store(Addition::Sha1(&array_of(item))),
-            ItemKind::Sha256 => self.store.store(Addition::Sha256(&array_of(item))),
-            ItemKind::Id => {
-                let id = Certificates::Id(item);
-                self.store
-                    .store(Addition::Under(self.authority.as_slice(), id))
-            }
-        }
+        self.store
+            .store(self.authority.as_slice(), Addition::Item(kind, item))
     }
 
     // Feeds a byte to the current bitmap, and adds the runs that it finishes. The last byte also

@@ -1,5 +1,5 @@
 -- Additions keep sections in order and mean one entry more.
-use Rattle.krl_entries.proofs.Common.{[], ◌++◌, ◌+◌, ◌<◌, ◌↔◌, ◌∷◌, ◌≡◌, ◌≤◌, ◌⊎◌, Certificates, AddsTo}
+use Rattle.krl_entries.proofs.Common.{[], ◌++◌, ◌+◌, ◌<◌, ◌↔◌, ◌∷◌, ◌≡◌, ◌≤◌, ◌⊎◌, Addition, AddsTo}
 use Rattle.krl_entries.proofs.Common.{All, All-cons, All-head, All-tail, ap, AreSerials, arith}
 use Rattle.krl_entries.proofs.Common.{Contains, Covers, empty_section, inl, inr, IsOrderlySection, IsRuns}
 use Rattle.krl_entries.proofs.Common.{length, List, Puts, refl, Rises, RisesBy, Section, size_of}
@@ -83,7 +83,7 @@ all_middle P (y ∷ front) x back =
       λ h. All-cons P y (front ++ x ∷ back) (All-head P y (front ++ back) h.1) (rest.1 (h.0, All-tail P y (front ++ back) h.1)),
     )
 
-pub adds_listed : (addition : Certificates) (authority : List ℕ) (old new : List Section) → ((from to : Section) → InOrder from → TakesAddition addition from to → IsOrderlySection to) → AddsTo addition authority old new → All IsOrderlySection old → All IsOrderlySection new
+pub adds_listed : (addition : Addition) (authority : List ℕ) (old new : List Section) → ((from to : Section) → InOrder from → TakesAddition addition from to → IsOrderlySection to) → AddsTo addition authority old new → All IsOrderlySection old → All IsOrderlySection new
 adds_listed addition authority old new lists adds a =
     elim adds [
       | inl c ↦
@@ -94,7 +94,7 @@ adds_listed addition authority old new lists adds a =
           subst (All IsOrderlySection) (sym n.put.after) ((all_middle IsOrderlySection n.put.front n.section n.put.back).1 (lists (empty_section authority) n.section none n.takes, subst (All IsOrderlySection) n.put.before a))
     ]
 
-pub adds_rise : (addition : Certificates) (authority : List ℕ) (old new : List Section) → AddsTo addition authority old new → RisesBy (λ section. section.authority) old → RisesBy (λ section. section.authority) new
+pub adds_rise : (addition : Addition) (authority : List ℕ) (old new : List Section) → AddsTo addition authority old new → RisesBy (λ section. section.authority) old → RisesBy (λ section. section.authority) new
 adds_rise addition authority old new adds r =
     elim adds [
       | inl c ↦ changes_rise addition authority old new c r

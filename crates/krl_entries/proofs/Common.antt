@@ -1,7 +1,7 @@
 -- The names that most proofs of this crate cite, passed on from one place. Declares nothing.
-pub use Rattle.krl_entries.specs.declared.addition.Certificates.{Certificates}
+pub use Rattle.krl_entries.specs.declared.addition.Addition.{Addition}
 pub use Rattle.krl_entries.specs.Changes.{AddsTo, ChangesOne, HoldsMore, IsOneChange, MeansMore, Puts, TakesAddition, TakesId}
-pub use Rattle.krl_entries.specs.Changes.{TakesSerials, entries_under, bytes_in, empty_section, run_entries}
+pub use Rattle.krl_entries.specs.Changes.{TakesSerials, added_entries, bytes_in, empty_section, run_entries}
 pub use Rattle.krl_entries.specs.Gathered.{AddsUnder, Gathered, HasPlace, IsTaken, TakesOut, whole, with_section}
 pub use Rattle.std.proofs.Common.{All, BTreeSet, Bool, Bor, Contains, Err, HoldsAt, IfOk}
 pub use Rattle.std.proofs.Common.{IsSortedBy, IsTrue, List, MatchOption, MatchResult, None, Ok, OnErr}
@@ -25,7 +25,7 @@ pub use Rattle.krl_entries.specs.Ids.{GoesTo, ids_of}
 pub use Rattle.krl_entries.specs.Revocations.{HoldsId, HoldsName, HoldsSerial, IsOrderlySection, IsNamed, IsOrderly, IsStoredAtMost, IsUnder}
 pub use Rattle.krl_entries.specs.Revocations.{Means, Revocations, Section, SomeSection, held, nothing, revocations_of, section_size}
 pub use Rattle.krl_entries.specs.Revocations.{section_with, size_of, stored}
-pub use Rattle.krl_entries.specs.declared.addition.Certificates.TheVariants.{Id, Serials}
+pub use Rattle.krl_entries.specs.declared.addition.Addition.TheVariants.{Item, Serials}
 pub use Rattle.std.proofs.lemmas.Result.{IfOk-weaker, on_ok_weaker}
 pub use Rattle.krl_entries.specs.Scope.{InScope, MeansInScope, MeansMoreInScope, Scope, all, serial_at}
 pub use Rattle.krl_entries.specs.Inserting.{Inserts, Stands}

@@ -1,9 +1,10 @@
 -- The names that a section holds after an addition.
-use Rattle.krl_entries.proofs.Common.{[], ◌↔◌, ◌∙◌, ◌∷◌, ◌≡◌, entries_under, Certificates, ap, Bor}
-use Rattle.krl_entries.proofs.Common.{Contains, Covers, empty_section, EntryNames, Id, IdEntry}
-use Rattle.krl_entries.proofs.Common.{IdOf, inl, inr, List, Name, RangeEntry, run_entries, Section}
+use Rattle.krl_entries.proofs.Common.{[], ◌↔◌, ◌∙◌, ◌∷◌, ◌≡◌, added_entries, Addition, ap, Bor}
+use Rattle.krl_entries.proofs.Common.{Contains, Covers, empty_section, EntryNames, IdEntry, IsOneChange}
+use Rattle.krl_entries.proofs.Common.{IdOf, inl, inr, Item, List, Name, RangeEntry, run_entries, Section}
 use Rattle.krl_entries.proofs.Common.{SerialOf, Serials, SomeNames, Span, subst, sym, TakesAddition}
 use Rattle.krl_entries.proofs.Common.{ℕ}
+use Rattle.krl_types.specs.declared.item_kind.ItemKind.TheVariants as kinds
 use Rattle.krl_entries.proofs.AddedSections.{put_held}
 use Rattle.krl_entries.proofs.Runs.{run_entries-name}
 use Rattle.krl_types.proofs.Equivalences.{iff_none, iff_or}
@@ -12,14 +13,14 @@ use Rattle.krl_types.proofs.Elements.{contains_none}
 use Rattle.std.proofs.Math.Logic.Iff as Iff
 
 -- a part of a section that an addition does not change is held as before
-stays : (addition : Certificates) (b a : List ℕ) (Q : Section → Type 0) → ((from to : Section) → TakesAddition addition from to → (to.authority ≡ from.authority) × (Q to ↔ Q from)) → (Q (empty_section b) → ⊥)
+stays : (addition : Addition) (b a : List ℕ) (Q : Section → Type 0) → ((from to : Section) → TakesAddition addition from to → (to.authority ≡ from.authority) × (Q to ↔ Q from)) → (Q (empty_section b) → ⊥)
     → AddsProperty addition b (λ section. (section.authority ≡ a) × Q section) ⊥
 stays addition b a Q same none = record {
   one = λ from to under t. let k = same from to t in Iff.trans (λ h. (sym k.0 ∙ h.0, k.1.0 h.1), λ h. (k.0 ∙ h.0, k.1.1 h.1)) (iff_none (λ no. no));
   none = λ h. none h.1;
 }
 
-nothing_new : (addition : Certificates) (b : List ℕ) → AddsProperty addition b (λ section. ⊥) ⊥
+nothing_new : (addition : Addition) (b : List ℕ) → AddsProperty addition b (λ section. ⊥) ⊥
 nothing_new addition b = record { one = λ from to under t. iff_none (λ no. no); none = λ h. h }
 
 -- the entries of spans name only serials
@@ -28,7 +29,7 @@ runs_name_none b [] name none h = h
 runs_name_none b (x ∷ xs) name none h = elim h [ inl here ↦ none x.lo x.hi here | inr later ↦ runs_name_none b xs name none later ]
 
 -- an addition that changes nothing here, for an entry that names nothing here
-step_none : (addition : Certificates) (b : List ℕ) (P : Section → Type 0) (Q : Type 0) → (Q → ⊥) → AddsProperty addition b P ⊥ → AddsProperty addition b P Q
+step_none : (addition : Addition) (b : List ℕ) (P : Section → Type 0) (Q : Type 0) → (Q → ⊥) → AddsProperty addition b P ⊥ → AddsProperty addition b P Q
 step_none addition b P Q none step = record {
   one = λ from to under t. Iff.trans (step.one from to under t) (Iff.trans (Iff.symm (iff_none (λ no. no))) (iff_none none));
   none = step.none;
@@ -57,9 +58,9 @@ serials_step near b (IdOf a text) =
 serials_step near b name =
     step_none (Serials near) b (HeldIn name) (SomeNames (run_entries b near.now) name) (runs_name_none b near.now name (λ lo hi no. no)) (nothing_new (Serials near) b)
 
-id_step : (added : Bor (List ℕ)) (b : List ℕ) (name : Name) → AddsProperty (Id added) b (HeldIn name) (EntryNames (IdEntry b added.now) name)
+id_step : (added : Bor (List ℕ)) (b : List ℕ) (name : Name) → AddsProperty (Item kinds.Id added) b (HeldIn name) (EntryNames (IdEntry b added.now) name)
 id_step added b (SerialOf a s) =
-    stays (Id added) b a (λ section. Covers section.spans s) (λ from to t.
+    stays (Item kinds.Id added) b a (λ section. Covers section.spans s) (λ from to t.
     (ap (λ (x : Section). x.authority) t.same, subst (λ (l : List Span). Covers to.spans s ↔ Covers l s) (ap (λ (x : Section). x.spans) t.same) Iff.rfl)) (λ none. none)
 id_step added b (IdOf a text) = record {
   one = λ from to under t.
@@ -70,11 +71,11 @@ id_step added b (IdOf a text) = record {
       );
   none = λ h. contains_none text h.1;
 }
-id_step added b name = nothing_new (Id added) b
+id_step added b name = nothing_new (Item kinds.Id added) b
 
 -- what an addition changes is what its entries name
-pub addition_step : (addition : Certificates) (b : List ℕ) (name : Name) → AddsProperty addition b (HeldIn name) (SomeNames (entries_under b addition) name)
-addition_step (Serials near) b name = serials_step near b name
-addition_step (Id text) b name =
+pub addition_step : (addition : Addition) (b : List ℕ) (name : Name) → IsOneChange addition → AddsProperty addition b (HeldIn name) (SomeNames (added_entries b addition) name)
+addition_step (Serials near) b name one = serials_step near b name
+addition_step (Item kind text) b name one =
     let step = id_step text b name in
-    record { one = λ from to under t. Iff.trans (step.one from to under t) (iff_or Iff.rfl (iff_none (λ no. no))); none = step.none }
+    rw one (record { one = λ from to under t. Iff.trans (step.one from to under t) (iff_or Iff.rfl (iff_none (λ no. no))); none = step.none })

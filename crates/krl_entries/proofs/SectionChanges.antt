@@ -1,7 +1,7 @@
 -- The effect of an addition to one section on all sections.
-use Rattle.krl_entries.proofs.Common.{[], ◌++◌, ◌∙◌, ◌∷◌, ◌≡◌, Certificates, AddsTo, AllAbove}
+use Rattle.krl_entries.proofs.Common.{[], ◌++◌, ◌∙◌, ◌∷◌, ◌≡◌, Addition, AddsTo, AllAbove}
 use Rattle.krl_entries.proofs.Common.{AllByRecursion, AllocError, ap, Bor, bytes_cmp, ChangesOne}
-use Rattle.krl_entries.proofs.Common.{cond, empty_section, Equal, Err, exact_bytes, Greater, Id}
+use Rattle.krl_entries.proofs.Common.{cond, empty_section, Equal, Err, exact_bytes, Greater, Item}
 use Rattle.krl_entries.proofs.Common.{inl, inr, insert_entry, is_at, is_eq, IsStrictlySortedBy}
 use Rattle.krl_entries.proofs.Common.{Less, List, map, map-append, match_ordering, MatchOption}
 use Rattle.krl_entries.proofs.Common.{MatchResult, name_of, named_sections, None, Ok, OnErr, OnOk}
@@ -14,11 +14,11 @@ use Rattle.krl_entries.specs.declared.authority_entries.AuthorityEntries.{Author
 use Rattle.krl_entries.proofs.RisingLists.{above_map, back_above, below_map, front_below}
 use Rattle.krl_entries.proofs.RisingLists.{inserts_map, rises_changed, tied}
 
-pub takes_authority : (addition : Certificates) (from to : Section) → TakesAddition addition from to → to.authority ≡ from.authority
+pub takes_authority : (addition : Addition) (from to : Section) → TakesAddition addition from to → to.authority ≡ from.authority
 takes_authority (Serials near) from to t = ap (λ (s : Section). s.authority) t.same
-takes_authority (Id text) from to t = ap (λ (s : Section). s.authority) t.same
+takes_authority (Item kind text) from to t = ap (λ (s : Section). s.authority) t.same
 
-pub changes_rise : (addition : Certificates) (authority : List ℕ) (old new : List Section) → ChangesOne (TakesAddition addition) authority old new → RisesBy (λ section. section.authority) old → RisesBy (λ section. section.authority) new
+pub changes_rise : (addition : Addition) (authority : List ℕ) (old new : List Section) → ChangesOne (TakesAddition addition) authority old new → RisesBy (λ section. section.authority) old → RisesBy (λ section. section.authority) new
 changes_rise addition authority old new c r =
     let key : Section → List ℕ = λ section. section.authority in
     subst (RisesBy key) (sym c.after)
@@ -176,7 +176,7 @@ module _ {S : Type 0} where
         }
 
     -- the section takes the addition, or the addition is refused and the section stays the same
-    pub adds : (addition : Certificates) (k : List ℕ) (result : Result (Unit {0}) AllocError) (from to : AuthorityEntries S) (old new : Mapped S) → lookup (is_at (at_name k)) old ≡ Some from → new ≡ set_value (is_at (at_name k)) old to
+    pub adds : (addition : Addition) (k : List ℕ) (result : Result (Unit {0}) AllocError) (from to : AuthorityEntries S) (old new : Mapped S) → lookup (is_at (at_name k)) old ≡ Some from → new ≡ set_value (is_at (at_name k)) old to
         → MatchResult result (λ _. TakesAddition addition (section_of spans (k, from)) (section_of spans (k, to))) (λ _. section_of spans (k, to) ≡ section_of spans (k, from))
         → OnOk result (AddsTo addition k (sections_of spans (named_sections old)) (sections_of spans (named_sections new))) × OnErr result (sections_of spans (named_sections new) ≡ sections_of spans (named_sections old))
     adds addition k (Ok done) from to old new was is changed = (inl (changes_one (TakesAddition addition) k from to old new was is changed), tt)
@@ -184,7 +184,7 @@ module _ {S : Type 0} where
         (tt, changes_none k (sections_of spans (named_sections old)) (sections_of spans (named_sections new)) (changes_one (λ from to. to ≡ from) k from to old new was is same))
 
     -- a new section
-    pub starts : (addition : Certificates) (k : Vec ℕ) (section : AuthorityEntries S) (old new : Mapped S) → lookup (is_at (at_name k.items)) old ≡ None → new ≡ insert_entry by_bytes old k section → RisesBy name_of (named_sections new)
+    pub starts : (addition : Addition) (k : Vec ℕ) (section : AuthorityEntries S) (old new : Mapped S) → lookup (is_at (at_name k.items)) old ≡ None → new ≡ insert_entry by_bytes old k section → RisesBy name_of (named_sections new)
         → TakesAddition addition (empty_section k.items) (section_of spans (k.items, section)) → AddsTo addition k.items (sections_of spans (named_sections old)) (sections_of spans (named_sections new))
     starts addition k section old new none is r takes =
         let s = splits k.items section (named_sections old) (none_found k.items (named_sections old) (sym (named_lookup k.items old) ∙ none)) in

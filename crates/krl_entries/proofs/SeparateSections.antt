@@ -1,5 +1,5 @@
 -- Sections that are kept apart.
-use Rattle.krl_entries.proofs.Common.{[], ◌++◌, ◌∙◌, ◌∷◌, ◌≡◌, ◌⊎◌, Certificates, All, AllByRecursion}
+use Rattle.krl_entries.proofs.Common.{[], ◌++◌, ◌∙◌, ◌∷◌, ◌≡◌, ◌⊎◌, Addition, All, AllByRecursion}
 use Rattle.krl_entries.proofs.Common.{AllocError, ap, apart_of, bytes_cmp, cond, empty_section}
 use Rattle.krl_entries.proofs.Common.{Equal, Err, exact_bytes, false, Greater, HasPlace, IfOk, inl}
 use Rattle.krl_entries.proofs.Common.{inr, is_at, is_eq, IsOrderlySection, IsOneChange, IsOrderly, IsTaken}
@@ -141,7 +141,7 @@ module _ {S : Type 0} (spans : S → List Span) where
       by Greater c f h = later Greater c refl (h f)
 
   -- the section takes the addition and is taken out, or the addition is refused
-  pub takes : (addition : Certificates) (k : List ℕ) (result : Result (Option (Apart S)) AllocError) (from to : AuthorityEntries S) (old new : Mapped S) → lookup (is_at (at_name k)) old ≡ Some from → new ≡ set_value (is_at (at_name k)) old to
+  pub takes : (addition : Addition) (k : List ℕ) (result : Result (Option (Apart S)) AllocError) (from to : AuthorityEntries S) (old new : Mapped S) → lookup (is_at (at_name k)) old ≡ Some from → new ≡ set_value (is_at (at_name k)) old to
       → MatchResult result (λ apart. IsTaken addition (section_of spans (k, from)) (apart_of spans apart) (section_of spans (k, to))) (λ _. section_of spans (k, to) ≡ section_of spans (k, from))
       → IfOk result (λ apart. TakesOut addition k (sections_of spans (named_sections old)) (apart_of spans apart) (sections_of spans (named_sections new)))
       × OnErr result (sections_of spans (named_sections new) ≡ sections_of spans (named_sections old))
@@ -187,7 +187,7 @@ changed_orderly front back from to old new keys sha1s sha256s before after same 
     (subst (All IsOrderlySection) (sym after) ((all_middle IsOrderlySection front to back).1 (listed, others.1))) o
 
 -- the sections are in order after one is taken out, and after that is refused
-pub left_orderly : {S : Type 0} (spans : S → List Span) (addition : Certificates) (a : List ℕ) (result : Result (Option (Apart S)) AllocError) (old new : List Section) (keys sha1s sha256s : List (List ℕ)) → IsOneChange addition
+pub left_orderly : {S : Type 0} (spans : S → List Span) (addition : Addition) (a : List ℕ) (result : Result (Option (Apart S)) AllocError) (old new : List Section) (keys sha1s sha256s : List (List ℕ)) → IsOneChange addition
     → IfOk result (λ apart. TakesOut addition a old (apart_of spans apart) new) → OnErr result (new ≡ old) → IsOrderly (revocations_of old keys sha1s sha256s) → IsOrderly (revocations_of new keys sha1s sha256s)
 left_orderly spans addition a (Ok None) old new keys sha1s sha256s one ok err o = adds_orderly addition a old new keys sha1s sha256s one ok o
 left_orderly spans addition a (Ok (Some apart)) old new keys sha1s sha256s one ok err o =
@@ -197,7 +197,7 @@ left_orderly spans addition a (Err fault) old new keys sha1s sha256s one ok err 
 
 -- ---- the section that was taken out
 
-pub takes_out_place : (addition : Certificates) (a : List ℕ) (old : List Section) (apart : Option Section) (rest : List Section) (keys sha1s sha256s : List (List ℕ)) → IsOneChange addition → All IsOrderlySection old → TakesOut addition a old apart rest
+pub takes_out_place : (addition : Addition) (a : List ℕ) (old : List Section) (apart : Option Section) (rest : List Section) (keys sha1s sha256s : List (List ℕ)) → IsOneChange addition → All IsOrderlySection old → TakesOut addition a old apart rest
     → HasPlace apart (revocations_of rest keys sha1s sha256s)
 takes_out_place addition a old None rest keys sha1s sha256s one listed t = tt
 takes_out_place addition a old (Some section) rest keys sha1s sha256s one listed t =

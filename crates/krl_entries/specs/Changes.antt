@@ -1,14 +1,16 @@
 -- How an addition changes revocations.
 use Rattle.std.specs.Prelude.{◌≡◌, ℕ, ◌+◌, ◌<◌, ◌≤◌, ◌⊎◌, List, [], ◌∷◌, ◌++◌, length, All}
-use Rattle.std.specs.Prelude.{Contains, ⊤}
+use Rattle.std.specs.Prelude.{Contains}
 use Rattle.serial_set.specs.declared.span.Span.{Span}
 use Rattle.serial_set.specs.BitRuns.{IsInterval}
 use Rattle.serial_set.specs.Near.{AddsSpans, AreNear}
 use Rattle.serial_set.specs.Span.{AreSerials}
-use Rattle.krl_entries.specs.declared.addition.Certificates.{Certificates}
-use Rattle.krl_entries.specs.declared.addition.Certificates.TheVariants.{Serials, Id}
+use Rattle.krl_types.specs.Item.{item_entry}
+use Rattle.krl_types.specs.declared.item_kind.ItemKind.TheVariants as kinds
+use Rattle.krl_entries.specs.declared.addition.Addition.{Addition}
+use Rattle.krl_entries.specs.declared.addition.Addition.TheVariants.{Serials, Item}
 use Rattle.krl_entries.specs.Revocations.{Revocations, Means, Section, section_with}
-use Rattle.krl_types.specs.Entry.{Entry, IdEntry, RangeEntry}
+use Rattle.krl_types.specs.Entry.{Entry, RangeEntry}
 use Rattle.krl_entries.specs.Inserting.{Inserts}
 
 -- the list already contains the bytes and stays the same, or the bytes are inserted
@@ -28,16 +30,16 @@ pub record TakesId (text : List ℕ) (from to : Section) : Type 0 where
   pub put : Puts from.ids text to.ids
 
 -- a section takes an addition
-abbrev pub TakesAddition : Certificates → Section → Section → Type 0
+abbrev pub TakesAddition : Addition → Section → Section → Type 0
 TakesAddition (Serials near) from to = TakesSerials near.now from to
-TakesAddition (Id text) from to = TakesId text.now from to
+TakesAddition (Item kind text) from to = TakesId text.now from to
 
--- one change can make the addition: it is a key ID, or at least one span, and the spans lie near
--- each other
-abbrev pub IsOneChange : Certificates → Type 0
+-- one change of a section can make the addition: it is a key ID, or at least one span, and the
+-- spans lie near each other
+abbrev pub IsOneChange : Addition → Type 0
 IsOneChange (Serials near) =
     (0 < length near.now) × (All IsInterval near.now × AreNear near.now)
-IsOneChange (Id text) = ⊤
+IsOneChange (Item kind text) = kind ≡ kinds.Id
 
 -- an empty section
 abbrev pub empty_section : List ℕ → Section
@@ -56,14 +58,14 @@ pub record ChangesOne (Change : Section → Section → Type 0) (authority : Lis
   pub changed : Change from to
 
 -- a section that holds only the addition is inserted
-pub record Starts (addition : Certificates) (authority : List ℕ) (old new : List Section)
+pub record Starts (addition : Addition) (authority : List ℕ) (old new : List Section)
     : Type 0 where
   pub section : Section
   pub takes : TakesAddition addition (empty_section authority) section
   pub put : Inserts (λ section. section.authority) old section new
 
 -- the addition goes to the section that the authority has, or to a new one
-abbrev pub AddsTo : Certificates → List ℕ → (old new : List Section) → Type 0
+abbrev pub AddsTo : Addition → List ℕ → (old new : List Section) → Type 0
 AddsTo addition authority old new =
     ChangesOne (TakesAddition addition) authority old new ⊎ Starts addition authority old new
 
@@ -74,19 +76,19 @@ run_entries authority (run ∷ runs) =
     RangeEntry authority run.lo run.hi ∷ run_entries authority runs
 
 -- the entries of an addition under an authority
-abbrev pub entries_under : List ℕ → Certificates → List Entry
-entries_under authority (Serials near) = run_entries authority near.now
-entries_under authority (Id text) = IdEntry authority text.now ∷ []
+abbrev pub added_entries : List ℕ → Addition → List Entry
+added_entries authority (Serials near) = run_entries authority near.now
+added_entries authority (Item kind item) = item_entry kind authority item.now ∷ []
 
 -- how many bytes an addition has, without its authority
-abbrev pub bytes_in : Certificates → ℕ
+abbrev pub bytes_in : Addition → ℕ
 bytes_in (Serials near) = 0
-bytes_in (Id text) = length text.now
+bytes_in (Item kind item) = length item.now
 
--- An addition of spans makes at most as many spans more, and a key ID makes none.
-abbrev pub HoldsMore : Certificates → (old new : ℕ) → Type 0
+-- An addition of spans makes at most as many spans more, and an item makes none.
+abbrev pub HoldsMore : Addition → (old new : ℕ) → Type 0
 HoldsMore (Serials near) old new = new ≤ old + length near.now
-HoldsMore (Id text) old new = new ≡ old
+HoldsMore (Item kind item) old new = new ≡ old
 
 -- If the old revocations mean some entries, the new ones mean them and these entries.
 abbrev pub MeansMore : (old new : Revocations) (more : List Entry) → Type 0

@@ -1,7 +1,7 @@
 -- The revocations of a list while it is read.
 use Rattle.std.specs.Prelude.{◌≡◌, ℕ, List, [], ◌∷◌, ◌++◌, Option, Some, None, IfSome, ⊤, cond}
 use Rattle.std.specs.Ordering.{is_eq}
-use Rattle.krl_entries.specs.declared.addition.Certificates.{Certificates}
+use Rattle.krl_entries.specs.declared.addition.Addition.{Addition}
 use Rattle.krl_entries.specs.Changes.{AddsTo, TakesAddition, empty_section}
 use Rattle.krl_entries.specs.Revocations.{IsOrderlySection, IsNamed, Revocations, Section}
 use Rattle.krl_entries.specs.Rising.{bytes_cmp}
@@ -42,7 +42,7 @@ HasPlace None rest = ⊤
 HasPlace (Some section) rest = IsNamed rest section.authority × IsOrderlySection section
 
 -- A section takes the addition and is taken out. A section with only the addition is left.
-abbrev pub IsTaken : Certificates → (from : Section) → (taken : Option Section) → (left : Section)
+abbrev pub IsTaken : Addition → (from : Section) → (taken : Option Section) → (left : Section)
     → Type 0
 IsTaken addition from None left = ⊥
 IsTaken addition from (Some taken) left =
@@ -50,7 +50,7 @@ IsTaken addition from (Some taken) left =
     × TakesAddition addition (empty_section from.authority) left
 
 -- the same for the section of an authority, among all sections
-pub record Opens (addition : Certificates) (authority : List ℕ) (old : List Section)
+pub record Opens (addition : Addition) (authority : List ℕ) (old : List Section)
     (taken : Section) (rest : List Section) : Type 0 where
   pub front : List Section
   pub back : List Section
@@ -65,13 +65,13 @@ pub record Opens (addition : Certificates) (authority : List ℕ) (old : List Se
 
 -- If a section is taken out, the addition is in it. Otherwise the addition is in a section that
 -- stays.
-abbrev pub TakesOut : Certificates → List ℕ → (old : List Section) → Option Section
+abbrev pub TakesOut : Addition → List ℕ → (old : List Section) → Option Section
     → (rest : List Section) → Type 0
 TakesOut addition authority old None rest = AddsTo addition authority old rest
 TakesOut addition authority old (Some taken) rest = Opens addition authority old taken rest
 
 -- the addition goes to a section of the authority, and everything else stays the same
-pub record AddsUnder (addition : Certificates) (authority : List ℕ) (old new : Revocations)
+pub record AddsUnder (addition : Addition) (authority : List ℕ) (old new : Revocations)
     : Type 0 where
   pub adds : AddsTo addition authority old.sections new.sections
   pub same : new ≡ record old { sections = new.sections }

@@ -1,23 +1,29 @@
 //! Additions to revocations.
 
+ghost use Rattle.std.specs.Prelude.{◌↔◌, IsTrue};
+ghost use Rattle.krl_entries.specs.Addition.{IsKey};
+
+use krl_types::ItemKind;
 use serial_set::Span;
 
-/// An addition by one call: certificates under an authority, or a key.
+/// An addition by one call. It is under an authority if it is one of certificates.
 #[derive(Clone, Copy)]
 pub enum Addition<'a> {
-    /// Certificates under an authority, or under all authorities if it has no bytes.
-    Under(&'a [u8], Certificates<'a>),
-    /// A key by its blob.
-    Key(&'a [u8]),
-    /// A key by the SHA-1 of its blob.
-    Sha1(&'a [u8; 20]),
-    /// A key by the SHA-256 of its blob.
-    Sha256(&'a [u8; 32]),
+    /// Certificates by their serials, as spans that lie near each other.
+    Serials(&'a [Span]),
+    /// Certificates by a key ID, or a key by its blob or a hash of it.
+    Item(ItemKind, &'a [u8]),
 }
 
-/// Certificates by their serials, as spans that lie near each other, or by a key ID.
-#[derive(Clone, Copy)]
-pub enum Certificates<'a> {
-    Serials(&'a [Span]),
-    Id(&'a [u8]),
+impl<'a> Addition<'a> {
+    // Whether it is a key, which is under no authority.
+    #[inline(always)]
+    pub(crate) fn is_key(self) -> bool
+        ensures { IsTrue result ↔ IsKey self.entry }
+    {
+        match self {
+            Addition::Serials(_) => false,
+            Addition::Item(kind, _) => !matches!(kind, ItemKind::Id),
+        }
+    }
 }

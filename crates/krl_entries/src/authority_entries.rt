@@ -3,7 +3,7 @@ ghost use Rattle.std.specs.Prelude.{◌≡◌, ℕ, List, MatchResult, IfOk};
 ghost use Rattle.krl_entries.specs.Changes.{TakesAddition, IsOneChange, empty_section};
 ghost use Rattle.krl_entries.specs.Gathered.{IsTaken};
 
-use crate::addition::Certificates;
+use crate::addition::Addition;
 use crate::ids::Ids;
 use serial_set::Spans;
 use std::alloc::{AllocError, Global};
@@ -29,7 +29,7 @@ impl<S: Spans> AuthorityEntries<S> {
     // A section that holds only the addition.
     pub(crate) fn with(
         alloc: Global,
-        addition: Certificates<'_>,
+        addition: Addition<'_>,
     ) -> Result<AuthorityEntries<S>, AllocError>
         requires { IsOneChange addition }
         ensures { (authority : List ℕ) → IfOk result (λ section. TakesAddition addition.entry
@@ -44,11 +44,7 @@ impl<S: Spans> AuthorityEntries<S> {
     }
 
     // Adds to the section. If an allocation fails, the section stays unchanged.
-    pub(crate) fn add(
-        &mut self,
-        alloc: Global,
-        addition: Certificates<'_>,
-    ) -> Result<(), AllocError>
+    pub(crate) fn add(&mut self, alloc: Global, addition: Addition<'_>) -> Result<(), AllocError>
         requires { IsOneChange addition }
         ensures { (authority : List ℕ) → MatchResult result
             (λ _. TakesAddition addition.entry (section_of S.spans (authority, self.old))
@@ -57,8 +53,8 @@ impl<S: Spans> AuthorityEntries<S> {
             ≡ section_of S.spans (authority, self.old)) }
     {
         match addition {
-            Certificates::Serials(near) => self.spans.add_near(near),
-            Certificates::Id(text) => {
+            Addition::Serials(near) => self.spans.add_near(near),
+            Addition::Item(_, text) => {
                 self.ids.put(alloc, text)?;
                 Ok(())
             }
@@ -71,7 +67,7 @@ impl<S: Spans> AuthorityEntries<S> {
         &mut self,
         alloc: Global,
         authority: &[u8],
-        addition: Certificates<'_>,
+        addition: Addition<'_>,
     ) -> Result<Option<Apart<S>>, AllocError>
         requires { IsOneChange addition }
         ensures { MatchResult result

@@ -7,7 +7,7 @@ ghost use Rattle.krl_entries.specs.Revocations.{SomeSection};
 ghost use Rattle.krl_entries.specs.Gathered.{TakesOut, with_section};
 ghost use Rattle.krl_entries.specs.AuthorityEntries.{apart_of, section_of};
 
-use crate::addition::Certificates;
+use crate::addition::Addition;
 use crate::authority_entries::{Apart, AuthorityEntries};
 use crate::listed::{Authorities, Listed};
 use serial_set::Spans;
@@ -88,11 +88,7 @@ impl<S: Spans> EntriesByAuthority<S> {
     }
 
     // Adds under an authority. A new section is complete before it is inserted.
-    pub(crate) fn add(
-        &mut self,
-        authority: &[u8],
-        addition: Certificates<'_>,
-    ) -> Result<(), AllocError>
+    pub(crate) fn add(&mut self, authority: &[u8], addition: Addition<'_>) -> Result<(), AllocError>
         requires { IsOneChange addition }
         ensures ok { OnOk result (AddsTo addition.entry authority.now self.old self.new) }
         ensures refused { OnErr result (self.new ≡ self.old) }
@@ -111,7 +107,7 @@ impl<S: Spans> EntriesByAuthority<S> {
     pub(crate) fn take(
         &mut self,
         authority: &[u8],
-        addition: Certificates<'_>,
+        addition: Addition<'_>,
     ) -> Result<Option<Apart<S>>, AllocError>
         requires { IsOneChange addition }
         ensures ok { IfOk result (λ apart. TakesOut addition.entry authority.now self.old

@@ -6,7 +6,7 @@ ghost use Rattle.krl_entries.specs.Gathered.{AddsUnder, HasPlace, IsAt, whole};
 ghost use Rattle.krl_entries.specs.AuthorityEntries.{apart_of};
 ghost use Rattle.krl_entries.specs.Revocations.{IsOrderly, nothing};
 
-use crate::addition::{Addition, Certificates};
+use crate::addition::Addition;
 use crate::authority_entries::Apart;
 use crate::revocations::Revocations;
 use crate::store::Store;
@@ -64,7 +64,7 @@ impl<S: Spans> Gathered<S> {
     }
 
     // Adds under an authority. No section of another authority is kept apart.
-    fn put(&mut self, authority: &[u8], addition: Certificates<'_>) -> Result<(), AllocError>
+    fn put(&mut self, authority: &[u8], addition: Addition<'_>) -> Result<(), AllocError>
         requires one { IsOneChange addition }
         requires at { IsAt self.old authority.now }
         ensures adds { OnOk result
@@ -120,11 +120,11 @@ impl<S: Spans> Store for Gathered<S> {
     }
 
     #[inline(always)]
-    fn store(&mut self, addition: Addition<'_>) -> Result<(), AllocError> {
-        if let Addition::Under(authority, certificates) = addition {
-            return self.put(authority, certificates);
+    fn store(&mut self, authority: &[u8], addition: Addition<'_>) -> Result<(), AllocError> {
+        if !addition.is_key() {
+            return self.put(authority, addition);
         }
         settle(&mut self.rest, &mut self.apart);
-        self.rest.add(addition)
+        self.rest.add(authority, addition)
     }
 }

@@ -16,7 +16,7 @@ mod revocations;
 mod store;
 mod texts;
 
-pub use addition::{Addition, Certificates};
+pub use addition::Addition;
 pub use gathered::Gathered;
 pub use listed::{Authorities, Listed};
 pub use name::Name;

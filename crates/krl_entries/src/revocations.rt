@@ -1,18 +1,20 @@
 //! The revocations of keys and certificates.
 ghost use Rattle.std.specs.Prelude.{◌≡◌, ◌+◌, ◌<◌, ◌≤◌, ◌∷◌, [], ℕ, List, length, IfOk, OnOk};
 ghost use Rattle.std.specs.Prelude.{OnErr, Some};
-ghost use Rattle.krl_entries.specs.Addition.{HoldsMore, IsOneAddition, StoresMore, added_entries};
-ghost use Rattle.krl_entries.specs.Changes.{HoldsMore as HoldsMoreUnder, IsOneChange, MeansMore};
-ghost use Rattle.krl_entries.specs.Changes.{bytes_in, entries_under};
+ghost use Rattle.krl_entries.specs.Addition.{IsOneAddition, StoresMore};
+ghost use Rattle.krl_entries.specs.Changes.{HoldsMore, IsOneChange, MeansMore, added_entries};
+ghost use Rattle.krl_entries.specs.Changes.{bytes_in};
 ghost use Rattle.krl_entries.specs.Gathered.{HasPlace, TakesOut, whole};
 ghost use Rattle.krl_entries.specs.Revocations.{IsNamed, IsOrderly, Means, nothing, held, stored};
 ghost use Rattle.krl_types.specs.Entry.{RangeEntry, IdEntry, KeyEntry, Sha1Entry, Sha256Entry};
 
-use crate::addition::{Addition, Certificates};
+use crate::addition::Addition;
 use crate::authority_entries::Apart;
 use crate::entries_by_authority::EntriesByAuthority;
 use crate::texts::put_text;
+use krl_types::ItemKind;
 use serial_set::{Span, Spans};
+use ssh_wire::array_of;
 use std::alloc::{AllocError, Global};
 use std::collections::BTreeSet;
 use std::marker::Model;
@@ -78,7 +80,7 @@ impl<S: Spans> Revocations<S> {
         ensures stays { (other : List ℕ) → IsNamed self.old other → IsNamed self.new other }
         ensures keys { self.new.keys ≡ self.old.keys }
     {
-        self.add_under(authority, Certificates::Serials(&[Span { lo, hi }]))
+        self.add_under(authority, Addition::Serials(&[Span { lo, hi }]))
     }
 
     /// Revokes the certificates with a key ID of an authority, given by its bytes, or of all
@@ -97,18 +99,18 @@ impl<S: Spans> Revocations<S> {
         ensures stays { (other : List ℕ) → IsNamed self.old other → IsNamed self.new other }
         ensures keys { self.new.keys ≡ self.old.keys }
     {
-        self.add_under(authority, Certificates::Id(id))
+        self.add_under(authority, Addition::Item(ItemKind::Id, id))
     }
 
     // Adds under an authority, with one search for it. Fails only if an allocation fails, and then
     // changes nothing.
-    fn add_under(&mut self, authority: &[u8], addition: Certificates<'_>) -> Result<(), AllocError>
+    fn add_under(&mut self, authority: &[u8], addition: Addition<'_>) -> Result<(), AllocError>
         requires { IsOneChange addition }
         ensures means { OnOk result (MeansMore self.old self.new
-            (entries_under authority.now addition.entry)) }
+            (added_entries authority.now addition.entry)) }
         ensures orderly { IsOrderly self.old }
         ensures refused { OnErr result (self.new ≡ self.old) }
-        ensures held { HoldsMoreUnder addition.entry (held self.old) (held self.new) }
+        ensures held { HoldsMore addition.entry (held self.old) (held self.new) }
         ensures stored { stored self.new
             ≤ stored self.old + length authority.now + bytes_in addition.entry }
         ensures known { IsNamed self.old authority.now
@@ -121,20 +123,25 @@ impl<S: Spans> Revocations<S> {
         Ok(())
     }
 
-    /// Revokes what an addition names. Fails only if an allocation fails, and then changes nothing.
+    /// Revokes what an addition names, certificates under an authority. Fails only if an allocation
+    /// fails, and then changes nothing.
     #[inline(always)]
-    pub fn add(&mut self, addition: Addition<'_>) -> Result<(), AllocError>
+    pub fn add(&mut self, authority: &[u8], addition: Addition<'_>) -> Result<(), AllocError>
         requires { IsOneAddition addition }
-        ensures means { OnOk result (MeansMore self.old self.new (added_entries addition.entry)) }
+        ensures means { OnOk result (MeansMore self.old self.new
+            (added_entries authority.now addition.entry)) }
         ensures refused { OnErr result (self.new ≡ self.old) }
         ensures held { HoldsMore addition.entry (held self.old) (held self.new) }
-        ensures stored { StoresMore addition.entry self.old self.new }
+        ensures stored { StoresMore authority.now addition.entry self.old self.new }
     {
         match addition {
-            Addition::Under(authority, certificates) => self.add_under(authority, certificates),
-            Addition::Key(blob) => self.add_key(blob),
-            Addition::Sha1(hash) => self.add_sha1(hash),
-            Addition::Sha256(hash) => self.add_sha256(hash),
+            Addition::Serials(_) => self.add_under(authority, addition),
+            Addition::Item(kind, item) => match kind {
+                ItemKind::Key => self.add_key(item),
+                ItemKind::Sha1 => self.add_sha1(&array_of(item)),
+                ItemKind::Sha256 => self.add_sha256(&array_of(item)),
+                ItemKind::Id => self.add_under(authority, addition),
+            },
         }
     }
 
@@ -185,7 +192,7 @@ impl<S: Spans> Revocations<S> {
     pub(crate) fn take(
         &mut self,
         authority: &[u8],
-        addition: Certificates<'_>,
+        addition: Addition<'_>,
     ) -> Result<Option<Apart<S>>, AllocError>
         requires { IsOneChange addition }
         ensures ok { IfOk result (λ apart. TakesOut addition.entry authority.now self.old.sections

@@ -1,8 +1,8 @@
 //! Stores, which take the entries of a list while it is read.
 
-ghost use Rattle.std.specs.Prelude.{◌≡◌, ◌%◌, ◌≤◌, ℕ, List, length, OnOk, false, ⊤};
-ghost use Rattle.krl_entries.specs.Addition.{HoldsMore, IsOneAddition, IsTakenAt, LeavesAt};
-ghost use Rattle.krl_entries.specs.Addition.{StoresMore, added_entries};
+ghost use Rattle.std.specs.Prelude.{◌≡◌, ◌%◌, ◌≤◌, ◌⊎◌, ℕ, List, length, OnOk, false, ⊤};
+ghost use Rattle.krl_entries.specs.Addition.{CountsUnder, IsKey, IsOneAddition, StoresMore};
+ghost use Rattle.krl_entries.specs.Changes.{HoldsMore, added_entries};
 ghost use Rattle.krl_entries.specs.Revocations.{held};
 ghost use Rattle.krl_types.specs.Naming.{SerialOf};
 ghost use Rattle.krl_entries.specs.Scope.{AreOutOfScope, InScope, MeansMoreInScope, IsInScope};
@@ -51,19 +51,21 @@ pub trait Store: Drop {
         ensures whole { result % 8 ≡ 0 }
         ensures out_of_scope { AreOutOfScope (scope self.now) authority.now serials.now result };
 
-    /// Takes an addition.
-    fn store(&mut self, addition: Addition<'_>) -> Result<(), AllocError>
+    /// Takes an addition, certificates under an authority.
+    fn store(&mut self, authority: &[u8], addition: Addition<'_>) -> Result<(), AllocError>
         requires one { IsOneAddition addition }
-        requires at { IsTakenAt (is_at self.old) addition }
-        ensures at { LeavesAt (is_at self.old) (is_at self.new) addition.entry }
+        requires at { IsKey addition ⊎ is_at self.old authority.now }
+        ensures at { (other : List ℕ) → CountsUnder addition.entry authority.now other
+            → is_at self.old other → is_at self.new other }
         ensures means { OnOk result (MeansMoreInScope (scope self.old) (contents self.old)
-            (contents self.new) (added_entries addition.entry)) }
+            (contents self.new) (added_entries authority.now addition.entry)) }
         ensures scope { scope self.new ≡ scope self.old }
         ensures within { IsInScope (scope self.old) (contents self.old)
             → IsInScope (scope self.new) (contents self.new) }
         ensures held { HoldsMore addition.entry (held (contents self.old))
             (held (contents self.new)) }
-        ensures stored { StoresMore addition.entry (contents self.old) (contents self.new) };
+        ensures stored { StoresMore authority.now addition.entry (contents self.old)
+            (contents self.new) };
 }
 
 impl<S: Spans> Store for Revocations<S> {
@@ -90,7 +92,7 @@ impl<S: Spans> Store for Revocations<S> {
     }
 
     #[inline(always)]
-    fn store(&mut self, addition: Addition<'_>) -> Result<(), AllocError> {
-        self.add(addition)
+    fn store(&mut self, authority: &[u8], addition: Addition<'_>) -> Result<(), AllocError> {
+        self.add(authority, addition)
     }
 }

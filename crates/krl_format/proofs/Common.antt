@@ -18,7 +18,8 @@ pub use Rattle.std.proofs.Common.{◌+◌, ◌-◌, ◌<◌, ◌==◌, ◌^◌, 
 pub use Rattle.std.proofs.Common.{◌≡◌, ◌≤◌, ◌⊎◌}
 pub use Rattle.krl_types.specs.Naming.{EntryNames, NamesSame, SerialOf}
 pub use Rattle.krl_format.specs.Place.{Expected, authority_after, base_of, bits_judged, can_end, expected, header_after, highest_bit}
-pub use Rattle.krl_format.specs.Place.{item_entry, item_size, names, next_bits, passes_end, within}
+pub use Rattle.krl_format.specs.Place.{names, next_bits, passes_end, within}
+pub use Rattle.krl_types.specs.Item.{IsItem, item_entry, item_size}
 pub use Rattle.krl_format.specs.Section.{content_of, judge, next_item, next_serial, next_subsection, section_of, section_of_type, section_row}
 pub use Rattle.krl_format.specs.Section.{signature_type, subsection_of, subsection_of_type, subsection_row}
 pub use Rattle.krl_format.specs.declared.section.Section.{Section}
@@ -32,7 +33,7 @@ pub use Rattle.krl_format.specs.declared.header.Header.{Header}
 pub use Rattle.ssh_wire.specs.Wire.{IsBytes, strings}
 pub use Rattle.ssh_wire.proofs.Digits.{IsBytes-back, IsBytes-front, bytes_as_bits}
 pub use Rattle.ssh_wire.proofs.Fields.{IsBytes-in_string, length-number, length-numbers, length-string, number-number_of, number_of-number, number_of-one, one_byte}
-pub use Rattle.krl_format.specs.declared.section.ItemKind.{ItemKind}
+pub use Rattle.krl_types.specs.declared.item_kind.ItemKind.{ItemKind}
 pub use Rattle.krl_types.specs.declared.krl_fault.KrlFault.{KrlFault}
 pub use Rattle.krl_format.specs.declared.place.Place.{Place}
 pub use Rattle.krl_format.specs.Faults.{Says, failed_read, first, ran_out}

@@ -33,7 +33,7 @@ use Rattle.krl_format.proofs.Common.{subsection_of, subsection_row, SubsectionKi
 use Rattle.krl_format.specs.declared.place.field.Field.TheVariants as fields
 use Rattle.krl_format.specs.declared.section.Subsection.TheVariants as subsection_kinds
 use Rattle.krl_types.specs.declared.krl_fault.KrlFault.TheVariants as faults
-use Rattle.krl_format.specs.declared.section.ItemKind.TheVariants as kinds
+use Rattle.krl_types.specs.declared.item_kind.ItemKind.TheVariants as kinds
 use Rattle.krl_format.specs.declared.place.Place.TheVariants as places
 
 section_front : (last h : Header) (signed : Bool) (q : Place) (n : ℕ) (tail : List ℕ) (more : List Entry) → section_of_type signed n ≡ Ok q

@@ -3,7 +3,7 @@
 use Rattle.krl_format.proofs.Common.{[], ◌*◌, ◌++◌, ◌+◌, ◌-◌, ◌<◌, ◌^◌, ◌∷◌, ◌≡◌, ◌≤◌, AllByRecursion}
 use Rattle.krl_format.proofs.Common.{bit_at, BitmapEntry, Bool, entries_of}
 use Rattle.krl_format.proofs.Common.{Entry, Field, fields_after, false, flat_map, Header, header_from}
-use Rattle.krl_format.proofs.Common.{header_with, IsNotNegative, IsSignature, item_entry, item_size}
+use Rattle.krl_format.proofs.Common.{header_with, IsItem, IsNotNegative, IsSignature, item_entry, item_size}
 use Rattle.krl_format.proofs.Common.{ItemKind, KrlFault, BeginsWithTable, length, List, map}
 use Rattle.krl_format.proofs.Common.{NamesSame, number, number_of, Place, RangeEntry, SerialsEntry}
 use Rattle.krl_format.proofs.Common.{None, Option, row_of, SignaturesLast, Some}
@@ -105,9 +105,6 @@ SerialItems K a left after =
     FromItems (number 8) (λ n. n < 2 ^ 64) (λ n. SerialsEntry a (n ∷ [])) left (FromSubsections K a after)
 
 -- strings of one kind, which have the size of its items
-abbrev pub IsItem : ItemKind → List ℕ → Type 0
-IsItem kind item = length item ≡ item_size kind (length item)
-
 abbrev pub Items : Type 0 → ItemKind → List ℕ → ℕ → ℕ → Rest
 Items K kind a left after =
     FromItems string (IsItem kind) (item_entry kind a) left (FromSubsections K a after)

@@ -5,7 +5,7 @@ use Rattle.krl_format.proofs.Common.{bit_at, bit_at_above, bit_at_cat_high, bit_
 use Rattle.krl_format.proofs.Common.{bits_judged, cases_lt, eq-eqb}
 use Rattle.krl_format.proofs.Common.{extension_fields, false}
 use Rattle.krl_format.proofs.Common.{highest_bit, Ids, inl, inr, IsBytes, IsBytes-back}
-use Rattle.krl_format.proofs.Common.{IsBytes-front, IsBytes-in_string, IsNotNegative, item_size}
+use Rattle.krl_format.proofs.Common.{IsBytes-front, IsBytes-in_string, IsItem, IsNotNegative, item_size}
 use Rattle.krl_format.proofs.Common.{ItemKind, judge, le-leb, leading_zeros}
 use Rattle.krl_format.proofs.Common.{table_more, length, length-append, length-number}
 use Rattle.krl_format.proofs.Common.{length-numbers, length-string, List, lt-leb}
@@ -19,12 +19,11 @@ use Rattle.krl_format.proofs.Bitmaps.{number_of-byte, low_more, low_none}
 use Rattle.krl_format.proofs.PassingBits.{bits_pass}
 use Rattle.krl_format.proofs.PlaceRows.{Goes, goes_none, goes_one, goes_then, goes_from}
 use Rattle.krl_format.proofs.TableWalks.{content_goes, fields_go, judge_is, text_goes, within_is}
-use Rattle.krl_format.proofs.RestSpellings.{IsItem}
 use Rattle.krl_format.proofs.Judgements.{subsection_typed}
 use Rattle.krl_format.proofs.Common.{content_of, subsection_row, SubsectionKind, true}
 use Rattle.krl_types.specs.declared.krl_fault.KrlFault.TheVariants as faults
 use Rattle.krl_format.specs.declared.section.Subsection.TheVariants as subsection_kinds
-use Rattle.krl_format.specs.declared.section.ItemKind.TheVariants as kinds
+use Rattle.krl_types.specs.declared.item_kind.ItemKind.TheVariants as kinds
 use Rattle.krl_format.specs.declared.place.Place.TheVariants as places
 use Rattle.krl_format.specs.declared.place.field.Field.TheVariants as fields
 use Rattle.serial_set.proofs.Bits.{highest_bit as top_bit}

@@ -4,7 +4,7 @@ use Rattle.krl_format.proofs.Common.{AllByRecursion, ap, arith, authority_fields
 use Rattle.krl_format.proofs.Common.{ended, Extension, extension_fields}
 use Rattle.krl_format.proofs.Common.{failed_read, false, first, Header, header_fields, inl}
 use Rattle.krl_format.proofs.Common.{inr, IsBytes, IsBytes-back, IsBytes-front, IsBytes-in_string}
-use Rattle.krl_format.proofs.Common.{IsFirstKrlFault, ItemKind, Keys, KrlFault, le-ltb, table_front}
+use Rattle.krl_format.proofs.Common.{IsFirstKrlFault, IsItem, ItemKind, Keys, KrlFault, le-ltb, table_front}
 use Rattle.krl_format.proofs.Common.{table_more, length, length-append}
 use Rattle.krl_format.proofs.Common.{limit, List, ltb, next_item, None}
 use Rattle.krl_format.proofs.Common.{number_of, Ok, Option, ran_out, refl, Says}
@@ -13,14 +13,14 @@ use Rattle.krl_format.proofs.Common.{Some, SpelledSection, Spells, SpellsEach, S
 use Rattle.krl_format.proofs.Common.{string, strings, subst, take_all, true, ℕ}
 use Rattle.krl_format.proofs.Fronts.{first_fault_is, one_reported}
 use Rattle.krl_format.proofs.PlaceRows.{Goes, goes_none, goes_one, goes_then, goes_from, reported_at}
-use Rattle.krl_format.proofs.RestSpellings.{IsItem, LastFor}
+use Rattle.krl_format.proofs.RestSpellings.{LastFor}
 use Rattle.krl_format.proofs.SpelledFields.{items_go, any_size, subsections_go}
 use Rattle.krl_format.proofs.TableWalks.{content_goes, fields_go, judge_is}
 use Rattle.krl_format.proofs.Judgements.{section_typed}
 use Rattle.krl_format.proofs.Common.{content_of, Section, section_row, signature_type}
 use Rattle.krl_types.specs.declared.krl_fault.KrlFault.TheVariants as faults
 use Rattle.krl_format.specs.declared.section.Section.TheVariants as section_kinds
-use Rattle.krl_format.specs.declared.section.ItemKind.TheVariants as kinds
+use Rattle.krl_types.specs.declared.item_kind.ItemKind.TheVariants as kinds
 use Rattle.krl_format.specs.declared.place.Place.TheVariants as places
 use Rattle.krl_format.specs.declared.place.field.Field.TheVariants as fields
 

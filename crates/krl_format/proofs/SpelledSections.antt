@@ -3,7 +3,7 @@ use Rattle.krl_format.proofs.Common.{[], ◌++◌, ◌+◌, ◌-◌, ◌<◌, �
 use Rattle.krl_format.proofs.Common.{AllByRecursion, ap, append-nil, append_assoc, arith}
 use Rattle.krl_format.proofs.Common.{authority_fields, BeginsWithPart, Bool, Certificates, entries_of}
 use Rattle.krl_format.proofs.Common.{Entry, Extension, extension_fields, false, flat_map, Header}
-use Rattle.krl_format.proofs.Common.{IsBytes, IsSignature, item_entry, ItemKind, KrlFault}
+use Rattle.krl_format.proofs.Common.{IsBytes, IsItem, IsSignature, item_entry, ItemKind, KrlFault}
 use Rattle.krl_format.proofs.Common.{table_front, table_more, length, length-append}
 use Rattle.krl_format.proofs.Common.{length-number, length-string, List, ltb, ltb-false, map}
 use Rattle.krl_format.proofs.Common.{NamesSame, next_item, next_serial, next_subsection, None, Number}
@@ -16,13 +16,13 @@ use Rattle.krl_format.proofs.Common.{Subsection, subsection_entries, subst, suc,
 use Rattle.krl_format.proofs.Common.{within, zero, ℕ}
 use Rattle.krl_format.proofs.RestSpellings.{Completes, FromContent, FromField}
 use Rattle.krl_format.proofs.RestSpellings.{FromItem, FromItems, FromLength, FromNumber, FromRow}
-use Rattle.krl_format.proofs.RestSpellings.{FromSections, FromSubsections, InRoom, IsItem, Items}
+use Rattle.krl_format.proofs.RestSpellings.{FromSections, FromSubsections, InRoom, Items}
 use Rattle.krl_format.proofs.RestSpellings.{LastFor, Rest, SerialItems}
 use Rattle.krl_format.proofs.Judgements.{held_back}
 use Rattle.krl_format.proofs.RestSpellings.{authority_from}
 use Rattle.krl_format.proofs.Common.{fields_after, Keys, BeginsWithTable, Section, section_row, Sha1s, Sha256s, signature_type}
 use Rattle.krl_types.specs.declared.krl_fault.KrlFault.TheVariants as faults
-use Rattle.krl_format.specs.declared.section.ItemKind.TheVariants as kinds
+use Rattle.krl_types.specs.declared.item_kind.ItemKind.TheVariants as kinds
 use Rattle.krl_format.specs.declared.section.Section.TheVariants as section_kinds
 use Rattle.krl_format.specs.declared.place.field.Field.TheVariants as fields
 

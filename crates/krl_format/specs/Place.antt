@@ -14,10 +14,8 @@ use Rattle.krl_format.specs.declared.place.Place.TheVariants as places
 use Rattle.krl_format.specs.declared.place.field.Field.{Field}
 use Rattle.krl_format.specs.declared.place.field.Table.{Table}
 use Rattle.krl_format.specs.declared.place.field.Table.TheVariants as tables
-use Rattle.krl_format.specs.declared.section.ItemKind.{ItemKind}
-use Rattle.krl_format.specs.declared.section.ItemKind.TheVariants as kinds
-use Rattle.krl_types.specs.Entry.{Entry, SerialsEntry, RangeEntry, BitmapEntry, IdEntry, KeyEntry}
-use Rattle.krl_types.specs.Entry.{Sha1Entry, Sha256Entry}
+use Rattle.krl_types.specs.Entry.{BitmapEntry, Entry, RangeEntry, SerialsEntry}
+use Rattle.krl_types.specs.Item.{item_entry, item_size}
 use Rattle.krl_format.specs.Field.{authority_with, header_with, row_of}
 use Rattle.krl_format.specs.Section.{content_of, judge, next_item, next_serial, next_subsection}
 use Rattle.krl_format.specs.Section.{section_of_type, section_row, subsection_of_type}
@@ -89,13 +87,6 @@ next_bits offset size (suc room_before) room_after =
     places.Byte offset size (suc room_before) room_after
 
 -- ---- judgements
-
--- the size in bytes of an item whose length field contains `size`
-abbrev pub item_size : ItemKind → ℕ → ℕ
-item_size kinds.Key size = size
-item_size kinds.Sha1 size = 20
-item_size kinds.Sha256 size = 32
-item_size kinds.Id size = size
 
 -- the index of the highest set bit of a byte that is not 0
 abbrev pub highest_bit : ℕ → ℕ
@@ -225,13 +216,6 @@ can_end (places.SectionType signed) = true
 can_end _ = false
 
 -- ---- the entries of fields
-
--- the entry of an item, under the authority in force
-abbrev pub item_entry : ItemKind → (authority item : List ℕ) → Entry
-item_entry kinds.Key authority item = KeyEntry item
-item_entry kinds.Sha1 authority item = Sha1Entry item
-item_entry kinds.Sha256 authority item = Sha256Entry item
-item_entry kinds.Id authority item = IdEntry authority item
 
 -- the entries of a field at a place, under the authority in force
 abbrev pub names : Place → (authority field : List ℕ) → List Entry

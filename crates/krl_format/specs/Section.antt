@@ -7,8 +7,8 @@ use Rattle.krl_types.specs.declared.krl_fault.KrlFault.TheVariants as faults
 use Rattle.krl_format.specs.declared.place.Place.{Place}
 use Rattle.krl_format.specs.declared.place.Place.TheVariants as places
 use Rattle.krl_format.specs.declared.place.field.Field.TheVariants as fields
-use Rattle.krl_format.specs.declared.section.ItemKind.{ItemKind}
-use Rattle.krl_format.specs.declared.section.ItemKind.TheVariants as kinds
+use Rattle.krl_types.specs.declared.item_kind.ItemKind.{ItemKind}
+use Rattle.krl_types.specs.declared.item_kind.ItemKind.TheVariants as kinds
 use Rattle.krl_format.specs.declared.section.Section.{Section}
 use Rattle.krl_format.specs.declared.section.Section.TheVariants as section_kinds
 use Rattle.krl_format.specs.declared.section.Subsection.{Subsection}

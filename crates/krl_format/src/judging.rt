@@ -1,7 +1,7 @@
 //! The place after a field of a list, or why the field is refused.
 
 ghost use Rattle.std.specs.Prelude.{◌≡◌, ◌==◌, ◌-◌, ◌<◌, ◌≤◌};
-ghost use Rattle.krl_format.specs.Place.{base_of, item_size, within as within_of};
+ghost use Rattle.krl_format.specs.Place.{base_of, within as within_of};
 ghost use Rattle.krl_format.specs.Place.{bits_judged as bits_judged_of, passes_end as passes_end_of};
 ghost use Rattle.krl_format.specs.Place.{next_bits as bits_after};
 ghost use Rattle.krl_format.specs.Section.{judge as judged_by, next_item as item_after};
@@ -9,12 +9,13 @@ ghost use Rattle.krl_format.specs.Section.{next_serial as serial_after};
 ghost use Rattle.krl_format.specs.Section.{next_subsection as subsection_after};
 ghost use Rattle.krl_format.specs.Section.{section_of_type as section_of};
 ghost use Rattle.krl_format.specs.Section.{subsection_of_type as subsection_of};
+ghost use Rattle.krl_types.specs.Item.{item_size};
 ghost use Rattle.krl_types.specs.declared.krl_fault.KrlFault.TheVariants as faults;
 ghost use Rattle.krl_format.specs.declared.place.Place.TheVariants as places;
 
 use crate::place::{Field, Place};
-use crate::section::{ItemKind, SIGNATURE, Section, Subsection};
-use krl_types::KrlFault;
+use crate::section::{SIGNATURE, Section, Subsection};
+use krl_types::{ItemKind, KrlFault};
 
 // The place of the first field of a table that is not inside a part.
 pub(crate) fn first_field(field: Field) -> Place

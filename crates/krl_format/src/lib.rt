@@ -12,6 +12,6 @@ pub use header::{Header, LIMIT, MAGIC, MAGIC_NUMBER};
 pub use judging::{next_bits, next_serial};
 pub use place::{Field, FieldPart, Place, Table};
 pub use section::{
-    BITMAP, CERTIFICATES, EXTENSION, IDS, ItemKind, KEYS, RANGE, SERIALS, SHA1S, SHA256S,
-    SIGNATURE, SUBSECTION_EXTENSION, Section, Subsection,
+    BITMAP, CERTIFICATES, EXTENSION, IDS, KEYS, RANGE, SERIALS, SHA1S, SHA256S, SIGNATURE,
+    SUBSECTION_EXTENSION, Section, Subsection,
 };

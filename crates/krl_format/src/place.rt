@@ -13,9 +13,9 @@ use crate::judging::{
     after_item_length, bits_judged, first_field, judge, next_bits, next_item, next_serial,
     next_subsection, rest, section_of_type, subsection_of_type, within,
 };
-use crate::section::{ItemKind, Section, Subsection};
+use crate::section::{Section, Subsection};
 pub use field::{Field, FieldPart, Table};
-use krl_types::KrlFault;
+use krl_types::{ItemKind, KrlFault};
 use ssh_wire::{byte_of, u32_of, u64_of};
 
 /// The place of a walk in a list: the field that is expected next. A byte of a bitmap is a field.

@@ -1,13 +1,12 @@
 //! The sections of a list, and the subsections of a section of certificates: a row for each.
 
 ghost use Rattle.std.specs.Prelude.{◌≡◌};
-ghost use Rattle.krl_format.specs.Place.{item_size};
 ghost use Rattle.krl_format.specs.Section.{content_of, section_of, section_row, subsection_of};
 ghost use Rattle.krl_format.specs.Section.{subsection_row};
 
 use crate::judging::{judge, next_item, next_serial};
 use crate::place::{Field, Place};
-use krl_types::KrlFault;
+use krl_types::{ItemKind, KrlFault};
 
 /// The type byte of a signature. It has no length, and is read as a table of fields.
 pub const SIGNATURE: u8 = 4;
@@ -53,29 +52,6 @@ pub enum Subsection {
     Bitmap,
     Ids,
     Extension,
-}
-
-/// The kind of the items of a list.
-#[derive(Clone, Copy)]
-pub enum ItemKind {
-    Key,
-    Sha1,
-    Sha256,
-    Id,
-}
-
-impl ItemKind {
-    /// The size in bytes of an item whose length field contains `size`.
-    #[inline(always)]
-    pub fn size(self, size: u32) -> u32
-        ensures { result ≡ item_size self size }
-    {
-        match self {
-            ItemKind::Key | ItemKind::Id => size,
-            ItemKind::Sha1 => 20,
-            ItemKind::Sha256 => 32,
-        }
-    }
 }
 
 impl Section {

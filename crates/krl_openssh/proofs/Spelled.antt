@@ -15,7 +15,7 @@ use Rattle.krl_format.specs.declared.place.Place.TheVariants as places
 use Rattle.krl_format.specs.declared.place.field.Field.{Field}
 use Rattle.krl_format.specs.declared.place.field.Field.TheVariants as fields
 use Rattle.krl_format.specs.Section.{signature_type}
-use Rattle.krl_format.specs.declared.section.ItemKind.{ItemKind}
+use Rattle.krl_types.specs.declared.item_kind.ItemKind.{ItemKind}
 use Rattle.krl_format.specs.declared.section.Section.{Section as SectionKind}
 use Rattle.krl_format.specs.declared.section.Section.TheVariants as section_kinds
 use Rattle.krl_format.specs.declared.section.Subsection.{Subsection as SubsectionKind}

@@ -9,7 +9,8 @@ ghost use Rattle.krl_openssh.specs.Difference.{judgement_difference, names_zero}
 ghost use Rattle.krl_openssh.specs.Difference.{section_difference, subsection_difference};
 ghost use Rattle.krl_openssh.specs.Difference.{table_difference, text_difference};
 
-use krl_format::{Field, ItemKind, Place, Section, Subsection, Table};
+use krl_format::{Field, Place, Section, Subsection, Table};
+use krl_types::ItemKind;
 use openssh_keys::{Judgement, judge};
 use ssh_key::read_key;
 use ssh_wire::{byte_of, u64_of};

@@ -6,9 +6,8 @@ use Rattle.krl_types.specs.Subject.{CertNames, Subject}
 use Rattle.krl_entries.specs.Revocations.{Revocations, Section, HoldsId, HoldsSerial}
 use Rattle.krl_entries.specs.Revocations.{held, stored}
 use Rattle.krl_types.specs.Naming.{IdOf, KeyOf, Name, SerialOf, Sha1Of, Sha256Of}
-use Rattle.krl_entries.specs.declared.addition.Addition.{Addition}
-use Rattle.krl_entries.specs.declared.addition.Addition.TheVariants.{Under, Key, Sha1, Sha256}
-use Rattle.krl_entries.specs.declared.addition.Certificates.TheVariants.{Serials, Id}
+use Rattle.krl_types.specs.declared.item_kind.ItemKind.{ItemKind}
+use Rattle.krl_types.specs.declared.item_kind.ItemKind.TheVariants as kinds
 use Rattle.krl_entries.specs.Reasons.{name_asked}
 use Rattle.krl_entries.specs.declared.reasons.Reason.{Reason}
 use Rattle.krl_entries.specs.Scope.{IsTopic, Scope}
@@ -22,13 +21,12 @@ pub record Asked : Type 0 where
 abbrev pub asked_in : Asked → Scope
 asked_in asked = Some asked.topics
 
--- the one name of the addition is a topic; serials are asked about one after another
-abbrev pub AsksAbout : (topics : Revocations) → Addition → Type 0
-AsksAbout topics (Under authority (Serials near)) = ⊥
-AsksAbout topics (Under authority (Id id)) = IsTopic topics (IdOf authority.now id.now)
-AsksAbout topics (Key blob) = IsTopic topics (KeyOf blob.now)
-AsksAbout topics (Sha1 hash) = IsTopic topics (Sha1Of hash.now)
-AsksAbout topics (Sha256 hash) = IsTopic topics (Sha256Of hash.now)
+-- the name that an item is
+abbrev pub item_name : ItemKind → (authority item : List ℕ) → Name
+item_name kinds.Id authority id = IdOf authority id
+item_name kinds.Key authority blob = KeyOf blob
+item_name kinds.Sha1 authority hash = Sha1Of hash
+item_name kinds.Sha256 authority hash = Sha256Of hash
 
 -- every topic stays one
 abbrev pub AsksMore : (old new : Revocations) → Type 0

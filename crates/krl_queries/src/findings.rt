@@ -4,16 +4,19 @@ ghost use Rattle.std.specs.Prelude.{◌≡◌, ◌↔◌, ◌+◌, ◌≤◌, �
 ghost use Rattle.serial_set.specs.BitRuns.{IsInterval};
 ghost use Rattle.krl_entries.specs.Revocations.{IsStoredAtMost, held};
 ghost use Rattle.krl_types.specs.Entry.{RangeEntry};
-ghost use Rattle.krl_queries.specs.Questions.{AsksAbout, asked_in};
-ghost use Rattle.krl_entries.specs.Scope.{HoldsOnlyTopics, MeansMoreInScope};
+ghost use Rattle.krl_types.specs.Item.{IsItem};
+ghost use Rattle.krl_queries.specs.Questions.{asked_in, item_name};
+ghost use Rattle.krl_entries.specs.Scope.{HoldsOnlyTopics, IsTopic, MeansMoreInScope};
 
 use crate::key_hashes::asks_hash;
 use crate::questions::Questions;
 use crate::topics::{count_skipped, first_serial, may_have};
-use krl_entries::{Addition, Certificates, Store};
+use krl_entries::{Addition, Store};
+use krl_types::ItemKind;
 use serial_set::{Span, Spans};
 use sha1::Sha1;
 use sha2::Sha256;
+use ssh_wire::array_of;
 use std::alloc::AllocError;
 
 impl<S: Spans> Questions<S> {
@@ -36,30 +39,28 @@ impl<S: Spans> Questions<S> {
         }
     }
 
-    // Whether the key ID or the key that is added is asked about. Computes the hashes of the keys
+    // Whether an item is asked about, a key ID under an authority. Computes the hashes of the keys
     // that are asked about at the first hash.
-    fn asks(&mut self, addition: Addition<'_>) -> Result<bool, AllocError>
-        ensures asked { IfOk result (λ asked.
-            IsTrue asked ↔ AsksAbout self.old.topics addition.entry) }
+    fn asks(&mut self, authority: &[u8], kind: ItemKind, item: &[u8]) -> Result<bool, AllocError>
+        requires { IsItem kind item.now }
+        ensures asked { IfOk result (λ asked. IsTrue asked
+            ↔ IsTopic self.old.topics (item_name kind authority.now item.now)) }
         ensures same { self.new ≡ self.old }
     {
-        match addition {
-            Addition::Under(_, Certificates::Serials(_)) => Ok(false),
-            Addition::Under(authority, Certificates::Id(id)) => {
-                Ok(self.topics.has_id(authority, id))
-            }
-            Addition::Key(blob) => Ok(self.topics.has_blob(blob)),
-            Addition::Sha1(hash) => asks_hash::<Sha1, S, 20>(
+        match kind {
+            ItemKind::Id => Ok(self.topics.has_id(authority, item)),
+            ItemKind::Key => Ok(self.topics.has_blob(item)),
+            ItemKind::Sha1 => asks_hash::<Sha1, S, 20>(
                 &self.topics,
                 &mut self.has_sha1s,
                 &mut self.sha1s,
-                hash,
+                &array_of(item),
             ),
-            Addition::Sha256(hash) => asks_hash::<Sha256, S, 32>(
+            ItemKind::Sha256 => asks_hash::<Sha256, S, 32>(
                 &self.topics,
                 &mut self.has_sha256s,
                 &mut self.sha256s,
-                hash,
+                &array_of(item),
             ),
         }
     }
@@ -89,17 +90,21 @@ impl<S: Spans> Store for Questions<S> {
     }
 
     #[inline(always)]
-    fn store(&mut self, addition: Addition<'_>) -> Result<(), AllocError> {
-        if let Addition::Under(authority, Certificates::Serials(near)) = addition {
-            for span in near {
-                self.store_span(authority, *span)?;
+    fn store(&mut self, authority: &[u8], addition: Addition<'_>) -> Result<(), AllocError> {
+        match addition {
+            Addition::Serials(near) => {
+                for span in near {
+                    self.store_span(authority, *span)?;
+                }
+                Ok(())
             }
-            return Ok(());
+            Addition::Item(kind, item) => {
+                let asked = self.asks(authority, kind, item)?;
+                if !asked {
+                    return Ok(());
+                }
+                self.found.add(authority, addition)
+            }
         }
-        let asked = self.asks(addition)?;
-        if !asked {
-            return Ok(());
-        }
-        self.found.add(addition)
     }
 }

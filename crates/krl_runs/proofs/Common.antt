@@ -29,7 +29,7 @@ unfoldable pub use Rattle.krl_runs.specs.Contents.{section_lines}
 pub use Rattle.krl_runs.specs.Query.{answer_of, AnswersAbout, ask, ask_by, asked, dumped}
 pub use Rattle.krl_runs.specs.Query.{HasEntries, IsHeld}
 unfoldable pub use Rattle.krl_runs.specs.Query.{asked_run_of, query_run_of}
-pub use Rattle.krl_format.specs.declared.section.ItemKind.TheVariants.{Id, Key, Sha1, Sha256}
+pub use Rattle.krl_types.specs.declared.item_kind.ItemKind.TheVariants.{Id, Key, Sha1, Sha256}
 pub use Rattle.krl_types.specs.Subject.{CertNames, Subject}
 pub use Rattle.serial_set.specs.Iteration.{IsPiece, left, next_of, since, steps}
 pub use Rattle.std.proofs.lemmas.Result.{err_from_is_err_and}

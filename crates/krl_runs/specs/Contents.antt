@@ -12,8 +12,8 @@ use Rattle.ssh_cert.specs.Escape.{escaped}
 use Rattle.cert_listing.specs.Time.{instant_text}
 use Rattle.krl_entries.specs.Revocations.{Revocations, Section}
 use Rattle.krl_format.specs.declared.header.Header.{Header}
-use Rattle.krl_format.specs.declared.section.ItemKind.{ItemKind}
-use Rattle.krl_format.specs.declared.section.ItemKind.TheVariants as kinds
+use Rattle.krl_types.specs.declared.item_kind.ItemKind.{ItemKind}
+use Rattle.krl_types.specs.declared.item_kind.ItemKind.TheVariants as kinds
 use Rattle.run_output.specs.Run.{Item}
 use Rattle.run_output.specs.Run.{said_of}
 

@@ -15,7 +15,7 @@ use crate::contents::lines::{
 };
 use byte_streams::Sink;
 use krl_core::{Header, Listed, Revocations, Texts};
-use krl_format::ItemKind;
+use krl_types::ItemKind;
 use run_faults::RunFault;
 use run_output::Run;
 use serial_set::{Span, Spans};

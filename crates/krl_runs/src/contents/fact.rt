@@ -4,7 +4,7 @@ ghost use Rattle.std.specs.Prelude.{◌≡◌, OnOk};
 ghost use Rattle.krl_runs.specs.Contents.{fact_line, fact_text, label_of};
 
 use base64::engine::general_purpose::{STANDARD, STANDARD_NO_PAD};
-use krl_format::ItemKind;
+use krl_types::ItemKind;
 use line_pieces::{Escaped, Printed, Words, put};
 use std::alloc::{AllocError, Global};
 

@@ -1,4 +1,4 @@
-use Rattle.krl_core.proofs.Common.{[], ◌∙◌, ◌∷◌, ◌≡◌, Adds, item_entry, item_size, length, List}
+use Rattle.krl_core.proofs.Common.{[], ◌∙◌, ◌∷◌, Adds, IsItem, item_entry, List}
 use Rattle.krl_core.proofs.Common.{map, refl, subst, ℕ}
 use Rattle.std.proofs.lemmas.List.{map-append}
 use Rattle.krl_core.proofs.GainedEntries.{err_says, gained_all, gained_more, gained_next, gained_none}
@@ -13,7 +13,7 @@ loop-item-init g c = record {
 
 pub add_item-requires : goal.add_item-requires
 add_item-requires g c =
-    gained_next (λ item. length item ≡ item_size c.args.kind (length item)) (map (item_entry c.args.kind c.args.self.now.authority)) c.args.items c.next.new.self c.in-Some.item.now
+    gained_next (IsItem c.args.kind) (map (item_entry c.args.kind c.args.self.now.authority)) c.args.items c.next.new.self c.in-Some.item.now
     c.args.self.now c.loop-item.self c.requires (rw c.in-Some.ensures.steps at c.loop-item.invariant.gained)
 
 pub loop-item-preserved : goal.loop-item-preserved

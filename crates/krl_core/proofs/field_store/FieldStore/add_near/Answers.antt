@@ -1,4 +1,4 @@
-use Rattle.krl_core.proofs.Common.{arith, on_ok_weaker, refl, run_entries, subst, ℕ}
+use Rattle.krl_core.proofs.Common.{arith, inr, on_ok_weaker, refl, run_entries, subst, sym, ℕ}
 use Rattle.krl_entries.specs.Revocations.{IsStoredAtMost}
 use Rattle.krl_core.proofs.StoredEntries.{adds_all}
 use Rattle.krl_core.proofs.field_store.FieldStore.add_near.Goals as goal
@@ -13,5 +13,5 @@ pub returns-clause-stored : goal.returns-clause-stored
 returns-clause-stored g c =
     let authority = c.self.inside.authority.items in
     let stored : (m : ℕ) → IsStoredAtMost authority (g.T.Store.contents c.self.inside.store) m → IsStoredAtMost authority (g.T.Store.contents c.store.new.self) m =
-    λ m within. (let more = rw c.as_slice.ensures.value at (c.store.ensures.stored m) in subst (IsStoredAtMost authority (g.T.Store.contents c.store.new.self)) (omega arith) (more within)) in
+    λ m within. (let more = c.store.ensures.stored authority (inr (sym c.as_slice.ensures.value)) m in subst (IsStoredAtMost authority (g.T.Store.contents c.store.new.self)) (omega arith) (more within)) in
     rw (← c.self.view_is) (record { stored_is = stored; scope_is = c.store.ensures.within; same_scope = c.store.ensures.scope })

@@ -2,7 +2,7 @@
 use Rattle.krl_core.proofs.Common.{[], ◌∙◌, ap, Gains, IdEntry, item_entry, List, map, OnOk}
 use Rattle.krl_core.proofs.Common.{on_ok_weaker, refl, run_entries, subst, ℕ}
 use Rattle.krl_core.proofs.GainedEntries.{gains_authority, gains_then}
-use Rattle.krl_format.specs.declared.section.ItemKind.TheVariants as kinds
+use Rattle.krl_types.specs.declared.item_kind.ItemKind.TheVariants as kinds
 use Rattle.krl_core.proofs.field_store.FieldStore.add_section.Goals as goal
 
 pub add_items-requires : goal.add_items-requires

@@ -1,53 +1,57 @@
-use Rattle.krl_queries.proofs.Common.{◌∙◌, ◌≡◌, arith, Asked, false≢true, IsStoredAtMost, List}
-use Rattle.krl_queries.proofs.Common.{MeansMoreInScope, on_ok_weaker, rules, run_entries, Some, Span}
+use Rattle.krl_queries.proofs.Common.{◌∙◌, ◌≡◌, arith, Asked, false≢true, inl, inr, IsStoredAtMost, List}
+use Rattle.krl_queries.proofs.Common.{MeansMoreInScope, on_ok_weaker, run_entries, Some, Span}
 use Rattle.krl_queries.proofs.Common.{subst, sym, take_all, ℕ}
 use Rattle.krl_queries.proofs.AddedFindings.{next_span, puts_more}
-use Rattle.krl_queries.proofs.AskedItems.{IsSingle, none_asked, within_asked}
-use Rattle.krl_queries.specs.Questions.{AsksAbout}
+use Rattle.krl_queries.proofs.AskedItems.{none_asked, within_asked}
+use Rattle.krl_queries.specs.Questions.{item_name}
 use Rattle.krl_entries.proofs.AddedMeaning.{means_more_within, nothing_more_within}
-use Rattle.krl_entries.specs.Addition.{added_entries}
-use Rattle.krl_entries.specs.declared.addition.Addition.TheVariants.{Under}
-use Rattle.krl_entries.specs.declared.addition.Certificates.TheVariants.{Serials}
+use Rattle.krl_entries.specs.Scope.{IsTopic}
+use Rattle.krl_types.specs.Item.{item_entry}
 use Rattle.krl_queries.proofs.findings.QuestionsStore.store.Goals as goal
 
 pub loop-span-preserved : goal.loop-span-preserved
 loop-span-preserved g c =
-    let near = c.in-Under-default-Serials.near.now in
-    let e = c.in_ok-store_span.ensures in
+    let near = c.in-Serials.near.now in
+    let e = c.in_ok-store_span-in-Serials.ensures in
     puts_more _ _ c.loop-span.self c.store_span.new.self near c.loop-span.span-index _ c.loop-span.invariant (next_span near c.loop-span.span-index _ c.loop-span-test.true) e.means e.topics e.within e.held e.stored
 
-pub returns-in_err-store_span-clause-stored : goal.returns-in_err-store_span-clause-stored
-returns-in_err-store_span-clause-stored g c =
-    let d = c.in-Under-default-Serials in
-    let is : c.args.addition ≡ Under d.authority (Serials d.near) = search rules in
-    rw is (λ n s. subst (λ (m : ℕ). IsStoredAtMost d.authority.now c.store_span.new.self.found m) (omega arith) (c.in_err-store_span.ensures.stored n (c.loop-span.invariant.stored_is n s)))
+pub returns-in_err-store_span-in-Serials-clause-stored : goal.returns-in_err-store_span-in-Serials-clause-stored
+returns-in_err-store_span-in-Serials-clause-stored g c other under n s =
+    let is : other ≡ c.args.authority.now = elim (rw c.in-Serials.is at under) [ inl key ↦ absurd key | inr same ↦ same ] in
+    rw (c.in-Serials.is, is) (subst (λ (m : ℕ). IsStoredAtMost c.args.authority.now c.store_span.new.self.found m) (omega arith) (c.in_err-store_span-in-Serials.ensures.stored n (c.loop-span.invariant.stored_is n (rw is at s))))
 
-pub returns-in-Under-default-Serials-clause-means : goal.returns-in-Under-default-Serials-clause-means
-returns-in-Under-default-Serials-clause-means g c =
-    let d = c.in-Under-default-Serials in
-    let is : c.args.addition ≡ Under d.authority (Serials d.near) = search rules in
-    rw is (subst (λ (spans : List Span). MeansMoreInScope (Some c.args.self.now.topics) c.args.self.now.found c.loop-span.self.found (run_entries d.authority.now spans))
-    (take_all c.loop-span.span-index d.near.now (omega arith)) c.loop-span.invariant.means)
+pub returns-after-loop-span-clause-means : goal.returns-after-loop-span-clause-means
+returns-after-loop-span-clause-means g c =
+    let near = c.in-Serials.near.now in
+    rw c.in-Serials.is (subst (λ (spans : List Span). MeansMoreInScope (Some c.args.self.now.topics) c.args.self.now.found c.loop-span.self.found (run_entries c.args.authority.now spans))
+    (take_all c.loop-span.span-index near (omega arith)) c.loop-span.invariant.means)
 
-pub returns-in-Under-default-Serials-clause-stored : goal.returns-in-Under-default-Serials-clause-stored
-returns-in-Under-default-Serials-clause-stored g c =
-    let d = c.in-Under-default-Serials in
-    let is : c.args.addition ≡ Under d.authority (Serials d.near) = search rules in
-    rw is (λ n s. subst (λ (m : ℕ). IsStoredAtMost d.authority.now c.loop-span.self.found m) (omega arith) (c.loop-span.invariant.stored_is n s))
+pub returns-after-loop-span-clause-stored : goal.returns-after-loop-span-clause-stored
+returns-after-loop-span-clause-stored g c other under n s =
+    let is : other ≡ c.args.authority.now = elim (rw c.in-Serials.is at under) [ inl key ↦ absurd key | inr same ↦ same ] in
+    rw (c.in-Serials.is, is) (subst (λ (m : ℕ). IsStoredAtMost c.args.authority.now c.loop-span.self.found m) (omega arith) (c.loop-span.invariant.stored_is n (rw is at s)))
 
 pub returns-then-not-asked-clause-means : goal.returns-then-not-asked-clause-means
 returns-then-not-asked-clause-means g c =
     let topics = c.args.self.now.topics in
-    let single : IsSingle c.args.addition = search rules in
-    rw c.in_ok-asked.ensures.same (nothing_more_within (Some topics) c.args.self.now.found (added_entries c.args.addition)
-    (none_asked topics c.args.addition single (λ h. false≢true (sym c.if-not-asked.true ∙ c.in_ok-asked.ensures.asked.1 h))))
+    let kind = c.in-Item.kind in
+    let item = c.in-Item.item.now in
+    rw (c.in-Item.is, c.in_ok-asked-in-Item.ensures.same) (nothing_more_within (Some topics) c.args.self.now.found _
+    (none_asked topics kind c.args.authority.now item (λ h. false≢true (sym c.if-not-asked.true ∙ c.in_ok-asked-in-Item.ensures.asked.1 h))))
 
-pub returns-clause-means : goal.returns-clause-means
-returns-clause-means g c =
-    rw (← c.in_ok-asked.ensures.same, ← c.self.view_is) (on_ok_weaker c.add.result (means_more_within (Some c.self.inside.topics) _ _ _) c.add.ensures.means)
+pub returns-else-not-asked-clause-means : goal.returns-else-not-asked-clause-means
+returns-else-not-asked-clause-means g c =
+    rw (← c.in_ok-asked-in-Item.ensures.same, ← c.self.view_is) (on_ok_weaker c.add.result (means_more_within (Some c.self.inside.topics) _ _ _) c.add.ensures.means)
 
-pub returns-clause-within : goal.returns-clause-within
-returns-clause-within g c =
+pub returns-else-not-asked-clause-within : goal.returns-else-not-asked-clause-within
+returns-else-not-asked-clause-within g c =
     let e = c.add.ensures in
-    let asked = subst (λ (a : Asked). AsksAbout a.topics c.args.addition) (sym (c.self.view_is ∙ c.in_ok-asked.ensures.same)) (c.in_ok-asked.ensures.asked.0 c.if-not-asked.false) in
-    rw (← c.in_ok-asked.ensures.same, ← c.self.view_is) (within_asked c.add.result c.self.inside.topics c.self.inside.found c.add.new.self c.args.addition asked e.means e.refused)
+    let ask = c.in_ok-asked-in-Item.ensures in
+    let kind = c.in-Item.kind in
+    let item = c.in-Item.item.now in
+    let asked = subst (λ (a : Asked). IsTopic a.topics (item_name kind c.args.authority.now item)) (sym (c.self.view_is ∙ ask.same)) (ask.asked.0 c.if-not-asked.false) in
+    rw (← ask.same, ← c.self.view_is) (within_asked c.add.result c.self.inside.topics c.self.inside.found c.add.new.self kind c.args.authority.now item asked (rw c.in-Item.is at e.means) e.refused)
+
+pub returns-else-not-asked-clause-stored : goal.returns-else-not-asked-clause-stored
+returns-else-not-asked-clause-stored g c =
+    rw (← c.in_ok-asked-in-Item.ensures.same, ← c.self.view_is) c.add.ensures.stored
