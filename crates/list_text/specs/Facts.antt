@@ -4,6 +4,8 @@ use Rattle.std.specs.List.{flat_map}
 use Rattle.serial_set.specs.declared.span.Span.{Span}
 use Rattle.krl_entries.specs.Revocations.{Revocations, Section}
 use Rattle.krl_format.specs.declared.header.Header.{Header}
+use Rattle.krl_types.specs.declared.item_kind.ItemKind.{ItemKind}
+use Rattle.krl_types.specs.declared.item_kind.ItemKind.TheVariants as kinds
 use Rattle.list_text.specs.declared.fact.Fact.{Fact as FactOf}
 use Rattle.list_text.specs.declared.fact.Fact.TheVariants as facts
 
@@ -20,6 +22,13 @@ pub data Fact : Type 0 where
   KeyFact : (blob : List ℕ) → Fact
   Sha1Fact : (hash : List ℕ) → Fact
   Sha256Fact : (hash : List ℕ) → Fact
+
+-- an item as a fact, a key ID under an authority
+abbrev pub item_fact : ItemKind → (authority bytes : List ℕ) → Fact
+item_fact kinds.Id authority id = IdFact authority id
+item_fact kinds.Key authority blob = KeyFact blob
+item_fact kinds.Sha1 authority hash = Sha1Fact hash
+item_fact kinds.Sha256 authority hash = Sha256Fact hash
 
 -- an authority, its serial numbers and its key IDs
 unfoldable pub section_facts : Section → List Fact

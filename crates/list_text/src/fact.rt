@@ -1,6 +1,10 @@
 //! The facts about a list.
 
+ghost use Rattle.std.specs.Prelude.{◌≡◌};
+ghost use Rattle.list_text.specs.Facts.{fact_of, item_fact};
+
 use krl_format::Header;
+use krl_types::ItemKind;
 use serial_set::Span;
 
 /// A fact about a list. An authority is given by its bytes, empty for all authorities.
@@ -20,4 +24,19 @@ pub enum Fact<'a> {
     Sha1(&'a [u8]),
     /// A key, by the SHA-256 of its blob.
     Sha256(&'a [u8]),
+}
+
+impl<'a> Fact<'a> {
+    /// An item as a fact, a key ID under an authority.
+    #[inline(always)]
+    pub fn item(kind: ItemKind, authority: &'a [u8], bytes: &'a [u8]) -> Fact<'a>
+        ensures { fact_of result ≡ item_fact kind authority.now bytes.now }
+    {
+        match kind {
+            ItemKind::Id => Fact::Id(authority, bytes),
+            ItemKind::Key => Fact::Key(bytes),
+            ItemKind::Sha1 => Fact::Sha1(bytes),
+            ItemKind::Sha256 => Fact::Sha256(bytes),
+        }
+    }
 }

@@ -17,5 +17,6 @@ pub use Rattle.list_text.specs.Facts.{SerialsFact, Sha1Fact, Sha256Fact}
 unfoldable pub use Rattle.list_text.specs.Facts.{facts_of, section_facts}
 pub use Rattle.list_text.specs.declared.counts.Counts.{Counts}
 pub use Rattle.list_text.specs.declared.form.Form.{Form}
-pub use Rattle.show_run.specs.Showing.{fact_item, fact_items, kind_fact, line_item, Shows}
+pub use Rattle.show_run.specs.Showing.{fact_item, fact_items, line_item, Shows}
+pub use Rattle.list_text.specs.Facts.{item_fact}
 unfoldable pub use Rattle.show_run.specs.Showing.{given_facts, lists_facts}

@@ -1,5 +1,5 @@
 -- The name and the bytes of a list decide the facts about it.
-use Rattle.show_run.proofs.Common.{◌∙◌, ◌∷◌, ◌≡◌, ap, Fact, facts_of, false, given_facts, List, ListFact}
+use Rattle.show_run.proofs.Common.{◌∙◌, ◌∷◌, ◌≡◌, ap, facts_of, false, given_facts, List, ListFact}
 use Rattle.show_run.proofs.Common.{Option, refl, Some, subst, sym, true, ℕ}
 use Rattle.std.specs.Prelude.{Bool}
 use Rattle.krl_entries.proofs.OneMeaning.{one_meaning}

@@ -5,14 +5,14 @@ use Rattle.show_run.proofs.Common.{counted_all, Counts, drop, drop-cons, Err, Fa
 use Rattle.show_run.proofs.Common.{fact_items, Form, get_or, Item, length, List, map, map-append, Ok}
 use Rattle.show_run.proofs.Common.{OnOk, Option, Printer, refl, Result, RunFault, Shows, Some, Span}
 use Rattle.show_run.proofs.Common.{subst, sym, ℕ}
-use Rattle.show_run.proofs.Common.{drop_all, fact_of, flat_map, given_facts, IdFact, kind_fact}
+use Rattle.show_run.proofs.Common.{drop_all, fact_of, flat_map, given_facts, IdFact, item_fact}
 use Rattle.show_run.proofs.Common.{ListFact, lists_facts, ◌≤◌}
 use Rattle.std.specs.Borrow.{Bor}
 use Rattle.std.specs.Prelude.{option_map}
 use Rattle.krl_format.specs.declared.header.Header.{Header}
 use Rattle.list_text.specs.declared.fact.Fact.TheVariants as facts
 use Rattle.show_run.specs.declared.lists.Given.{Given}
-use Rattle.show_run.specs.declared.walk.Kind.TheVariants as kinds
+use Rattle.krl_types.specs.declared.item_kind.ItemKind.TheVariants as kinds
 use Rattle.serial_set.specs.Iteration.{IsPiece, left, next_of}
 use Rattle.serial_set.specs.Span.{AreSerials, IsRuns}
 use Rattle.krl_core.proofs.GainedEntries.{spans_left}
@@ -110,7 +110,7 @@ lists_end lists i le = ap (λ (xs : List Given). flat_map given_facts xs) (drop_
 -- ---- facts, as the code has them
 
 pub ids_shown : (form : Form) (authority : Bor (List ℕ)) (is : List ℕ) (texts ids : List (List ℕ)) (result : Result (Unit {0}) RunFault) (old new : Printer) (before after : Counts) → authority.now ≡ is → texts ≡ ids
-    → Shows form (map (kind_fact (kinds.Id authority)) texts) result old new before after → Shows form (map (IdFact is) ids) result old new before after
+    → Shows form (map (item_fact kinds.Id authority.now) texts) result old new before after → Shows form (map (IdFact is) ids) result old new before after
 ids_shown form authority is texts ids result old new before after same also shows =
     subst (λ (a : List ℕ). Shows form (map (IdFact a) ids) result old new before after) same
     (subst (λ (t : List (List ℕ)). Shows form (map (IdFact authority.now) t) result old new before after) also shows)

@@ -6,13 +6,11 @@ use Rattle.run_output.specs.Carries.{Carries}
 use Rattle.run_output.specs.Printer.{Printer}
 use Rattle.run_output.specs.Run.{Item, said_of}
 use Rattle.list_text.specs.Counts.{counted_all}
-use Rattle.list_text.specs.Facts.{Fact, IdFact, KeyFact, ListFact, Sha1Fact, Sha256Fact, facts_of}
+use Rattle.list_text.specs.Facts.{Fact, ListFact, facts_of}
 use Rattle.list_text.specs.Forms.{form_line}
 use Rattle.list_text.specs.declared.counts.Counts.{Counts}
 use Rattle.list_text.specs.declared.form.Form.{Form}
 use Rattle.show_run.specs.declared.lists.Given.{Given}
-use Rattle.show_run.specs.declared.walk.Kind.{Kind}
-use Rattle.show_run.specs.declared.walk.Kind.TheVariants as kinds
 
 -- the item of a line; the name is that of its fault if there is no memory for it
 abbrev pub line_item : List ℕ → Item
@@ -30,13 +28,6 @@ pub record Shows (form : Form) (facts : List Fact) (result : Result (Unit {0}) R
     (old new : Printer) (before after : Counts) : Type 0 where
   pub carries : Carries (fact_items form facts) result old new
   pub count : OnOk result (after ≡ counted_all before facts)
-
--- some bytes as a fact
-abbrev pub kind_fact : Kind → List ℕ → Fact
-kind_fact (kinds.Id authority) bytes = IdFact authority.now bytes
-kind_fact kinds.Key bytes = KeyFact bytes
-kind_fact kinds.Sha1 bytes = Sha1Fact bytes
-kind_fact kinds.Sha256 bytes = Sha256Fact bytes
 
 -- a list: its name and header, and what it names
 unfoldable pub given_facts : Given → List Fact

@@ -1,45 +1,19 @@
 //! Showing everything that is held.
 
-ghost use Rattle.std.specs.Prelude.{◌≡◌, map};
+ghost use Rattle.std.specs.Prelude.{map};
 ghost use Rattle.std.specs.List.{flat_map};
-ghost use Rattle.list_text.specs.Facts.{SerialsFact, fact_of, facts_of, section_facts};
-ghost use Rattle.show_run.specs.Showing.{Shows, given_facts, kind_fact, lists_facts};
+ghost use Rattle.list_text.specs.Facts.{SerialsFact, facts_of, item_fact, section_facts};
+ghost use Rattle.show_run.specs.Showing.{Shows, given_facts, lists_facts};
 
 use crate::lists::Given;
 use crate::printing::show_fact;
 use byte_streams::Sink;
 use krl_core::{Listed, Revocations, Texts};
+use krl_types::ItemKind;
 use list_text::{Counts, Fact, Form};
 use run_faults::RunFault;
 use run_output::Run;
 use serial_set::{Span, Spans};
-
-/// The kind of some bytes of a list.
-#[derive(Clone, Copy)]
-pub(crate) enum Kind<'a> {
-    /// A key ID under an authority.
-    Id(&'a [u8]),
-    /// A key.
-    Key,
-    /// The SHA-1 of a key.
-    Sha1,
-    /// The SHA-256 of a key.
-    Sha256,
-}
-
-impl<'a> Kind<'a> {
-    // The bytes as a fact.
-    fn fact(self, bytes: &'a [u8]) -> Fact<'a>
-        ensures { fact_of result ≡ kind_fact self.entry bytes.now }
-    {
-        match self {
-            Kind::Id(authority) => Fact::Id(authority, bytes),
-            Kind::Key => Fact::Key(bytes),
-            Kind::Sha1 => Fact::Sha1(bytes),
-            Kind::Sha256 => Fact::Sha256(bytes),
-        }
-    }
-}
 
 /// Shows lists, one after the other.
 pub(crate) fn show_lists<'a, W: Sink>(
@@ -83,9 +57,16 @@ pub fn show_held<'a, S: Spans, W: Sink>(
         run.new.printer counts.old counts.new }
 {
     show_sections(run, counts, form, held)?;
-    show_texts(run, counts, form, Kind::Key, held.iter_keys())?;
-    show_texts(run, counts, form, Kind::Sha1, held.iter_sha1s())?;
-    show_texts(run, counts, form, Kind::Sha256, held.iter_sha256s())
+    show_texts(run, counts, form, ItemKind::Key, &[], held.iter_keys())?;
+    show_texts(run, counts, form, ItemKind::Sha1, &[], held.iter_sha1s())?;
+    show_texts(
+        run,
+        counts,
+        form,
+        ItemKind::Sha256,
+        &[],
+        held.iter_sha256s(),
+    )
 }
 
 // Shows the authorities, with their serial numbers and key IDs.
@@ -117,7 +98,14 @@ fn show_section<'a, S: Spans, W: Sink>(
     let authority = listed.authority();
     show_fact(run, counts, form, Fact::Authority(authority))?;
     show_spans(run, counts, form, authority, listed.spans())?;
-    show_texts(run, counts, form, Kind::Id(authority), listed.iter_ids())
+    show_texts(
+        run,
+        counts,
+        form,
+        ItemKind::Id,
+        authority,
+        listed.iter_ids(),
+    )
 }
 
 // Shows spans of serial numbers, some at a time.
@@ -157,19 +145,20 @@ fn show_piece<'a, W: Sink>(
     Ok(())
 }
 
-// Shows key IDs, keys or hashes.
+// Shows keys, hashes of one kind, or key IDs under an authority.
 fn show_texts<'a, W: Sink>(
     run: &mut Run<'_, W>,
     counts: &mut Counts,
     form: Form,
-    kind: Kind<'_>,
+    kind: ItemKind,
+    authority: &[u8],
     texts: Texts<'_>,
 ) -> Result<(), RunFault<'a>>
-    ensures { Shows form (map (kind_fact kind.entry) texts.entry) result
+    ensures { Shows form (map (item_fact kind authority.now) texts.entry) result
         run.old.printer run.new.printer counts.old counts.new }
 {
     for bytes in texts {
-        show_fact(run, counts, form, kind.fact(bytes))?;
+        show_fact(run, counts, form, Fact::item(kind, authority, bytes))?;
     }
     Ok(())
 }

@@ -2,15 +2,14 @@
 use Rattle.std.proofs.Common.{◌≡◌, ℕ, ◌+◌, ◌<◌, add-one, drop-cons, List, [], ◌∷◌, ◌++◌, length, drop, get_or, map, Option, Some, refl, ap, ◌∙◌}
 use Rattle.std.proofs.lemmas.List.{map-append}
 use Rattle.list_text.specs.Counts.{counted, counted_all}
-use Rattle.list_text.specs.Facts.{Fact, IdFact}
+use Rattle.list_text.specs.Facts.{Fact, IdFact, item_fact}
 use Rattle.list_text.specs.declared.counts.Counts.{Counts}
 use Rattle.serial_set.specs.declared.span.Span.{Span}
 use Rattle.serial_set.specs.Iteration.{IsPiece, left, next_of}
 use Rattle.serial_set.specs.Span.{AreSerials, IsRuns}
 use Rattle.krl_core.proofs.GainedEntries.{spans_left}
 use Rattle.std.specs.Borrow.{Bor}
-use Rattle.text_run.specs.Counting.{kind_fact}
-use Rattle.text_run.specs.declared.counting.Kind.TheVariants as kinds
+use Rattle.krl_types.specs.declared.item_kind.ItemKind.TheVariants as kinds
 
 pub both_counted : (counts : Counts) (xs ys : List Fact) → counted_all (counted_all counts xs) ys ≡ counted_all counts (xs ++ ys)
 both_counted counts [] ys = refl
@@ -53,5 +52,5 @@ then_counted xs ys before between after first second =
     second ∙ ap (λ (counts : Counts). counted_all counts ys) first ∙ both_counted before xs ys
 
 pub ids_counted : (authority : Bor (List ℕ)) (is : List ℕ) (texts ids : List (List ℕ)) (before after : Counts) → authority.now ≡ is → texts ≡ ids
-    → after ≡ counted_all before (map (kind_fact (kinds.Id authority)) texts) → after ≡ counted_all before (map (IdFact is) ids)
+    → after ≡ counted_all before (map (item_fact kinds.Id authority.now) texts) → after ≡ counted_all before (map (IdFact is) ids)
 ids_counted authority is texts ids before after same also counts = rw (← same, ← also) counts

@@ -3,11 +3,11 @@
 ghost use Rattle.std.specs.Prelude.{◌≡◌, map};
 ghost use Rattle.std.specs.List.{flat_map};
 ghost use Rattle.list_text.specs.Counts.{counted_all};
-ghost use Rattle.list_text.specs.Facts.{SerialsFact, fact_of, section_facts};
-ghost use Rattle.text_run.specs.Counting.{kind_fact};
+ghost use Rattle.list_text.specs.Facts.{SerialsFact, item_fact, section_facts};
 ghost use Rattle.text_run.specs.Making.{counts_of};
 
 use krl_core::{Listed, Revocations, Texts};
+use krl_types::ItemKind;
 use list_text::{Counts, Fact};
 use serial_set::{Span, Spans};
 
@@ -17,37 +17,10 @@ pub(crate) fn count<S: Spans>(held: &Revocations<S>) -> Counts
 {
     let mut counts = Counts::NONE;
     count_sections(&mut counts, held);
-    count_texts(&mut counts, Kind::Key, held.iter_keys());
-    count_texts(&mut counts, Kind::Sha1, held.iter_sha1s());
-    count_texts(&mut counts, Kind::Sha256, held.iter_sha256s());
+    count_texts(&mut counts, ItemKind::Key, &[], held.iter_keys());
+    count_texts(&mut counts, ItemKind::Sha1, &[], held.iter_sha1s());
+    count_texts(&mut counts, ItemKind::Sha256, &[], held.iter_sha256s());
     counts
-}
-
-// The kind of some bytes that are held.
-#[derive(Clone, Copy)]
-enum Kind<'a> {
-    // A key ID under an authority.
-    Id(&'a [u8]),
-    // A key.
-    Key,
-    // The SHA-1 of a key.
-    Sha1,
-    // The SHA-256 of a key.
-    Sha256,
-}
-
-impl<'a> Kind<'a> {
-    // The bytes as a fact.
-    fn fact(self, bytes: &'a [u8]) -> Fact<'a>
-        ensures { fact_of result ≡ kind_fact self.entry bytes.now }
-    {
-        match self {
-            Kind::Id(authority) => Fact::Id(authority, bytes),
-            Kind::Key => Fact::Key(bytes),
-            Kind::Sha1 => Fact::Sha1(bytes),
-            Kind::Sha256 => Fact::Sha256(bytes),
-        }
-    }
 }
 
 // Counts the authorities, with their serial numbers and key IDs.
@@ -67,7 +40,7 @@ fn count_section<S: Spans>(counts: &mut Counts, listed: &Listed<'_, S>)
     let authority = listed.authority();
     counts.add(Fact::Authority(authority));
     count_spans(counts, authority, listed.spans());
-    count_texts(counts, Kind::Id(authority), listed.iter_ids());
+    count_texts(counts, ItemKind::Id, authority, listed.iter_ids());
 }
 
 // Counts spans of serial numbers, some at a time.
@@ -92,11 +65,12 @@ fn count_piece(counts: &mut Counts, authority: &[u8], piece: &[Span])
     }
 }
 
-// Counts key IDs, keys or hashes.
-fn count_texts(counts: &mut Counts, kind: Kind<'_>, texts: Texts<'_>)
-    ensures { counts.new ≡ counted_all counts.old (map (kind_fact kind.entry) texts.entry) }
+// Counts keys, hashes of one kind, or key IDs under an authority.
+fn count_texts(counts: &mut Counts, kind: ItemKind, authority: &[u8], texts: Texts<'_>)
+    ensures { counts.new
+        ≡ counted_all counts.old (map (item_fact kind authority.now) texts.entry) }
 {
     for bytes in texts {
-        counts.add(kind.fact(bytes));
+        counts.add(Fact::item(kind, authority, bytes));
     }
 }

@@ -1,5 +1,5 @@
 -- Each text is shown, or ends the run.
-use Rattle.show_run.proofs.Common.{[], ◌∷◌, err_from_is_err_and, kind_fact}
+use Rattle.show_run.proofs.Common.{[], ◌∷◌, err_from_is_err_and, item_fact}
 use Rattle.show_run.proofs.Showing.{all_shown, more_shown, none_shown, showing_stops}
 use Rattle.show_run.proofs.walk.show_texts.Goals as goal
 
@@ -8,17 +8,17 @@ loop-bytes-init g c = rw c.into_iter-bytes-iterator.ensures.into_iter_gives (non
 
 pub loop-bytes-preserved : goal.loop-bytes-preserved
 loop-bytes-preserved g c =
-    let fact = kind_fact c.args.kind c.in-Some.bytes.now in
+    let fact = item_fact c.args.kind c.args.authority.now c.in-Some.bytes.now in
     let is = rw c.in-Some.ensures.steps at c.loop-bytes.invariant in
-    let shows = rw c.fact.ensures at c.in_ok-show_fact.ensures in
+    let shows = rw c.item.ensures at c.in_ok-show_fact.ensures in
     more_shown _ _ (fact ∷ []) _ _ _ _ _ _ _ is shows
 
 pub returns-in_err-show_fact : goal.returns-in_err-show_fact
 returns-in_err-show_fact g c =
     let p = err_from_is_err_and c.from_residual.result c.from_residual.ensures.1 in
-    let fact = kind_fact c.args.kind c.in-Some.bytes.now in
+    let fact = item_fact c.args.kind c.args.authority.now c.in-Some.bytes.now in
     let is = rw c.in-Some.ensures.steps at c.loop-bytes.invariant in
-    let shows = rw c.fact.ensures at c.in_err-show_fact.ensures in
+    let shows = rw c.item.ensures at c.in_err-show_fact.ensures in
     rw (p.1, p.2) (showing_stops _ _ (fact ∷ []) _ _ _ _ _ _ _ _ _ is shows)
 
 pub returns : goal.returns
