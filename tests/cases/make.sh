@@ -42,7 +42,7 @@ makes 'two CAs' "ca: $a\nserial: 7\nca: all\nserial: 5\n" '2 CAs, 2 serial numbe
   "01$(string "${of_a}20000000080000000000000007")"
 makes 'a CA that is no key' 'ca-blob: eA==\nid: a' '1 CA, 1 key ID' \
   01000000130000000178 00000000230000000500000001 61
-makes 'keys behind options' "environment=\"A=b:c\" $g\ncommand=\"a: b\",no-pty $a c:d" '2 keys' \
+makes 'keys with words in their comments' "$g ca: all\n \t$a serial 5 # ca: all" '2 keys' \
   "$(section "$A" "$G")"
 makes 'keys' "$g c\nkey: $a\nkey-blob: AQ==" '3 keys' "$(section "$A" "$G" 01)"
 makes 'a SHA-256' "hash: $f" '1 hashed key' \
@@ -53,6 +53,8 @@ makes 'a SHA-1' "hash: SHA1:$(bytes "$(repeat 20 ab)" | base64 | tr -d =)" '1 ha
   030000001800000014 "$(repeat 20 ab)"
 certificate=$(line ssh-ed25519-cert-v01@openssh.com "$(certificate "$G" "$A" 0000000000000007 a)")
 makes 'a certificate, under its own CA' "ca: all\n$certificate\n" '1 CA, 1 serial number' \
+  "01$(string "${of_a}20000000080000000000000007")"
+makes 'a certificate behind a blank' "\t$certificate ca: all" '1 CA, 1 serial number' \
   "01$(string "${of_a}20000000080000000000000007")"
 
 # refuses NAME LINE WORDS FAULT TEXT: the text is refused at its line, and the list stays.
@@ -88,29 +90,51 @@ refuses 'a SHA-1 of 21 bytes' 1 'the hash is cut, padded or misspelt' \
   "hash: SHA1:$(bytes "$(repeat 21 ab)" | base64 | tr -d =)\n"
 refuses 'a CA that is no key' 1 'no key type stands there' \
   'text 1 Spec, spec 6 Key, line 1 NoKey' 'ca: everyone\n'
+refuses 'a type without its key' 1 'no key type stands there' \
+  'text 1 Spec, spec 6 Key, line 1 NoKey' 'ssh-ed25519\n'
 meant() {
-  refuses "$1" 2 "\"$2\" is no word of a text: did you mean \"$3\"?" "${5-text 7 UnknownWord}" \
+  refuses "$1" 2 "\"$2\" is no word of a text: did you mean \"$3:\"?" 'text 7 UnknownWord' \
     "ca: all\n$4\n"
 }
 meant 'a word with a letter more' serials serial 'serials: 5'
-meant 'a word with a letter less, in upper case, and a blank' SERIA serial ' SERIA : 5' \
-  'text 1 Spec, spec 6 Key, line 1 NoKey'
+meant 'a word with a letter less, in upper case, and a blank' SERIA serial ' SERIA : 5'
 meant 'a word with another letter' sha255 sha256 'sha255: x'
 meant 'a word with a byte that a terminal obeys' 'ca\x1b' ca 'ca\033: all'
+meant 'a word without its colon' serial serial 'serial 5'
+meant 'a blank before the colon' ID id 'ID : bob'
 unknown() {
-  refuses "$1" 2 "the word before the colon is none of ca, ca-blob, serial, id, id-hex, key, \
-key-blob, sha1, sha256 and hash" 'text 7 UnknownWord' "ca: all\n$2\n"
+  refuses "$1" 2 "a line begins with ca:, ca-blob:, serial:, id:, id-hex:, key:, key-blob:, sha1:, \
+sha256: or hash:, or with the type of a key, and nothing may be before it, such as options" \
+    'text 7 UnknownWord' "ca: all\n$2\n"
 }
 unknown 'a word that is two letters off' 'serail: 5'
 unknown 'no word before a colon' ': 5'
+unknown 'a line that is no key' 'garbage'
 
-# With a key behind it an unknown word would be options of the key, and the list would revoke a CA.
+# If a key behind anything but a word and a colon were read, the list would revoke the key of a CA.
 meant 'a misspelt word before a key' cas ca "cas: $a"
 meant 'a misspelt word before options and a key' cas ca "cas:cert-authority $a"
+meant 'a word without its colon before a key' ca ca "ca $a"
+meant 'the same before a certificate' ca ca "ca $certificate"
+meant 'a blank before the colon and a key' ca ca "ca : $a"
+meant 'an equals sign instead of the colon' ca ca "ca= $a"
+meant 'a semicolon instead of the colon' 'ca;' ca "ca; $a"
+meant 'a full stop instead of the colon' ca. ca "ca. $a"
+meant 'a word in upper case without its colon' CA ca "CA $a"
+meant 'the word of serial numbers before a key' serial serial "serial $a"
 unknown 'a word behind a byte order mark' "\\357\\273\\277ca: $a"
 unknown 'no word before a colon and a key' ": $a"
 unknown 'a quoted word before a key' "\"ca\": $a"
+unknown 'a quoted word without its colon' "\"ca\" $a"
 unknown 'another word before a key' "user: $a"
+unknown 'another word without its colon' "user $a"
+unknown 'an option before a key' "no-pty $a"
+unknown 'the option of a CA before its key' "cert-authority $a"
+unknown 'options with a colon before a key' "restrict,command=\"a: b\" $a"
+unknown 'an option that sets a variable' "environment=\"A=b:c\" $a"
+unknown 'the marker of a CA before its key' "@cert-authority * $a"
+unknown 'the marker of a revoked key' "@revoked * $a"
+unknown 'the name of a host before its key' "host.example $a"
 refuses 'serial number 0' 2 'serial number 0 names no certificate' 'text 1 Spec, spec 2 Zero' \
   'ca: all\nserial: 0\n'
 refuses 'a range that ends early' 2 'a range of serial numbers ends below its first one' \

@@ -1,3 +1,4 @@
 pub mod ReadLines
 pub mod Said
+pub mod KeyLines
 pub mod OneOff

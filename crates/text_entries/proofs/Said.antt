@@ -1,6 +1,6 @@
 -- What lines say, and what was done.
 use Rattle.std.proofs.lemmas.Bool.{false≢true}
-use Rattle.std.proofs.Common.{◌≡◌, ◌==◌, length, false, ℕ, List, [], ◌∷◌, Option, Some, None, Result, Ok, Err, refl, ap, arith}
+use Rattle.std.proofs.Common.{◌≡◌, ◌==◌, length, true, false, ℕ, List, [], ◌∷◌, Option, Some, None, Result, Ok, Err, refl, ap, arith}
 use Rattle.ssh_wire.specs.Reading.{◌>>=◌, in_fault}
 use Rattle.run_faults.specs.declared.spec_cause.SpecCause.{SpecCause}
 use Rattle.run_faults.specs.declared.spec_cause.SpecCause.TheVariants as specs
@@ -17,8 +17,7 @@ use Rattle.krl_types.specs.Subject.{CertNames, Subject}
 use Rattle.ssh_cert.specs.SubjectReading.{subject_of}
 use Rattle.ssh_cert.specs.declared.subject_fault.SubjectFault.{SubjectFault}
 use Rattle.text_entries.specs.Reading.{IsDone}
-use Rattle.text_entries.specs.Says.{Names, Saying, entry_says, key_line_says}
-use Rattle.text_entries.specs.Word.{begins_with_word}
+use Rattle.text_entries.specs.Says.{Names, Saying, begins_with_key, entry_says, key_line_says}
 use Rattle.text_entries.specs.TextCause.{MayLackMemory, Reports}
 use Rattle.text_entries.specs.Values.{authority_key_in, unless_certified}
 use Rattle.text_entries.specs.declared.text_cause.TextCause.{TextCause}
@@ -77,11 +76,11 @@ pub entry_done : (read : Result Entry SpecCause) (current : Option (List ℕ)) (
     → (saying : Saying) × (entry_says read ≡ Ok saying) × IsDone saying current current old new
 entry_done read current old new (entry, is, adds, few) = (Names entry, ap entry_says is, (refl, adds, few))
 
--- content that begins with no word
-pub key_line_is : (content : List ℕ) → false ≡ (length content == 0) → begins_with_word content ≡ false
+-- content that begins with a key
+pub key_line_is : (content : List ℕ) → false ≡ (length content == 0) → begins_with_key content ≡ true
     → key_line_says content ≡ entry_says (bare_entry content)
-key_line_is [] some no_word = absurd (false≢true some)
-key_line_is (byte ∷ bytes) some no_word = rw no_word refl
+key_line_is [] some begins = absurd (false≢true some)
+key_line_is (byte ∷ bytes) some begins = rw begins refl
 
 -- an entry of bytes that a line gives
 pub names_one : (read : Result (List ℕ) TextCause) (value : List ℕ) (entry : List ℕ → Entry) (current : Option (List ℕ)) (old new : Revocations)

@@ -1,7 +1,9 @@
 -- The meaning of a line of the text of a list (krl(1), THE TEXT OF A LIST).
-use Rattle.std.specs.Prelude.{ℕ, List, [], ◌∷◌, Option, Some, None, Result, Ok, Err}
+use Rattle.std.specs.Prelude.{ℕ, Bool, List, [], ◌∷◌, Option, Some, None, Result, Ok, Err}
 use Rattle.std.specs.Prelude.{if◌then◌else◌}
 use Rattle.ssh_wire.specs.Reading.{◌>>=◌}
+use Rattle.key_text.specs.Blanks.{first_word}
+use Rattle.key_text.specs.TypeName.{is_type_name}
 use Rattle.run_faults.specs.declared.spec_cause.SpecCause.{SpecCause}
 use Rattle.run_faults.specs.declared.spec_cause.SpecCause.TheVariants as specs
 use Rattle.krl_types.specs.Entry.{Entry, IdEntry, KeyEntry, Sha1Entry}
@@ -10,7 +12,7 @@ use Rattle.krl_spec.specs.Entries.{bare_entry, order_entry}
 use Rattle.krl_spec.specs.declared.directive.Directive.TheVariants as directives
 use Rattle.text_entries.specs.Values.{authority_blob_in, authority_in, blob_in, bytes_in, is_cut}
 use Rattle.text_entries.specs.Values.{is_sha1, sha1_in}
-use Rattle.text_entries.specs.Word.{Order, begins_with_word, order_in}
+use Rattle.text_entries.specs.Word.{Order, order_in}
 use Rattle.text_entries.specs.declared.text_cause.TextCause.{TextCause}
 use Rattle.text_entries.specs.declared.text_cause.TextCause.TheVariants as causes
 use Rattle.text_entries.specs.declared.word.Word.{Word}
@@ -73,13 +75,17 @@ word_says current line Hash given =
 
 -- ---- any line
 
--- Content without a word is a key line, as in a specification file. With an unknown word it would
--- be one too, since a key line may have options first.
+-- The content begins with the type name of a key: no options, marker or host names are before it.
+abbrev pub begins_with_key : List ℕ → Bool
+begins_with_key content = is_type_name (first_word content)
+
+-- Content without a word is a key line, as in a specification file, but with nothing before the
+-- key: a word without its colon would be options of the key.
 abbrev pub key_line_says : List ℕ → Result Saying TextCause
 key_line_says [] = Ok Blank
 key_line_says (byte ∷ bytes) =
-    if begins_with_word (byte ∷ bytes) then Err causes.UnknownWord
-    else entry_says (bare_entry (byte ∷ bytes))
+    if begins_with_key (byte ∷ bytes) then entry_says (bare_entry (byte ∷ bytes))
+    else Err causes.UnknownWord
 
 abbrev pub order_says : Option (List ℕ) → List ℕ → Option Order → Result Saying TextCause
 order_says current line None = key_line_says (bare_line line)

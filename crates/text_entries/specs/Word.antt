@@ -1,9 +1,9 @@
 -- The words that a line of the text of a list can begin with (krl(1), THE TEXT OF A LIST).
-use Rattle.std.specs.Prelude.{ℕ, Bool, not, ◌+◌, ◌==◌, ◌||◌, ◌&&◌, nat_lt, if◌then◌else◌, List}
-use Rattle.std.specs.Prelude.{[], ◌∷◌, length, drop, codes, Option, None, option_map}
-use Rattle.std.specs.List.{before_first, find, list_any, position_or_len}
+use Rattle.std.specs.Prelude.{ℕ, Bool, ◌+◌, nat_lt, if◌then◌else◌, List, [], ◌∷◌, length, drop}
+use Rattle.std.specs.Prelude.{codes, Option, None, option_map}
+use Rattle.std.specs.List.{before_first, find, position_or_len}
 use Rattle.std.specs.Str.{str_eq_ignore_ascii_case}
-use Rattle.key_text.specs.Blanks.{after_blanks, is_blank}
+use Rattle.key_text.specs.Blanks.{after_blanks}
 use Rattle.krl_spec.specs.Directive.{is_colon, name_of as spec_name}
 use Rattle.krl_spec.specs.declared.directive.Directive.TheVariants as directives
 use Rattle.text_entries.specs.declared.word.Word.{Word}
@@ -50,16 +50,3 @@ order_in line =
     then option_map (order (after_blanks (drop (position_or_len is_colon line + 1) line)))
     (word_named (before_first is_colon line))
     else None
-
--- ---- words of any name
-
--- a word ends before an equals sign or a blank
-abbrev pub is_word_end : ℕ → Bool
-is_word_end byte = byte == 61 || is_blank byte
-
--- The line begins with a word and a colon. Options that sshd takes before a key have a colon only
--- after an equals sign.
-unfoldable pub begins_with_word : List ℕ → Bool
-begins_with_word line =
-    nat_lt (position_or_len is_colon line) (length line)
-    && not (list_any is_word_end (before_first is_colon line))

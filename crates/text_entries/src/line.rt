@@ -3,14 +3,15 @@
 ghost use Rattle.std.specs.Prelude.{◌≡◌, ℕ, List, Option, true};
 ghost use Rattle.krl_spec.specs.Entries.{order_entry};
 ghost use Rattle.text_entries.specs.Reading.{TakesLine};
-ghost use Rattle.text_entries.specs.Says.{entry_says, id_hex_says, key_blob_says, key_line_says};
-ghost use Rattle.text_entries.specs.Says.{line_says, sha1_says, word_says};
+ghost use Rattle.text_entries.specs.Says.{begins_with_key, entry_says, id_hex_says, key_blob_says};
+ghost use Rattle.text_entries.specs.Says.{key_line_says, line_says, sha1_says, word_says};
 ghost use Rattle.text_entries.specs.Values.{is_sha1};
 
 use crate::authority::{read_authority, read_authority_blob, under};
 use crate::text_cause::TextCause;
 use crate::values::{is_cut, is_sha1, read_blob, read_bytes, read_sha1};
-use crate::word::{Order, Word, begins_with_word, order_in};
+use crate::word::{Order, Word, order_in};
+use key_text::key_part;
 use krl_entries::Revocations;
 use krl_spec::{Directive, SpecCause, add_bare, add_order, bare_line};
 use serial_set::Spans;
@@ -98,12 +99,23 @@ fn take_key_line<S: Spans>(
     if content.is_empty() {
         return Ok(());
     }
-    if begins_with_word(content) {
+    if !begins_with_key(content) {
         return Err(TextCause::UnknownWord);
     }
     match add_bare(alloc, revocations, content) {
         Ok(()) => Ok(()),
         Err(cause) => Err(TextCause::Spec(cause)),
+    }
+}
+
+// Whether the content begins with the type name of a key: no options, marker or host names are
+// before it.
+fn begins_with_key(content: &[u8]) -> bool
+    ensures { result ≡ begins_with_key content.now }
+{
+    match key_part(content) {
+        Some(part) => part.len() == content.len(),
+        None => false,
     }
 }
 

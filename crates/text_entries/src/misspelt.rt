@@ -1,23 +1,21 @@
 //! The misspelt word of a line, and what was meant.
 
 ghost use Rattle.std.specs.Prelude.{◌≡◌, MatchOption, None, Some};
-ghost use Rattle.text_entries.specs.Misspelt.{misspelt_at, misspelt_in, numbered_line};
+ghost use Rattle.std.specs.List.{before_first};
+ghost use Rattle.text_entries.specs.Misspelt.{is_word_end, misspelt_at, misspelt_in};
+ghost use Rattle.text_entries.specs.Misspelt.{numbered_line};
 
 use crate::text_cause::TextCause;
 use crate::text_fault::TextFault;
 use crate::word::Word;
-use key_text::{LineFault, before_ending, split_line};
-use keyed_lines::KeyCause;
-use krl_spec::{SpecCause, bare_line, position_of};
+use key_text::{is_blank, split_line};
+use krl_spec::bare_line;
 use std::marker::Model;
 
-// The fault of a line that has no key.
-const NO_KEY: TextCause = TextCause::Spec(SpecCause::Key(KeyCause::Line(LineFault::NoKey)));
-
-/// A word that is none of a text, and the one that was meant.
+/// What a line begins with instead of a word of texts and a colon, and the word that was meant.
 #[derive(Debug, Drop)]
 pub struct Misspelt<'a> {
-    /// The word of the line.
+    /// The beginning of the line.
     pub word: &'a [u8],
     /// The word that was meant, in lower case.
     pub meant: &'static str,
@@ -31,14 +29,15 @@ impl<'a> Model for Misspelt<'a> {
     ghost view = { λ misspelt. record { word = misspelt.word.now; meant = misspelt.meant.now } };
 }
 
-/// The misspelt word of the line of a text that has this fault, if a word of texts is one letter
-/// off. Letters in upper and lower case count the same. Only a line that begins with an unknown
-/// word or has no key has one.
+/// The misspelt word of the line of a text that has this fault: what the line begins with, up to a
+/// colon, an equals sign or a blank. It has one if a word of texts is one letter off, or the same
+/// and only its colon is missing or misplaced. Letters in upper and lower case count the same. Only
+/// a line that begins neither with a word and a colon nor with the type name of a key has one.
 #[tactic(auto, unfolding(crate::specs::Misspelt::misspelt_at))]
 pub fn misspelt_at(text: &[u8], fault: TextFault) -> Option<Misspelt<'_>>
     ensures { result ≡ misspelt_at text.now fault.line fault.cause }
 {
-    if fault.cause != TextCause::UnknownWord && fault.cause != NO_KEY {
+    if fault.cause != TextCause::UnknownWord {
         return None;
     }
     let line = numbered_line(text, fault.line)?;
@@ -70,11 +69,26 @@ fn numbered_line(text: &[u8], number: u64) -> Option<&[u8]>
 fn misspelt_in(line: &[u8]) -> Option<Misspelt<'_>>
     ensures { result ≡ misspelt_in line.now }
 {
-    let colon = position_of(line, b':');
-    if colon == line.len() {
-        return None;
-    }
-    let word = before_ending(&line[..colon]);
+    let word = before_word_end(line);
     let meant = Word::meant(word)?.name();
     Some(Misspelt { word, meant })
+}
+
+// The part of a line before its first byte that ends a word.
+fn before_word_end(line: &[u8]) -> &[u8]
+    ensures { result.now ≡ before_first is_word_end line.now }
+{
+    for (at, byte) in line.iter().enumerate() {
+        if is_word_end(*byte) {
+            return &line[..at];
+        }
+    }
+    line
+}
+
+// Whether a word ends before this byte: a colon, an equals sign or a blank.
+fn is_word_end(byte: u8) -> bool
+    ensures { result ≡ is_word_end byte }
+{
+    byte == b':' || byte == b'=' || is_blank(byte)
 }

@@ -24,7 +24,7 @@ pub enum TextCause {
     Hex,
     /// A `#` with no blank before it cuts a key ID short.
     CutId,
-    /// The word before a colon at its beginning is none of a text.
+    /// It begins neither with a word of texts and a colon nor with the type name of a key.
     UnknownWord,
 }
 

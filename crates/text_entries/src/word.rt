@@ -1,13 +1,11 @@
 //! The words that a line of the text of a list can begin with (krl(1), THE TEXT OF A LIST).
 
 ghost use Rattle.std.specs.Prelude.{◌≡◌, MatchOption, None, Some};
-ghost use Rattle.std.specs.List.{list_any};
 ghost use Rattle.text_entries.specs.Misspelt.{is_meant, meant};
-ghost use Rattle.text_entries.specs.Word.{begins_with_word, is_named, is_word_end, name_of};
-ghost use Rattle.text_entries.specs.Word.{order, order_in, word_named};
+ghost use Rattle.text_entries.specs.Word.{is_named, name_of, order, order_in, word_named};
 
 use crate::one_off::is_one_off;
-use key_text::{after_blanks, is_blank};
+use key_text::after_blanks;
 use krl_spec::position_of;
 
 // Those that most lines begin with come first.
@@ -83,8 +81,8 @@ impl Word {
         name.eq_ignore_ascii_case(self.name().as_bytes())
     }
 
-    /// The first word that is one letter off from the given one. Letters in upper and lower case
-    /// count the same.
+    /// The first word that is the given one or one letter off from it. Letters in upper and lower
+    /// case count the same.
     #[tactic(auto, unfolding(crate::specs::Misspelt::meant))]
     pub fn meant(name: &[u8]) -> Option<Word>
         ensures { result ≡ meant name.now }
@@ -92,11 +90,11 @@ impl Word {
         WORDS.iter().copied().find(|word| word.is_meant(name))
     }
 
-    // Whether the given word is one letter off.
+    // Whether the given word is the same or one letter off.
     fn is_meant(self, name: &[u8]) -> bool
         ensures { result ≡ is_meant self name.now }
     {
-        is_one_off(name, self.name().as_bytes())
+        self.is_named(name) || is_one_off(name, self.name().as_bytes())
     }
 }
 
@@ -122,21 +120,4 @@ pub fn order_in(line: &[u8]) -> Option<Order<'_>>
     let word = Word::named(&line[..colon])?;
     let given = after_blanks(&line[colon + 1..]);
     Some(Order { word, given })
-}
-
-/// Whether the line begins with a word and a colon: no blank and no equals sign stands before the
-/// first colon. Options that sshd takes before a key have a colon only after an equals sign.
-#[tactic(auto, unfolding(crate::specs::Word::begins_with_word))]
-pub fn begins_with_word(line: &[u8]) -> bool
-    ensures { result ≡ begins_with_word line.now }
-{
-    let colon = position_of(line, b':');
-    colon < line.len() && !ends_word(&line[..colon])
-}
-
-// Whether a word ends in the text: a blank or an equals sign is in it.
-fn ends_word(text: &[u8]) -> bool
-    ensures { result ≡ list_any is_word_end text.now }
-{
-    text.iter().any(|byte| *byte == b'=' || is_blank(*byte))
 }

@@ -1,5 +1,5 @@
 -- Lines of specification files say the same in texts.
-use Rattle.std.proofs.Common.{◌≡◌, ℕ, ◌+◌, nat_lt, Bool, true, false, List, [], ◌∷◌, length, drop, Option, Some, None, option_map, refl, sym, ap, subst, inl, inr}
+use Rattle.std.proofs.Common.{◌≡◌, ℕ, ◌+◌, nat_lt, Bool, true, List, [], ◌∷◌, length, drop, Option, Some, None, option_map, refl, sym, ap, subst, inl, inr}
 use Rattle.std.specs.List.{before_first, find, position_or_len}
 use Rattle.std.specs.Str.{bytes_eq, str_to_ascii_lowercase}
 use Rattle.std.proofs.lemmas.Bool.{cases_Bool}
@@ -11,10 +11,10 @@ use Rattle.krl_spec.specs.Entries.{counted_entry, line_entry, order_entry}
 use Rattle.krl_spec.specs.declared.directive.Directive.{Directive}
 use Rattle.krl_spec.specs.declared.directive.Directive.TheVariants as directives
 use Rattle.text_entries.specs.Says.{entry_says, key_line_says, line_says, word_says}
-use Rattle.text_entries.specs.Word.{begins_with_word, name_of, order, order_in, word_named, words as all_words}
+use Rattle.text_entries.specs.Word.{name_of, order, order_in, word_named, words as all_words}
 use Rattle.text_entries.specs.declared.word.Word.{Word}
 use Rattle.text_entries.specs.declared.word.Word.TheVariants as words
-use Rattle.text_laws.specs.SpecLines.{IsReadAlike, spec_says}
+use Rattle.text_laws.specs.SpecLines.{IsBareAlike, IsReadAlike, spec_says}
 
 -- ---- the name
 
@@ -112,12 +112,12 @@ unfolding line_says line_entry
 directive_says current line given directive found is =
     rw (order_is (bare_line line) given directive found, some_entry current (bare_line line) given directive found) (alike current line given directive is)
 
-content_says : (current : Option (List ℕ)) (content : List ℕ) → spec_order_in content ≡ None → begins_with_word content ≡ false
+content_says : (current : Option (List ℕ)) (content : List ℕ) → spec_order_in content ≡ None → IsBareAlike content
     → key_line_says content ≡ spec_says (counted_entry current content)
-content_says current [] none no_word = refl
-content_says current (byte ∷ content) none no_word = rw (no_word, none) refl
+content_says current [] none alike = refl
+content_says current (byte ∷ content) none alike = rw (alike, none) refl
 
 pub key_says : (current : Option (List ℕ)) (line : List ℕ) → order_in (bare_line line) ≡ None
-    → begins_with_word (bare_line line) ≡ false → line_says current line ≡ spec_says (line_entry current line)
+    → IsBareAlike (bare_line line) → line_says current line ≡ spec_says (line_entry current line)
 unfolding line_says line_entry
-key_says current line none no_word = rw none (content_says current (bare_line line) (none_is (bare_line line) none) no_word)
+key_says current line none alike = rw none (content_says current (bare_line line) (none_is (bare_line line) none) alike)

@@ -1,10 +1,10 @@
 -- Lines of specification files that say the same in texts.
-use Rattle.std.specs.Prelude.{◌≡◌, false, ⊤, List, ℕ, Option, Some, None, Result, Ok}
+use Rattle.std.specs.Prelude.{◌≡◌, true, false, ⊤, List, [], ◌∷◌, ℕ, Option, Some, None, Result, Ok}
 use Rattle.krl_spec.specs.declared.directive.Directive.{Directive}
 use Rattle.krl_spec.specs.declared.directive.Directive.TheVariants.{Id, Hash}
 use Rattle.krl_types.specs.Entry.{Entry}
 use Rattle.run_faults.specs.declared.spec_cause.SpecCause.{SpecCause}
-use Rattle.text_entries.specs.Says.{Blank, Saying, entry_says}
+use Rattle.text_entries.specs.Says.{Blank, Saying, begins_with_key, entry_says}
 use Rattle.text_entries.specs.Values.{is_cut, is_sha1}
 use Rattle.text_entries.specs.declared.text_cause.TextCause.{TextCause}
 
@@ -18,3 +18,8 @@ abbrev pub IsReadAlike : List ℕ → Directive → List ℕ → Type 0
 IsReadAlike line Id given = is_cut line ≡ false
 IsReadAlike line Hash given = is_sha1 given ≡ false
 IsReadAlike line directive given = ⊤
+
+-- Content without a word is empty or begins with the type name of a key. Texts refuse any other.
+abbrev pub IsBareAlike : List ℕ → Type 0
+IsBareAlike [] = ⊤
+IsBareAlike (byte ∷ bytes) = begins_with_key (byte ∷ bytes) ≡ true

@@ -1,6 +1,6 @@
 //! Laws of the texts of lists. Each function does nothing: its contract is the law.
 
-ghost use Rattle.std.specs.Prelude.{◌≡◌, ℕ, List, [], ◌∷◌, ◌++◌, All, Option, None, Some, false};
+ghost use Rattle.std.specs.Prelude.{◌≡◌, ℕ, List, [], ◌∷◌, ◌++◌, All, Option, None, Some};
 ghost use Rattle.krl_spec.specs.Blanks.{bare_line};
 ghost use Rattle.krl_spec.specs.Directive.{order as spec_order, order_in as spec_order_in};
 ghost use Rattle.krl_spec.specs.Entries.{line_entry};
@@ -13,7 +13,7 @@ ghost use Rattle.list_text.specs.Facts.{Fact};
 ghost use Rattle.list_text.specs.Text.{fact_line, text_of};
 ghost use Rattle.text_entries.specs.Says.{line_says};
 ghost use Rattle.text_entries.specs.TextCause.{no_memory};
-ghost use Rattle.text_entries.specs.Word.{begins_with_word, order_in};
+ghost use Rattle.text_entries.specs.Word.{order_in};
 ghost use Rattle.text_laws.specs.FactLines.{FitsUnder, IsLineOf, fact_says};
 ghost use Rattle.krl_types.specs.Entry.{Entry};
 ghost use Rattle.krl_types.specs.Naming.{NamesSame};
@@ -21,7 +21,7 @@ ghost use Rattle.plain_list.specs.Any.{Names};
 ghost use Rattle.ssh_wire.specs.Wire.{IsBytes};
 ghost use Rattle.text_laws.specs.ReadBack.{CanBeShown, IsReadAs, IsReadInto, IsStored, Shown};
 ghost use Rattle.text_laws.specs.ReadBack.{StopsWith, entries_of_lists, text_of_lists};
-ghost use Rattle.text_laws.specs.SpecLines.{IsReadAlike, spec_says};
+ghost use Rattle.text_laws.specs.SpecLines.{IsBareAlike, IsReadAlike, spec_says};
 ghost use Rattle.text_laws.specs.Joined.{AreWholeLines, LacksNoAuthority, later_by, lines_in};
 ghost use Rattle.krl_writer.specs.KrlText.{IsKrlText};
 ghost use Rattle.list_text.specs.declared.counts.Counts.{Counts as CountsOf};
@@ -45,14 +45,15 @@ pub fn texts_join()
 {}
 
 /// A line of a specification file says the same in a text: one with a directive, but for a key ID
-/// that is cut short and a SHA-1, and one without, unless it begins with a word and a colon.
+/// that is cut short and a SHA-1, and one without a word of texts that is empty or begins with the
+/// type name of a key.
 pub fn spec_lines_say_the_same()
     ensures directives { (current : Option (List ℕ)) (line given : List ℕ) (directive : Directive)
         → spec_order_in (bare_line line) ≡ Some (spec_order given directive)
         → IsReadAlike line directive given
         → line_says current line ≡ spec_says (line_entry current line) }
     ensures keys { (current : Option (List ℕ)) (line : List ℕ)
-        → order_in (bare_line line) ≡ None → begins_with_word (bare_line line) ≡ false
+        → order_in (bare_line line) ≡ None → IsBareAlike (bare_line line)
         → line_says current line ≡ spec_says (line_entry current line) }
 {}
 

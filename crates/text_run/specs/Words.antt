@@ -35,20 +35,21 @@ text_words texts.Hex = codes "no pairs of hexadecimal digits"
 text_words texts.CutId =
     codes "a # with no blank before it would cut the key ID short: use id-hex:"
 text_words texts.UnknownWord =
-    codes "the word before the colon is none of ca, ca-blob, serial, id, id-hex, key, key-blob, "
-    ++ codes "sha1, sha256 and hash"
+    codes "a line begins with ca:, ca-blob:, serial:, id:, id-hex:, key:, key-blob:, sha1:, "
+    ++ (codes "sha256: or hash:, or with the type of a key, and nothing may be before it, "
+    ++ codes "such as options")
 
 abbrev pub make_words : MakeCause → List ℕ
 make_words (Run cause) = cause_words cause
 make_words (Line cause) = text_words cause
 make_words Empty = codes "no text has an entry, and the list would revoke nobody"
 
--- a misspelt word, and the one that was meant
+-- a misspelt word, and the one that was meant, with its colon
 abbrev pub meant_words : Misspelt → List ℕ
 meant_words misspelt =
     codes "\""
     ++ (visible true misspelt.word
-    ++ (codes "\" is no word of a text: did you mean \"" ++ (misspelt.meant ++ codes "\"?")))
+    ++ (codes "\" is no word of a text: did you mean \"" ++ (misspelt.meant ++ codes ":\"?")))
 
 -- why no list is made, or what was meant where a word is misspelt
 abbrev pub why_words : Option Misspelt → MakeCause → List ℕ

@@ -12,8 +12,9 @@ use run_faults::{Cause, SpecCause};
 use std::alloc::{AllocError, Global};
 use text_entries::{Misspelt, TextCause};
 
-const UNKNOWN_WORD: &[u8] = b"the word before the colon is none of ca, ca-blob, serial, id, \
-id-hex, key, key-blob, sha1, sha256 and hash";
+const UNKNOWN_WORD: &[u8] = b"a line begins with ca:, ca-blob:, serial:, id:, id-hex:, key:, \
+key-blob:, sha1:, sha256: or hash:, or with the type of a key, and nothing may be before it, such \
+as options";
 
 // The number of a line, if there is one.
 #[derive(Clone, Copy)]
@@ -53,13 +54,13 @@ fn why_words(alloc: Global, fault: &MakeFault<'_>) -> Result<Vec<u8>, AllocError
     }
 }
 
-// A misspelt word, and the one that was meant.
+// A misspelt word, and the one that was meant, with its colon.
 fn meant_words(alloc: Global, misspelt: &Misspelt<'_>) -> Result<Vec<u8>, AllocError>
     ensures { IfOk result (λ text. text.items ≡ meant_words misspelt.now) }
 {
     let mut text = Vec::new(alloc);
     put!(&mut text; b"\"", Visible(misspelt.word, true),
-        b"\" is no word of a text: did you mean \"", Words(misspelt.meant.as_bytes()), b"\"?")?;
+        b"\" is no word of a text: did you mean \"", Words(misspelt.meant.as_bytes()), b":\"?")?;
     Ok(text)
 }
 

@@ -278,6 +278,22 @@ def some_text(pool):
     return lines, named
 
 
+# What a misspelt line and other files of keys have before a key.
+BEFORE_A_KEY = [
+    "ca ",
+    "ca : ",
+    "ca= ",
+    "ca; ",
+    "SERIAL ",
+    "user ",
+    '"ca" ',
+    "no-pty ",
+    'command="a: b" ',
+    "@revoked * ",
+    "host.example ",
+]
+OF_AUTHORITY = of_blob("key", AUTHORITY).partition(" # ")[0][5:]
+
 # A line that is refused, wherever it is, and one that is refused before the first authority.
 WRONG = [
     "serial: 0",
@@ -303,6 +319,7 @@ WRONG = [
     "serials: 5",
     "+ serial: 5",
     "- ca: all",
+    *(it + OF_AUTHORITY for it in BEFORE_A_KEY),
 ]
 ALONE = ["serial: 5", "id: bob", "id-hex: 61"]
 

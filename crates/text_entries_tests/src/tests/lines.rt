@@ -25,7 +25,7 @@ fn made(rt: &impl Abort, alloc: Global, text: &[u8]) -> Result<Vec<u8>, TextFaul
 }
 
 // The parts of a text, and the sections of the list that it names.
-const NAMED: [(&[&[u8]], &[&[u8]]); 22] = [
+const NAMED: [(&[&[u8]], &[&[u8]]); 23] = [
     (&[b""], &[]),
     (&[b"# a comment\n \t\r\n"], &[]),
     (&[b"ca: all"], &[]),
@@ -50,13 +50,11 @@ const NAMED: [(&[&[u8]], &[&[u8]]); 22] = [
     // A key needs no CA, and a certificate is under its own.
     (&[b"key: ", GITHUB_LINE, b" # a"], &[KEY_SECTION]),
     (&[GITHUB_LINE], &[KEY_SECTION]),
-    // Options of a key may have a colon, after an equals sign.
-    (
-        &[b"environment=\"A=b:c\" ", GITHUB_LINE, b" d:e"],
-        &[KEY_SECTION],
-    ),
-    (&[b"no-pty,command=\"a: b\" ", GITHUB_LINE], &[KEY_SECTION]),
+    // A comment of a key may have a colon or a word.
+    (&[GITHUB_LINE, b" ca: d:e"], &[KEY_SECTION]),
+    (&[b" \t", GITHUB_LINE, b"\tserial 5 \r"], &[KEY_SECTION]),
     (&[b"ca: all\n", CERT_LINE], &[SEVEN_OF_OTHER]),
+    (&[b"\t", CERT_LINE, b" ca: all"], &[SEVEN_OF_OTHER]),
     (&[b"key-blob: AQ=="], &[KEY_OF_ONE]),
     (&[b"hash: ", GITHUB_PRINT], &[SHA256_SECTION]),
     (
@@ -91,7 +89,7 @@ fn what_texts_name(rt: HostRuntime) {
 }
 
 // The parts of a text, its first line with a fault, and how that fault prints.
-const REFUSED: [(&[&[u8]], u64, &str); 30] = [
+const REFUSED: [(&[&[u8]], u64, &str); 28] = [
     (&[b"serial: 5"], 1, "text 1 Spec, spec 4 NoAuthority"),
     (&[b"id: a"], 1, "text 1 Spec, spec 4 NoAuthority"),
     (&[b"\nid-hex: xx"], 2, "text 1 Spec, spec 4 NoAuthority"),
@@ -129,40 +127,83 @@ const REFUSED: [(&[&[u8]], u64, &str); 30] = [
         1,
         "text 1 Spec, spec 7 Fingerprint, fingerprint 1 Prefix",
     ),
-    (&[b"serials 5"], 1, "text 1 Spec, spec 6 Key, line 1 NoKey"),
     (
-        &[b"ca : ", OTHER_LINE],
+        &[b"ssh-ed25519"],
         1,
         "text 1 Spec, spec 6 Key, line 1 NoKey",
     ),
-    (&[b"serials: 5"], 1, "text 7 UnknownWord"),
-    (&[b":"], 1, "text 7 UnknownWord"),
-    // Without the colon these would be options before the key.
-    (&[b"ca: all\ncas: ", OTHER_LINE], 2, "text 7 UnknownWord"),
     (
-        &[b"cas:cert-authority ", OTHER_LINE],
+        &[b"ssh-ed25519 no-pty ", OTHER_LINE],
         1,
-        "text 7 UnknownWord",
+        "text 1 Spec, spec 6 Key, line 2 Base64",
     ),
-    (&[b"\"ca\": ", OTHER_LINE], 1, "text 7 UnknownWord"),
-    (&[b"\xef\xbb\xbfca: ", OTHER_LINE], 1, "text 7 UnknownWord"),
-    (&[b": ", CERT_LINE], 1, "text 7 UnknownWord"),
+    (&[b"serials: 5"], 1, "text 7 UnknownWord"),
+    (&[b"serials 5"], 1, "text 7 UnknownWord"),
+    (&[b"ca: all\n\nserial 5"], 3, "text 7 UnknownWord"),
+    (&[b":"], 1, "text 7 UnknownWord"),
+    (&[b"garbage"], 1, "text 7 UnknownWord"),
 ];
+
+// Whether a text has its first fault at this line, and the fault prints so.
+fn has_fault(rt: &impl Abort, alloc: Global, parts: &[&[u8]], line: u64, cause: &str) -> bool {
+    let text = joined(alloc, parts).expect(rt, "there is memory");
+    match made(rt, alloc, &text) {
+        Ok(_) => false,
+        Err(fault) => {
+            let said = fault.cause.to_string(alloc).expect(rt, "there is memory");
+            fault.line == line && said.as_str() == cause
+        }
+    }
+}
 
 #[test]
 fn first_faults(rt: HostRuntime) {
     for (i, (parts, line, cause)) in REFUSED.iter().enumerate() {
-        let text = joined(rt.alloc(), *parts).expect(&rt, "there is memory");
-        match made(&rt, rt.alloc(), &text) {
-            Ok(_) => assert!(rt; false, "row {i} has a fault"),
-            Err(fault) => {
-                assert!(rt; fault.line == *line, "in row {i}");
-                let said = fault
-                    .cause
-                    .to_string(rt.alloc())
-                    .expect(&rt, "there is memory");
-                assert!(rt; said.as_str() == *cause, "in row {i}");
-            }
+        assert!(rt;
+            has_fault(&rt, rt.alloc(), *parts, *line, cause),
+            "in row {i}"
+        );
+    }
+}
+
+// What other files of keys may have before a key, or what a misspelt line of a text has. Taken for
+// options, it would revoke the key of a CA.
+const BEFORE_A_KEY: [&[u8]; 24] = [
+    b"ca ",
+    b"ca : ",
+    b"ca= ",
+    b"ca=",
+    b"ca; ",
+    b"ca. ",
+    b"CA ",
+    b"cas: ",
+    b"cas:cert-authority ",
+    b"\"ca\" ",
+    b"\"ca\": ",
+    b"\xef\xbb\xbfca: ",
+    b"\xef\xbb\xbf",
+    b"serial ",
+    b"user ",
+    b": ",
+    b"no-pty ",
+    b"cert-authority ",
+    b"restrict,command=\"a: b\" ",
+    b"environment=\"A=b:c\" ",
+    b"\"\" ",
+    b"host.example ",
+    b"@cert-authority * ",
+    b"@revoked * ",
+];
+
+#[test]
+fn nothing_before_a_key(rt: HostRuntime) {
+    for (i, before) in BEFORE_A_KEY.iter().enumerate() {
+        for key in [OTHER_LINE, CERT_LINE] {
+            let parts: [&[u8]; 3] = [b"ca: all\n", before, key];
+            assert!(rt;
+                has_fault(&rt, rt.alloc(), &parts, 2, "text 7 UnknownWord"),
+                "in row {i}"
+            );
         }
     }
 }

@@ -94,7 +94,7 @@ fn faults(rt: HostRuntime) {
 }
 
 // A text, its line with a misspelt word, that word as it is shown, and the word that was meant.
-const MISSPELT: [(&[u8], &[u8], &[u8], &[u8]); 10] = [
+const MISSPELT: [(&[u8], &[u8], &[u8], &[u8]); 22] = [
     (b"serials: 5", b"1", b"serials", b"serial"),
     (b"ca: all\n# c\nseria: 5", b"3", b"seria", b"serial"),
     (b"\tSERIALS: 5\r\n", b"1", b"SERIALS", b"serial"),
@@ -107,13 +107,38 @@ const MISSPELT: [(&[u8], &[u8], &[u8], &[u8]); 10] = [
     // No byte of a text is printed that a terminal obeys, and none ends the quotes.
     (b"ca\x1b: all", b"1", b"ca\\x1b", b"ca"),
     (b"i\"d: a", b"1", b"i\\\"d", b"id"),
+    // Only the colon is missing, or not right behind the word.
+    (b"ca ssh-ed25519 AQ==", b"1", b"ca", b"ca"),
+    (b"ca: all\nserial 5", b"2", b"serial", b"serial"),
+    (b"SERIALS : 5", b"1", b"SERIALS", b"serial"),
+    (b"Serial\t: 5", b"1", b"Serial", b"serial"),
+    (b"id-hex", b"1", b"id-hex", b"id-hex"),
+    (b"serials", b"1", b"serials", b"serial"),
+    // Another byte instead of the colon.
+    (b"ca= all", b"1", b"ca", b"ca"),
+    (b"KEY=x:y z", b"1", b"KEY", b"key"),
+    (b"ca; all", b"1", b"ca;", b"ca"),
+    (b"ca. all", b"1", b"ca.", b"ca"),
+    (b"hash SHA256:x", b"1", b"hash", b"hash"),
+    // The fault is in the third line, and a later line has one too.
+    (b"ca: all\n\nkeys: x\nhashs: x", b"3", b"keys", b"key"),
 ];
 
-// Lines with a word that is two letters off.
-const UNKNOWN: [&[u8]; 4] = [b"serail: 5", b"Serals: 5", b"kye: x", b"hsah: x"];
+// Lines with a word that is two letters off, and with one behind something.
+const UNKNOWN: [&[u8]; 9] = [
+    b"serail: 5",
+    b"Serals: 5",
+    b"kye: x",
+    b"hsah: x",
+    b"seri#ls: 5",
+    b"no-pty,ca ssh-ed25519 AQ==",
+    b"=ca: all",
+    b"\"ca\": all",
+    b"user",
+];
 
-// Lines without a key that have no colon or a blank before it, or begin with a word of a text.
-const KEYLESS: [&[u8]; 4] = [b"serials", b"seri#ls: 5", b"Serial : 5", b"ca: ids: 5"];
+// Lines that begin with a word of a text or with the type of a key, but have no key.
+const KEYLESS: [&[u8]; 4] = [b"ca: ids: 5", b"ca: key", b"key:", b"ssh-ed25519"];
 
 // The line about the fault of one text.
 fn said_of(rt: &impl Abort, alloc: Global, bytes: &[u8]) -> Vec<u8> {
@@ -133,21 +158,11 @@ fn misspelt_words(rt: HostRuntime) {
             word,
             b"\" is no word of a text: did you mean \"",
             meant,
-            b"\"? [text 7 UnknownWord]\n",
+            b":\"? [text 7 UnknownWord]\n",
         ];
         let wanted = joined(alloc, &parts).expect(&rt, "there is memory");
         assert!(rt; said_of(&rt, alloc, text) == wanted, "in row {i}");
     }
-}
-
-// The line about a word before a blank and a colon.
-const BEFORE_A_BLANK: &[u8] = b"krl: t: line 1: \"SERIALS\" is no word of a text: \
-did you mean \"serial\"? [text 1 Spec, spec 6 Key, line 1 NoKey]\n";
-
-#[test]
-fn misspelt_words_before_a_blank(rt: HostRuntime) {
-    let line = said_of(&rt, rt.alloc(), b"SERIALS : 5");
-    assert!(rt; line.as_slice() == BEFORE_A_BLANK);
 }
 
 // The line about the one fault of each of these texts.
@@ -159,8 +174,9 @@ fn all_say(rt: &impl Abort, alloc: Global, texts: &[&[u8]], line: &[u8]) {
 
 #[test]
 fn unknown_words(rt: HostRuntime) {
-    let line = b"krl: t: line 1: the word before the colon is none of ca, ca-blob, serial, id, \
-id-hex, key, key-blob, sha1, sha256 and hash [text 7 UnknownWord]\n";
+    let line = b"krl: t: line 1: a line begins with ca:, ca-blob:, serial:, id:, id-hex:, key:, \
+key-blob:, sha1:, sha256: or hash:, or with the type of a key, and nothing may be before it, such \
+as options [text 7 UnknownWord]\n";
     all_say(&rt, rt.alloc(), &UNKNOWN, line);
 }
 

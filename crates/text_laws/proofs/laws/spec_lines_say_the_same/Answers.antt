@@ -5,4 +5,4 @@ pub returns-clause-directives : goal.returns-clause-directives
 returns-clause-directives c current line given directive found is = directive_says current line given directive found is
 
 pub returns-clause-keys : goal.returns-clause-keys
-returns-clause-keys c current line none no_word = key_says current line none no_word
+returns-clause-keys c current line none alike = key_says current line none alike
