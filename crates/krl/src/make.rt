@@ -7,12 +7,11 @@ use crate::ending::fail_to_make;
 use crate::loading::text_of;
 use byte_streams::FromBuffer;
 use krl_arguments::Make;
-use krl_core::{Header, read_krl};
+use krl_core::{Header, Revocations, read_krl};
 use krl_system::{
     Locked, MadeOf, OldList, Target, Waiting, Written, buffered, date, lock_target, release,
     write_list,
 };
-use list_text::Counts;
 use program_edge::print_line;
 use run_faults::{Cause, FileFault, cause_of};
 use span_sets::Held;
@@ -24,11 +23,11 @@ use text_run::{MakeCause, MakeFault, Text, Wanted, made_line, next_version, text
 // changed meanwhile.
 const TRIES: u32 = 10_000;
 
-// A list that is written: its version, and how much it names.
-#[derive(Clone, Copy)]
+// A list that is written: its version, and what it names.
+#[derive(Drop)]
 struct Done {
     version: u64,
-    counts: Counts,
+    revocations: Revocations<Held>,
 }
 
 // The list that is asked for, apart from its version where it is that of an old one.
@@ -93,7 +92,9 @@ fn make_of(rt: &HostRuntime, quiet: bool, inputs: &Inputs) -> u8 {
         Ok(done) => done,
         Err(fault) => return fail_to_make(rt, &fault),
     };
-    if !quiet && let Ok(line) = made_line(rt.alloc(), inputs.name, done.version, &done.counts) {
+    if !quiet
+        && let Ok(line) = made_line(rt.alloc(), inputs.name, done.version, &done.revocations)
+    {
         print_line(rt, line.as_slice());
     }
     0
@@ -211,7 +212,7 @@ fn write<'a>(
     match write_list(rt, inputs.name, locked, &made.bytes) {
         Ok(Written::Whole) => Ok(Some(Done {
             version,
-            counts: made.counts,
+            revocations: made.revocations,
         })),
         Ok(Written::Elsewhere | Written::Changed) => Ok(None),
         Err(cause) => Err(fault_of(inputs.name, cause)),

@@ -24,7 +24,6 @@ ghost use Rattle.text_laws.specs.ReadBack.{StopsWith, entries_of_lists, text_of_
 ghost use Rattle.text_laws.specs.SpecLines.{IsBareAlike, IsReadAlike, spec_says};
 ghost use Rattle.text_laws.specs.Joined.{AreWholeLines, LacksNoAuthority, later_by, lines_in};
 ghost use Rattle.krl_writer.specs.KrlText.{IsKrlText};
-ghost use Rattle.list_text.specs.declared.counts.Counts.{Counts as CountsOf};
 ghost use Rattle.text_laws.specs.MadeLists.{IsMergedOf, only_text_of};
 ghost use Rattle.text_run.specs.Making.{Makes, Wanted as WantedOf};
 
@@ -100,10 +99,11 @@ pub fn shown_list_names_the_same()
 /// of one list, it has the wanted header and the same contents, so both have the same lines.
 pub fn shown_lists_are_made_again()
     ensures merged { (lists : List Shown) (wanted : WantedOf) (name bytes : List ℕ)
-        (counts : CountsOf) → All CanBeShown lists
-        → Makes wanted (only_text_of name lists) bytes counts
+        (contents : Revocations) → All CanBeShown lists
+        → Makes wanted (only_text_of name lists) bytes contents
         → IsMergedOf lists wanted.header bytes }
-    ensures same { (list : Shown) (wanted : WantedOf) (name bytes : List ℕ) (counts : CountsOf)
-        → CanBeShown list → Makes wanted (only_text_of name (list ∷ [])) bytes counts
+    ensures same { (list : Shown) (wanted : WantedOf) (name bytes : List ℕ)
+        (contents : Revocations) → CanBeShown list
+        → Makes wanted (only_text_of name (list ∷ [])) bytes contents
         → IsKrlText wanted.header list.contents bytes }
 {}

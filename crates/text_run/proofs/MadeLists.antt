@@ -4,9 +4,8 @@ use Rattle.krl_entries.specs.Revocations.{Means, Revocations, held, nothing}
 use Rattle.krl_format.specs.Front.{limit}
 use Rattle.krl_types.specs.Entry.{Entry}
 use Rattle.krl_writer.specs.KrlText.{IsKrlText}
-use Rattle.list_text.specs.declared.counts.Counts.{Counts}
 use Rattle.text_run.specs.Fault.{MakeFault, whole_fault}
-use Rattle.text_run.specs.Making.{AddsTexts, HoldsMore, IsUnmade, IsWritten, Makes, Text, Wanted, counts_of, empty, ran_out, too_long}
+use Rattle.text_run.specs.Making.{AddsTexts, HoldsMore, IsUnmade, IsWritten, Makes, Text, Wanted, empty, ran_out, too_long}
 use Rattle.text_run.specs.declared.make_fault.MakeCause.TheVariants.{Empty}
 
 abbrev fine : Result (Unit {0}) MakeFault
@@ -19,12 +18,11 @@ meant contents entries none holds = holds.means [] none
 few : (contents : Revocations) (entries : List Entry) → HoldsMore nothing contents entries → held contents ≤ length entries
 few contents entries holds = omega (arith, holds.held_is)
 
-pub list_made : (wanted : Wanted) (texts : List Text) (contents : Revocations) (bytes : List ℕ) (counts : Counts)
+pub list_made : (wanted : Wanted) (texts : List Text) (contents : Revocations) (bytes : List ℕ)
     → AddsTexts texts fine nothing contents → Means nothing [] → (wanted.allow_empty ≡ false → contents ≢ nothing)
-    → IsKrlText wanted.header contents bytes → length bytes ≤ limit → counts ≡ counts_of contents → Makes wanted texts bytes counts
-list_made wanted texts contents bytes counts (entries, read, holds) none some written within counted = record {
+    → IsKrlText wanted.header contents bytes → length bytes ≤ limit → Makes wanted texts bytes contents
+list_made wanted texts contents bytes (entries, read, holds) none some written within = record {
   entries = entries;
-  contents = contents;
   read = read;
   some = some;
   is = record {
@@ -32,7 +30,6 @@ list_made wanted texts contents bytes counts (entries, read, holds) none some wr
     few = few contents entries holds;
     written = written;
     within = within;
-    counted = counted;
   };
 }
 

@@ -109,25 +109,22 @@ pub record Wanted : Type 0 where
 abbrev pub counts_of : Revocations → Counts
 counts_of contents = counted_all nothing_counted (facts_of contents)
 
--- A list with this header that names exactly these entries: what is held of it, its bytes, and how
--- much it names.
-pub record IsMade (header : Header) (entries : List Entry) (bytes : List ℕ) (counts : Counts)
+-- a list with this header that names exactly these entries: its bytes, and what is held of it
+pub record IsMade (header : Header) (entries : List Entry) (bytes : List ℕ)
     (contents : Revocations) : Type 0 where
   pub means : Means contents entries
   pub few : held contents ≤ length entries
   pub written : IsKrlText header contents bytes
   pub within : length bytes ≤ limit
-  pub counted : counts ≡ counts_of contents
 
 -- The texts have no fault, and the list names exactly their entries. It names something, unless it
 -- may be empty.
-pub record Makes (wanted : Wanted) (texts : List Text) (bytes : List ℕ) (counts : Counts)
+pub record Makes (wanted : Wanted) (texts : List Text) (bytes : List ℕ) (contents : Revocations)
     : Type 0 where
   pub entries : List Entry
-  pub contents : Revocations
   pub read : texts_entries texts ≡ Ok entries
   pub some : wanted.allow_empty ≡ false → contents ≢ nothing
-  pub is : IsMade wanted.header entries bytes counts contents
+  pub is : IsMade wanted.header entries bytes contents
 
 -- The bytes are those of the wanted list, with what is held. Otherwise an allocation failed, or the
 -- list would be too long to be read.

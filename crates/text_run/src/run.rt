@@ -5,12 +5,10 @@ ghost use Rattle.krl_entries.specs.Revocations.{nothing};
 ghost use Rattle.text_run.specs.Making.{IsUnmade, IsWritten, Makes};
 
 use crate::adding::add_texts;
-use crate::counting::count;
 use crate::make_fault::{MakeCause, MakeFault};
 use crate::text::Text;
 use krl_core::{Header, Revocations};
 use krl_writer::{TextFault, krl_text};
-use list_text::Counts;
 use run_faults::Cause;
 use span_sets::Held;
 use std::alloc::Global;
@@ -44,11 +42,11 @@ impl<'a> Model for Wanted<'a> {
 pub struct Made {
     /// Its bytes.
     pub bytes: Vec<u8>,
-    /// How many authorities, serial numbers, key IDs, keys and hashes it names.
-    pub counts: Counts,
+    /// What it names.
+    pub revocations: Revocations<Held>,
 }
 
-/// The bytes of a list that names exactly what the lines of the texts name, and how much that is.
+/// A list that names exactly what the lines of the texts name.
 /// The first fault stops the run: those of the texts and lines in order; that no text has an entry,
 /// unless that is allowed; that the list would be too long to be read.
 pub fn text_run<'a>(
@@ -56,7 +54,8 @@ pub fn text_run<'a>(
     wanted: &Wanted<'a>,
     texts: &'a [Text<'a>],
 ) -> Result<Made, MakeFault<'a>>
-    ensures made { IfOk result (λ made. Makes wanted.now texts.now made.bytes.items made.counts) }
+    ensures made { IfOk result (λ made.
+        Makes wanted.now texts.now made.bytes.items made.revocations) }
     ensures unmade { IfErr result (λ fault. IsUnmade wanted.now texts.now fault) }
 {
     let mut revocations: Revocations<Held> = Revocations::new(alloc);
@@ -65,8 +64,7 @@ pub fn text_run<'a>(
         return Err(MakeFault::whole(wanted.name, MakeCause::Empty));
     }
     let bytes = write(alloc, wanted, &revocations)?;
-    let counts = count(&revocations);
-    Ok(Made { bytes, counts })
+    Ok(Made { bytes, revocations })
 }
 
 // The bytes of the wanted list, with what is held.

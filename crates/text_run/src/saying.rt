@@ -1,11 +1,15 @@
 //! The line about a list that was made (krl(1), KRL MAKE).
 
 ghost use Rattle.std.specs.Prelude.{◌≡◌, IfOk};
+ghost use Rattle.text_run.specs.Making.{counts_of};
 ghost use Rattle.text_run.specs.Said.{amounts, made_line, words};
 
+use crate::counting::count;
 use krl_audit::{Amount, Visible};
+use krl_core::Revocations;
 use line_pieces::{Printed, Words, put};
 use list_text::Counts;
+use span_sets::Held;
 use std::alloc::{AllocError, Global};
 
 // A number of things after a comma, if there are any.
@@ -25,16 +29,18 @@ impl Printed for Part {
     }
 }
 
-/// The line that says which list was made: its name, its version, and how much it names.
+/// The line that says which list was made: its name, its version, and how many authorities, serial
+/// numbers, key IDs, keys and hashes it names.
 pub fn made_line(
     alloc: Global,
     name: &str,
     version: u64,
-    counts: &Counts,
+    revocations: &Revocations<Held>,
 ) -> Result<Vec<u8>, AllocError>
-    ensures { IfOk result (λ line. line.items ≡ made_line name.now version counts.now) }
+    ensures { IfOk result (λ line. line.items
+        ≡ made_line name.now version (counts_of revocations.now)) }
 {
-    let amounts = amounts(alloc, counts)?;
+    let amounts = amounts(alloc, &count(revocations))?;
     let mut line = Vec::new(alloc);
     put!(&mut line; b"krl make: ", Visible(name.as_bytes(), false), b": version ", version, b": ",
         Words(words(&amounts)), b"\n")?;

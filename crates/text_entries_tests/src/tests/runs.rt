@@ -45,7 +45,7 @@ fn of_two_texts(rt: HostRuntime) {
     let made = text_run(alloc, &wanted(alloc, false), &texts).expect(&rt, "the texts are right");
     let list = joined(alloc, &[&HEADER, FIVE, KEY_SECTION]).expect(&rt, "there is memory");
     assert!(rt; made.bytes == list);
-    let line = made_line(alloc, "r.krl", 1, &made.counts).expect(&rt, "there is memory");
+    let line = made_line(alloc, "r.krl", 1, &made.revocations).expect(&rt, "there is memory");
     let text: &[u8] = b"krl make: r.krl: version 1: 1 CA, 1 serial number, 1 key\n";
     assert!(rt; line.as_slice() == text);
 }
@@ -192,7 +192,7 @@ fn an_empty_list(rt: HostRuntime) {
     let alloc = rt.alloc();
     let made = text_run(alloc, &wanted(alloc, true), &[]).expect(&rt, "it may be empty");
     assert!(rt; made.bytes.as_slice() == HEADER.as_slice());
-    let line = made_line(alloc, "r.krl", 1, &made.counts).expect(&rt, "there is memory");
+    let line = made_line(alloc, "r.krl", 1, &made.revocations).expect(&rt, "there is memory");
     assert!(rt; line.as_slice() == b"krl make: r.krl: version 1: nothing\n".as_slice());
 }
 

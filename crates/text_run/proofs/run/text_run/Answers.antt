@@ -28,4 +28,4 @@ returns-clause-made c =
     let adds = rw c.new-revocations.ensures.nothing at c.in_ok-add_texts.ensures in
     let none = rw c.new-revocations.ensures.nothing at c.new-revocations.ensures.means in
     let written = c.in_ok-bytes.ensures in
-    list_made c.args.wanted.now c.args.texts.now _ _ _ adds none (λ strict same. let never : IsTrue false = c.if-is_refused.ensures.1 (strict, same) in absurd cc) written.0 written.1 c.count-counts.ensures
+    list_made c.args.wanted.now c.args.texts.now _ _ adds none (λ strict same. let never : IsTrue false = c.if-is_refused.ensures.1 (strict, same) in absurd cc) written.0 written.1
