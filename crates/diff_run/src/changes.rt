@@ -4,7 +4,7 @@ ghost use Rattle.std.specs.Prelude.{◌↔◌, IfErr, IfOk, IsTrue};
 ghost use Rattle.diff_run.specs.Changes.{AreChanges, AreRead, IsUncompared, IsUnchanged};
 
 use krl_core::Revocations;
-use list_diff::{difference, is_nothing};
+use list_diff::difference;
 use run_faults::{Cause, RunFault};
 use show_run::{Lists, read_given};
 use span_sets::Held;
@@ -24,7 +24,7 @@ impl Changes {
     pub(crate) fn is_none(&self) -> bool
         ensures { IsTrue result ↔ IsUnchanged self.now }
     {
-        is_nothing(&self.added) && is_nothing(&self.removed)
+        self.added.is_nothing() && self.removed.is_nothing()
     }
 }
 

@@ -224,7 +224,7 @@ fn is_json(form: Form) -> bool
 pub fn names_nobody(list: &Revocations<Held>) -> bool
     ensures { result ≡ names_nobody list.now }
 {
-    list.authorities() == 0 && list.keys() == 0 && list.sha1s() == 0 && list.sha256s() == 0
+    list.is_nothing()
 }
 
 // The exit status of a check.

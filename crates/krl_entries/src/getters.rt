@@ -1,6 +1,6 @@
 //! The contents of revocations, in order.
-ghost use Rattle.std.specs.Prelude.{◌≡◌, ◌<◌, length, Some, slice_get, sum_by};
-ghost use Rattle.krl_entries.specs.Revocations.{IsOrderly, held};
+ghost use Rattle.std.specs.Prelude.{◌≡◌, ◌↔◌, ◌<◌, IsTrue, length, Some, slice_get, sum_by};
+ghost use Rattle.krl_entries.specs.Revocations.{IsOrderly, held, nothing};
 
 use crate::entries_by_authority::EntriesByAuthority;
 use crate::listed::{Authorities, Listed};
@@ -9,6 +9,13 @@ use crate::texts::Texts;
 use serial_set::Spans;
 
 impl<S: Spans> Revocations<S> {
+    /// Whether nothing is held.
+    pub fn is_nothing(&self) -> bool
+        ensures { IsTrue result ↔ (self.now ≡ nothing) }
+    {
+        self.authorities() == 0 && self.keys() == 0 && self.sha1s() == 0 && self.sha256s() == 0
+    }
+
     /// How many authorities have a serial or a key ID. The section for all authorities counts as
     /// one.
     pub fn authorities(&self) -> usize

@@ -9,4 +9,4 @@ mod texts;
 mod window;
 mod without;
 
-pub use without::{difference, is_nothing};
+pub use without::difference;

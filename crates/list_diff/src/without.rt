@@ -1,8 +1,8 @@
 //! The difference of two lists of revocations.
 
-ghost use Rattle.std.specs.Prelude.{◌≡◌, ◌↔◌, ◌+◌, ◌≤◌, ◌∷◌, [], ℕ, IfOk, IsTrue, OnOk};
+ghost use Rattle.std.specs.Prelude.{◌≡◌, ◌↔◌, ◌+◌, ◌≤◌, ◌∷◌, [], ℕ, IfOk, OnOk};
 ghost use Rattle.serial_set.specs.Span.{Covers};
-ghost use Rattle.krl_entries.specs.Revocations.{HoldsSerial, IsOrderly, held, nothing};
+ghost use Rattle.krl_entries.specs.Revocations.{HoldsSerial, IsOrderly, held};
 ghost use Rattle.list_diff.specs.Ahead.{spans_in};
 ghost use Rattle.list_diff.specs.Lost.{Gains, LostName, LostNumber, SerialWith};
 ghost use Rattle.list_diff.specs.Without.{HoldsWithout, MeansWithout};
@@ -37,16 +37,6 @@ pub fn difference<'a, S: Spans>(
     )?;
     let _gone = gone.in_order();
     Ok(gone)
-}
-
-/// Whether revocations name nothing.
-pub fn is_nothing<S: Spans>(revocations: &Revocations<S>) -> bool
-    ensures { IsTrue result ↔ (revocations.now ≡ nothing) }
-{
-    revocations.authorities() == 0
-        && revocations.keys() == 0
-        && revocations.sha1s() == 0
-        && revocations.sha256s() == 0
 }
 
 // Adds the serial numbers and the key IDs that the old revocations do not name.

@@ -88,15 +88,5 @@ fn is_refused(wanted: &Wanted<'_>, revocations: &Revocations<Held>) -> bool
     ensures { IsTrue result
         ↔ (wanted.now.allow_empty ≡ false) × (revocations.now ≡ nothing) }
 {
-    !wanted.allow_empty && is_empty(revocations)
-}
-
-// Whether nothing is held.
-fn is_empty(revocations: &Revocations<Held>) -> bool
-    ensures { IsTrue result ↔ (revocations.now ≡ nothing) }
-{
-    revocations.authorities() == 0
-        && revocations.keys() == 0
-        && revocations.sha1s() == 0
-        && revocations.sha256s() == 0
+    !wanted.allow_empty && revocations.is_nothing()
 }

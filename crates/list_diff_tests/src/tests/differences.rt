@@ -1,7 +1,7 @@
 //! Differences of lists of a few entries.
 
 use crate::tests::held::{Said, are_equal, held_of};
-use list_diff::{difference, is_nothing};
+use list_diff::difference;
 use serial_set::Spans;
 use span_sets::{Held, SpanVec};
 use std::alloc::Global;
@@ -122,7 +122,7 @@ fn rows_over<S: Spans>(rt: &impl Abort, alloc: Global) {
             are_equal(&removed, &held_of::<S>(rt, alloc, row.removed)),
             "removed in row {i}"
         );
-        assert!(rt; is_nothing(&added) == row.added.is_empty(), "in row {i}");
+        assert!(rt; added.is_nothing() == row.added.is_empty(), "in row {i}");
     }
 }
 

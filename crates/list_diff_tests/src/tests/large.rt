@@ -4,7 +4,7 @@ ghost use Rattle.std.specs.Prelude.{◌<◌};
 
 use crate::tests::held::are_equal;
 use krl_entries::Revocations;
-use list_diff::{difference, is_nothing};
+use list_diff::difference;
 use span_sets::Held;
 use std::alloc::{AllocError, Global};
 
@@ -52,7 +52,7 @@ fn numbers_that_are_no_multiples(rt: HostRuntime) {
     assert!(rt; !lost.has_serial(b"A", 12) && lost.has_serial(b"A", 17));
     assert!(rt; !lost.has_id(b"A", &text(3)) && lost.has_id(b"A", &text(4)));
     let none = difference(rt.alloc(), &every, &third).expect(&rt, "there is memory");
-    assert!(rt; is_nothing(&none));
+    assert!(rt; none.is_nothing());
     let left = difference(rt.alloc(), &lost, &every).expect(&rt, "there is memory");
     assert!(rt; are_equal(&left, &third));
 }

@@ -1,7 +1,7 @@
 //! The caller of the page.
 
 use krl_entries::Revocations;
-use list_diff::{difference, is_nothing};
+use list_diff::difference;
 use serial_set::Spans;
 use span_sets::Held;
 use std::alloc::{AllocError, Global};
@@ -13,7 +13,7 @@ fn is_superset<S: Spans>(
     new: &Revocations<S>,
 ) -> Result<bool, AllocError> {
     let lost = difference(alloc, new, old)?;
-    Ok(is_nothing(&lost))
+    Ok(lost.is_nothing())
 }
 
 #[test]
