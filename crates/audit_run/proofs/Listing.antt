@@ -109,20 +109,20 @@ name_ended_at bytes rest at fits ends goes = rw (split_at bytes rest at fits, en
 -- ---- the bytes of a reader
 
 -- the names that an audit goes to, of all bytes of a reader, as far as they are read
-abbrev pub Leads : (K : Fact → Type 0) (every : Bool) (path : List ℕ) → (all left : Option (List ℕ)) → List ℕ → List (Vec ℕ) → ℕ
+abbrev pub IsReadSoFar : (K : Fact → Type 0) (every : Bool) (path : List ℕ) → (all left : Option (List ℕ)) → List ℕ → List (Vec ℕ) → ℕ
     → Type 0
-Leads K every path None left front names count = Unit {0}
-Leads K every path (Some all) None front names count = ⊥
-Leads K every path (Some all) (Some left) front names count = Continues K every path [] all [] 0 front left names count
+IsReadSoFar K every path None left front names count = Unit {0}
+IsReadSoFar K every path (Some all) None front names count = ⊥
+IsReadSoFar K every path (Some all) (Some left) front names count = Continues K every path [] all [] 0 front left names count
 
-pub begins : (K : Fact → Type 0) (every : Bool) (path : List ℕ) → (all : Option (List ℕ)) → Leads K every path all all [] [] 0
+pub begins : (K : Fact → Type 0) (every : Bool) (path : List ℕ) → (all : Option (List ℕ)) → IsReadSoFar K every path all all [] [] 0
 begins K every path None = tt
 begins K every path (Some all) = stays
 
 pub part_read : {K : Fact → Type 0} {every : Bool} {path : List ℕ} (all old new : Option (List ℕ)) (bytes front later : List ℕ)
-    (names found : List (Vec ℕ)) (before now : ℕ) → Leads K every path all old front names before → Consumes old new bytes
+    (names found : List (Vec ℕ)) (before now : ℕ) → IsReadSoFar K every path all old front names before → Consumes old new bytes
     → ((rest : List ℕ) → Continues K every path front (bytes ++ rest) names before later rest found now)
-    → Leads K every path all new later found now
+    → IsReadSoFar K every path all new later found now
 part_read None old new bytes front later names found before now leads comes goes = tt
 part_read (Some all) None new bytes front later names found before now leads comes goes = absurd leads
 part_read (Some all) (Some old) None bytes front later names found before now leads comes goes = absurd comes
@@ -136,7 +136,7 @@ plain_counts a b is =
     ap (λ (n : ℕ). capped n) one ∙ is ∙ ap (λ (n : ℕ). capped n) two
 
 pub all_read : (K : Fact → Type 0) (every : Bool) (path : List ℕ) → (all old new : Option (List ℕ)) (front : List ℕ)
-    (names sorted : List (Vec ℕ)) (count : ℕ) → Leads K every path all old front names count → Consumes old new [] → IsAtEnd new
+    (names sorted : List (Vec ℕ)) (count : ℕ) → IsReadSoFar K every path all old front names count → Consumes old new [] → IsAtEnd new
     → IsPermutation names sorted → IsSorted (λ (x y : Vec ℕ). slice_cmp nat_cmp x.items y.items) sorted
     → IfSome all (λ bytes. AreWantedInOrder K every path bytes sorted count)
 unfolding names_after
