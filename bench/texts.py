@@ -5,7 +5,7 @@ import subprocess
 
 import lists
 import specs
-from measure import AUDIT, OURS, build_audit, least_in_turn, own
+from measure import AUDIT, OURS, build_audit, instructions, least_in_turn, own
 
 LIST = 4 << 20
 # Bytes of each of two lists that are compared.
@@ -14,14 +14,14 @@ COMPARED = 31 << 19
 PAIRS = ("random serials", "ranges", "key IDs", "many authorities", "explicit keys")
 
 
-def head(name, other):
+def head(name, other, more=""):
     print("%-48s %13s" % (name, "over " + other))
-    print("%-48s %6s %6s %15s" % ("", "time", "memory", "seconds, MiB"))
+    print("%-48s %6s %6s %15s %s" % ("", "time", "memory", "seconds, MiB", more))
 
 
-def row(name, ours, other):
+def row(name, ours, other, more=""):
     ratios = ours[0] / other[0], ours[1] / other[1]
-    print("%-48s %6.2f %6.2f %s" % (name, *ratios, own(ours)), flush=True)
+    print("%-48s %6.2f %6.2f %s %s" % (name, *ratios, own(ours), more), flush=True)
 
 
 def save(name, content):
@@ -38,8 +38,9 @@ def shown():
 
 
 def made():
-    """The text has the lines of -k, below one for all authorities."""
-    head("krl make", "-k")
+    """The text has the lines of -k, below one for all authorities. On a machine that others use too,
+    times vary by more than the commands differ, so their instructions are compared as well."""
+    head("krl make", "-k", "instructions")
     for name, (count, lines) in specs.MADE.items():
         (spec,) = specs.write(lines, count, 1)
         with open(spec) as given, open("text", "w") as out:
@@ -48,7 +49,8 @@ def made():
             [AUDIT, "make", "-q", "-f", "made.krl", "-z", "1", "text"],
             [OURS, "-k", "-f", "other.krl", "-z", "1", "-s", "none", spec],
         )
-        row(name, *least_in_turn(commands))
+        make, other = (instructions(words) for words in commands)
+        row(name, *least_in_turn(commands), "%12.2f" % (make / other))
 
 
 def compared():
