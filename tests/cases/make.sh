@@ -135,6 +135,18 @@ unknown 'an option that sets a variable' "environment=\"A=b:c\" $a"
 unknown 'the marker of a CA before its key' "@cert-authority * $a"
 unknown 'the marker of a revoked key' "@revoked * $a"
 unknown 'the name of a host before its key' "host.example $a"
+between() {
+  refuses "$1" 2 'no key type stands there' 'text 1 Spec, spec 6 Key, line 1 NoKey' "ca: all\n$2\n"
+}
+between 'all CAs and one' "ca: all $a"
+between 'a second colon' "ca:: $a"
+between 'a word between ca: and the CA' "ca: revoke $a"
+between 'a word of texts between key: and the key' "key: ca: $a"
+between 'a mark between key: and the key' "key: - $a"
+between 'options between key: and the key' "key: no-pty $a"
+between 'a marker between key: and the key' "key: @cert-authority $a"
+between 'options between sha1: and the key' "sha1: no-pty $a"
+between 'options between sha256: and the key' "sha256: restrict,command=\"a: b\" $a"
 refuses 'serial number 0' 2 'serial number 0 names no certificate' 'text 1 Spec, spec 2 Zero' \
   'ca: all\nserial: 0\n'
 refuses 'a range that ends early' 2 'a range of serial numbers ends below its first one' \

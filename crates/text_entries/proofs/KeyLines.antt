@@ -8,7 +8,7 @@ use Rattle.key_text.specs.LineReading.{after_options, key_part, part_after, type
 use Rattle.key_text.specs.TypeName.{is_type_name}
 use Rattle.key_text.proofs.LineOptions.{options_take}
 use Rattle.key_text.proofs.LineWords.{blanks_cut, leading}
-use Rattle.text_entries.specs.Says.{begins_with_key}
+use Rattle.text_entries.specs.Values.{begins_with_key}
 
 -- nothing is before a part that is as long as the whole
 none_before : (front back : List ℕ) → length (front ++ back) ≡ length back → front ++ back ≡ back

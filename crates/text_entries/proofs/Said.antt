@@ -17,9 +17,9 @@ use Rattle.krl_types.specs.Subject.{CertNames, Subject}
 use Rattle.ssh_cert.specs.SubjectReading.{subject_of}
 use Rattle.ssh_cert.specs.declared.subject_fault.SubjectFault.{SubjectFault}
 use Rattle.text_entries.specs.Reading.{IsDone}
-use Rattle.text_entries.specs.Says.{Names, Saying, begins_with_key, entry_says, key_line_says}
+use Rattle.text_entries.specs.Says.{Names, Saying, entry_says, key_line_says}
 use Rattle.text_entries.specs.TextCause.{MayLackMemory, Reports}
-use Rattle.text_entries.specs.Values.{authority_key_in, unless_certified}
+use Rattle.text_entries.specs.Values.{authority_key_in, begins_with_key, unless_certified}
 use Rattle.text_entries.specs.declared.text_cause.TextCause.{TextCause}
 use Rattle.text_entries.specs.declared.text_cause.TextCause.TheVariants.{Spec}
 

@@ -1,17 +1,16 @@
 -- The meaning of a line of the text of a list (krl(1), THE TEXT OF A LIST).
-use Rattle.std.specs.Prelude.{ℕ, Bool, List, [], ◌∷◌, Option, Some, None, Result, Ok, Err}
+use Rattle.std.specs.Prelude.{ℕ, List, [], ◌∷◌, Option, Some, None, Result, Ok, Err}
 use Rattle.std.specs.Prelude.{if◌then◌else◌}
 use Rattle.ssh_wire.specs.Reading.{◌>>=◌}
-use Rattle.key_text.specs.Blanks.{first_word}
-use Rattle.key_text.specs.TypeName.{is_type_name}
 use Rattle.run_faults.specs.declared.spec_cause.SpecCause.{SpecCause}
 use Rattle.run_faults.specs.declared.spec_cause.SpecCause.TheVariants as specs
 use Rattle.krl_types.specs.Entry.{Entry, IdEntry, KeyEntry, Sha1Entry}
 use Rattle.krl_spec.specs.Blanks.{bare_line}
 use Rattle.krl_spec.specs.Entries.{bare_entry, order_entry}
+use Rattle.krl_spec.specs.declared.directive.Directive.{Directive}
 use Rattle.krl_spec.specs.declared.directive.Directive.TheVariants as directives
-use Rattle.text_entries.specs.Values.{authority_blob_in, authority_in, blob_in, bytes_in, is_cut}
-use Rattle.text_entries.specs.Values.{is_sha1, sha1_in}
+use Rattle.text_entries.specs.Values.{authority_blob_in, authority_in, begins_with_key, blob_in}
+use Rattle.text_entries.specs.Values.{bytes_in, is_cut, is_sha1, no_key, sha1_in}
 use Rattle.text_entries.specs.Word.{Order, order_in}
 use Rattle.text_entries.specs.declared.text_cause.TextCause.{TextCause}
 use Rattle.text_entries.specs.declared.text_cause.TextCause.TheVariants as causes
@@ -56,6 +55,12 @@ sha1_says given = do
   hash ← sha1_in given
   Ok (Names (Sha1Entry hash))
 
+-- a key line, as a directive says it, but with nothing before the key
+abbrev pub keyed_says : Option (List ℕ) → Directive → List ℕ → Result Saying TextCause
+keyed_says current directive given =
+    if begins_with_key given then entry_says (order_entry current directive given)
+    else Err no_key
+
 -- A word of specification files says what it says there, under the current authority.
 abbrev pub word_says : Option (List ℕ) → List ℕ → Word → List ℕ → Result Saying TextCause
 word_says current line Authority given = current_says (authority_in given)
@@ -65,19 +70,15 @@ word_says current line Id given =
     if is_cut line then Err causes.CutId
     else entry_says (order_entry current directives.Id given)
 word_says current line IdHex given = id_hex_says current given
-word_says current line Key given = entry_says (order_entry current directives.Key given)
+word_says current line Key given = keyed_says current directives.Key given
 word_says current line KeyBlob given = key_blob_says given
-word_says current line Sha1 given = entry_says (order_entry current directives.Sha1 given)
-word_says current line Sha256 given = entry_says (order_entry current directives.Sha256 given)
+word_says current line Sha1 given = keyed_says current directives.Sha1 given
+word_says current line Sha256 given = keyed_says current directives.Sha256 given
 word_says current line Hash given =
     if is_sha1 given then sha1_says given
     else entry_says (order_entry current directives.Hash given)
 
 -- ---- any line
-
--- The content begins with the type name of a key: no options, marker or host names are before it.
-abbrev pub begins_with_key : List ℕ → Bool
-begins_with_key content = is_type_name (first_word content)
 
 -- Content without a word is a key line, as in a specification file, but with nothing before the
 -- key: a word without its colon would be options of the key.

@@ -9,9 +9,12 @@ use Rattle.base64.specs.declared.decode.DecodeError.{DecodeError}
 use Rattle.hex.specs.Hex.{decode_of as hex_decode_of}
 use Rattle.hex.specs.declared.error.FromHexError.{FromHexError}
 use Rattle.ssh_wire.specs.Reading.{◌>>=◌, in_fault}
-use Rattle.key_text.specs.Blanks.{is_blank}
+use Rattle.key_text.specs.Blanks.{first_word, is_blank}
+use Rattle.key_text.specs.TypeName.{is_type_name}
+use Rattle.key_text.specs.declared.line_fault.LineFault.TheVariants as lines
 use Rattle.key_text.specs.declared.fingerprint_fault.FingerprintFault.TheVariants as fingerprints
 use Rattle.keyed_lines.specs.Keys.{subject_in}
+use Rattle.keyed_lines.specs.declared.key_cause.KeyCause.TheVariants as keys
 use Rattle.run_faults.specs.declared.spec_cause.SpecCause.TheVariants as specs
 use Rattle.krl_types.specs.Subject.{CertNames}
 use Rattle.krl_spec.specs.Blanks.{is_hash}
@@ -34,6 +37,15 @@ no_hex error = causes.Hex
 unfoldable pub bytes_in : List ℕ → Result (List ℕ) TextCause
 bytes_in text = in_fault no_hex (hex_decode_of text)
 
+-- ---- keys
+
+-- The text begins with the type name of a key: no options, marker or host names are before it.
+abbrev pub begins_with_key : List ℕ → Bool
+begins_with_key text = is_type_name (first_word text)
+
+abbrev pub no_key : TextCause
+no_key = causes.Spec (specs.Key (keys.Line lines.NoKey))
+
 -- ---- authorities
 
 -- a plain key by its blob, and no certificate
@@ -50,9 +62,11 @@ authority_key_in text = do
 abbrev pub is_all : List ℕ → Bool
 is_all text = starts_with nat_eq text (codes "all") && (length text == 3)
 
--- all authorities, which are no bytes, or one by a key line
+-- all authorities, which are no bytes, or one by a key line with nothing before the key
 unfoldable pub authority_in : List ℕ → Result (List ℕ) TextCause
-authority_in text = if is_all text then Ok [] else authority_key_in text
+authority_in text =
+    if is_all text then Ok []
+    else if begins_with_key text then authority_key_in text else Err no_key
 
 abbrev pub some_bytes : List ℕ → Result (List ℕ) TextCause
 some_bytes [] = Err causes.NoBytes

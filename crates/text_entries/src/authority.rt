@@ -8,7 +8,7 @@ ghost use Rattle.text_entries.specs.Values.{authority_blob_in, authority_in, aut
 ghost use Rattle.text_entries.specs.Values.{is_all, unless_certified};
 
 use crate::text_cause::TextCause;
-use crate::values::read_blob;
+use crate::values::{NO_KEY, begins_with_key, read_blob};
 use krl_spec::{Under, ask, key_line};
 use ssh_cert::Subject;
 use ssh_wire::Bytes;
@@ -24,13 +24,17 @@ pub fn under(current: &Option<Bytes>) -> Under<'_>
     }
 }
 
-/// The authority that a line gives: all of them, or one by its key line.
+/// The authority that a line gives: all of them, or one by its key line, with nothing before the
+/// key.
 #[tactic(auto, unfolding(crate::specs::Values::authority_in))]
 pub fn read_authority(alloc: Global, text: &[u8]) -> Result<Bytes, TextCause>
     ensures { Answers Reports (λ bytes. bytes) result (authority_in text.now) }
 {
     if is_all(text) {
         return Ok(Bytes::from_vec(Vec::new(alloc)));
+    }
+    if !begins_with_key(text) {
+        return Err(NO_KEY);
     }
     read_key(alloc, text)
 }

@@ -3,15 +3,14 @@
 ghost use Rattle.std.specs.Prelude.{◌≡◌, ℕ, List, Option, true};
 ghost use Rattle.krl_spec.specs.Entries.{order_entry};
 ghost use Rattle.text_entries.specs.Reading.{TakesLine};
-ghost use Rattle.text_entries.specs.Says.{begins_with_key, entry_says, id_hex_says, key_blob_says};
-ghost use Rattle.text_entries.specs.Says.{key_line_says, line_says, sha1_says, word_says};
+ghost use Rattle.text_entries.specs.Says.{entry_says, id_hex_says, key_blob_says, key_line_says};
+ghost use Rattle.text_entries.specs.Says.{keyed_says, line_says, sha1_says, word_says};
 ghost use Rattle.text_entries.specs.Values.{is_sha1};
 
 use crate::authority::{read_authority, read_authority_blob, under};
 use crate::text_cause::TextCause;
-use crate::values::{is_cut, is_sha1, read_blob, read_bytes, read_sha1};
+use crate::values::{NO_KEY, begins_with_key, is_cut, is_sha1, read_blob, read_bytes, read_sha1};
 use crate::word::{Order, Word, order_in};
-use key_text::key_part;
 use krl_entries::Revocations;
 use krl_spec::{Directive, SpecCause, add_bare, add_order, bare_line};
 use serial_set::Spans;
@@ -63,11 +62,28 @@ fn take_order<S: Spans>(
         Word::Hash if is_sha1(order.given) => take_sha1(alloc, revocations, order.given),
         Word::Serial => take_directive(alloc, revocations, current, Directive::Serial, order.given),
         Word::Id => take_directive(alloc, revocations, current, Directive::Id, order.given),
-        Word::Key => take_directive(alloc, revocations, current, Directive::Key, order.given),
-        Word::Sha1 => take_directive(alloc, revocations, current, Directive::Sha1, order.given),
-        Word::Sha256 => take_directive(alloc, revocations, current, Directive::Sha256, order.given),
+        Word::Key => take_keyed(alloc, revocations, current, Directive::Key, order.given),
+        Word::Sha1 => take_keyed(alloc, revocations, current, Directive::Sha1, order.given),
+        Word::Sha256 => take_keyed(alloc, revocations, current, Directive::Sha256, order.given),
         Word::Hash => take_directive(alloc, revocations, current, Directive::Hash, order.given),
     }
+}
+
+// Adds the entry of a directive of specification files whose value is a key line.
+fn take_keyed<S: Spans>(
+    alloc: Global,
+    revocations: &mut Revocations<S>,
+    current: &Option<Bytes>,
+    directive: Directive,
+    given: &[u8],
+) -> Result<(), TextCause>
+    ensures { TakesLine (keyed_says current.now directive given.now) result
+        current.now current.now revocations.old revocations.new }
+{
+    if !begins_with_key(given) {
+        return Err(NO_KEY);
+    }
+    take_directive(alloc, revocations, current, directive, given)
 }
 
 // Adds the entry of a directive of specification files.
@@ -105,17 +121,6 @@ fn take_key_line<S: Spans>(
     match add_bare(alloc, revocations, content) {
         Ok(()) => Ok(()),
         Err(cause) => Err(TextCause::Spec(cause)),
-    }
-}
-
-// Whether the content begins with the type name of a key: no options, marker or host names are
-// before it.
-fn begins_with_key(content: &[u8]) -> bool
-    ensures { result ≡ begins_with_key content.now }
-{
-    match key_part(content) {
-        Some(part) => part.len() == content.len(),
-        None => false,
     }
 }
 

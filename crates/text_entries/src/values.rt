@@ -4,20 +4,36 @@ ghost use Rattle.std.specs.Prelude.{◌≡◌, Ok, true};
 ghost use Rattle.ssh_wire.specs.Reading.{Answers};
 ghost use Rattle.text_entries.specs.TextCause.{Reports};
 ghost use Rattle.run_faults.specs.declared.spec_cause.SpecCause.TheVariants.{Fingerprint};
-ghost use Rattle.text_entries.specs.Values.{blob_in, bytes_in, is_cut, is_sha1, sha1_in, sized};
+ghost use Rattle.text_entries.specs.Values.{begins_with_key, blob_in, bytes_in, is_cut, is_sha1};
+ghost use Rattle.text_entries.specs.Values.{sha1_in, sized};
 ghost use Rattle.text_entries.specs.declared.text_cause.TextCause.TheVariants.{Spec};
 
 use crate::text_cause::TextCause;
 use base64::DecodeAllocError;
 use base64::engine::general_purpose::{STANDARD, STANDARD_NO_PAD};
 use hex::FromHexError;
-use key_text::{FingerprintFault, is_blank};
+use key_text::{FingerprintFault, LineFault, is_blank, key_part};
+use keyed_lines::KeyCause;
 use krl_spec::position_of;
 use run_faults::SpecCause;
 use ssh_wire::Bytes;
 use std::alloc::Global;
 
 const SHA1: &[u8] = b"SHA1:";
+
+/// The fault of a value that is to be a key line, and does not begin with the type name of a key.
+pub const NO_KEY: TextCause = TextCause::Spec(SpecCause::Key(KeyCause::Line(LineFault::NoKey)));
+
+/// Whether the text begins with the type name of a key: no options, marker or host names are before
+/// it.
+pub fn begins_with_key(text: &[u8]) -> bool
+    ensures { result ≡ begins_with_key text.now }
+{
+    match key_part(text) {
+        Some(part) => part.len() == text.len(),
+        None => false,
+    }
+}
 
 /// The bytes of base64 with padding.
 #[tactic(auto, unfolding(crate::specs::Values::blob_in))]

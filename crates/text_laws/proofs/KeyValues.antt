@@ -15,7 +15,7 @@ use Rattle.ssh_key.specs.Kind.{type_name}
 use Rattle.ssh_key.specs.declared.kind.Kind.{Kind}
 use Rattle.ssh_key.specs.declared.kind.Kind.TheVariants.{Rsa, Dsa, Ecdsa256, Ecdsa384, Ecdsa521, Ed25519, EcdsaSk, Ed25519Sk}
 use Rattle.ssh_key.proofs.Keys.{key_found}
-use Rattle.key_text.specs.Blanks.{after_blanks, before_ending, is_blank, is_ending, trimmed}
+use Rattle.key_text.specs.Blanks.{after_blanks, before_ending, first_word, is_blank, is_ending, trimmed}
 use Rattle.key_text.specs.KeyLine.{AreWords, IsKeyLine, base64, no_comment}
 use Rattle.key_text.specs.LineReading.{content, line_at}
 use Rattle.key_text.specs.TypeName.{certificate_names, is_type_name, plain_names, type_names}
@@ -26,6 +26,7 @@ use Rattle.ssh_cert.specs.SubjectReading.{of_key, plain_key, subject_of}
 use Rattle.ssh_cert.proofs.Subjects.{subject_again}
 use Rattle.keyed_lines.specs.Keys.{subject_in}
 use Rattle.krl_spec.proofs.LongestParts.{end_gone}
+use Rattle.text_entries.specs.Values.{begins_with_key}
 use Rattle.text_laws.proofs.Contents.{IsValue, joined_value, no_blank, solid_value}
 use Rattle.text_laws.proofs.SolidBytes.{base64_solid, is_solid}
 
@@ -70,6 +71,17 @@ is_name Ecdsa521 = refl
 is_name Ed25519 = refl
 is_name EcdsaSk = refl
 is_name Ed25519Sk = refl
+
+pub begins_named : (kind : Kind) (rest : List ℕ) → begins_with_key (type_name kind ++ 32 ∷ rest) ≡ true
+unfolding first_word is_type_name type_names plain_names certificate_names
+begins_named Rsa rest = refl
+begins_named Dsa rest = refl
+begins_named Ecdsa256 rest = refl
+begins_named Ecdsa384 rest = refl
+begins_named Ecdsa521 rest = refl
+begins_named Ed25519 rest = refl
+begins_named EcdsaSk rest = refl
+begins_named Ed25519Sk rest = refl
 
 -- ---- the value
 

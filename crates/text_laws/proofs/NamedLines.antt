@@ -26,7 +26,7 @@ use Rattle.text_entries.specs.Values.{authority_blob_in, authority_in, authority
 use Rattle.text_entries.specs.Word.{word_named}
 use Rattle.text_entries.specs.declared.word.Word.TheVariants as words
 use Rattle.text_laws.proofs.Contents.{IsName, IsRest, comment_left, nothing_left, solid_value}
-use Rattle.text_laws.proofs.KeyValues.{key_is_value, key_subject, key_value}
+use Rattle.text_laws.proofs.KeyValues.{begins_named, key_is_value, key_subject, key_value}
 use Rattle.text_laws.proofs.LineReads.{Reads, comment_text, line_reads, literal_name, plain_text}
 use Rattle.text_laws.proofs.Orders.{word_line_says}
 use Rattle.text_laws.proofs.SolidBytes.{HasNoFeed, IsSolid, base64_solid, is_solid, kept_no_feed, solid_kept, unpadded_solid}
@@ -85,7 +85,8 @@ not_all Ed25519Sk rest = refl
 authority_again : (blob : List ℕ) (key : PublicKey) (bytes : IsBytes blob) (read : key_at blob ≡ Ok key)
     → authority_in (key_value blob key bytes read) ≡ Ok blob
 unfolding authority_in authority_key_in
-authority_again blob key bytes read = rw (not_all key.kind (encode_of standard blob), key_subject blob key bytes read) refl
+authority_again blob key bytes read =
+    rw (not_all key.kind (encode_of standard blob), begins_named key.kind (encode_of standard blob), key_subject blob key bytes read) refl
 
 some_again : (blob : List ℕ) → blob ≢ [] → some_bytes blob ≡ Ok blob
 some_again [] some = absurd (some refl)
@@ -150,7 +151,7 @@ named_key current blob bytes (Ok key) read =
     let entry : order_entry current directives.Key value ≡ Ok (KeyEntry blob) = rw (plain_again blob key bytes read) refl in
     line_reads current (codes "key") value rest (named_line (codes "key") blob (Ok key)) (Names (KeyEntry blob)) key_name kept (print_left blob)
     (comment_text (codes "key") (type_name key.kind) (encode_of standard blob) (fingerprint_text Sha256 blob))
-    (word_line_says current (codes "key") value rest words.Key key_name kept (print_left blob) key_word ∙ rw entry refl)
+    (word_line_says current (codes "key") value rest words.Key key_name kept (print_left blob) key_word ∙ rw (begins_named key.kind (encode_of standard blob), entry) refl)
 named_key current blob bytes (Err fault) read =
     let value : List ℕ = encode_of standard blob in
     let kept = solid_value value (base64_solid blob) in

@@ -100,9 +100,9 @@ alike : (current : Option (List ℕ)) (line given : List ℕ) (directive : Direc
     → word_says current line (word_of directive) given ≡ entry_says (order_entry current directive given)
 alike current line given directives.Serial is = refl
 alike current line given directives.Id is = rw is refl
-alike current line given directives.Key is = refl
-alike current line given directives.Sha1 is = refl
-alike current line given directives.Sha256 is = refl
+alike current line given directives.Key is = rw is refl
+alike current line given directives.Sha1 is = rw is refl
+alike current line given directives.Sha256 is = rw is refl
 alike current line given directives.Hash is = rw is refl
 
 pub directive_says : (current : Option (List ℕ)) (line given : List ℕ) (directive : Directive)

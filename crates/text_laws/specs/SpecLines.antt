@@ -1,11 +1,11 @@
 -- Lines of specification files that say the same in texts.
 use Rattle.std.specs.Prelude.{◌≡◌, true, false, ⊤, List, [], ◌∷◌, ℕ, Option, Some, None, Result, Ok}
 use Rattle.krl_spec.specs.declared.directive.Directive.{Directive}
-use Rattle.krl_spec.specs.declared.directive.Directive.TheVariants.{Id, Hash}
+use Rattle.krl_spec.specs.declared.directive.Directive.TheVariants.{Id, Key, Sha1, Sha256, Hash}
 use Rattle.krl_types.specs.Entry.{Entry}
 use Rattle.run_faults.specs.declared.spec_cause.SpecCause.{SpecCause}
-use Rattle.text_entries.specs.Says.{Blank, Saying, begins_with_key, entry_says}
-use Rattle.text_entries.specs.Values.{is_cut, is_sha1}
+use Rattle.text_entries.specs.Says.{Blank, Saying, entry_says}
+use Rattle.text_entries.specs.Values.{begins_with_key, is_cut, is_sha1}
 use Rattle.text_entries.specs.declared.text_cause.TextCause.{TextCause}
 
 -- what a line of a specification file says
@@ -13,9 +13,12 @@ abbrev pub spec_says : Option (Result Entry SpecCause) → Result Saying TextCau
 spec_says None = Ok Blank
 spec_says (Some read) = entry_says read
 
--- Texts refuse a key ID that is cut short, and take a SHA-1 too.
+-- Texts refuse a key ID that is cut short and anything before a key, and take a SHA-1 too.
 abbrev pub IsReadAlike : List ℕ → Directive → List ℕ → Type 0
 IsReadAlike line Id given = is_cut line ≡ false
+IsReadAlike line Key given = begins_with_key given ≡ true
+IsReadAlike line Sha1 given = begins_with_key given ≡ true
+IsReadAlike line Sha256 given = begins_with_key given ≡ true
 IsReadAlike line Hash given = is_sha1 given ≡ false
 IsReadAlike line directive given = ⊤
 

@@ -44,8 +44,8 @@ pub fn texts_join()
 {}
 
 /// A line of a specification file says the same in a text: one with a directive, but for a key ID
-/// that is cut short and a SHA-1, and one without a word of texts that is empty or begins with the
-/// type name of a key.
+/// that is cut short, a SHA-1 and a key with anything before it; and one without a word of texts
+/// that is empty or begins with the type name of a key.
 pub fn spec_lines_say_the_same()
     ensures directives { (current : Option (List ℕ)) (line given : List ℕ) (directive : Directive)
         → spec_order_in (bare_line line) ≡ Some (spec_order given directive)

@@ -320,6 +320,8 @@ WRONG = [
     "+ serial: 5",
     "- ca: all",
     *(it + OF_AUTHORITY for it in BEFORE_A_KEY),
+    *("key: " + it + OF_AUTHORITY for it in BEFORE_A_KEY),
+    "ca: all " + OF_AUTHORITY,
 ]
 ALONE = ["serial: 5", "id: bob", "id-hex: 61"]
 

@@ -208,6 +208,20 @@ fn nothing_before_a_key(rt: HostRuntime) {
     }
 }
 
+// The words whose value is a key line.
+const OF_KEYS: [&[u8]; 4] = [b"ca: ", b"key: ", b"sha1: ", b"sha256: "];
+
+#[test]
+fn nothing_between_a_word_and_its_key(rt: HostRuntime) {
+    let cause = "text 1 Spec, spec 6 Key, line 1 NoKey";
+    for word in OF_KEYS {
+        for (i, before) in BEFORE_A_KEY.iter().enumerate() {
+            let parts: [&[u8]; 4] = [b"ca: all\n", word, before, OTHER_LINE];
+            assert!(rt; has_fault(&rt, rt.alloc(), &parts, 2, cause), "in row {i}");
+        }
+    }
+}
+
 // What stands before a fault is held, and nothing after it.
 #[test]
 fn up_to_a_fault(rt: HostRuntime) {
