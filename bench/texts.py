@@ -38,8 +38,9 @@ def shown():
 
 
 def made():
-    """The text has the lines of -k, below one for all authorities. On a machine that others use too,
-    times vary by more than the commands differ, so their instructions are compared as well."""
+    """The text has the lines of -k, below one for all authorities. On a machine that others use,
+    times vary by more than the commands differ, so their instructions are compared as well, and
+    each time is the least of 31."""
     head("krl make", "-k", "instructions")
     for name, (count, lines) in specs.MADE.items():
         (spec,) = specs.write(lines, count, 1)
@@ -50,7 +51,7 @@ def made():
             [OURS, "-k", "-f", "other.krl", "-z", "1", "-s", "none", spec],
         )
         make, other = (instructions(words) for words in commands)
-        row(name, *least_in_turn(commands), "%12.2f" % (make / other))
+        row(name, *least_in_turn(commands, 31), "%12.2f" % (make / other))
 
 
 def compared():
