@@ -5,7 +5,7 @@ mod lists;
 
 pub use layout::{
     authority_is_these_bytes, extension_is_these_bytes, header_is_these_bytes,
-    magic_is_these_bytes, signature_is_these_bytes,
+    magic_is_these_bytes, signature_is_these_bytes, types_are_these_bytes,
 };
 pub use lists::{
     a_cut_ends_early, each_text_is_judged, first_fields_have_forty_bytes, no_fault_where_spelled,
