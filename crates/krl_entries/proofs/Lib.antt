@@ -19,6 +19,7 @@ pub mod NameTests
 pub mod ReasonBits
 pub mod RevokedTests
 pub mod ReasonTests
+pub mod MoreNames
 pub mod OneMeaning
 pub mod Intervals
 pub mod OwnEntries

@@ -4,6 +4,7 @@ ghost use Rattle.std.specs.Prelude.{◌≡◌, ◌↔◌, IsTrue, List};
 ghost use Rattle.krl_types.specs.Subject.{Subject};
 ghost use Rattle.krl_entries.specs.Revocations.{Revocations, Means};
 ghost use Rattle.krl_types.specs.Entry.{Entry};
+ghost use Rattle.krl_types.specs.Naming.{Name, NamesSame, SomeNames};
 ghost use Rattle.krl_entries.specs.Reasons.{IsReason, any_reason, has_reason, is_revoked};
 ghost use Rattle.krl_entries.specs.Reasons.{reasons_of, revokes};
 ghost use Rattle.krl_entries.specs.Revoked.{Revoked};
@@ -35,4 +36,14 @@ pub fn revoked_for_a_reason()
         → (Revoked entries subject ↔ ((reason : ReasonOf) × IsReason entries subject reason)) }
     ensures tested { (entries : List Entry) (subject : Subject)
         → any_reason (reasons_of entries subject) ≡ is_revoked entries subject }
+{}
+
+/// Entries that name all that others name revoke all that the others revoke. Entries that name the
+/// same revoke the same.
+pub fn more_names_revoke_more()
+    ensures more { (entries others : List Entry)
+        → ((name : Name) → SomeNames others name → SomeNames entries name)
+        → (subject : Subject) → Revoked others subject → Revoked entries subject }
+    ensures same { (entries others : List Entry) → NamesSame entries others
+        → (subject : Subject) → (Revoked entries subject ↔ Revoked others subject) }
 {}
