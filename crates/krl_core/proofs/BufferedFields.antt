@@ -11,11 +11,12 @@ use Rattle.krl_core.proofs.Common.{Passes, Place, Pull, ReadsBuffered, ReadsMore
 use Rattle.krl_core.proofs.Common.{ReadsWhole, refl, Result, start, state_after}
 use Rattle.krl_core.proofs.Common.{StoresAtMost, StoresEntries, StoresField, subst, suc, sym, take}
 use Rattle.krl_core.proofs.Common.{take-add, take_rest, Takes, true, Walk, working, zero, ℕ}
-use Rattle.krl_core.proofs.Common.{LooksFor, ReadsOneMore}
+use Rattle.krl_core.proofs.Common.{expected, limit, LooksFor, NeedsMemory, on_err_weaker, OnErr, ran_out, ReadsOneMore, Refused, RunsOut}
 use Rattle.krl_format.proofs.LongestFronts.{nearer, weight}
 use Rattle.krl_core.proofs.StoredEntries.{grows_then, header_stored}
-use Rattle.krl_core.proofs.Steps.{bounded_more, consumes_some, looked}
+use Rattle.krl_core.proofs.Steps.{bounded_more, consumes_some, looked, may_lack}
 use Rattle.krl_format.proofs.Walks.{LeadsTo-push}
+use Rattle.krl_types.specs.declared.krl_fault.KrlFault.TheVariants as faults
 
 -- ---- sequences of fields
 
@@ -80,17 +81,47 @@ pub some_none : (bytes : List ℕ) (place : Place) (k : FieldStore) → InStep p
 some_none bytes place k step = record {
   within = omega arith;
   ok = buffered_none place k step;
+  ran_out = tt;
   grows = record { held_is = omega arith; stored_is = λ m s. subst (λ (n : ℕ). StoresAtMost k n) (omega arith) s; scope_is = λ s. s; same_scope = refl };
   none = λ _. (refl, refl);
 }
 
+-- memory may be needed for the first field
+pub runs_out_here : (field after : List ℕ) (place : Place) (k : FieldStore) → InStep place k.bitmap → length field ≡ (expected place).size → NeedsMemory place field
+    → RunsOut (field ++ after) place k
+runs_out_here field after place k step whole needs = record {
+  front = [];
+  field = field;
+  after = after;
+  parts = refl;
+  next = place;
+  stored = k;
+  reads = buffered_none place k step;
+  whole = whole;
+  needs = needs;
+}
+
+runs_out_then : (xs ys : List ℕ) (p q : Place) (a b : FieldStore) → ReadsBuffered xs p a q b → RunsOut ys q b → RunsOut (xs ++ ys) p a
+runs_out_then xs ys p q a b h k = record {
+  front = xs ++ k.front;
+  field = k.field;
+  after = k.after;
+  parts = ap (λ (l : List ℕ). xs ++ l) k.parts ∙ sym (append_assoc xs k.front (k.field ++ k.after));
+  next = k.next;
+  stored = k.stored;
+  reads = buffered_then xs k.front p q k.next a b k.stored h k.reads;
+  whole = k.whole;
+  needs = k.needs;
+}
+
 -- more of the bytes
 pub some_more : (bytes : List ℕ) (at n : ℕ) (result : Result (Unit {0}) AllocError) (p q r : Place) (a b c : FieldStore) → ReadsSome bytes at (Ok (tt {0})) p a q b
-    → n ≤ length (drop at bytes) → OnOk result (ReadsBuffered (take n (drop at bytes)) q b r c) → GrowsAtMost n b c → (at + n ≡ 0 → (r ≡ p) × (c ≡ a))
-    → ReadsSome bytes (at + n) result p a r c
-some_more bytes at n result p q r a b c h within ok grows none = record {
+    → n ≤ length (drop at bytes) → OnOk result (ReadsBuffered (take n (drop at bytes)) q b r c) → OnErr result (RunsOut (take n (drop at bytes)) q b)
+    → GrowsAtMost n b c → (at + n ≡ 0 → (r ≡ p) × (c ≡ a)) → ReadsSome bytes (at + n) result p a r c
+some_more bytes at n result p q r a b c h within ok out grows none = record {
   within = omega (arith, within, h.within, length-drop at bytes);
   ok = on_ok_weaker result (λ k. subst (λ (l : List ℕ). ReadsBuffered l p a r c) (sym (take-add at n bytes)) (buffered_then (take at bytes) (take n (drop at bytes)) p q r a b c h.ok k)) ok;
+  ran_out = on_err_weaker result (λ k. subst (λ (l : List ℕ). RunsOut l p a) (sym (take-add at n bytes)) (runs_out_then (take at bytes) (take n (drop at bytes)) p q a b h.ok k)) out;
   grows = grows_then a b c at n h.grows grows;
   none = none;
 }
@@ -98,7 +129,7 @@ some_more bytes at n result p q r a b c h within ok grows none = record {
 pub some_then : (bytes : List ℕ) (at n : ℕ) (result : Result (Unit {0}) AllocError) (p q r : Place) (a b c : FieldStore) → ReadsSome bytes at (Ok (tt {0})) p a q b
     → ReadsSome (drop at bytes) n result q b r c → ReadsSome bytes (at + n) result p a r c
 some_then bytes at n result p q r a b c h k =
-    some_more bytes at n result p q r a b c h k.within k.ok k.grows
+    some_more bytes at n result p q r a b c h k.within k.ok k.ran_out k.grows
     (λ at_none. let one = h.none (omega arith) in let two = k.none (omega arith) in (two.0 ∙ one.0, two.1 ∙ one.1))
 
 -- the rest of the bytes
@@ -109,8 +140,12 @@ some_after bytes at n result p q r a b c h k =
 
 pub some_ok : (bytes : List ℕ) (n : ℕ) (result : Result (Unit {0}) AllocError) (p q : Place) (a b : FieldStore) → is_err result ≡ false → ReadsSome bytes n result p a q b
     → ReadsSome bytes n (Ok (tt {0})) p a q b
-some_ok bytes n (Ok done) p q a b off h = record { within = h.within; ok = h.ok; grows = h.grows; none = h.none }
+some_ok bytes n (Ok done) p q a b off h = record { within = h.within; ok = h.ok; ran_out = tt; grows = h.grows; none = h.none }
 some_ok bytes n (Err fault) p q a b off h = absurd (cc)
+
+pub some_err : {P : Type 0} (result : Result (Unit {0}) AllocError) → is_err result ≡ true → OnErr result P → P
+some_err (Ok done) on h = absurd (cc)
+some_err (Err error) on h = h
 
 -- ---- one field
 
@@ -130,13 +165,16 @@ field_buffered bytes at size p q next a b c are h there =
     let field = front_of bytes at _ size (Ok next) q b c there in
     some_more bytes at size (Ok (tt {0})) p q next a b c h field.within
     (buffered_field q next b c (take size (drop at bytes)) field.passes field.stores_field (IsBytes-take size (drop at bytes) (IsBytes-drop at bytes are)))
-    field.grows (λ none. absurd (some_bytes at size field.some none))
+    tt field.grows (λ none. absurd (some_bytes at size field.some none))
 
 pub field_refused : (bytes : List ℕ) (at size : ℕ) (error : AllocError) (p q : Place) (a b c : FieldStore) → ReadsSome bytes at (Ok (tt {0})) p a q b
     → ReadsWhole (take (length bytes - at) (drop at bytes)) (nat_lt 0 at) size (Err error) q b c → ReadsSome bytes (at + size) (Err error) p a q c
 field_refused bytes at size error p q a b c h there =
     let field = front_of bytes at _ size (Err error) q b c there in
-    some_more bytes at size (Err error) p q q a b c h field.within tt field.grows (λ none. absurd (some_bytes at size field.some none))
+    let whole : length (take size (drop at bytes)) ≡ (expected q).size = length-take-le size (drop at bytes) field.within ∙ field.whole in
+    let here = runs_out_here (take size (drop at bytes)) [] q b h.ok.in_step whole field.needs in
+    some_more bytes at size (Err error) p q q a b c h field.within tt (subst (λ (l : List ℕ). RunsOut l q b) (append-nil (take size (drop at bytes))) here)
+    field.grows (λ none. absurd (some_bytes at size field.some none))
 
 pub buffered_nearer : (bytes : List ℕ) (at size : ℕ) (q next : Place) (b c : FieldStore) → at + size ≤ length bytes
     → ReadsWhole (take (length bytes - at) (drop at bytes)) (nat_lt 0 at) size (Ok next) q b c
@@ -172,6 +210,23 @@ reads_buffered old new place stored bytes takes crosses text fields h =
         faultless = refl;
       },
     )
+
+-- an allocation failed at a field in the reader's buffer
+pub buffered_ran_out : (old : Walk) (new : Pull) (bytes : List ℕ) → IsBounded old.pull old.stored → Takes old.pull bytes new → RunsOut bytes old.place old.stored → Refused faults.NoMemory old new
+buffered_ran_out old new bytes bounded takes out text fields h =
+    let more = out.reads.stores fields (stored_of text fields old h) in
+    let now = more.1.0 in
+    let after = consumes_some (left_of old.pull) (left_of new) h.rest bytes h.left_is takes.bytes in
+    let joined : concat (fields ++ more.0) ≡ concat fields ++ out.front = concat-append fields more.0 ∙ ap (λ (l : List ℕ). concat fields ++ l) more.1.1 in
+    let parts = h.parts ∙ ap (λ (l : List ℕ). concat fields ++ l) (after.2 ∙ ap (λ (l : List ℕ). l ++ after.0) out.parts)
+    ∙ regroup (concat fields) out.front out.field out.after after.0 ∙ ap (λ (l : List ℕ). l ++ (out.field ++ (out.after ++ after.0))) (sym joined) in
+    let within : length (concat (fields ++ more.0)) + length out.field ≤ limit =
+    omega (arith, ap length joined, length-append (concat fields) out.front, ap length out.parts, length-append out.front (out.field ++ out.after), length-append out.field out.after, takes.within, bounded.limit_is, h.taken_is) in
+    ran_out refl (may_lack text (fields ++ more.0) now.state out.field (out.after ++ after.0) now.leads parts (subst (λ (p : Place). length out.field ≡ (expected p).size) now.place_is out.whole)
+    within (subst (λ (p : Place). NeedsMemory p out.field) now.place_is out.needs)) takes.working
+  where
+    regroup : (a b c d e : List ℕ) → a ++ ((b ++ (c ++ d)) ++ e) ≡ (a ++ b) ++ (c ++ (d ++ e))
+    regroup a b c d e = simp append_assoc
 
 -- one field
 pub one_more : (old : Walk) (mid new : Pull) (place : Place) (stored : FieldStore) (field : List ℕ) → LooksFor old.place old.pull false mid → Takes mid field new → Passes old.place field place

@@ -6,7 +6,7 @@ pub use Rattle.krl_core.specs.Reading.{Advances, Ends, EndsAfter, Follows, HasRe
 pub use Rattle.krl_core.specs.Reading.{IsList, IsListAs, IsReached, IsWholeAs, IsWithinLimit, Leaps, LooksFor, Missed}
 pub use Rattle.krl_core.specs.Reading.{OfHeader, ReadsMore, ReadsOneMore, Refused, Walk, cut, working}
 pub use Rattle.std.proofs.Common.{All, Bool, Err, IfOk, IsSome, IsTrue, List, None}
-pub use Rattle.std.proofs.Common.{Ok, OnOk, Option, Result, Some, [], ap, append-nil}
+pub use Rattle.std.proofs.Common.{Ok, OnErr, OnOk, Option, Result, Some, [], ap, append-nil}
 pub use Rattle.std.proofs.Common.{append_assoc, arith, bytes_eq, cond, drop, drop-drop, eq-eqb, eqb}
 pub use Rattle.std.proofs.Common.{false, flat_map, inl, inr, is_err, le-ltb, leb, length}
 pub use Rattle.std.proofs.Common.{length-append, length-drop, length-take, length-take-le, lt-ltb, ltb, ltb-true, map}
@@ -16,7 +16,7 @@ pub use Rattle.std.proofs.Common.{ℕ, ◌%◌, ◌*◌, ◌++◌, ◌+◌, ◌-
 pub use Rattle.std.proofs.Common.{◌^◌, ◌↔◌, ◌∙◌, ◌∷◌, ◌≡◌, ◌≤◌, ◌⊎◌}
 pub use Rattle.std.specs.List.{AllByRecursion, concat}
 pub use Rattle.std.specs.declared.alloc.AllocError.{AllocError}
-pub use Rattle.krl_core.specs.Buffered.{AreBitsOutOfScope, HasStored, MaySkip, ReadsBuffered, ReadsSome, ReadsWhole}
+pub use Rattle.krl_core.specs.Buffered.{AreBitsOutOfScope, HasStored, MaySkip, ReadsBuffered, ReadsSome, ReadsWhole, RunsOut}
 pub use Rattle.krl_entries.specs.Scope.{AreOutOfScope, InScope, IsInScope, MeansInScope, MeansMoreInScope, Scope, all, serial_at}
 pub use Rattle.serial_set.specs.BitRuns.{BitNames, BitRuns, Feeds, HasFault, ShowsFault, lowest}
 pub use Rattle.krl_types.specs.Entry.{BitmapEntry, Entry, IdEntry, RangeEntry, SerialsEntry}
@@ -44,10 +44,10 @@ pub use Rattle.std.proofs.lemmas.Bool.{cases_Bool, false≢true, lt-leb}
 pub use Rattle.std.proofs.lemmas.List.Folds.{concat-append}
 pub use Rattle.krl_entries.specs.Canonical.{entries_in}
 pub use Rattle.krl_format.specs.Entries.{entries_of}
-pub use Rattle.std.proofs.lemmas.Result.{err_from_is_err_and, on_ok_weaker}
+pub use Rattle.std.proofs.lemmas.Result.{err_from_is_err_and, on_err_weaker, on_ok_weaker}
 pub use Rattle.krl_entries.proofs.SkippedSerials.{first_byte, serial_within, take_fewer}
 pub use Rattle.krl_types.proofs.Equivalences.{iff_both, iff_none, iff_or, iff_swap}
-pub use Rattle.krl_format.specs.FixedFields.{is_fixed}
+pub use Rattle.krl_format.specs.Memory.{MayLackMemory, NeedsMemory}
 pub use Rattle.std.proofs.lemmas.List.{length-reverse, reverse-append, take_rest}
 pub use Rattle.krl_entries.proofs.ScopedMeaning.{means_all_within, nothing_in_scope, nothing_within, same_within}
 unfoldable pub use Rattle.ssh_wire.specs.Wire.{number_of}

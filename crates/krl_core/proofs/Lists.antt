@@ -6,7 +6,6 @@ use Rattle.krl_core.proofs.Common.{means_all_within, NamesSame}
 use Rattle.krl_core.proofs.Common.{refl, Revocations, same_within, Scope}
 use Rattle.krl_core.proofs.Common.{Spells, subst, sym}
 use Rattle.krl_core.proofs.Common.{ℕ}
-use Rattle.krl_format.specs.declared.place.field.Field.TheVariants as fields
 use Rattle.krl_entries.specs.Scope.{all as every_name}
 use Rattle.krl_format.proofs.Lists.{row_spelled}
 

@@ -5,7 +5,8 @@ use Rattle.krl_core.proofs.Common.{held_with_open, InStep, IsBytes, IsBytes-take
 use Rattle.krl_core.proofs.Common.{length-take-le, List, MaySkip, next_bits, next_serial, None}
 use Rattle.krl_core.proofs.Common.{number_of, Ok, on_ok_weaker, OnOk, Place, ReadsBuffered}
 use Rattle.krl_core.proofs.Common.{ReadsSome, refl, Result, Skips, StoresNoMore, subst, sym, take}
-use Rattle.krl_core.proofs.Common.{take_fewer, ℕ}
+use Rattle.krl_core.proofs.Common.{drop, Err, OnErr, RunsOut, take-append-drop, take_fewer, ℕ}
+use Rattle.krl_core.proofs.BufferedFields.{runs_out_here}
 use Rattle.krl_core.proofs.SerialFields.{buffered_serials}
 use Rattle.krl_core.proofs.StoredEntries.{stored_same}
 use Rattle.krl_core.proofs.SkippedBits.{buffered_bits, stays_grow}
@@ -24,9 +25,14 @@ serials_buffered bytes count place next stored left after at to there within who
     record {
       within = there;
       ok = subst (λ (p : Place). ReadsBuffered (take count bytes) p stored next stored) (sym at) (subst (λ (p : Place). ReadsBuffered (take count bytes) (places.Serial left after) stored p stored) (sym to) counted);
+      ran_out = tt;
       grows = stays_grow count stored stored (omega arith) (stored_same stored stored refl refl refl);
       none = λ z. absurd (some z);
     }
+
+on_err : {P : Type 0} (result : Result (Unit {0}) AllocError) → P → OnErr result P
+on_err (Ok done) h = tt
+on_err (Err error) h = h
 
 pub bits_buffered : (bytes : List ℕ) (count : ℕ) (result : Result (Unit {0}) AllocError) (place next : Place) (old new : FieldStore) (offset size left after : ℕ)
     → place ≡ places.Byte offset size left after → next ≡ next_bits offset size (left - count) after → MaySkip old offset size left bytes count → (count ≡ 0 → ⊥) → IsBytes bytes
@@ -43,6 +49,8 @@ bits_buffered bytes count result place next old new offset size left after at to
     record {
       within = may.there;
       ok = on_ok_weaker result (λ s. subst (λ (p : Place). ReadsBuffered xs p old next new) (sym at) (subst (λ (p : Place). ReadsBuffered xs (places.Byte offset size left after) old p new) lands (crosses s))) skips;
+      ran_out = on_err result (subst (λ (p : Place). RunsOut xs p old) (sym at) (subst (λ (l : List ℕ). RunsOut l (places.Byte offset size left after) old) (take-append-drop 1 xs)
+          (runs_out_here (take 1 xs) (drop 1 xs) (places.Byte offset size left after) old stepped (length-take-le 1 xs (omega (arith, long, some))) tt)));
       grows = stays_grow count old new held stays;
       none = λ z. absurd (some z);
     }

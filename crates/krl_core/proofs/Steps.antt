@@ -3,7 +3,7 @@ use Rattle.krl_core.proofs.Common.{[], ◌++◌, ◌+◌, ◌-◌, ◌<◌, ◌�
 use Rattle.krl_core.proofs.Common.{ap, append-nil, append_assoc, arith, Bool}
 use Rattle.krl_core.proofs.Common.{can_end, concat, cut, ends_early, Err, expected}
 use Rattle.krl_core.proofs.Common.{failed_read, false, FieldStore, first, GrowsAtMost, HasRead}
-use Rattle.krl_core.proofs.Common.{HasRoom, inl, inr, is_fixed, IsBounded}
+use Rattle.krl_core.proofs.Common.{HasRoom, inl, inr, IsBounded, MayLackMemory, NeedsMemory}
 use Rattle.krl_core.proofs.Common.{IsFirstKrlFault, IsSome, KrlFault, le-ltb, LeadsTo, left_of, length}
 use Rattle.krl_core.proofs.Common.{length-append, limit, List, LooksFor, lt-ltb, ltb, Missed}
 use Rattle.krl_core.proofs.Common.{no_room, None, Option, Place, Pull, ran_out, refl}
@@ -17,6 +17,7 @@ use Rattle.std.proofs.Math.Seq.{take-append_seam}
 use Rattle.ssh_wire.specs.declared.pull_fault.PullFault.{PullFault}
 use Rattle.ssh_wire.proofs.TruncatedFields.{take-after}
 use Rattle.krl_types.specs.KrlFault.{reported_as}
+use Rattle.krl_format.proofs.FirstFields.{large_needs}
 use Rattle.krl_format.proofs.Fronts.{first_fault_is, end_size, end_room}
 use Rattle.krl_format.proofs.LongestFronts.{end_or_early}
 use Rattle.ssh_wire.specs.declared.pull_fault.PullFault.TheVariants as pulls
@@ -159,42 +160,66 @@ says_long old mid new text fields bounded h looks room r =
     not_empty [] h = absurd (h refl)
     not_empty (x ∷ l) h = omega arith
 
--- an allocation failed after the first fields
-pub says_ran_out : (old : Walk) (new : Pull) (text : List ℕ) (fields : List (List ℕ)) (fault : KrlFault) → HasCome text fields old
-    → is_fixed old.place ≡ false → fault ≡ faults.NoMemory → new.failed ≡ false → Says fault text new.failed new.source
-says_ran_out old new text fields fault h late is works = ran_out is (record {
+-- memory may be needed for a whole field within the limit
+pub may_lack : (text : List ℕ) (fields : List (List ℕ)) (state : State) (field after : List ℕ) → LeadsTo start fields state → text ≡ concat fields ++ (field ++ after)
+    → length field ≡ (expected state.place).size → length (concat fields) + length field ≤ limit → NeedsMemory state.place field → MayLackMemory text
+may_lack text fields state field after leads parts whole within needs =
+    let room : ℕ = limit - length (concat fields) in
+    let more : List ℕ = take (room - length field) after in
+    let front : take room (field ++ after) ≡ field ++ more = take-after field after room (omega (arith, within)) in
+    let first : take (expected state.place).size (field ++ more) ≡ field = ap (λ (n : ℕ). take n (field ++ more)) (sym whole) ∙ take-append_seam field more in
+    record {
+      fields = fields;
+      state = state;
+      rest = field ++ more;
+      front = record {
+        leads = leads;
+        parts = ap (take limit) parts ∙ take-after (concat fields) (field ++ after) limit (omega (arith, within)) ∙ ap (λ (l : List ℕ). concat fields ++ l) front;
+      };
+      needs = subst (NeedsMemory state.place) (sym first) needs;
+    }
+
+-- an allocation failed before a large field was taken
+says_ran_out : (old : Walk) (new : Pull) (text : List ℕ) (fields : List (List ℕ)) → IsBounded old.pull old.stored → HasCome text fields old → 32 < (expected old.place).size
+    → new.failed ≡ false → Says faults.NoMemory text new.failed new.source
+says_ran_out old new text fields bounded h large works = ran_out refl (record {
   fields = fields;
   state = h.state;
-  rest = h.rest;
-  leads = h.leads;
-  parts = h.parts;
-  past = subst (λ (p : Place). is_fixed p ≡ false) h.place_is late;
+  rest = take (limit - length (concat fields)) h.rest;
+  front = record { leads = h.leads; parts = ap (take limit) h.parts ∙ take-after (concat fields) h.rest limit (omega (arith, bounded.within, h.taken_is)) };
+  needs = large_needs h.state.place _ (subst (λ (p : Place). 32 < (expected p).size) h.place_is large);
 }) works
 
 pub says_cut : (old : Walk) (mid new : Pull) (text : List ℕ) (fields : List (List ℕ)) (why : PullFault) → IsBounded old.pull old.stored
     → HasCome text fields old → LooksFor old.place old.pull false mid
-    → HasRoom (expected old.place) → Refuses mid (expected old.place).size why new → (reported_as why ≡ faults.NoMemory → is_fixed old.place ≡ false) → Says (reported_as why) text new.failed new.source
-says_cut old mid new text fields pulls.EndsEarly bounded h looks room r late = says_early old mid new text fields bounded h looks room r
-says_cut old mid new text fields pulls.TooLong bounded h looks room r late = says_long old mid new text fields bounded h looks room r
-says_cut old mid new text fields pulls.Read bounded h looks room r late =
+    → HasRoom (expected old.place) → Refuses mid (expected old.place).size why new → (reported_as why ≡ faults.NoMemory → 32 < (expected old.place).size) → Says (reported_as why) text new.failed new.source
+says_cut old mid new text fields pulls.EndsEarly bounded h looks room r large = says_early old mid new text fields bounded h looks room r
+says_cut old mid new text fields pulls.TooLong bounded h looks room r large = says_long old mid new text fields bounded h looks room r
+says_cut old mid new text fields pulls.Read bounded h looks room r large =
     says_read old mid new text fields bounded h looks.bytes looks.taken looks.limit_is room r
-says_cut old mid new text fields pulls.NoMemory bounded h looks room r late = says_ran_out old new text fields faults.NoMemory h (late refl) refl r.misses.reports
+says_cut old mid new text fields pulls.NoMemory bounded h looks room r large =
+    says_ran_out old new text fields bounded h (large refl) r.misses.reports
 
 -- a field that was not taken
 pub missed_says : (old : Walk) (mid new : Pull) (fault : KrlFault) → IsBounded old.pull old.stored
-    → LooksFor old.place old.pull false mid → Missed old.place mid fault new → (fault ≡ faults.NoMemory → is_fixed old.place ≡ false) → Refused fault old new
-missed_says old mid new fault bounded looks (room_missed full is same) late text fields h =
+    → LooksFor old.place old.pull false mid → Missed old.place mid fault new → (fault ≡ faults.NoMemory → 32 < (expected old.place).size) → Refused fault old new
+missed_says old mid new fault bounded looks (room_missed full is same) large text fields h =
     let le : length (concat fields) ≤ limit = omega (arith, bounded.within, h.taken_is) in
     subst (λ (f : KrlFault). Says f text new.failed new.source) (sym is)
     (first (reported_there text fields old (come h) (Some faults.Length) le (no_room full refl)) (ap (λ p. p.failed) same ∙ looks.works))
-missed_says old mid new fault bounded looks (cut why room r is) late text fields h =
-    subst (λ (f : KrlFault). Says f text new.failed new.source) (sym is) (says_cut old mid new text fields why bounded (come h) looks room r (λ e. late (is ∙ e)))
+missed_says old mid new fault bounded looks (cut why room r is) large text fields h =
+    subst (λ (f : KrlFault). Says f text new.failed new.source) (sym is) (says_cut old mid new text fields why bounded (come h) looks room r (λ e. large (is ∙ e)))
 
 -- a field that was refused
 pub refused_says : (old : Walk) (mid new : Pull) (field : List ℕ) (fault : KrlFault) → IsBounded old.pull old.stored
     → LooksFor old.place old.pull false mid → Takes mid field new → HasRoom (expected old.place) → length field ≡ (expected old.place).size
-    → ((fault ≡ faults.NoMemory) × (is_fixed old.place ≡ false)) ⊎ ((expected old.place).judged field ≡ Err fault) → Refused fault old new
-refused_says old mid new field fault bounded looks takes room size (inl none) text fields h = says_ran_out old new text fields fault (come h) none.1 none.0 takes.working
+    → ((fault ≡ faults.NoMemory) × NeedsMemory old.place field) ⊎ ((expected old.place).judged field ≡ Err fault) → Refused fault old new
+refused_says old mid new field fault bounded looks takes room size (inl none) text fields h =
+    let left = stores_some (left_of old.pull) (left_of mid) h.rest h.left_is looks.bytes in
+    let after = consumes_some (left_of mid) (left_of new) h.rest field left takes.bytes in
+    let within : length (concat fields) + length field ≤ limit = omega (arith, takes.within, looks.taken, looks.limit_is, bounded.limit_is, h.taken_is) in
+    ran_out none.0 (may_lack text fields h.state field after.0 h.leads (h.parts ∙ ap (λ (l : List ℕ). concat fields ++ l) after.2)
+    (subst (λ (p : Place). length field ≡ (expected p).size) h.place_is size) within (subst (λ (p : Place). NeedsMemory p field) h.place_is none.1)) takes.working
 refused_says old mid new field fault bounded looks takes room size (inr judged) text fields h =
     let left = stores_some (left_of old.pull) (left_of mid) h.rest h.left_is looks.bytes in
     let after = consumes_some (left_of mid) (left_of new) h.rest field left takes.bytes in

@@ -1,12 +1,14 @@
 -- Fields that are read in the reader's buffer, without a call of the reader.
 use Rattle.std.specs.Prelude.{◌≡◌, ℕ, ◌+◌, ◌-◌, ◌*◌, ◌≤◌, ◌<◌, Bool, true, List, ◌++◌, length, take}
 use Rattle.std.specs.Prelude.{Result}
-use Rattle.std.specs.Prelude.{IfOk, OnOk, Option, Some, None}
+use Rattle.std.specs.Prelude.{IfOk, OnErr, OnOk, Option, Some, None}
 use Rattle.std.specs.List.{concat}
 use Rattle.std.specs.declared.alloc.AllocError.{AllocError}
 use Rattle.ssh_wire.specs.Wire.{IsBytes, number_of}
 use Rattle.krl_format.specs.declared.place.Place.{Place}
 use Rattle.krl_format.specs.Front.{LeadsTo, Passes, State, start}
+use Rattle.krl_format.specs.Memory.{NeedsMemory}
+use Rattle.krl_format.specs.Place.{expected}
 use Rattle.krl_core.specs.FieldStore.{GrowsAtMost, InStep, StoresEntries, FieldStore, StoresField}
 use Rattle.krl_core.specs.FieldStore.{stored_header}
 use Rattle.krl_types.specs.Naming.{SerialOf}
@@ -31,11 +33,24 @@ pub record ReadsBuffered (bytes : List ℕ) (place : Place) (old : FieldStore) (
   pub in_step : InStep next new.bitmap
   pub scope_is : new.scope ≡ old.scope
 
--- This many of the bytes were read, or an allocation failed at the last field of them.
+-- The bytes are whole fields and more. Memory may be needed for the field after these.
+pub record RunsOut (bytes : List ℕ) (place : Place) (old : FieldStore) : Type 0 where
+  pub front : List ℕ
+  pub field : List ℕ
+  pub after : List ℕ
+  pub parts : bytes ≡ front ++ (field ++ after)
+  pub next : Place
+  pub stored : FieldStore
+  pub reads : ReadsBuffered front place old next stored
+  pub whole : length field ≡ (expected next).size
+  pub needs : NeedsMemory next field
+
+-- This many of the bytes were read, or an allocation failed at a field of them.
 pub record ReadsSome (bytes : List ℕ) (count : ℕ) (result : Result (Unit {0}) AllocError)
     (place : Place) (old : FieldStore) (next : Place) (new : FieldStore) : Type 0 where
   pub within : count ≤ length bytes
   pub ok : OnOk result (ReadsBuffered (take count bytes) place old next new)
+  pub ran_out : OnErr result (RunsOut (take count bytes) place old)
   pub grows : GrowsAtMost count old new
   pub none : count ≡ 0 → (next ≡ place) × (new ≡ old)
 
@@ -45,6 +60,8 @@ pub record ReadsWhole (bytes : List ℕ) (empty : Bool) (size : ℕ)
     (result : Result Place AllocError) (place : Place) (old new : FieldStore) : Type 0 where
   pub within : size ≤ length bytes
   pub some : size ≡ 0 → empty ≡ true
+  pub whole : size ≡ (expected place).size
+  pub needs : OnErr result (NeedsMemory place (take size bytes))
   pub passes : IfOk result (λ next. Passes place (take size bytes) next)
   pub stores_field : IfOk result (λ next. StoresField place (take size bytes) next old new)
   pub grows : GrowsAtMost size old new

@@ -17,7 +17,7 @@ ghost use Rattle.krl_core.specs.FieldStore.{StoresBits, StoresField, ChangesOnly
 ghost use Rattle.krl_core.specs.FieldStore.{StoresInScope, Skips, StoresNoMore, TakesByte};
 ghost use Rattle.krl_entries.specs.Changes.{run_entries};
 ghost use Rattle.krl_core.specs.FieldStore.{held_with_open, stored_header};
-ghost use Rattle.krl_format.specs.FixedFields.{is_fixed};
+ghost use Rattle.krl_format.specs.Memory.{NeedsMemory};
 
 use krl_entries::{Addition, Revocations, Store};
 use krl_format::{Field, Header, Place};
@@ -104,7 +104,7 @@ impl<T: Store> FieldStore<T> {
         requires passes { Passes place field.now next }
         requires in_step { InStep place self.old.bitmap }
         ensures stores { OnOk result (StoresField place field.now next self.old self.new) }
-        ensures late { OnErr result (is_fixed place ≡ false) }
+        ensures needs { OnErr result (NeedsMemory place field.now) }
         ensures grows { GrowsAtMost (length field.now) self.old self.new }
     {
         match place {
@@ -156,6 +156,7 @@ impl<T: Store> FieldStore<T> {
         ensures set { OnOk result (self.new ≡ record self.old {
           header = record self.old.header { comment = stored_comment self.old.scope comment.now };
         }) }
+        ensures some { OnErr result (0 < length comment.now) }
         ensures grows { (n : ℕ) → GrowsAtMost n self.old self.new }
     {
         self.comment.clear();
@@ -166,6 +167,7 @@ impl<T: Store> FieldStore<T> {
     // Sets the authority of the certificates that follow.
     pub(crate) fn set_authority(&mut self, authority: &[u8]) -> Result<(), AllocError>
         ensures set { OnOk result (self.new ≡ record self.old { authority = authority.now }) }
+        ensures some { OnErr result (0 < length authority.now) }
         ensures grows { GrowsAtMost (length authority.now) self.old self.new }
     {
         self.store.leave();
@@ -177,6 +179,7 @@ impl<T: Store> FieldStore<T> {
     pub fn add_serial(&mut self, serial: u64) -> Result<(), AllocError>
         ensures adds { OnOk result
             (Adds self.old (SerialsEntry self.old.authority (serial ∷ []) ∷ []) self.new) }
+        ensures some { OnErr result (0 < serial) }
         ensures held { held_with_open self.new ≤ held_with_open self.old + 1 }
         ensures stored { StoresNoMore self.old self.new }
     {
@@ -191,6 +194,7 @@ impl<T: Store> FieldStore<T> {
         requires { min ≤ max }
         ensures adds { OnOk result
             (Adds self.old (RangeEntry self.old.authority min max ∷ []) self.new) }
+        ensures some { OnErr result (0 < max) }
         ensures grows { GrowsAtMost 1 self.old self.new }
     {
         if max == 0 {

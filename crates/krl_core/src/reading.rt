@@ -18,7 +18,7 @@ ghost use Rattle.krl_core.specs.Reading.{IsList, IsWhole, IsWholeAs, IsWithinLim
 ghost use Rattle.krl_core.specs.Reading.{Missed, OfHeader, ReadsOneMore, Refused};
 ghost use Rattle.krl_core.specs.Reading.{ReportsFailure, working};
 ghost use Rattle.krl_format.specs.Faults.{Says};
-ghost use Rattle.krl_format.specs.FixedFields.{is_fixed};
+ghost use Rattle.krl_format.specs.Memory.{NeedsMemory};
 ghost use Rattle.krl_entries.specs.Scope.{all};
 
 use crate::buffered::read_buffered;
@@ -235,9 +235,6 @@ impl<T: Store, R: Source + Drop> Walk<T, R> {
         if self.fault.is_some() || self.ended {
             return self.step();
         }
-        if self.place.is_fixed() {
-            return self.step();
-        }
         let (count, done) = read_buffered(&mut self.place, &mut self.stored, self.pull.buffer());
         if count == 0 {
             return self.step();
@@ -347,7 +344,7 @@ fn judge_and_store<T: Store>(
         StoresField place field.now next stored.old stored.new) }
     ensures bytes { IsBytes field.now }
     ensures grows { GrowsAtMost (length field.now) stored.old stored.new }
-    ensures err { IfErr result (λ fault. ((fault ≡ NoMemory) × (is_fixed place ≡ false))
+    ensures err { IfErr result (λ fault. ((fault ≡ NoMemory) × NeedsMemory place field.now)
         ⊎ ((expected place).judged field.now ≡ Err fault)) }
 {
     let next = place.judge_field(field)?;

@@ -25,7 +25,7 @@ pub use Rattle.krl_format.specs.Section.{signature_type, subsection_of, subsecti
 pub use Rattle.krl_format.specs.declared.section.Section.{Section}
 pub use Rattle.krl_format.specs.declared.section.Subsection.{Subsection as SubsectionKind}
 pub use Rattle.krl_format.specs.declared.place.field.Field.{Field}
-pub use Rattle.krl_format.specs.FixedFields.{HasFixedFields, is_fixed}
+pub use Rattle.krl_format.specs.Memory.{MayLackMemory, NeedsMemory}
 pub use Rattle.krl_format.specs.Front.{HasRoom, IsEnd, IsFirstKrlFault, IsFront, IsLongestFront, LeadsTo, Passes, Reported}
 pub use Rattle.krl_format.specs.Front.{State, ended, ends_early, limit, no_room, refused, start, state_after}
 pub use Rattle.krl_format.specs.Front.{too_long}

@@ -15,7 +15,7 @@ pub mod Fields
 pub mod Bitmaps
 pub mod OneSpelling
 pub mod TruncatedLists
-pub mod FixedFields
+pub mod FirstFields
 pub mod PassingBits
 pub mod Lists
 mod Layouts

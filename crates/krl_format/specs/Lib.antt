@@ -4,6 +4,6 @@ pub mod Section
 pub mod Place
 pub mod Front
 pub mod Entries
-pub mod FixedFields
+pub mod Memory
 pub mod Faults
 pub mod Layout

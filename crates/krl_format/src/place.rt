@@ -4,7 +4,6 @@ ghost use Rattle.std.specs.Prelude.{◌≡◌, ◌≢◌, ◌↔◌, ◌++◌, �
 ghost use Rattle.std.specs.Prelude.{length, take};
 ghost use Rattle.krl_format.specs.Place.{can_end, expected};
 ghost use Rattle.krl_format.specs.Front.{HasRoom, Passes, start};
-ghost use Rattle.krl_format.specs.FixedFields.{is_fixed};
 ghost use Rattle.krl_format.specs.declared.place.Place.{Place as PlaceOf};
 
 mod field;
@@ -159,16 +158,6 @@ impl Place {
     {
         match self {
             Place::SectionType { .. } => true,
-            _ => false,
-        }
-    }
-
-    /// Whether the field is a number of the header, or the length of one of its strings.
-    pub fn is_fixed(self) -> bool
-        ensures { result ≡ is_fixed self }
-    {
-        match self {
-            Place::Field { field, .. } => field.is_in_header(),
             _ => false,
         }
     }

@@ -9,7 +9,7 @@ ghost use Rattle.krl_format.specs.declared.header.Header.{Header};
 ghost use Rattle.krl_format.specs.Krl.{SpelledSection, Spells};
 ghost use Rattle.krl_types.specs.declared.krl_fault.KrlFault.{KrlFault};
 ghost use Rattle.krl_format.specs.Front.{State, IsFirstKrlFault, IsFront, limit};
-ghost use Rattle.krl_format.specs.FixedFields.{HasFixedFields};
+ghost use Rattle.krl_format.specs.Memory.{MayLackMemory};
 
 /// If a text has two fronts, one is the beginning of the other.
 pub fn one_front_begins_the_other()
@@ -26,9 +26,10 @@ pub fn one_first_fault()
         → IsFirstKrlFault text fault → IsFirstKrlFault text fault' → fault ≡ fault' }
 {}
 
-/// A text that begins with the first six fields of a list has their 40 bytes.
+/// Before the first field that may need memory there are the first six fields of a list, which have
+/// 40 bytes.
 pub fn first_fields_have_forty_bytes()
-    ensures { (text : List ℕ) → HasFixedFields text → 40 ≤ length text }
+    ensures { (text : List ℕ) → MayLackMemory text → 40 ≤ length text }
 {}
 
 /// Each text has a first fault, or is reported to have none.

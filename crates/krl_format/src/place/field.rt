@@ -6,7 +6,6 @@ ghost use Rattle.krl_format.specs.Field.{part_of, row_of};
 ghost use Rattle.krl_format.specs.Front.{HasRoom};
 ghost use Rattle.krl_format.specs.Place.{length_judged, part_size, place_after, room_of};
 ghost use Rattle.krl_format.specs.Place.{row_expected};
-ghost use Rattle.krl_format.specs.FixedFields.{is_header};
 
 use crate::header::MAGIC_NUMBER;
 use crate::judging::{judge, next_subsection, rest, within};
@@ -88,16 +87,6 @@ impl Field {
             Field::ExtensionName => (Extension, Text, Some(Field::Critical)),
             Field::Critical => (Extension, Number(1), Some(Field::ExtensionContents)),
             Field::ExtensionContents => (Extension, Text, None),
-        }
-    }
-
-    // Whether the field is one of the header.
-    pub(super) fn is_in_header(self) -> bool
-        ensures { result ≡ is_header (row_of self).table }
-    {
-        match self.row().0 {
-            Table::Header => true,
-            Table::Signature | Table::Certificates | Table::Extension => false,
         }
     }
 

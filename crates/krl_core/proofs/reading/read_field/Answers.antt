@@ -1,5 +1,4 @@
 use Rattle.krl_core.proofs.Common.{err_from_is_err_and, false≢true, working}
-use Rattle.krl_format.proofs.FixedFields.{late_where_large}
 use Rattle.krl_core.proofs.BufferedFields.{one_more}
 use Rattle.krl_core.proofs.Steps.{end_refused, missed_says, refused_says, bounded_more}
 use Rattle.krl_core.proofs.reading.read_field.Goals as goal
@@ -14,7 +13,7 @@ pub returns-in_err-field-clause-fault : goal.returns-in_err-field-clause-fault
 returns-in_err-field-clause-fault g c =
     let p = err_from_is_err_and c.from_residual-in_err-field.result c.from_residual-in_err-field.ensures.1 in
     rw (p.1, p.2) (missed_says (working c.args.pull.now c.args.place.now c.args.stored.now) c.ends.new.pull c.take.new.pull c.in_err-field.field-0.0 c.requires.bounded
-    (rw c.if-branch.false at c.in_ok-ends.ensures.ok) c.in_err-field.ensures.err (λ ran_out. late_where_large c.args.place.now (c.in_err-field.ensures.memory ran_out)))
+    (rw c.if-branch.false at c.in_ok-ends.ensures.ok) c.in_err-field.ensures.err c.in_err-field.ensures.memory)
 
 pub returns-in_err-place-clause-fault : goal.returns-in_err-place-clause-fault
 returns-in_err-place-clause-fault g c =

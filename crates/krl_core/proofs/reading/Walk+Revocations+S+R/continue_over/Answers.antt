@@ -1,4 +1,4 @@
--- The new walk has read the same fields, or an allocation failed after the first fields of the list.
+-- The new walk has read the same fields, or an allocation failed for an entry that was stored.
 use Rattle.krl_core.proofs.Common.{◌∙◌, all, ap, BitRuns, InStep, IsBounded, Scope, stored_header}
 use Rattle.krl_core.proofs.Common.{subst, sym}
 use Rattle.std.specs.Prelude.{◌≢◌}
@@ -24,7 +24,7 @@ returns-in-Ok-clause-bounds g c = bounded g c
 
 pub returns-in-Err-clause-refused : goal.returns-in-Err-clause-refused
 returns-in-Err-clause-refused g c =
-    rw (← c.self.view_is, c.into_inner.ensures.failed) (λ text fields h. ran_out_later text fields _ _ h c.continue_over.ensures.all c.in-Err.ensures.some)
+    rw (← c.self.view_is, c.into_inner.ensures.failed) (λ text fields h. ran_out_later text fields _ _ c.self.invariant.bounded h c.continue_over.ensures.all c.in-Err.ensures.some)
 
 pub returns-in-Err-clause-failed : goal.returns-in-Err-clause-failed
 returns-in-Err-clause-failed g c = rw (← c.self.view_is) (λ none. c.into_inner.ensures.failed ∙ c.self.invariant.works none)

@@ -1,12 +1,8 @@
 use Rattle.krl_core.proofs.Common.{◌∙◌, ◌≡◌, ap, arith, available, false, false≢true, inr, length}
 use Rattle.krl_core.proofs.Common.{length-take-le, List, None, refl, sym, take, Walk, working, ℕ}
 use Rattle.krl_core.proofs.Progress.{advances_of, more_of, none_there}
-use Rattle.krl_core.proofs.BufferedFields.{bounded_count, leaps_buffered, reads_buffered, some_ok}
-use Rattle.krl_core.proofs.Steps.{come, says_ran_out}
+use Rattle.krl_core.proofs.BufferedFields.{bounded_count, buffered_ran_out, leaps_buffered, reads_buffered, some_err, some_ok}
 use Rattle.krl_core.proofs.reading.Walk.read_fields.Goals as goal
-
-pub returns-then-is_fixed-clause-more : goal.returns-then-is_fixed-clause-more
-returns-then-is_fixed-clause-more g c = more_of c.step-then-is_fixed.result c.args.self.now c.step-then-is_fixed.new.self c.step-then-is_fixed.ensures.more
 
 pub returns-then-count-eq0 : goal.returns-then-count-eq0
 returns-then-count-eq0 g c =
@@ -50,7 +46,8 @@ returns-then-is_err g c =
       ends = tt;
       ended = tt;
       rests = λ off. absurd (false≢true off);
-      fault = λ _ text fields h. says_ran_out old c.consume.new.self text fields _ (come h) (sym c.is_fixed.ensures ∙ c.if-is_fixed.false) refl t.working;
+      fault = λ _. buffered_ran_out old c.consume.new.self _ c.self-2.invariant.bounded t
+          (some_err _ (sym c.is_err.ensures.value ∙ c.if-is_err.true) (rw c.buffer.ensures at c.read_buffered-count.ensures).ran_out);
       failure = λ _. (λ e. absurd (cc), λ e. absurd (false≢true (sym t.working ∙ e)));
       stays = refl;
       again = tt;

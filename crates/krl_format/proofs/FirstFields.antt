@@ -1,22 +1,26 @@
 -- The first fields of a list, whose sizes depend on no length.
 use Rattle.krl_format.proofs.Common.{[], ◌+◌, ◌-◌, ◌<◌, ◌∷◌, ◌≡◌, ◌≤◌, ap, arith, concat, expected}
-use Rattle.krl_format.proofs.Common.{false, Field, fields_after, HasFixedFields, is_fixed, LeadsTo}
-use Rattle.krl_format.proofs.Common.{length, length-append, List, None, Number, number_of, Ok, Option}
+use Rattle.krl_format.proofs.Common.{Field, fields_after, LeadsTo, MayLackMemory, NeedsMemory}
+use Rattle.krl_format.proofs.Common.{length, length-append, length-take, limit, List, None, Number, number_of, Ok, Option}
 use Rattle.krl_format.proofs.Common.{Passes, Place, refl, row_of, Some, start, State, state_after}
 use Rattle.krl_format.proofs.Common.{subst, Table, unless_ok, ℕ}
 use Rattle.ssh_wire.specs.Rows.{Part}
 use Rattle.krl_format.specs.Place.{part_judged, part_size, place_after, place_in}
-use Rattle.krl_format.specs.FixedFields.{is_header}
 use Rattle.krl_format.proofs.TableRows.{after_is, fields_at, same_table, table_or}
 use Rattle.krl_format.specs.declared.place.field.Table.TheVariants as tables
 use Rattle.krl_format.specs.declared.place.Place.TheVariants as places
 use Rattle.krl_format.specs.declared.place.field.Field.TheVariants as fields
 
--- a large field is not one of the first
-pub late_where_large : (p : Place) → 32 < (expected p).size → is_fixed p ≡ false
-late_where_large (places.Field fields.FormatVersion left after) large = absurd (omega arith)
-late_where_large (places.Field field left after) large = absurd (omega arith)
-late_where_large _ large = refl
+-- memory may be needed for a large field
+pub large_needs : (p : Place) (field : List ℕ) → 32 < (expected p).size → NeedsMemory p field
+large_needs (places.Field fields.FormatVersion left after) field large = absurd (omega arith)
+large_needs (places.Field f left after) field large = absurd (omega arith)
+large_needs (places.Content fields.Comment size left after) field large = omega arith
+large_needs (places.Content fields.Authority size left after) field large = omega arith
+large_needs (places.Content f size left after) field large = large
+large_needs (places.Item kind size left after) field large = tt
+large_needs (places.Byte offset size left after) field large = tt
+large_needs _ field large = absurd (omega arith)
 
 -- how many bytes the numbers have at the front of a table, with the length of the first string
 abbrev fixed_size : Part → ℕ → ℕ
@@ -36,13 +40,9 @@ abbrev pub fixed_left : Place → ℕ
 fixed_left (places.Field field left after) = in_header (row_of field).table (fixed_sizes (fields_at (Some field)))
 fixed_left _ = 0
 
-none_in : (table : Table) (size : ℕ) → is_header table ≡ false → in_header table size ≡ 0
-none_in tables.Header size past = absurd (cc)
-none_in _ size past = refl
-
-none_left : (p : Place) → is_fixed p ≡ false → fixed_left p ≡ 0
-none_left (places.Field field left after) past = none_in (row_of field).table _ past
-none_left _ past = refl
+none_left : (p : Place) (field : List ℕ) → NeedsMemory p field → fixed_left p ≡ 0
+none_left (places.Field f left after) field needs = absurd needs
+none_left _ field needs = refl
 
 in_header_within : (table : Table) (size : ℕ) → in_header table size ≤ size
 in_header_within tables.Header size = omega arith
@@ -71,13 +71,19 @@ field_left : (p next : Place) (field : List ℕ) → Passes p field next → fix
 field_left (places.Field f left after) next field passes = part_left f (row_of f).row.part left after next field passes.whole passes.judged
 field_left _ next field passes = omega arith
 
-fields_left : (from last : State) (fields : List (List ℕ)) → LeadsTo from fields last → is_fixed last.place ≡ false → fixed_left from.place ≤ length (concat fields)
-fields_left from last [] leads past =
-    omega (arith, ap (λ (state : State). fixed_left state.place) leads, none_left last.place past)
-fields_left from last (field ∷ fields) leads past =
-    omega (arith, field_left from.place leads.0 field leads.1.0, fields_left (state_after from field leads.0) last fields leads.1.1 past, length-append field (concat fields))
+fields_left : (from last : State) (fields : List (List ℕ)) → LeadsTo from fields last → fixed_left last.place ≡ 0 → fixed_left from.place ≤ length (concat fields)
+fields_left from last [] leads none =
+    omega (arith, ap (λ (state : State). fixed_left state.place) leads)
+fields_left from last (field ∷ fields) leads none =
+    omega (arith, field_left from.place leads.0 field leads.1.0, fields_left (state_after from field leads.0) last fields leads.1.1 none, length-append field (concat fields))
 
 -- The first fields have 40 bytes together.
-pub fixed_room : (text : List ℕ) → HasFixedFields text → 40 ≤ length text
-fixed_room text has =
-    omega (arith, fields_left start has.state has.fields has.leads has.past, ap length has.parts, length-append (concat has.fields) has.rest)
+pub fixed_room : (text : List ℕ) → MayLackMemory text → 40 ≤ length text
+fixed_room text lacks =
+    omega (
+      arith,
+      fields_left start lacks.state lacks.fields lacks.front.leads (none_left lacks.state.place _ lacks.needs),
+      ap length lacks.front.parts,
+      length-append (concat lacks.fields) lacks.rest,
+      length-take limit text,
+    )
