@@ -1,6 +1,6 @@
 //! Writing all of some bytes, in whatever parts a writer takes them.
 
-ghost use Rattle.std.specs.Prelude.{◌≡◌, ◌<◌, false, length, take, OnOk, IfErr, is_err};
+ghost use Rattle.std.specs.Prelude.{◌≡◌, ◌<◌, false, length, take, IfErr, IfOk, OnOk, is_err};
 ghost use Rattle.std.specs.Io.KnownBytes.{Appends};
 
 use crate::device::Sink;
@@ -12,11 +12,13 @@ pub struct Sent {
     pub count: usize,
 }
 
-/// Writes all the bytes, in whatever parts the writer takes them. If the writer fails, the first
-/// `count` bytes were written and no others. The writer must not have failed before.
-pub fn send<W: Sink>(writer: &mut W, bytes: &[u8]) -> Result<(), Sent>
+/// Writes all the bytes, in whatever parts the writer takes them, and returns how many it took. If
+/// the writer fails, the first `count` bytes were written and no others. The writer must not have
+/// failed before.
+pub fn send<W: Sink>(writer: &mut W, bytes: &[u8]) -> Result<usize, Sent>
     requires { W.has_failed writer.old ≡ false }
     ensures ok { OnOk result (Appends (W.taken writer.old) (W.taken writer.new) bytes.now) }
+    ensures all { IfOk result (λ count. count ≡ length bytes.now) }
     ensures err { IfErr result (λ sent.
         Appends (W.taken writer.old) (W.taken writer.new) (take sent.count bytes.now)) }
     ensures short { IfErr result (λ sent. sent.count < length bytes.now) }
@@ -29,5 +31,5 @@ pub fn send<W: Sink>(writer: &mut W, bytes: &[u8]) -> Result<(), Sent>
             Err(_) => return Err(Sent { count }),
         }
     }
-    Ok(())
+    Ok(count)
 }

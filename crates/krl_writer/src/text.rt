@@ -117,7 +117,7 @@ pub fn write_krl<S: Spans, W: Sink>(
         Err(TextFault::TooLong) => return Err(WriteFault::TooLong),
     };
     match send(writer, &text) {
-        Ok(()) => Ok(()),
+        Ok(_) => Ok(()),
         Err(sent) => Err(WriteFault::Write { count: sent.count }),
     }
 }

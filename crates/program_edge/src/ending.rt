@@ -67,7 +67,7 @@ fn print_help<L: Lines>(rt: &HostRuntime, program: &L, text: &[u8]) -> u8
     ensures { (result ≡ 0) ⊎ (result ≡ 255) }
 {
     match send(&mut ToWrite::new(rt.stdout()), text) {
-        Ok(()) => 0,
+        Ok(_) => 0,
         Err(part) => {
             let count = part.count as u64;
             stop(

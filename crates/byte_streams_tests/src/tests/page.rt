@@ -11,7 +11,7 @@ fn went_out<W: Sink>(writer: &mut W, text: &[u8]) -> usize
     ensures { Appends (W.taken writer.old) (W.taken writer.new) (take result text.now) }
 {
     match send(writer, text) {
-        Ok(()) => text.len(),
+        Ok(count) => count,
         Err(sent) => sent.count,
     }
 }
