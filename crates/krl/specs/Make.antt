@@ -1,9 +1,11 @@
 -- The list that is made (krl(1), KRL MAKE).
-use Rattle.std.specs.Prelude.{◌≡◌, ℕ, List, [], map, Option, Some, None}
+use Rattle.std.specs.Prelude.{◌≡◌, ℕ, List, [], Option, Some, None, map}
 use Rattle.std.specs.Borrow.{Bor}
-use Rattle.krl.specs.declared.make.Inputs.{Inputs}
 use Rattle.krl_arguments.specs.declared.task.Make.{Make}
-use Rattle.text_run.specs.Making.{Text, Wanted}
+use Rattle.krl_entries.specs.Revocations.{Revocations}
+use Rattle.text_run.specs.Making.{Text}
+use Rattle.text_run.specs.Over.{MakesOver}
+use Rattle.text_run.specs.declared.inputs.Inputs.{Inputs}
 
 -- the text that is given, which is empty if there is none
 abbrev pub text_or_nothing : Option (Bor (List ℕ)) → List ℕ
@@ -16,18 +18,25 @@ name_of text = text.name
 abbrev pub now_of : Bor (List ℕ) → List ℕ
 now_of name = name.now
 
--- These inputs are those of the task, with a text for each of its files.
-pub record IsAsked (task : Make) (inputs : Inputs) : Type 0 where
+-- These inputs are those of the task, with this date and these texts.
+pub record IsAsked (task : Make) (date : ℕ) (texts : List Text) (inputs : Inputs) : Type 0 where
   pub name : inputs.name.now ≡ task.list.now
   pub version : inputs.version ≡ task.version
+  pub date_is : inputs.date ≡ date
   pub comment : inputs.comment.now ≡ text_or_nothing task.comment
   pub allow_empty : inputs.allow_empty ≡ task.allow_empty
-  pub texts : map name_of inputs.texts.items ≡ map now_of task.files.items
+  pub texts_are : inputs.texts.now ≡ texts
 
--- the list that these inputs ask for, with this version
-abbrev pub wanted_of : Inputs → (version : ℕ) → Wanted
-wanted_of inputs version = record {
-  name = inputs.name.now;
-  header = record { version = version; date = inputs.date; comment = inputs.comment.now };
-  allow_empty = inputs.allow_empty;
-}
+-- The list of the task was made: of texts with the names that it gives, over what was under its
+-- name.
+pub record IsMade (task : Make) : Type 0 where
+  pub date : ℕ
+  pub texts : List Text
+  pub named : map name_of texts ≡ map now_of task.files.items
+  pub inputs : Inputs
+  pub asked : IsAsked task date texts inputs
+  pub old : Option (List ℕ)
+  pub bytes : List ℕ
+  pub version : ℕ
+  pub contents : Revocations
+  pub makes : MakesOver inputs old bytes version contents

@@ -5,10 +5,12 @@ ghost use Rattle.std.specs.Prelude.{vec_capacity, vec_len};
 ghost use Rattle.std.specs.Io.KnownBytes.{Consumes};
 ghost use Rattle.krl.specs.Loading.{IsRead};
 
-use byte_streams::{FromRead, Pull, Source};
+use byte_streams::{FromRead, Source};
 use krl_audit::Refusal;
-use krl_core::{KrlFault, LIMIT as LIST_LIMIT};
-use run_faults::{Cause, FileFault, LIMIT, cause_of};
+use krl_core::LIMIT as LIST_LIMIT;
+use krl_system::read_list;
+use list_making::read_rest;
+use run_faults::{Cause, FileFault, LIMIT};
 use show_run::Lists;
 use ssh_wire::Bytes;
 use std::alloc::{AllocError, Global};
@@ -115,36 +117,22 @@ pub fn text_of<'a>(rt: &HostRuntime, name: &'a str) -> Text<'a>
     ensures { result.name ≡ name.now }
 {
     let content = if name == "-" {
-        rest_of(rt, FromRead::new(rt.stdin()))
+        read_rest(rt.alloc(), FromRead::new(rt.stdin()), LIST_LIMIT)
     } else {
         match fs::open(rt, name) {
-            Ok(file) => rest_of(rt, FromRead::new(file)),
+            Ok(file) => read_rest(rt.alloc(), FromRead::new(file), LIST_LIMIT),
             Err(_) => Err(Cause::File(FileFault::Open)),
         }
     };
     Text { name, content }
 }
 
-// All bytes of a reader, unless they are more than a list may have.
-fn rest_of<R: Source + Drop>(rt: &HostRuntime, reader: R) -> Result<Bytes, Cause>
-    requires { R.has_failed reader ≡ false }
-{
-    match Pull::new(reader, LIST_LIMIT).rest(rt.alloc()) {
-        Ok(bytes) => Ok(bytes),
-        Err(fault) => Err(cause_of(KrlFault::from(fault))),
-    }
-}
-
 /// The bytes of a list's file: of a longer one, one byte more than a list may have, so that it has
 /// its first fault.
 pub fn bytes_of(rt: &HostRuntime, name: &str) -> Result<Bytes, Cause> {
-    let Ok(file) = fs::open(rt, name) else {
-        return Err(Cause::File(FileFault::Open));
-    };
-    let most = LIST_LIMIT + 1;
-    match Pull::new(FromRead::new(file.take(most)), most).rest(rt.alloc()) {
-        Ok(bytes) => Ok(bytes),
-        Err(fault) => Err(cause_of(KrlFault::from(fault))),
+    match fs::open(rt, name) {
+        Ok(file) => read_list(rt.alloc(), file),
+        Err(_) => Err(Cause::File(FileFault::Open)),
     }
 }
 

@@ -1,16 +1,20 @@
 //! Lists keys, and makes, prints and queries key revocation lists, as ssh-keygen(1) does.
 #![tactic(auto)]
 
+ghost use Rattle.std.specs.Prelude.{◌≡◌, ◌⊎◌};
+ghost use Rattle.krl_keygen.specs.Ends.{EndsMode, IsListed, IsMade, IsQueried};
+
 use byte_streams::{FromBuffer, ToWrite};
 use krl_job::{Job, Mode};
+use krl_make::Wanted;
 use krl_runs::query_run;
-use krl_system::{moment, open, open_list, open_or_input};
+use krl_system::{ListPlace, date, moment, open_authority, open_files, open_list, open_or_input};
 use krl_words::command_of;
-use list_making::make_list;
+use list_making::make_at;
 use option_table::CommandFault;
 use program_edge::{Lines, Program, end, refuse, run, stop};
 use program_version::VERSION;
-use run_faults::{Cause, RunFault, fault_text};
+use run_faults::{RunFault, fault_text};
 use run_output::{ListMode, list_run};
 use std::alloc::AllocError;
 use std::process::ExitCode;
@@ -39,6 +43,10 @@ impl Lines for Tool {
 }
 
 impl Program for Tool {
+    ghost use Rattle.krl_keygen.specs.Ends.{EndsKeygen};
+
+    ghost does = { λ _ words status. EndsKeygen words status };
+
     fn run(&self, rt: &HostRuntime, words: &[String]) -> u8 {
         match command_of(rt.alloc(), VERSION, words) {
             Ok(job) => run_job(rt, &job),
@@ -52,17 +60,21 @@ fn main(rt: HostRuntime) -> ExitCode {
 }
 
 // Does the job. Returns the exit status.
-fn run_job(rt: &HostRuntime, job: &Job) -> u8 {
+fn run_job(rt: &HostRuntime, job: &Job) -> u8
+    ensures { EndsMode job.now.mode job.now result }
+{
     match job.mode {
         Mode::Keys => list_file(rt, job, ListMode::Keys),
         Mode::Certs => list_file(rt, job, ListMode::Certs),
-        Mode::Make => make_list(rt, &Tool, job),
+        Mode::Make => make_list(rt, job),
         Mode::Query => ask_list(rt, job),
     }
 }
 
 // `-l` and `-L`: lists the keys of the file, or its certificates.
-fn list_file(rt: &HostRuntime, job: &Job, mode: ListMode) -> u8 {
+fn list_file(rt: &HostRuntime, job: &Job, mode: ListMode) -> u8
+    ensures { IsListed mode job.now result }
+{
     let file = open_or_input(rt, job.file);
     let mut out = ToWrite::new(rt.stdout());
     let moment = moment(rt);
@@ -72,17 +84,17 @@ fn list_file(rt: &HostRuntime, job: &Job, mode: ListMode) -> u8 {
 
 // `-Q`: prints the contents of the list, if `-l` requests it, and queries it for the keys of the
 // files.
-fn ask_list(rt: &HostRuntime, job: &Job) -> u8 {
+fn ask_list(rt: &HostRuntime, job: &Job) -> u8
+    ensures { (result ≡ 255) ⊎ IsQueried job.now result }
+{
     let krl = match open_list(rt, job.file) {
         Ok(krl) => krl,
         Err(cause) => return stop(rt, &Tool, &RunFault::whole(job.file, cause)),
     };
-    let mut files = Vec::new(rt.alloc());
-    for name in &job.files {
-        if files.push(open(rt, name)).is_err() {
-            return stop(rt, &Tool, &RunFault::whole(name, Cause::NoMemory));
-        }
-    }
+    let files = match open_files(rt, job.files.as_slice(), false) {
+        Ok(files) => files,
+        Err(fault) => return stop(rt, &Tool, &fault),
+    };
     let mut out = ToWrite::new(rt.stdout());
     let (done, _) = query_run(
         rt.alloc(),
@@ -93,4 +105,40 @@ fn ask_list(rt: &HostRuntime, job: &Job) -> u8 {
         &mut out,
     );
     end(rt, &Tool, &done)
+}
+
+// `-k`: makes a list, from the old one if `-u` is given. An old list that cannot be opened is
+// reported before any file is read.
+fn make_list(rt: &HostRuntime, job: &Job) -> u8
+    ensures { (result ≡ 255) ⊎ ((result ≡ 0) × IsMade job.now) }
+{
+    let mut place = ListPlace::new(rt, NAME, job.file);
+    if job.update
+        && let Err(cause) = place.open_old()
+    {
+        return stop(rt, &Tool, &RunFault::whole(job.file, cause));
+    }
+    let authority = open_authority(rt, &job.authority);
+    let files = match open_files(rt, job.files.as_slice(), true) {
+        Ok(files) => files,
+        Err(fault) => return stop(rt, &Tool, &fault),
+    };
+    let date = match date(rt) {
+        Ok(date) => date,
+        Err(cause) => return stop(rt, &Tool, &RunFault::whole(job.file, cause)),
+    };
+    let wanted = Wanted {
+        name: job.file,
+        update: job.update,
+        version: job.version,
+        date,
+        authority: &authority,
+        files: files.as_slice(),
+    };
+    let made = make_at(rt.alloc(), &wanted, &mut place);
+    place.release();
+    match made {
+        Ok(_) => 0,
+        Err(fault) => stop(rt, &Tool, &fault),
+    }
 }

@@ -1,3 +1,4 @@
 pub mod LineBytes
 pub mod MadeLists
 pub mod FirstKeys
+pub mod OverLists

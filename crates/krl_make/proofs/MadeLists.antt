@@ -24,7 +24,8 @@ use Rattle.krl_core.specs.Reading.{IsList}
 use Rattle.krl_format.specs.declared.header.Header.{Header}
 use Rattle.krl_types.specs.declared.krl_fault.KrlFault.{KrlFault}
 use Rattle.krl_make.specs.declared.base.Base.{Base}
-use Rattle.krl_make.specs.Making.{Added, HasNumbers, IsCurrentName, IsCurrentFile, authority_file, lines, new_list, old_list, IsOldList, HoldsMore, IsRunFault, Made, Makes, NamesSame, Returns, WritesList, WritesMade, WritesMore, after_old, base_of, cause_run_fault, file_entries, file_key, file_run_fault, files_entries, first_blob, first_key_of, header_of, made_of, make_run_of, named_blob, key_blob, text_entries, then_entries, version_of, paid}
+use Rattle.krl_make.specs.Making.{Added, HasNumbers, IsCurrentName, IsCurrentFile, authority_file, lines, new_list, old_list, IsOldList, HoldsMore, IsRunFault, Made, Makes, NamesSame, Returns, WritesList, WritesMade, WritesMore, after_old, base_of, cause_run_fault, file_entries, file_key, file_run_fault, files_entries, first_blob, first_key_of, header_of, made_of, make_run_of, named_blob, key_blob, text_entries, then_entries, paid}
+use Rattle.list_making.specs.Version.{version_of}
 use Rattle.run_faults.specs.RunFault.{krl_cause}
 use Rattle.run_faults.specs.declared.cause.Cause.TheVariants as causes
 use Rattle.krl_job.specs.declared.job.AuthorityOption.{AuthorityOption}
@@ -256,7 +257,7 @@ base_refused name authority version files moment fault = refl
 
 -- The fault of the authority's file stops the run.
 pub key_stops : (name : List ℕ) (given : Option ℕ) (authority : AuthorityOption Named) (file : Named) (moment : ℕ) (base : Base) (files : List Named) (version : ℕ) (stop : RunFault)
-    → version_of given base.version ≡ Some version → authority ≡ FileOf file
+    → version_of 0 given base.version ≡ Some version → authority ≡ FileOf file
     → IsRunFault (ended_by stop.cause) (λ at. file.name ≡ at) (file_key file) stop
     → IsRunFault (ended_by stop.cause) (IsCurrent name base authority given files (after_old name authority given moment files base)) (after_old name authority given moment files base) stop
 key_stops name given authority file moment base files version stop is names stops =
@@ -272,7 +273,7 @@ named_by authority file blob names read = rw (names, read) refl
 
 -- The fault of a file or of a line stops the run.
 files_stop : (name : List ℕ) (given : Option ℕ) (authority : AuthorityOption Named) (moment : ℕ) (base : Base) (files : List Named) (version : ℕ) (signer : Option (List ℕ)) (stop : RunFault)
-    → version_of given base.version ≡ Some version → named_blob authority ≡ Ok signer
+    → version_of 0 given base.version ≡ Some version → named_blob authority ≡ Ok signer
     → IsRunFault (ended_by stop.cause) (IsCurrentFile signer files) (files_entries signer files) stop
     → IsRunFault (ended_by stop.cause) (IsCurrent name base authority given files (after_old name authority given moment files base)) (after_old name authority given moment files base) stop
 files_stop name given authority moment base files version signer stop is signed stops =
@@ -293,7 +294,7 @@ made_read view name given authority base files read made (Err stop) whole (inr (
 
 -- The list is written from the old revocations and the files, or the run stops there.
 pub list_written : {X : Type 0} (view : X → List ℕ) (name : List ℕ) (given : Option ℕ) (authority : AuthorityOption Named) (moment : ℕ) (base : Base) (files : List Named) (version : ℕ) (signer : Option (List ℕ)) (result : Result X RunFault)
-    → version_of given base.version ≡ Some version → named_blob authority ≡ Ok signer
+    → version_of 0 given base.version ≡ Some version → named_blob authority ≡ Ok signer
     → WritesMore view name (header_of version moment base) base.revocations (IsCurrentFile signer files) (files_entries signer files) result
     → Makes view name (Ok base) authority given files (after_old name authority given moment files base) result
 list_written view name given authority moment base files version signer result is signed (inl (entries, (read, written))) =
@@ -305,7 +306,7 @@ list_written view name given authority moment base files version signer result i
 -- ---- the revocations in it
 
 -- the old revocations of the new list are those of the old list
-old_of : (version : Result ℕ RunFault) (signer : Result (Option (List ℕ)) RunFault) (entries : Option (List ℕ) → Result (List Entry) RunFault) (header : ℕ → Header) (old : Revocations) (made : Made)
+pub old_of : (version : Result ℕ RunFault) (signer : Result (Option (List ℕ)) RunFault) (entries : Option (List ℕ) → Result (List Entry) RunFault) (header : ℕ → Header) (old : Revocations) (made : Made)
     → (version >>= (λ v. signer >>= (λ s. entries s >>= (λ e. Ok (made_of (header v) old e))))) ≡ Ok made → made.old ≡ old
 old_of (Err fault) signer entries header old made is = absurd (cc)
 old_of (Ok v) (Err fault) entries header old made is = absurd (cc)
@@ -320,5 +321,5 @@ pub held_paid : (name text : List ℕ) (base : Base) (authority : AuthorityOptio
     → held contents ≤ paid (length text) (length made.entries)
 unfolding make_run_of
 held_paid name text base authority version files moment made contents is read more =
-    let old : made.old ≡ base.revocations = old_of (ok_or (version_of version base.version) (run_fault_of name causes.VersionFull)) (named_blob authority) (λ s. files_entries s files) (λ v. header_of v moment base) base.revocations made read in
+    let old : made.old ≡ base.revocations = old_of (ok_or (version_of 0 version base.version) (run_fault_of name causes.VersionFull)) (named_blob authority) (λ s. files_entries s files) (λ v. header_of v moment base) base.revocations made read in
     omega (arith, more.held_is, ap held old, is.list.holds.held_is)

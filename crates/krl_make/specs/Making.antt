@@ -1,6 +1,6 @@
 -- Making or updating a list (ssh-keygen(1), options -k and -u).
-use Rattle.std.specs.Prelude.{◌≡◌, ◌↔◌, ℕ, ◌+◌, ◌-◌, ◌*◌, ◌^◌, ◌<◌, ◌≤◌, ◌==◌, ◌⊎◌, Bool}
-use Rattle.std.specs.Prelude.{if◌then◌else◌, List, [], ◌∷◌, ◌++◌, length, Option, Some, None}
+use Rattle.std.specs.Prelude.{◌≡◌, ◌↔◌, ℕ, ◌+◌, ◌*◌, ◌^◌, ◌<◌, ◌≤◌, ◌⊎◌}
+use Rattle.std.specs.Prelude.{List, [], ◌∷◌, ◌++◌, length, Option, Some, None}
 use Rattle.std.specs.Prelude.{Result, Ok, Err}
 use Rattle.std.specs.Option.{ok_or}
 use Rattle.ssh_wire.specs.Reading.{◌>>=◌, in_fault}
@@ -10,7 +10,7 @@ use Rattle.krl_types.specs.Entry.{Entry}
 use Rattle.krl_format.specs.Front.{IsFirstKrlFault, limit}
 use Rattle.krl_format.specs.Krl.{SpelledSection, Spells}
 use Rattle.krl_writer.specs.KrlText.{IsKrlText}
-use Rattle.krl_core.specs.Reading.{IsList, IsResultOf}
+use Rattle.krl_core.specs.Reading.{IsList}
 use Rattle.krl_entries.specs.Revoked.{Revoked}
 use Rattle.krl_format.specs.declared.header.Header.{Header}
 use Rattle.krl_types.specs.declared.krl_fault.KrlFault.{KrlFault}
@@ -20,6 +20,7 @@ use Rattle.ssh_cert.specs.SubjectReading.{subject_of}
 use Rattle.krl_job.specs.declared.job.AuthorityOption.{AuthorityOption}
 use Rattle.krl_job.specs.declared.job.AuthorityOption.TheVariants.{NotGiven, All, File as FileOf}
 use Rattle.krl_make.specs.declared.base.Base.{Base}
+use Rattle.list_making.specs.Version.{version_of}
 use Rattle.run_faults.specs.declared.file_fault.FileFault.{FileFault}
 use Rattle.run_faults.specs.declared.file_fault.FileFault.TheVariants as files
 use Rattle.run_faults.specs.declared.cause.Cause.TheVariants as causes
@@ -114,13 +115,6 @@ files_entries authority (file ∷ files) =
 
 -- ---- the run
 
--- The version that is given, otherwise one more than the old one, otherwise 0. There is none if the
--- old one is the largest.
-abbrev pub version_of : Option ℕ → Option ℕ → Option ℕ
-version_of (Some given) old = Some given
-version_of None None = Some 0
-version_of None (Some old) = if old == 2 ^ 64 - 1 then None else Some (old + 1)
-
 -- The entries of lines were added, with at most one more interval of serials for each.
 pub record HoldsMore (old new : Revocations) (entries : List Entry) : Type 0 where
   pub means : MeansMore old new entries
@@ -153,7 +147,7 @@ HasNumbers header = (header.version < 2 ^ 64) × (header.date < 2 ^ 64)
 abbrev pub after_old : List ℕ → AuthorityOption Named → Option ℕ → ℕ → List Named → Base
     → Result Made RunFault
 after_old name authority given moment files base = do
-  version ← ok_or (version_of given base.version) (run_fault_of name causes.VersionFull)
+  version ← ok_or (version_of 0 given base.version) (run_fault_of name causes.VersionFull)
   signer ← named_blob authority
   entries ← files_entries signer files
   Ok (made_of (header_of version moment base) base.revocations entries)
@@ -193,10 +187,10 @@ pub data IsCurrentName (name : List ℕ) (outcome : Result Base KrlFault)
   old_list : outcome ≡ Err faults.NoMemory → name ≡ at
       → IsCurrentName name outcome authority given files read at
   authority_file : (base : Base) (version : ℕ) → outcome ≡ Ok base
-      → version_of given base.version ≡ Some version → IsCurrentAuthority authority at
+      → version_of 0 given base.version ≡ Some version → IsCurrentAuthority authority at
       → IsCurrentName name outcome authority given files read at
   lines : (base : Base) (version : ℕ) (signer : Option (List ℕ)) → outcome ≡ Ok base
-      → version_of given base.version ≡ Some version → named_blob authority ≡ Ok signer
+      → version_of 0 given base.version ≡ Some version → named_blob authority ≡ Ok signer
       → IsCurrentFile signer files at → IsCurrentName name outcome authority given files read at
   new_list : (made : Made) → read ≡ Ok made → name ≡ at
       → IsCurrentName name outcome authority given files read at
@@ -316,12 +310,3 @@ pub record IsOldList (text : List ℕ) (base : Base) : Type 0 where
   pub no_fault : IsFirstKrlFault text None
   pub version_is : base.version ≡ Some header.version
   pub comment_is : base.comment ≡ header.comment
-
--- The result of reading the old list, if there is one, given its reader before and after it.
-abbrev pub IsBaseRead : {R : Type 0} → (R → Option (List ℕ)) → (R → Bool) → Option R
-    → Result Base KrlFault → Option R → Type 0
-IsBaseRead left has_failed None outcome back =
-    (outcome ≡ Ok new_base) × Means nothing [] × (back ≡ None)
-IsBaseRead left has_failed (Some reader) outcome None = ⊥
-IsBaseRead left has_failed (Some reader) outcome (Some back) =
-    IsResultOf IsOldList (left reader) outcome (has_failed back) (left back)

@@ -1,17 +1,14 @@
 //! The content of the old list, before the lines are added.
 
-ghost use Rattle.std.specs.Prelude.{◌≡◌, ◌<◌, ◌^◌, [], Err, IfSome, MatchResult, Ok, Result, false};
-ghost use Rattle.std.specs.Option.{ForSome};
-ghost use Rattle.krl_types.specs.declared.krl_fault.KrlFault.{KrlFault as FaultOf};
+ghost use Rattle.std.specs.Prelude.{◌≡◌, [], IfErr, IfOk, Ok};
 ghost use Rattle.krl_entries.specs.Revocations.{Means, nothing};
-ghost use Rattle.krl_make.specs.Making.{IsBaseRead, base_of, new_base, version_of};
-ghost use Rattle.run_faults.specs.RunFault.{krl_cause};
-ghost use Rattle.run_faults.specs.RunFault.{run_fault_of};
-ghost use Rattle.krl_make.specs.declared.base.Base.{Base as BaseOf};
+ghost use Rattle.krl_make.specs.Making.{base_of, new_base};
+ghost use Rattle.krl_make.specs.Over.{IsReadOver, IsUnread};
 
-use byte_streams::Source;
+use crate::run::Wanted;
+use byte_streams::Lent;
 use krl_core::{Header, Revocations, read_krl};
-use run_faults::{RunFault, cause_of};
+use run_faults::{Cause, FileFault, RunFault, cause_of};
 use span_sets::Held;
 use ssh_wire::Bytes;
 use std::alloc::Global;
@@ -27,26 +24,25 @@ pub struct Base {
     pub revocations: Revocations<Held>,
 }
 
-/// Reads the old list, if there is one, and returns its reader.
-pub fn read_base<'a, R: Source + Drop>(
+/// Reads the old list, if it is updated.
+pub fn read_base<'a>(
     alloc: Global,
-    name: &'a str,
-    list: Option<R>,
-) -> (Result<Base, RunFault<'a>>, Option<R>)
-    requires { ForSome list (λ reader. R.has_failed reader ≡ false) }
-    ensures { (outcome : Result BaseOf FaultOf)
-        × IsBaseRead R.left R.has_failed list outcome result.1
-        × MatchResult result.0 (λ base. outcome ≡ Ok base)
-        (λ stop. (fault : FaultOf) × ((outcome ≡ Err fault)
-        × (stop ≡ run_fault_of name.now (krl_cause fault)))) }
+    wanted: &Wanted<'a>,
+    old: Option<Bytes>,
+) -> Result<Base, RunFault<'a>>
+    ensures read { IfOk result (λ base. IsReadOver wanted.now.update old (Ok base)) }
+    ensures refused { IfErr result (IsUnread wanted.now old) }
 {
-    let Some(reader) = list else {
-        return (Ok(new_base(alloc)), None);
+    if !wanted.update {
+        return Ok(new_base(alloc));
+    }
+    let Some(bytes) = &old else {
+        return Err(RunFault::whole(wanted.name, Cause::File(FileFault::Open)));
     };
-    let (read, reader) = read_krl::<Held, R>(alloc, reader);
+    let (read, _lent) = read_krl::<Held, _>(alloc, Lent::new(bytes.as_slice()));
     match read {
-        Ok((header, revocations)) => (Ok(base_of(header, revocations)), Some(reader)),
-        Err(fault) => (Err(RunFault::whole(name, cause_of(fault))), Some(reader)),
+        Ok((header, revocations)) => Ok(base_of(header, revocations)),
+        Err(fault) => Err(RunFault::whole(wanted.name, cause_of(fault))),
     }
 }
 
@@ -70,18 +66,5 @@ fn base_of(header: Header, revocations: Revocations<Held>) -> Base
         version: Some(header.version),
         comment: header.comment,
         revocations,
-    }
-}
-
-/// The version of the list that is made: the given one, otherwise one more than the old one,
-/// otherwise 0. None if the old one is 2^64-1.
-pub fn next_version(given: Option<u64>, old: Option<u64>) -> Option<u64>
-    ensures value { result ≡ version_of given old }
-    ensures fits { IfSome result (λ version. version < 2 ^ 64) }
-{
-    match (given, old) {
-        (Some(given), _) => Some(given),
-        (None, Some(old)) => old.checked_add(1),
-        (None, None) => Some(0),
     }
 }

@@ -1,14 +1,21 @@
 //! Laws about every file that names an authority, and every list that is made. Each function does
 //! nothing: its contract is the law.
 
-ghost use Rattle.std.specs.Prelude.{◌≡◌, ◌≤◌, ◌↔◌, ℕ, List, Err, Ok, Option, length};
+ghost use Rattle.std.specs.Prelude.{◌≡◌, ◌≤◌, ◌↔◌, ◌++◌, ℕ, List, Err, Ok, Option, Some, length};
+ghost use Rattle.std.specs.Prelude.{true};
 ghost use Rattle.krl_entries.specs.Revocations.{Revocations, held};
 ghost use Rattle.run_faults.specs.Keys.{Named};
 ghost use Rattle.krl_job.specs.declared.job.AuthorityOption.{AuthorityOption};
 ghost use Rattle.krl_make.specs.declared.base.Base.{Base};
 ghost use Rattle.krl_make.specs.FirstKey.{IsFirstKey, IsFirstKeyFault};
-ghost use Rattle.krl_make.specs.Making.{HoldsMore, IsOldList, Made, first_key_of};
+ghost use Rattle.krl_format.specs.Entries.{entries_of};
+ghost use Rattle.krl_format.specs.Krl.{SpelledSection, Spells};
+ghost use Rattle.krl_format.specs.declared.header.Header.{Header};
+ghost use Rattle.krl_make.specs.Making.{HoldsMore, IsOldList, Made, NamesSame, first_key_of};
 ghost use Rattle.krl_make.specs.Making.{make_run_of, paid};
+ghost use Rattle.krl_make.specs.Over.{RunsOver};
+ghost use Rattle.krl_make.specs.declared.run.Wanted.{Wanted};
+ghost use Rattle.krl_types.specs.Entry.{Entry};
 ghost use Rattle.run_faults.specs.RunFault.{RunFault};
 ghost use Rattle.ssh_wire.specs.Wire.{IsBytes};
 
@@ -39,4 +46,14 @@ pub fn held_is_paid()
         → make_run_of name (Ok base) authority version files moment ≡ Ok made
         → HoldsMore made.old contents made.entries
         → held contents ≤ paid (length text) (length made.entries) }
+{}
+
+/// An update keeps what the old list names: the new list revokes exactly what the entries of the
+/// old one and some more revoke.
+pub fn update_keeps_the_old_list()
+    ensures { (wanted : Wanted) (text bytes : List ℕ) (header : Header)
+        (sections : List SpelledSection) → wanted.update ≡ true → Spells text header sections
+        → RunsOver wanted (Some text) (Ok bytes)
+        → (made : Header) × (added : List Entry)
+        × NamesSame made bytes (entries_of sections ++ added) }
 {}

@@ -5,7 +5,8 @@ mod authority;
 mod base;
 mod files;
 pub mod laws;
+mod over;
 mod run;
 
 pub use authority::AuthorityOption;
-pub use run::{Old, make_run};
+pub use run::{Wanted, make_run};

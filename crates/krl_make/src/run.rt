@@ -1,96 +1,82 @@
 //! Making a list from an old one and from specification files.
 
-ghost use Rattle.std.specs.Prelude.{◌≡◌, Ok, Result, false};
-ghost use Rattle.std.specs.Option.{ForSome};
-ghost use Rattle.krl_types.specs.declared.krl_fault.KrlFault.{KrlFault as FaultOf};
-ghost use Rattle.krl_make.specs.Making.{HasNumbers, IsBaseRead, IsCurrentFile, Makes, WritesList};
-ghost use Rattle.krl_make.specs.Making.{WritesMore, after_old, files_entries, make_run_of};
+ghost use Rattle.std.specs.Prelude.{◌≡◌, IfErr, IfOk, Ok};
+ghost use Rattle.krl_make.specs.Making.{HasNumbers, IsCurrentFile, Makes, WritesList, WritesMore};
+ghost use Rattle.krl_make.specs.Making.{after_old, files_entries};
+ghost use Rattle.krl_make.specs.Over.{Refuses, RunsOver};
 ghost use Rattle.krl_spec.specs.Under.{authority_under};
-ghost use Rattle.krl_make.specs.declared.base.Base.{Base as BaseOf};
 
 use crate::authority::{AuthorityOption, first_key};
-use crate::base::{Base, next_version, read_base};
+use crate::base::{Base, read_base};
 use crate::files::add_files;
-use byte_streams::Source;
 use krl_core::{Header, Revocations};
 use krl_spec::Under;
 use krl_writer::{TextFault, krl_text};
+use list_making::{Made, next_version};
 use run_faults::{Cause, Named, RunFault};
 use span_sets::Held;
+use ssh_wire::Bytes;
 use std::alloc::Global;
 
-/// The list that is made: its name, and the reader of the old one if that is updated.
+// The version of a list that follows no other.
+const FIRST: u64 = 0;
+
+/// The list that is wanted, apart from the content of the old one.
 #[derive(Drop)]
-pub struct Old<'a, R: Source + Drop> {
-    /// The name of the list.
+pub struct Wanted<'a> {
+    /// Its name.
     pub name: &'a str,
-    /// The reader of the old list, if it is updated.
-    pub list: Option<R>,
+    /// Whether the old list is updated.
+    pub update: bool,
+    /// Its version, unless that of the old list decides it.
+    pub version: Option<u64>,
+    /// Its date in seconds since 1970.
+    pub date: u64,
+    /// The authority of serials and key IDs.
+    pub authority: &'a AuthorityOption<'a>,
+    /// The files whose lines it names.
+    pub files: &'a [Named<'a>],
 }
 
-/// The bytes of a list that revokes what the old one revoked and what the lines of the files name.
-/// Its version is the given one, otherwise one more than that of the old list, otherwise 0; its
-/// date is the moment in seconds since 1970, and its comment that of the old list. The old list's
-/// reader is returned.
+/// The bytes of a list that revokes what the old one revoked, if it is updated, and what the lines
+/// of the files name. Its version is the given one, otherwise one more than that of the old list,
+/// otherwise 0, and its comment is that of the old list.
 ///
 /// The first fault stops the run: that of the old list; that its version is the largest; that of
 /// the authority's file; those of the files and lines in order; that the list would be too long to
 /// be read.
-pub fn make_run<'a, R: Source + Drop>(
+pub fn make_run<'a>(
     alloc: Global,
-    old: Old<'a, R>,
-    authority: &'a AuthorityOption<'a>,
-    version: Option<u64>,
-    files: &'a [Named<'a>],
-    moment: u64,
-) -> (Result<Vec<u8>, RunFault<'a>>, Option<R>)
-    requires { ForSome old.list (λ reader. R.has_failed reader ≡ false) }
-    ensures { (outcome : Result BaseOf FaultOf)
-        × IsBaseRead R.left R.has_failed old.entry.list outcome result.1
-        × Makes (λ made. made.items) old.entry.name.now outcome authority.now version files.now
-        (make_run_of old.entry.name.now outcome authority.now version files.now moment) result.0 }
+    wanted: &Wanted<'a>,
+    old: Option<Bytes>,
+) -> Result<Made<()>, RunFault<'a>>
+    ensures made { IfOk result (λ made. RunsOver wanted.now old (Ok made.bytes.items)) }
+    ensures refused { IfErr result (Refuses wanted.now old) }
 {
-    let Old { name, list } = old;
-    let new_list = NewList {
-        name,
-        authority,
-        version,
-        files,
-        moment,
-    };
-    let (read, reader) = read_base(alloc, name, list);
-    let base = match read {
+    let base = match read_base(alloc, wanted, old) {
         Ok(base) => base,
-        Err(stop) => return (Err(stop), reader),
+        Err(stop) => return Err(stop),
     };
-    let made = new_list.make_over(alloc, base);
-    (made, reader)
+    match wanted.make_over(alloc, base) {
+        Ok(bytes) => Ok(Made { bytes, facts: () }),
+        Err(stop) => Err(stop),
+    }
 }
 
-// The list that is wanted, apart from the content of the old one.
-#[derive(Drop)]
-struct NewList<'a> {
-    name: &'a str,
-    authority: &'a AuthorityOption<'a>,
-    version: Option<u64>,
-    files: &'a [Named<'a>],
-    moment: u64,
-}
-
-impl<'a> NewList<'a> {
+impl<'a> Wanted<'a> {
     // The bytes of a list with the old revocations and those that the lines of the files name.
     fn make_over(&self, alloc: Global, base: Base) -> Result<Vec<u8>, RunFault<'a>>
         ensures { Makes (λ made. made.items) self.now.name.now (Ok base) self.now.authority.now
             self.now.version self.now.files.now
-            (after_old self.now.name.now self.now.authority.now self.now.version self.now.moment
+            (after_old self.now.name.now self.now.authority.now self.now.version self.now.date
             self.now.files.now base) result }
     {
-        let Some(version) = next_version(self.version, base.version) else {
+        let Some(version) = next_version(self.version, base.version, FIRST) else {
             return Err(RunFault::whole(self.name, Cause::VersionFull));
         };
         let header = Header {
             version,
-            date: self.moment,
+            date: self.date,
             comment: base.comment,
         };
         let held = base.revocations;

@@ -1,5 +1,9 @@
 //! The files that the command line names.
 
+ghost use Rattle.std.specs.Prelude.{◌≡◌, IfOk, map};
+ghost use Rattle.krl_job.specs.Job.{authority_of};
+ghost use Rattle.krl_system.specs.Files.{authority_name, name_of, now_of};
+
 use byte_streams::FromRead;
 use krl_job::AuthorityOption;
 use run_faults::{Cause, FileFault, Named, RunFault, load};
@@ -17,8 +21,8 @@ pub fn open_list(rt: &HostRuntime, name: &str) -> Result<BufReader<File>, Cause>
     }
 }
 
-/// A list with a buffer, since it is read a field at a time.
-pub fn buffered(rt: &HostRuntime, file: File) -> Result<BufReader<File>, Cause> {
+// A list with a buffer, since it is read a field at a time.
+fn buffered(rt: &HostRuntime, file: File) -> Result<BufReader<File>, Cause> {
     match BufReader::with_capacity(rt.alloc(), BUFFER, file) {
         Ok(list) => Ok(list),
         Err(_) => Err(Cause::NoMemory),
@@ -26,7 +30,9 @@ pub fn buffered(rt: &HostRuntime, file: File) -> Result<BufReader<File>, Cause> 
 }
 
 /// The file with this name.
-pub fn open<'a>(rt: &HostRuntime, name: &'a str) -> Named<'a> {
+pub fn open<'a>(rt: &HostRuntime, name: &'a str) -> Named<'a>
+    ensures { result.name ≡ name.now }
+{
     match fs::open(rt, name) {
         Ok(file) => load(rt.alloc(), name, FromRead::new(file)).0,
         Err(_) => Named {
@@ -37,7 +43,9 @@ pub fn open<'a>(rt: &HostRuntime, name: &'a str) -> Named<'a> {
 }
 
 /// The file with this name, or standard input if the name is `-`.
-pub fn open_or_input<'a>(rt: &HostRuntime, name: &'a str) -> Named<'a> {
+pub fn open_or_input<'a>(rt: &HostRuntime, name: &'a str) -> Named<'a>
+    ensures { result.name ≡ name.now }
+{
     if name == "-" {
         load(rt.alloc(), name, FromRead::new(rt.stdin())).0
     } else {
@@ -45,15 +53,23 @@ pub fn open_or_input<'a>(rt: &HostRuntime, name: &'a str) -> Named<'a> {
     }
 }
 
-/// The files with these names; each `-` is standard input.
-pub fn open_inputs<'a>(
+/// The files with these names. Each `-` is standard input if that may be read.
+pub fn open_files<'a>(
     rt: &HostRuntime,
     names: &[&'a str],
-) -> Result<Vec<Named<'a>>, RunFault<'a>> {
+    may_read_input: bool,
+) -> Result<Vec<Named<'a>>, RunFault<'a>>
+    ensures { IfOk result (λ files. map name_of files.items ≡ map now_of names.now) }
+{
     let mut files = Vec::new(rt.alloc());
     for name in names {
         let name = *name;
-        if files.push(open_or_input(rt, name)).is_err() {
+        let file = if may_read_input {
+            open_or_input(rt, name)
+        } else {
+            open(rt, name)
+        };
+        if files.push(file).is_err() {
             return Err(RunFault::whole(name, Cause::NoMemory));
         }
     }
@@ -64,7 +80,9 @@ pub fn open_inputs<'a>(
 pub fn open_authority<'a>(
     rt: &HostRuntime,
     name: &AuthorityOption<&'a str>,
-) -> AuthorityOption<Named<'a>> {
+) -> AuthorityOption<Named<'a>>
+    ensures { authority_name result ≡ authority_of name.now }
+{
     match name {
         AuthorityOption::NotGiven => AuthorityOption::NotGiven,
         AuthorityOption::All => AuthorityOption::All,

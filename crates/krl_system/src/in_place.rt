@@ -1,6 +1,6 @@
 //! Writing a list in place, if its folder takes no new file.
 
-ghost use Rattle.std.specs.Prelude.{◌<◌, ◌≤◌, IfErr, length};
+ghost use Rattle.std.specs.Prelude.{◌≡◌, ◌<◌, ◌≤◌, IfErr, IfOk, length};
 
 use byte_streams::{ToWrite, send};
 use std::fs::File;
@@ -15,21 +15,24 @@ const NO_VERSION: u8 = 0xff;
 
 // Writes a list over another file. Until all of it is written and synced, its format version is one
 // that every reader rejects. So no reader takes a part of the list for the whole, or finds it
-// empty, even if writing fails or the machine stops. The error is the number of bytes written.
-pub(crate) fn write_in_place(file: &File, text: &[u8]) -> Result<(), u64>
+// empty, even if writing fails or the machine stops. Returns the number of bytes written; so does
+// the error.
+pub(crate) fn write_in_place(file: &File, text: &[u8]) -> Result<u64, u64>
+    ensures all { IfOk result (λ count. count ≡ length text.now) }
     ensures bound { IfErr result (λ count. count ≤ length text.now) }
 {
     let Some((front, rest)) = text.split_first_chunk::<FRONT>() else {
         return Err(0);
     };
     begin(file, front)?;
-    if let Err(count) = send_all(file, rest) {
-        return Err(FRONT as u64 + count);
-    }
-    if end(file, &front[VERSION..], text.len() as u64) {
-        Ok(())
+    let count = match send_all(file, rest) {
+        Ok(count) => FRONT as u64 + count,
+        Err(count) => return Err(FRONT as u64 + count),
+    };
+    if end(file, &front[VERSION..], count) {
+        Ok(count)
     } else {
-        Err(text.len() as u64)
+        Err(count)
     }
 }
 
@@ -56,8 +59,9 @@ fn end(file: &File, version: &[u8], length: u64) -> bool {
         && file.sync_all().is_ok()
 }
 
-// Writes the bytes at this offset. The error is the number of bytes written.
-fn send_at(file: &File, at: u64, text: &[u8]) -> Result<(), u64>
+// Writes the bytes at this offset. Returns how many bytes were written; so does the error.
+fn send_at(file: &File, at: u64, text: &[u8]) -> Result<u64, u64>
+    ensures all { IfOk result (λ count. count ≡ length text.now) }
     ensures short { IfErr result (λ count. count ≤ length text.now) }
 {
     let mut from = file;
@@ -67,12 +71,13 @@ fn send_at(file: &File, at: u64, text: &[u8]) -> Result<(), u64>
     send_all(file, text)
 }
 
-// Writes the bytes. The error is the number of bytes written.
-pub(crate) fn send_all(file: &File, text: &[u8]) -> Result<(), u64>
+// Writes the bytes. Returns how many bytes were written; so does the error.
+pub(crate) fn send_all(file: &File, text: &[u8]) -> Result<u64, u64>
+    ensures all { IfOk result (λ count. count ≡ length text.now) }
     ensures short { IfErr result (λ count. count < length text.now) }
 {
     match send(&mut ToWrite::new(file), text) {
-        Ok(()) => Ok(()),
+        Ok(count) => Ok(count as u64),
         Err(part) => Err(part.count as u64),
     }
 }

@@ -6,6 +6,7 @@ mod clock;
 mod files;
 mod in_place;
 mod leftovers;
+mod list_place;
 mod locked_list;
 mod locking;
 mod names;
@@ -15,8 +16,6 @@ mod streams;
 mod waiting;
 
 pub use clock::{date, moment, present};
-pub use files::{buffered, open, open_authority, open_inputs, open_list, open_or_input};
-pub use locked_list::{Locked, MadeOf, OldList, Target, lock_target, release};
-pub use replacing::{Written, write_list};
+pub use files::{open, open_authority, open_files, open_list, open_or_input};
+pub use list_place::{ListPlace, read_list};
 pub use streams::{NOTHING, Placeholders, open_placeholders};
-pub use waiting::Waiting;

@@ -1,5 +1,9 @@
 //! Where a list is written, locked against other updates of it.
 
+ghost use Rattle.std.specs.Prelude.{◌≡◌, ◌≢◌, IfOk, IsSome, IsTrue, None, true};
+ghost use Rattle.std.specs.Fs.{metadata_len};
+ghost use Rattle.std.specs.IoError.{error_kind};
+
 use crate::leftovers::remove_left;
 use crate::locking::{Lock, is_being_written, lock_beside, lock_from_writers, lock_list, unlock};
 use crate::names::followed;
@@ -31,6 +35,21 @@ pub enum Target {
     Stream(File),
 }
 
+impl Target {
+    // Whether there is an old list.
+    pub(crate) fn is_list(&self) -> bool {
+        matches!(self, Target::List(_))
+    }
+
+    // Whether the old list was changed since it was opened, and no list has replaced it since.
+    pub(crate) fn is_stale(&self) -> bool {
+        match self {
+            Target::List(old) => old.put.is_none() && old.is_changed(),
+            Target::Free(_) | Target::Stream(_) => false,
+        }
+    }
+}
+
 /// A regular file that a list replaces.
 #[derive(Drop)]
 pub struct OldList {
@@ -53,7 +72,9 @@ pub(crate) struct PutList {
 
 impl OldList {
     // A file that no list has replaced.
-    fn new(file: File, found: Metadata, path: String) -> OldList {
+    fn new(file: File, found: Metadata, path: String) -> OldList
+        ensures { result.put ≡ None }
+    {
         let put = None;
         OldList {
             file,
@@ -76,26 +97,32 @@ impl OldList {
         self.is_changed() && !is_being_written(&self.file)
     }
 
-    /// Whether no list has replaced the file yet.
-    pub fn is_read_first(&self) -> bool {
-        self.put.is_none()
-    }
-
     // The file at the path, as far as this update knows.
-    pub(crate) fn at_path(&self) -> &Metadata {
+    pub(crate) fn at_path(&self) -> &Metadata
+        ensures { self.now.put ≡ None → result.now ≡ self.now.found }
+    {
         match &self.put {
             Some(put) => &put.found,
             None => &self.found,
         }
     }
 
-    // Begins to read the file again, which was changed before this list replaced it.
-    pub(crate) fn read_again(&mut self, put: PutList) -> io::Result<()> {
+    // Begins to read the file again, if a list of this update is at its path that replaced it after
+    // it was changed: the list that was put now, if any, otherwise an earlier one. A list that is
+    // made of that one again would have nothing of the change. Returns whether it did.
+    pub(crate) fn follow(&mut self, rt: &HostRuntime, put: Option<PutList>) -> io::Result<bool>
+        ensures same { self.new.file ≡ self.old.file }
+        ensures put { IsSome put → IfOk result (λ is_followed. is_followed ≡ true) }
+    {
+        if put.is_some() {
+            self.put = put;
+        } else if self.put.is_none() || !is_at(rt, &self.path, Some(self.at_path())) {
+            return Ok(false);
+        }
         self.found = self.file.metadata()?;
-        self.put = Some(put);
         let mut file = &self.file;
         file.seek(SeekFrom::Start(0))?;
-        Ok(())
+        Ok(true)
     }
 }
 
@@ -264,7 +291,9 @@ pub(crate) fn is_at(rt: &HostRuntime, path: &str, old: Option<&Metadata>) -> boo
 }
 
 // Whether a file that had these metadata was not written to until it had those.
-pub(crate) fn is_unchanged(now: &Metadata, before: &Metadata) -> bool {
+pub(crate) fn is_unchanged(now: &Metadata, before: &Metadata) -> bool
+    ensures { IsTrue result → metadata_len now.now ≡ metadata_len before.now }
+{
     let moment = (before.mtime(), before.mtime_nsec());
     (now.mtime(), now.mtime_nsec()) == moment && now.size() == before.size()
 }
@@ -275,7 +304,11 @@ pub(crate) fn is_same(left: &Metadata, right: &Metadata) -> bool {
 }
 
 // Why a list could not be opened.
-pub(crate) fn unopened(error: &io::Error) -> Cause {
+pub(crate) fn unopened(error: &io::Error) -> Cause
+    ensures memory { error_kind error.now ≡ ErrorKind.OutOfMemory → result ≡ Cause.NoMemory }
+    ensures other { error_kind error.now ≢ ErrorKind.OutOfMemory
+        → result ≡ Cause.File FileFault.Open }
+{
     if error.kind() == ErrorKind::OutOfMemory {
         Cause::NoMemory
     } else {

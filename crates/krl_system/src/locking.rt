@@ -1,6 +1,7 @@
 //! The lock of an update: a file beside the list that exists while the update is at work.
 
 ghost use Rattle.std.specs.Prelude.{◌≡◌, ◌↔◌, ◌⊎◌, IsTrue};
+ghost use Rattle.std.specs.Fs.{IsFile, file_type};
 
 use crate::locked_list::{is_same, unopened};
 use crate::names::{lock_name, new_name};
@@ -155,7 +156,9 @@ fn ask_other(
 
 // Whether the file may be used as the lock by the user who owns new files beside it. If the folder
 // takes no new file, it is only waited for.
-fn is_acceptable(found: &Metadata, list: Option<&Metadata>, user: Option<u32>) -> bool {
+fn is_acceptable(found: &Metadata, list: Option<&Metadata>, user: Option<u32>) -> bool
+    ensures { IsTrue result → IsFile (file_type found.now) }
+{
     found.is_file()
         && match user {
             Some(user) => is_of_writer(found, list, user),

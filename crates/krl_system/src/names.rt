@@ -1,5 +1,7 @@
 //! The names of the list's file and of the files beside it.
 
+ghost use Rattle.std.specs.Prelude.{◌≤◌, length};
+
 use std::alloc::Global;
 use std::fs;
 use std::io::{self, ErrorKind};
@@ -78,7 +80,9 @@ fn is_number(bytes: &[u8; DIGITS]) -> bool {
 }
 
 // The front of the last component of a path.
-pub(crate) fn front_of(path: &str) -> &str {
+pub(crate) fn front_of(path: &str) -> &str
+    ensures { length result.now ≤ 100 }
+{
     let last = match path.rsplit_once('/') {
         Some((_, last)) => last,
         None => path,

@@ -1,6 +1,8 @@
 //! Replacing a list whole or not at all: its bytes are written to a new file beside it, which is
 //! then renamed.
 
+ghost use Rattle.std.specs.Prelude.{◌≡◌, ℕ, IfOk, Ok, length};
+
 use crate::in_place::{send_all, write_in_place};
 use crate::locked_list::{Locked, OldList, PutList, Target, is_at, is_same, unopened};
 use crate::locking::lock_new;
@@ -19,11 +21,11 @@ const UNWRITTEN: Cause = Cause::Output { count: 0 };
 /// The result of writing a list.
 #[derive(Clone, Copy)]
 pub enum Written {
-    /// All of it is written under its name.
-    Whole,
+    /// All of it is written under its name: so many bytes.
+    Whole(u64),
     /// Its name leads to another file by now, or that file was changed. The list must be made anew.
     Elsewhere,
-    /// All of it is written under its name, but the old list was changed right before that. The
+    /// A list of this update is under its name, but the old list was changed right before that. The
     /// list must be made again, of the old one as it is now.
     Changed,
 }
@@ -31,9 +33,16 @@ pub enum Written {
 // The result of one attempt, with the file that replaced an old list which was changed.
 #[derive(Drop)]
 enum Put {
-    Whole,
+    Whole(u64),
     Elsewhere,
     Over(PutList),
+}
+
+// A new file with all bytes of a list: its metadata, and how many bytes were written.
+#[derive(Drop)]
+struct Finished {
+    found: Metadata,
+    count: u64,
 }
 
 // The name and the path of a list.
@@ -53,17 +62,21 @@ pub fn write_list(
     name: &str,
     locked: &mut Locked,
     text: &[u8],
-) -> Result<Written, Cause> {
-    match put_list(rt, name, locked, text)? {
-        Put::Whole => Ok(Written::Whole),
-        Put::Elsewhere => Ok(Written::Elsewhere),
-        Put::Over(put) => match &mut locked.target {
-            Target::List(old) => match old.read_again(put) {
-                Ok(()) => Ok(Written::Changed),
-                Err(error) => Err(unopened(&error)),
-            },
-            _ => Ok(Written::Elsewhere),
+) -> Result<Written, Cause>
+    ensures all { (count : ℕ) → result ≡ Ok (Written.Whole count) → count ≡ length text.now }
+{
+    let put = match put_list(rt, name, locked, text)? {
+        Put::Whole(count) => return Ok(Written::Whole(count)),
+        Put::Elsewhere => None,
+        Put::Over(put) => Some(put),
+    };
+    match &mut locked.target {
+        Target::List(old) => match old.follow(rt, put) {
+            Ok(true) => Ok(Written::Changed),
+            Ok(false) => Ok(Written::Elsewhere),
+            Err(error) => Err(unopened(&error)),
         },
+        _ => Ok(Written::Elsewhere),
     }
 }
 
@@ -73,73 +86,91 @@ fn put_list<'a>(
     name: &'a str,
     locked: &'a Locked,
     text: &[u8],
-) -> Result<Put, Cause> {
+) -> Result<Put, Cause>
+    ensures all { (count : ℕ) → result ≡ Ok (Put.Whole count) → count ≡ length text.now }
+{
     match &locked.target {
-        Target::List(old) if locked.lock.is_none() => overwrite(rt, name, old, text),
-        Target::List(old) => {
-            let path = old.path.as_str();
-            let old = Some(old);
-            replace(rt, Destination { name, path, old }, text)
+        Target::List(list) => {
+            let path = list.path.as_str();
+            let old = Some(list);
+            let destination = Destination { name, path, old };
+            match &locked.lock {
+                Some(_) => replace(rt, destination, text),
+                None => overwrite(rt, destination, list, text),
+            }
         }
         Target::Free(path) => {
             let path = path.as_str();
-            replace(
-                rt,
-                Destination {
-                    name,
-                    path,
-                    old: None,
-                },
-                text,
-            )
+            let old = None;
+            replace(rt, Destination { name, path, old }, text)
         }
         Target::Stream(file) => match send_all(file, text) {
-            Ok(()) => Ok(Put::Whole),
+            Ok(count) => Ok(Put::Whole(count)),
             Err(count) => Err(Cause::Output { count }),
         },
     }
 }
 
 // Writes the list in place. This counts only if the name still leads to the file afterwards.
-fn overwrite(rt: &HostRuntime, name: &str, old: &OldList, text: &[u8]) -> Result<Put, Cause> {
+fn overwrite(
+    rt: &HostRuntime,
+    destination: Destination<'_>,
+    old: &OldList,
+    text: &[u8],
+) -> Result<Put, Cause>
+    ensures all { (count : ℕ) → result ≡ Ok (Put.Whole count) → count ≡ length text.now }
+{
     if !is_as_opened(rt, old) {
         return Ok(Put::Elsewhere);
     }
     match write_in_place(&old.file, text) {
-        Ok(()) => looked_at(rt, name, &old.found, None),
+        Ok(count) if is_named(rt, destination, &old.found) => Ok(Put::Whole(count)),
+        Ok(_) => Ok(Put::Elsewhere),
         Err(count) => Err(Cause::Output { count }),
     }
 }
 
 // Writes the list to a new file, which replaces the old one.
-fn replace(rt: &HostRuntime, destination: Destination<'_>, text: &[u8]) -> Result<Put, Cause> {
+fn replace(rt: &HostRuntime, destination: Destination<'_>, text: &[u8]) -> Result<Put, Cause>
+    ensures all { (count : ℕ) → result ≡ Ok (Put.Whole count) → count ≡ length text.now }
+{
     let new = match create_beside(rt, destination) {
         Ok(new) => new,
         Err(error) => return Err(unopened(&error)),
     };
-    let named = match finish(&new.file, destination.old, text) {
-        Ok(found) => match give_name(rt, new.path.as_str(), destination) {
+    let fault = match finish(&new.file, destination.old, text) {
+        Ok(finished) => match give_name(rt, new.path.as_str(), destination) {
             Ok(true) => {
+                let Finished { found, count } = finished;
                 let file = new.file;
-                return put_at(rt, destination, PutList { file, found });
+                return Ok(put_at(rt, destination, PutList { file, found }, count));
             }
-            Ok(false) => Ok(Put::Elsewhere),
-            Err(cause) => Err(cause),
+            Ok(false) => None,
+            Err(cause) => Some(cause),
         },
-        Err(cause) => Err(cause),
+        Err(cause) => Some(cause),
     };
     let _ = fs::remove_file(rt, new.path.as_str());
-    named
+    match fault {
+        Some(cause) => Err(cause),
+        None => Ok(Put::Elsewhere),
+    }
 }
 
-// Says how the new list got its name. The old list may have been written in place
+// Says how the new list of so many bytes got its name. The old list may have been written in place
 // right before that, by an update that ended well.
-fn put_at(rt: &HostRuntime, destination: Destination<'_>, put: PutList) -> Result<Put, Cause> {
+fn put_at(rt: &HostRuntime, destination: Destination<'_>, put: PutList, count: u64) -> Put
+    ensures all { (other : ℕ) → result ≡ Put.Whole other → other ≡ count }
+{
     sync_folder(rt, destination.path);
     if destination.old.is_some_and(|old| old.has_new_list()) {
-        return Ok(Put::Over(put));
+        return Put::Over(put);
     }
-    looked_at(rt, destination.name, &put.found, destination.old)
+    if is_named(rt, destination, &put.found) {
+        Put::Whole(count)
+    } else {
+        Put::Elsewhere
+    }
 }
 
 // The new file, until it has the name of the list.
@@ -165,19 +196,27 @@ fn create_beside(rt: &HostRuntime, destination: Destination<'_>) -> io::Result<N
     Err(io::Error::from(ErrorKind::AlreadyExists))
 }
 
-// Writes and syncs a new file before it gets the name of the list, and returns its metadata.
-// Synced, it loses no byte if closing it fails.
-fn finish(file: &File, old: Option<&OldList>, text: &[u8]) -> Result<Metadata, Cause> {
+// Writes and syncs a new file before it gets the name of the list. Synced, it loses no byte if
+// closing it fails.
+fn finish(file: &File, old: Option<&OldList>, text: &[u8]) -> Result<Finished, Cause>
+    ensures all { IfOk result (λ finished. finished.count ≡ length text.now) }
+{
     if let Some(old) = old {
         lock_new(file);
         if keep_rights(file, &old.found).is_err() {
             return Err(UNWRITTEN);
         }
     }
-    if send_all(file, text).is_err() || file.sync_all().is_err() {
+    let Ok(count) = send_all(file, text) else {
+        return Err(UNWRITTEN);
+    };
+    if file.sync_all().is_err() {
         return Err(UNWRITTEN);
     }
-    file.metadata().map_err(|_| UNWRITTEN)
+    match file.metadata() {
+        Ok(found) => Ok(Finished { found, count }),
+        Err(_) => Err(UNWRITTEN),
+    }
 }
 
 // Gives the new file the name of the list. If no file had the name, a link is made, which succeeds
@@ -209,23 +248,25 @@ fn is_as_opened(rt: &HostRuntime, old: &OldList) -> bool {
     !old.is_changed() && is_at(rt, &old.path, Some(old.at_path()))
 }
 
-// Follows the name once more, to the list that was written. If it leads to another file, it was
-// changed meanwhile. If it leads to the old list, which has no name any more, it is a link in
-// `/proc`.
-fn looked_at(
-    rt: &HostRuntime,
-    name: &str,
-    put: &Metadata,
-    old: Option<&OldList>,
-) -> Result<Put, Cause> {
-    match fs::metadata(rt, name) {
-        Ok(found) if is_same(&found, put) => Ok(Put::Whole),
-        Ok(found) if found.nlink() == 0 && old.is_some_and(|old| is_same(&found, &old.found)) => {
-            Ok(Put::Whole)
+// Follows the name once more, and returns whether it leads to the list that was written. If it
+// leads to another file or to none, it was changed meanwhile. If it leads to the old list, which
+// has no name any more, it is a link in `/proc`. Where it cannot be followed for another reason,
+// the path tells: a list that is there is not made again, over itself.
+fn is_named(rt: &HostRuntime, destination: Destination<'_>, put: &Metadata) -> bool {
+    match fs::metadata(rt, destination.name) {
+        Ok(found) => {
+            is_same(&found, put)
+                || found.nlink() == 0
+                    && destination
+                        .old
+                        .is_some_and(|old| is_same(&found, &old.found))
         }
-        Ok(_) => Ok(Put::Elsewhere),
-        Err(error) if error.kind() == ErrorKind::NotFound => Ok(Put::Elsewhere),
-        Err(error) => Err(unopened(&error)),
+        Err(error) => {
+            !matches!(
+                error.kind(),
+                ErrorKind::NotFound | ErrorKind::FilesystemLoop
+            ) && is_at(rt, destination.path, Some(put))
+        }
     }
 }
 

@@ -1,17 +1,26 @@
 //! A program, from its words to its exit status.
 
+ghost use Rattle.std.specs.Prelude.{◌≡◌, ◌≢◌, ℕ, List, map};
+ghost use Rattle.std.specs.IoError.{error_kind};
+ghost use Rattle.program_edge.specs.Ends.{EndsProgram};
+
 use crate::ending::{Lines, refuse, stop};
 use krl_system::{NOTHING, open_placeholders};
 use option_table::CommandFault;
 use run_faults::{Cause, FileFault, RunFault};
+use std::convert::AsStr;
 use std::env;
 use std::io::{self, ErrorKind};
 use std::process::ExitCode;
 
 /// A program: what it does.
 pub trait Program {
+    // what it does by these words, and with which exit status
+    ghost does: { Self → List (List ℕ) → ℕ → Type 0 };
+
     /// Does what the words ask for, the program's name before them. Returns the exit status.
-    fn run(&self, rt: &HostRuntime, words: &[String]) -> u8;
+    fn run(&self, rt: &HostRuntime, words: &[String]) -> u8
+        ensures { does self.now (map ⟦<String as AsStr>⟧.text words.now) result };
 }
 
 /// Runs a program, with the file descriptors of closed standard streams occupied.
@@ -32,7 +41,9 @@ pub fn run<P: Program + Lines>(rt: &HostRuntime, program: &P) -> ExitCode {
 }
 
 // Does what the command line asks for. Returns the exit status.
-fn run_words<P: Program + Lines>(rt: &HostRuntime, program: &P) -> u8 {
+fn run_words<P: Program + Lines>(rt: &HostRuntime, program: &P) -> u8
+    ensures { EndsProgram (P.does program.now) result }
+{
     let words = match env::args(rt) {
         Ok(words) => words,
         Err(error) => return refuse(rt, program, &fault_of_words(&error)),
@@ -44,7 +55,11 @@ fn run_words<P: Program + Lines>(rt: &HostRuntime, program: &P) -> u8 {
 }
 
 // Words that are not text are a misuse. The only other error is a failed allocation.
-fn fault_of_words(error: &io::Error) -> CommandFault {
+fn fault_of_words(error: &io::Error) -> CommandFault
+    ensures memory { error_kind error.now ≡ ErrorKind.OutOfMemory
+        → result ≡ CommandFault.NoMemory }
+    ensures other { error_kind error.now ≢ ErrorKind.OutOfMemory → result ≡ CommandFault.Usage }
+{
     if error.kind() == ErrorKind::OutOfMemory {
         CommandFault::NoMemory
     } else {

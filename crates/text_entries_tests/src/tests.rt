@@ -2,4 +2,5 @@
 
 mod lines;
 mod page;
+mod places;
 mod runs;

@@ -1,5 +1,5 @@
 pub mod Fault
-pub mod Version
 pub mod Making
+pub mod Over
 pub mod Said
 pub mod Words

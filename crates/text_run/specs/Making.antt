@@ -137,17 +137,12 @@ IsWritten view wanted contents (Err fault) =
     ⊎ ((fault ≡ whole_fault wanted.name (Run causes.TextTooLong))
     × ((bytes : List ℕ) → IsKrlText wanted.header contents bytes → limit < length bytes))
 
--- Why no list is made: the first fault of the texts; or an allocation failed, at a text or at the
--- list; or no entry names anything; or the list would be too long to be read.
-pub data IsUnmade (wanted : Wanted) (texts : List Text) (fault : MakeFault) : Type 0 where
-  refused : IsMakeFault (LacksMemoryAt texts) fault.cause (texts_entries texts) fault
-      → IsUnmade wanted texts fault
-  ran_out : (entries : List Entry) → texts_entries texts ≡ Ok entries
-      → fault ≡ whole_fault wanted.name (Run causes.NoMemory) → IsUnmade wanted texts fault
+-- Why texts are refused: the first fault, or an allocation failed at a text; or none has an entry,
+-- and the list with this name may not be empty.
+pub data IsRefused (name : List ℕ) (allow_empty : Bool) (texts : List Text) (fault : MakeFault)
+    : Type 0 where
+  faulty : IsMakeFault (LacksMemoryAt texts) fault.cause (texts_entries texts) fault
+      → IsRefused name allow_empty texts fault
   empty : (entries : List Entry) → texts_entries texts ≡ Ok entries → Means nothing entries
-      → wanted.allow_empty ≡ false → fault ≡ whole_fault wanted.name Empty
-      → IsUnmade wanted texts fault
-  too_long : (entries : List Entry) (contents : Revocations) → texts_entries texts ≡ Ok entries
-      → Means contents entries
-      → ((bytes : List ℕ) → IsKrlText wanted.header contents bytes → limit < length bytes)
-      → fault ≡ whole_fault wanted.name (Run causes.TextTooLong) → IsUnmade wanted texts fault
+      → allow_empty ≡ false → fault ≡ whole_fault name Empty
+      → IsRefused name allow_empty texts fault

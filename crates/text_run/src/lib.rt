@@ -3,16 +3,18 @@
 
 mod adding;
 mod counting;
+mod inputs;
+mod listed;
 mod make_fault;
 mod refusal;
 mod run;
 mod saying;
 mod text;
-mod version;
 
+pub use inputs::Inputs;
+pub use listed::{Facts, Listed, read_texts};
 pub use make_fault::{MakeCause, MakeFault};
 pub use refusal::fault_line;
-pub use run::{Made, Wanted, text_run};
+pub use run::text_run;
 pub use saying::made_line;
 pub use text::Text;
-pub use version::next_version;

@@ -5,7 +5,7 @@ use crate::tests::buffer::Buffer;
 use crate::tests::parts::list_of;
 use byte_streams::{FromRead, ToWrite};
 use key_text::{Hash, LineFault};
-use krl_make::{AuthorityOption, Old, make_run};
+use krl_make::{AuthorityOption, Wanted, make_run};
 use krl_runs::query_run;
 use krl_spec::SpecCause;
 use run_faults::{Cause, FileFault, KeyCause, Named, RunFault, fault_text, load};
@@ -193,13 +193,19 @@ fn a_listing_of_certificates(rt: HostRuntime) {
 
 // Makes a list from an old one and files, under all authorities.
 fn make(alloc: Global, old: &[u8], files: &[Named]) -> Result<Vec<u8>, Cause> {
-    let old = Old {
-        name: "r.krl",
-        list: Some(FromRead::new(old)),
+    let Ok(old) = Vec::from_slice(alloc, old) else {
+        return Err(Cause::NoMemory);
     };
-    let (made, _) = make_run(alloc, old, &AuthorityOption::All, None, files, 0);
-    match made {
-        Ok(text) => Ok(text),
+    let wanted = Wanted {
+        name: "r.krl",
+        update: true,
+        version: None,
+        date: 0,
+        authority: &AuthorityOption::All,
+        files,
+    };
+    match make_run(alloc, &wanted, Some(Bytes::from_vec(old))) {
+        Ok(made) => Ok(made.bytes),
         Err(fault) => Err(fault.cause),
     }
 }

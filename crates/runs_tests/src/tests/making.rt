@@ -1,9 +1,9 @@
 //! Making and updating lists.
 
 use crate::tests::runs::{CLOSED, File, LONG, all_named, holding, joined, named, repeated, same};
-use byte_streams::FromRead;
-use krl_make::{AuthorityOption, Old, make_run};
+use krl_make::{AuthorityOption, Wanted, make_run};
 use run_faults::fault_text;
+use ssh_wire::Bytes;
 use std::alloc::Global;
 use std::process::Abort;
 use test_fixtures::{
@@ -21,17 +21,21 @@ fn made(
     files: &[File],
 ) -> Vec<u8> {
     let files = all_named(rt, alloc, files);
-    let list = match old {
-        Some(bytes) => Some(FromRead::new(bytes)),
+    let old = match old {
+        Some(bytes) => Some(Bytes::from_vec(joined(rt, alloc, &[bytes]))),
         None => None,
     };
-    let old = Old {
+    let wanted = Wanted {
         name: "r.krl",
-        list,
+        update: old.is_some(),
+        version,
+        date: 0,
+        authority,
+        files: files.as_slice(),
     };
-    let (made, _) = make_run(alloc, old, authority, version, files.as_slice(), 0);
+    let made = make_run(alloc, &wanted, old);
     match made {
-        Ok(list) => list,
+        Ok(list) => list.bytes,
         Err(fault) => fault_text(alloc, b"ssh-keygen", &fault).expect(rt, "there is memory"),
     }
 }

@@ -7,12 +7,11 @@ use crate::tests::runs::holding;
 use byte_streams::{FromRead, ToWrite};
 use key_text::Hash;
 use krl_core::Revocations;
-use krl_job::{Job, Mode};
-use krl_make::{AuthorityOption, Old, make_run};
+use krl_make::{AuthorityOption, Wanted, make_run};
 use krl_runs::query_run;
 use krl_spec::{SpecFault, Under, read_spec};
-use krl_system::{MadeOf, Waiting, Written, lock_target, release, write_list};
-use list_making::make_list;
+use krl_system::ListPlace;
+use list_making::{Made, Place, Put, make_at};
 use option_table::CommandFault;
 use program_edge::{Lines, stop};
 use run_faults::{Cause, FileFault, Named, RunFault, fault_text, keys_of};
@@ -46,17 +45,13 @@ fn key_lines<'a>(alloc: Global, file: &'a Named<'a>, text: &mut Vec<u8>) -> Done
     list_run(alloc, ListMode::Keys, Hash::Sha256, file, 0, &mut out)
 }
 
-/// Writes a list under a name, once no other update holds the list that is there.
-fn written(rt: &HostRuntime, name: &str, text: &[u8]) -> Result<Written, Cause> {
-    let mut waiting = Waiting::new("ssh-keygen", name);
-    match lock_target(rt, name, MadeOf::Lines, &mut waiting)? {
-        Some(mut locked) => {
-            let written = write_list(rt, name, &mut locked, text);
-            release(rt, locked);
-            written
-        }
-        None => Ok(Written::Elsewhere),
-    }
+/// Puts a list under a name, once no other update holds the list that is there.
+fn put(rt: &HostRuntime, name: &str, text: &[u8]) -> Result<Put, Cause> {
+    let mut place = ListPlace::new(rt, "ssh-keygen", name);
+    let _ = place.hold(rt.alloc(), false)?;
+    let put = place.put(text);
+    place.release();
+    put
 }
 
 /// A new list that revokes what the lines of files name, under an authority.
@@ -66,12 +61,15 @@ fn new_list<'a>(
     files: &'a [Named<'a>],
     now: u64,
 ) -> Result<Vec<u8>, RunFault<'a>> {
-    let none: Old<'a, FromRead<&'a [u8]>> = Old {
+    let wanted = Wanted {
         name: "revoked.krl",
-        list: None,
+        update: false,
+        version: None,
+        date: now,
+        authority,
+        files,
     };
-    let (made, _) = make_run(alloc, none, authority, None, files, now);
-    made
+    Ok(make_run(alloc, &wanted, None)?.bytes)
 }
 
 /// Asks a list about the keys of files, as `-Q` does, and appends what is printed.
@@ -112,26 +110,25 @@ impl Lines for Idle {
     fn print_refusal(&self, _rt: &HostRuntime, _fault: &CommandFault) {}
 }
 
-/// Makes the list that words ask for, and gives the exit status.
-fn make_by<L: Lines>(rt: &HostRuntime, program: &L, job: &Job) -> u8 {
-    make_list(rt, program, job)
+/// Makes a list over what is under its name, and puts it there.
+fn made_at<'a>(rt: &HostRuntime, wanted: &Wanted<'a>) -> Result<Made<()>, RunFault<'a>> {
+    let mut place = ListPlace::new(rt, "ssh-keygen", wanted.name);
+    let made = make_at(rt.alloc(), wanted, &mut place);
+    place.release();
+    made
 }
 
 #[test]
-fn a_list_without_its_lines_is_not_made(rt: HostRuntime) {
-    let mut files = Vec::new(rt.alloc());
-    files.push("/dev/none").expect(&rt, "there is memory");
-    let job = Job {
-        mode: Mode::Make,
-        file: "/dev/null",
-        hash: Hash::Sha256,
-        dump: false,
+fn a_list_is_made_at_a_device(rt: HostRuntime) {
+    let wanted = Wanted {
+        name: "/dev/null",
         update: false,
-        authority: krl_job::AuthorityOption::All,
         version: None,
-        files,
+        date: 0,
+        authority: &AuthorityOption::All,
+        files: &[],
     };
-    assert!(rt; make_by(&rt, &Idle, &job) == 255);
+    assert!(rt; made_at(&rt, &wanted).is_ok_and(|made| made.bytes.len() == 44));
 }
 
 #[test]
@@ -179,9 +176,9 @@ fn a_key_is_listed(rt: HostRuntime) {
 
 #[test]
 fn a_device_takes_a_list(rt: HostRuntime) {
-    let whole = written(&rt, "/dev/null", b"a list").ok();
-    assert!(rt; matches!(whole, Some(Written::Whole)));
-    let fault = written(&rt, "/dev/full", b"a list").err();
+    let whole = put(&rt, "/dev/null", b"a list").ok();
+    assert!(rt; matches!(whole, Some(Put::Whole(6))));
+    let fault = put(&rt, "/dev/full", b"a list").err();
     assert!(rt; fault == Some(Cause::Output { count: 0 }));
 }
 

@@ -5,13 +5,13 @@ ghost use Rattle.krl_entries.specs.Revocations.{Revocations as RevocationsOf};
 ghost use Rattle.list_text.specs.Text.{text_of};
 ghost use Rattle.text_laws.specs.ReadBack.{IsStored};
 
-use krl_core::{Header, Revocations};
+use krl_core::Revocations;
+use list_making::Maker;
 use span_sets::Held;
-use ssh_wire::Bytes;
 use std::alloc::Global;
 use text_entries::{TextFault, read_text};
 use text_laws::laws::text_reads_back;
-use text_run::{MakeFault, Text, Wanted, text_run};
+use text_run::{Inputs, MakeFault, Text, read_texts};
 
 /// What a text names.
 fn named_by(alloc: Global, text: &[u8]) -> Result<Revocations<Held>, TextFault> {
@@ -20,18 +20,18 @@ fn named_by(alloc: Global, text: &[u8]) -> Result<Revocations<Held>, TextFault> 
     Ok(held)
 }
 
-/// The bytes of a list of version 1 that names what the texts name.
+/// The bytes of a list of version 1 that names what the texts name, and follows no other.
 fn list_of<'a>(alloc: Global, texts: &'a [Text<'a>]) -> Result<Vec<u8>, MakeFault<'a>> {
-    let wanted = Wanted {
+    let inputs = Inputs {
         name: "revoked.krl",
-        header: Header {
-            version: 1,
-            date: 0,
-            comment: Bytes::from_vec(Vec::new(alloc)),
-        },
+        version: None,
+        date: 0,
+        comment: "",
         allow_empty: false,
+        texts,
     };
-    Ok(text_run(alloc, &wanted, texts)?.bytes)
+    let list = read_texts(alloc, &inputs)?;
+    Ok(list.make(alloc, None)?.bytes)
 }
 
 /// What the text of a list names: if it was printed from stored revocations, the same.

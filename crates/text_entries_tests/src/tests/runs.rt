@@ -1,12 +1,12 @@
 //! Lists that are made of texts, and the lines about them.
 
-use krl_core::Header;
+use list_making::Maker;
 use run_faults::{Cause, FileFault};
 use ssh_wire::Bytes;
 use std::alloc::Global;
 use std::process::Abort;
 use test_fixtures::{FIVE, GITHUB_LINE, HEADER, KEY_SECTION, joined};
-use text_run::{MakeFault, Text, Wanted, fault_line, made_line, next_version, text_run};
+use text_run::{Inputs, MakeFault, Text, fault_line, made_line, read_texts};
 
 // A text of these parts, by the name `t`; without parts it cannot be opened.
 fn text(rt: &impl Abort, alloc: Global, parts: Option<&[&[u8]]>) -> Text<'static> {
@@ -17,16 +17,15 @@ fn text(rt: &impl Abort, alloc: Global, parts: Option<&[&[u8]]>) -> Text<'static
     Text { name: "t", content }
 }
 
-// The list `r.krl` of version 1 that is wanted.
-fn wanted(alloc: Global, allow_empty: bool) -> Wanted<'static> {
-    Wanted {
+// The list `r.krl` that is made of these texts.
+fn inputs<'a>(texts: &'a [Text<'a>], allow_empty: bool) -> Inputs<'a> {
+    Inputs {
         name: "r.krl",
-        header: Header {
-            version: 1,
-            date: 0,
-            comment: Bytes::from_vec(Vec::new(alloc)),
-        },
+        version: None,
+        date: 0,
+        comment: "",
         allow_empty,
+        texts,
     }
 }
 
@@ -42,10 +41,12 @@ fn of_two_texts(rt: HostRuntime) {
         text(&rt, alloc, Some(&[b"ca: all\nserial: 5\n"])),
         text(&rt, alloc, Some(&[b"key: ", GITHUB_LINE])),
     ];
-    let made = text_run(alloc, &wanted(alloc, false), &texts).expect(&rt, "the texts are right");
-    let list = joined(alloc, &[&HEADER, FIVE, KEY_SECTION]).expect(&rt, "there is memory");
-    assert!(rt; made.bytes == list);
-    let line = made_line(alloc, "r.krl", 1, &made.revocations).expect(&rt, "there is memory");
+    let inputs = inputs(&texts, false);
+    let list = read_texts(alloc, &inputs).expect(&rt, "the texts are right");
+    let made = list.make(alloc, None).expect(&rt, "there is memory");
+    let bytes = joined(alloc, &[&HEADER, FIVE, KEY_SECTION]).expect(&rt, "there is memory");
+    assert!(rt; made.bytes == bytes);
+    let line = made_line(alloc, "r.krl", 1, &list.revocations).expect(&rt, "there is memory");
     let text: &[u8] = b"krl make: r.krl: version 1: 1 CA, 1 serial number, 1 key\n";
     assert!(rt; line.as_slice() == text);
 }
@@ -86,7 +87,8 @@ fn faults(rt: HostRuntime) {
                 .push(text(&rt, alloc, *part))
                 .expect(&rt, "there is memory");
         }
-        let fault = text_run(alloc, &wanted(alloc, false), texts.as_slice())
+        let inputs = inputs(texts.as_slice(), false);
+        let fault = read_texts(alloc, &inputs)
             .err()
             .expect(&rt, "there is a fault");
         assert!(rt; said(&rt, alloc, &fault).as_slice() == *line, "in row {i}");
@@ -143,8 +145,11 @@ const KEYLESS: [&[u8]; 4] = [b"ca: ids: 5", b"ca: key", b"key:", b"ssh-ed25519"]
 // The line about the fault of one text.
 fn said_of(rt: &impl Abort, alloc: Global, bytes: &[u8]) -> Vec<u8> {
     let texts = [text(rt, alloc, Some(&[bytes]))];
-    let made = text_run(alloc, &wanted(alloc, false), &texts);
-    said(rt, alloc, &made.err().expect(rt, "there is a fault"))
+    let inputs = inputs(&texts, false);
+    let fault = read_texts(alloc, &inputs)
+        .err()
+        .expect(rt, "there is a fault");
+    said(rt, alloc, &fault)
 }
 
 #[test]
@@ -190,16 +195,10 @@ fn lines_without_a_key(rt: HostRuntime) {
 #[test]
 fn an_empty_list(rt: HostRuntime) {
     let alloc = rt.alloc();
-    let made = text_run(alloc, &wanted(alloc, true), &[]).expect(&rt, "it may be empty");
+    let inputs = inputs(&[], true);
+    let list = read_texts(alloc, &inputs).expect(&rt, "it may be empty");
+    let made = list.make(alloc, None).expect(&rt, "there is memory");
     assert!(rt; made.bytes.as_slice() == HEADER.as_slice());
-    let line = made_line(alloc, "r.krl", 1, &made.revocations).expect(&rt, "there is memory");
+    let line = made_line(alloc, "r.krl", 1, &list.revocations).expect(&rt, "there is memory");
     assert!(rt; line.as_slice() == b"krl make: r.krl: version 1: nothing\n".as_slice());
-}
-
-#[test]
-fn versions(rt: HostRuntime) {
-    assert!(rt; next_version(None, None) == Some(1));
-    assert!(rt; next_version(None, Some(7)) == Some(8));
-    assert!(rt; next_version(Some(3), Some(7)) == Some(3));
-    assert!(rt; next_version(None, Some(18_446_744_073_709_551_615)).is_none());
 }

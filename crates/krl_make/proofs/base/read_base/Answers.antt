@@ -1,24 +1,24 @@
 -- The old list is read, or its fault reported.
-use Rattle.std.proofs.Common.{Ok, Err, refl, ap, ◌∙◌}
+use Rattle.std.proofs.Common.{◌∙◌, ℕ, List, None, Some, Ok, Err, ap, inr}
+use Rattle.run_faults.specs.declared.cause.Cause.{Cause}
 use Rattle.run_faults.specs.RunFault.{run_fault_of}
 use Rattle.krl_make.proofs.MadeLists.{old_read}
+use Rattle.krl_make.proofs.OverLists.{read_over}
 use Rattle.krl_make.proofs.base.read_base.Goals as goal
 
-pub returns-in-Ok : goal.returns-in-Ok
-returns-in-Ok g c =
-    let read = rw c.in-Ok.is at c.read_krl-read.ensures in (
-      Ok c.base_of.result,
-      rw (c.in-Some.is, c.base_of.ensures) (record {
-        failure = read.failure;
-        read = λ text e. old_read text _ _ (read.found text e) (read.no_fault text e);
-      }),
-      refl,
-    )
+pub returns-in-Ok-clause-read : goal.returns-in-Ok-clause-read
+returns-in-Ok-clause-read c =
+    let read = rw c.in-Ok.is at c.read_krl-read.ensures in
+    let has = c.new.ensures.bytes ∙ ap (λ (text : List ℕ). Some text) c.as_slice.ensures in
+    read_over _ _ c.in-Some.bytes (Ok c.base_of.result) None c.if-not-wanted.false c.in-Some.is
+    (rw c.base_of.ensures (old_read c.in-Some.bytes _ _ (read.found c.in-Some.bytes has) (read.no_fault c.in-Some.bytes has)))
 
-pub returns-in-Err : goal.returns-in-Err
-returns-in-Err g c =
-    let read = rw c.in-Err.is at c.read_krl-read.ensures in (
-      Err c.in-Err.fault,
-      rw c.in-Some.is (record { failure = read.failure; read = read.fault }),
-      (c.in-Err.fault, (refl, c.whole.ensures ∙ ap (run_fault_of c.args.name.now) c.cause_of.ensures)),
+pub returns-clause-refused : goal.returns-clause-refused
+returns-clause-refused c =
+    let read = rw c.in-Err.is at c.read_krl-read.ensures in
+    let has = c.new.ensures.bytes ∙ ap (λ (text : List ℕ). Some text) c.as_slice.ensures in
+    inr (
+      c.in-Err.fault,
+      read_over _ _ c.in-Some.bytes (Err c.in-Err.fault) _ c.if-not-wanted.false c.in-Some.is (read.fault c.in-Some.bytes has),
+      c.whole-in-Err.ensures ∙ ap (λ (cause : Cause). run_fault_of c.args.wanted.now.name.now cause) c.cause_of.ensures,
     )

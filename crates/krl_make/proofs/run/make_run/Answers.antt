@@ -1,16 +1,18 @@
 -- The old list is read, and the run continues or stops there.
-use Rattle.std.proofs.Common.{inl}
+use Rattle.std.proofs.Common.{Ok, inr}
 use Rattle.krl_make.specs.Making.{make_run_of}
-use Rattle.krl_make.proofs.MadeLists.{base_refused}
+use Rattle.krl_make.proofs.OverLists.{unread_refused}
 use Rattle.krl_make.proofs.run.make_run.Goals as goal
 
-pub returns-in-Err : goal.returns-in-Err
-returns-in-Err g c =
-    let read = rw c.in-Err.is at c.read_base-read.ensures in
-    (read.0, read.1, rw (read.2.1.0, read.2.1.1) (inl (base_refused _ _ _ _ _ read.2.0)))
+pub returns-in-Err-clause-refused : goal.returns-in-Err-clause-refused
+returns-in-Err-clause-refused c = unread_refused c.args.wanted.now c.args.old c.in-Err.stop c.in-Err.ensures.refused
 
-pub returns : goal.returns
+pub returns-in-Ok-make_over-clause-made : goal.returns-in-Ok-make_over-clause-made
 unfolding make_run_of
-returns g c =
-    let read = rw c.in-Ok.is at c.read_base-read.ensures in
-    (read.0, read.1, rw read.2 c.make_over-made.ensures)
+returns-in-Ok-make_over-clause-made c =
+    record { outcome = Ok c.in-Ok.base; over = c.in-Ok.ensures.read; makes = c.in-Ok-make_over.ensures }
+
+pub returns-in-Err-make_over-clause-refused : goal.returns-in-Err-make_over-clause-refused
+unfolding make_run_of
+returns-in-Err-make_over-clause-refused c =
+    inr (record { outcome = Ok c.in-Ok.base; over = c.in-Ok.ensures.read; makes = c.in-Err-make_over.ensures })

@@ -3,7 +3,7 @@ use Rattle.std.proofs.Common.{inl, inr}
 use Rattle.std.proofs.lemmas.Result.{err_from_is_err_and}
 use Rattle.krl_make.proofs.MadeLists.{made_written}
 use Rattle.krl_make.specs.Making.{made_of}
-use Rattle.krl_make.proofs.run.NewList.add_and_write.Goals as goal
+use Rattle.krl_make.proofs.run.Wanted.add_and_write.Goals as goal
 
 pub returns-in_err-add_files : goal.returns-in_err-add_files
 returns-in_err-add_files c =

@@ -1,0 +1,24 @@
+-- Nothing is claimed about what is under the name.
+use Rattle.std.proofs.Common.{inl}
+use Rattle.krl_system.proofs.list_place.ListPlacePlace.hold.Goals as goal
+
+pub returns-in_err-old-clause-kept : goal.returns-in_err-old-clause-kept
+returns-in_err-old-clause-kept c = record { still = inl (λ content held. tt); later = λ was. tt }
+
+pub returns-in_err-self-clause-kept : goal.returns-in_err-self-clause-kept
+returns-in_err-self-clause-kept c = record { still = inl (λ content held. tt); later = λ was. tt }
+
+pub returns-in-Some-clause-kept : goal.returns-in-Some-clause-kept
+returns-in-Some-clause-kept c = record { still = inl (λ content held. tt); later = λ was. tt }
+
+pub returns-in_err-lock-clause-kept : goal.returns-in_err-lock-clause-kept
+returns-in_err-lock-clause-kept c = record { still = inl (λ content held. tt); later = λ was. tt }
+
+pub returns-in_err-old-2-clause-kept : goal.returns-in_err-old-2-clause-kept
+returns-in_err-old-2-clause-kept c = record { still = inl (λ content held. tt); later = λ was. tt }
+
+pub returns-then-not-is_read-clause-kept : goal.returns-then-not-is_read-clause-kept
+returns-then-not-is_read-clause-kept c = record { still = inl (λ content held. tt); later = λ was. tt }
+
+pub returns-clause-kept : goal.returns-clause-kept
+returns-clause-kept c = record { still = inl (λ content held. tt); later = λ was. tt }

@@ -1,0 +1,3 @@
+pub mod Version
+pub mod Place
+pub mod Making
