@@ -4,3 +4,4 @@ pub mod Formats
 pub mod Judging
 pub mod Ending
 pub mod Losing
+pub mod Passing

@@ -5,6 +5,7 @@ mod checking;
 mod conditions;
 mod files;
 mod host;
+pub mod laws;
 mod limits;
 mod lists;
 mod run;
