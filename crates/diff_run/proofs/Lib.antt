@@ -1,1 +1,2 @@
 pub mod OneDifference
+pub mod SameLists

@@ -1,11 +1,27 @@
 //! Laws of comparisons. Each function does nothing: its contract is the law.
 
-ghost use Rattle.std.specs.Prelude.{◌≡◌, ℕ, List};
+ghost use Rattle.std.specs.Prelude.{◌≡◌, ◌↔◌, ℕ, Bool, List, Option};
+ghost use Rattle.run_faults.specs.RunFault.{RunFault as RunFaultOf};
+ghost use Rattle.krl_types.specs.Entry.{Entry};
+ghost use Rattle.krl_types.specs.Subject.{Subject};
+ghost use Rattle.krl_entries.specs.Revoked.{Revoked};
+ghost use Rattle.show_run.specs.declared.lists.Given.{Given as GivenOf};
 ghost use Rattle.diff_run.specs.Changes.{HasChanges};
+ghost use Rattle.diff_run.specs.Run.{EndsCompared};
 ghost use Rattle.diff_run.specs.declared.changes.Changes.{Changes as ChangesOf};
 
 /// The bytes of two lists decide what is printed of their comparison.
 pub fn bytes_decide_the_changes()
     ensures { (old new : List ℕ) (one other : ChangesOf) → HasChanges old new one
         → HasChanges old new other → one ≡ other }
+{}
+
+/// Where the status of a comparison is 0, both lists revoke the same: no key and no certificate is
+/// judged otherwise by the one than by the other.
+pub fn no_change_revokes_the_same()
+    ensures { (json : Bool) (old new : GivenOf) (olds news : List Entry)
+        (before after : Option (List ℕ)) (failed : Bool) (status : ℕ)
+        (fault : Option RunFaultOf)
+        → EndsCompared json old new olds news before after failed status fault → status ≡ 0
+        → (subject : Subject) → (Revoked olds subject ↔ Revoked news subject) }
 {}
