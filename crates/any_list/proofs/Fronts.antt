@@ -70,7 +70,8 @@ lines_as text other (faults.Line number cause) long also has = absurd (omega (ar
 lines_as text other faults.NoMemory long also has = absurd (omega (arith, long, has))
 
 fault_as : (begins : Bool) (name text other : List ℕ) (stop : RunFault) → take limit text ≡ take limit other → nat_lt limit (length text) ≡ nat_lt limit (length other) → limit < length text → limit < length other → IsFaultIf begins name text stop → IsFaultIf begins name other stop
-fault_as true name text other stop same more long also (whole_ran_out is) = whole_ran_out is
+fault_as true name text other stop same more long also (whole_ran_out lacks is) =
+    whole_ran_out (record { fields = lacks.fields; state = lacks.state; rest = lacks.rest; front = front_as text other lacks.fields lacks.state lacks.rest same lacks.front; needs = lacks.needs }) is
 fault_as true name text other stop same more long also (whole_fault fault first is) = whole_fault fault (first_as text other (Some fault) same more first) is
 fault_as false name text other stop same more long also refused = record { fault = refused.fault; has = lines_as text other refused.fault long also refused.has; stop_is = refused.stop_is }
 

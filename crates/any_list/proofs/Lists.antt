@@ -37,6 +37,6 @@ named_whole bytes header held list none = record {
 
 -- Borrowed bytes do not fail.
 pub whole_refused : (name bytes : List ℕ) (fault : KrlFault) (left : Option (List ℕ)) → Says fault bytes false left → IsWholeFault name bytes (run_fault_of name (krl_cause fault))
-whole_refused name bytes fault left (ran_out is fixed works) = whole_ran_out (ap (λ (f : KrlFault). run_fault_of name (krl_cause f)) is)
+whole_refused name bytes fault left (ran_out is lacks works) = whole_ran_out lacks (ap (λ (f : KrlFault). run_fault_of name (krl_cause f)) is)
 whole_refused name bytes fault left (failed_read is fails) = let failed = fails.failed_is in absurd (cc)
 whole_refused name bytes fault left (first is works) = whole_fault fault is refl

@@ -5,6 +5,7 @@ use Rattle.krl_types.specs.Entry.{Entry}
 use Rattle.krl_types.specs.declared.krl_fault.KrlFault.{KrlFault}
 use Rattle.krl_types.specs.declared.krl_fault.KrlFault.TheVariants as krl_faults
 use Rattle.krl_format.specs.Front.{IsFirstKrlFault}
+use Rattle.krl_format.specs.Memory.{MayLackMemory}
 use Rattle.krl_format.specs.declared.header.Header.{Header}
 use Rattle.krl_entries.specs.Revocations.{Means}
 use Rattle.plain_list.specs.Any.{Names, NamesLines, NamesWhole, begins_list}
@@ -50,9 +51,11 @@ IsReadList hashed bytes = IsReadAs (Names bytes) hashed bytes
 
 -- ---- a list that is refused
 
--- An allocation failed, or it is the first fault of a key revocation list.
+-- An allocation failed where memory may be needed, or it is the first fault of a key revocation
+-- list.
 pub data IsWholeFault (name bytes : List ℕ) (stop : RunFault) : Type 0 where
-  whole_ran_out : stop ≡ run_fault_of name causes.NoMemory → IsWholeFault name bytes stop
+  whole_ran_out : MayLackMemory bytes → stop ≡ run_fault_of name causes.NoMemory
+      → IsWholeFault name bytes stop
   whole_fault : (fault : KrlFault) → IsFirstKrlFault bytes (Some fault)
       → stop ≡ run_fault_of name (krl_cause fault) → IsWholeFault name bytes stop
 
