@@ -1,16 +1,15 @@
 -- The meaning of the answers, by the list that was read and the query.
-use Rattle.krl_c.proofs.Common.{◌∙◌, ◌≡◌, ◌⊎◌, answered, Answers, AnswersBlob, AnswersBy}
+use Rattle.krl_c.proofs.Common.{◌∙◌, ◌≡◌, answered, Answers, AnswersBlob, AnswersBy}
 use Rattle.krl_c.proofs.Common.{AnswersLine, AnswersOfLine, arith, entries_of, Entry, false}
 use Rattle.krl_c.proofs.Common.{HasOtherAuthority, inl, inr, IsCompared, IsListOf, IsRefusal}
 use Rattle.krl_c.proofs.Common.{IsReportedFault, line_number, line_ran_out, LineFault, List}
 use Rattle.krl_c.proofs.Common.{list_ran_out, no_blob, no_line, no_list, of_key, of_z, Option}
-use Rattle.krl_c.proofs.Common.{other_authority, ran_out, refl, refusal_number, SFits, Some}
+use Rattle.krl_c.proofs.Common.{other_authority, ran_out, refl, refusal_number, SFits}
 use Rattle.krl_c.proofs.Common.{subject_number, SubjectFault, to_z, to_z-of_z, w32, ℕ, ℤ}
-use Rattle.key_text.specs.KeyLine.{IsKeyLine}
+use Rattle.key_text.specs.KeyLine.{base64, IsKeyLine}
 use Rattle.krl_types.specs.declared.krl_fault.KrlFault.{KrlFault}
 use Rattle.krl_format.specs.declared.header.Header.{Header}
 use Rattle.krl_entries.specs.Revocations.{Revocations}
-use Rattle.krl_format.specs.Front.{IsFirstKrlFault}
 use Rattle.krl_core.specs.Reading.{IsListAs}
 use Rattle.krl_format.specs.Faults.{failed_read, first}
 use Rattle.krl_openssh.specs.Authority.{AuthoritiesAreKeys}
@@ -18,7 +17,6 @@ use Rattle.krl_c.specs.declared.refusal.Refusal.{Refusal}
 use Rattle.ssh_cert.specs.declared.subject_fault.SubjectFault.TheVariants as subjects
 use Rattle.key_text.specs.LineFaults.{IsReportedFault as IsReportedLineFault}
 use Rattle.key_text.specs.declared.line_fault.LineFault.TheVariants as lines
-use Rattle.krl_types.specs.declared.krl_fault.KrlFault.TheVariants as lists
 use Rattle.krl_format.specs.Faults.{Says as ListSays}
 use Rattle.krl_format.specs.Faults.{ran_out as runs_out}
 use Rattle.krl_c.specs.declared.refusal.Refusal.TheVariants as refusals
@@ -32,7 +30,7 @@ pub refused : (entries : List Entry) (blob : List ℕ) (fault : SubjectFault) (n
     → IsReportedFault blob fault → number ≡ subject_number fault → AnswersBlob entries blob number
 refused entries blob (subjects.Key why) number reported e = no_blob (subjects.Key why) reported e
 refused entries blob (subjects.Cert why) number reported e = no_blob (subjects.Cert why) reported e
-refused entries blob subjects.NoMemory number reported e = ran_out e
+refused entries blob subjects.NoMemory number reported e = ran_out reported e
 
 -- the number of a line's fault is returned
 pub line_refused : (entries : List Entry) (text : List ℕ) (fault : LineFault) (number : ℤ)
@@ -40,7 +38,7 @@ pub line_refused : (entries : List Entry) (text : List ℕ) (fault : LineFault) 
 line_refused entries text lines.NoKey number reported e = no_line lines.NoKey reported e
 line_refused entries text lines.Base64 number reported e = no_line lines.Base64 reported e
 line_refused entries text lines.WordDiffers number reported e = no_line lines.WordDiffers reported e
-line_refused entries text lines.NoMemory number reported e = line_ran_out e
+line_refused entries text lines.NoMemory number reported e = line_ran_out reported e
 
 -- the list that was read has the entries of its sections
 pub of_list : {Holds : List ℕ → Revocations → List Entry → Type 0} (text : List ℕ) (header : Header) (contents : Revocations)
@@ -54,19 +52,19 @@ of_list text header contents list = record {
 }
 
 -- a list's fault is its first one, unless an allocation failed, if its reader did not fail
-pub first_of : (text : List ℕ) (fault : KrlFault) (left : Option (List ℕ))
-    → ListSays fault text false left
-    → (fault ≡ lists.NoMemory) ⊎ IsFirstKrlFault text (Some fault)
-first_of text fault left (runs_out is size works) = inl is
+pub first_of : {IsAsked : Type 0} (text : List ℕ) (fault : KrlFault) (left : Option (List ℕ))
+    → ListSays fault text false left → IsRefusal IsAsked text (refusals.Fault fault)
+first_of text fault left (runs_out is lacks works) = inl (is, inr lacks)
 first_of text fault left (failed_read is after) = let wrong : ⊥ = grind (arith, after.failed_is) in absurd wrong
 first_of text fault left (first is works) = inr is
 
 -- a list that gives no answer has the number of the reason
-pub list_refused : {Told : List Entry → ℤ → Type 0} (text : List ℕ) (refusal : Refusal) (number : ℤ) → IsRefusal text refusal
-    → number ≡ refusal_number refusal → AnswersBy Told text number
-list_refused text (refusals.Fault fault) number (inl is) e = list_ran_out (e ∙ (rw is refl))
-list_refused text (refusals.Fault fault) number (inr is) e = no_list fault is e
-list_refused text refusals.Authority number odd e = other_authority odd e
+pub list_refused : {IsAsked Also : Type 0} {Told : List Entry → ℤ → Type 0} (text : List ℕ) (refusal : Refusal) (number : ℤ) → (IsAsked → Also) → IsRefusal IsAsked text refusal
+    → number ≡ refusal_number refusal → AnswersBy Also Told text number
+list_refused text (refusals.Fault fault) number also (inl (is, inl asked)) e = list_ran_out (inl (also asked)) (e ∙ (rw is refl))
+list_refused text (refusals.Fault fault) number also (inl (is, inr lacks)) e = list_ran_out (inr lacks) (e ∙ (rw is refl))
+list_refused text (refusals.Fault fault) number also (inr is) e = no_list fault is e
+list_refused text refusals.Authority number also odd e = other_authority odd e
 
 -- by the spelling of its authorities
 pub compared : (text : List ℕ) (entries : List Entry) (is : IsListOf text entries) → AuthoritiesAreKeys is.sections → IsCompared text entries
@@ -81,4 +79,5 @@ pub of_its_blob : (list text word blob comment : List ℕ) (number : ℤ) → Is
 of_its_blob list text word blob comment number line (answered entries is says) = answered entries is (of_key word blob comment line says)
 of_its_blob list text word blob comment number line (other_authority odd is) = other_authority odd is
 of_its_blob list text word blob comment number line (no_list fault is_first is) = no_list fault is_first is
-of_its_blob list text word blob comment number line (list_ran_out is) = list_ran_out is
+of_its_blob list text word blob comment number line (list_ran_out (inl asked) is) = list_ran_out (inl (record { word = word; encoded = base64 blob; comment = comment; words = line.words })) is
+of_its_blob list text word blob comment number line (list_ran_out (inr lacks) is) = list_ran_out (inr lacks) is

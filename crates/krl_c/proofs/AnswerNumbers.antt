@@ -57,8 +57,8 @@ of_list : (fault : KrlFault) → NotRead fault → IsAnswer (list_number fault)
 of_list lists.Read is = absurd is
 of_list _ is = below _ refl
 
-of_refusal : (list : List ℕ) (refusal : Refusal) → IsRefusal list refusal → IsAnswer (refusal_number refusal)
-of_refusal list (refusals.Fault fault) (inl is) = subst (λ (f : KrlFault). IsAnswer (list_number f)) (sym is) (below 0 refl)
+of_refusal : (list : List ℕ) (refusal : Refusal) → IsRefusal ⊥ list refusal → IsAnswer (refusal_number refusal)
+of_refusal list (refusals.Fault fault) (inl (is, why)) = subst (λ (f : KrlFault). IsAnswer (list_number f)) (sym is) (below 0 refl)
 of_refusal list (refusals.Fault fault) (inr first) = of_list fault (not_read list fault first)
 of_refusal list refusals.Authority other = below 115 refl
 
@@ -112,23 +112,23 @@ says entries asked answer (spares not is) = from (pos 0) answer is (not_below 0)
 pub for_blob : (entries : List Entry) (blob : List ℕ) (answer : ℤ) → AnswersBlob entries blob answer → IsAnswer answer
 for_blob entries blob answer (said asked subject is) = says entries asked answer is
 for_blob entries blob answer (no_blob fault first is) = from (subject_number fault) answer is (of_subject blob fault first)
-for_blob entries blob answer (ran_out is) = from no_memory answer is (below 0 refl)
+for_blob entries blob answer (ran_out asked is) = from no_memory answer is (below 0 refl)
 
 pub for_line : (entries : List Entry) (text : List ℕ) (answer : ℤ) → AnswersLine entries text answer → IsAnswer answer
 for_line entries text answer (of_key_line word blob comment line is) = for_blob entries blob answer is
 for_line entries text answer (no_line fault first is) = from (line_number fault) answer is (of_line fault)
-for_line entries text answer (line_ran_out is) = from no_memory answer is (below 0 refl)
+for_line entries text answer (line_ran_out words is) = from no_memory answer is (below 0 refl)
 
 for_reasons : (entries : List Entry) (blob : List ℕ) (answer : ℤ) → ExplainsBlob entries blob answer → IsAnswer answer
 for_reasons entries blob answer (explained asked bits subject has is) = from (pos bits) answer is (not_below bits)
 for_reasons entries blob answer (unexplained_blob fault first is) = from (subject_number fault) answer is (of_subject blob fault first)
-for_reasons entries blob answer (why_ran_out is) = from no_memory answer is (below 0 refl)
+for_reasons entries blob answer (why_ran_out asked is) = from no_memory answer is (below 0 refl)
 
-by_list : {Told : List Entry → ℤ → Type 0} (list : List ℕ) (answer : ℤ) → ((entries : List Entry) → Told entries answer → IsAnswer answer) → AnswersBy Told list answer → IsAnswer answer
+by_list : {IsAsked : Type 0} {Told : List Entry → ℤ → Type 0} (list : List ℕ) (answer : ℤ) → ((entries : List Entry) → Told entries answer → IsAnswer answer) → AnswersBy IsAsked Told list answer → IsAnswer answer
 by_list list answer each (answered entries compared is) = each entries is
 by_list list answer each (other_authority odd is) = from authority_number answer is (below 115 refl)
 by_list list answer each (no_list fault first is) = from (list_number fault) answer is (of_list fault (not_read list fault first))
-by_list list answer each (list_ran_out is) = from no_memory answer is (below 0 refl)
+by_list list answer each (list_ran_out why is) = from no_memory answer is (below 0 refl)
 
 pub of_check : (list blob : List ℕ) (answer : ℤ) → Answers list blob answer → IsAnswer answer
 of_check list blob answer is = by_list list answer (λ entries. for_blob entries blob answer) is

@@ -39,8 +39,8 @@ blob_once blob read of_subject of_fault entries one other (no_blob fault first e
     let right = of_fault fault' first' in
     let same : fault ≡ fault' = cc in
     numbers_same subject_number one other fault fault' same e f
-blob_once blob read of_subject of_fault entries one other (ran_out e) tells = inr (inl e)
-blob_once blob read of_subject of_fault entries one other says (ran_out f) = inr (inr f)
+blob_once blob read of_subject of_fault entries one other (ran_out asked e) tells = inr (inl e)
+blob_once blob read of_subject of_fault entries one other says (ran_out asked f) = inr (inr f)
 
 -- for a line, by a reading of it
 pub line_once : (text : List ℕ) (read : Result KeyLine LineFault) → ((word blob comment : List ℕ) → IsKeyLine text word blob comment → read ≡ Ok (content word blob comment))
@@ -61,14 +61,14 @@ line_once text read of_line of_fault entries once one other (no_line fault first
     let right = of_fault fault' first' in
     let same : fault ≡ fault' = cc in
     numbers_same line_number one other fault fault' same e f
-line_once text read of_line of_fault entries once one other (line_ran_out e) tells = inr (inl e)
-line_once text read of_line of_fault entries once one other says (line_ran_out f) = inr (inr f)
+line_once text read of_line of_fault entries once one other (line_ran_out words e) tells = inr (inl e)
+line_once text read of_line of_fault entries once one other says (line_ran_out words f) = inr (inr f)
 
 -- ---- for a list
 
-pub list_once : {Told : List Entry → ℤ → Type 0} (list : List ℕ) → HasOne list → ((entries : List Entry) (one other : ℤ) → Told entries one → Told entries other → Once one other)
-    → (one other : ℤ) → AnswersBy Told list one → AnswersBy Told list other → Once one other
-list_once {Told} list has once one other (answered these is says) (answered others also tells) =
+pub list_once : {IsAsked : Type 0} {Told : List Entry → ℤ → Type 0} (list : List ℕ) → HasOne list → ((entries : List Entry) (one other : ℤ) → Told entries one → Told entries other → Once one other)
+    → (one other : ℤ) → AnswersBy IsAsked Told list one → AnswersBy IsAsked Told list other → Once one other
+list_once {Told = Told} list has once one other (answered these is says) (answered others also tells) =
     once these one other says (subst (λ (es : List Entry). Told es other) (sym (has.entries these others is.is also.is)) tells)
 list_once list has once one other (answered these is says) (other_authority odd e) = absurd (odd.other (has.keys these odd.entries is.is odd.is is.keys))
 list_once list has once one other (answered these is says) (no_list fault first e) = absurd (has.none these fault is.is first)
@@ -78,5 +78,5 @@ list_once list has once one other (other_authority odd e) (no_list fault first f
 list_once list has once one other (no_list fault first e) (answered these is says) = absurd (has.none these fault is.is first)
 list_once list has once one other (no_list fault first e) (other_authority odd f) = absurd (has.none odd.entries fault odd.is first)
 list_once list has once one other (no_list fault first e) (no_list fault' first' f) = numbers_same list_number one other fault fault' (has.fault fault fault' first first') e f
-list_once list has once one other (list_ran_out e) tells = inr (inl e)
-list_once list has once one other says (list_ran_out f) = inr (inr f)
+list_once list has once one other (list_ran_out why e) tells = inr (inl e)
+list_once list has once one other says (list_ran_out why f) = inr (inr f)

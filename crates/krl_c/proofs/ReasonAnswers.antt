@@ -96,13 +96,13 @@ for_blob : ForAReason → (entries : List Entry) (blob : List ℕ) (number : ℤ
 for_blob for entries blob number (explained asked bits subject has is) =
     said asked subject (subst (λ (n : ℤ). Says entries asked (answer_of n)) (sym is) (says for entries asked bits has))
 for_blob for entries blob number (unexplained_blob fault first is) = no_blob fault first (ap answer_of is ∙ subject_same fault)
-for_blob for entries blob number (why_ran_out is) = ran_out (ap answer_of is)
+for_blob for entries blob number (why_ran_out asked is) = ran_out asked (ap answer_of is)
 
 pub answers : ForAReason → (list blob : List ℕ) (number : ℤ) → Explains list blob number → Answers list blob (answer_of number)
 answers for list blob number (answered entries compared is) = answered entries compared (for_blob for entries blob number is)
 answers for list blob number (other_authority odd is) = other_authority odd (ap answer_of is)
 answers for list blob number (no_list fault first is) = no_list fault first (ap answer_of is ∙ list_same fault)
-answers for list blob number (list_ran_out is) = list_ran_out (ap answer_of is)
+answers for list blob number (list_ran_out why is) = list_ran_out why (ap answer_of is)
 
 -- ---- one answer
 

@@ -22,4 +22,4 @@ has_reasons entries asked all few are = record {
 pub unexplained : (entries : List Entry) (blob : List ℕ) (fault : SubjectFault) (number : ℤ) → IsReportedFault blob fault → number ≡ subject_number fault → ExplainsBlob entries blob number
 unexplained entries blob (subjects.Key why) number reported e = no_blob (subjects.Key why) reported e
 unexplained entries blob (subjects.Cert why) number reported e = no_blob (subjects.Cert why) reported e
-unexplained entries blob subjects.NoMemory number reported e = ran_out e
+unexplained entries blob subjects.NoMemory number reported e = ran_out reported e

@@ -2,13 +2,14 @@
 use Rattle.std.specs.Prelude.{◌≡◌, ◌⊎◌, ℕ, ℤ, List, Some}
 use Rattle.krl_types.specs.Subject.{Subject}
 use Rattle.key_text.specs.KeyLine.{IsKeyLine}
-use Rattle.key_text.specs.LineFaults.{IsFirstLineFault}
+use Rattle.key_text.specs.LineFaults.{HasSomeWords, IsFirstLineFault}
 use Rattle.key_text.specs.declared.line_fault.LineFault.{LineFault}
-use Rattle.ssh_cert.specs.SubjectReading.{IsSubject, IsSubjectFault}
+use Rattle.ssh_cert.specs.SubjectReading.{HasSubject, IsSubject, IsSubjectFault}
 use Rattle.ssh_cert.specs.declared.subject_fault.SubjectFault.{SubjectFault}
 use Rattle.krl_types.specs.declared.krl_fault.KrlFault.{KrlFault}
 use Rattle.krl_types.specs.Entry.{Entry}
 use Rattle.krl_format.specs.Front.{IsFirstKrlFault}
+use Rattle.krl_format.specs.Memory.{MayLackMemory}
 use Rattle.krl_entries.specs.Revoked.{Revoked}
 use Rattle.plain_list.specs.Any.{IsListOf}
 use Rattle.krl_openssh.specs.Authority.{AuthoritiesAreKeys}
@@ -30,10 +31,12 @@ pub record HasOtherAuthority (list : List ℕ) : Type 0 where
   pub is : IsListOf list entries
   pub other : AuthoritiesAreKeys is.sections → ⊥
 
--- why a list gives no answer: its first fault, a failed allocation, or such an authority
-abbrev pub IsRefusal : List ℕ → Refusal → Type 0
-IsRefusal list (refusals.Fault fault) = (fault ≡ NoMemory) ⊎ IsFirstKrlFault list (Some fault)
-IsRefusal list refusals.Authority = HasOtherAuthority list
+-- Why a list gives no answer: its first fault, such an authority, or a failed allocation. Memory
+-- may be needed for a query, if there is one, or for the list.
+abbrev pub IsRefusal : (IsAsked : Type 0) → List ℕ → Refusal → Type 0
+IsRefusal IsAsked list (refusals.Fault fault) =
+    ((fault ≡ NoMemory) × (IsAsked ⊎ MayLackMemory list)) ⊎ IsFirstKrlFault list (Some fault)
+IsRefusal IsAsked list refusals.Authority = HasOtherAuthority list
 
 -- A list has at most one row of entries, and one first fault, and not both.
 pub record HasOne (list : List ℕ) : Type 0 where
@@ -57,7 +60,7 @@ pub data AnswersBlob (entries : List Entry) (blob : List ℕ) (number : ℤ) : T
       → AnswersBlob entries blob number
   no_blob : (fault : SubjectFault) → IsSubjectFault blob fault → number ≡ subject_number fault
       → AnswersBlob entries blob number
-  ran_out : number ≡ no_memory → AnswersBlob entries blob number
+  ran_out : HasSubject blob → number ≡ no_memory → AnswersBlob entries blob number
 
 -- The answer of entries for the key of a line, in the format of an authorized keys file.
 pub data AnswersLine (entries : List Entry) (text : List ℕ) (number : ℤ) : Type 0 where
@@ -65,24 +68,26 @@ pub data AnswersLine (entries : List Entry) (text : List ℕ) (number : ℤ) : T
       → AnswersBlob entries blob number → AnswersLine entries text number
   no_line : (fault : LineFault) → IsFirstLineFault text fault → number ≡ line_number fault
       → AnswersLine entries text number
-  line_ran_out : number ≡ no_memory → AnswersLine entries text number
+  line_ran_out : HasSomeWords text → number ≡ no_memory → AnswersLine entries text number
 
 -- The answer of a list, by the answer of its entries. The answer of a refused list is its first
 -- fault. A list that is read, but has an authority that cannot be compared, has a number of its
--- own.
-pub data AnswersBy (Told : List Entry → ℤ → Type 0) (list : List ℕ) (number : ℤ) : Type 0 where
+-- own. An allocation fails only if memory may be needed for the query or the list.
+pub data AnswersBy (IsAsked : Type 0) (Told : List Entry → ℤ → Type 0) (list : List ℕ) (number : ℤ)
+    : Type 0 where
   answered : (entries : List Entry) → IsCompared list entries → Told entries number
-      → AnswersBy Told list number
+      → AnswersBy IsAsked Told list number
   other_authority : HasOtherAuthority list → number ≡ authority_number
-      → AnswersBy Told list number
+      → AnswersBy IsAsked Told list number
   no_list : (fault : KrlFault) → IsFirstKrlFault list (Some fault) → number ≡ list_number fault
-      → AnswersBy Told list number
-  list_ran_out : number ≡ no_memory → AnswersBy Told list number
+      → AnswersBy IsAsked Told list number
+  list_ran_out : IsAsked ⊎ MayLackMemory list → number ≡ no_memory
+      → AnswersBy IsAsked Told list number
 
 -- for a blob
 abbrev pub Answers : (list blob : List ℕ) → ℤ → Type 0
-Answers list blob = AnswersBy (λ entries. AnswersBlob entries blob) list
+Answers list blob = AnswersBy (HasSubject blob) (λ entries. AnswersBlob entries blob) list
 
 -- for the key of a line
 abbrev pub AnswersOfLine : (list text : List ℕ) → ℤ → Type 0
-AnswersOfLine list text = AnswersBy (λ entries. AnswersLine entries text) list
+AnswersOfLine list text = AnswersBy (HasSomeWords text) (λ entries. AnswersLine entries text) list

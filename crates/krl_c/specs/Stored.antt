@@ -31,5 +31,5 @@ unloaded = record { loaded = false; list = nothing }
 pub data Loads (list : List ℕ) (old new : Stored) (number : ℤ) : Type 0 where
   loaded : (entries : List Entry) → IsCompared list entries → Holds new.loaded new.list entries
       → HoldsAll list new.list entries → number ≡ fine → Loads list old new number
-  not_loaded_for : (refusal : Refusal) → IsRefusal list refusal → number ≡ refusal_number refusal
+  not_loaded_for : (refusal : Refusal) → IsRefusal ⊥ list refusal → number ≡ refusal_number refusal
       → new ≡ old → Loads list old new number

@@ -1,7 +1,7 @@
 -- Why a list revokes the key of a query: the reasons as the bits of a number.
 use Rattle.std.specs.Prelude.{◌≡◌, ◌↔◌, ◌<◌, ◌^◌, ℕ, ℤ, pos, List}
 use Rattle.std.specs.Int.{bit_at}
-use Rattle.ssh_cert.specs.SubjectReading.{IsSubject, IsSubjectFault}
+use Rattle.ssh_cert.specs.SubjectReading.{HasSubject, IsSubject, IsSubjectFault}
 use Rattle.ssh_cert.specs.declared.subject_fault.SubjectFault.{SubjectFault}
 use Rattle.krl_types.specs.Subject.{Subject}
 use Rattle.krl_types.specs.Entry.{Entry}
@@ -23,8 +23,8 @@ pub data ExplainsBlob (entries : List Entry) (blob : List ℕ) (number : ℤ) : 
       → number ≡ pos bits → ExplainsBlob entries blob number
   no_blob : (fault : SubjectFault) → IsSubjectFault blob fault → number ≡ subject_number fault
       → ExplainsBlob entries blob number
-  ran_out : number ≡ no_memory → ExplainsBlob entries blob number
+  ran_out : HasSubject blob → number ≡ no_memory → ExplainsBlob entries blob number
 
 -- The reasons of a list for a blob.
 abbrev pub Explains : (list blob : List ℕ) → ℤ → Type 0
-Explains list blob = AnswersBy (λ entries. ExplainsBlob entries blob) list
+Explains list blob = AnswersBy (HasSubject blob) (λ entries. ExplainsBlob entries blob) list

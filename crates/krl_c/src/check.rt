@@ -1,9 +1,7 @@
 //! Queries of a list for a blob while it is streamed: only the answers to the query are stored.
 
-ghost use Rattle.std.specs.Prelude.{◌≡◌, ◌⊎◌, List, IfOk, IfErr, OnOk};
-ghost use Rattle.krl_types.specs.declared.krl_fault.KrlFault.TheVariants.{NoMemory};
+ghost use Rattle.std.specs.Prelude.{List, IfOk, IfErr, OnOk};
 ghost use Rattle.krl_types.specs.Entry.{Entry};
-ghost use Rattle.krl_format.specs.Front.{IsFirstKrlFault};
 ghost use Rattle.krl_queries.specs.Questions.{Asks, asked_in};
 ghost use Rattle.krl_entries.specs.Scope.{MeansInScope};
 ghost use Rattle.plain_list.specs.Any.{IsListOf};
@@ -66,7 +64,7 @@ pub(crate) fn compared(
         × IsCompared list.now entries
         × MeansInScope (asked_in questions) questions.found entries) }
     ensures asked { IfOk result (λ questions. Asks questions.topics asked.now) }
-    ensures refused { IfErr result (λ refusal. IsRefusal list.now refusal) }
+    ensures refused { IfErr result (λ refusal. IsRefusal (Unit {0}) list.now refusal) }
 {
     match stream(alloc, list, asked) {
         Ok(questions) => {
@@ -87,7 +85,7 @@ fn stream(alloc: Global, list: &[u8], asked: &Subject) -> Result<Questions<Held>
     ensures asked { IfOk result (λ questions. Asks questions.topics asked.now) }
     ensures stored { IfOk result (λ questions. StoresAsked asked.now questions) }
     ensures fault { IfErr result (λ fault.
-        (fault ≡ NoMemory) ⊎ IsFirstKrlFault list.now (Some fault)) }
+        IsRefusal (Unit {0}) list.now (Refusal.Fault fault)) }
 {
     let mut questions: Questions<Held> = Questions::new(alloc);
     let Ok(()) = questions.ask(asked) else {
@@ -103,7 +101,7 @@ fn stream(alloc: Global, list: &[u8], asked: &Subject) -> Result<Questions<Held>
 // Reads a list without a query: returns why it gives no answer, if it gives none.
 pub(crate) fn judge(alloc: Global, list: &[u8]) -> Result<(), Refusal>
     ensures list { OnOk result ((entries : List Entry) × IsCompared list.now entries) }
-    ensures refused { IfErr result (λ refusal. IsRefusal list.now refusal) }
+    ensures refused { IfErr result (λ refusal. IsRefusal ⊥ list.now refusal) }
 {
     match stream_unasked(alloc, list) {
         Ok(()) => {
@@ -120,8 +118,7 @@ pub(crate) fn judge(alloc: Global, list: &[u8]) -> Result<(), Refusal>
 // Reads a list without a query: returns its first fault, if it has one.
 fn stream_unasked(alloc: Global, list: &[u8]) -> Result<(), KrlFault>
     ensures list { OnOk result ((entries : List Entry) × IsListOf list.now entries) }
-    ensures fault { IfErr result (λ fault.
-        (fault ≡ NoMemory) ⊎ IsFirstKrlFault list.now (Some fault)) }
+    ensures fault { IfErr result (λ fault. IsRefusal ⊥ list.now (Refusal.Fault fault)) }
 {
     let none: Questions<Held> = Questions::new(alloc);
     let (read, _list) = Walk::over(alloc, none, Lent::new(list)).read_on();

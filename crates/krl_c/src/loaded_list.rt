@@ -20,7 +20,7 @@ use std::alloc::Global;
 pub(crate) fn load_list(alloc: Global, list: &[u8]) -> Result<Revocations<Held>, Refusal>
     ensures found { IfOk result (λ held. (entries : List Entry)
         × IsCompared list.now entries × HoldsAll list.now held entries) }
-    ensures refused { IfErr result (λ refusal. IsRefusal list.now refusal) }
+    ensures refused { IfErr result (λ refusal. IsRefusal ⊥ list.now refusal) }
 {
     let (read, _source) = read_krl::<Held, _>(alloc, Lent::new(list));
     match read {

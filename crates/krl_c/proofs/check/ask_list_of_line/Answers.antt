@@ -18,4 +18,4 @@ returns-in-Ok-judge c =
 pub returns-in-Err-judge : goal.returns-in-Err-judge
 returns-in-Err-judge c =
     let fits : SFits w32 c.of_list.result = search rules in
-    list_refused c.args.list.now c.in-Err-judge.refusal _ c.in-Err-judge.ensures.refused (same c.of_list.result fits ∙ c.of_list.ensures)
+    list_refused c.args.list.now c.in-Err-judge.refusal _ (λ none. absurd none) c.in-Err-judge.ensures.refused (same c.of_list.result fits ∙ c.of_list.ensures)

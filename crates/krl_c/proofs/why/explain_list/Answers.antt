@@ -18,7 +18,7 @@ returns-in-Ok-compared c =
 pub returns-in-Ok : goal.returns-in-Ok
 returns-in-Ok c =
     let fits : SFits w32 c.of_list.result = search rules in
-    list_refused c.args.list.now c.in-Err-compared.refusal _ c.in-Err-compared.ensures.refused (same c.of_list.result fits ∙ c.of_list.ensures)
+    list_refused c.args.list.now c.in-Err-compared.refusal _ (λ _. record { subject = c.in-Ok.asked; is = c.in-Ok.ensures.found }) c.in-Err-compared.ensures.refused (same c.of_list.result fits ∙ c.of_list.ensures)
 
 pub returns-in-Ok-judge : goal.returns-in-Ok-judge
 returns-in-Ok-judge c =
@@ -29,4 +29,4 @@ returns-in-Ok-judge c =
 pub returns : goal.returns
 returns c =
     let fits : SFits w32 c.of_list-in-Err-judge.result = search rules in
-    list_refused c.args.list.now c.in-Err-judge.refusal _ c.in-Err-judge.ensures.refused (same c.of_list-in-Err-judge.result fits ∙ c.of_list-in-Err-judge.ensures)
+    list_refused c.args.list.now c.in-Err-judge.refusal _ (λ none. absurd none) c.in-Err-judge.ensures.refused (same c.of_list-in-Err-judge.result fits ∙ c.of_list-in-Err-judge.ensures)
