@@ -15,4 +15,5 @@ mod HeldTexts
 mod ReadBytes
 mod ShownLists
 mod MadeLists
+mod Printed
 mod SpecLines

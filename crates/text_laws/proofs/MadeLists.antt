@@ -17,7 +17,7 @@ text_read : (name bytes : List ℕ) (entries : List Entry) → IsReadAs bytes en
 unfolding text_entries
 text_read name bytes entries read = rw (read.0, read.1) refl
 
-entries_made : (lists : List Shown) (wanted : Wanted) (name bytes : List ℕ) (contents : Revocations) → All CanBeShown lists
+pub entries_made : (lists : List Shown) (wanted : Wanted) (name bytes : List ℕ) (contents : Revocations) → All CanBeShown lists
     → (made : Makes wanted (only_text_of name lists) bytes contents) → made.entries ≡ entries_of_lists lists
 entries_made lists wanted name bytes contents shown made =
     let named : List Entry = entries_of_lists lists in

@@ -2,4 +2,5 @@ pub mod Joined
 pub mod FactLines
 pub mod ReadBack
 pub mod MadeLists
+pub mod Printed
 pub mod SpecLines

@@ -6,9 +6,13 @@ use Rattle.krl_writer.specs.KrlText.{IsKrlText}
 use Rattle.text_laws.specs.ReadBack.{Shown, entries_of_lists, text_of_lists}
 use Rattle.text_run.specs.Making.{Text}
 
+-- a text with this name, as the only one that a list is made of
+abbrev pub only_text : (name text : List ℕ) → List Text
+only_text name text = record { name = name; content = Ok text } ∷ []
+
 -- the texts of lists, one after the other, as the only text that another list is made of
 abbrev pub only_text_of : (name : List ℕ) → List Shown → List Text
-only_text_of name lists = record { name = name; content = Ok (text_of_lists lists) } ∷ []
+only_text_of name lists = only_text name (text_of_lists lists)
 
 -- The bytes are those of a list with this header that names exactly what the lists name.
 pub record IsMergedOf (lists : List Shown) (header : Header) (bytes : List ℕ) : Type 0 where

@@ -1,6 +1,9 @@
 //! Laws of the texts of lists. Each function does nothing: its contract is the law.
 
-ghost use Rattle.std.specs.Prelude.{◌≡◌, ℕ, List, [], ◌∷◌, ◌++◌, All, Option, None, Some};
+ghost use Rattle.std.specs.Prelude.{◌≡◌, ℕ, Bool, List, [], ◌∷◌, ◌++◌, map, All, Option, None};
+ghost use Rattle.std.specs.Prelude.{Some, true};
+ghost use Rattle.std.specs.Borrow.{Bor};
+ghost use Rattle.std.specs.Io.KnownBytes.{Appends};
 ghost use Rattle.krl_spec.specs.Blanks.{bare_line};
 ghost use Rattle.krl_spec.specs.Directive.{order as spec_order, order_in as spec_order_in};
 ghost use Rattle.krl_spec.specs.Entries.{line_entry};
@@ -24,10 +27,17 @@ ghost use Rattle.text_laws.specs.ReadBack.{StopsWith, entries_of_lists, text_of_
 ghost use Rattle.text_laws.specs.SpecLines.{IsBareAlike, IsReadAlike, spec_says};
 ghost use Rattle.text_laws.specs.Joined.{AreWholeLines, LacksNoAuthority, later_by, lines_in};
 ghost use Rattle.krl_writer.specs.KrlText.{IsKrlText};
-ghost use Rattle.text_laws.specs.MadeLists.{IsMergedOf, only_text_of};
+ghost use Rattle.list_text.specs.declared.form.Form.TheVariants.{Text as AsText};
+ghost use Rattle.run_faults.specs.RunFault.{RunFault as RunFaultOf};
+ghost use Rattle.run_output.specs.Run.{outcome_of};
+ghost use Rattle.show_run.specs.Run.{EndsShowRun, EndsShown, run_items};
+ghost use Rattle.show_run.specs.declared.lists.Given.{Given};
+ghost use Rattle.text_laws.specs.MadeLists.{IsMergedOf, only_text, only_text_of};
+ghost use Rattle.text_laws.specs.Printed.{AreMerged, IsRead, StatesBytes, shown_of};
 ghost use Rattle.text_run.specs.Making.{Makes, Wanted as WantedOf};
 
 use plain_list::laws::line_read_as_spelled;
+use show_run::Lists;
 
 /// The entries of a text and then another are those of both, whatever authority is current between
 /// them, and a fault of the second is at its line of the whole. A text that is read without a fault
@@ -107,3 +117,46 @@ pub fn shown_lists_are_made_again()
         → Makes wanted (only_text_of name (list ∷ [])) bytes contents
         → IsKrlText wanted.header list.contents bytes }
 {}
+
+/// The text that a run prints of lists is the texts of these lists, one after the other. All of it
+/// is printed if the status is 0.
+pub fn printed_text_is_text_of_lists()
+    ensures items { (lists : List Given)
+        → (outcome_of (run_items AsText lists)).text ≡ text_of_lists (map shown_of lists) }
+    ensures taken { (lists : List Given) (before after : Option (List ℕ)) (failed : Bool)
+        (fault : Option RunFaultOf) → EndsShown AsText lists before after failed 0 fault
+        → Appends before after (text_of_lists (map shown_of lists)) }
+{}
+
+/// A list that is made of what a run printed of lists names exactly what these lists name. Made of
+/// what was printed of one list, it has the wanted header and the same contents. No list is made of
+/// an empty text, unless the list may be empty.
+pub fn printed_lists_are_made_again()
+    ensures merged { (lists : List Given) (wanted : WantedOf) (text name bytes : List ℕ)
+        (failed : Bool) (fault : Option RunFaultOf) (contents : Revocations) → All IsRead lists
+        → EndsShown AsText lists (Some []) (Some text) failed 0 fault
+        → Makes wanted (only_text name text) bytes contents
+        → IsMergedOf (map shown_of lists) wanted.header bytes }
+    ensures same { (given : Given) (wanted : WantedOf) (text name bytes : List ℕ)
+        (failed : Bool) (fault : Option RunFaultOf) (contents : Revocations) → IsRead given
+        → EndsShown AsText (given ∷ []) (Some []) (Some text) failed 0 fault
+        → Makes wanted (only_text name text) bytes contents
+        → IsKrlText wanted.header given.revocations bytes }
+    ensures none { (wanted : WantedOf) (name bytes : List ℕ) (contents : Revocations)
+        → Makes wanted (only_text name []) bytes contents → wanted.allow_empty ≡ true }
+{
+    line_read_as_spelled();
+}
+
+/// A list that is made of what a whole run printed, with status 0, names exactly what the lists of
+/// the run name.
+pub fn shown_run_is_made_again<L: Lists>(lists: &L)
+    ensures { (names : List (Bor (List ℕ))) (wanted : WantedOf) (text name bytes : List ℕ)
+        (failed : Bool) (fault : Option RunFaultOf) (contents : Revocations)
+        → StatesBytes (L.states lists.now)
+        → EndsShowRun (L.states lists.now) names AsText (Some []) (Some text) failed 0 fault
+        → Makes wanted (only_text name text) bytes contents
+        → AreMerged (L.states lists.now) names wanted.header bytes }
+{
+    line_read_as_spelled();
+}

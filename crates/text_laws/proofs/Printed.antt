@@ -1,0 +1,121 @@
+-- What a run prints of lists is the text of these lists, and a list that is made of it names what they name.
+use Rattle.std.specs.Borrow.{Bor}
+use Rattle.std.specs.Prelude.{is_some}
+use Rattle.std.proofs.Common.{◌≡◌, ◌≢◌, ◌∙◌, arith, Result, ℕ, Bool, true, false, All, List, [], ◌∷◌, ◌++◌, map, Option, Some, None, refl, ap, subst}
+use Rattle.std.specs.List.{concat, flat_map}
+use Rattle.std.specs.Io.KnownBytes.{Appends}
+use Rattle.std.proofs.lemmas.List.Elements.{All-cons, All-head, All-nil, All-tail}
+use Rattle.krl_entries.specs.Revocations.{Means, Revocations, nothing}
+use Rattle.krl_entries.proofs.OneMeaning.{one_meaning}
+use Rattle.krl_entries.proofs.SameMeaning.{nothing_meant}
+use Rattle.krl_types.specs.Entry.{Entry}
+use Rattle.krl_writer.specs.KrlText.{IsKrlText}
+use Rattle.list_text.specs.Facts.{Fact}
+use Rattle.list_text.specs.Text.{fact_line}
+use Rattle.list_text.specs.declared.form.Form.TheVariants.{Text as AsText}
+use Rattle.run_faults.specs.RunFault.{RunFault}
+use Rattle.run_faults.specs.declared.cause.Cause.{Cause}
+use Rattle.run_output.specs.Done.{EndsWith}
+use Rattle.run_output.specs.Run.{Item, outcome_of, status_of}
+use Rattle.show_run.specs.Lists.{AreGiven}
+use Rattle.show_run.specs.Run.{EndsShowRun, EndsShown, refused, run_items, shown}
+use Rattle.show_run.specs.Showing.{fact_items, given_facts, line_item, lists_facts}
+use Rattle.show_run.specs.declared.lists.Given.{Given}
+use Rattle.text_run.specs.Making.{Makes, Wanted}
+use Rattle.text_laws.specs.MadeLists.{IsMergedOf, only_text}
+use Rattle.text_laws.specs.Printed.{AreMerged, IsRead, StatesBytes, shown_of}
+use Rattle.text_laws.specs.ReadBack.{CanBeShown, facts_about, text_of_lists}
+use Rattle.text_laws.proofs.MadeLists.{entries_made, made_again, merged}
+use Rattle.text_laws.proofs.ReadBytes.{IsReadAsSpelled}
+use Rattle.text_laws.proofs.ShownLists.{can_be_shown}
+
+-- ---- the text
+
+facts_printed : (facts : List Fact) → (outcome_of (fact_items AsText facts ++ line_item [] ∷ [])).text ≡ concat (map fact_line facts)
+facts_printed [] = refl
+facts_printed (fact ∷ facts) = ap (λ (text : List ℕ). fact_line fact ++ text) (facts_printed facts)
+
+given_about : (given : Given) → given_facts given ≡ facts_about (shown_of given)
+unfolding given_facts
+given_about given = refl
+
+lists_about : (lists : List Given) → flat_map given_facts lists ≡ flat_map facts_about (map shown_of lists)
+lists_about [] = refl
+lists_about (given ∷ lists) = rw (given_about given, lists_about lists) refl
+
+pub printed_items : (lists : List Given) → (outcome_of (run_items AsText lists)).text ≡ text_of_lists (map shown_of lists)
+unfolding run_items lists_facts
+printed_items lists = facts_printed (lists_facts lists) ∙ ap (λ (facts : List Fact). concat (map fact_line facts)) (lists_about lists)
+
+taken_whole : (run : List Item) (before after : Option (List ℕ)) (failed revoked : Bool) (fault : Option RunFault) → EndsWith run before after failed fault
+    → 0 ≡ status_of (is_some fault) revoked → Appends before after (outcome_of run).text
+taken_whole run before after failed revoked None ends status = ends.taken
+taken_whole run before after failed revoked (Some stop) ends status = absurd (omega (arith, status))
+
+pub printed_whole : (lists : List Given) (before after : Option (List ℕ)) (failed : Bool) (fault : Option RunFault) → EndsShown AsText lists before after failed 0 fault
+    → Appends before after (text_of_lists (map shown_of lists))
+printed_whole lists before after failed fault ends =
+    let run : List Item = run_items AsText lists in
+    subst (Appends before after) (printed_items lists) (taken_whole run before after failed (outcome_of run).revoked fault ends.ends.0 ends.ends.1)
+
+-- ---- a list that is made of it
+
+allowed : (allow : Bool) → (allow ≢ false) → allow ≡ true
+allowed true is = refl
+allowed false is = absurd (is refl)
+
+lists_can_be_shown : IsReadAsSpelled → (lists : List Given) → All IsRead lists → All CanBeShown (map shown_of lists)
+lists_can_be_shown law [] read = All-nil CanBeShown
+lists_can_be_shown law (given ∷ lists) read =
+    let is = All-head IsRead given lists read in
+    All-cons CanBeShown (shown_of given) (map shown_of lists) (can_be_shown law is.bytes (shown_of given) is.given_by.entries is.fits is.given_by.names is.given_by.means)
+    (lists_can_be_shown law lists (All-tail IsRead given lists read))
+
+made_of_printed : (lists : List Given) (wanted : Wanted) (text name bytes : List ℕ) (failed : Bool) (fault : Option RunFault) (contents : Revocations)
+    → EndsShown AsText lists (Some []) (Some text) failed 0 fault → Makes wanted (only_text name text) bytes contents
+    → Makes wanted (only_text name (text_of_lists (map shown_of lists))) bytes contents
+made_of_printed lists wanted text name bytes failed fault contents ends makes =
+    let is : text ≡ text_of_lists (map shown_of lists) = printed_whole lists (Some []) (Some text) failed fault ends in
+    subst (λ (t : List ℕ). Makes wanted (only_text name t) bytes contents) is makes
+
+pub printed_merged : IsReadAsSpelled → (lists : List Given) (wanted : Wanted) (text name bytes : List ℕ) (failed : Bool) (fault : Option RunFault) (contents : Revocations) → All IsRead lists
+    → EndsShown AsText lists (Some []) (Some text) failed 0 fault → Makes wanted (only_text name text) bytes contents
+    → IsMergedOf (map shown_of lists) wanted.header bytes
+printed_merged law lists wanted text name bytes failed fault contents read ends makes =
+    merged (map shown_of lists) wanted name bytes contents (lists_can_be_shown law lists read) (made_of_printed lists wanted text name bytes failed fault contents ends makes)
+
+pub printed_again : IsReadAsSpelled → (given : Given) (wanted : Wanted) (text name bytes : List ℕ) (failed : Bool) (fault : Option RunFault) (contents : Revocations) → IsRead given
+    → EndsShown AsText (given ∷ []) (Some []) (Some text) failed 0 fault → Makes wanted (only_text name text) bytes contents
+    → IsKrlText wanted.header given.revocations bytes
+printed_again law given wanted text name bytes failed fault contents is ends makes =
+    made_again (shown_of given) wanted name bytes contents (can_be_shown law is.bytes (shown_of given) is.given_by.entries is.fits is.given_by.names is.given_by.means)
+    (made_of_printed (given ∷ []) wanted text name bytes failed fault contents ends makes)
+
+-- An empty text names nothing.
+pub printed_none : (wanted : Wanted) (name bytes : List ℕ) (contents : Revocations) → Makes wanted (only_text name []) bytes contents → wanted.allow_empty ≡ true
+printed_none wanted name bytes contents makes =
+    let named : List Entry = [] in
+    let is : makes.entries ≡ named = entries_made [] wanted name bytes contents (All-nil CanBeShown) makes in
+    let means : Means contents named = subst (Means contents) is makes.is.means in
+    let same : contents ≡ nothing = one_meaning contents nothing named means nothing_meant in
+    allowed wanted.allow_empty (λ not. makes.some not same)
+
+-- ---- a whole run
+
+given_read : (Knows : List ℕ → Result (List ℕ) Cause → Type 0) (names : List (Bor (List ℕ))) (lists : List Given) → StatesBytes Knows → AreGiven Knows names lists → All IsRead lists
+given_read Knows [] [] fit given = All-nil IsRead
+given_read Knows [] (list ∷ lists) fit given = absurd given
+given_read Knows (name ∷ names) [] fit given = absurd given
+given_read Knows (name ∷ names) (list ∷ lists) fit given =
+    let is = given.0 in
+    All-cons IsRead list lists (record { name = name.now; bytes = is.bytes; fits = fit name.now is.bytes is.known; given_by = is.is }) (given_read Knows names lists fit given.1)
+
+pub run_merged : IsReadAsSpelled → (Knows : List ℕ → Result (List ℕ) Cause → Type 0) (names : List (Bor (List ℕ))) (wanted : Wanted) (text name bytes : List ℕ) (failed : Bool) (fault : Option RunFault) (contents : Revocations) → StatesBytes Knows
+    → EndsShowRun Knows names AsText (Some []) (Some text) failed 0 fault → Makes wanted (only_text name text) bytes contents
+    → AreMerged Knows names wanted.header bytes
+run_merged law Knows names wanted text name bytes failed fault contents fit (shown lists given ends) makes = record {
+  lists = lists;
+  are_given = given;
+  merged = printed_merged law lists wanted text name bytes failed fault contents (given_read Knows names lists fit given) ends makes;
+}
+run_merged law Knows names wanted text name bytes failed fault contents fit (refused stop is fault_is status_is after_is works) makes = absurd (omega (arith, status_is))

@@ -1,0 +1,37 @@
+-- Lists that a run showed.
+use Rattle.std.specs.Borrow.{Bor}
+use Rattle.std.specs.Prelude.{ℕ, List, Result, Ok, map}
+use Rattle.krl_format.specs.declared.header.Header.{Header}
+use Rattle.run_faults.specs.declared.cause.Cause.{Cause}
+use Rattle.ssh_wire.specs.Wire.{IsBytes}
+use Rattle.show_run.specs.Lists.{AreGiven, IsGivenBy}
+use Rattle.show_run.specs.declared.lists.Given.{Given}
+use Rattle.text_laws.specs.MadeLists.{IsMergedOf}
+use Rattle.text_laws.specs.ReadBack.{Shown}
+
+-- a list that was read, as it is shown
+abbrev pub shown_of : Given → Shown
+shown_of given = record {
+  name = given.name.now;
+  header = given.header;
+  contents = given.revocations;
+}
+
+-- The list was read from bytes.
+pub record IsRead (given : Given) : Type 0 where
+  pub name : List ℕ
+  pub bytes : List ℕ
+  pub fits : IsBytes bytes
+  pub given_by : IsGivenBy name bytes given
+
+-- All content that is stated for names is bytes.
+abbrev pub StatesBytes : (List ℕ → Result (List ℕ) Cause → Type 0) → Type 0
+StatesBytes Knows = (name bytes : List ℕ) → Knows name (Ok bytes) → IsBytes bytes
+
+-- Lists of these names were read from bytes that were stated for them, and the bytes are those of a
+-- list with this header that names exactly what these lists name.
+pub record AreMerged (Knows : List ℕ → Result (List ℕ) Cause → Type 0)
+    (names : List (Bor (List ℕ))) (header : Header) (bytes : List ℕ) : Type 0 where
+  pub lists : List Given
+  pub are_given : AreGiven Knows names lists
+  pub merged : IsMergedOf (map shown_of lists) header bytes
