@@ -1,3 +1,4 @@
 pub mod Options
 pub mod Order
 pub mod Command
+pub mod Parts

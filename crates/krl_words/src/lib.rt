@@ -4,6 +4,7 @@
 
 mod command;
 mod given;
+pub mod laws;
 mod options;
 mod order;
 mod shown;
