@@ -1,6 +1,7 @@
 -- Lists that were read, and why one was not.
 use Rattle.std.specs.Borrow.{Bor}
 use Rattle.std.specs.Prelude.{◌≡◌, ℕ, List, [], ◌∷◌, ◌++◌, Result, Ok, Err, ⊤}
+use Rattle.ssh_wire.specs.Wire.{IsBytes}
 use Rattle.any_list.specs.List.{IsListFault}
 use Rattle.run_faults.specs.RunFault.{RunFault, run_fault_of}
 use Rattle.run_faults.specs.declared.cause.Cause.{Cause}
@@ -22,6 +23,7 @@ pub record IsGivenBy (name bytes : List ℕ) (given : Given) : Type 0 where
 pub record IsGiven (Knows : List ℕ → Result (List ℕ) Cause → Type 0) (name : List ℕ)
     (given : Given) : Type 0 where
   pub bytes : List ℕ
+  pub fits : IsBytes bytes
   pub known : Knows name (Ok bytes)
   pub is : IsGivenBy name bytes given
 

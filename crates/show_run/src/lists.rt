@@ -3,6 +3,7 @@
 ghost use Rattle.std.specs.Prelude.{◌≡◌, ℕ, IfErr, IfOk, List, Result, false, option_map, true};
 ghost use Rattle.any_list.specs.List.{IsListFault, IsWholeFault};
 ghost use Rattle.run_faults.specs.declared.cause.Cause.{Cause as CauseOf};
+ghost use Rattle.ssh_wire.specs.Wire.{IsBytes};
 ghost use Rattle.plain_list.specs.Any.{begins_list};
 ghost use Rattle.show_run.specs.Lists.{AreGiven, IsFirstRefused, IsGiven, IsGivenBy, IsRefused};
 
@@ -83,6 +84,7 @@ pub fn read_given<'a, L: Lists>(
 
 // Reads a list from its bytes.
 fn read_bytes<'a>(alloc: Global, name: &'a str, bytes: &[u8]) -> Result<Given<'a>, RunFault<'a>>
+    ensures fits { IsBytes bytes.now }
     ensures found { IfOk result (λ given. IsGivenBy name.now bytes.now given) }
     ensures fault { IfErr result (λ stop. IsListFault name.now bytes.now stop) }
 {

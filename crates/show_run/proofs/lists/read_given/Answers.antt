@@ -8,7 +8,7 @@ use Rattle.show_run.proofs.lists.read_given.Goals as goal
 pub returns-in-Ok-clause-found : goal.returns-in-Ok-clause-found
 returns-in-Ok-clause-found g c =
     let known = rw c.in-Ok.is at c.read.ensures in
-    IfOk-weaker c.read_bytes.result _ _ (λ given is. record { bytes = c.in-Ok.bytes; known = known; is = rw c.as_slice.ensures at is }) c.read_bytes.ensures.found
+    IfOk-weaker c.read_bytes.result _ _ (λ given is. record { bytes = c.in-Ok.bytes; fits = rw c.as_slice.ensures at c.read_bytes.ensures.fits; known = known; is = rw c.as_slice.ensures at is }) c.read_bytes.ensures.found
 
 pub returns-in-Ok-clause-fault : goal.returns-in-Ok-clause-fault
 returns-in-Ok-clause-fault g c =
