@@ -23,7 +23,7 @@ use Rattle.show_run.specs.Showing.{fact_items, given_facts, line_item, lists_fac
 use Rattle.show_run.specs.declared.lists.Given.{Given}
 use Rattle.text_run.specs.Making.{Makes, Wanted}
 use Rattle.text_laws.specs.MadeLists.{IsMergedOf, only_text}
-use Rattle.text_laws.specs.Printed.{AreMerged, IsRead, StatesBytes, shown_of}
+use Rattle.text_laws.specs.Printed.{AreMerged, IsRead, shown_of}
 use Rattle.text_laws.specs.ReadBack.{CanBeShown, facts_about, text_of_lists}
 use Rattle.text_laws.proofs.MadeLists.{entries_made, made_again, merged}
 use Rattle.text_laws.proofs.ReadBytes.{IsReadAsSpelled}
@@ -102,20 +102,20 @@ printed_none wanted name bytes contents makes =
 
 -- ---- a whole run
 
-given_read : (Knows : List ℕ → Result (List ℕ) Cause → Type 0) (names : List (Bor (List ℕ))) (lists : List Given) → StatesBytes Knows → AreGiven Knows names lists → All IsRead lists
-given_read Knows [] [] fit given = All-nil IsRead
-given_read Knows [] (list ∷ lists) fit given = absurd given
-given_read Knows (name ∷ names) [] fit given = absurd given
-given_read Knows (name ∷ names) (list ∷ lists) fit given =
+given_read : (Knows : List ℕ → Result (List ℕ) Cause → Type 0) (names : List (Bor (List ℕ))) (lists : List Given) → AreGiven Knows names lists → All IsRead lists
+given_read Knows [] [] given = All-nil IsRead
+given_read Knows [] (list ∷ lists) given = absurd given
+given_read Knows (name ∷ names) [] given = absurd given
+given_read Knows (name ∷ names) (list ∷ lists) given =
     let is = given.0 in
-    All-cons IsRead list lists (record { name = name.now; bytes = is.bytes; fits = fit name.now is.bytes is.known; given_by = is.is }) (given_read Knows names lists fit given.1)
+    All-cons IsRead list lists (record { name = name.now; bytes = is.bytes; fits = is.fits; given_by = is.is }) (given_read Knows names lists given.1)
 
-pub run_merged : IsReadAsSpelled → (Knows : List ℕ → Result (List ℕ) Cause → Type 0) (names : List (Bor (List ℕ))) (wanted : Wanted) (text name bytes : List ℕ) (failed : Bool) (fault : Option RunFault) (contents : Revocations) → StatesBytes Knows
+pub run_merged : IsReadAsSpelled → (Knows : List ℕ → Result (List ℕ) Cause → Type 0) (names : List (Bor (List ℕ))) (wanted : Wanted) (text name bytes : List ℕ) (failed : Bool) (fault : Option RunFault) (contents : Revocations)
     → EndsShowRun Knows names AsText (Some []) (Some text) failed 0 fault → Makes wanted (only_text name text) bytes contents
     → AreMerged Knows names wanted.header bytes
-run_merged law Knows names wanted text name bytes failed fault contents fit (shown lists given ends) makes = record {
+run_merged law Knows names wanted text name bytes failed fault contents (shown lists given ends) makes = record {
   lists = lists;
   are_given = given;
-  merged = printed_merged law lists wanted text name bytes failed fault contents (given_read Knows names lists fit given) ends makes;
+  merged = printed_merged law lists wanted text name bytes failed fault contents (given_read Knows names lists given) ends makes;
 }
-run_merged law Knows names wanted text name bytes failed fault contents fit (refused stop is fault_is status_is after_is works) makes = absurd (omega (arith, status_is))
+run_merged law Knows names wanted text name bytes failed fault contents (refused stop is fault_is status_is after_is works) makes = absurd (omega (arith, status_is))

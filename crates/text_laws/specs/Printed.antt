@@ -1,6 +1,6 @@
 -- Lists that a run showed.
 use Rattle.std.specs.Borrow.{Bor}
-use Rattle.std.specs.Prelude.{ℕ, List, Result, Ok, map}
+use Rattle.std.specs.Prelude.{ℕ, List, Result, map}
 use Rattle.krl_format.specs.declared.header.Header.{Header}
 use Rattle.run_faults.specs.declared.cause.Cause.{Cause}
 use Rattle.ssh_wire.specs.Wire.{IsBytes}
@@ -23,10 +23,6 @@ pub record IsRead (given : Given) : Type 0 where
   pub bytes : List ℕ
   pub fits : IsBytes bytes
   pub given_by : IsGivenBy name bytes given
-
--- All content that is stated for names is bytes.
-abbrev pub StatesBytes : (List ℕ → Result (List ℕ) Cause → Type 0) → Type 0
-StatesBytes Knows = (name bytes : List ℕ) → Knows name (Ok bytes) → IsBytes bytes
 
 -- Lists of these names were read from bytes that were stated for them, and the bytes are those of a
 -- list with this header that names exactly what these lists name.

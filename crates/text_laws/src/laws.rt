@@ -33,7 +33,7 @@ ghost use Rattle.run_output.specs.Run.{outcome_of};
 ghost use Rattle.show_run.specs.Run.{EndsShowRun, EndsShown, run_items};
 ghost use Rattle.show_run.specs.declared.lists.Given.{Given};
 ghost use Rattle.text_laws.specs.MadeLists.{IsMergedOf, only_text, only_text_of};
-ghost use Rattle.text_laws.specs.Printed.{AreMerged, IsRead, StatesBytes, shown_of};
+ghost use Rattle.text_laws.specs.Printed.{AreMerged, IsRead, shown_of};
 ghost use Rattle.text_run.specs.Making.{Makes, Wanted as WantedOf};
 
 use plain_list::laws::line_read_as_spelled;
@@ -153,7 +153,6 @@ pub fn printed_lists_are_made_again()
 pub fn shown_run_is_made_again<L: Lists>(lists: &L)
     ensures { (names : List (Bor (List ℕ))) (wanted : WantedOf) (text name bytes : List ℕ)
         (failed : Bool) (fault : Option RunFaultOf) (contents : Revocations)
-        → StatesBytes (L.states lists.now)
         → EndsShowRun (L.states lists.now) names AsText (Some []) (Some text) failed 0 fault
         → Makes wanted (only_text name text) bytes contents
         → AreMerged (L.states lists.now) names wanted.header bytes }
