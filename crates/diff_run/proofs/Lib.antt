@@ -1,2 +1,3 @@
+pub mod Readings
 pub mod OneDifference
 pub mod SameLists

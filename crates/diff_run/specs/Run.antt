@@ -1,13 +1,12 @@
 -- A whole comparison: what it prints, and how it ends.
-use Rattle.std.specs.Prelude.{◌≡◌, ◌↔◌, ℕ, Bool, true, false, List, Option, Some, None, Result}
+use Rattle.std.specs.Prelude.{◌≡◌, ◌↔◌, ℕ, Bool, true, false, List, Option, Some, None}
 use Rattle.run_faults.specs.RunFault.{RunFault}
-use Rattle.run_faults.specs.declared.cause.Cause.{Cause}
 use Rattle.run_output.specs.Done.{EndsWith}
 use Rattle.krl_types.specs.Entry.{Entry}
 use Rattle.krl_types.specs.Naming.{NamesSame}
-use Rattle.show_run.specs.Lists.{IsGiven}
+use Rattle.show_run.specs.Told.{Reading}
 use Rattle.show_run.specs.declared.lists.Given.{Given}
-use Rattle.diff_run.specs.Changes.{AreChanges, IsUncompared, IsUnchanged}
+use Rattle.diff_run.specs.Changes.{AreChanges, AreRead, IsUncompared, IsUnchanged}
 use Rattle.diff_run.specs.Printing.{change_items}
 use Rattle.diff_run.specs.declared.changes.Changes.{Changes}
 use Rattle.diff_run.specs.declared.run.Comparison.{Comparison}
@@ -38,15 +37,16 @@ pub record EndsCompared (json : Bool) (old new : Given) (olds news : List Entry)
   pub ends : EndsWith (change_items json changes) before after failed fault
   pub status_is : status ≡ status_of same fault
 
--- Both lists were read and compared; or one was not read, and nothing was printed.
-pub data EndsDiffRun (Knows : List ℕ → Result (List ℕ) Cause → Type 0) (comparison : Comparison)
+-- Both files were read once each, the old one first, and the lists that their bytes are were
+-- compared; or one was not read or is refused, and nothing was printed.
+pub data EndsDiffRun (told : List Reading) (comparison : Comparison)
     (before after : Option (List ℕ)) (failed : Bool) (status : ℕ) (fault : Option RunFault)
     : Type 0 where
-  compared : (old new : Given) → (from : IsGiven Knows comparison.old.now old)
-      → (to : IsGiven Knows comparison.new.now new)
-      → EndsCompared comparison.json old new from.is.entries to.is.entries before after failed
-      status fault
-      → EndsDiffRun Knows comparison before after failed status fault
-  refused : (stop : RunFault) → IsUncompared Knows comparison.old.now comparison.new.now stop
+  compared : (old new : Given)
+      → (read : AreRead told comparison.old.now comparison.new.now old new)
+      → EndsCompared comparison.json old new read.is_before.entries read.is_after.entries before
+      after failed status fault
+      → EndsDiffRun told comparison before after failed status fault
+  refused : (stop : RunFault) → IsUncompared told comparison.old.now comparison.new.now stop
       → fault ≡ Some stop → status ≡ 255 → after ≡ before → failed ≡ false
-      → EndsDiffRun Knows comparison before after failed status fault
+      → EndsDiffRun told comparison before after failed status fault

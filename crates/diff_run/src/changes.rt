@@ -1,7 +1,8 @@
 //! What each of two lists names and the other does not.
 
 ghost use Rattle.std.specs.Prelude.{◌↔◌, IfErr, IfOk, IsTrue};
-ghost use Rattle.diff_run.specs.Changes.{AreChanges, AreRead, IsUncompared, IsUnchanged};
+ghost use Rattle.diff_run.specs.Changes.{AreChanges, AreCompared, IsUncompared, IsUnchanged};
+ghost use Rattle.show_run.specs.Told.{Tells};
 
 use krl_core::Revocations;
 use list_diff::difference;
@@ -31,12 +32,14 @@ impl Changes {
 /// Reads two lists of these names, and compares what they name. Or says why one of them is refused.
 pub(crate) fn read_changes<'a, L: Lists>(
     alloc: Global,
-    lists: &L,
+    lists: &mut L,
     old: &'a str,
     new: &'a str,
 ) -> Result<Changes, RunFault<'a>>
-    ensures found { IfOk result (λ changes. AreRead (L.states lists.now) old.now new.now changes) }
-    ensures fault { IfErr result (λ stop. IsUncompared (L.states lists.now) old.now new.now stop) }
+    ensures found { IfOk result (λ changes. Tells (L.told lists.old) (L.told lists.new)
+        (λ told. AreCompared told old.now new.now changes)) }
+    ensures fault { IfErr result (λ stop. Tells (L.told lists.old) (L.told lists.new)
+        (λ told. IsUncompared told old.now new.now stop)) }
 {
     let before = read_given(alloc, lists, old)?;
     let after = read_given(alloc, lists, new)?;

@@ -2,6 +2,7 @@
 
 ghost use Rattle.std.specs.Prelude.{◌≡◌, false};
 ghost use Rattle.diff_run.specs.Run.{EndsDiffRun, EndsPrinted, status_of};
+ghost use Rattle.show_run.specs.Told.{Tells};
 
 use crate::changes::{Changes, read_changes};
 use crate::printing::print_each;
@@ -24,18 +25,18 @@ pub struct Comparison<'a> {
 }
 
 /// Compares two lists by what they name: prints what only the new one names, and then what only the
-/// old one names. Both are read before anything is printed. The status is 255 if a list was not
-/// read or the run was stopped, otherwise 1 if one names something that the other does not,
-/// otherwise 0.
+/// old one names. Each is read once, the old one first, and both before anything is printed. The
+/// status is 255 if a list was not read or the run was stopped, otherwise 1 if one names something
+/// that the other does not, otherwise 0.
 pub fn diff_run<'a, L: Lists, W: Sink>(
     alloc: Global,
-    lists: &L,
+    lists: &mut L,
     comparison: Comparison<'a>,
     out: &mut W,
 ) -> Done<'a>
     requires { W.has_failed out.old ≡ false }
-    ensures { EndsDiffRun (L.states lists.now) comparison.entry (W.taken out.old) (W.taken out.new)
-        (W.has_failed out.new) result.status result.fault }
+    ensures { Tells (L.told lists.old) (L.told lists.new) (λ told. EndsDiffRun told comparison.entry
+        (W.taken out.old) (W.taken out.new) (W.has_failed out.new) result.status result.fault) }
 {
     same_without_difference();
     match read_changes(alloc, lists, comparison.old, comparison.new) {

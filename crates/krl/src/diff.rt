@@ -14,8 +14,8 @@ pub fn diff(rt: &HostRuntime, task: &Diff) -> u8 {
         new: task.new,
         json: task.json,
     };
-    let files = ListFiles::new(rt);
+    let mut files = ListFiles::new(rt);
     let mut out = ToWrite::new(rt.stdout());
-    let done = diff_run(rt.alloc(), &files, comparison, &mut out);
+    let done = diff_run(rt.alloc(), &mut files, comparison, &mut out);
     end(rt, &Krl, &done)
 }

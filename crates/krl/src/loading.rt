@@ -150,9 +150,11 @@ impl<'a> ListFiles<'a> {
 }
 
 impl<'a> Lists for ListFiles<'a> {
-    ghost states = { λ _ _ _. Unit {0} };
+    ghost use Rattle.std.specs.Prelude.{None};
 
-    fn read(&self, _alloc: Global, name: &str) -> Result<Bytes, Cause> {
+    ghost told = { λ _. None };
+
+    fn read(&mut self, _alloc: Global, name: &str) -> Result<Bytes, Cause> {
         bytes_of(self.rt, name)
     }
 }

@@ -12,7 +12,13 @@ use show_run::show_run;
 pub fn show(rt: &HostRuntime, task: &Show) -> u8 {
     let form = if task.json { Form::Json } else { Form::Text };
     let mut out = ToWrite::new(rt.stdout());
-    let files = ListFiles::new(rt);
-    let done = show_run(rt.alloc(), &files, task.lists.as_slice(), form, &mut out);
+    let mut files = ListFiles::new(rt);
+    let done = show_run(
+        rt.alloc(),
+        &mut files,
+        task.lists.as_slice(),
+        form,
+        &mut out,
+    );
     end(rt, &Krl, &done)
 }

@@ -1,11 +1,12 @@
 //! The lists that a run shows.
 
-ghost use Rattle.std.specs.Prelude.{◌≡◌, ℕ, IfErr, IfOk, List, Result, false, option_map, true};
+ghost use Rattle.std.specs.Prelude.{◌≡◌, ◌∷◌, [], IfErr, IfOk, List, Option, false, true};
+ghost use Rattle.std.specs.Prelude.{option_map};
 ghost use Rattle.any_list.specs.List.{IsListFault, IsWholeFault};
-ghost use Rattle.run_faults.specs.declared.cause.Cause.{Cause as CauseOf};
 ghost use Rattle.ssh_wire.specs.Wire.{IsBytes};
 ghost use Rattle.plain_list.specs.Any.{begins_list};
-ghost use Rattle.show_run.specs.Lists.{AreGiven, IsFirstRefused, IsGiven, IsGivenBy, IsRefused};
+ghost use Rattle.show_run.specs.Lists.{AreGiven, IsGiven, IsGivenBy, IsRefused, StopsReading};
+ghost use Rattle.show_run.specs.Told.{Reading, Tells, reading, told_more};
 
 use any_list::read_list;
 use byte_streams::Lent;
@@ -18,13 +19,13 @@ use std::alloc::Global;
 
 /// The files of lists that a run may read.
 pub trait Lists {
-    // the facts that it may state: the bytes of the file of a name, or why they are not read
-    ghost states: { Self → List ℕ → Result (List ℕ) CauseOf → Type 0 };
+    // what was read so far, if that is known
+    ghost told: { Self → Option (List Reading) };
 
     /// The bytes of the file of this name. The first 67,108,865 of a list that is too long are
     /// enough.
-    fn read(&self, alloc: Global, name: &str) -> Result<Bytes, Cause>
-        ensures { states self.now name.now result };
+    fn read(&mut self, alloc: Global, name: &str) -> Result<Bytes, Cause>
+        ensures { told self.new ≡ told_more (told self.old) (reading name.now result ∷ []) };
 }
 
 /// A list that was read: the name of its file, its header unless it is a plain list, and what it
@@ -51,11 +52,13 @@ impl<'a> Given<'a> {
 /// Reads the lists of these names, or says why the first one that cannot be read is refused.
 pub(crate) fn read_lists<'a, L: Lists>(
     alloc: Global,
-    lists: &L,
+    lists: &mut L,
     names: &[&'a str],
 ) -> Result<Vec<Given<'a>>, RunFault<'a>>
-    ensures found { IfOk result (λ read. AreGiven (L.states lists.now) names.now read.items) }
-    ensures fault { IfErr result (λ stop. IsFirstRefused (L.states lists.now) names.now stop) }
+    ensures found { IfOk result (λ read. Tells (L.told lists.old) (L.told lists.new)
+        (λ told. AreGiven told names.now read.items)) }
+    ensures fault { IfErr result (λ stop. Tells (L.told lists.old) (L.told lists.new)
+        (λ told. StopsReading told names.now stop)) }
 {
     let mut all = Vec::new(alloc);
     for name in names {
@@ -70,11 +73,13 @@ pub(crate) fn read_lists<'a, L: Lists>(
 /// Reads the list of this name, or says why it is refused.
 pub fn read_given<'a, L: Lists>(
     alloc: Global,
-    lists: &L,
+    lists: &mut L,
     name: &'a str,
 ) -> Result<Given<'a>, RunFault<'a>>
-    ensures found { IfOk result (λ given. IsGiven (L.states lists.now) name.now given) }
-    ensures fault { IfErr result (λ stop. IsRefused (L.states lists.now) name.now stop) }
+    ensures found { IfOk result (λ given. Tells (L.told lists.old) (L.told lists.new)
+        (λ told. IsGiven told name.now given)) }
+    ensures fault { IfErr result (λ stop. Tells (L.told lists.old) (L.told lists.new)
+        (λ told. IsRefused told name.now stop)) }
 {
     match lists.read(alloc, name) {
         Ok(bytes) => read_bytes(alloc, name, bytes.as_slice()),

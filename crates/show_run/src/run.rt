@@ -3,6 +3,7 @@
 ghost use Rattle.std.specs.Prelude.{◌≡◌, false};
 ghost use Rattle.run_output.specs.Carries.{Carries};
 ghost use Rattle.show_run.specs.Run.{EndsShowRun, EndsShown, run_items};
+ghost use Rattle.show_run.specs.Told.{Tells};
 
 use crate::lists::{Given, Lists, read_lists};
 use crate::printing::show_last;
@@ -13,19 +14,19 @@ use run_faults::RunFault;
 use run_output::{Done, FAILED, Printer, Run};
 use std::alloc::Global;
 
-/// Shows the lists of these names, one after the other. All of them are read before anything is
-/// printed, so that no list is missing from what is printed. The status is 255 if a list was not
-/// read or the run was stopped, otherwise 0.
+/// Shows the lists of these names, one after the other. Each is read once, and all of them before
+/// anything is printed, so that no list is missing from what is printed. The status is 255 if a
+/// list was not read or the run was stopped, otherwise 0.
 pub fn show_run<'a, L: Lists, W: Sink>(
     alloc: Global,
-    lists: &L,
+    lists: &mut L,
     names: &[&'a str],
     form: Form,
     out: &mut W,
 ) -> Done<'a>
     requires { W.has_failed out.old ≡ false }
-    ensures { EndsShowRun (L.states lists.now) names.now form (W.taken out.old) (W.taken out.new)
-        (W.has_failed out.new) result.status result.fault }
+    ensures { Tells (L.told lists.old) (L.told lists.new) (λ told. EndsShowRun told names.now form
+        (W.taken out.old) (W.taken out.new) (W.has_failed out.new) result.status result.fault) }
 {
     match read_lists(alloc, lists, names) {
         Ok(read) => show_all(alloc, read.as_slice(), form, out),

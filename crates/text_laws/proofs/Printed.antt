@@ -14,10 +14,10 @@ use Rattle.list_text.specs.Facts.{Fact}
 use Rattle.list_text.specs.Text.{fact_line}
 use Rattle.list_text.specs.declared.form.Form.TheVariants.{Text as AsText}
 use Rattle.run_faults.specs.RunFault.{RunFault}
-use Rattle.run_faults.specs.declared.cause.Cause.{Cause}
 use Rattle.run_output.specs.Done.{EndsWith}
 use Rattle.run_output.specs.Run.{Item, outcome_of, status_of}
 use Rattle.show_run.specs.Lists.{AreGiven}
+use Rattle.show_run.specs.Told.{Reading}
 use Rattle.show_run.specs.Run.{EndsShowRun, EndsShown, refused, run_items, shown}
 use Rattle.show_run.specs.Showing.{fact_items, given_facts, line_item, lists_facts}
 use Rattle.show_run.specs.declared.lists.Given.{Given}
@@ -102,20 +102,19 @@ printed_none wanted name bytes contents makes =
 
 -- ---- a whole run
 
-given_read : (Knows : List ℕ → Result (List ℕ) Cause → Type 0) (names : List (Bor (List ℕ))) (lists : List Given) → AreGiven Knows names lists → All IsRead lists
-given_read Knows [] [] given = All-nil IsRead
-given_read Knows [] (list ∷ lists) given = absurd given
-given_read Knows (name ∷ names) [] given = absurd given
-given_read Knows (name ∷ names) (list ∷ lists) given =
+given_read : (told : List Reading) (names : List (Bor (List ℕ))) (lists : List Given) → AreGiven told names lists → All IsRead lists
+given_read [] [] [] given = All-nil IsRead
+given_read (one ∷ told) (name ∷ names) (list ∷ lists) given =
     let is = given.0 in
-    All-cons IsRead list lists (record { name = name.now; bytes = is.bytes; fits = is.fits; given_by = is.is }) (given_read Knows names lists given.1)
+    All-cons IsRead list lists (record { name = name.now; bytes = is.bytes; fits = is.fits; given_by = is.is }) (given_read told names lists given.1)
+given_read told names lists given = absurd given
 
-pub run_merged : IsReadAsSpelled → (Knows : List ℕ → Result (List ℕ) Cause → Type 0) (names : List (Bor (List ℕ))) (wanted : Wanted) (text name bytes : List ℕ) (failed : Bool) (fault : Option RunFault) (contents : Revocations)
-    → EndsShowRun Knows names AsText (Some []) (Some text) failed 0 fault → Makes wanted (only_text name text) bytes contents
-    → AreMerged Knows names wanted.header bytes
-run_merged law Knows names wanted text name bytes failed fault contents (shown lists given ends) makes = record {
+pub run_merged : IsReadAsSpelled → (told : List Reading) (names : List (Bor (List ℕ))) (wanted : Wanted) (text name bytes : List ℕ) (failed : Bool) (fault : Option RunFault) (contents : Revocations)
+    → EndsShowRun told names AsText (Some []) (Some text) failed 0 fault → Makes wanted (only_text name text) bytes contents
+    → AreMerged told names wanted.header bytes
+run_merged law told names wanted text name bytes failed fault contents (shown lists given ends) makes = record {
   lists = lists;
   are_given = given;
-  merged = printed_merged law lists wanted text name bytes failed fault contents (given_read Knows names lists given) ends makes;
+  merged = printed_merged law lists wanted text name bytes failed fault contents (given_read told names lists given) ends makes;
 }
-run_merged law Knows names wanted text name bytes failed fault contents (refused stop is fault_is status_is after_is works) makes = absurd (omega (arith, status_is))
+run_merged law told names wanted text name bytes failed fault contents (refused stop is fault_is status_is after_is works) makes = absurd (omega (arith, status_is))

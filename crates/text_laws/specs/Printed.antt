@@ -1,10 +1,10 @@
 -- Lists that a run showed.
 use Rattle.std.specs.Borrow.{Bor}
-use Rattle.std.specs.Prelude.{ℕ, List, Result, map}
+use Rattle.std.specs.Prelude.{ℕ, List, map}
 use Rattle.krl_format.specs.declared.header.Header.{Header}
-use Rattle.run_faults.specs.declared.cause.Cause.{Cause}
 use Rattle.ssh_wire.specs.Wire.{IsBytes}
 use Rattle.show_run.specs.Lists.{AreGiven, IsGivenBy}
+use Rattle.show_run.specs.Told.{Reading}
 use Rattle.show_run.specs.declared.lists.Given.{Given}
 use Rattle.text_laws.specs.MadeLists.{IsMergedOf}
 use Rattle.text_laws.specs.ReadBack.{Shown}
@@ -24,10 +24,10 @@ pub record IsRead (given : Given) : Type 0 where
   pub fits : IsBytes bytes
   pub given_by : IsGivenBy name bytes given
 
--- Lists of these names were read from bytes that were stated for them, and the bytes are those of a
--- list with this header that names exactly what these lists name.
-pub record AreMerged (Knows : List ℕ → Result (List ℕ) Cause → Type 0)
-    (names : List (Bor (List ℕ))) (header : Header) (bytes : List ℕ) : Type 0 where
+-- The files of these names were read once each, in this order, and the bytes are those of a list
+-- with this header that names exactly what the lists in them name.
+pub record AreMerged (told : List Reading) (names : List (Bor (List ℕ))) (header : Header)
+    (bytes : List ℕ) : Type 0 where
   pub lists : List Given
-  pub are_given : AreGiven Knows names lists
+  pub are_given : AreGiven told names lists
   pub merged : IsMergedOf (map shown_of lists) header bytes

@@ -31,13 +31,13 @@ ghost use Rattle.list_text.specs.declared.form.Form.TheVariants.{Text as AsText}
 ghost use Rattle.run_faults.specs.RunFault.{RunFault as RunFaultOf};
 ghost use Rattle.run_output.specs.Run.{outcome_of};
 ghost use Rattle.show_run.specs.Run.{EndsShowRun, EndsShown, run_items};
+ghost use Rattle.show_run.specs.Told.{Reading};
 ghost use Rattle.show_run.specs.declared.lists.Given.{Given};
 ghost use Rattle.text_laws.specs.MadeLists.{IsMergedOf, only_text, only_text_of};
 ghost use Rattle.text_laws.specs.Printed.{AreMerged, IsRead, shown_of};
 ghost use Rattle.text_run.specs.Making.{Makes, Wanted as WantedOf};
 
 use plain_list::laws::line_read_as_spelled;
-use show_run::Lists;
 
 /// The entries of a text and then another are those of both, whatever authority is current between
 /// them, and a fault of the second is at its line of the whole. A text that is read without a fault
@@ -150,12 +150,13 @@ pub fn printed_lists_are_made_again()
 
 /// A list that is made of what a whole run printed, with status 0, names exactly what the lists of
 /// the run name.
-pub fn shown_run_is_made_again<L: Lists>(lists: &L)
-    ensures { (names : List (Bor (List ℕ))) (wanted : WantedOf) (text name bytes : List ℕ)
-        (failed : Bool) (fault : Option RunFaultOf) (contents : Revocations)
-        → EndsShowRun (L.states lists.now) names AsText (Some []) (Some text) failed 0 fault
+pub fn shown_run_is_made_again()
+    ensures { (told : List Reading) (names : List (Bor (List ℕ))) (wanted : WantedOf)
+        (text name bytes : List ℕ) (failed : Bool) (fault : Option RunFaultOf)
+        (contents : Revocations)
+        → EndsShowRun told names AsText (Some []) (Some text) failed 0 fault
         → Makes wanted (only_text name text) bytes contents
-        → AreMerged (L.states lists.now) names wanted.header bytes }
+        → AreMerged told names wanted.header bytes }
 {
     line_read_as_spelled();
 }

@@ -13,12 +13,15 @@ use std::alloc::{AllocError, Global};
 use test_fixtures::{FIVE, GITHUB_LINE, list_of};
 
 // A plain list, and a list of serial number 5 of all authorities.
+#[derive(Drop)]
 struct Pair;
 
 impl Lists for Pair {
-    ghost states = { λ _ _ _. Unit {0} };
+    ghost use Rattle.std.specs.Prelude.{None};
 
-    fn read(&self, alloc: Global, name: &str) -> Result<Bytes, Cause> {
+    ghost told = { λ _. None };
+
+    fn read(&mut self, alloc: Global, name: &str) -> Result<Bytes, Cause> {
         match bytes_of(alloc, name) {
             Ok(bytes) => Ok(Bytes::from_vec(bytes)),
             Err(_) => Err(Cause::NoMemory),
@@ -55,7 +58,7 @@ fn compared<W: Sink>(alloc: Global, json: bool, out: &mut W) -> Option<RunFault<
         new: "five",
         json,
     };
-    diff_run(alloc, &Pair, comparison, out).fault
+    diff_run(alloc, &mut Pair, comparison, out).fault
 }
 
 #[test]

@@ -41,12 +41,15 @@ const OBJECTS: &[u8] =
 ";
 
 // The list in memory, under any name.
+#[derive(Drop)]
 struct Shelf;
 
 impl Lists for Shelf {
-    ghost states = { λ _ _ _. Unit {0} };
+    ghost use Rattle.std.specs.Prelude.{None};
 
-    fn read(&self, alloc: Global, _name: &str) -> Result<Bytes, Cause> {
+    ghost told = { λ _. None };
+
+    fn read(&mut self, alloc: Global, _name: &str) -> Result<Bytes, Cause> {
         match Vec::from_slice(alloc, LIST) {
             Ok(bytes) => Ok(Bytes::from_vec(bytes)),
             Err(_) => Err(Cause::NoMemory),
@@ -58,7 +61,7 @@ impl Lists for Shelf {
 fn shown<W: Sink>(alloc: Global, form: Form, out: &mut W) -> Option<RunFault<'static>>
     requires { W.has_failed out.old ≡ false }
 {
-    show_run(alloc, &Shelf, &["r.krl"], form, out).fault
+    show_run(alloc, &mut Shelf, &["r.krl"], form, out).fault
 }
 
 #[test]

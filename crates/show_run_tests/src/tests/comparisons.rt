@@ -74,7 +74,7 @@ fn each_comparison(rt: HostRuntime) {
         let mut taker = Taker::whole(rt.alloc());
         let done = diff_run(
             rt.alloc(),
-            &Shelf,
+            &mut Shelf,
             comparison,
             &mut ToWrite::new(&mut taker),
         );
@@ -106,7 +106,7 @@ fn comparisons_as_json(rt: HostRuntime) {
         let mut taker = Taker::whole(rt.alloc());
         let done = diff_run(
             rt.alloc(),
-            &Shelf,
+            &mut Shelf,
             comparison,
             &mut ToWrite::new(&mut taker),
         );
@@ -143,7 +143,7 @@ fn lists_that_are_not_read(rt: HostRuntime) {
             let mut taker = Taker::whole(rt.alloc());
             let done = diff_run(
                 rt.alloc(),
-                &Shelf,
+                &mut Shelf,
                 comparison,
                 &mut ToWrite::new(&mut taker),
             );
@@ -167,7 +167,7 @@ fn an_output_that_fails_ends_a_comparison(rt: HostRuntime) {
     let mut broken = Taker::new(rt.alloc(), 9, 0);
     let done = diff_run(
         rt.alloc(),
-        &Shelf,
+        &mut Shelf,
         comparison,
         &mut ToWrite::new(&mut broken),
     );

@@ -22,7 +22,7 @@ fn id_line(alloc: Global, id: &[u8]) -> Result<Vec<u8>, AllocError>
 }
 
 /// Whether the lists of these names can be read and printed as a text.
-fn are_shown<L: Lists, W: Sink>(alloc: Global, lists: &L, names: &[&str], out: &mut W) -> bool
+fn are_shown<L: Lists, W: Sink>(alloc: Global, lists: &mut L, names: &[&str], out: &mut W) -> bool
     requires { W.has_failed out.old ≡ false }
 {
     show_run(alloc, lists, names, Form::Text, out).status == 0
@@ -31,7 +31,7 @@ fn are_shown<L: Lists, W: Sink>(alloc: Global, lists: &L, names: &[&str], out: &
 /// Whether the list of one name names exactly what the list of another name does.
 fn are_same<L: Lists, W: Sink>(
     alloc: Global,
-    lists: &L,
+    lists: &mut L,
     comparison: Comparison,
     out: &mut W,
 ) -> bool
@@ -45,12 +45,33 @@ fn the_callers_of_the_pages(rt: HostRuntime) {
     let line = id_line(rt.alloc(), b"bob").expect(&rt, "there is memory");
     assert!(rt; line.as_slice() == b"id: bob\n".as_slice());
     let mut said = Taker::whole(rt.alloc());
-    assert!(rt; are_shown(rt.alloc(), &Shelf, &["five"], &mut ToWrite::new(&mut said)));
-    assert!(rt; !are_shown(rt.alloc(), &Shelf, &["gone"], &mut ToWrite::new(&mut said)));
+    assert!(rt;
+        are_shown(
+            rt.alloc(),
+            &mut Shelf,
+            &["five"],
+            &mut ToWrite::new(&mut said)
+        )
+    );
+    assert!(rt;
+        !are_shown(
+            rt.alloc(),
+            &mut Shelf,
+            &["gone"],
+            &mut ToWrite::new(&mut said)
+        )
+    );
     let comparison = Comparison {
         old: "hundreds",
         new: "pieces",
         json: false,
     };
-    assert!(rt; are_same(rt.alloc(), &Shelf, comparison, &mut ToWrite::new(&mut said)));
+    assert!(rt;
+        are_same(
+            rt.alloc(),
+            &mut Shelf,
+            comparison,
+            &mut ToWrite::new(&mut said)
+        )
+    );
 }

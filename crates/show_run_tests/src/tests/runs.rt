@@ -10,12 +10,15 @@ use std::alloc::Global;
 use test_fixtures::{BITMAP, FIVE, GITHUB_LINE, ID_A, KEY_SECTION, SHA256_SECTION, Taker, list_of};
 
 // Lists in memory.
+#[derive(Drop)]
 pub struct Shelf;
 
 impl Lists for Shelf {
-    ghost states = { λ _ _ _. Unit {0} };
+    ghost use Rattle.std.specs.Prelude.{None};
 
-    fn read(&self, alloc: Global, name: &str) -> Result<Bytes, Cause> {
+    ghost told = { λ _. None };
+
+    fn read(&mut self, alloc: Global, name: &str) -> Result<Bytes, Cause> {
         let made = match name {
             "five" => list_of(alloc, FIVE),
             "odd" => list_of(alloc, BITMAP),
@@ -158,7 +161,7 @@ fn each_row(rt: HostRuntime) {
     for (i, (form, names, said, status, wanted)) in ROWS.iter().enumerate() {
         let mut taker = Taker::whole(rt.alloc());
         let mut out = ToWrite::new(&mut taker);
-        let done = show_run(rt.alloc(), &Shelf, names, *form, &mut out);
+        let done = show_run(rt.alloc(), &mut Shelf, names, *form, &mut out);
         let right = match (&done.fault, wanted) {
             (Some(fault), Some((name, cause))) => fault.name == *name && fault.cause == *cause,
             (None, None) => true,
@@ -174,6 +177,6 @@ fn each_row(rt: HostRuntime) {
 fn an_output_that_fails_ends_a_run(rt: HostRuntime) {
     let mut broken = Taker::new(rt.alloc(), 9, 0);
     let mut lost = ToWrite::new(&mut broken);
-    let done = show_run(rt.alloc(), &Shelf, &["five"], Form::Text, &mut lost);
+    let done = show_run(rt.alloc(), &mut Shelf, &["five"], Form::Text, &mut lost);
     assert!(rt; done.status == 255);
 }

@@ -1,7 +1,9 @@
 -- The lists so far were read.
 use Rattle.show_run.proofs.Common.{take}
 use Rattle.show_run.specs.Lists.{AreGiven}
+use Rattle.show_run.specs.Told.{Tells}
 use Rattle.show_run.proofs.lists.read_lists.Given as goal
 
 abbrev pub invariant-loop-name : goal.invariant-loop-name
-invariant-loop-name g l = AreGiven (g.L.Lists.states l.lists) (take l.name-index l.names) l.all.items
+invariant-loop-name g l =
+    Tells (g.L.Lists.told l.initial.lists) (g.L.Lists.told l.lists) (λ told. AreGiven told (take l.name-index l.names) l.all.items)
