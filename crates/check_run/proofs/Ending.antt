@@ -11,8 +11,6 @@ use Rattle.run_output.proofs.RunParts.{carries_more}
 use Rattle.run_output.specs.declared.done.Done.{Done}
 use Rattle.krl_arguments.specs.declared.task.Check.{Check}
 use Rattle.krl_format.specs.declared.header.Header.{Header}
-use Rattle.krl_types.specs.Entry.{Entry}
-use Rattle.plain_list.specs.Any.{Names}
 use Rattle.krl_checker.specs.Check.{EndsCheck, check_status}
 use Rattle.check_run.specs.Fact.{Fact}
 use Rattle.check_run.specs.Files.{Named}
@@ -60,9 +58,9 @@ all_reached : (result : Result (Unit {0}) RunFault) (later : List Named) → res
 all_reached (Ok done) later is all = all
 all_reached (Err stop) later is all = absurd (some_is stop is)
 
-pub ended : (Knows : Fact → Type 0) (name bytes : List ℕ) (task : Check) (limits : Limits) (result : Result (Unit {0}) RunFault) (old mid : Printer) (before taken : Option (List ℕ)) (refused unread failed : Bool) (status : ℕ) (fault : Option RunFault)
-    → ChecksAll Knows name bytes task limits result old mid refused unread → HasSaid before [] old → EndsAny result mid refused unread taken failed status fault → EndsChecked Knows name bytes task limits before taken failed status fault
-ended Knows name bytes task limits result old mid before taken refused unread failed status fault all has ends =
+pub ended : (told : List Fact) (name bytes : List ℕ) (task : Check) (limits : Limits) (result : Result (Unit {0}) RunFault) (old mid : Printer) (before taken : Option (List ℕ)) (refused unread failed : Bool) (status : ℕ) (fault : Option RunFault)
+    → ChecksAll told name bytes task limits result old mid refused unread → HasSaid before [] old → EndsAny result mid refused unread taken failed status fault → EndsChecked told name bytes task limits before taken failed status fault
+ended told name bytes task limits result old mid before taken refused unread failed status fault all has ends =
     let kept : fault ≡ None → result_err result ≡ None = stop_is_kept all.items result old mid before taken refused unread failed status fault all.checks.carries has ends in
     record {
       items = all.items;
@@ -75,9 +73,9 @@ ended Knows name bytes task limits result old mid before taken refused unread fa
     }
 
 -- The final state of the printer's writer is that of the writer.
-pub ended_there : (Knows : Fact → Type 0) (name bytes : List ℕ) (task : Check) (limits : Limits) (before taken taken' : Option (List ℕ)) (failed failed' : Bool) (status : ℕ) (fault : Option RunFault)
-    → EndsChecked Knows name bytes task limits before taken failed status fault → taken' ≡ taken → failed' ≡ failed → EndsChecked Knows name bytes task limits before taken' failed' status fault
-ended_there Knows name bytes task limits before taken taken' failed failed' status fault ends is_taken is_failed = rw (is_taken, is_failed) ends
+pub ended_there : (told : List Fact) (name bytes : List ℕ) (task : Check) (limits : Limits) (before taken taken' : Option (List ℕ)) (failed failed' : Bool) (status : ℕ) (fault : Option RunFault)
+    → EndsChecked told name bytes task limits before taken failed status fault → taken' ≡ taken → failed' ≡ failed → EndsChecked told name bytes task limits before taken' failed' status fault
+ended_there told name bytes task limits before taken taken' failed failed' status fault ends is_taken is_failed = rw (is_taken, is_failed) ends
 
 pub ends_there : (items : List Item) (before taken taken' : Option (List ℕ)) (failed failed' : Bool) (status : ℕ) (fault : Option RunFault)
     → Ends items before taken failed status fault → taken' ≡ taken → failed' ≡ failed → Ends items before taken' failed' status fault
@@ -85,10 +83,10 @@ ends_there items before taken taken' failed failed' status fault ends is_taken i
 
 -- ---- the list is read
 
-pub ends_version : (only : Bool) (Knows : Fact → Type 0) (name bytes : List ℕ) (task : Check) (before after : Option (List ℕ)) (failed : Bool) (result : Result Done Unanswered) (header : Option Header) (entries : List Entry)
-    → only ≡ true → Names bytes header entries → PrintsVersion name (stated_by header) before after failed result → EndsIf only Knows name bytes task before after failed result
-ends_version only Knows name bytes task before after failed result header entries is names prints = rw is (header, entries, (names, prints))
+pub ends_version : (only : Bool) (told : List Fact) (name bytes : List ℕ) (task : Check) (before after : Option (List ℕ)) (failed : Bool) (result : Result Done Unanswered) (header : Option Header)
+    → only ≡ true → told ≡ [] → PrintsVersion name (stated_by header) before after failed result → EndsIf only told name bytes header task before after failed result
+ends_version only told name bytes task before after failed result header is none prints = rw is (none, prints)
 
-pub ends_beside : (only : Bool) (Knows : Fact → Type 0) (name bytes : List ℕ) (task : Check) (before after : Option (List ℕ)) (failed : Bool) (result : Result Done Unanswered)
-    → only ≡ false → EndsBeside Knows name bytes task before after failed result → EndsIf only Knows name bytes task before after failed result
-ends_beside only Knows name bytes task before after failed result is ends = rw is ends
+pub ends_beside : (only : Bool) (told : List Fact) (name bytes : List ℕ) (task : Check) (before after : Option (List ℕ)) (failed : Bool) (result : Result Done Unanswered) (header : Option Header)
+    → only ≡ false → EndsBeside told name bytes task before after failed result → EndsIf only told name bytes header task before after failed result
+ends_beside only told name bytes task before after failed result header is ends = rw is ends

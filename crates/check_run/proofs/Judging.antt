@@ -91,11 +91,11 @@ ended form name result old new before after fails is kept carries =
     checks_of (end_items form name fails) false result old new before after (subst (λ (b : Bool). Carries (end_items form name b) result old new) is carries) (kept ∙ or_false before)
 
 -- what is known of the list and of the files
-judged : (Knows : Fact → Type 0) (form : Form) (name bytes : List ℕ) (list : ReadList) (held : Revocations) (task : Check) (limits : Limits) (first : Judged) (read : IsReadList false bytes list) (reads : List Read) (later : List Named)
-    → form ≡ form_of task → (names_nobody held ≡ true ↔ NamesNobody read.entries) → IsDifference bytes first.difference → first.nobody ≡ names_nobody held → first.stated ≡ list.stated → first.limits ≡ limits → AreRead Knows (files_of task) reads later
-    → IsChecked Knows name bytes task limits (list_items form name first task ++ (reads_items form (reasons_of read.entries) reads later ++ end_items form name (list_fails first task || reads_fail (reasons_of read.entries) reads)))
+judged : (told : List Fact) (form : Form) (name bytes : List ℕ) (list : ReadList) (held : Revocations) (task : Check) (limits : Limits) (first : Judged) (read : IsReadList false bytes list) (reads : List Read) (later : List Named)
+    → form ≡ form_of task → (names_nobody held ≡ true ↔ NamesNobody read.entries) → IsDifference bytes first.difference → first.nobody ≡ names_nobody held → first.stated ≡ list.stated → first.limits ≡ limits → AreRead told (files_of task) reads later
+    → IsChecked told name bytes task limits (list_items form name first task ++ (reads_items form (reasons_of read.entries) reads later ++ end_items form name (list_fails first task || reads_fail (reasons_of read.entries) reads)))
     (list_fails first task || reads_fail (reasons_of read.entries) reads) (some_unread reads) later
-judged Knows form name bytes list held task limits first read reads later is law difference nobody stated limited are = record {
+judged told form name bytes list held task limits first read reads later is law difference nobody stated limited are = record {
   header = read.header;
   entries = read.entries;
   names = read.named;
@@ -111,10 +111,10 @@ judged Knows form name bytes list held task limits first read reads later is law
   unread_is = refl;
 }
 
-pub all_checked : (Knows : Fact → Type 0) (form : Form) (name bytes : List ℕ) (list : ReadList) (held : Revocations) (task : Check) (limits : Limits) (value files_value : Unit {0}) (result : Result (Unit {0}) RunFault) (p q r s : Printer) (b c d u w x : Bool)
+pub all_checked : (told : List Fact) (form : Form) (name bytes : List ℕ) (list : ReadList) (held : Revocations) (task : Check) (limits : Limits) (value files_value : Unit {0}) (result : Result (Unit {0}) RunFault) (p q r s : Printer) (b c d u w x : Bool)
     → form ≡ form_of task → (read : IsReadList false bytes list) → (names_nobody held ≡ true ↔ NamesNobody read.entries) → ChecksList form name bytes list.stated held task limits (Ok value) p q false b
-    → ChecksFiles Knows form (reasons_of read.entries) (files_of task) (Ok files_value) q r b c u w → u ≡ false → Carries (end_items form name c) result r s → d ≡ c → x ≡ w → ChecksAll Knows name bytes task limits result p s d x
-all_checked Knows form name bytes list held task limits value files_value result p q r s b c d u w x is read law first files working last kept same =
+    → ChecksFiles told form (reasons_of read.entries) (files_of task) (Ok files_value) q r b c u w → u ≡ false → Carries (end_items form name c) result r s → d ≡ c → x ≡ w → ChecksAll told name bytes task limits result p s d x
+all_checked told form name bytes list held task limits value files_value result p q r s b c d u w x is read law first files working last kept same =
     let reasons = reasons_of read.entries in
     let fails : Bool = list_fails first.list task || reads_fail reasons files.reads in
     let items : List Item = reads_items form reasons files.reads files.later in
@@ -126,16 +126,16 @@ all_checked Knows form name bytes list held task limits value files_value result
       fails = fails;
       some = some_unread files.reads;
       later = files.later;
-      is = judged Knows form name bytes list held task limits first.list read files.reads files.later is law first.is_difference first.nobody_is first.stated_is first.limits_are files.are_read;
+      is = judged told form name bytes list held task limits first.list read files.reads files.later is law first.is_difference first.nobody_is first.stated_is first.limits_are files.are_read;
       checks = record { carries = all.carries; refused = on_ok_or result d _ fails (ap (λ (y : Bool). list_fails first.list task || y) (sym (or_false (reads_fail reasons files.reads)))) all.refused };
       unread_is = on_ok result x (some_unread files.reads) (same ∙ subst (λ (y : Bool). w ≡ (y || some_unread files.reads)) working files.unread);
       all = on_ok_all result files.later files.all;
     }
 
-pub files_stop : (Knows : Fact → Type 0) (form : Form) (name bytes : List ℕ) (list : ReadList) (held : Revocations) (task : Check) (limits : Limits) (value : Unit {0}) (stop : RunFault) (p q r : Printer) (b c d u w x : Bool)
+pub files_stop : (told : List Fact) (form : Form) (name bytes : List ℕ) (list : ReadList) (held : Revocations) (task : Check) (limits : Limits) (value : Unit {0}) (stop : RunFault) (p q r : Printer) (b c d u w x : Bool)
     → form ≡ form_of task → (read : IsReadList false bytes list) → (names_nobody held ≡ true ↔ NamesNobody read.entries) → ChecksList form name bytes list.stated held task limits (Ok value) p q false b
-    → ChecksFiles Knows form (reasons_of read.entries) (files_of task) (Err stop) q r b c u w → ChecksAll Knows name bytes task limits (Err stop) p r d x
-files_stop Knows form name bytes list held task limits value stop p q r b c d u w x is read law first files =
+    → ChecksFiles told form (reasons_of read.entries) (files_of task) (Err stop) q r b c u w → ChecksAll told name bytes task limits (Err stop) p r d x
+files_stop told form name bytes list held task limits value stop p q r b c d u w x is read law first files =
     let reasons = reasons_of read.entries in
     let fails : Bool = list_fails first.list task || reads_fail reasons files.reads in
     let items : List Item = reads_items form reasons files.reads files.later in
@@ -146,15 +146,15 @@ files_stop Knows form name bytes list held task limits value stop p q r b c d u 
       fails = fails;
       some = some_unread files.reads;
       later = files.later;
-      is = judged Knows form name bytes list held task limits first.list read files.reads files.later is law first.is_difference first.nobody_is first.stated_is first.limits_are files.are_read;
+      is = judged told form name bytes list held task limits first.list read files.reads files.later is law first.is_difference first.nobody_is first.stated_is first.limits_are files.are_read;
       checks = record { carries = all.carries; refused = tt };
       unread_is = tt;
       all = tt;
     }
 
-pub list_stops : (Knows : Fact → Type 0) (form : Form) (name bytes : List ℕ) (list : ReadList) (held : Revocations) (task : Check) (limits : Limits) (stop : RunFault) (p q : Printer) (b c w : Bool)
-    → form ≡ form_of task → (read : IsReadList false bytes list) → (names_nobody held ≡ true ↔ NamesNobody read.entries) → ChecksList form name bytes list.stated held task limits (Err stop) p q false b → ChecksAll Knows name bytes task limits (Err stop) p q c w
-list_stops Knows form name bytes list held task limits stop p q b c w is read law first =
+pub list_stops : (form : Form) (name bytes : List ℕ) (list : ReadList) (held : Revocations) (task : Check) (limits : Limits) (stop : RunFault) (p q : Printer) (b c w : Bool)
+    → form ≡ form_of task → (read : IsReadList false bytes list) → (names_nobody held ≡ true ↔ NamesNobody read.entries) → ChecksList form name bytes list.stated held task limits (Err stop) p q false b → ChecksAll [] name bytes task limits (Err stop) p q c w
+list_stops form name bytes list held task limits stop p q b c w is read law first =
     let reasons = reasons_of read.entries in
     let files = files_of task in
     let fails : Bool = list_fails first.list task || reads_fail reasons [] in
@@ -164,7 +164,7 @@ list_stops Knows form name bytes list held task limits stop p q b c w is read la
       fails = fails;
       some = some_unread [];
       later = files;
-      is = judged Knows form name bytes list held task limits first.list read [] files is law first.is_difference first.nobody_is first.stated_is first.limits_are (record { files_are = refl; known = tt });
+      is = judged [] form name bytes list held task limits first.list read [] files is law first.is_difference first.nobody_is first.stated_is first.limits_are (record { files_are = refl; told_are = refl });
       checks = checks_more (list_items form name first.list task) rest (list_fails first.list task) fails stop p q false b c first.checks;
       unread_is = tt;
       all = tt;

@@ -2,7 +2,7 @@
 use Rattle.std.proofs.Common.{◌≡◌, ℕ, ◌<◌, ◌+◌, ◌||◌, Bool, List, [], ◌∷◌, ◌++◌, length, map, take, drop, get_or, Result, Ok, Err, refl, sym, ap, subst, ◌∙◌, append_assoc}
 use Rattle.std.specs.Borrow.{Bor}
 use Rattle.std.specs.Prelude.{OnOk, is_err}
-use Rattle.std.specs.List.{AllByRecursion, flat_map}
+use Rattle.std.specs.List.{flat_map}
 use Rattle.std.proofs.lemmas.List.{append-nil, map-append, take_more, take-append-drop}
 use Rattle.std.proofs.lemmas.List.Concat.{flat_map-append}
 use Rattle.std.proofs.lemmas.List.Folds.{list_any-append}
@@ -18,32 +18,28 @@ use Rattle.krl_audit.specs.declared.why.Refusal.{Refusal}
 use Rattle.krl_checker.specs.Check.{ChecksFile}
 use Rattle.krl_checker.specs.declared.role.Role.{Role}
 use Rattle.check_run.specs.Fact.{Fact, FileOf}
-use Rattle.check_run.specs.Files.{AreRead, ChecksFiles, Named, Read, is_unread, named, named_all, passed, read_fails, read_items, reads_fail, reads_items, some_unread}
+use Rattle.check_run.specs.Files.{AreRead, ChecksFiles, Named, Read, fact_read, is_unread, named, named_all, passed, read_fails, read_items, reads_fail, reads_items, some_unread}
 use Rattle.check_run.specs.Lists.{Checks}
 use Rattle.check_run.proofs.Steps.{checks_none, checks_then, on_ok, on_ok_or, or_assoc, or_false}
 
 -- ---- rows of files
 
-all_append : {X : Type 0} (P : X → Type 0) (xs ys : List X) → AllByRecursion P xs → AllByRecursion P ys → AllByRecursion P (xs ++ ys)
-all_append P [] ys here there = there
-all_append P (x ∷ xs) ys here there = (here.0, all_append P xs ys here.1 there)
-
 abbrev file_of : Read → Named
 file_of read = read.file
 
-read_then : (Knows : Fact → Type 0) (files others : List Named) (reads more : List Read) (later : List Named) → AreRead Knows files reads [] → AreRead Knows others more later → AreRead Knows (files ++ others) (reads ++ more) later
-read_then Knows files others reads more later first second = record {
+read_then : (told next : List Fact) (files others : List Named) (reads more : List Read) (later : List Named) → AreRead told files reads [] → AreRead next others more later → AreRead (told ++ next) (files ++ others) (reads ++ more) later
+read_then told next files others reads more later first second = record {
   files_are =
       let front : files ≡ map file_of reads = first.files_are ∙ append-nil (map file_of reads) in
       ap (λ (fs : List Named). fs ++ others) front ∙ (ap (λ (fs : List Named). map file_of reads ++ fs) second.files_are
       ∙ (sym (append_assoc (map file_of reads) (map file_of more) later) ∙ ap (λ (fs : List Named). fs ++ later) (sym (map-append file_of reads more))));
-  known = all_append (λ (read : Read). Knows (FileOf read.file.name read.content)) reads more first.known second.known;
+  told_are = rw (first.told_are, second.told_are) (sym (map-append fact_read reads more));
 }
 
-read_stops : (Knows : Fact → Type 0) (files others : List Named) (reads : List Read) (later : List Named) → AreRead Knows files reads later → AreRead Knows (files ++ others) reads (later ++ others)
-read_stops Knows files others reads later first = record {
+read_stops : (told : List Fact) (files others : List Named) (reads : List Read) (later : List Named) → AreRead told files reads later → AreRead told (files ++ others) reads (later ++ others)
+read_stops told files others reads later first = record {
   files_are = ap (λ (fs : List Named). fs ++ others) first.files_are ∙ append_assoc (map file_of reads) later others;
-  known = first.known;
+  told_are = first.told_are;
 }
 
 items_then : (form : Form) (reasons : Subject → Reasons) (reads more : List Read) (later : List Named) → reads_items form reasons (reads ++ more) later ≡ reads_items form reasons reads [] ++ reads_items form reasons more later
@@ -70,42 +66,42 @@ unread_then reads more = sym (list_any-append is_unread reads more)
 
 -- ---- checks of rows of files
 
-pub no_file : (Knows : Fact → Type 0) (form : Form) (reasons : Subject → Reasons) (now : Printer) (refused unread : Bool) → ChecksFiles Knows form reasons [] (Ok tt) now now refused refused unread unread
+pub no_file : (form : Form) (reasons : Subject → Reasons) (now : Printer) (refused unread : Bool) → ChecksFiles [] form reasons [] (Ok tt) now now refused refused unread unread
 unfolding reads_items reads_fail some_unread
-no_file Knows form reasons now refused unread = record {
+no_file form reasons now refused unread = record {
   reads = [];
   later = [];
-  are_read = record { files_are = refl; known = tt };
+  are_read = record { files_are = refl; told_are = refl };
   checks = checks_none now refused;
   unread = or_false unread;
   all = refl;
 }
 
-pub files_then : (Knows : Fact → Type 0) (form : Form) (reasons : Subject → Reasons) (files others : List Named) (value : Unit {0}) (result : Result (Unit {0}) RunFault) (old mid new : Printer) (a b c u v w : Bool)
-    → ChecksFiles Knows form reasons files (Ok value) old mid a b u v → ChecksFiles Knows form reasons others result mid new b c v w → ChecksFiles Knows form reasons (files ++ others) result old new a c u w
-files_then Knows form reasons files others value result old mid new a b c u v w first second =
+pub files_then : (told next : List Fact) (form : Form) (reasons : Subject → Reasons) (files others : List Named) (value : Unit {0}) (result : Result (Unit {0}) RunFault) (old mid new : Printer) (a b c u v w : Bool)
+    → ChecksFiles told form reasons files (Ok value) old mid a b u v → ChecksFiles next form reasons others result mid new b c v w → ChecksFiles (told ++ next) form reasons (files ++ others) result old new a c u w
+files_then told next form reasons files others value result old mid new a b c u v w first second =
     let xs : List Item = reads_items form reasons first.reads [] in
     let ys : List Item = reads_items form reasons second.reads second.later in
-    let read : AreRead Knows files first.reads [] = subst (λ (fs : List Named). AreRead Knows files first.reads fs) first.all first.are_read in
+    let read : AreRead told files first.reads [] = subst (λ (fs : List Named). AreRead told files first.reads fs) first.all first.are_read in
     let checks : Checks xs (reads_fail reasons first.reads) (Ok value) old mid a b =
     subst (λ (fs : List Named). Checks (reads_items form reasons first.reads fs) (reads_fail reasons first.reads) (Ok value) old mid a b) first.all first.checks in
     let both = checks_then xs ys (reads_fail reasons first.reads) (reads_fail reasons second.reads) value result old mid new a b c checks second.checks in
     record {
       reads = first.reads ++ second.reads;
       later = second.later;
-      are_read = read_then Knows files others first.reads second.reads second.later read second.are_read;
+      are_read = read_then told next files others first.reads second.reads second.later read second.are_read;
       checks = rw (items_then form reasons first.reads second.reads second.later, ← (fail_then reasons first.reads second.reads)) both;
       unread = on_ok_or result w (v || some_unread second.reads) (u || some_unread (first.reads ++ second.reads))
           (ap (λ (x : Bool). x || some_unread second.reads) first.unread ∙ (or_assoc u (some_unread first.reads) (some_unread second.reads) ∙ ap (λ (x : Bool). u || x) (unread_then first.reads second.reads))) second.unread;
       all = second.all;
     }
 
-pub files_stop : (Knows : Fact → Type 0) (form : Form) (reasons : Subject → Reasons) (files others : List Named) (stop : RunFault) (old new : Printer) (a b c u v w : Bool)
-    → ChecksFiles Knows form reasons files (Err stop) old new a b u v → ChecksFiles Knows form reasons (files ++ others) (Err stop) old new a c u w
-files_stop Knows form reasons files others stop old new a b c u v w first = record {
+pub files_stop : (told : List Fact) (form : Form) (reasons : Subject → Reasons) (files others : List Named) (stop : RunFault) (old new : Printer) (a b c u v w : Bool)
+    → ChecksFiles told form reasons files (Err stop) old new a b u v → ChecksFiles told form reasons (files ++ others) (Err stop) old new a c u w
+files_stop told form reasons files others stop old new a b c u v w first = record {
   reads = first.reads;
   later = first.later ++ others;
-  are_read = read_stops Knows files others first.reads first.later first.are_read;
+  are_read = read_stops told files others first.reads first.later first.are_read;
   checks = record {
     carries = rw (items_stop form reasons first.reads first.later others) (carries_more {A = Unit {0}} (reads_items form reasons first.reads first.later) (map passed others) stop old new first.checks.carries);
     refused = tt;
@@ -132,14 +128,14 @@ on_ok_all : (result : Result (Unit {0}) RunFault) (later : List Named) → later
 on_ok_all (Ok done) later is = is
 on_ok_all (Err stop) later is = tt
 
-pub file_checked : (Knows : Fact → Type 0) (form : Form) (reasons : Subject → Reasons) (role : Role) (name : List ℕ) (content : Result (List ℕ) Refusal) (result : Result (Unit {0}) RunFault) (old new : Printer) (a b u w : Bool)
-    → Knows (FileOf name content) → ChecksFile form role reasons name content result old new a b → w ≡ (u || is_err content) → ChecksFiles Knows form reasons (named role name ∷ []) result old new a b u w
-file_checked Knows form reasons role name content result old new a b u w knows checks unread =
+pub file_checked : (form : Form) (reasons : Subject → Reasons) (role : Role) (name : List ℕ) (content : Result (List ℕ) Refusal) (result : Result (Unit {0}) RunFault) (old new : Printer) (a b u w : Bool)
+    → ChecksFile form role reasons name content result old new a b → w ≡ (u || is_err content) → ChecksFiles (FileOf name content ∷ []) form reasons (named role name ∷ []) result old new a b u w
+file_checked form reasons role name content result old new a b u w checks unread =
     let read : Read = record { file = named role name; content = content } in
     record {
       reads = read ∷ [];
       later = [];
-      are_read = record { files_are = refl; known = (knows, tt) };
+      are_read = record { files_are = refl; told_are = refl };
       checks = record {
         carries = rw (one_items form reasons read) checks.carries;
         refused = on_ok_or result b (a || read_fails reasons read) (a || reads_fail reasons (read ∷ [])) (ap (λ (x : Bool). a || x) (one_fails reasons read)) checks.refused;
@@ -149,13 +145,13 @@ file_checked Knows form reasons role name content result old new a b u w knows c
     }
 
 -- An allocation for the content of a file failed.
-pub file_not_reached : (Knows : Fact → Type 0) (form : Form) (reasons : Subject → Reasons) (role : Role) (name : List ℕ) (now : Printer) (a b u w : Bool)
-    → ChecksFiles Knows form reasons (named role name ∷ []) (Err (run_fault_of name NoMemory)) now now a b u w
+pub file_not_reached : (form : Form) (reasons : Subject → Reasons) (role : Role) (name : List ℕ) (now : Printer) (a b u w : Bool)
+    → ChecksFiles [] form reasons (named role name ∷ []) (Err (run_fault_of name NoMemory)) now now a b u w
 unfolding reads_items
-file_not_reached Knows form reasons role name now a b u w = record {
+file_not_reached form reasons role name now a b u w = record {
   reads = [];
   later = named role name ∷ [];
-  are_read = record { files_are = refl; known = tt };
+  are_read = record { files_are = refl; told_are = refl };
   checks = record { carries = carries_withheld {A = Unit {0}} (Passed name) (run_fault_of name NoMemory) now refl; refused = tt };
   unread = tt;
   all = tt;

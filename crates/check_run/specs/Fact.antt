@@ -1,4 +1,4 @@
--- The facts that a host may state.
+-- What a host may say.
 use Rattle.std.specs.Prelude.{ℕ, List, Option, Result, Ok, Err}
 use Rattle.run_faults.specs.declared.cause.Cause.{Cause}
 use Rattle.krl_audit.specs.declared.why.Refusal.{Refusal}

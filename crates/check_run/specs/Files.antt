@@ -1,7 +1,7 @@
 -- The conditions for the keys of files.
 use Rattle.std.specs.Borrow.{Bor}
 use Rattle.std.specs.Prelude.{◌≡◌, ℕ, ◌||◌, not, Bool, List, [], ◌++◌, map, OnOk, Result, is_err}
-use Rattle.std.specs.List.{AllByRecursion, flat_map, list_any}
+use Rattle.std.specs.List.{flat_map, list_any}
 use Rattle.run_faults.specs.RunFault.{RunFault}
 use Rattle.run_output.specs.Printer.{Printer}
 use Rattle.run_output.specs.Run.{Item, Passed}
@@ -37,11 +37,15 @@ pub record Read : Type 0 where
   pub file : Named
   pub content : Result (List ℕ) Refusal
 
--- The files up to some file were read, and these are their contents. The later ones were not read.
-pub record AreRead (Knows : Fact → Type 0) (files : List Named) (reads : List Read)
+abbrev pub fact_read : Read → Fact
+fact_read read = FileOf read.file.name read.content
+
+-- The files up to some file were read, once each and in this order, and these are their contents.
+-- The later ones were not read.
+pub record AreRead (told : List Fact) (files : List Named) (reads : List Read)
     (later : List Named) : Type 0 where
   pub files_are : files ≡ map (λ (read : Read). read.file) reads ++ later
-  pub known : AllByRecursion (λ (read : Read). Knows (FileOf read.file.name read.content)) reads
+  pub told_are : told ≡ map fact_read reads
 
 -- ---- what is printed, and what fails
 
@@ -71,12 +75,12 @@ unfoldable pub some_unread : List Read → Bool
 some_unread reads = list_any is_unread reads
 
 -- The keys of the files were checked, or the check was stopped within them.
-pub record ChecksFiles (Knows : Fact → Type 0) (form : Form) (reasons : Subject → Reasons)
+pub record ChecksFiles (told : List Fact) (form : Form) (reasons : Subject → Reasons)
     (files : List Named) (result : Result (Unit {0}) RunFault)
     (old new : Printer) (before after : Bool) (unread_before unread_after : Bool) : Type 0 where
   pub reads : List Read
   pub later : List Named
-  pub are_read : AreRead Knows files reads later
+  pub are_read : AreRead told files reads later
   pub checks
       : Checks (reads_items form reasons reads later) (reads_fail reasons reads) result old new
       before after

@@ -1,7 +1,7 @@
 -- The conditions for the list itself.
 use Rattle.std.specs.Borrow.{Bor}
-use Rattle.std.specs.Prelude.{◌≡◌, ℕ, ◌||◌, ◌&&◌, nat_lt, not, Bool, true, false, List, [], ◌++◌}
-use Rattle.std.specs.Prelude.{Option, Some, None, Result, Ok, Err, OnOk, is_some, option_map}
+use Rattle.std.specs.Prelude.{◌≡◌, ℕ, ◌||◌, ◌&&◌, nat_lt, not, Bool, true, false, List, [], ◌∷◌}
+use Rattle.std.specs.Prelude.{◌++◌, Option, Some, None, Result, Ok, Err, OnOk, is_some, option_map}
 use Rattle.std.specs.Prelude.{if◌then◌else◌}
 use Rattle.run_faults.specs.RunFault.{RunFault, run_fault_of}
 use Rattle.run_faults.specs.declared.cause.Cause.{Cause}
@@ -38,40 +38,40 @@ abbrev pub IsRefusedAs : List ℕ → Result (List ℕ) Cause → RunFault → T
 IsRefusedAs name (Ok bytes) stop = IsListFault name bytes stop
 IsRefusedAs name (Err cause) stop = stop ≡ run_fault_of name cause
 
--- The list of this name is refused.
-pub record IsRefused (Knows : Fact → Type 0) (name : List ℕ) (stop : RunFault) : Type 0 where
+-- The file of this name was read once, and is refused as a list for this.
+pub record IsRefused (told : List Fact) (name : List ℕ) (stop : RunFault) : Type 0 where
   pub content : Result (List ℕ) Cause
-  pub known : Knows (ListOf name content)
+  pub told_is : told ≡ ListOf name content ∷ []
   pub refused_as : IsRefusedAs name content stop
 
--- The list of this name was read from its bytes.
-pub record IsGiven (Knows : Fact → Type 0) (name : List ℕ) (given : Given) : Type 0 where
+-- The file of this name was read once, and the list is read from its bytes.
+pub record IsGiven (told : List Fact) (name : List ℕ) (given : Given) : Type 0 where
   pub name_is : given.name.now ≡ name
-  pub known : Knows (ListOf name (Ok given.bytes))
+  pub told_is : told ≡ ListOf name (Ok given.bytes) ∷ []
   pub read : IsReadList false given.bytes given.list
 
 -- the version and the date of a list; a plain list has neither
 abbrev pub stated_by : Option Header → Option Stated
 stated_by header = option_map stated_in header
 
--- The other list has this name and this version.
-pub record IsOther (Knows : Fact → Type 0) (name : List ℕ) (other : Other) : Type 0 where
+-- The file of this name was read once, and the other list has this name and this version.
+pub record IsOther (told : List Fact) (name : List ℕ) (other : Other) : Type 0 where
   pub bytes : List ℕ
   pub header : Option Header
   pub entries : List Entry
-  pub known : Knows (ListOf name (Ok bytes))
+  pub told_is : told ≡ ListOf name (Ok bytes) ∷ []
   pub names : Names bytes header entries
   pub name_is : other.name.now ≡ name
   pub version_is : other.version ≡ version_of (stated_by header)
 
-abbrev pub IsOtherOf : (Fact → Type 0) → Option (Bor (List ℕ)) → Option Other → Type 0
-IsOtherOf Knows None other = other ≡ None
-IsOtherOf Knows (Some name) None = ⊥
-IsOtherOf Knows (Some name) (Some other) = IsOther Knows name.now other
+abbrev pub IsOtherOf : List Fact → Option (Bor (List ℕ)) → Option Other → Type 0
+IsOtherOf told None other = (told ≡ []) × (other ≡ None)
+IsOtherOf told (Some name) None = ⊥
+IsOtherOf told (Some name) (Some other) = IsOther told name.now other
 
-abbrev pub IsOtherRefused : (Fact → Type 0) → Option (Bor (List ℕ)) → RunFault → Type 0
-IsOtherRefused Knows None stop = ⊥
-IsOtherRefused Knows (Some name) stop = IsRefused Knows name.now stop
+abbrev pub IsOtherRefused : List Fact → Option (Bor (List ℕ)) → RunFault → Type 0
+IsOtherRefused told None stop = ⊥
+IsOtherRefused told (Some name) stop = IsRefused told name.now stop
 
 -- ---- a condition
 

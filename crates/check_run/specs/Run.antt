@@ -1,6 +1,6 @@
 -- A whole check: what it prints, and how it ends.
-use Rattle.std.specs.Prelude.{◌≡◌, ◌↔◌, ℕ, ◌||◌, Bool, true, false, List, [], ◌++◌, Option, Some}
-use Rattle.std.specs.Prelude.{None, Result, Ok, Err, OnOk, if◌then◌else◌, is_some}
+use Rattle.std.specs.Prelude.{◌≡◌, ◌↔◌, ℕ, ◌||◌, Bool, true, false, List, [], ◌∷◌, ◌++◌, Option}
+use Rattle.std.specs.Prelude.{Some, None, Result, Ok, Err, OnOk, if◌then◌else◌, is_some}
 use Rattle.run_faults.specs.RunFault.{RunFault}
 use Rattle.run_output.specs.Printer.{Printer}
 use Rattle.run_output.specs.Run.{Item}
@@ -21,11 +21,13 @@ use Rattle.plain_list.specs.Any.{Names}
 use Rattle.check_run.specs.Fact.{Fact, ListOf}
 use Rattle.check_run.specs.Files.{AreRead, Named, Read, files_of, reads_fail, reads_items}
 use Rattle.check_run.specs.Files.{some_unread}
-use Rattle.check_run.specs.Limits.{AreLimits, IsClockless, IsLostUnknown}
-use Rattle.check_run.specs.Lists.{Checks, IsDifference, IsOtherRefused, IsRefused}
+use Rattle.check_run.specs.Limits.{AreLimits, AreOthers, IsClockless, IsLostUnknown}
+use Rattle.check_run.specs.Lists.{Checks, IsDifference, IsOtherOf, IsOtherRefused, IsRefused}
 use Rattle.check_run.specs.Lists.{empty_fails, empty_items, stated_by, limits_fail, limits_items}
 use Rattle.check_run.specs.Version.{PrintsVersion}
 use Rattle.check_run.specs.declared.limits.Limits.{Limits}
+use Rattle.check_run.specs.declared.lists.Lost.{Lost}
+use Rattle.check_run.specs.declared.lists.Other.{Other}
 use Rattle.check_run.specs.declared.limits.Unanswered.{Unanswered}
 
 -- ---- all conditions, in their order
@@ -55,7 +57,7 @@ list_fails list task =
 
 -- A check of this list, by its limits, prints these items. It says whether a condition fails and
 -- whether a file was not read, and these files were not reached.
-pub record IsChecked (Knows : Fact → Type 0) (name bytes : List ℕ) (task : Check)
+pub record IsChecked (told : List Fact) (name bytes : List ℕ) (task : Check)
     (limits : Limits) (items : List Item) (fails unread : Bool) (later : List Named) : Type 0
   where
     pub header : Option Header
@@ -67,7 +69,7 @@ pub record IsChecked (Knows : Fact → Type 0) (name bytes : List ℕ) (task : C
     pub stated_is : list.stated ≡ stated_by header
     pub limits_are : list.limits ≡ limits
     pub reads : List Read
-    pub are_read : AreRead Knows (files_of task) reads later
+    pub are_read : AreRead told (files_of task) reads later
     pub items_are : items
         ≡ list_items (form_of task) name list task
         ++ (reads_items (form_of task) (reasons_of entries) reads later
@@ -78,14 +80,14 @@ pub record IsChecked (Knows : Fact → Type 0) (name bytes : List ℕ) (task : C
 -- ---- the end
 
 -- The check of the list came to an end. Unless a fault stopped it, it reached each file.
-pub record EndsChecked (Knows : Fact → Type 0) (name bytes : List ℕ) (task : Check)
+pub record EndsChecked (told : List Fact) (name bytes : List ℕ) (task : Check)
     (limits : Limits) (before after : Option (List ℕ)) (failed : Bool) (status : ℕ)
     (fault : Option RunFault) : Type 0 where
   pub items : List Item
   pub fails : Bool
   pub unread : Bool
   pub later : List Named
-  pub is : IsChecked Knows name bytes task limits items fails unread later
+  pub is : IsChecked told name bytes task limits items fails unread later
   pub ends : EndsCheck items fails unread before after failed status fault
   pub all : fault ≡ None → later ≡ []
 
@@ -101,42 +103,50 @@ pub record EndsRefused (Is : RunFault → Type 0) (before after : Option (List �
   pub after_is : after ≡ before
   pub works : failed ≡ false
 
--- The check of a list that was read came to an end; or another list is refused, or the clock cannot
--- be read, and nothing was printed.
-pub data EndsBeside (Knows : Fact → Type 0) (name bytes : List ℕ) (task : Check)
+-- The other lists and the clock were read, and then the check of a list that was read came to an
+-- end, with the files of keys. Or the list of `--newer-than` is refused; or that of `--superset-of`
+-- is, after the first one was read; or the clock cannot be read, after both were; and nothing was
+-- printed.
+pub data EndsBeside (told : List Fact) (name bytes : List ℕ) (task : Check)
     (before after : Option (List ℕ)) (failed : Bool) (result : Result Done Unanswered) : Type 0
   where
-    beside : (limits : Limits) → AreLimits Knows bytes task limits
-        → (done : Done) → result ≡ Ok done
-        → EndsChecked Knows name bytes task limits before after failed done.status done.fault
-        → EndsBeside Knows name bytes task before after failed result
+    beside : (limits : Limits) → (first files : List Fact) → told ≡ first ++ files
+        → AreLimits first bytes task limits → (done : Done) → result ≡ Ok done
+        → EndsChecked files name bytes task limits before after failed done.status done.fault
+        → EndsBeside told name bytes task before after failed result
     other_refused :
-        EndsRefused (IsOtherRefused Knows task.newer_than) before after failed result
-        → EndsBeside Knows name bytes task before after failed result
-    lost_unknown :
-        EndsRefused (IsLostUnknown Knows task.superset_of) before after failed result
-        → EndsBeside Knows name bytes task before after failed result
-    clockless : (why : Unanswered) → IsClockless Knows task.max_age why
+        EndsRefused (IsOtherRefused told task.newer_than) before after failed result
+        → EndsBeside told name bytes task before after failed result
+    lost_unknown : (other : Option Other) → (first last : List Fact) → told ≡ first ++ last
+        → IsOtherOf first task.newer_than other
+        → EndsRefused (IsLostUnknown last task.superset_of) before after failed result
+        → EndsBeside told name bytes task before after failed result
+    clockless : (other : Option Other) → (lost : Option Lost) → (first last : List Fact)
+        → told ≡ first ++ last → AreOthers first bytes task other lost
+        → (why : Unanswered) → IsClockless last task.max_age why
         → result ≡ Err why → after ≡ before → failed ≡ false
-        → EndsBeside Knows name bytes task before after failed result
+        → EndsBeside told name bytes task before after failed result
 
--- The version of a list that was read is printed, or the list is checked.
-abbrev pub EndsIf : (only_version : Bool) → (Fact → Type 0) → (name bytes : List ℕ) → Check
-    → (before after : Option (List ℕ)) → (failed : Bool) → Result Done Unanswered → Type 0
-EndsIf true Knows name bytes task before after failed result =
-    (header : Option Header) × (entries : List Entry) × (Names bytes header entries
-    × PrintsVersion name (stated_by header) before after failed result)
-EndsIf false Knows name bytes task before after failed result =
-    EndsBeside Knows name bytes task before after failed result
+-- The version of a list that was read is printed, and nothing else is read; or the list is checked.
+abbrev pub EndsIf : (only_version : Bool) → List Fact → (name bytes : List ℕ) → Option Header
+    → Check → (before after : Option (List ℕ)) → (failed : Bool) → Result Done Unanswered
+    → Type 0
+EndsIf true told name bytes header task before after failed result =
+    (told ≡ []) × PrintsVersion name (stated_by header) before after failed result
+EndsIf false told name bytes header task before after failed result =
+    EndsBeside told name bytes task before after failed result
 
--- The task was done with the list that it names, or the list is refused.
-pub data EndsCheckRun (Knows : Fact → Type 0) (task : Check) (before after : Option (List ℕ))
+-- The list of the task was read first, and the task was done with it; or the list is refused, and
+-- nothing else was read.
+pub data EndsCheckRun (told : List Fact) (task : Check) (before after : Option (List ℕ))
     (failed : Bool) (result : Result Done Unanswered) : Type 0 where
-  read : (bytes : List ℕ) → Knows (ListOf task.list.now (Ok bytes))
-      → EndsIf task.print_version Knows task.list.now bytes task before after failed result
-      → EndsCheckRun Knows task before after failed result
-  refused : EndsRefused (IsRefused Knows task.list.now) before after failed result
-      → EndsCheckRun Knows task before after failed result
+  read : (bytes : List ℕ) → (later : List Fact)
+      → told ≡ ListOf task.list.now (Ok bytes) ∷ later
+      → (header : Option Header) → (entries : List Entry) → Names bytes header entries
+      → EndsIf task.print_version later task.list.now bytes header task before after failed result
+      → EndsCheckRun told task before after failed result
+  refused : EndsRefused (IsRefused told task.list.now) before after failed result
+      → EndsCheckRun told task before after failed result
 
 -- ---- the parts of a run
 
@@ -153,14 +163,14 @@ pub record ChecksList (form : Form) (name bytes : List ℕ) (stated : Option Sta
       after
 
 -- All conditions were checked, or the check was stopped within them.
-pub record ChecksAll (Knows : Fact → Type 0) (name bytes : List ℕ) (task : Check)
+pub record ChecksAll (told : List Fact) (name bytes : List ℕ) (task : Check)
     (limits : Limits) (result : Result (Unit {0}) RunFault) (old new : Printer)
     (refused unread : Bool) : Type 0 where
   pub items : List Item
   pub fails : Bool
   pub some : Bool
   pub later : List Named
-  pub is : IsChecked Knows name bytes task limits items fails some later
+  pub is : IsChecked told name bytes task limits items fails some later
   pub checks : Checks items fails result old new false refused
   pub unread_is : OnOk result (unread ≡ some)
   pub all : OnOk result (later ≡ [])

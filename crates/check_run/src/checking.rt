@@ -3,6 +3,7 @@
 ghost use Rattle.std.specs.Prelude.{◌≡◌, false};
 ghost use Rattle.any_list.specs.List.{IsReadList};
 ghost use Rattle.check_run.specs.Run.{ChecksAll, ChecksList, EndsChecked, form_of};
+ghost use Rattle.show_run.specs.Told.{Tells};
 
 use crate::conditions::{check_empty, check_format, check_limits};
 use crate::files::check_files;
@@ -30,14 +31,14 @@ pub(crate) struct Job<'a, 'g, 'l> {
 pub(crate) fn check_by<'a, H: Host, W: Sink>(
     alloc: Global,
     job: Job<'a, '_, '_>,
-    host: &H,
+    host: &mut H,
     out: &mut W,
 ) -> Done<'a>
     requires read { IsReadList false job.given.now.bytes job.given.now.list }
     requires working { W.has_failed out.old ≡ false }
-    ensures { EndsChecked (H.states host.now) job.entry.given.now.name.now
-        job.entry.given.now.bytes job.entry.task.now job.entry.limits (W.taken out.old)
-        (W.taken out.new) (W.has_failed out.new) result.status result.fault }
+    ensures { Tells (H.told host.old) (H.told host.new) (λ told. EndsChecked told
+        job.entry.given.now.name.now job.entry.given.now.bytes job.entry.task.now job.entry.limits
+        (W.taken out.old) (W.taken out.new) (W.has_failed out.new) result.status result.fault) }
 {
     let mut buffer = Vec::new(alloc);
     let printer = Printer::new(&mut buffer, out);
@@ -67,17 +68,17 @@ fn form_of(task: &Check) -> Form
 fn check_all<'a, H: Host, W: Sink>(
     checker: &mut Checker<'_, '_, W>,
     job: Job<'a, '_, '_>,
-    host: &H,
+    host: &mut H,
 ) -> Result<(), RunFault<'a>>
     requires read { IsReadList false job.given.now.bytes job.given.now.list }
     requires judge { checker.old.auditor.judge.list.now ≡ job.given.now.list.revocations }
     requires form { checker.old.auditor.judge.shown.form ≡ form_of job.task.now }
     requires refused { checker.old.refused ≡ false }
     requires unread { checker.old.unread ≡ false }
-    ensures all { ChecksAll (H.states host.now) job.entry.given.now.name.now
-        job.entry.given.now.bytes job.entry.task.now job.entry.limits result
-        checker.old.auditor.run.printer checker.new.auditor.run.printer checker.new.refused
-        checker.new.unread }
+    ensures all { Tells (H.told host.old) (H.told host.new) (λ told. ChecksAll told
+        job.entry.given.now.name.now job.entry.given.now.bytes job.entry.task.now job.entry.limits
+        result checker.old.auditor.run.printer checker.new.auditor.run.printer
+        checker.new.refused checker.new.unread) }
     ensures writer { checker.new.auditor.run.printer.writer
         ≡ checker.old.auditor.run.printer.writer }
 {

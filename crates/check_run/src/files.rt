@@ -5,6 +5,7 @@ ghost use Rattle.krl_entries.specs.Reasons.{reasons_of};
 ghost use Rattle.krl_entries.specs.Revocations.{Means};
 ghost use Rattle.krl_types.specs.Entry.{Entry};
 ghost use Rattle.check_run.specs.Files.{ChecksFiles, files_of, named, named_all};
+ghost use Rattle.show_run.specs.Told.{Tells};
 
 use crate::host::Host;
 use byte_streams::Sink;
@@ -15,14 +16,15 @@ use run_faults::{Cause, RunFault};
 /// Checks the keys of the files that must not be revoked, and of those that must be.
 pub(crate) fn check_files<'a, H: Host, W: Sink>(
     checker: &mut Checker<'_, '_, W>,
-    host: &H,
+    host: &mut H,
     task: &Check<'a>,
 ) -> Result<(), RunFault<'a>>
-    ensures checks { (entries : List Entry) → Means checker.old.auditor.judge.list.now entries
-        → ChecksFiles (H.states host.now) checker.old.auditor.judge.shown.form
-        (reasons_of entries) (files_of task.now) result checker.old.auditor.run.printer
+    ensures checks { Tells (H.told host.old) (H.told host.new) (λ told. (entries : List Entry)
+        → Means checker.old.auditor.judge.list.now entries
+        → ChecksFiles told checker.old.auditor.judge.shown.form (reasons_of entries)
+        (files_of task.now) result checker.old.auditor.run.printer
         checker.new.auditor.run.printer checker.old.refused checker.new.refused
-        checker.old.unread checker.new.unread }
+        checker.old.unread checker.new.unread) }
     ensures form { checker.new.auditor.judge.shown.form ≡ checker.old.auditor.judge.shown.form }
 {
     check_each(checker, host, Role::Keep, task.keep.as_slice())?;
@@ -32,15 +34,16 @@ pub(crate) fn check_files<'a, H: Host, W: Sink>(
 // Checks the keys of each of these files.
 fn check_each<'a, H: Host, W: Sink>(
     checker: &mut Checker<'_, '_, W>,
-    host: &H,
+    host: &mut H,
     role: Role,
     names: &[&'a str],
 ) -> Result<(), RunFault<'a>>
-    ensures checks { (entries : List Entry) → Means checker.old.auditor.judge.list.now entries
-        → ChecksFiles (H.states host.now) checker.old.auditor.judge.shown.form
-        (reasons_of entries) (named_all role names.now) result checker.old.auditor.run.printer
+    ensures checks { Tells (H.told host.old) (H.told host.new) (λ told. (entries : List Entry)
+        → Means checker.old.auditor.judge.list.now entries
+        → ChecksFiles told checker.old.auditor.judge.shown.form (reasons_of entries)
+        (named_all role names.now) result checker.old.auditor.run.printer
         checker.new.auditor.run.printer checker.old.refused checker.new.refused
-        checker.old.unread checker.new.unread }
+        checker.old.unread checker.new.unread) }
     ensures list { checker.new.auditor.judge.list ≡ checker.old.auditor.judge.list }
     ensures form { checker.new.auditor.judge.shown.form ≡ checker.old.auditor.judge.shown.form }
 {
@@ -53,15 +56,16 @@ fn check_each<'a, H: Host, W: Sink>(
 // Checks the keys of a file.
 fn check_file<'a, H: Host, W: Sink>(
     checker: &mut Checker<'_, '_, W>,
-    host: &H,
+    host: &mut H,
     role: Role,
     name: &'a str,
 ) -> Result<(), RunFault<'a>>
-    ensures checks { (entries : List Entry) → Means checker.old.auditor.judge.list.now entries
-        → ChecksFiles (H.states host.now) checker.old.auditor.judge.shown.form
-        (reasons_of entries) (named role name.now ∷ []) result checker.old.auditor.run.printer
+    ensures checks { Tells (H.told host.old) (H.told host.new) (λ told. (entries : List Entry)
+        → Means checker.old.auditor.judge.list.now entries
+        → ChecksFiles told checker.old.auditor.judge.shown.form (reasons_of entries)
+        (named role name.now ∷ []) result checker.old.auditor.run.printer
         checker.new.auditor.run.printer checker.old.refused checker.new.refused
-        checker.old.unread checker.new.unread }
+        checker.old.unread checker.new.unread) }
     ensures list { checker.new.auditor.judge.list ≡ checker.old.auditor.judge.list }
     ensures form { checker.new.auditor.judge.shown.form ≡ checker.old.auditor.judge.shown.form }
 {

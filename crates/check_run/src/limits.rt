@@ -2,6 +2,7 @@
 
 ghost use Rattle.std.specs.Prelude.{◌≡◌, IfErr, IfOk};
 ghost use Rattle.check_run.specs.Limits.{IsAgeLimit, IsClockless, unanswered_words};
+ghost use Rattle.show_run.specs.Told.{Tells};
 
 use crate::host::Host;
 use crate::lists::{Lost, Other};
@@ -47,11 +48,13 @@ impl Unanswered {
 
 /// The limit of the age of a list, if there is one, by the clock of a host.
 pub(crate) fn age_limit<H: Host>(
-    host: &H,
+    host: &mut H,
     max_age: Option<u64>,
 ) -> Result<Option<AgeLimit>, Unanswered>
-    ensures limit { IfOk result (λ limit. IsAgeLimit (H.states host.now) max_age limit) }
-    ensures clock { IfErr result (λ why. IsClockless (H.states host.now) max_age why) }
+    ensures limit { IfOk result (λ limit. Tells (H.told host.old) (H.told host.new)
+        (λ told. IsAgeLimit told max_age limit)) }
+    ensures clock { IfErr result (λ why. Tells (H.told host.old) (H.told host.new)
+        (λ told. IsClockless told max_age why)) }
 {
     let Some(max_age) = max_age else {
         return Ok(None);

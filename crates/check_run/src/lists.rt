@@ -6,6 +6,7 @@ ghost use Rattle.krl_types.specs.Entry.{Entry};
 ghost use Rattle.check_run.specs.Lists.{IsGiven, IsOtherOf, IsOtherRefused, IsRefused};
 ghost use Rattle.check_run.specs.Lists.{version_of};
 ghost use Rattle.check_run.specs.Limits.{IsLostOf, IsLostUnknown};
+ghost use Rattle.show_run.specs.Told.{Tells};
 
 use crate::host::Host;
 use any_list::{List as ReadList, read_list};
@@ -42,11 +43,13 @@ pub(crate) struct Lost<'a> {
 /// Reads a list, or says why it is refused.
 pub(crate) fn read_file<'a, H: Host>(
     alloc: Global,
-    host: &H,
+    host: &mut H,
     name: &'a str,
 ) -> Result<Given<'a>, RunFault<'a>>
-    ensures found { IfOk result (λ given. IsGiven (H.states host.now) name.now given) }
-    ensures fault { IfErr result (λ stop. IsRefused (H.states host.now) name.now stop) }
+    ensures found { IfOk result (λ given. Tells (H.told host.old) (H.told host.new)
+        (λ told. IsGiven told name.now given)) }
+    ensures fault { IfErr result (λ stop. Tells (H.told host.old) (H.told host.new)
+        (λ told. IsRefused told name.now stop)) }
 {
     let bytes = match host.list(name) {
         Ok(bytes) => bytes,
@@ -62,11 +65,13 @@ pub(crate) fn read_file<'a, H: Host>(
 /// is refused.
 pub(crate) fn read_other<'a, H: Host>(
     alloc: Global,
-    host: &H,
+    host: &mut H,
     name: Option<&'a str>,
 ) -> Result<Option<Other<'a>>, RunFault<'a>>
-    ensures found { IfOk result (λ other. IsOtherOf (H.states host.now) name.entry other) }
-    ensures fault { IfErr result (λ stop. IsOtherRefused (H.states host.now) name.entry stop) }
+    ensures found { IfOk result (λ other. Tells (H.told host.old) (H.told host.new)
+        (λ told. IsOtherOf told name.entry other)) }
+    ensures fault { IfErr result (λ stop. Tells (H.told host.old) (H.told host.new)
+        (λ told. IsOtherRefused told name.entry stop)) }
 {
     let Some(name) = name else {
         return Ok(None);
@@ -84,13 +89,15 @@ pub(crate) fn read_other<'a, H: Host>(
 /// lacks, or says why the other list is refused.
 pub(crate) fn read_lost<'a, H: Host>(
     alloc: Global,
-    host: &H,
+    host: &mut H,
     name: Option<&'a str>,
     held: &Revocations<Held>,
 ) -> Result<Option<Lost<'a>>, RunFault<'a>>
-    ensures found { IfOk result (λ lost. (own : List Entry) → Means held.now own
-        → IsLostOf (H.states host.now) own name.entry lost) }
-    ensures fault { IfErr result (λ stop. IsLostUnknown (H.states host.now) name.entry stop) }
+    ensures found { IfOk result (λ lost. Tells (H.told host.old) (H.told host.new)
+        (λ told. (own : List Entry) → Means held.now own
+        → IsLostOf told own name.entry lost)) }
+    ensures fault { IfErr result (λ stop. Tells (H.told host.old) (H.told host.new)
+        (λ told. IsLostUnknown told name.entry stop)) }
 {
     let Some(name) = name else {
         return Ok(None);

@@ -3,6 +3,7 @@
 ghost use Rattle.std.specs.Prelude.{◌≡◌, Some, false};
 ghost use Rattle.any_list.specs.List.{IsReadList};
 ghost use Rattle.check_run.specs.Run.{EndsBeside, EndsCheckRun};
+ghost use Rattle.show_run.specs.Told.{Tells};
 
 use crate::checking::{Job, check_by};
 use crate::host::Host;
@@ -26,12 +27,12 @@ use std::alloc::Global;
 pub fn check_run<'a, H: Host, W: Sink>(
     alloc: Global,
     task: &Check<'a>,
-    host: &H,
+    host: &mut H,
     out: &mut W,
 ) -> Result<Done<'a>, Unanswered>
     requires { W.has_failed out.old ≡ false }
-    ensures { EndsCheckRun (H.states host.now) task.now (W.taken out.old) (W.taken out.new)
-        (W.has_failed out.new) result }
+    ensures { Tells (H.told host.old) (H.told host.new) (λ told. EndsCheckRun told task.now
+        (W.taken out.old) (W.taken out.new) (W.has_failed out.new) result) }
 {
     let given = match read_file(alloc, host, task.list) {
         Ok(given) => given,
@@ -60,13 +61,14 @@ fn check_beside<'a, 'g, H: Host, W: Sink>(
     alloc: Global,
     given: &'g Given<'a>,
     task: &'g Check<'a>,
-    host: &H,
+    host: &mut H,
     out: &mut W,
 ) -> Result<Done<'a>, Unanswered>
     requires read { IsReadList false given.now.bytes given.now.list }
     requires working { W.has_failed out.old ≡ false }
-    ensures { EndsBeside (H.states host.now) given.now.name.now given.now.bytes task.now
-        (W.taken out.old) (W.taken out.new) (W.has_failed out.new) result }
+    ensures { Tells (H.told host.old) (H.told host.new) (λ told. EndsBeside told
+        given.now.name.now given.now.bytes task.now (W.taken out.old) (W.taken out.new)
+        (W.has_failed out.new) result) }
 {
     let other = match read_other(alloc, host, task.newer_than) {
         Ok(other) => other,

@@ -16,7 +16,7 @@ use std::alloc::AllocError;
 /// Checks what the task names. Answers the exit status.
 pub fn check(rt: &HostRuntime, task: &Check) -> u8 {
     let mut out = ToWrite::new(rt.stdout());
-    match check_run(rt.alloc(), task, &System { rt }, &mut out) {
+    match check_run(rt.alloc(), task, &mut System { rt }, &mut out) {
         Ok(done) => end(rt, &Krl, &done),
         Err(why) => fail_in_words(rt, task.list, why.words()),
     }
@@ -29,22 +29,22 @@ struct System<'a> {
 }
 
 impl<'a> Host for System<'a> {
-    ghost use Rattle.check_run.specs.Fact.{Fact};
+    ghost use Rattle.std.specs.Prelude.{None};
 
-    ghost states = { λ _ _. Unit {0} };
+    ghost told = { λ _. None };
 
-    fn list(&self, name: &str) -> Result<Bytes, Cause> {
+    fn list(&mut self, name: &str) -> Result<Bytes, Cause> {
         bytes_of(self.rt, name)
     }
 
-    fn read(&self, name: &str, text: &mut Vec<u8>) -> Result<Result<(), Refusal>, AllocError> {
+    fn read(&mut self, name: &str, text: &mut Vec<u8>) -> Result<Result<(), Refusal>, AllocError> {
         match open(self.rt, name) {
             Ok(file) => read(&mut FromRead::new(file), text),
             Err(refusal) => Ok(Err(refusal)),
         }
     }
 
-    fn moment(&self) -> Option<u64> {
+    fn moment(&mut self) -> Option<u64> {
         present(self.rt)
     }
 }

@@ -44,7 +44,7 @@ fn version_of(alloc: Global, bytes: &[u8]) -> Option<u64> {
 }
 
 /// Whether a list may be put in force by these conditions: nothing is printed if it may.
-fn may_be_used<H: Host, W: Sink>(alloc: Global, task: &Check, host: &H, out: &mut W) -> bool
+fn may_be_used<H: Host, W: Sink>(alloc: Global, task: &Check, host: &mut H, out: &mut W) -> bool
     requires { W.has_failed out.old ≡ false }
 {
     match check_run(alloc, task, host, out) {
@@ -78,7 +78,7 @@ fn the_callers_of_the_pages(rt: HostRuntime) {
         json: false,
         print_version: false,
     };
-    let shelf = Shelf {
+    let mut shelf = Shelf {
         alloc: rt.alloc(),
         list: Ok(SEVEN),
         other: Ok(SEVEN),
@@ -86,5 +86,5 @@ fn the_callers_of_the_pages(rt: HostRuntime) {
         moment: None,
     };
     let mut said = Taker::whole(rt.alloc());
-    assert!(rt; may_be_used(rt.alloc(), &task, &shelf, &mut ToWrite::new(&mut said)));
+    assert!(rt; may_be_used(rt.alloc(), &task, &mut shelf, &mut ToWrite::new(&mut said)));
 }

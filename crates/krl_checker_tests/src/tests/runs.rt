@@ -27,11 +27,11 @@ pub struct Shelf {
 }
 
 impl Host for Shelf {
-    ghost use Rattle.check_run.specs.Fact.{Fact};
+    ghost use Rattle.std.specs.Prelude.{None};
 
-    ghost states = { λ _ _. Unit {0} };
+    ghost told = { λ _. None };
 
-    fn list(&self, name: &str) -> Result<Bytes, Cause> {
+    fn list(&mut self, name: &str) -> Result<Bytes, Cause> {
         let bytes = match name {
             "l" => self.list?,
             "o" => self.other?,
@@ -43,7 +43,7 @@ impl Host for Shelf {
         }
     }
 
-    fn read(&self, name: &str, text: &mut Vec<u8>) -> Result<Result<(), Refusal>, AllocError> {
+    fn read(&mut self, name: &str, text: &mut Vec<u8>) -> Result<Result<(), Refusal>, AllocError> {
         text.clear();
         match name {
             "key" => text.extend_from_slice(GITHUB_LINE)?,
@@ -54,7 +54,7 @@ impl Host for Shelf {
         Ok(Ok(()))
     }
 
-    fn moment(&self) -> Option<u64> {
+    fn moment(&mut self) -> Option<u64> {
         self.moment
     }
 }
@@ -395,7 +395,7 @@ fn checked<W: Sink>(
 ) -> Result<Result<Done<'static>, Unanswered>, AllocError>
     requires { W.has_failed out.old ≡ false }
 {
-    let shelf = Shelf {
+    let mut shelf = Shelf {
         alloc,
         list: asked.list,
         other: asked.other.unwrap_or(Err(NO_FILE)),
@@ -413,7 +413,7 @@ fn checked<W: Sink>(
         json: asked.json,
         print_version: asked.print_version,
     };
-    Ok(check_run(alloc, &task, &shelf, out))
+    Ok(check_run(alloc, &task, &mut shelf, out))
 }
 
 // Returns true if a check was stopped by this fault, or by none.

@@ -56,11 +56,11 @@ struct Shelf {
 }
 
 impl Host for Shelf {
-    ghost use Rattle.check_run.specs.Fact.{Fact};
+    ghost use Rattle.std.specs.Prelude.{None};
 
-    ghost states = { λ _ _. Unit {0} };
+    ghost told = { λ _. None };
 
-    fn list(&self, name: &str) -> Result<Bytes, Cause> {
+    fn list(&mut self, name: &str) -> Result<Bytes, Cause> {
         let bytes = if name == "r.krl" { SIGNED } else { OTHER_LINE };
         match Vec::from_slice(self.alloc, bytes) {
             Ok(bytes) => Ok(Bytes::from_vec(bytes)),
@@ -68,13 +68,13 @@ impl Host for Shelf {
         }
     }
 
-    fn read(&self, name: &str, text: &mut Vec<u8>) -> Result<Result<(), Refusal>, AllocError> {
+    fn read(&mut self, name: &str, text: &mut Vec<u8>) -> Result<Result<(), Refusal>, AllocError> {
         let line = if name == "f" { GITHUB_LINE } else { OTHER_LINE };
         text.extend_from_slice(line)?;
         Ok(Ok(()))
     }
 
-    fn moment(&self) -> Option<u64> {
+    fn moment(&mut self) -> Option<u64> {
         None
     }
 }
@@ -105,7 +105,7 @@ fn runs_out<W: Sink>(alloc: Global, wanted: Wanted, out: &mut W) -> Result<bool,
         json: wanted == Wanted::Objects,
         print_version: wanted == Wanted::Version,
     };
-    match check_run(alloc, &task, &Shelf { alloc }, out) {
+    match check_run(alloc, &task, &mut Shelf { alloc }, out) {
         Ok(
             Done {
                 fault: Some(stop),

@@ -1,6 +1,7 @@
 -- The list is checked, then the files, and then the last line is printed.
-use Rattle.std.proofs.Common.{◌≡◌, ◌∙◌, ap}
+use Rattle.std.proofs.Common.{[], ◌∙◌, ap}
 use Rattle.std.proofs.lemmas.Result.{err_from_is_err_and}
+use Rattle.show_run.proofs.Telling.{told_none}
 use Rattle.krl_audit.specs.declared.judge.Form.{Form}
 use Rattle.krl_audit.specs.declared.judge.Judge.{Judge}
 use Rattle.check_run.proofs.Judging.{all_checked, files_stop, list_stops}
@@ -17,7 +18,11 @@ returns-in_err-check_list-clause-all g c =
     let read = c.requires.read in
     let law = c.nobody_is_named.ensures held read.entries (rw c.requires.judge read.means) in
     let list = rw c.requires.refused at c.in_err-check_list.ensures.checks in
-    rw (p.1, p.2) (list_stops (g.H.Host.states c.args.host.now) c.args.checker.now.auditor.judge.shown.form given.name.now given.bytes given.list held c.args.job.task.now c.args.job.limits c.in_err-check_list.field-0.0 _ _ _ _ _ c.requires.form read law list)
+    rw (p.1, p.2) (record {
+      told = [];
+      after_is = told_none _;
+      are = list_stops c.args.checker.now.auditor.judge.shown.form given.name.now given.bytes given.list held c.args.job.task.now c.args.job.limits c.in_err-check_list.field-0.0 _ _ _ _ _ c.requires.form read law list;
+    })
 
 pub returns-in_err-check_list-clause-writer : goal.returns-in_err-check_list-clause-writer
 returns-in_err-check_list-clause-writer g c = c.in_err-check_list.ensures.checks.checks.carries.writer
@@ -31,14 +36,19 @@ returns-in_err-check_files-clause-all g c =
     let law = c.nobody_is_named.ensures held read.entries (rw c.requires.judge read.means) in
     let list = rw c.requires.refused at c.in_ok-check_list.ensures.checks in
     let all = rw c.in_ok-check_list.ensures.judge at c.in_err-check_files.ensures.checks in
-    let files = all read.entries (rw c.requires.judge read.means) in
-    rw (p.1, p.2) (files_stop (g.H.Host.states c.args.host.now) c.args.checker.now.auditor.judge.shown.form given.name.now given.bytes given.list held c.args.job.task.now c.args.job.limits (tt {0}) c.in_err-check_files.field-0.0 _ _ _ _ _ _ _ _ _ c.requires.form read law list files)
+    let files = all.are read.entries (rw c.requires.judge read.means) in
+    rw (p.1, p.2) (record {
+      told = all.told;
+      after_is = all.after_is;
+      are =
+          files_stop all.told c.args.checker.now.auditor.judge.shown.form given.name.now given.bytes given.list held c.args.job.task.now c.args.job.limits (tt {0}) c.in_err-check_files.field-0.0 _ _ _ _ _ _ _ _ _ c.requires.form read law list files;
+    })
 
 pub returns-in_err-check_files-clause-writer : goal.returns-in_err-check_files-clause-writer
 returns-in_err-check_files-clause-writer g c =
     let read = c.requires.read in
     let all = rw c.in_ok-check_list.ensures.judge at c.in_err-check_files.ensures.checks in
-    let files = all read.entries (rw c.requires.judge read.means) in
+    let files = all.are read.entries (rw c.requires.judge read.means) in
     files.checks.carries.writer ∙ c.in_ok-check_list.ensures.checks.checks.carries.writer
 
 pub returns-clause-all : goal.returns-clause-all
@@ -49,15 +59,20 @@ returns-clause-all g c =
     let law = c.nobody_is_named.ensures held read.entries (rw c.requires.judge read.means) in
     let list = rw c.requires.refused at c.in_ok-check_list.ensures.checks in
     let all = rw c.in_ok-check_list.ensures.judge at c.in_ok-check_files.ensures.checks in
-    let files = all read.entries (rw c.requires.judge read.means) in
+    let files = all.are read.entries (rw c.requires.judge read.means) in
     let form = c.in_ok-check_files.ensures.form ∙ ap form_in c.in_ok-check_list.ensures.judge in
     let last = rw form at c.say_end.ensures.carries in
-    all_checked (g.H.Host.states c.args.host.now) c.args.checker.now.auditor.judge.shown.form given.name.now given.bytes given.list held c.args.job.task.now c.args.job.limits (tt {0}) (tt {0}) c.say_end.result _ _ _ _ _ _ _ _ _ _ c.requires.form read law list files
-    (c.in_ok-check_list.ensures.unread ∙ c.requires.unread) last c.say_end.ensures.refused c.say_end.ensures.unread
+    record {
+      told = all.told;
+      after_is = all.after_is;
+      are =
+          all_checked all.told c.args.checker.now.auditor.judge.shown.form given.name.now given.bytes given.list held c.args.job.task.now c.args.job.limits (tt {0}) (tt {0}) c.say_end.result _ _ _ _ _ _ _ _ _ _ c.requires.form read law list files
+          (c.in_ok-check_list.ensures.unread ∙ c.requires.unread) last c.say_end.ensures.refused c.say_end.ensures.unread;
+    }
 
 pub returns-clause-writer : goal.returns-clause-writer
 returns-clause-writer g c =
     let read = c.requires.read in
     let all = rw c.in_ok-check_list.ensures.judge at c.in_ok-check_files.ensures.checks in
-    let files = all read.entries (rw c.requires.judge read.means) in
+    let files = all.are read.entries (rw c.requires.judge read.means) in
     c.say_end.ensures.carries.writer ∙ files.checks.carries.writer ∙ c.in_ok-check_list.ensures.checks.checks.carries.writer

@@ -6,9 +6,13 @@ use Rattle.check_run.proofs.checking.check_by.Goals as goal
 
 pub returns : goal.returns
 returns g c =
-    let Knows = g.H.Host.states c.args.host.now in
+    let told = c.check_all-stop.ensures.all in
     let given = c.args.job.given.now in
     let taken = g.W.Sink.taken c.args.out.now in
     let ends = rw c.err.ensures.value at c.finish-done.ensures.ends in
-    let all = ended Knows given.name.now given.bytes c.args.job.task.now c.args.job.limits c.check_all-stop.result _ _ taken _ _ _ _ _ _ c.check_all-stop.ensures.all (rw (c.new-checker.ensures.printer, c.new-printer.ensures, c.requires.working) (begun taken _)) ends in
-    ended_there Knows given.name.now given.bytes c.args.job.task.now c.args.job.limits taken _ _ _ _ _ _ all (search rules) (search rules)
+    let all = ended told.told given.name.now given.bytes c.args.job.task.now c.args.job.limits c.check_all-stop.result _ _ taken _ _ _ _ _ _ told.are (rw (c.new-checker.ensures.printer, c.new-printer.ensures, c.requires.working) (begun taken _)) ends in
+    record {
+      told = told.told;
+      after_is = told.after_is;
+      are = ended_there told.told given.name.now given.bytes c.args.job.task.now c.args.job.limits taken _ _ _ _ _ _ all (search rules) (search rules);
+    }

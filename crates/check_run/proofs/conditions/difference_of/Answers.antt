@@ -1,5 +1,5 @@
 -- A key revocation list that was read may differ; a plain list has no difference.
-use Rattle.check_run.proofs.Formats.{differs, differs_not, states_whole}
+use Rattle.check_run.proofs.Formats.{differs, differs_not}
 use Rattle.check_run.proofs.conditions.difference_of.Goals as goal
 
 pub returns-in-Some : goal.returns-in-Some

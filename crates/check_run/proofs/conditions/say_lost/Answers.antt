@@ -1,5 +1,4 @@
 -- The lost entries are printed, and then their number; or the check is stopped.
-use Rattle.std.proofs.Common.{◌∙◌}
 use Rattle.std.proofs.lemmas.Result.{err_from_is_err_and}
 use Rattle.run_output.proofs.RunParts.{carries_more, carries_then}
 use Rattle.list_text.specs.Facts.{facts_of}

@@ -3,6 +3,7 @@ use Rattle.std.proofs.Common.{refl, ℕ, ◌∙◌, ◌+◌, ◌++◌, ◌∷◌
 use Rattle.std.specs.Borrow.{Bor}
 use Rattle.std.proofs.lemmas.List.{get_or_default, take_all}
 use Rattle.std.proofs.lemmas.Result.{err_from_is_err_and}
+use Rattle.show_run.proofs.Telling.{told_none, told_then}
 use Rattle.krl_entries.specs.Reasons.{reasons_of}
 use Rattle.check_run.specs.Files.{named, named_all}
 use Rattle.check_run.proofs.KeyFiles.{files_stop, files_then, named_more, named_none, named_split, no_file}
@@ -14,7 +15,11 @@ nobody = record { ref_ptr = (0, 0); now = [] }
 
 pub loop-name-init : goal.loop-name-init
 loop-name-init g c = record {
-  checks = λ entries means. rw (named_none c.args.role) (no_file (g.H.Host.states c.args.host.now) c.args.checker.now.auditor.judge.shown.form (reasons_of entries) _ _ _);
+  checks = record {
+    told = [];
+    after_is = told_none _;
+    are = λ entries means. rw (named_none c.args.role) (no_file c.args.checker.now.auditor.judge.shown.form (reasons_of entries) _ _ _);
+  };
   list = refl;
   form = refl;
 }
@@ -22,7 +27,7 @@ loop-name-init g c = record {
 pub returns-in_err-check_file-clause-checks : goal.returns-in_err-check_file-clause-checks
 returns-in_err-check_file-clause-checks g c =
     let p = err_from_is_err_and c.from_residual.result c.from_residual.ensures.1 in
-    let Knows = g.H.Host.states c.args.host.now in
+    let told = c.loop-name.invariant.checks in
     let form = c.args.checker.now.auditor.judge.shown.form in
     let role = c.args.role in
     let names = c.args.names.now in
@@ -31,14 +36,18 @@ returns-in_err-check_file-clause-checks g c =
     let name = get_or names i nobody in
     let is = get_or_default names i nobody name c.loop-name-test.true in
     let stop = c.in_err-check_file.field-0.0 in
-    rw (p.1, p.2) (λ entries means.
-    let front = files_then Knows form (reasons_of entries) (named_all role (take i names)) (named role name.now ∷ []) (tt {0}) (Err stop) _ _ _ _ _ _ _ _ _ (c.loop-name.invariant.checks entries means) (checks entries means) in
-    rw (named_split role names (i + 1), named_more role names i name c.loop-name-test.true is)
-    (files_stop Knows form (reasons_of entries) (named_all role (take i names) ++ named role name.now ∷ []) (named_all role (drop (i + 1) names)) stop _ _ _ _ _ _ _ _ front))
+    rw (p.1, p.2) (record {
+      told = told.told ++ checks.told;
+      after_is = told_then _ _ _ told.told checks.told told.after_is checks.after_is;
+      are = λ entries means.
+          let front = files_then told.told checks.told form (reasons_of entries) (named_all role (take i names)) (named role name.now ∷ []) (tt {0}) (Err stop) _ _ _ _ _ _ _ _ _ (told.are entries means) (checks.are entries means) in
+          rw (named_split role names (i + 1), named_more role names i name c.loop-name-test.true is)
+          (files_stop (told.told ++ checks.told) form (reasons_of entries) (named_all role (take i names) ++ named role name.now ∷ []) (named_all role (drop (i + 1) names)) stop _ _ _ _ _ _ _ _ front);
+    })
 
 pub loop-name-preserved : goal.loop-name-preserved
 loop-name-preserved g c =
-    let Knows = g.H.Host.states c.args.host.now in
+    let told = c.loop-name.invariant.checks in
     let form = c.args.checker.now.auditor.judge.shown.form in
     let role = c.args.role in
     let names = c.args.names.now in
@@ -47,13 +56,16 @@ loop-name-preserved g c =
     let name = get_or names i nobody in
     let is = get_or_default names i nobody name c.loop-name-test.true in
     record {
-      checks = λ entries means.
-          rw (named_more role names i name c.loop-name-test.true is)
-          (files_then Knows form (reasons_of entries) (named_all role (take i names)) (named role name.now ∷ []) (tt {0}) (Ok (tt {0})) _ _ _ _ _ _ _ _ _ (c.loop-name.invariant.checks entries means) (checks entries means));
+      checks = record {
+        told = told.told ++ checks.told;
+        after_is = told_then _ _ _ told.told checks.told told.after_is checks.after_is;
+        are = λ entries means.
+            rw (named_more role names i name c.loop-name-test.true is)
+            (files_then told.told checks.told form (reasons_of entries) (named_all role (take i names)) (named role name.now ∷ []) (tt {0}) (Ok (tt {0})) _ _ _ _ _ _ _ _ _ (told.are entries means) (checks.are entries means));
+      };
       list = c.in_ok-check_file.ensures.list ∙ c.loop-name.invariant.list;
       form = c.in_ok-check_file.ensures.form ∙ c.loop-name.invariant.form;
     }
 
 pub returns-clause-checks : goal.returns-clause-checks
-returns-clause-checks g c = λ entries means.
-    rw (take_all c.loop-name.name-index c.args.names.now c.loop-name-test.false) at (c.loop-name.invariant.checks entries means)
+returns-clause-checks g c = rw (take_all c.loop-name.name-index c.args.names.now c.loop-name-test.false) at c.loop-name.invariant.checks

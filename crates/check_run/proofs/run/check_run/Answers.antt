@@ -1,38 +1,48 @@
 -- The list is read, or refused.
-use Rattle.std.proofs.Common.{refl}
+use Rattle.std.proofs.Common.{[], refl}
+use Rattle.show_run.proofs.Telling.{tells_as, told_then}
+use Rattle.check_run.specs.Lists.{IsGiven, IsRefused}
 use Rattle.check_run.specs.Run.{read, refused}
 use Rattle.check_run.proofs.Ending.{ends_beside, ends_version}
 use Rattle.check_run.proofs.run.check_run.Goals as goal
 
 pub returns-in-Err : goal.returns-in-Err
 returns-in-Err g c =
+    tells_as (λ told. IsRefused told c.args.task.now.list.now c.in-Err.fault) _ _ _ (λ told is.
     refused (record {
       stop = c.in-Err.fault;
-      is = c.in-Err.ensures.fault;
+      is = is;
       done = c.refused.result;
       result_is = refl;
       fault_is = c.refused.ensures.fault;
       status_is = c.refused.ensures.status;
       after_is = refl;
       works = c.requires;
-    })
+    })) c.in-Err.ensures.fault
 
 pub returns-then-task : goal.returns-then-task
 returns-then-task g c =
-    let is = c.in-Ok.ensures.found in
-    let prints = rw is.read.stated_is at (rw is.name_is at c.print_version.ensures) in
     let task = c.args.task.now in
-    let ends =
-    ends_version task.print_version (g.H.Host.states c.args.host.now) task.list.now c.in-Ok.given.bytes task (g.W.Sink.taken c.args.out.now) (g.W.Sink.taken c.print_version.new.out)
-    (g.W.Sink.has_failed c.print_version.new.out) c.print_version.result is.read.header is.read.entries c.if-task.true is.read.named prints in
-    read c.in-Ok.given.bytes is.known ends
+    let given = c.in-Ok.given in
+    let print = c.print_version.ensures in
+    tells_as (λ told. IsGiven told task.list.now given) _ _ _ (λ told is.
+    let prints = rw is.read.stated_is at (rw is.name_is at print) in
+    read given.bytes [] is.told_is is.read.header is.read.entries is.read.named
+    (ends_version task.print_version [] task.list.now given.bytes task (g.W.Sink.taken c.args.out.now) (g.W.Sink.taken c.print_version.new.out)
+    (g.W.Sink.has_failed c.print_version.new.out) c.print_version.result is.read.header c.if-task.true refl prints)) c.in-Ok.ensures.found
 
 pub returns : goal.returns
 returns g c =
-    let is = c.in-Ok.ensures.found in
-    let beside = rw is.name_is at c.check_beside.ensures in
     let task = c.args.task.now in
-    let ends =
-    ends_beside task.print_version (g.H.Host.states c.args.host.now) task.list.now c.in-Ok.given.bytes task (g.W.Sink.taken c.args.out.now) (g.W.Sink.taken c.check_beside.new.out)
-    (g.W.Sink.has_failed c.check_beside.new.out) c.check_beside.result c.if-task.false beside in
-    read c.in-Ok.given.bytes is.known ends
+    let given = c.in-Ok.given in
+    let first = c.in-Ok.ensures.found in
+    let is = first.are in
+    let beside = rw is.name_is at c.check_beside.ensures in
+    record {
+      told = _;
+      after_is = told_then _ _ _ first.told beside.told first.after_is beside.after_is;
+      are =
+          read given.bytes beside.told (rw is.told_is refl) is.read.header is.read.entries is.read.named
+          (ends_beside task.print_version beside.told task.list.now given.bytes task (g.W.Sink.taken c.args.out.now) (g.W.Sink.taken c.check_beside.new.out)
+          (g.W.Sink.has_failed c.check_beside.new.out) c.check_beside.result is.read.header c.if-task.false beside.are);
+    }
