@@ -1,7 +1,7 @@
 -- Auditing one thing after another.
 use Rattle.std.proofs.Common.{◌≡◌, ℕ, ◌<◌, nat_lt, ◌||◌, ◌&&◌, not, Bool, true, false, List, [], ◌∷◌, ◌++◌, Option, Some, None}
 use Rattle.std.proofs.Common.{Result, Ok, Err, arith, refl, sym, ap, subst, ◌∙◌, append_assoc, inl, inr}
-use Rattle.std.specs.Prelude.{IfSome}
+use Rattle.std.specs.Prelude.{IfSome, is_some}
 use Rattle.std.specs.Result.{result_err}
 use Rattle.std.proofs.lemmas.Bool.{ltb-true}
 use Rattle.std.proofs.lemmas.List.{append-nil}
@@ -22,9 +22,9 @@ use Rattle.krl_audit.specs.declared.counts.Counts.{Counts}
 use Rattle.krl_audit.specs.declared.judge.Judge.{Judge}
 use Rattle.krl_audit.specs.declared.judge.Shown.{Shown}
 use Rattle.krl_audit.specs.declared.why.Refusal.{Refusal}
-use Rattle.audit_run.specs.Visits.{AreTimely, Audited, Audits, AuditsBy, Begun, Goes, IsSince, IsStopped}
+use Rattle.audit_run.specs.Visits.{AreQuiet, AreTimely, Audited, Audits, AuditsBy, Begun, Goes, IsSince, IsStopped}
 use Rattle.audit_run.specs.Visits.{IsTallied, IsTimely, Meets, Same, Says, Skipped, State, Tally, Visit}
-use Rattle.audit_run.specs.Visits.{all_tallied, gives, gives_one, is_seen, passes, stop_for, tallied}
+use Rattle.audit_run.specs.Visits.{all_tallied, gives, gives_one, is_seen, passes, reveals, stop_for, tallied}
 use Rattle.audit_run.specs.Visits.{visit_items, visits_items, with_audited, with_key, with_skipped}
 use Rattle.audit_run.specs.declared.files.Files.{Files}
 use Rattle.audit_run.specs.declared.files.Since.{Since}
@@ -57,6 +57,29 @@ timely_append : (reasons : Subject → Reasons) (tally : Tally) (xs ys : List Vi
 timely_append reasons tally [] ys first second = second
 timely_append reasons tally (x ∷ xs) ys first second =
     (first.0, timely_append reasons (tallied reasons tally x) xs ys first.1 second)
+
+-- ---- an audit of which no finding is asked for
+
+false_unless : (b : Bool) → (b ≡ true → ⊥) → b ≡ false
+false_unless true not_true = absurd (not_true refl)
+false_unless false not_true = refl
+
+pub not_more : (n : ℕ) → nat_lt n n ≡ false
+not_more n = false_unless (nat_lt n n) (λ is. let less : n < n = ltb-true n n is in omega (arith, less))
+
+quiet_append : (reasons : Subject → Reasons) (stopped : Bool) (tally : Tally) (xs ys : List Visit) → AreQuiet reasons false tally xs
+    → AreQuiet reasons stopped (all_tallied reasons tally xs) ys → AreQuiet reasons stopped tally (xs ++ ys)
+quiet_append reasons stopped tally [] ys first second = second
+quiet_append reasons false tally (x ∷ xs) ys first second =
+    (first.0, quiet_append reasons false (tallied reasons tally x) xs ys first.1 second)
+quiet_append reasons true tally (x ∷ xs) ys first second =
+    inl (first.0, quiet_append reasons true (tallied reasons tally x) xs ys first.1 second)
+
+-- the same if the audit stopped
+pub quiet_stopped : (reasons : Subject → Reasons) (tally : Tally) (visits : List Visit) → AreQuiet reasons false tally visits
+    → AreQuiet reasons true tally visits
+quiet_stopped reasons tally [] quiet = tt
+quiet_stopped reasons tally (x ∷ xs) quiet = inl (quiet.0, quiet_stopped reasons (tallied reasons tally x) xs quiet.1)
 
 -- ---- since a directory that is named was entered
 
@@ -153,6 +176,7 @@ met_stopped reasons visit fault old new carries timely = record {
       fault.cause fault new (item_said reasons old.judge.shown visit said) (carries.says before said has);
   tallies = not_tallied reasons (visit ∷ []) fault.cause old.tally new.tally;
   timely = (timely, tt);
+  quiet = λ silent. inr refl;
   writer = carries.writer;
 }
 
@@ -167,11 +191,13 @@ said_all reasons visit value old new carries before said has =
 -- all of it was met
 pub met : (reasons : Subject → Reasons) (visit : Visit) (value : Unit {0}) (old new : State)
     → Carries {A = Unit {0}} (visit_items reasons old.judge.shown visit) (Ok value) old.printer new.printer → IsTimely old.tally visit
-    → new.tally ≡ tallied reasons old.tally visit → Audits reasons (visit ∷ []) None old new
-met reasons visit value old new carries timely tallies = record {
+    → new.tally ≡ tallied reasons old.tally visit
+    → (old.judge.shown.revoked ≡ false → reveals reasons old.tally visit ≡ false) → Audits reasons (visit ∷ []) None old new
+met reasons visit value old new carries timely tallies quiet = record {
   says = said_all reasons visit value old new carries;
   tallies = tallies;
   timely = (timely, tt);
+  quiet = λ silent. (quiet silent, tt);
   writer = carries.writer;
 }
 
@@ -184,6 +210,7 @@ met_revoked reasons visit value old new carries timely tallies quiet some = reco
   says = λ before said has. (said_all reasons visit value old new carries before said has, (quiet, some));
   tallies = tallies;
   timely = (timely, tt);
+  quiet = λ silent. inr refl;
   writer = carries.writer;
 }
 
@@ -215,15 +242,27 @@ pub file_stopped : (reasons : Subject → Reasons) (key : Option (List ℕ)) (na
 file_stopped reasons key name content fault old new told is_new =
     met_stopped reasons (Audited key name content) fault old new told.carries (key_timely old.tally key name content is_new)
 
+not_revoked : (ends more revoked : Bool) → ends ≡ more && not revoked → ends ≡ false → revoked ≡ false → more ≡ false
+not_revoked ends true true is so silent = absurd (cc)
+not_revoked true true false is so silent = absurd (cc)
+not_revoked false true false is so silent = absurd (cc)
+not_revoked ends false revoked is so silent = refl
+
 pub file_met : (reasons : Subject → Reasons) (key : Option (List ℕ)) (name : List ℕ) (content : Result (List ℕ) Refusal)
-    (value : Unit {0}) (old new : State) (kept : Files)
+    (value : Unit {0}) (old new : State) (kept : Files) (ends : Bool) → new.judge ≡ old.judge
     → ToldFile reasons old.judge.shown name content (Ok value) old.printer new.printer old.tally.counts new.tally.counts
     → IfSome key (λ new. is_seen old.tally.files new ≡ false) → kept ≡ with_key key old.tally.files
     → new.tally.files ≡ with_audited (nat_lt old.tally.counts.revoked new.tally.counts.revoked) kept
+    → ends ≡ nat_lt old.tally.counts.revoked new.tally.counts.revoked && not new.judge.shown.revoked → ends ≡ false
     → Audits reasons (Audited key name content ∷ []) None old new
-file_met reasons key name content value old new kept told is_new keeps files =
+file_met reasons key name content value old new kept ends judge told is_new keeps files is so =
     met reasons (Audited key name content) value old new told.carries (key_timely old.tally key name content is_new)
     (file_tallied reasons key name content old.tally new.tally kept told.counts keeps files)
+    (λ silent.
+    let more = nat_lt old.tally.counts.revoked new.tally.counts.revoked in
+    let none : more ≡ false =
+    not_revoked ends more new.judge.shown.revoked is so (ap (λ (j : Judge). j.shown.revoked) judge ∙ silent) in
+    ap (λ (c : Counts). nat_lt old.tally.counts.revoked c.revoked) (sym told.counts) ∙ none)
 
 ends_quiet : (ends some revoked : Bool) → ends ≡ some && not revoked → ends ≡ true → revoked ≡ false
 ends_quiet true true true is so = is
@@ -278,6 +317,7 @@ skipped_meets count old new judge printer tally gave passed = record {
           (sym (ap (λ (items : List Item). said ++ items) none ∙ append-nil said)) kept;
       tallies = tally;
       timely = (tt, tt);
+      quiet = λ silent. (not_more old.tally.counts.revoked, tt);
       writer = ap (λ (p : Printer). p.writer) printer;
     };
   };
@@ -296,6 +336,7 @@ nothing_met now = record {
           (sym (ap (λ (items : List Item). said ++ items) (items_none (reasons_of entries) now.judge.shown) ∙ append-nil said)) has;
       tallies = refl;
       timely = tt;
+      quiet = λ silent. tt;
       writer = refl;
     };
   };
@@ -315,6 +356,7 @@ nothing_begun now = record {
       };
       tallies = tt;
       timely = tt;
+      quiet = λ silent. tt;
       writer = refl;
     };
   };
@@ -346,6 +388,10 @@ audits_then reasons xs ys stop old mid new judge first second = record {
   tallies = tallied_then reasons xs ys stop old.tally mid.tally new.tally first.tallies second.tallies;
   timely = timely_append reasons old.tally xs ys first.timely
       (subst (λ (t : Tally). AreTimely reasons t ys) first.tallies second.timely);
+  quiet = λ silent.
+      let also : mid.judge.shown.revoked ≡ false = ap (λ (j : Judge). j.shown.revoked) judge ∙ silent in
+      quiet_append reasons (is_some stop) old.tally xs ys (first.quiet silent)
+      (subst (λ (t : Tally). AreQuiet reasons (is_some stop) t ys) first.tallies (second.quiet also));
   writer = second.writer ∙ first.writer;
 }
 

@@ -2,8 +2,12 @@ pub mod Auditing
 pub mod Listing
 pub mod Entering
 pub mod Rows
+pub mod Contents
+pub mod Paths
 pub mod Naming
 pub mod Turning
 pub mod Running
 pub mod Inputs
 pub mod Directory
+pub mod Covering
+pub mod FilesBelow

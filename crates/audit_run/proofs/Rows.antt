@@ -1,7 +1,7 @@
 -- One after another.
-use Rattle.std.proofs.Common.{◌≡◌, ℕ, ◌<◌, ◌+◌, Bool, true, false, List, [], ◌∷◌, ◌++◌, length, take, drop, get_or}
+use Rattle.std.proofs.Common.{◌≡◌, ℕ, ◌<◌, ◌+◌, Bool, true, false, List, [], ◌∷◌, ◌++◌, length, take, get_or}
 use Rattle.std.proofs.Common.{refl, sym, ap, subst, ◌∙◌, append_assoc}
-use Rattle.std.proofs.lemmas.List.{append-nil, take_more, take-append-drop}
+use Rattle.std.proofs.lemmas.List.{append-nil, take_more}
 use Rattle.audit_run.specs.Named.{Each, next, none, stopped}
 use Rattle.audit_run.specs.Visits.{Visit}
 
@@ -38,16 +38,3 @@ each_more {X} Is xs i x visits more lt item each is =
     take_more xs i x lt ∙ ap (λ (y : X). take i xs ++ y ∷ []) (sym item) in
     subst (λ (ys : List X). Each Is true ys (visits ++ more)) (sym taken)
     (each_then Is true (take i xs) (x ∷ []) visits more each (each_one Is true x more is))
-
-pub each_stops : {X : Type 0} (Is : Bool → X → List Visit → Type 0) (xs : List X) (i : ℕ) (x : X) (visits more : List Visit)
-    → i < length xs → x ≡ get_or xs i x → Each Is true (take i xs) visits → Is false x more
-    → Each Is false xs (visits ++ more)
-each_stops {X} Is xs i x visits more lt item each is =
-    let taken : take (i + 1) xs ≡ take i xs ++ x ∷ [] =
-    take_more xs i x lt ∙ ap (λ (y : X). take i xs ++ y ∷ []) (sym item) in
-    let rest = drop (i + 1) xs in
-    let all : take i xs ++ x ∷ rest ≡ xs =
-    sym (append_assoc (take i xs) (x ∷ []) rest) ∙ ap (λ (ys : List X). ys ++ rest) (sym taken)
-    ∙ take-append-drop (i + 1) xs in
-    subst (λ (ys : List X). Each Is false ys (visits ++ more)) all
-    (each_then Is false (take i xs) (x ∷ rest) visits more each (stopped x rest more refl is))

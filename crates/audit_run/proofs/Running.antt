@@ -14,8 +14,9 @@ use Rattle.krl_audit.specs.Audit.{EndsAudit}
 use Rattle.krl_audit.specs.declared.counts.Counts.{Counts}
 use Rattle.krl_audit.specs.declared.judge.Judge.{Judge}
 use Rattle.krl_audit.specs.declared.judge.Shown.{Shown}
+use Rattle.audit_run.proofs.Auditing.{quiet_stopped}
 use Rattle.audit_run.specs.Fact.{Fact}
-use Rattle.audit_run.specs.Run.{AreGiven, AreUnread, IsAudit, all_audited, ended_at_revoked, in_names, last_items, lost, names_fault}
+use Rattle.audit_run.specs.Run.{AreGiven, AreUnread, IsAudit, Readers, all_audited, ended_at_revoked, in_names, last_items, lost, names_fault}
 use Rattle.audit_run.specs.Run.{no_names, ran_out, stop_fault}
 use Rattle.audit_run.specs.Visits.{Audits, Says, State, Tally, Visit, visits_items}
 use Rattle.audit_run.specs.declared.order.Order.{Order}
@@ -24,11 +25,11 @@ use Rattle.audit_run.specs.declared.stop.Stop.{Stop}
 use Rattle.audit_run.specs.declared.stop.Stop.TheVariants as stops
 
 -- An audit came to an end: what it printed, and how far it came.
-abbrev pub Ended : (Fact → Type 0) → Order → Queried → Option (Option (List ℕ)) → List Entry → Option (List ℕ)
+abbrev pub Ended : (Fact → Type 0) → Order → Queried → Readers → List Entry → Option (List ℕ)
     → Option RunFault → State → State → Type 0
-Ended Knows order queried names entries before stop old new =
+Ended Knows order queried readers entries before stop old new =
     (run : List Item)
-    × (IsAudit Knows order queried names entries old.tally new.tally stop run
+    × (IsAudit Knows order queried readers entries old.tally new.tally stop run
     × (Reaches before run stop new.printer × (new.printer.writer ≡ old.printer.writer)))
 
 -- what was printed, in the form that the command asks for
@@ -38,13 +39,13 @@ said_so : (order : Order) (entries : List Entry) (visits : List Visit) (stop : O
 said_so order entries visits stop before old new shown audits said =
     subst (λ (s : Shown). Says before (visits_items (reasons_of entries) s visits) stop new) shown (audits.says before [] said)
 
-pub ended_all : (Knows : Fact → Type 0) (order : Order) (queried : Queried) (names : Option (Option (List ℕ)))
+pub ended_all : (Knows : Fact → Type 0) (order : Order) (queried : Queried) (readers : Readers)
     (entries : List Entry) (before : Option (List ℕ)) (visits : List Visit) (result : Result (Unit {0}) RunFault) (old mid new : State)
-    → AreGiven Knows order.every_file true names order.paths.now visits → Audits (reasons_of entries) visits None old mid
+    → AreGiven Knows order.every_file true readers order.paths.now visits → Audits (reasons_of entries) visits None old mid
     → Carries (last_items order.list.now queried mid.tally) result mid.printer new.printer → new.tally ≡ mid.tally
     → old.judge.shown ≡ order.shown → HasSaid before [] old.printer
-    → Ended Knows order queried names entries before (result_err result) old new
-ended_all Knows order queried names entries before visits result old mid new given audits carries same shown said =
+    → Ended Knows order queried readers entries before (result_err result) old new
+ended_all Knows order queried readers entries before visits result old mid new given audits carries same shown said =
     let items = visits_items (reasons_of entries) order.shown visits in
     let has : HasSaid before items mid.printer = said_so order entries visits None before old mid shown audits said in
     let last : Carries (last_items order.list.now queried new.tally) result mid.printer new.printer =
@@ -56,6 +57,7 @@ ended_all Knows order queried names entries before visits result old mid new giv
           whole = true;
           given = given;
           timely = audits.timely;
+          quiet = λ silent. audits.quiet (ap (λ (s : Shown). s.revoked) shown ∙ silent);
           is_run = all_audited refl refl;
           tally_is = λ none. same ∙ audits.tallies;
         },
@@ -67,12 +69,12 @@ some_is : {A : Type 0} (x : A) → Some x ≡ None → ⊥
 some_is x is = cc
 
 -- an audit was stopped
-pub ended_stopped : (Knows : Fact → Type 0) (order : Order) (queried : Queried) (names : Option (Option (List ℕ)))
+pub ended_stopped : (Knows : Fact → Type 0) (order : Order) (queried : Queried) (readers : Readers)
     (entries : List Entry) (before : Option (List ℕ)) (visits : List Visit) (stop : Stop) (old new : State)
-    → AreGiven Knows order.every_file false names order.paths.now visits → Audits (reasons_of entries) visits (Some stop) old new
+    → AreGiven Knows order.every_file false readers order.paths.now visits → Audits (reasons_of entries) visits (Some stop) old new
     → new.judge ≡ old.judge → old.judge.shown ≡ order.shown → HasSaid before [] old.printer
-    → Ended Knows order queried names entries before (stop_fault stop) old new
-ended_stopped Knows order queried names entries before visits stops.Revoked old new given audits judge shown said =
+    → Ended Knows order queried readers entries before (stop_fault stop) old new
+ended_stopped Knows order queried readers entries before visits stops.Revoked old new given audits judge shown said =
     let at = said_so order entries visits (Some stops.Revoked) before old new shown audits said in
     let kept : new.judge.shown ≡ order.shown = ap (λ (j : Judge). j.shown) judge ∙ shown in
     let quiet : order.shown.revoked ≡ false = subst (λ (s : Shown). s.revoked ≡ false) kept at.1.0 in (
@@ -83,13 +85,14 @@ ended_stopped Knows order queried names entries before visits stops.Revoked old 
           whole = false;
           given = given;
           timely = audits.timely;
+          quiet = λ silent. audits.quiet (ap (λ (s : Shown). s.revoked) shown ∙ silent);
           is_run = ended_at_revoked quiet at.1.1 refl refl;
           tally_is = λ none. audits.tallies;
         },
         (at.0, audits.writer),
       ),
     )
-ended_stopped Knows order queried names entries before visits stops.NoMemory old new given audits judge shown said =
+ended_stopped Knows order queried readers entries before visits stops.NoMemory old new given audits judge shown said =
     let front = said_so order entries visits (Some stops.NoMemory) before old new shown audits said in (
       front.said ++ Passed (codes "memory") ∷ [],
       (
@@ -98,6 +101,7 @@ ended_stopped Knows order queried names entries before visits stops.NoMemory old
           whole = false;
           given = given;
           timely = audits.timely;
+          quiet = λ silent. audits.quiet (ap (λ (s : Shown). s.revoked) shown ∙ silent);
           is_run = ran_out front.said front.later front.parts refl refl;
           tally_is = λ none. absurd (some_is _ none);
         },
@@ -111,7 +115,7 @@ ended_stopped Knows order queried names entries before visits stops.NoMemory old
         ),
       ),
     )
-ended_stopped Knows order queried names entries before visits (stops.Lost count) old new given audits judge shown said = (
+ended_stopped Knows order queried readers entries before visits (stops.Lost count) old new given audits judge shown said = (
   visits_items (reasons_of entries) order.shown visits,
   (
     record {
@@ -119,6 +123,7 @@ ended_stopped Knows order queried names entries before visits (stops.Lost count)
       whole = false;
       given = given;
       timely = audits.timely;
+      quiet = λ silent. audits.quiet (ap (λ (s : Shown). s.revoked) shown ∙ silent);
       is_run = lost count refl refl;
       tally_is = λ none. absurd (some_is _ none);
     },
@@ -127,12 +132,12 @@ ended_stopped Knows order queried names entries before visits (stops.Lost count)
 )
 
 -- names could not be read to their end
-pub ended_unread : (Knows : Fact → Type 0) (order : Order) (queried : Queried) (names : Option (Option (List ℕ)))
+pub ended_unread : (Knows : Fact → Type 0) (order : Order) (queried : Queried) (readers : Readers)
     (entries : List Entry) (before : Option (List ℕ)) (visits : List Visit) (old new : State)
-    → AreUnread Knows order.every_file names visits → Audits (reasons_of entries) visits None old new
+    → AreUnread Knows order.every_file readers visits → Audits (reasons_of entries) visits None old new
     → old.judge.shown ≡ order.shown → HasSaid before [] old.printer
-    → Ended Knows order queried names entries before (Some (names_fault order.names_from.now)) old new
-ended_unread Knows order queried names entries before visits old new unread audits shown said =
+    → Ended Knows order queried readers entries before (Some (names_fault order.names_from.now)) old new
+ended_unread Knows order queried readers entries before visits old new unread audits shown said =
     let items = visits_items (reasons_of entries) order.shown visits in
     let end = names_fault order.names_from.now in (
       items ++ Stopped end ∷ [],
@@ -142,6 +147,8 @@ ended_unread Knows order queried names entries before visits old new unread audi
           whole = false;
           given = in_names unread.left unread.given refl unread.before;
           timely = audits.timely;
+          quiet = λ silent. quiet_stopped (reasons_of entries) old.tally visits
+              (audits.quiet (ap (λ (s : Shown). s.revoked) shown ∙ silent));
           is_run = no_names unread refl refl refl;
           tally_is = λ none. absurd (some_is _ none);
         },

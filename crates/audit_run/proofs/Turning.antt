@@ -130,7 +130,7 @@ since_begun visits stop old new since by = record {
   judge = by.judge;
   audits = λ entries means.
       let was = by.audits entries means in
-      record { says = was.says; tallies = was.tallies; timely = was.timely; writer = was.writer };
+      record { says = was.says; tallies = was.tallies; timely = was.timely; quiet = was.quiet; writer = was.writer };
 }
 
 pub walk_begun : (Knows : Fact → Type 0) (every : Bool) (path : List ℕ) (visits : List Visit) (levels : List Level) (old new : State)

@@ -1,6 +1,6 @@
 -- Where a path leads, by the facts that a tree states about it.
 use Rattle.std.specs.Prelude.{◌≡◌, ℕ, Bool, true, false, List, [], ◌∷◌}
-use Rattle.std.specs.Prelude.{Option, Some, Result, Ok, Err}
+use Rattle.std.specs.Prelude.{Option, Some, IfSome, Result, Ok, Err}
 use Rattle.std.specs.Str.{IsUtf8}
 use Rattle.key_text.specs.Armour.{begins_container}
 use Rattle.audit_tree.specs.Names.{selection_of}
@@ -13,16 +13,14 @@ use Rattle.krl_audit.specs.declared.front.Fronts.{Fronts}
 use Rattle.krl_audit.specs.declared.front.Fronts.TheVariants as fronts
 use Rattle.krl_audit.specs.declared.why.Refusal.{Refusal}
 use Rattle.krl_audit.specs.declared.why.Refusal.TheVariants as refusals
-use Rattle.audit_run.specs.Fact.{Fact, Holds, Leads, Opens}
+use Rattle.audit_run.specs.Fact.{Fact, Fails, Leads, OpenFile, Opens}
 use Rattle.audit_run.specs.Names.{is_directory_kind, is_link_kind, is_never}
+use Rattle.audit_run.specs.Reading.{IsContent, front_of}
 use Rattle.audit_run.specs.Visits.{Audited, Same, Skipped, Visit, refused}
 use Rattle.audit_run.specs.declared.kind.Found.{Found}
 use Rattle.audit_run.specs.declared.kind.Identity.{Identity}
 use Rattle.audit_run.specs.declared.kind.Kind.{Kind}
 use Rattle.audit_run.specs.declared.kind.Kind.TheVariants as kinds
-use Rattle.audit_run.specs.declared.kind.Opened.{Opened}
-use Rattle.audit_run.specs.declared.kind.What.{What}
-use Rattle.audit_run.specs.declared.kind.What.TheVariants as whats
 
 -- ---- the key of a file
 
@@ -45,62 +43,69 @@ key_of path identity = identity.device ∷ identity.number ∷ way_of path ∷ [
 
 -- ---- a file
 
--- the bytes at a path are audited, or why there are none
-pub record IsRead (Knows : Fact → Type 0) (what : What) (path : List ℕ)
+-- why the reader of an open file at this path failed
+abbrev pub FailsAt : (Fact → Type 0) → List ℕ → Refusal → Type 0
+FailsAt Knows path refusal = Knows (Fails path refusal)
+
+-- the bytes of a reader are audited, or why they are not read
+pub record IsRead (Failed : Refusal → Type 0) (path : List ℕ) (bytes : Option (List ℕ))
     (key : Option (List ℕ)) (visits : List Visit) : Type 0 where
   pub content : Result (List ℕ) Refusal
-  pub holds : Knows (Holds what path content)
+  pub is : IsContent Failed bytes content
   pub visits_are : visits ≡ Audited key path content ∷ []
 
 -- A file that is open is read, or it was audited before.
-pub data IsOpened (Knows : Fact → Type 0) (path : List ℕ) (opened : Opened)
-    (visits : List Visit) : Type 0 where
-  read : IsRead Knows whats.Whole path (Some (key_of path opened.identity)) visits
-      → IsOpened Knows path opened visits
-  same : visits ≡ Same (key_of path opened.identity) path ∷ []
-      → IsOpened Knows path opened visits
+pub data IsOpened (Knows : Fact → Type 0) (path : List ℕ) (identity : Identity)
+    (bytes : Option (List ℕ)) (visits : List Visit) : Type 0 where
+  read : IsRead (FailsAt Knows path) path bytes (Some (key_of path identity)) visits
+      → IsOpened Knows path identity bytes visits
+  same : visits ≡ Same (key_of path identity) path ∷ []
+      → IsOpened Knows path identity bytes visits
 
 -- one that is no regular file once it is open is not read
-abbrev pub IsOpenedIf : Bool → (Fact → Type 0) → List ℕ → Opened → List Visit → Type 0
-IsOpenedIf true Knows path opened visits = IsOpened Knows path opened visits
-IsOpenedIf false Knows path opened visits = visits ≡ refused path refusals.Irregular
+abbrev pub IsOpenedIf : Bool → (Fact → Type 0) → List ℕ → Identity → Option (List ℕ)
+    → List Visit → Type 0
+IsOpenedIf true Knows path identity bytes visits = IsOpened Knows path identity bytes visits
+IsOpenedIf false Knows path identity bytes visits = visits ≡ refused path refusals.Irregular
 
-abbrev pub IsRegularBy : (Fact → Type 0) → List ℕ → Result Opened Refusal → List Visit → Type 0
+abbrev pub IsRegularBy : (Fact → Type 0) → List ℕ → Result OpenFile Refusal → List Visit → Type 0
 IsRegularBy Knows path (Err refusal) visits = visits ≡ refused path refusal
-IsRegularBy Knows path (Ok opened) visits = IsOpenedIf opened.is_file Knows path opened visits
+IsRegularBy Knows path (Ok held) visits =
+    IsOpenedIf held.is_file Knows path held.identity held.bytes visits
 
 -- a path that led to a regular file when it was looked at
 pub record IsRegular (Knows : Fact → Type 0) (path : List ℕ) (found : Found)
     (visits : List Visit) : Type 0 where
-  pub opened : Result Opened Refusal
+  pub opened : Result OpenFile Refusal
   pub opens : Knows (Opens path (Some found) opened)
   pub leads : IsRegularBy Knows path opened visits
 
--- by its front: a file that does not begin as a private key file is passed over
-abbrev pub IsFrontOf : (Fact → Type 0) → List ℕ → Opened → Bool → List Visit → Type 0
-IsFrontOf Knows path opened true visits = IsOpened Knows path opened visits
-IsFrontOf Knows path opened false visits = visits ≡ Skipped 1 ∷ []
+-- By its first bytes: a file that does not begin as a private key file is passed over.
+pub data IsPrivateFile (Knows : Fact → Type 0) (path : List ℕ) (identity : Identity)
+    (bytes : Option (List ℕ)) (visits : List Visit) : Type 0 where
+  private : IfSome bytes (λ all. begins_container (front_of all) ≡ true)
+      → IsOpened Knows path identity bytes visits
+      → IsPrivateFile Knows path identity bytes visits
+  other : IfSome bytes (λ all. begins_container (front_of all) ≡ false)
+      → visits ≡ Skipped 1 ∷ [] → IsPrivateFile Knows path identity bytes visits
+  unread : (refusal : Refusal) → Knows (Fails path refusal) → visits ≡ refused path refusal
+      → IsPrivateFile Knows path identity bytes visits
 
-abbrev pub IsPrivateFront : (Fact → Type 0) → List ℕ → Opened → Result (List ℕ) Refusal
+abbrev pub IsPrivateIf : Bool → (Fact → Type 0) → List ℕ → Identity → Option (List ℕ)
     → List Visit → Type 0
-IsPrivateFront Knows path opened (Err refusal) visits = visits ≡ refused path refusal
-IsPrivateFront Knows path opened (Ok front) visits =
-    IsFrontOf Knows path opened (begins_container front) visits
+IsPrivateIf true Knows path identity bytes visits =
+    IsPrivateFile Knows path identity bytes visits
+IsPrivateIf false Knows path identity bytes visits = visits ≡ refused path refusals.Irregular
 
-abbrev pub IsPrivateIf : Bool → (Fact → Type 0) → List ℕ → Opened → List Visit → Type 0
-IsPrivateIf true Knows path opened visits =
-    (front : Result (List ℕ) Refusal)
-    × (Knows (Holds whats.Front path front) × IsPrivateFront Knows path opened front visits)
-IsPrivateIf false Knows path opened visits = visits ≡ refused path refusals.Irregular
-
-abbrev pub IsPrivateBy : (Fact → Type 0) → List ℕ → Result Opened Refusal → List Visit → Type 0
+abbrev pub IsPrivateBy : (Fact → Type 0) → List ℕ → Result OpenFile Refusal → List Visit → Type 0
 IsPrivateBy Knows path (Err refusal) visits = visits ≡ refused path refusal
-IsPrivateBy Knows path (Ok opened) visits = IsPrivateIf opened.is_file Knows path opened visits
+IsPrivateBy Knows path (Ok held) visits =
+    IsPrivateIf held.is_file Knows path held.identity held.bytes visits
 
 -- the same for one that is audited if it begins as a private key file
 pub record IsPrivate (Knows : Fact → Type 0) (path : List ℕ) (found : Found)
     (visits : List Visit) : Type 0 where
-  pub opened : Result Opened Refusal
+  pub opened : Result OpenFile Refusal
   pub opens : Knows (Opens path (Some found) opened)
   pub leads : IsPrivateBy Knows path opened visits
 

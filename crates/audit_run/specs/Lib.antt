@@ -1,8 +1,10 @@
 pub mod Fact
+pub mod Reading
 pub mod Names
 pub mod Visits
 pub mod Entries
 pub mod Walk
+pub mod Below
 pub mod Named
 pub mod Run
 pub mod Options

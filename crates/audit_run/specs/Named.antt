@@ -1,20 +1,20 @@
 -- The files and directories that are named.
 use Rattle.std.specs.Prelude.{◌≡◌, ℕ, ◌<◌, ◌≤◌, ◌==◌, ◌⊎◌, if◌then◌else◌, Bool, true, false, List}
 use Rattle.std.specs.Prelude.{[], ◌∷◌, ◌++◌, codes, length, take}
-use Rattle.std.specs.Prelude.{Option, Some, None, Result, Ok, Err}
+use Rattle.std.specs.Prelude.{Option, Some, None, IfSome, Result, Ok, Err}
 use Rattle.std.specs.Borrow.{Bor}
 use Rattle.std.specs.Str.{IsUtf8, bytes_eq}
 use Rattle.krl_audit.specs.Visible.{visible_bytes}
 use Rattle.krl_audit.specs.declared.why.Refusal.{Refusal}
 use Rattle.krl_audit.specs.declared.why.Refusal.TheVariants as refusals
-use Rattle.audit_run.specs.Entries.{IsOpened, IsRead, IsRegular, is_directory}
-use Rattle.audit_run.specs.Fact.{Fact, Leads, Opens}
-use Rattle.audit_run.specs.Names.{is_file_kind, names_after}
-use Rattle.audit_run.specs.Visits.{Visit, refused}
+use Rattle.audit_run.specs.Entries.{FailsAt, IsOpened, IsRead, IsRegular, is_directory}
+use Rattle.audit_run.specs.Fact.{Fact, Leads, OpenFile, Opens}
+use Rattle.audit_run.specs.Names.{is_file_kind, most_bytes, names_after}
+use Rattle.audit_run.specs.Reading.{InputFails}
+use Rattle.audit_run.specs.Visits.{Audited, Visit, refused}
 use Rattle.audit_run.specs.Walk.{IsDirectory}
 use Rattle.audit_run.specs.declared.kind.Found.{Found}
-use Rattle.audit_run.specs.declared.kind.Opened.{Opened}
-use Rattle.audit_run.specs.declared.kind.What.TheVariants as whats
+use Rattle.audit_run.specs.declared.kind.Identity.{Identity}
 
 -- ---- one name
 
@@ -23,35 +23,58 @@ is_file (Ok found) = is_file_kind found.kind
 is_file (Err refusal) = false
 
 -- what is no regular file once it is open is read too, and has no key
-abbrev pub IsWaitingIf : Bool → (Fact → Type 0) → List ℕ → Opened → List Visit → Type 0
-IsWaitingIf true Knows path opened visits = IsOpened Knows path opened visits
-IsWaitingIf false Knows path opened visits = IsRead Knows whats.Whole path None visits
+abbrev pub IsWaitingIf : Bool → (Fact → Type 0) → List ℕ → Identity → Option (List ℕ)
+    → List Visit → Type 0
+IsWaitingIf true Knows path identity bytes visits = IsOpened Knows path identity bytes visits
+IsWaitingIf false Knows path identity bytes visits =
+    IsRead (FailsAt Knows path) path bytes None visits
 
-abbrev pub IsWaitingBy : (Fact → Type 0) → List ℕ → Result Opened Refusal → List Visit → Type 0
+abbrev pub IsWaitingBy : (Fact → Type 0) → List ℕ → Result OpenFile Refusal → List Visit → Type 0
 IsWaitingBy Knows path (Err refusal) visits = visits ≡ refused path refusal
-IsWaitingBy Knows path (Ok opened) visits = IsWaitingIf opened.is_file Knows path opened visits
+IsWaitingBy Knows path (Ok held) visits =
+    IsWaitingIf held.is_file Knows path held.identity held.bytes visits
 
 -- A path that the command names and that is no regular file, as a pipe, is opened and read.
 pub record IsWaiting (Knows : Fact → Type 0) (path : List ℕ) (visits : List Visit) : Type 0 where
-  pub opened : Result Opened Refusal
+  pub opened : Result OpenFile Refusal
   pub opens : Knows (Opens path None opened)
   pub leads : IsWaitingBy Knows path opened visits
 
+-- ---- standard input
+
+-- Standard input is read where it is named first. It has no more bytes where it is named again.
+abbrev pub IsInput : (Failed : Type 0) → (input : Option (Option (List ℕ))) → (path : List ℕ)
+    → List Visit → Type 0
+IsInput Failed None path visits = visits ≡ Audited None path (Ok []) ∷ []
+IsInput Failed (Some bytes) path visits = IsRead (InputFails Failed) path bytes None visits
+
+abbrev pub is_input : List ℕ → Bool
+is_input path = bytes_eq path (codes "-")
+
+-- standard input after a path, if it was not read before: it is read where it is named
+abbrev pub input_after : (path : List ℕ) → Option (Option (List ℕ)) → Option (Option (List ℕ))
+input_after path input = if is_input path then None else input
+
+-- ---- a path that the command names
+
 -- A path that the command names leads to this. A link to a directory is followed.
-pub data IsNamed (Knows : Fact → Type 0) (every whole : Bool) (path : List ℕ)
-    (visits : List Visit) : Type 0 where
-  input : bytes_eq path (codes "-") ≡ true → IsRead Knows whats.Input path None visits
-      → IsNamed Knows every whole path visits
-  directory : (found : Result Found Refusal) → bytes_eq path (codes "-") ≡ false
+pub data IsNamed (Knows : Fact → Type 0) (Failed : Type 0) (every whole : Bool) (path : List ℕ)
+    (input : Option (Option (List ℕ))) (visits : List Visit) : Type 0 where
+  input_read : is_input path ≡ true → IsInput Failed input path visits
+      → IsNamed Knows Failed every whole path input visits
+  directory : (found : Result Found Refusal) → is_input path ≡ false
       → Knows (Leads path true found) → is_directory found ≡ true
-      → IsDirectory Knows every whole path visits → IsNamed Knows every whole path visits
-  file : (found : Found) → bytes_eq path (codes "-") ≡ false → Knows (Leads path true (Ok found))
+      → IsDirectory Knows every whole path visits
+      → IsNamed Knows Failed every whole path input visits
+  file : (found : Found) → is_input path ≡ false → Knows (Leads path true (Ok found))
       → is_file_kind found.kind ≡ true → IsRegular Knows path found visits
-      → IsNamed Knows every whole path visits
-  waiting : (found : Result Found Refusal) → bytes_eq path (codes "-") ≡ false
+      → IsNamed Knows Failed every whole path input visits
+  waiting : (found : Result Found Refusal) → is_input path ≡ false
       → Knows (Leads path true found) → is_directory found ≡ false → is_file found ≡ false
-      → IsWaiting Knows path visits → IsNamed Knows every whole path visits
-  before_path : whole ≡ false → visits ≡ [] → IsNamed Knows every whole path visits
+      → IsWaiting Knows path visits → IsNamed Knows Failed every whole path input visits
+  before_path : whole ≡ false → visits ≡ [] → IsNamed Knows Failed every whole path input visits
+
+-- ---- a name of a list of names
 
 -- the most bytes of a name in a list of names
 abbrev pub most_name : ℕ
@@ -93,11 +116,22 @@ pub data Each {X : Type 0} (Is : Bool → X → List Visit → Type 0) (whole : 
   stopped : (x : X) (xs : List X) (first : List Visit) → whole ≡ false → Is false x first
       → Each Is whole (x ∷ xs) first
 
+-- a path that the command names, and standard input, if it was not read before
+pub record NamedPath : Type 0 where
+  pub path : List ℕ
+  pub input : Option (Option (List ℕ))
+
+abbrev pub with_input : (input : Option (Option (List ℕ))) → List (Bor (List ℕ)) → List NamedPath
+with_input input [] = []
+with_input input (path ∷ paths) =
+    (record { path = path.now; input = input }) ∷ with_input (input_after path.now input) paths
+
 -- The paths that the command names lead to this, in this order.
-abbrev pub AreNamed : (Fact → Type 0) → (every whole : Bool) → List (Bor (List ℕ)) → List Visit
-    → Type 0
-AreNamed Knows every whole paths visits =
-    Each (λ whole path visits. IsNamed Knows every whole path.now visits) whole paths visits
+abbrev pub AreNamed : (Fact → Type 0) → (Failed : Type 0) → (every whole : Bool)
+    → (input : Option (Option (List ℕ))) → List (Bor (List ℕ)) → List Visit → Type 0
+AreNamed Knows Failed every whole input paths visits =
+    Each (λ whole named visits. IsNamed Knows Failed every whole named.path named.input visits)
+    whole (with_input input paths) visits
 
 -- ---- names that a reader gives
 
@@ -127,3 +161,7 @@ IsOnNames Knows every false (Some bytes) visits =
     (first rest : List ℕ) × ((bytes ≡ first ++ rest)
     × (Each (IsOnList Knows every) false (names_after [] first) visits
     ⊎ Each (IsOnList Knows every) false (names_of bytes) visits))
+
+-- why names cannot be read to their end: their reader failed, or has more bytes than are read
+abbrev pub IsBroken : (Failed : Type 0) → Option (List ℕ) → Type 0
+IsBroken Failed left = Failed ⊎ IfSome left (λ bytes. most_bytes ≤ length bytes)

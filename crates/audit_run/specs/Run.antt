@@ -1,6 +1,6 @@
 -- The whole audit, from a list that was read and what a tree states to the text and the status.
 use Rattle.std.specs.Prelude.{◌≡◌, ℕ, ◌<◌, Bool, true, false, List, [], ◌∷◌, ◌++◌, codes}
-use Rattle.std.specs.Prelude.{Option, Some, None, is_some, Result, Ok, Err, ◌↔◌}
+use Rattle.std.specs.Prelude.{Option, Some, None, is_some, not, Result, Ok, Err, ◌↔◌}
 use Rattle.std.specs.Borrow.{Bor}
 use Rattle.json_lines.specs.Field.{json_line}
 use Rattle.run_faults.specs.RunFault.{RunFault, output_run_fault, run_fault_of}
@@ -25,8 +25,10 @@ use Rattle.krl_openssh.specs.Authority.{AuthoritiesAreKeys}
 use Rattle.krl_format.specs.Krl.{SpelledSection, Spells}
 use Rattle.krl_format.specs.declared.header.Header.{Header}
 use Rattle.audit_run.specs.Fact.{Fact}
-use Rattle.audit_run.specs.Named.{AreNamed, IsOnNames}
-use Rattle.audit_run.specs.Visits.{AreTimely, State, Tally, Visit, all_tallied, nothing_tallied}
+use Rattle.audit_run.specs.Named.{AreNamed, IsBroken, IsOnNames}
+use Rattle.audit_run.specs.Reading.{SomeFailed, left_in}
+use Rattle.audit_run.specs.Visits.{AreQuiet, AreTimely, State, Tally, Visit, all_tallied}
+use Rattle.audit_run.specs.Visits.{nothing_tallied}
 use Rattle.audit_run.specs.Visits.{visits_items}
 use Rattle.audit_run.specs.declared.run.Audited.{Audited}
 use Rattle.audit_run.specs.declared.run.Audited.TheVariants as ends
@@ -37,39 +39,55 @@ use Rattle.audit_run.specs.declared.stop.Stop.TheVariants as stops
 
 -- ---- what is audited
 
--- the bytes of the names that a reader gives, if there is one, as far as it knows them
-abbrev pub given_names : {N : Type 0} → (N → Option (List ℕ)) → Option N
-    → Option (Option (List ℕ))
-given_names left None = None
-given_names left (Some names) = Some (left names)
+-- The readers that are given: the bytes of names of files, if there is a reader of names, and those
+-- of standard input, as far as the readers know them; and that one of them has failed.
+pub record Readers : Type 1 where
+  pub names : Option (Option (List ℕ))
+  pub input : Option (List ℕ)
+  pub NamesFailed : Type 0
+  pub InputFailed : Type 0
+
+abbrev pub readers_of : {N I : Type 0} → (N → Option (List ℕ)) → (N → Bool) → Option N
+    → (I → Option (List ℕ)) → (I → Bool) → I → Readers
+readers_of names_left names_failed names input_left input_failed input = record {
+  names = left_in names_left names;
+  input = input_left input;
+  NamesFailed = SomeFailed names_failed;
+  InputFailed = SomeFailed input_failed;
+}
 
 -- First what the names lead to that a reader gives, and then what those lead to that the command
 -- names.
-pub data AreGiven (Knows : Fact → Type 0) (every whole : Bool)
-    (names : Option (Option (List ℕ))) (paths : List (Bor (List ℕ)))
-    (visits : List Visit) : Type 0 where
-  no_list : names ≡ None → AreNamed Knows every whole paths visits
-      → AreGiven Knows every whole names paths visits
-  in_names : (left : Option (List ℕ)) → names ≡ Some left → whole ≡ false
-      → IsOnNames Knows every false left visits → AreGiven Knows every whole names paths visits
-  after_names : (left : Option (List ℕ)) (first rest : List Visit) → names ≡ Some left
-      → IsOnNames Knows every true left first → AreNamed Knows every whole paths rest
-      → visits ≡ first ++ rest → AreGiven Knows every whole names paths visits
+pub data AreGiven (Knows : Fact → Type 0) (every whole : Bool) (readers : Readers)
+    (paths : List (Bor (List ℕ))) (visits : List Visit) : Type 0 where
+  no_list : readers.names ≡ None
+      → AreNamed Knows readers.InputFailed every whole (Some readers.input) paths visits
+      → AreGiven Knows every whole readers paths visits
+  in_names : (left : Option (List ℕ)) → readers.names ≡ Some left → whole ≡ false
+      → IsOnNames Knows every false left visits → AreGiven Knows every whole readers paths visits
+  after_names : (left : Option (List ℕ)) (first rest : List Visit) → readers.names ≡ Some left
+      → IsOnNames Knows every true left first
+      → AreNamed Knows readers.InputFailed every whole (Some readers.input) paths rest
+      → visits ≡ first ++ rest → AreGiven Knows every whole readers paths visits
 
--- A reader gives names, which cannot be read to their end: what the names before lead to.
-pub record AreUnread (Knows : Fact → Type 0) (every : Bool)
-    (names : Option (Option (List ℕ))) (visits : List Visit) : Type 0 where
+-- A reader gives names, which cannot be read to their end, since it failed or has more bytes than
+-- are read: what the names before lead to.
+pub record AreUnread (Knows : Fact → Type 0) (every : Bool) (readers : Readers)
+    (visits : List Visit) : Type 0 where
   pub left : Option (List ℕ)
-  pub given : names ≡ Some left
+  pub given : readers.names ≡ Some left
+  pub broken : IsBroken readers.NamesFailed left
   pub before : IsOnNames Knows every false left visits
 
 -- all of what is given, or the names of a reader that cannot be read to their end; or the audit was
 -- stopped
-abbrev pub IsGiven : (Fact → Type 0) → (every : Bool) → Option (Option (List ℕ))
-    → List (Bor (List ℕ)) → Result Bool Stop → List Visit → Type 0
-IsGiven Knows every names paths (Ok true) visits = AreGiven Knows every true names paths visits
-IsGiven Knows every names paths (Ok false) visits = AreUnread Knows every names visits
-IsGiven Knows every names paths (Err stop) visits = AreGiven Knows every false names paths visits
+abbrev pub IsGiven : (Fact → Type 0) → (every : Bool) → Readers → List (Bor (List ℕ))
+    → Result Bool Stop → List Visit → Type 0
+IsGiven Knows every readers paths (Ok true) visits =
+    AreGiven Knows every true readers paths visits
+IsGiven Knows every readers paths (Ok false) visits = AreUnread Knows every readers visits
+IsGiven Knows every readers paths (Err stop) visits =
+    AreGiven Knows every false readers paths visits
 
 -- ---- what is printed
 
@@ -116,27 +134,30 @@ pub data IsRunOf (Unread : Type 0) (order : Order) (items last : List Item) (who
       → run ≡ items ++ Stopped (names_fault order.names_from.now) ∷ []
       → IsRunOf Unread order items last whole tally stop run
 
--- An audit by these entries meets this, with each file once, and prints it.
+-- An audit by these entries meets this, with each file once, and prints it. Where no finding is
+-- asked for, it ends at the first file with a revoked key.
 pub record IsAudit (Knows : Fact → Type 0) (order : Order) (queried : Queried)
-    (names : Option (Option (List ℕ))) (entries : List Entry) (old tally : Tally)
+    (readers : Readers) (entries : List Entry) (old tally : Tally)
     (stop : Option RunFault) (run : List Item) : Type 0 where
   pub visits : List Visit
   pub whole : Bool
-  pub given : AreGiven Knows order.every_file whole names order.paths.now visits
+  pub given : AreGiven Knows order.every_file whole readers order.paths.now visits
   pub timely : AreTimely (reasons_of entries) old visits
-  pub is_run : IsRunOf (AreUnread Knows order.every_file names visits) order
+  pub quiet : order.shown.revoked ≡ false
+      → AreQuiet (reasons_of entries) (not whole) old visits
+  pub is_run : IsRunOf (AreUnread Knows order.every_file readers visits) order
       (visits_items (reasons_of entries) order.shown visits)
       (last_items order.list.now queried tally) whole tally stop run
   pub tally_is : stop ≡ None → tally ≡ all_tallied (reasons_of entries) old visits
 
 -- All was audited after nothing was printed, or the audit was stopped.
-abbrev pub AuditsAll : (Fact → Type 0) → Order → Queried
-    → Option (Option (List ℕ)) → Option RunFault → State → State → Type 0
-AuditsAll Knows order queried names stop old new =
+abbrev pub AuditsAll : (Fact → Type 0) → Order → Queried → Readers → Option RunFault → State
+    → State → Type 0
+AuditsAll Knows order queried readers stop old new =
     (entries : List Entry) (before : Option (List ℕ)) → Means old.judge.list.now entries
     → old.judge.shown ≡ order.shown → HasSaid before [] old.printer
     → (run : List Item)
-    × (IsAudit Knows order queried names entries old.tally new.tally stop run
+    × (IsAudit Knows order queried readers entries old.tally new.tally stop run
     × (Reaches before run stop new.printer × (new.printer.writer ≡ old.printer.writer)))
 
 abbrev pub summary_of : Tally → Queried → Summary
@@ -154,14 +175,13 @@ summary_unless (Some fault) summary = None
 
 -- The end of an audit. One that was stopped has a fault, and no summary.
 pub record EndsAuditBy (Knows : Fact → Type 0) (order : Order) (queried : Queried)
-    (names : Option (Option (List ℕ))) (before after : Option (List ℕ))
-    (failed : Bool) (summary : Option Summary) (status : ℕ) (fault : Option RunFault)
-    : Type 0 where
+    (readers : Readers) (before after : Option (List ℕ)) (failed : Bool)
+    (summary : Option Summary) (status : ℕ) (fault : Option RunFault) : Type 0 where
   pub tally : Tally
   pub summary_is : summary ≡ summary_unless fault (summary_of tally queried)
   pub ends : (entries : List Entry) → Means queried.list.now entries
       → (stop : Option RunFault) × (run : List Item)
-      × (IsAudit Knows order queried names entries nothing_tallied tally stop run
+      × (IsAudit Knows order queried readers entries nothing_tallied tally stop run
       × (EndsAudit run tally.counts before after failed status fault
       × (fault ≡ None → stop ≡ None)))
 
@@ -187,8 +207,8 @@ pub data HasOther (list : ReadList) (bytes : List ℕ) (other : Bool) : Type 0 w
 
 -- an audit by a list that was read from these bytes
 pub record AuditsRead (Knows : Fact → Type 0) (order : Order) (bytes : List ℕ)
-    (names : Option (Option (List ℕ))) (before after : Option (List ℕ))
-    (failed : Bool) (done : Done) (summary : Option Summary) : Type 0 where
+    (readers : Readers) (before after : Option (List ℕ)) (failed : Bool) (done : Done)
+    (summary : Option Summary) : Type 0 where
   pub list : ReadList
   pub queried : Queried
   pub is_read : IsReadList (is_hashed order.shown) bytes list
@@ -196,18 +216,17 @@ pub record AuditsRead (Knows : Fact → Type 0) (order : Order) (bytes : List �
   pub revocations : queried.list.now ≡ list.revocations
   pub stated : queried.stated ≡ list.stated
   pub sha256 : queried.sha256 ≡ list.sha256
-  pub ends : EndsAuditBy Knows order queried names before after failed summary done.status
+  pub ends : EndsAuditBy Knows order queried readers before after failed summary done.status
       done.fault
 
 -- The end of an audit by a list with these bytes. Where no audit is made nothing is printed.
-abbrev pub EndsAuditRun : (Fact → Type 0) → Order → (bytes : List ℕ)
-    → Option (Option (List ℕ)) → (before after : Option (List ℕ)) → Bool
-    → Audited → Type 0
-EndsAuditRun Knows order bytes names before after failed (ends.Ended done summary) =
-    AuditsRead Knows order bytes names before after failed done summary
-EndsAuditRun Knows order bytes names before after failed ends.OtherAuthority =
+abbrev pub EndsAuditRun : (Fact → Type 0) → Order → (bytes : List ℕ) → Readers
+    → (before after : Option (List ℕ)) → Bool → Audited → Type 0
+EndsAuditRun Knows order bytes readers before after failed (ends.Ended done summary) =
+    AuditsRead Knows order bytes readers before after failed done summary
+EndsAuditRun Knows order bytes readers before after failed ends.OtherAuthority =
     (list : ReadList)
     × (IsReadList (is_hashed order.shown) bytes list × (HasOther list bytes true
     × ((after ≡ before) × (failed ≡ false))))
-EndsAuditRun Knows order bytes names before after failed (ends.Refused stop) =
+EndsAuditRun Knows order bytes readers before after failed (ends.Refused stop) =
     IsListFault order.list.now bytes stop × ((after ≡ before) × (failed ≡ false))

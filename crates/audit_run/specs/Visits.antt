@@ -1,6 +1,6 @@
 -- The visits of an audit, one after another, and what it prints and counts of each.
 use Rattle.std.specs.Prelude.{◌≡◌, ℕ, ◌+◌, ◌-◌, ◌^◌, ◌<◌, ◌||◌, nat_lt, min, Bool, true, false}
-use Rattle.std.specs.Prelude.{is_ok, List}
+use Rattle.std.specs.Prelude.{is_ok, is_some, List}
 use Rattle.std.specs.Prelude.{[], ◌∷◌, ◌++◌, Option, Some, None, Result, Ok, Err, ◌⊎◌}
 use Rattle.std.specs.BTreeSet.{contains, insert_key}
 use Rattle.std.specs.Cmp.Lexicographic.{slice_cmp}
@@ -130,6 +130,24 @@ AreTimely reasons tally [] = Unit {0}
 AreTimely reasons tally (visit ∷ visits) =
     IsTimely tally visit × AreTimely reasons (tallied reasons tally visit) visits
 
+-- ---- an audit of which no finding is asked for
+
+-- a key is revoked in what is audited
+abbrev pub reveals : (Subject → Reasons) → Tally → Visit → Bool
+reveals reasons tally visit =
+    nat_lt tally.counts.revoked (tallied reasons tally visit).counts.revoked
+
+-- No key is revoked in what was audited, or only in the last file of an audit that stopped.
+abbrev pub AreQuiet : (Subject → Reasons) → (stopped : Bool) → Tally → List Visit → Type 0
+AreQuiet reasons stopped tally [] = Unit {0}
+AreQuiet reasons false tally (visit ∷ visits) =
+    (reveals reasons tally visit ≡ false)
+    × AreQuiet reasons false (tallied reasons tally visit) visits
+AreQuiet reasons true tally (visit ∷ visits) =
+    ((reveals reasons tally visit ≡ false)
+    × AreQuiet reasons true (tallied reasons tally visit) visits)
+    ⊎ (visits ≡ [])
+
 -- ---- how far an audit is
 
 -- The list and which findings are printed, the printer, the tally, and what was met since a
@@ -183,13 +201,16 @@ IsTallied reasons visits (Some stops.NoMemory) old new = Unit {0}
 IsTallied reasons visits (Some (stops.Lost count)) old new = Unit {0}
 
 -- This was met after whatever was met before: it was printed and counted, or the audit was stopped
--- within it. Each file is audited once.
+-- within it. Each file is audited once. Where no finding is asked for, the first file with a
+-- revoked key stops the audit.
 pub record Audits (reasons : Subject → Reasons) (visits : List Visit) (stop : Option Stop)
     (old new : State) : Type 0 where
   pub says : (before : Option (List ℕ)) (said : List Item) → HasSaid before said old.printer
       → Says before (said ++ visits_items reasons old.judge.shown visits) stop new
   pub tallies : IsTallied reasons visits stop old.tally new.tally
   pub timely : AreTimely reasons old.tally visits
+  pub quiet : old.judge.shown.revoked ≡ false
+      → AreQuiet reasons (is_some stop) old.tally visits
   pub writer : new.printer.writer ≡ old.printer.writer
 
 -- An audit by a list is one for each row of entries that it means.

@@ -1,27 +1,28 @@
 //! What the names of a directory lead to.
 
 ghost use Rattle.std.specs.Prelude.{◌≡◌, ◌∷◌, [], IfOk, IfSome, None, Some, true, false, is_some};
-ghost use Rattle.std.specs.Prelude.{string_bytes};
+ghost use Rattle.std.specs.Prelude.{ℕ, List, Option, string_bytes};
+ghost use Rattle.std.specs.Io.KnownBytes.{Consumes};
 ghost use Rattle.std.specs.Result.{result_err};
-ghost use Rattle.krl_audit.specs.Audit.{content_of};
 ghost use Rattle.audit_tree.specs.Paths.{path_in};
 ghost use Rattle.audit_run.specs.Entries.{IsEntry, IsFileBy, IsFound, IsLink, IsBehind, IsLooked};
-ghost use Rattle.audit_run.specs.Entries.{IsOpened, IsPrivate, IsPrivateIf, IsRead, IsRegular};
-ghost use Rattle.audit_run.specs.Entries.{irregular, is_directory, is_expected, key_of};
-ghost use Rattle.audit_run.specs.Entries.{IsRegularBy, IsPrivateBy, IsPrivateFront};
-ghost use Rattle.audit_run.specs.Fact.{read_as};
+ghost use Rattle.audit_run.specs.Entries.{FailsAt, IsOpened, IsOpenedIf, IsPrivate, IsPrivateBy};
+ghost use Rattle.audit_run.specs.Entries.{IsPrivateFile, IsPrivateIf, IsRead, IsRegular};
+ghost use Rattle.audit_run.specs.Entries.{IsRegularBy, irregular, is_directory, is_expected};
+ghost use Rattle.audit_run.specs.Entries.{key_of};
+ghost use Rattle.audit_run.specs.Reading.{IsBegun};
 ghost use Rattle.audit_run.specs.Visits.{Goes, Meets, is_seen};
 
 use crate::files::{Key, key_of};
-use crate::kind::{Found, Kind, Opened, What};
+use crate::kind::{Found, Kind, Opened};
 use crate::names::{Place, is_never};
+use crate::reading::{Reading, content_of, is_private, read_file, read_front};
 use crate::round::{Round, Screen};
 use crate::stop::Stop;
 use crate::tree::Tree;
 use audit_tree::{Selection, path_in, selection_of, shown_path};
-use key_text::is_container;
 use krl_audit::{Refusal, reads_every};
-use std::{mem, str};
+use std::str;
 
 /// A path in a directory: whether a file there is read by its name, and whether sshd or ssh reads a
 /// file of this name.
@@ -200,10 +201,33 @@ pub(crate) fn audit_regular<T: Tree, W: Screen>(
 {
     let opened = tree.open(path, Some(found))?;
     match opened {
-        Ok(opened) if opened.is_file => audit_opened(tree, round, path, opened),
-        Ok(_) => round.audit(None, path, Err(Refusal::Irregular)),
+        Ok(opened) => audit_if_regular(tree, round, path, opened),
         Err(refusal) => round.audit(None, path, Err(refusal)),
     }
+}
+
+// Audits an open file if it is a regular one.
+fn audit_if_regular<T: Tree, W: Screen>(
+    tree: &T,
+    round: &mut Round<'_, '_, W>,
+    path: &str,
+    opened: Opened<T::File>,
+) -> Result<(), Stop>
+    requires { T.File.has_failed opened.file ≡ false }
+    ensures { Goes result (λ _. IsOpenedIf opened.is_file (T.states tree.now) path.now
+        opened.identity (T.File.left opened.file)) round.old round.new }
+{
+    if !opened.is_file {
+        return round.audit(None, path, Err(Refusal::Irregular));
+    }
+    let Opened { identity, file, .. } = opened;
+    let text = round.take_text();
+    let reading = Reading {
+        identity,
+        file,
+        text,
+    };
+    audit_opened(tree, round, path, reading)
 }
 
 // Audits a file of a directory only if it is a private key file.
@@ -218,34 +242,60 @@ fn audit_private<T: Tree, W: Screen>(
 {
     let opened = tree.open(path, Some(found))?;
     match opened {
-        Ok(opened) if opened.is_file => audit_if_private(tree, round, path, opened),
-        Ok(_) => round.audit(None, path, Err(Refusal::Irregular)),
+        Ok(opened) => audit_if_private(tree, round, path, opened),
         Err(refusal) => round.audit(None, path, Err(refusal)),
     }
 }
 
-// Audits an open file if it begins as a private key file.
+// Audits an open file if it is a regular one and begins as a private key file.
 fn audit_if_private<T: Tree, W: Screen>(
     tree: &T,
     round: &mut Round<'_, '_, W>,
     path: &str,
-    opened: Opened,
+    opened: Opened<T::File>,
 ) -> Result<(), Stop>
-    ensures { Goes result (λ _. IsPrivateIf true (T.states tree.now) path.now opened) round.old
-        round.new }
+    requires { T.File.has_failed opened.file ≡ false }
+    ensures { Goes result (λ _. IsPrivateIf opened.is_file (T.states tree.now) path.now
+        opened.identity (T.File.left opened.file)) round.old round.new }
 {
-    let mut front = mem::replace(&mut round.text, Vec::new(round.auditor.run.alloc));
-    let read = tree.read(What::Front, path, &mut front)?;
-    let is_private = is_container(front.as_slice());
-    round.text = front;
-    match read {
-        Ok(()) if is_private => audit_opened(tree, round, path, opened),
-        Ok(()) => {
-            round.skip(1);
-            Ok(())
-        }
-        Err(refusal) => round.audit(None, path, Err(refusal)),
+    if !opened.is_file {
+        return round.audit(None, path, Err(Refusal::Irregular));
     }
+    let Opened { identity, file, .. } = opened;
+    let mut file = file;
+    let mut text = round.take_text();
+    if !read_front(&mut file, &mut text)? {
+        round.text = text;
+        let refusal = tree.why_unread(path, &file);
+        return round.audit(None, path, Err(refusal));
+    }
+    let reading = Reading {
+        identity,
+        file,
+        text,
+    };
+    audit_by_front(tree, round, path, reading)
+}
+
+// Audits an open file of which the first bytes were read, if they begin a private key file.
+fn audit_by_front<T: Tree, W: Screen>(
+    tree: &T,
+    round: &mut Round<'_, '_, W>,
+    path: &str,
+    reading: Reading<T::File>,
+) -> Result<(), Stop>
+    requires { T.File.has_failed reading.file ≡ false }
+    ensures { (bytes : Option (List ℕ))
+        → IsBegun bytes (T.File.left reading.file) reading.text.items
+        → Goes result (λ _. IsPrivateFile (T.states tree.now) path.now reading.identity bytes)
+        round.old round.new }
+{
+    if is_private(reading.text.as_slice()) {
+        return audit_opened(tree, round, path, reading);
+    }
+    round.text = reading.text;
+    round.skip(1);
+    Ok(())
 }
 
 /// Audits an open regular file, unless it was audited before.
@@ -253,44 +303,43 @@ pub(crate) fn audit_opened<T: Tree, W: Screen>(
     tree: &T,
     round: &mut Round<'_, '_, W>,
     path: &str,
-    opened: Opened,
+    reading: Reading<T::File>,
 ) -> Result<(), Stop>
-    ensures { Goes result (λ _. IsOpened (T.states tree.now) path.now opened) round.old
-        round.new }
+    requires { T.File.has_failed reading.file ≡ false }
+    ensures { (bytes : Option (List ℕ))
+        → Consumes bytes (T.File.left reading.file) reading.text.items
+        → Goes result (λ _. IsOpened (T.states tree.now) path.now reading.identity bytes)
+        round.old round.new }
 {
-    let key = key_of(path.as_bytes(), opened.identity);
+    let key = key_of(path.as_bytes(), reading.identity);
     if round.files.has(key) {
+        round.text = reading.text;
         round.say_same(key, path)
     } else {
-        audit_read(tree, round, What::Whole, path, Some(key))
+        audit_read(tree, round, path, Some(key), reading)
     }
 }
 
-/// Audits what is read, or says why there is nothing.
+/// Audits what is read of an open file, or says why there is nothing.
 pub(crate) fn audit_read<T: Tree, W: Screen>(
     tree: &T,
     round: &mut Round<'_, '_, W>,
-    what: What,
     path: &str,
     key: Option<Key>,
+    reading: Reading<T::File>,
 ) -> Result<(), Stop>
-    requires { IfSome key (λ new. is_seen round.old.tally.files new ≡ false) }
-    ensures { Goes result (λ _. IsRead (T.states tree.now) what path.now key) round.old
-        round.new }
+    requires new { IfSome key (λ new. is_seen round.old.tally.files new ≡ false) }
+    requires working { T.File.has_failed reading.file ≡ false }
+    ensures { (bytes : Option (List ℕ))
+        → Consumes bytes (T.File.left reading.file) reading.text.items
+        → Goes result (λ _. IsRead (FailsAt (T.states tree.now) path.now) path.now bytes key)
+        round.old round.new }
 {
-    let mut text = mem::replace(&mut round.text, Vec::new(round.auditor.run.alloc));
-    let read = tree.read(what, path, &mut text)?;
+    let Reading { file, text, .. } = reading;
+    let mut file = file;
+    let mut text = text;
+    let read = read_file(tree, path, &mut file, &mut text)?;
     let done = round.audit(key, path, content_of(read, text.as_slice()));
     round.text = text;
     done
-}
-
-// The bytes that were read, or why there are none.
-fn content_of(read: Result<(), Refusal>, text: &[u8]) -> Result<&[u8], Refusal>
-    ensures { content_of result ≡ read_as read text.now }
-{
-    match read {
-        Ok(()) => Ok(text),
-        Err(refusal) => Err(refusal),
-    }
 }

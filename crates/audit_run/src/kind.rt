@@ -67,21 +67,12 @@ pub struct Identity {
 }
 
 /// A file that is open.
-#[derive(Clone, Copy)]
-pub struct Opened {
+#[derive(Drop)]
+pub struct Opened<F> {
     /// Whether it is a regular file.
     pub is_file: bool,
     /// Which file it is.
     pub identity: Identity,
-}
-
-/// The part of a file that is read.
-#[derive(Clone, Copy, PartialEq, Eq)]
-pub enum What {
-    /// The bytes of standard input.
-    Input,
-    /// The first bytes of a file, which show whether it begins as a private key file.
-    Front,
-    /// The bytes of a file.
-    Whole,
+    /// A reader of its bytes, from the first one on.
+    pub file: F,
 }

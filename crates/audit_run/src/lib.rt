@@ -4,17 +4,19 @@
 mod entries;
 mod files;
 mod kind;
+pub mod laws;
 mod named;
 mod names;
 mod options;
 mod order;
+mod reading;
 mod round;
 mod run;
 mod stop;
 mod tree;
 mod walk;
 
-pub use kind::{Found, Identity, Kind, Opened, What};
+pub use kind::{Found, Identity, Kind, Opened};
 pub use options::{Options, Terminal};
 pub use order::Order;
 pub use round::Screen;

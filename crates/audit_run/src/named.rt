@@ -2,16 +2,19 @@
 
 ghost use Rattle.std.specs.Prelude.{◌≡◌, ◌+◌, ◌∷◌, ◌++◌, [], ℕ, List, true, false, is_ok, take};
 ghost use Rattle.std.specs.Prelude.{OnOk};
-ghost use Rattle.std.specs.Prelude.{◌<◌, ◌≤◌, length, nat_lt};
+ghost use Rattle.std.specs.Prelude.{◌<◌, ◌≤◌, length, nat_lt, IfSome, Ok, Some};
 ghost use Rattle.std.specs.Result.{result_err};
 ghost use Rattle.krl_audit.specs.Visible.{visible_bytes};
-ghost use Rattle.audit_run.specs.Named.{AreNamed, Each, IsNamed, IsOnList, IsOnNames, IsWaiting};
+ghost use Rattle.audit_run.specs.Named.{AreNamed, Each, IsBroken, IsInput, IsNamed, IsOnList};
+ghost use Rattle.audit_run.specs.Named.{IsOnNames, IsWaiting, IsWaitingIf, input_after};
 ghost use Rattle.audit_run.specs.Named.{is_file, irregular_at, most_name, names_to, rest_after};
 ghost use Rattle.audit_run.specs.Names.{names_after};
+ghost use Rattle.audit_run.specs.Reading.{SomeFailed, left_in};
 ghost use Rattle.audit_run.specs.Visits.{Goes, Meets, Took, Went, is_whole, refused};
 
 use crate::entries::{audit_opened, audit_read, audit_regular, is_directory};
-use crate::kind::What;
+use crate::kind::Opened;
+use crate::reading::{Reading, content_of, read_input};
 use crate::round::{Round, Screen};
 use crate::stop::Stop;
 use crate::tree::Tree;
@@ -26,34 +29,41 @@ const BUFFER: usize = 8_192;
 // The most bytes of a name. Linux opens no path of more.
 const NAME_LIMIT: usize = 4_096;
 
-/// Audits the files and directories that the command names.
-pub(crate) fn audit_paths<T: Tree, W: Screen>(
+/// Audits the files and directories that the command names, and standard input where it is named.
+pub(crate) fn audit_paths<T: Tree, I: Source + Drop, W: Screen>(
     tree: &T,
     round: &mut Round<'_, '_, W>,
     every: bool,
     paths: &[&str],
+    input: I,
 ) -> Result<(), Stop>
-    ensures { Went (λ whole. AreNamed (T.states tree.now) every whole paths.now) result round.old
-        round.new }
+    requires { I.has_failed input ≡ false }
+    ensures { Went (λ whole. AreNamed (T.states tree.now) (SomeFailed I.has_failed) every whole
+        (Some (I.left input)) paths.now) result round.old round.new }
 {
+    let mut input = Some(input);
     for path in paths {
-        audit_named(tree, round, every, *path)?;
+        audit_named(tree, round, every, *path, &mut input)?;
     }
     Ok(())
 }
 
-// Audits a file or a directory that the command names. A pipe is waited for.
-fn audit_named<T: Tree, W: Screen>(
+// Audits a file or a directory that the command names, or standard input. A pipe is waited for.
+fn audit_named<T: Tree, I: Source + Drop, W: Screen>(
     tree: &T,
     round: &mut Round<'_, '_, W>,
     every: bool,
     path: &str,
+    input: &mut Option<I>,
 ) -> Result<(), Stop>
-    ensures { Went (λ whole. IsNamed (T.states tree.now) every whole path.now) result round.old
-        round.new }
+    requires { IfSome input.old (λ input. I.has_failed input ≡ false) }
+    ensures named { Went (λ whole. IsNamed (T.states tree.now) (SomeFailed I.has_failed) every
+        whole path.now (left_in I.left input.old)) result round.old round.new }
+    ensures input { left_in I.left input.new ≡ input_after path.now (left_in I.left input.old) }
+    ensures working { IfSome input.new (λ input. I.has_failed input ≡ false) }
 {
     if path == "-" {
-        return audit_read(tree, round, What::Input, path, None);
+        return audit_input(round, path, input.take());
     }
     let found = tree.look(path, true);
     if is_directory(found) {
@@ -66,6 +76,27 @@ fn audit_named<T: Tree, W: Screen>(
     }
 }
 
+// Audits standard input, unless it was read before.
+fn audit_input<I: Source + Drop, W: Screen>(
+    round: &mut Round<'_, '_, W>,
+    path: &str,
+    input: Option<I>,
+) -> Result<(), Stop>
+    requires { IfSome input (λ input. I.has_failed input ≡ false) }
+    ensures { Goes result (λ _. IsInput (SomeFailed I.has_failed) (left_in I.left input)
+        path.now) round.old round.new }
+{
+    let Some(input) = input else {
+        return round.audit(None, path, Ok(b""));
+    };
+    let mut input = input;
+    let mut text = round.take_text();
+    let read = read_input(&mut input, &mut text)?;
+    let done = round.audit(None, path, content_of(read, text.as_slice()));
+    round.text = text;
+    done
+}
+
 // Audits what the command names and is no regular file, as a pipe, or says why it cannot.
 fn audit_waiting<T: Tree, W: Screen>(
     tree: &T,
@@ -76,9 +107,37 @@ fn audit_waiting<T: Tree, W: Screen>(
 {
     let opened = tree.open(path, None)?;
     match opened {
-        Ok(opened) if opened.is_file => audit_opened(tree, round, path, opened),
-        Ok(_) => audit_read(tree, round, What::Whole, path, None),
+        Ok(opened) => audit_open(tree, round, path, opened),
         Err(refusal) => round.audit(None, path, Err(refusal)),
+    }
+}
+
+// Audits what is open and was no regular file when it was looked at.
+fn audit_open<T: Tree, W: Screen>(
+    tree: &T,
+    round: &mut Round<'_, '_, W>,
+    path: &str,
+    opened: Opened<T::File>,
+) -> Result<(), Stop>
+    requires { T.File.has_failed opened.file ≡ false }
+    ensures { Goes result (λ _. IsWaitingIf opened.is_file (T.states tree.now) path.now
+        opened.identity (T.File.left opened.file)) round.old round.new }
+{
+    let Opened {
+        is_file,
+        identity,
+        file,
+    } = opened;
+    let text = round.take_text();
+    let reading = Reading {
+        identity,
+        file,
+        text,
+    };
+    if is_file {
+        audit_opened(tree, round, path, reading)
+    } else {
+        audit_read(tree, round, path, None, reading)
     }
 }
 
@@ -91,8 +150,9 @@ pub(crate) fn audit_listed<T: Tree, N: Source, W: Screen>(
     names: &mut N,
 ) -> Result<bool, Stop>
     requires { N.has_failed names.old ≡ false }
-    ensures { Took (λ result. IsOnNames (T.states tree.now) every (is_whole result)
+    ensures names { Took (λ result. IsOnNames (T.states tree.now) every (is_whole result)
         (N.left names.old)) result round.old round.new }
+    ensures broken { result ≡ Ok false → IsBroken (SomeFailed N.has_failed) (N.left names.old) }
 {
     let mut name = Vec::new(round.auditor.run.alloc);
     let mut batch = [0; BUFFER];

@@ -15,6 +15,7 @@ use run_faults::{Cause, RunFault};
 use run_output::{Printer, Run};
 use std::alloc::{AllocError, Global};
 use std::marker::Model;
+use std::mem;
 
 /// Where findings are printed, and how far the audit is may be shown.
 pub trait Screen: Sink {
@@ -93,6 +94,16 @@ impl<'q, 'w, W: Screen> Round<'q, 'w, W> {
     {
         let summary = self.summary();
         self.auditor.run.printer.out.show(&summary);
+    }
+
+    /// The buffer for the bytes of a file, which is empty.
+    pub(crate) fn take_text(&mut self) -> Vec<u8>
+        ensures empty { result.items ≡ [] }
+        ensures kept { self.new ≡ self.old }
+    {
+        let mut text = mem::replace(&mut self.text, Vec::new(self.auditor.run.alloc));
+        text.clear();
+        text
     }
 
     /// Audits the bytes of a file, or says why there are none, and counts it. One with a key was

@@ -6,7 +6,7 @@ ghost use Rattle.krl_types.specs.Entry.{Entry};
 ghost use Rattle.krl_entries.specs.Revocations.{Means};
 ghost use Rattle.run_output.specs.Carries.{Carries};
 ghost use Rattle.audit_run.specs.Run.{AuditsAll, EndsAuditBy, EndsAuditRun, HasOther, IsGiven};
-ghost use Rattle.audit_run.specs.Run.{given_names, is_hashed, last_items, names_fault, stop_fault};
+ghost use Rattle.audit_run.specs.Run.{is_hashed, last_items, names_fault, readers_of, stop_fault};
 ghost use Rattle.audit_run.specs.Run.{summary_of, summary_unless};
 ghost use Rattle.audit_run.specs.Visits.{Took};
 
@@ -38,11 +38,12 @@ struct Queried<'q> {
     sha256: Option<[u8; 32]>,
 }
 
-/// Where files are found, and a reader of names of files, if there is one.
+/// Where files are found, a reader of names of files, if there is one, and standard input.
 #[derive(Drop)]
-pub struct Given<'t, T: Tree, N: Source + Drop> {
+pub struct Given<'t, T: Tree, N: Source + Drop, I: Source + Drop> {
     pub tree: &'t T,
     pub names: Option<N>,
+    pub input: I,
 }
 
 /// The end of an audit.
@@ -70,18 +71,19 @@ struct Counted<'a> {
 /// certificate authorities sshd may read otherwise. The status of an audit that came to an end is
 /// 255 if it was stopped, otherwise 1 if a key is revoked, otherwise 3 if something was not read,
 /// otherwise 0.
-pub fn audit_run<'a, T: Tree, N: Source + Drop, W: Screen>(
+pub fn audit_run<'a, T: Tree, N: Source + Drop, I: Source + Drop, W: Screen>(
     alloc: Global,
     order: &Order<'a>,
     list: Bytes,
-    given: Given<'_, T, N>,
+    given: Given<'_, T, N, I>,
     out: &mut W,
 ) -> Audited<'a>
     requires working { W.Sink.has_failed out.old ≡ false }
     requires names { IfSome given.names (λ names. N.has_failed names ≡ false) }
+    requires input { I.has_failed given.input ≡ false }
     ensures { EndsAuditRun (T.states given.entry.tree.now) order.now list
-        (given_names N.left given.entry.names) (W.Sink.taken out.old) (W.Sink.taken out.new)
-        (W.Sink.has_failed out.new) result }
+        (readers_of N.left N.has_failed given.entry.names I.left I.has_failed given.entry.input)
+        (W.Sink.taken out.old) (W.Sink.taken out.new) (W.Sink.has_failed out.new) result }
 {
     let read = match read_list(alloc, order.list, list.as_slice(), is_hashed(order.shown)) {
         Ok(read) => read,
@@ -119,20 +121,21 @@ fn has_other_authority(list: &ReadList, bytes: &[u8]) -> bool
 }
 
 // Audits what the command asks for, by a list that was read.
-fn audit_by<'a, T: Tree, N: Source + Drop, W: Screen>(
+fn audit_by<'a, T: Tree, N: Source + Drop, I: Source + Drop, W: Screen>(
     alloc: Global,
     order: &Order<'a>,
     queried: &Queried<'_>,
-    given: Given<'_, T, N>,
+    given: Given<'_, T, N, I>,
     out: &mut W,
 ) -> Counted<'a>
     requires read { (entries : List Entry) × Means queried.now.list.now entries }
     requires working { W.Sink.has_failed out.old ≡ false }
     requires names { IfSome given.names (λ names. N.has_failed names ≡ false) }
+    requires input { I.has_failed given.input ≡ false }
     ensures { EndsAuditBy (T.states given.entry.tree.now) order.now queried.now
-        (given_names N.left given.entry.names) (W.Sink.taken out.old)
-        (W.Sink.taken out.new) (W.Sink.has_failed out.new) result.summary result.done.status
-        result.done.fault }
+        (readers_of N.left N.has_failed given.entry.names I.left I.has_failed given.entry.input)
+        (W.Sink.taken out.old) (W.Sink.taken out.new) (W.Sink.has_failed out.new)
+        result.summary result.done.status result.done.fault }
 {
     let mut buffer = Vec::new(alloc);
     let printer = Printer::new(&mut buffer, out);
@@ -141,8 +144,7 @@ fn audit_by<'a, T: Tree, N: Source + Drop, W: Screen>(
         shown: order.shown,
     };
     let mut round = Round::new(alloc, judge, printer, queried.stated);
-    let Given { tree, names } = given;
-    let stop = audit_all(tree, &mut round, order, queried, names);
+    let stop = audit_all(&mut round, order, queried, given);
     let summary = summary_of(&round, queried);
     let Round {
         auditor,
@@ -187,20 +189,21 @@ fn summary_unless(fault: &Option<RunFault>, summary: Summary) -> Option<Summary>
 }
 
 // Audits all, and prints the last object if there is one. Answers why it was stopped.
-fn audit_all<'a, T: Tree, N: Source + Drop, W: Screen>(
-    tree: &T,
+fn audit_all<'a, T: Tree, N: Source + Drop, I: Source + Drop, W: Screen>(
     round: &mut Round<'_, '_, W>,
     order: &Order<'a>,
     queried: &Queried<'_>,
-    names: Option<N>,
+    given: Given<'_, T, N, I>,
 ) -> Option<RunFault<'a>>
     requires read { (entries : List Entry) × Means round.old.judge.list.now entries }
-    requires names { IfSome names (λ names. N.has_failed names ≡ false) }
-    ensures all { AuditsAll (T.states tree.now) order.now queried.now (given_names N.left names)
+    requires names { IfSome given.names (λ names. N.has_failed names ≡ false) }
+    requires input { I.has_failed given.input ≡ false }
+    ensures all { AuditsAll (T.states given.entry.tree.now) order.now queried.now
+        (readers_of N.left N.has_failed given.entry.names I.left I.has_failed given.entry.input)
         result round.old round.new }
     ensures writer { round.new.printer.writer ≡ round.old.printer.writer }
 {
-    match audit_given(tree, round, order, names) {
+    match audit_given(round, order, given) {
         Ok(true) => say_last(round, order, queried).err(),
         Ok(false) => Some(names_fault(order)),
         Err(stop) => stop_fault(stop),
@@ -209,39 +212,44 @@ fn audit_all<'a, T: Tree, N: Source + Drop, W: Screen>(
 
 // Audits all files, first those whose names a reader gives. Returns false if the names cannot be
 // read to their end.
-fn audit_given<T: Tree, N: Source + Drop, W: Screen>(
-    tree: &T,
+fn audit_given<T: Tree, N: Source + Drop, I: Source + Drop, W: Screen>(
     round: &mut Round<'_, '_, W>,
     order: &Order<'_>,
-    names: Option<N>,
+    given: Given<'_, T, N, I>,
 ) -> Result<bool, Stop>
-    requires names { IfSome names (λ names. N.has_failed names ≡ false) }
-    ensures { Took (IsGiven (T.states tree.now) order.now.every_file (given_names N.left names)
+    requires names { IfSome given.names (λ names. N.has_failed names ≡ false) }
+    requires input { I.has_failed given.input ≡ false }
+    ensures { Took (IsGiven (T.states given.entry.tree.now) order.now.every_file
+        (readers_of N.left N.has_failed given.entry.names I.left I.has_failed given.entry.input)
         order.now.paths.now) result round.old round.new }
 {
+    let Given { tree, names, input } = given;
     let Some(names) = names else {
-        audit_paths(tree, round, order.every_file, order.paths)?;
+        audit_paths(tree, round, order.every_file, order.paths, input)?;
         return Ok(true);
     };
-    audit_both(tree, round, order, names)
+    audit_both(tree, round, order, names, input)
 }
 
 // Audits the files whose names a reader gives, and then those that the command names. Returns false
 // if the names cannot be read to their end.
-fn audit_both<T: Tree, N: Source + Drop, W: Screen>(
+fn audit_both<T: Tree, N: Source + Drop, I: Source + Drop, W: Screen>(
     tree: &T,
     round: &mut Round<'_, '_, W>,
     order: &Order<'_>,
     names: N,
+    input: I,
 ) -> Result<bool, Stop>
     requires names { N.has_failed names ≡ false }
-    ensures { Took (IsGiven (T.states tree.now) order.now.every_file (Some (N.left names))
+    requires input { I.has_failed input ≡ false }
+    ensures { Took (IsGiven (T.states tree.now) order.now.every_file
+        (readers_of N.left N.has_failed (Some names) I.left I.has_failed input)
         order.now.paths.now) result round.old round.new }
 {
     let mut names = names;
     let is_whole = audit_listed(tree, round, order.every_file, &mut names)?;
     if is_whole {
-        audit_paths(tree, round, order.every_file, order.paths)?;
+        audit_paths(tree, round, order.every_file, order.paths, input)?;
         Ok(true)
     } else {
         Ok(false)

@@ -1,9 +1,9 @@
 //! Where an audit finds files.
 
 ghost use Rattle.std.specs.Prelude.{◌≡◌, true, false, IfErr, IfOk, Err, Ok};
-ghost use Rattle.audit_run.specs.Fact.{Breaks, Fact, Holds, Leads, Lists, Opens, read_as};
+ghost use Rattle.audit_run.specs.Fact.{Breaks, Fact, Fails, Leads, Lists, Opens, open_file};
 
-use crate::kind::{Found, Opened, What};
+use crate::kind::{Found, Opened};
 use byte_streams::Source;
 use krl_audit::Refusal;
 use std::alloc::AllocError;
@@ -14,6 +14,9 @@ pub trait Tree {
     /// A reader of the names of a directory, each ended by a zero byte.
     type Names: Source + Drop;
 
+    /// A reader of an open file.
+    type File: Source + Drop;
+
     // the facts that it may state
     ghost states: { Self → Fact → Type 0 };
 
@@ -23,19 +26,23 @@ pub trait Tree {
 
     /// Opens what is at a path, or says why not: what a look has found, or, without one, what the
     /// command names, which is waited for. Fails only if an allocation fails.
-    fn open(&self, path: &str, looked: Option<Found>) -> Result<Result<Opened, Refusal>, AllocError>
-        ensures { IfOk result (λ opened. states self.now (Opens path.now looked opened)) };
-
-    /// Reads what was opened at a path last, or standard input, into a vector, or says why not.
-    /// Fails only if an allocation fails.
-    fn read(
+    fn open(
         &self,
-        what: What,
         path: &str,
-        text: &mut Vec<u8>,
-    ) -> Result<Result<(), Refusal>, AllocError>
-        ensures { IfOk result (λ read.
-            states self.now (Holds what path.now (read_as read text.new.items))) };
+        looked: Option<Found>,
+    ) -> Result<Result<Opened<Self::File>, Refusal>, AllocError>
+        ensures opened { IfOk result (λ opened. IfOk opened (λ it.
+            states self.now (Opens path.now looked
+            (Ok (open_file it.is_file it.identity (Self.File.left it.file)))))) }
+        ensures closed { IfOk result (λ opened. IfErr opened (λ refusal.
+            states self.now (Opens path.now looked (Err refusal)))) }
+        ensures working { IfOk result (λ opened. IfOk opened (λ it.
+            Self.File.has_failed it.file ≡ false)) };
+
+    /// Why an open file could not be read to its end.
+    fn why_unread(&self, path: &str, file: &Self::File) -> Refusal
+        requires { Self.File.has_failed file.now ≡ true }
+        ensures { states self.now (Fails path.now result) };
 
     /// A reader of the names of a directory that is named or was found, or why it cannot be
     /// entered. One that is named may be a link. Fails only if an allocation fails.

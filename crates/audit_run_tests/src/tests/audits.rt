@@ -45,7 +45,8 @@ pub const PLAIN: Asked<'static> = Asked {
     names: None,
 };
 
-/// Checks an audit of names that a reader gives, and of paths.
+/// Checks an audit of names that a reader gives, and of paths. Standard input is a line with the
+/// key of the list.
 pub fn check(
     rt: &impl Abort,
     alloc: Global,
@@ -69,7 +70,12 @@ pub fn check(
         None => None,
     };
     let tree = Shelf { items };
-    let given = Given { tree: &tree, names };
+    let input = FromRead::new(Giver::new(GITHUB_LINE, 7));
+    let given = Given {
+        tree: &tree,
+        names,
+        input,
+    };
     let list = joined(alloc, &[GITHUB_LINE, b"\n"]).expect(rt, "there is memory");
     let audited = audit_run(alloc, &order, Bytes::from_vec(list), given, &mut out);
     let (status, line) = ended(rt, alloc, &audited);

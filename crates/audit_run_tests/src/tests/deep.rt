@@ -5,8 +5,8 @@ ghost use Rattle.audit_run.specs.Fact.{Fact};
 
 use crate::tests::audits::LOUD;
 use crate::tests::shelf::Paper;
-use audit_run::{Audited, Found, Given, Identity, Kind, Opened, Order, Tree, What, audit_run};
-use byte_streams::{FromRead, ToWrite};
+use audit_run::{Audited, Found, Given, Identity, Kind, Opened, Order, Tree, audit_run};
+use byte_streams::{FromRead, Lent, ToWrite};
 use krl_audit::Refusal;
 use ssh_wire::Bytes;
 use std::alloc::{AllocError, Global};
@@ -24,6 +24,8 @@ struct Well<'a> {
 impl<'a> Tree for Well<'a> {
     type Names = FromRead<Giver<'a>>;
 
+    type File = Lent<'static>;
+
     ghost states = { λ _ _. Unit {0} };
 
     fn look(&self, path: &str, _followed: bool) -> Result<Found, Refusal> {
@@ -39,7 +41,7 @@ impl<'a> Tree for Well<'a> {
         &self,
         path: &str,
         _looked: Option<Found>,
-    ) -> Result<Result<Opened, Refusal>, AllocError> {
+    ) -> Result<Result<Opened<Lent<'static>>, Refusal>, AllocError> {
         let identity = Identity {
             device: 0,
             number: path.len() as u64,
@@ -47,18 +49,12 @@ impl<'a> Tree for Well<'a> {
         Ok(Ok(Opened {
             is_file: true,
             identity,
+            file: Lent::new(GITHUB_LINE),
         }))
     }
 
-    fn read(
-        &self,
-        _what: What,
-        _path: &str,
-        text: &mut Vec<u8>,
-    ) -> Result<Result<(), Refusal>, AllocError> {
-        text.clear();
-        text.extend_from_slice(GITHUB_LINE)?;
-        Ok(Ok(()))
+    fn why_unread(&self, _path: &str, _file: &Lent<'static>) -> Refusal {
+        Refusal::Read
     }
 
     fn enter(
@@ -108,7 +104,11 @@ fn audited_in(alloc: Global, depth: usize) -> (u8, u64) {
         names: b"k.pub\0d\0",
         last: b"k.pub\0",
     };
-    let given = Given { tree: &tree, names };
+    let given = Given {
+        tree: &tree,
+        names,
+        input: Lent::new(b""),
+    };
     let list = Bytes::from_vec(Vec::new(alloc));
     match audit_run(alloc, &order, list, given, &mut out) {
         Audited::Ended { done, summary } => match summary {

@@ -126,6 +126,12 @@ const CASES: &[Case<'static>] = &[
         status: 1,
     },
     Case {
+        paths: &["-", "fine", "-"],
+        text: &[b"-:1", REVOKED],
+        counts: b"3 files, 2 keys: 1 revoked in 1 file, 0 unread",
+        status: 1,
+    },
+    Case {
         paths: &["home"],
         text: &[
             b"home/authorized_keys:1",

@@ -3,7 +3,7 @@
 use crate::tests::audits::LOUD;
 use crate::tests::shelf::{Item, Node, Paper, Shelf};
 use audit_run::{Audited, Given, Order, audit_run};
-use byte_streams::{FromRead, ToWrite};
+use byte_streams::{FromRead, Lent, ToWrite};
 use ssh_wire::Bytes;
 use std::alloc::Global;
 use std::process::Abort;
@@ -38,7 +38,11 @@ fn end_of(rt: &impl Abort, alloc: Global, list: Vec<u8>) -> End {
     };
     let names: Option<FromRead<Giver<'static>>> = None;
     let tree = Shelf { items: ITEMS };
-    let given = Given { tree: &tree, names };
+    let given = Given {
+        tree: &tree,
+        names,
+        input: Lent::new(b""),
+    };
     let end = match audit_run(alloc, &order, Bytes::from_vec(list), given, &mut out) {
         Audited::Ended { done, .. } => End::Ended(done.status),
         Audited::OtherAuthority => End::Other,

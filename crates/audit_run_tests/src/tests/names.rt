@@ -3,7 +3,7 @@
 use crate::tests::audits::{Asked, Case, LOUD, REVOKED, check};
 use crate::tests::shelf::{Item, Node, Paper, Shelf};
 use audit_run::{Audited, Given, Order, audit_run};
-use byte_streams::{FromRead, ToWrite};
+use byte_streams::{FromRead, Lent, ToWrite};
 use run_faults::{Cause, FileFault};
 use ssh_wire::Bytes;
 use std::test::Fail;
@@ -114,6 +114,7 @@ fn names_that_cannot_be_read_to_their_end(rt: HostRuntime) -> Result<(), Fail> {
     let given = Given {
         tree: &Shelf { items: ITEMS },
         names: Some(FromRead::new(names)),
+        input: Lent::new(b""),
     };
     let list = Bytes::from_vec(joined(rt.alloc(), &[GITHUB_LINE])?);
     let audited = audit_run(rt.alloc(), &order, list, given, &mut out);

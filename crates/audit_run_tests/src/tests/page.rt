@@ -36,7 +36,9 @@ fn is_clean<T: Tree, W: Screen>(
         paths,
     };
     let names: Option<Lent<'_>> = None;
-    match audit_run(alloc, &order, list, Given { tree, names }, out) {
+    let input = Lent::new(b"");
+    let given = Given { tree, names, input };
+    match audit_run(alloc, &order, list, given, out) {
         Audited::Ended { done, .. } => done.status == 0,
         Audited::OtherAuthority | Audited::Refused(_) => false,
     }

@@ -3,7 +3,7 @@
 ghost use Rattle.std.specs.Prelude.{◌≡◌, false};
 ghost use Rattle.audit_run.specs.Fact.{Fact};
 
-use audit_run::{Found, Identity, Kind, Opened, Screen, Tree, What};
+use audit_run::{Found, Identity, Kind, Opened, Screen, Tree};
 use audit_tree::Summary;
 use byte_streams::{Failed, FromRead, Sink, ToWrite};
 use krl_audit::Refusal;
@@ -68,6 +68,8 @@ impl<'a> Shelf<'a> {
 impl<'a> Tree for Shelf<'a> {
     type Names = FromRead<Giver<'a>>;
 
+    type File = FromRead<Giver<'a>>;
+
     ghost states = { λ _ _. Unit {0} };
 
     fn look(&self, path: &str, followed: bool) -> Result<Found, Refusal> {
@@ -90,34 +92,33 @@ impl<'a> Tree for Shelf<'a> {
         &self,
         path: &str,
         _looked: Option<Found>,
-    ) -> Result<Result<Opened, Refusal>, AllocError> {
-        let (is_file, device, number) = match self.behind(path) {
-            Node::File(device, number, _) => (true, device, number),
-            Node::Unread(number, _) => (true, 0, number),
-            Node::Special(_) | Node::Swapped => (false, 0, 0),
+    ) -> Result<Result<Opened<FromRead<Giver<'a>>>, Refusal>, AllocError> {
+        let (is_file, device, number, bytes) = match self.behind(path) {
+            Node::File(device, number, bytes) => (true, device, number, bytes),
+            Node::Unread(number, _) => (true, 0, number, b"".as_slice()),
+            Node::Special(bytes) => (false, 0, 0, bytes),
+            Node::Swapped => (false, 0, 0, b"".as_slice()),
             Node::Hidden(refusal) | Node::Unopened(refusal) => return Ok(Err(refusal)),
             Node::Directory(_) | Node::Broken(_) | Node::Closed(_) | Node::Link(_) => {
                 return Ok(Err(Refusal::Open));
             }
         };
-        let identity = Identity { device, number };
-        Ok(Ok(Opened { is_file, identity }))
+        let mut giver = Giver::new(bytes, 7);
+        if let Node::Unread(..) = self.behind(path) {
+            giver.then = Then::Fails;
+        }
+        Ok(Ok(Opened {
+            is_file,
+            identity: Identity { device, number },
+            file: FromRead::new(giver),
+        }))
     }
 
-    fn read(
-        &self,
-        _what: What,
-        path: &str,
-        text: &mut Vec<u8>,
-    ) -> Result<Result<(), Refusal>, AllocError> {
-        let bytes = match self.behind(path) {
-            Node::File(_, _, bytes) | Node::Special(bytes) => bytes,
-            Node::Unread(_, refusal) => return Ok(Err(refusal)),
-            _ => return Ok(Err(Refusal::Read)),
-        };
-        text.clear();
-        text.extend_from_slice(bytes)?;
-        Ok(Ok(()))
+    fn why_unread(&self, path: &str, _file: &FromRead<Giver<'a>>) -> Refusal {
+        match self.behind(path) {
+            Node::Unread(_, refusal) => refusal,
+            _ => Refusal::Read,
+        }
     }
 
     fn enter(

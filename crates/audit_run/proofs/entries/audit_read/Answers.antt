@@ -1,10 +1,24 @@
--- An allocation failed before anything was met.
-use Rattle.std.proofs.Common.{sym}
+-- The file was read, or an allocation failed before anything was met.
+use Rattle.std.proofs.Common.{[], ◌∷◌, refl}
 use Rattle.std.proofs.lemmas.Result.{err_from_is_err_and}
-use Rattle.audit_run.proofs.Auditing.{goes_nothing}
+use Rattle.krl_audit.specs.Audit.{content_of}
+use Rattle.audit_run.specs.Visits.{Audited}
+use Rattle.audit_run.proofs.Auditing.{goes, goes_nothing}
+use Rattle.audit_run.proofs.Contents.{content_read}
 use Rattle.audit_run.proofs.entries.audit_read.Goals as goal
 
 pub returns-in_err-read : goal.returns-in_err-read
-returns-in_err-read g c =
+returns-in_err-read g c = λ bytes was.
     let p = err_from_is_err_and c.from_residual.result c.from_residual.ensures.1 in
-    rw (p.1, p.2, sym c.round.view_is) (goes_nothing _ _)
+    rw (p.1, p.2) (goes_nothing _ _)
+
+pub returns : goal.returns
+returns g c = λ bytes was. rw c.round.view_is (
+    goes c.audit-done.result (Audited c.args.key c.args.path.now (content_of c.content_of.result) ∷ []) _ _ _
+    (record {
+      content = content_of c.content_of.result;
+      is = content_read _ bytes c.in_ok-read.read c.read_file.new.text.items _ _ c.content_of.ensures c.as_slice.ensures.value
+          (c.in_ok-read.ensures bytes was);
+      visits_are = refl;
+    }) c.audit-done.ensures
+    )

@@ -8,22 +8,13 @@ use Rattle.audit_run.proofs.run.audit_both.Goals as goal
 pub returns-in_err-is_whole : goal.returns-in_err-is_whole
 returns-in_err-is_whole g c =
     let p = err_from_is_err_and c.from_residual.result c.from_residual.ensures.1 in
-    let went = c.in_err-is_whole.ensures in
+    let went = c.in_err-is_whole.ensures.names in
     rw (p.1, p.2) (record { visits = went.visits; is = in_names _ refl refl went.is; audits = went.audits })
-
-pub returns : goal.returns
-returns g c =
-    let went = c.in_ok-is_whole.ensures in
-    record {
-      visits = went.visits;
-      is = record { left = _; given = refl; before = rw c.if-is_whole.false at went.is };
-      audits = went.audits;
-    }
 
 pub returns-in_err-audit_paths : goal.returns-in_err-audit_paths
 returns-in_err-audit_paths g c =
     let p = err_from_is_err_and c.from_residual-in_err-audit_paths.result c.from_residual-in_err-audit_paths.ensures.1 in
-    let first = c.in_ok-is_whole.ensures in
+    let first = c.in_ok-is_whole.ensures.names in
     let rest = c.in_err-audit_paths.ensures in
     rw (p.1, p.2) (record {
       visits = first.visits ++ rest.visits;
@@ -31,9 +22,9 @@ returns-in_err-audit_paths g c =
       audits = by_then first.visits rest.visits (Some c.in_err-audit_paths.field-0.0) _ _ _ first.audits rest.audits;
     })
 
-pub returns-then-is_whole : goal.returns-then-is_whole
-returns-then-is_whole g c =
-    let first = c.in_ok-is_whole.ensures in
+pub returns-in_ok-audit_paths : goal.returns-in_ok-audit_paths
+returns-in_ok-audit_paths g c =
+    let first = c.in_ok-is_whole.ensures.names in
     let rest = c.in_ok-audit_paths.ensures in
     record {
       visits = first.visits ++ rest.visits;

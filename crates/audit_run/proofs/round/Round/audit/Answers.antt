@@ -36,9 +36,9 @@ returns g c =
     rw (sym c.self.view_is, shown) (record {
       audits = record {
         judge = c.in_default.ensures.judge;
-        audits = λ entries means. file_met _ c.args.key c.args.name.now content tt _ _ c.keep.new.self
-            (c.in_default.ensures.told entries means) (rw (sym c.self.view_is) at c.requires) c.in_ok-keep.ensures
-            c.count.ensures;
+        audits = λ entries means. file_met _ c.args.key c.args.name.now content tt _ _ c.keep.new.self c.ends_at.result
+            c.in_default.ensures.judge (c.in_default.ensures.told entries means) (rw (sym c.self.view_is) at c.requires)
+            c.in_ok-keep.ensures c.count.ensures c.ends_at.ensures c.if-ends_at.false;
       };
       since = gave_since _ _ c.args.key c.args.name.now content refl refl;
     })

@@ -1,7 +1,7 @@
 -- The name was printed and counted, or the audit was stopped within it.
 use Rattle.std.proofs.Common.{refl, sym}
 use Rattle.audit_run.specs.Visits.{Same}
-use Rattle.audit_run.proofs.Auditing.{met, met_stopped, same_gave_since}
+use Rattle.audit_run.proofs.Auditing.{met, met_stopped, not_more, same_gave_since}
 use Rattle.audit_run.proofs.round.Round.say_same.Goals as goal
 
 pub returns-in-Err : goal.returns-in-Err
@@ -21,7 +21,8 @@ returns g c =
       audits = record {
         judge = c.in_default.ensures.judge;
         audits = λ entries means. met _ (Same c.args.key c.args.name.now) tt _ _
-            c.in_default.ensures.said (rw (sym c.self.view_is) at c.requires) (rw (c.count_same.ensures, c.in_default.ensures.counts) refl);
+            c.in_default.ensures.said (rw (sym c.self.view_is) at c.requires) (rw (c.count_same.ensures, c.in_default.ensures.counts) refl)
+            (λ silent. not_more c.self.inside.auditor.counts.revoked);
       };
       since = same_gave_since _ _ c.args.key c.args.name.now refl refl;
     })

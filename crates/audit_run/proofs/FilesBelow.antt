@@ -1,0 +1,393 @@
+-- Each wanted file below a directory that is walked to its end has its visit, unless something is unread.
+use Rattle.std.proofs.Common.{◌≡◌, ℕ, Bool, true, false, List, [], ◌∷◌, ◌++◌, ◌⊎◌, inl, inr, Option, Some, None, Result, Ok, Err}
+use Rattle.std.proofs.Common.{refl, sym, ap, subst, ◌∙◌}
+use Rattle.std.proofs.lemmas.List.Elements.{Contains-append_left, Contains-append_right, Contains-push}
+use Rattle.std.proofs.lemmas.List.Elements.{Contains-append_cases}
+use Rattle.std.proofs.lemmas.List.Sorted.{Contains-permutation, IsPermutation-reverse}
+use Rattle.std.specs.Global.{Vec}
+use Rattle.std.specs.Prelude.{Contains, IfSome, reverse}
+use Rattle.std.specs.Str.{IsUtf8}
+use Rattle.audit_tree.specs.Names.{selection_of}
+use Rattle.audit_tree.specs.Paths.{path_in}
+use Rattle.audit_tree.specs.declared.names.Selection.{Selection}
+use Rattle.key_text.specs.Armour.{begins_container}
+use Rattle.krl_audit.specs.declared.why.Refusal.{Refusal}
+use Rattle.krl_audit.specs.declared.why.Refusal.TheVariants as refusals
+use Rattle.audit_run.specs.Below.{HasName, IsBelow, IsFileBelow, IsSelected, IsSteady, IsVisitOf, LeadsToFile, SomeUnread, SomeVisit}
+use Rattle.audit_run.specs.Below.{by_front, by_name, deeper, itself, linked, regular}
+use Rattle.audit_run.specs.Entries.{IsBehind, IsFileBy, IsFound, IsLooked, IsOpened, IsOpenedIf, IsPrivateBy, IsPrivateFile, IsPrivateIf}
+use Rattle.audit_run.specs.Entries.{IsRegularBy, below, here, is_directory, is_expected, no_text, not_selected, other as passed_file, private, read, same as seen_before}
+use Rattle.audit_run.specs.Entries.{unread}
+use Rattle.audit_run.specs.Fact.{Fact, Leads, OpenFile}
+use Rattle.audit_run.specs.Names.{AreWanted, IsWanted, MayBeDirectory, behind, dots, is_directory_kind, is_dots, is_link_kind, is_never}
+use Rattle.audit_run.specs.Names.{left_out, looked_at, names_after, no_name, not_looked_at, selected, taken}
+use Rattle.audit_run.specs.Names.{no_text as no_text_name, not_selected as not_selected_name}
+use Rattle.audit_run.specs.Reading.{front_of}
+use Rattle.audit_run.specs.Visits.{Audited, Visit, refused}
+use Rattle.audit_run.specs.Walk.{IsDirectory, IsEntered, IsOpen, Level, Turns, before, endless, entered, every_in, not_entered, stopped, walked}
+use Rattle.audit_run.specs.declared.kind.Found.{Found}
+use Rattle.audit_run.specs.declared.kind.Kind.{Kind}
+use Rattle.audit_run.specs.declared.kind.Kind.TheVariants as kinds
+use Rattle.audit_run.proofs.Covering.{IsGoneTo, IsPartOf, IsWalked, gone, gone_down, not_in_nothing, one_of_one, walk_covers}
+
+-- ---- lists
+
+in_cons : {X : Type 0} (y : X) (xs : List X) (x : X) → Contains (y ∷ xs) x → (y ≡ x) ⊎ Contains xs x
+in_cons {X} y xs x is = elim (Contains-append_cases (y ∷ []) xs x is) [
+  | inl first ↦ inl (one_of_one y x first)
+  | inr rest ↦ inr rest
+]
+
+at_head : {X : Type 0} (x : X) (xs : List X) → Contains (x ∷ xs) x
+at_head {X} x xs = Contains-append_left (x ∷ []) xs x (Contains-push [] x)
+
+in_tail : {X : Type 0} (y : X) (xs : List X) (x : X) → Contains xs x → Contains (y ∷ xs) x
+in_tail {X} y xs x is = Contains-append_right (y ∷ []) xs x is
+
+-- ---- what was not read
+
+one_unread : (visits all : List Visit) (path : List ℕ) (refusal : Refusal) → visits ≡ refused path refusal → IsPartOf visits all
+    → SomeUnread all
+one_unread visits all path refusal is part =
+    let one : Visit = Audited None path (Err refusal) in
+    (path, refusal, part one (subst (λ (v : List Visit). Contains v one) (sym is) (at_head one [])))
+
+-- ---- a visit of a path
+
+one_visit : (visits : List Visit) (path : List ℕ) (visit : Visit) → visits ≡ visit ∷ [] → IsVisitOf path visit → SomeVisit path visits
+one_visit visits path visit is of = (visit, (subst (λ (v : List Visit). Contains v visit) (sym is) (at_head visit []), of))
+
+opened_visit : (Knows : Fact → Type 0) (path : List ℕ) (held : OpenFile) (visits : List Visit)
+    → IsOpened Knows path held.identity held.bytes visits → SomeVisit path visits
+opened_visit Knows path held visits (read is) = one_visit visits path _ is.visits_are refl
+opened_visit Knows path held visits (seen_before is) = one_visit visits path _ is refl
+
+opened_if_visit : (Knows : Fact → Type 0) (path : List ℕ) (held : OpenFile) (is_file : Bool) (visits : List Visit)
+    → IsOpenedIf is_file Knows path held.identity held.bytes visits → SomeVisit path visits
+opened_if_visit Knows path held true visits is = opened_visit Knows path held visits is
+opened_if_visit Knows path held false visits is = one_visit visits path _ is refl
+
+regular_visit : (Knows : Fact → Type 0) (path : List ℕ) (opened : Result OpenFile Refusal) (visits : List Visit)
+    → IsRegularBy Knows path opened visits → SomeVisit path visits
+regular_visit Knows path (Err refusal) visits is = one_visit visits path _ is refl
+regular_visit Knows path (Ok held) visits is = opened_if_visit Knows path held held.is_file visits is
+
+not_both : (b : Bool) → b ≡ true → b ≡ false → ⊥
+not_both true holds fails = cc
+not_both false holds fails = cc
+
+begins_known : (bytes : List ℕ) (known : Option (List ℕ)) (value : Bool) → known ≡ Some bytes
+    → IfSome known (λ all. begins_container (front_of all) ≡ value) → begins_container (front_of bytes) ≡ value
+begins_known bytes None value is begins = absurd (cc)
+begins_known bytes (Some all) value is begins =
+    let same : all ≡ bytes = cc in
+    subst (λ (b : List ℕ). begins_container (front_of b) ≡ value) same begins
+
+private_file_visit : (Knows : Fact → Type 0) (path : List ℕ) (held : OpenFile) (bytes : List ℕ) (visits : List Visit)
+    → held.bytes ≡ Some bytes → begins_container (front_of bytes) ≡ true
+    → IsPrivateFile Knows path held.identity held.bytes visits → SomeVisit path visits
+private_file_visit Knows path held bytes visits known begins (private front is) = opened_visit Knows path held visits is
+private_file_visit Knows path held bytes visits known begins (passed_file front is) =
+    absurd (not_both (begins_container (front_of bytes)) begins (begins_known bytes held.bytes false known front))
+private_file_visit Knows path held bytes visits known begins (unread refusal fails is) = one_visit visits path _ is refl
+
+private_if_visit : (Knows : Fact → Type 0) (path : List ℕ) (held : OpenFile) (is_file : Bool) (bytes : List ℕ) (visits : List Visit)
+    → held.bytes ≡ Some bytes → begins_container (front_of bytes) ≡ true
+    → IsPrivateIf is_file Knows path held.identity held.bytes visits → SomeVisit path visits
+private_if_visit Knows path held true bytes visits known begins is = private_file_visit Knows path held bytes visits known begins is
+private_if_visit Knows path held false bytes visits known begins is = one_visit visits path _ is refl
+
+private_visit : (Knows : Fact → Type 0) (path : List ℕ) (held : OpenFile) (bytes : List ℕ) (opened : Result OpenFile Refusal)
+    (visits : List Visit) → opened ≡ Ok held → held.bytes ≡ Some bytes → begins_container (front_of bytes) ≡ true
+    → IsPrivateBy Knows path opened visits → SomeVisit path visits
+private_visit Knows path held bytes opened visits is known begins leads =
+    let so : IsPrivateBy Knows path (Ok held) visits = subst (λ (o : Result OpenFile Refusal). IsPrivateBy Knows path o visits) is leads in
+    private_if_visit Knows path held held.is_file bytes visits known begins so
+
+file_visit : (Knows : Fact → Type 0) (path : List ℕ) (selection : Selection) (file : Found) (visits : List Visit) → IsSteady Knows
+    → IsSelected Knows path file selection → IsFileBy selection Knows path file visits → SomeVisit path visits
+file_visit Knows path _ file visits steady by_name leads = regular_visit Knows path leads.opened visits leads.leads
+file_visit Knows path _ file visits steady (by_front held bytes opens known begins) leads =
+    private_visit Knows path held bytes leads.opened visits (steady.opens path (Some file) leads.opened (Ok held) leads.opens opens) known
+    begins leads.leads
+
+found_visit : (Knows : Fact → Type 0) (path : List ℕ) (selection : Selection) (expected : Bool) (kind : Kind) (file : Found)
+    (visits : List Visit) → IsSteady Knows → kind ≡ kinds.File → IsSelected Knows path file selection
+    → IsFound kind Knows path selection expected file visits → SomeVisit path visits
+found_visit Knows path selection expected kind file visits steady is selects leads =
+    let so : IsFileBy selection Knows path file visits =
+    subst (λ (k : Kind). IsFound k Knows path selection expected file visits) is leads in
+    file_visit Knows path selection file visits steady selects so
+
+behind_visit : (Knows : Fact → Type 0) (path : List ℕ) (selection : Selection) (expected : Bool) (looked : Result Found Refusal)
+    (file : Found) (visits : List Visit) → IsSteady Knows → looked ≡ Ok file → file.kind ≡ kinds.File
+    → IsSelected Knows path file selection → IsBehind Knows path selection expected looked visits → SomeVisit path visits
+behind_visit Knows path selection expected looked file visits steady is kind selects leads =
+    let so : IsBehind Knows path selection expected (Ok file) visits =
+    subst (λ (l : Result Found Refusal). IsBehind Knows path selection expected l visits) is leads in
+    let found : IsFound file.kind Knows path selection expected file visits = rw kind (rw kind at so) in
+    found_visit Knows path selection expected file.kind file visits steady kind selects found
+
+looked_visit : (Knows : Fact → Type 0) (path : List ℕ) (selection : Selection) (expected : Bool) (looked : Result Found Refusal)
+    (file : Found) (visits : List Visit) → IsSteady Knows → Knows (Leads path false looked) → LeadsToFile Knows path file
+    → file.kind ≡ kinds.File → IsSelected Knows path file selection → IsLooked Knows path selection expected looked visits
+    → SomeVisit path visits
+looked_visit Knows path selection expected looked file visits steady looks (regular found) kind selects leads =
+    let is = steady.leads path false looked (Ok file) looks found in
+    let so : IsLooked Knows path selection expected (Ok file) visits =
+    subst (λ (l : Result Found Refusal). IsLooked Knows path selection expected l visits) is leads in
+    let there : IsFound file.kind Knows path selection expected file visits = rw kind (rw kind at so) in
+    found_visit Knows path selection expected file.kind file visits steady kind selects there
+looked_visit Knows path selection expected looked file visits steady looks (linked link found kind_is followed) kind selects leads =
+    let is = steady.leads path false looked (Ok link) looks found in
+    let so : IsLooked Knows path selection expected (Ok link) visits =
+    subst (λ (l : Result Found Refusal). IsLooked Knows path selection expected l visits) is leads in
+    let there = rw kind_is at so in
+    behind_visit Knows path selection expected there.behind file visits steady
+    (steady.leads path true there.behind (Ok file) there.leads followed) kind selects there.is
+
+-- ---- a name that is wanted is gone to
+
+directory_link : (kind : Kind) → kind ≡ kinds.Directory → is_link_kind kind ≡ true → ⊥
+directory_link kind is link = let so : is_link_kind kinds.Directory ≡ true = subst (λ (k : Kind). is_link_kind k ≡ true) is link in cc
+
+may_not : (Knows : Fact → Type 0) (path : List ℕ) (found : Found) → IsSteady Knows → Knows (Leads path false (Ok found))
+    → found.kind ≡ kinds.Directory → MayBeDirectory Knows path false → ⊥
+may_not Knows path found steady leads kind (not_looked_at refusal looked may) = absurd (cc)
+may_not Knows path found steady leads kind (looked_at found_too looked link may) =
+    let same : Ok found_too ≡ Ok found = steady.leads path false (Ok found_too) (Ok found) looked leads in
+    let it : found_too ≡ found = cc in
+    let directory : is_directory_kind found_too.kind ≡ true =
+    ap (λ (f : Found). is_directory_kind f.kind) it ∙ ap (λ (k : Kind). is_directory_kind k) kind in
+    cc
+may_not Knows path found steady leads kind (behind found_too followed looked link_is follows may) =
+    let same : Ok found_too ≡ Ok found = steady.leads path false (Ok found_too) (Ok found) looked leads in
+    let it : found_too ≡ found = cc in
+    directory_link found_too.kind (ap (λ (f : Found). f.kind) it ∙ kind) link_is
+
+-- a name that leads to a directory is wanted
+directory_wanted : (Knows : Fact → Type 0) (every : Bool) (path name : List ℕ) (found : Found) → IsSteady Knows → is_dots name ≡ false
+    → IsUtf8 name → Knows (Leads (path_in path name) false (Ok found)) → found.kind ≡ kinds.Directory
+    → IsWanted Knows every path false name → ⊥
+directory_wanted Knows every path name found steady no_dots text leads kind (dots is wanted) = cc
+directory_wanted Knows every path name found steady no_dots text leads kind (selected not_dots never wanted) = cc
+directory_wanted Knows every path name found steady no_dots text leads kind (no_text_name not_dots never bad wanted) = cc
+directory_wanted Knows every path name found steady no_dots text leads kind (not_selected_name not_dots never utf8 may) =
+    may_not Knows (path_in path name) found steady leads kind may
+
+-- so is one that is selected
+selected_wanted : (Knows : Fact → Type 0) (every : Bool) (path name : List ℕ) → is_dots name ≡ false
+    → is_never (selection_of every name) ≡ false → IsWanted Knows every path false name → ⊥
+selected_wanted Knows every path name no_dots chosen (dots is wanted) = cc
+selected_wanted Knows every path name no_dots chosen (selected not_dots never wanted) = cc
+selected_wanted Knows every path name no_dots chosen (no_text_name not_dots never bad wanted) = cc
+selected_wanted Knows every path name no_dots chosen (not_selected_name not_dots never utf8 may) = cc
+
+are_taken : (Knows : Fact → Type 0) (every : Bool) (path name : List ℕ) (names : List (List ℕ)) (wanted : List (Vec ℕ)) (skipped : ℕ)
+    → AreWanted Knows every path names wanted skipped → Contains names name → (IsWanted Knows every path false name → ⊥)
+    → (it : Vec ℕ) × ((it.items ≡ name) × Contains wanted it)
+are_taken Knows every path name _ _ _ no_name is not_left = absurd (not_in_nothing name is)
+are_taken Knows every path name _ _ _ (taken first names wanted skipped may rest) is not_left = elim (in_cons first.items names name is) [
+  | inl it ↦ (first, (it, at_head first wanted))
+  | inr later ↦
+      let more = are_taken Knows every path name names wanted skipped rest later not_left in
+      (more.0, (more.1.0, in_tail first wanted more.0 more.1.1))
+]
+are_taken Knows every path name _ _ _ (left_out first names wanted skipped may rest) is not_left = elim (in_cons first names name is) [
+  | inl it ↦ absurd (not_left (subst (λ (n : List ℕ). IsWanted Knows every path false n) it may))
+  | inr later ↦ are_taken Knows every path name names wanted skipped rest later not_left
+]
+
+-- ---- the directories that were entered
+
+-- A directory was entered, with all its names that are wanted.
+pub record WasEntered (Knows : Fact → Type 0) (every named : Bool) (directory : List ℕ) (had : List Level) : Type 0 where
+  pub names : List (Vec ℕ)
+  pub skipped : ℕ
+  pub is_open : IsOpen Knows (every_in every directory) directory named names skipped
+  pub level : Level
+  pub path_is : level.path ≡ directory
+  pub every_is : level.every ≡ every_in every directory
+  pub names_are : level.names ≡ reverse names
+  pub is_had : Contains had level
+
+level_had : (Knows : Fact → Type 0) (every named : Bool) (path : List ℕ) (visits all : List Visit) (levels had : List Level)
+    → IsEntered Knows every named path visits levels → IsPartOf visits all → IsPartOf levels had
+    → WasEntered Knows every named path had ⊎ SomeUnread all
+level_had Knows every named path visits all levels had (not_entered refusal why is levels_are) part grows =
+    inr (one_unread visits all path refusal is part)
+level_had Knows every named path visits all levels had (entered names skipped is_open is levels_are) part grows =
+    let level : Level = record { path = path; every = every_in every path; names = reverse names } in
+    inl (record {
+      names = names;
+      skipped = skipped;
+      is_open = is_open;
+      level = level;
+      path_is = refl;
+      every_is = refl;
+      names_are = refl;
+      is_had = grows level (subst (λ (l : List Level). Contains l level) (sym levels_are) (at_head level []));
+    })
+
+if_known : (bytes : List ℕ) (known : Option (List ℕ)) (P : List ℕ → Type 0) → known ≡ Some bytes → IfSome known P → P bytes
+if_known bytes None P is holds = absurd (cc)
+if_known bytes (Some all) P is holds = let it : all ≡ bytes = cc in subst P it holds
+
+-- a name of it that is wanted is one of its names that were gone to
+name_had : (Knows : Fact → Type 0) (every named : Bool) (directory name : List ℕ) (had : List Level) → IsSteady Knows
+    → (was : WasEntered Knows every named directory had) → HasName Knows named directory name
+    → (IsWanted Knows (every_in every directory) directory false name → ⊥)
+    → (it : Vec ℕ) × ((it.items ≡ name) × Contains was.level.names it)
+name_had Knows every named directory name had steady was has not_left =
+    let known : Ok was.is_open.left ≡ Ok (Some has.bytes) =
+    steady.lists directory named (Ok was.is_open.left) (Ok (Some has.bytes)) was.is_open.lists has.lists in
+    let left : was.is_open.left ≡ Some has.bytes = cc in
+    let in_order = if_known has.bytes was.is_open.left _ left was.is_open.listed in
+    let it = are_taken Knows (every_in every directory) directory name (names_after [] has.bytes) in_order.wanted in_order.count
+    in_order.are_wanted has.one_of not_left in
+    let one = Contains-permutation in_order.wanted was.names it.0 in_order.same it.1.1 in
+    let back = Contains-permutation was.names (reverse was.names) it.0 (IsPermutation-reverse was.names) one in
+    (it.0, (it.1.0, subst (λ (n : List (Vec ℕ)). Contains n it.0) (sym was.names_are) back))
+
+-- where it leads to a directory this was entered
+went_down : (Knows : Fact → Type 0) (every : Bool) (had : List Level) (all : List Visit) (level : Level) (name : Vec ℕ) (found : Found)
+    → IsSteady Knows → Knows (Leads (path_in level.path name.items) false (Ok found)) → found.kind ≡ kinds.Directory → IsUtf8 name.items
+    → IsGoneTo Knows every had all level name
+    → WasEntered Knows every false (path_in level.path name.items) had ⊎ SomeUnread all
+went_down Knows every had all level name found steady leads kind text (gone_down some deep is enters part grows) =
+    level_had Knows every false (path_in level.path name.items) some all deep had enters part grows
+went_down Knows every had all level name found steady leads kind text (gone some (no_text bad down is) part) = absurd (bad text)
+went_down Knows every had all level name found steady leads kind text (gone some (not_selected utf8 never down is) part) = absurd (cc)
+went_down Knows every had all level name found steady leads kind text (gone some (below found_too utf8 never looked dir down is) part) = absurd (cc)
+went_down Knows every had all level name found steady leads kind text (gone some (here found_too utf8 never looked dir down is) part) =
+    let it = steady.leads (path_in level.path name.items) false found_too (Ok found) looked leads in
+    let so : is_directory (Ok found) ≡ false = subst (λ (o : Result Found Refusal). is_directory o ≡ false) it dir in
+    absurd (not_both (is_directory_kind found.kind) (ap (λ (k : Kind). is_directory_kind k) kind) so)
+
+-- each directory below was entered
+pub below_entered : (Knows : Fact → Type 0) (every : Bool) (top : List ℕ) (had start : List Level) (all first : List Visit)
+    → IsSteady Knows → IsEntered Knows every true top first start → IsPartOf first all → IsWalked Knows every start had all
+    → (named : Bool) (directory : List ℕ) → IsBelow Knows top named directory
+    → WasEntered Knows every named directory had ⊎ SomeUnread all
+below_entered Knows every top had start all first steady enters part walk _ _ itself =
+    level_had Knows every true top first all start had enters part walk.starts
+below_entered Knows every top had start all first steady enters part walk _ _ (deeper named directory name found under has leads kind) =
+    elim (below_entered Knows every top had start all first steady enters part walk named directory under) [
+      | inr unread_one ↦ inr unread_one
+      | inl was ↦
+          let it = name_had Knows every named directory name had steady was has
+          (directory_wanted Knows (every_in every directory) directory name found steady has.no_dots has.text leads kind) in
+          let goes = walk.names was.level was.is_had it.0 it.1.1 in
+          let path : path_in was.level.path it.0.items ≡ path_in directory name =
+          ap (λ (p : List ℕ). path_in p it.0.items) was.path_is ∙ ap (λ (n : List ℕ). path_in directory n) it.1.0 in
+          let leads_there : Knows (Leads (path_in was.level.path it.0.items) false (Ok found)) =
+          subst (λ (p : List ℕ). Knows (Leads p false (Ok found))) (sym path) leads in
+          let text : IsUtf8 it.0.items = subst (λ (n : List ℕ). IsUtf8 n) (sym it.1.0) has.text in
+          subst (λ (p : List ℕ). WasEntered Knows every false p had ⊎ SomeUnread all) path
+          (went_down Knows every had all was.level it.0 found steady leads_there kind text goes)
+    ]
+
+-- ---- a file
+
+not_never : (Knows : Fact → Type 0) (path : List ℕ) (file : Found) (selection : Selection) → IsSelected Knows path file selection
+    → is_never selection ≡ false
+not_never Knows path file _ by_name = refl
+not_never Knows path file _ (by_front held bytes opens known begins) = refl
+
+leads_here : (Knows : Fact → Type 0) (path : List ℕ) (file : Found) (looked : Result Found Refusal) → IsSteady Knows
+    → Knows (Leads path false looked) → LeadsToFile Knows path file → file.kind ≡ kinds.File → is_directory looked ≡ false
+leads_here Knows path file looked steady looks (regular found) kind =
+    ap (λ (l : Result Found Refusal). is_directory l) (steady.leads path false looked (Ok file) looks found)
+    ∙ ap (λ (k : Kind). is_directory_kind k) kind
+leads_here Knows path file looked steady looks (linked link found kind_is followed) kind =
+    ap (λ (l : Result Found Refusal). is_directory l) (steady.leads path false looked (Ok link) looks found)
+    ∙ ap (λ (k : Kind). is_directory_kind k) kind_is
+
+visit_of_more : (path : List ℕ) (some all : List Visit) → IsPartOf some all → SomeVisit path some → SomeVisit path all
+visit_of_more path some all part visit = (visit.0, (part visit.0 visit.1.0, visit.1.1))
+
+file_gone : (Knows : Fact → Type 0) (every : Bool) (had : List Level) (all : List Visit) (level : Level) (name : Vec ℕ) (file : Found)
+    → IsSteady Knows → LeadsToFile Knows (path_in level.path name.items) file → file.kind ≡ kinds.File → IsUtf8 name.items
+    → IsSelected Knows (path_in level.path name.items) file (selection_of level.every name.items)
+    → IsGoneTo Knows every had all level name → SomeVisit (path_in level.path name.items) all
+file_gone Knows every had all level name file steady leads kind text selects (gone some (no_text bad down is) part) = absurd (bad text)
+file_gone Knows every had all level name file steady leads kind text selects (gone some (not_selected utf8 never down is) part) = absurd (cc)
+file_gone Knows every had all level name file steady leads kind text selects (gone some (below found_too utf8 never looked dir down is) part) =
+    absurd (cc)
+file_gone Knows every had all level name file steady leads kind text selects (gone some (here looked utf8 never looks dir down is) part) =
+    visit_of_more (path_in level.path name.items) some all part
+    (looked_visit Knows (path_in level.path name.items) (selection_of level.every name.items) (is_expected level.path name.items) looked file
+    some steady looks leads kind selects is)
+file_gone Knows every had all level name file steady leads kind text selects
+    (gone_down some deep (no_text bad down is) enters part grows) = absurd (bad text)
+file_gone Knows every had all level name file steady leads kind text selects
+    (gone_down some deep (not_selected utf8 never down is) enters part grows) =
+    absurd (not_both (is_never (selection_of level.every name.items)) never
+    (not_never Knows (path_in level.path name.items) file (selection_of level.every name.items) selects))
+file_gone Knows every had all level name file steady leads kind text selects
+    (gone_down some deep (below looked utf8 never looks dir down is) enters part grows) =
+    absurd (not_both (is_directory looked) dir (leads_here Knows (path_in level.path name.items) file looked steady looks leads kind))
+file_gone Knows every had all level name file steady leads kind text selects
+    (gone_down some deep (here looked utf8 never looks dir down is) enters part grows) = absurd (cc)
+
+gone_more : (Knows : Fact → Type 0) (every : Bool) (had : List Level) (some all : List Visit) (level : Level) (name : Vec ℕ)
+    → IsPartOf some all → IsGoneTo Knows every had some level name → IsGoneTo Knows every had all level name
+gone_more Knows every had some all level name part (gone visits is there) = gone visits is (λ x is_x. part x (there x is_x))
+gone_more Knows every had some all level name part (gone_down visits deep is enters there grows) =
+    gone_down visits deep is enters (λ x is_x. part x (there x is_x)) grows
+
+walked_more : (Knows : Fact → Type 0) (every : Bool) (start had : List Level) (some all : List Visit) → IsPartOf some all
+    → IsWalked Knows every start had some → IsWalked Knows every start had all
+walked_more Knows every start had some all part walk = record {
+  starts = walk.starts;
+  names = λ level is_level name is_name. gone_more Knows every had some all level name part (walk.names level is_level name is_name);
+}
+
+file_in_walk : (Knows : Fact → Type 0) (every : Bool) (top path : List ℕ) (start : List Level) (count : ℕ) (first rest all : List Visit)
+    → IsSteady Knows → IsEntered Knows every true top first start → Turns Knows every start count [] rest
+    → IsPartOf first all → IsPartOf rest all → IsFileBelow Knows every top path → SomeVisit path all ⊎ SomeUnread all
+file_in_walk Knows every top path start count first rest all steady enters turns first_part rest_part file =
+    let covers = walk_covers Knows every start count rest turns in
+    let walk = walked_more Knows every start covers.0 rest all rest_part covers.1 in
+    elim (below_entered Knows every top covers.0 start all first steady enters first_part walk file.named file.directory file.below) [
+      | inr unread_one ↦ inr unread_one
+      | inl was ↦
+          let chosen = not_never Knows path file.file (selection_of (every_in every file.directory) file.name) file.selected in
+          let it = name_had Knows every file.named file.directory file.name covers.0 steady was file.has_name
+          (selected_wanted Knows (every_in every file.directory) file.directory file.name file.has_name.no_dots chosen) in
+          let goes = walk.names was.level was.is_had it.0 it.1.1 in
+          let here : path ≡ path_in was.level.path it.0.items =
+          file.path_is ∙ ap (λ (n : List ℕ). path_in file.directory n) (sym it.1.0)
+          ∙ ap (λ (p : List ℕ). path_in p it.0.items) (sym was.path_is) in
+          let selection : selection_of (every_in every file.directory) file.name ≡ selection_of was.level.every it.0.items =
+          ap (λ (n : List ℕ). selection_of (every_in every file.directory) n) (sym it.1.0)
+          ∙ ap (λ (e : Bool). selection_of e it.0.items) (sym was.every_is) in
+          let leads : LeadsToFile Knows (path_in was.level.path it.0.items) file.file =
+          subst (λ (p : List ℕ). LeadsToFile Knows p file.file) here file.leads in
+          let selects : IsSelected Knows (path_in was.level.path it.0.items) file.file (selection_of was.level.every it.0.items) =
+          subst (λ (s : Selection). IsSelected Knows (path_in was.level.path it.0.items) file.file s) selection
+          (subst (λ (p : List ℕ). IsSelected Knows p file.file (selection_of (every_in every file.directory) file.name)) here file.selected) in
+          let text : IsUtf8 it.0.items = subst (λ (n : List ℕ). IsUtf8 n) (sym it.1.0) file.has_name.text in
+          inl (subst (λ (p : List ℕ). SomeVisit p all) (sym here)
+          (file_gone Knows every covers.0 all was.level it.0 file.file steady leads file.is_file text selects goes))
+    ]
+
+-- ---- the law
+
+pub file_visited : (Knows : Fact → Type 0) (every : Bool) (top path : List ℕ) (visits : List Visit) → IsSteady Knows
+    → IsDirectory Knows every true top visits → IsFileBelow Knows every top path → SomeVisit path visits ⊎ SomeUnread visits
+file_visited Knows every top path visits steady (before cut is) file = absurd (cc)
+file_visited Knows every top path visits steady (stopped first rest start now count cut enters turns is) file = absurd (cc)
+file_visited Knows every top path visits steady (walked first rest start count enters turns is) file =
+    let met : IsPartOf (first ++ rest) visits = λ x is_x.
+    subst (λ (v : List Visit). Contains v x) (sym is) (Contains-append_left (first ++ rest) _ x is_x) in
+    file_in_walk Knows every top path start count first rest visits steady enters turns
+    (λ x is_x. met x (Contains-append_left first rest x is_x)) (λ x is_x. met x (Contains-append_right first rest x is_x)) file
+file_visited Knows every top path visits steady (endless first rest start now count enters turns most is) file =
+    let one : Visit = Audited None top (Err refusals.Read) in
+    inr (
+      top,
+      refusals.Read,
+      subst (λ (v : List Visit). Contains v one) (sym is)
+          (Contains-append_right (first ++ rest) (refused top refusals.Read) one (at_head one [])),
+    )
