@@ -1,3 +1,7 @@
 pub mod Loading
 pub mod Ending
+pub mod Disk
+pub mod Audit
+pub mod Runs
 pub mod Make
+pub mod Program

@@ -1,5 +1,7 @@
 //! `krl check`: a list, checked before it is put in force.
 
+ghost use Rattle.krl.specs.Runs.{IsChecked};
+
 use crate::Krl;
 use crate::ending::fail_in_words;
 use crate::loading::{bytes_of, open, read};
@@ -13,8 +15,10 @@ use run_faults::Cause;
 use ssh_wire::Bytes;
 use std::alloc::AllocError;
 
-/// Checks what the task names. Answers the exit status.
-pub fn check(rt: &HostRuntime, task: &Check) -> u8 {
+/// Checks what the task names. Returns the exit status.
+pub fn check(rt: &HostRuntime, task: &Check) -> u8
+    ensures { IsChecked task.now result }
+{
     let mut out = ToWrite::new(rt.stdout());
     match check_run(rt.alloc(), task, &mut System { rt }, &mut out) {
         Ok(done) => end(rt, &Krl, &done),

@@ -1,5 +1,7 @@
 //! `krl diff`: what one list names and another does not.
 
+ghost use Rattle.krl.specs.Runs.{IsCompared};
+
 use crate::Krl;
 use crate::loading::ListFiles;
 use byte_streams::ToWrite;
@@ -7,8 +9,10 @@ use diff_run::{Comparison, diff_run};
 use krl_arguments::Diff;
 use program_edge::end;
 
-/// Compares the lists of the task. Answers the exit status.
-pub fn diff(rt: &HostRuntime, task: &Diff) -> u8 {
+/// Compares the lists of the task. Returns the exit status.
+pub fn diff(rt: &HostRuntime, task: &Diff) -> u8
+    ensures { IsCompared task.now result }
+{
     let comparison = Comparison {
         old: task.old,
         new: task.new,

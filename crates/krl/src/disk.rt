@@ -1,26 +1,23 @@
 //! The file system, as an audit sees it: one place that looks at a name, and one that opens a file.
 
-use crate::loading::{open, read, read_front, refusal_of};
-use audit_run::{Found, Identity, Kind, Opened, Tree, What};
+ghost use Rattle.std.specs.Prelude.{◌≡◌, ◌↔◌, false, IfOk, IsErr, IsOkAnd, IsTrue};
+ghost use Rattle.std.specs.Fs.{IsFile, file_type};
+ghost use Rattle.krl.specs.Disk.{kind_of};
+
+use crate::loading::{open, refusal_of};
+use audit_run::{Found, Identity, Kind, Opened, Tree};
 use audit_tree::path_in;
 use byte_streams::{Failed, FromRead, Source};
 use krl_audit::Refusal;
 use std::alloc::AllocError;
 use std::cell::Cell;
 use std::fs::{self, File, Files, Metadata};
-use std::io;
+use std::io::{self, Read};
 use std::os::unix::fs::MetadataExt;
 use std::time::{Duration, Instant};
 
 // How many seconds an opening may take before no other file of the same owner is opened.
 const PATIENCE: u64 = 5;
-
-// A file that is open, and its path.
-#[derive(Drop)]
-struct Held {
-    path: String,
-    file: File,
-}
 
 /// A reader of the names of a directory.
 #[derive(Drop)]
@@ -55,22 +52,49 @@ impl Source for Names {
     }
 }
 
+/// A reader of an open file.
+#[derive(Drop)]
+pub struct OpenFile {
+    reader: FromRead<File>,
+}
+
+impl Source for OpenFile {
+    ghost left = { λ file. ⟦<FromRead<File> as Source>⟧.left file.reader };
+
+    ghost has_failed = { λ file. ⟦<FromRead<File> as Source>⟧.has_failed file.reader };
+
+    ghost buffered = { λ file. ⟦<FromRead<File> as Source>⟧.buffered file.reader };
+
+    fn read(&mut self, into: &mut [u8]) -> Result<usize, Failed> {
+        self.reader.read(into)
+    }
+
+    fn failed(&self) -> bool {
+        self.reader.failed()
+    }
+
+    fn buffer(&self) -> &[u8] {
+        self.reader.buffer()
+    }
+
+    fn consume(&mut self, count: usize) {
+        self.reader.consume(count)
+    }
+}
+
 /// The file system, of which nothing is claimed.
 #[derive(Drop)]
 pub struct Disk<'a> {
     rt: &'a HostRuntime,
-    // The file that was opened last.
-    held: Cell<Option<Held>>,
     // The owners of files whose opening took long.
     slow: Cell<Vec<u32>>,
 }
 
 impl<'a> Disk<'a> {
-    /// The file system, in which no file is open yet.
+    /// The file system, in which no opening lasted yet.
     pub fn new(rt: &'a HostRuntime) -> Self {
         Disk {
             rt,
-            held: Cell::new(None),
             slow: Cell::new(Vec::new(rt.alloc())),
         }
     }
@@ -113,41 +137,6 @@ impl<'a> Disk<'a> {
         }
     }
 
-    // Keeps a file that is open until it is read.
-    fn hold(&self, path: &str, file: File, found: &Metadata) -> Result<Opened, AllocError> {
-        let path = String::from_str(self.rt.alloc(), path)?;
-        self.held.set(Some(Held { path, file }));
-        Ok(Opened {
-            is_file: found.is_file(),
-            identity: Identity {
-                device: found.dev(),
-                number: found.ino(),
-            },
-        })
-    }
-
-    // Reads the file that is open, if it was opened at this path.
-    fn read_held(
-        &self,
-        what: What,
-        path: &str,
-        text: &mut Vec<u8>,
-    ) -> Result<Result<(), Refusal>, AllocError> {
-        let Some(held) = self.held.take() else {
-            return Ok(Err(Refusal::Read));
-        };
-        if held.path.as_str() != path {
-            return Ok(Err(Refusal::Read));
-        }
-        if what != What::Front {
-            return read(&mut FromRead::new(held.file), text);
-        }
-        let mut held = held;
-        let done = read_front(&mut held.file, text)?;
-        self.held.set(Some(held));
-        Ok(done)
-    }
-
     // Why a directory that was found cannot be entered: for a link, what it leads to.
     fn why_closed(&self, path: &str, refusal: Refusal) -> Refusal {
         match self.look(path, false) {
@@ -167,20 +156,15 @@ impl<'a> Tree for Disk<'a> {
 
     type Names = Names;
 
+    type File = OpenFile;
+
     ghost states = { λ _ _. Unit {0} };
 
     fn look(&self, path: &str, followed: bool) -> Result<Found, Refusal> {
-        let found = if followed {
-            fs::metadata(self.rt, path)
+        if followed {
+            found_by(fs::metadata(self.rt, path))
         } else {
-            fs::symlink_metadata(self.rt, path)
-        };
-        match found {
-            Ok(found) => Ok(Found {
-                kind: kind_of(&found),
-                owner: found.uid(),
-            }),
-            Err(error) => Err(refusal_of(&error)),
+            found_by(fs::symlink_metadata(self.rt, path))
         }
     }
 
@@ -190,7 +174,7 @@ impl<'a> Tree for Disk<'a> {
         &self,
         path: &str,
         looked: Option<Found>,
-    ) -> Result<Result<Opened, Refusal>, AllocError> {
+    ) -> Result<Result<Opened<OpenFile>, Refusal>, AllocError> {
         if let Some(found) = looked
             && self.is_slow(found.owner)
         {
@@ -204,19 +188,11 @@ impl<'a> Tree for Disk<'a> {
         if looked.is_some() {
             self.keep_slow(found.uid(), began)?;
         }
-        Ok(Ok(self.hold(path, file, &found)?))
+        Ok(Ok(opened_by(file, &found)))
     }
 
-    fn read(
-        &self,
-        what: What,
-        path: &str,
-        text: &mut Vec<u8>,
-    ) -> Result<Result<(), Refusal>, AllocError> {
-        match what {
-            What::Input => read(&mut FromRead::new(self.rt.stdin()), text),
-            What::Front | What::Whole => self.read_held(what, path, text),
-        }
+    fn why_unread(&self, _path: &str, _file: &OpenFile) -> Refusal {
+        Refusal::Read
     }
 
     // A link to a directory is followed where it has a slash at its end, which one gets that is
@@ -242,8 +218,42 @@ impl<'a> Tree for Disk<'a> {
     }
 }
 
+// What a look has found, or why it cannot be looked at.
+fn found_by(found: io::Result<Metadata>) -> Result<Found, Refusal>
+    ensures found { IfOk found (λ found. IsOkAnd result (λ it. it.kind ≡ kind_of found)) }
+    ensures refused { IsErr found → IsErr result }
+{
+    match found {
+        Ok(found) => Ok(Found {
+            kind: kind_of(&found),
+            owner: found.uid(),
+        }),
+        Err(error) => Err(refusal_of(&error)),
+    }
+}
+
+// An open file, of which exactly the bytes are read that it gives.
+fn opened_by(file: File, found: &Metadata) -> Opened<OpenFile>
+    ensures kind { IsTrue result.is_file ↔ IsFile (file_type found.now) }
+    ensures bytes { ⟦<OpenFile as Source>⟧.left result.file ≡ ⟦<File as Read>⟧.remaining file }
+    ensures working { ⟦<OpenFile as Source>⟧.has_failed result.file ≡ false }
+{
+    Opened {
+        is_file: found.is_file(),
+        identity: Identity {
+            device: found.dev(),
+            number: found.ino(),
+        },
+        file: OpenFile {
+            reader: FromRead::new(file),
+        },
+    }
+}
+
 // The file that was found at a path.
-fn kind_of(found: &Metadata) -> Kind {
+fn kind_of(found: &Metadata) -> Kind
+    ensures { result ≡ kind_of found.now }
+{
     if found.is_dir() {
         Kind::Directory
     } else if found.is_file() {

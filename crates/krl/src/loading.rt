@@ -1,8 +1,9 @@
 //! Files that are opened and read.
 
-ghost use Rattle.std.specs.Prelude.{◌≡◌, ◌<◌, ◌≤◌, IfOk, IfSome, OnErr, OnOk, false, length};
+ghost use Rattle.std.specs.Prelude.{◌≡◌, ◌<◌, IfOk, IfSome, OnErr, OnOk, false, length};
 ghost use Rattle.std.specs.Prelude.{vec_capacity, vec_len};
 ghost use Rattle.std.specs.Io.KnownBytes.{Consumes};
+ghost use Rattle.std.specs.IoError.{error_kind};
 ghost use Rattle.krl.specs.Loading.{IsRead};
 
 use byte_streams::{FromRead, Source};
@@ -15,16 +16,18 @@ use show_run::Lists;
 use ssh_wire::Bytes;
 use std::alloc::{AllocError, Global};
 use std::fs::{self, File};
-use std::io::{self, ErrorKind, Read, Seek, SeekFrom};
+use std::io::{self, ErrorKind};
 use text_run::Text;
 
 // How many bytes of a file are read at a time.
 const BATCH: usize = 8_192;
-// How many bytes of a file tell whether it begins as a private key file.
-const FRONT: usize = 64;
 
 /// Why a file cannot be opened.
-pub fn refusal_of(error: &io::Error) -> Refusal {
+pub fn refusal_of(error: &io::Error) -> Refusal
+    ensures missing { error_kind error.now ≡ ErrorKind.NotFound → result ≡ Refusal.Missing }
+    ensures denied { error_kind error.now ≡ ErrorKind.PermissionDenied → result ≡ Refusal.Denied }
+    ensures loops { error_kind error.now ≡ ErrorKind.FilesystemLoop → result ≡ Refusal.Loop }
+{
     match error.kind() {
         ErrorKind::NotFound => Refusal::Missing,
         ErrorKind::PermissionDenied => Refusal::Denied,
@@ -77,39 +80,6 @@ pub fn read<R: Source>(
         text.extend_from_slice(&batch[..count])?;
     }
     Ok(Err(Refusal::TooLong))
-}
-
-/// Replaces the content of a buffer by the first bytes of a file, which show whether it begins as a
-/// private key file, or says why they cannot be read. The file is read from its start afterwards.
-pub fn read_front(file: &mut File, text: &mut Vec<u8>) -> Result<Result<(), Refusal>, AllocError> {
-    let mut front = [0u8; FRONT];
-    let count = match fill_front(&mut FromRead::new(&mut *file), &mut front) {
-        Ok(count) => count,
-        Err(refusal) => return Ok(Err(refusal)),
-    };
-    text.clear();
-    text.extend_from_slice(&front[..count])?;
-    match file.seek(SeekFrom::Start(0)) {
-        Ok(_) => Ok(Ok(())),
-        Err(_) => Ok(Err(Refusal::Read)),
-    }
-}
-
-// Fills a buffer with the first bytes of a reader, and returns how many there are.
-fn fill_front<R: Source>(reader: &mut R, front: &mut [u8; FRONT]) -> Result<usize, Refusal>
-    ensures { IfOk result (λ count. count ≤ 64) }
-{
-    let mut count = 0;
-    'parts: while count < FRONT {
-        let Ok(more) = reader.read(&mut front[count..]) else {
-            return Err(Refusal::Read);
-        };
-        if more == 0 {
-            break 'parts;
-        }
-        count += more;
-    }
-    Ok(count)
 }
 
 /// A text, or standard input if its name is `-`.

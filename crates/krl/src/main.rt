@@ -17,12 +17,15 @@ use crate::diff::diff;
 use crate::ending::{fault_line, reason_of};
 use crate::make::make;
 use crate::show::show;
+use byte_streams::{FromRead, Source};
 use krl_arguments::{Task, task_of};
 use option_table::CommandFault;
 use program_edge::{Lines, Program, refuse, run};
 use program_version::VERSION;
 use run_faults::RunFault;
 use std::alloc::AllocError;
+use std::fs::File;
+use std::io::Stdin;
 use std::process::ExitCode;
 
 // The name with which its lines on standard error begin.
@@ -51,6 +54,13 @@ impl Lines for Krl {
 }
 
 impl Program for Krl {
+    ghost use Rattle.audit_run.specs.Reading.{SomeFailed};
+    ghost use Rattle.krl.specs.Program.{EndsKrl};
+
+    ghost does = { λ _ words status.
+        EndsKrl (SomeFailed ⟦<FromRead<File> as Source>⟧.has_failed)
+        (SomeFailed ⟦<FromRead<Stdin> as Source>⟧.has_failed) words status };
+
     fn run(&self, rt: &HostRuntime, words: &[String]) -> u8 {
         match task_of(rt.alloc(), VERSION, words) {
             Ok(Task::Audit(task)) => audit(rt, &task),

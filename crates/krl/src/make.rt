@@ -1,6 +1,6 @@
 //! `krl make`: a list that is made of texts and put under its name.
 
-ghost use Rattle.std.specs.Prelude.{◌≡◌, IfOk, map};
+ghost use Rattle.std.specs.Prelude.{◌≡◌, ◌⊎◌, IfOk, map};
 ghost use Rattle.krl.specs.Make.{IsAsked, IsMade, name_of, now_of};
 ghost use Rattle.text_run.specs.Fault.{whole_fault};
 ghost use Rattle.text_run.specs.declared.make_fault.MakeCause.TheVariants.{Run};
@@ -13,9 +13,9 @@ use program_edge::print_line;
 use run_faults::Cause;
 use text_run::{Facts, Inputs, MakeCause, MakeFault, Text, made_line, text_run};
 
-/// Makes the list of the task. Answers the exit status, which is 0 only if the list was made.
+/// Makes the list of the task. Returns the exit status.
 pub fn make<'a>(rt: &'a HostRuntime, task: &Make<'a>) -> u8
-    ensures { result ≡ 0 → IsMade task.now }
+    ensures { (result ≡ 255) ⊎ ((result ≡ 0) × IsMade task.now) }
 {
     let texts = match texts_of(rt, task.files.as_slice()) {
         Ok(texts) => texts,

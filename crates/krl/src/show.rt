@@ -1,5 +1,8 @@
 //! `krl show`: lists, printed as texts.
 
+ghost use Rattle.std.specs.Prelude.{◌≡◌};
+ghost use Rattle.krl.specs.Runs.{IsShown, shown_form};
+
 use crate::Krl;
 use crate::loading::ListFiles;
 use byte_streams::ToWrite;
@@ -8,9 +11,11 @@ use list_text::Form;
 use program_edge::end;
 use show_run::show_run;
 
-/// Shows the lists of the task. Answers the exit status.
-pub fn show(rt: &HostRuntime, task: &Show) -> u8 {
-    let form = if task.json { Form::Json } else { Form::Text };
+/// Shows the lists of the task. Returns the exit status.
+pub fn show(rt: &HostRuntime, task: &Show) -> u8
+    ensures { IsShown task.now result }
+{
+    let form = form_of(task.json);
     let mut out = ToWrite::new(rt.stdout());
     let mut files = ListFiles::new(rt);
     let done = show_run(
@@ -21,4 +26,11 @@ pub fn show(rt: &HostRuntime, task: &Show) -> u8 {
         &mut out,
     );
     end(rt, &Krl, &done)
+}
+
+// The form in which lists are shown.
+fn form_of(json: bool) -> Form
+    ensures { result ≡ shown_form json }
+{
+    if json { Form::Json } else { Form::Text }
 }

@@ -8,7 +8,7 @@ use crate::difference::{Difference, difference_at};
 use krl_format::Place;
 
 /// Returns the first field for which OpenSSH refuses a list or reads other names from it, and why.
-/// Returns none if OpenSSH also reads the list, and reads the same names. Does not allocate.
+/// Returns none if no field differs in one of the ways of `Difference`. Does not allocate.
 pub fn first_difference(list: &[u8]) -> Option<Difference>
     requires { IsFirstKrlFault list.now None }
     ensures { IsFirstDifference list.now result }
