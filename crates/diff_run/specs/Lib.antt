@@ -1,3 +1,4 @@
 pub mod Changes
 pub mod Printing
 pub mod Run
+pub mod SameLists

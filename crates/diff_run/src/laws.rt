@@ -5,10 +5,13 @@ ghost use Rattle.run_faults.specs.RunFault.{RunFault as RunFaultOf};
 ghost use Rattle.krl_types.specs.Entry.{Entry};
 ghost use Rattle.krl_types.specs.Subject.{Subject};
 ghost use Rattle.krl_entries.specs.Revoked.{Revoked};
+ghost use Rattle.show_run.specs.Told.{Reading};
 ghost use Rattle.show_run.specs.declared.lists.Given.{Given as GivenOf};
 ghost use Rattle.diff_run.specs.Changes.{HasChanges};
-ghost use Rattle.diff_run.specs.Run.{EndsCompared};
+ghost use Rattle.diff_run.specs.Run.{EndsCompared, EndsDiffRun};
+ghost use Rattle.diff_run.specs.SameLists.{RevokeSame};
 ghost use Rattle.diff_run.specs.declared.changes.Changes.{Changes as ChangesOf};
+ghost use Rattle.diff_run.specs.declared.run.Comparison.{Comparison as ComparisonOf};
 
 /// The bytes of two lists decide what is printed of their comparison.
 pub fn bytes_decide_the_changes()
@@ -19,9 +22,13 @@ pub fn bytes_decide_the_changes()
 /// Where the status of a comparison is 0, both lists revoke the same: no key and no certificate is
 /// judged otherwise by the one than by the other.
 pub fn no_change_revokes_the_same()
-    ensures { (json : Bool) (old new : GivenOf) (olds news : List Entry)
+    ensures compared { (json : Bool) (old new : GivenOf) (olds news : List Entry)
         (before after : Option (List ℕ)) (failed : Bool) (status : ℕ)
         (fault : Option RunFaultOf)
         → EndsCompared json old new olds news before after failed status fault → status ≡ 0
         → (subject : Subject) → (Revoked olds subject ↔ Revoked news subject) }
+    ensures run { (told : List Reading) (comparison : ComparisonOf) (before after : Option (List ℕ))
+        (failed : Bool) (status : ℕ) (fault : Option RunFaultOf)
+        → EndsDiffRun told comparison before after failed status fault → status ≡ 0
+        → RevokeSame told comparison.old.now comparison.new.now }
 {}
