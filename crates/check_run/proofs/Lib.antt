@@ -5,3 +5,4 @@ pub mod Judging
 pub mod Ending
 pub mod Losing
 pub mod Passing
+pub mod PassedRuns

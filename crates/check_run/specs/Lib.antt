@@ -5,3 +5,4 @@ pub mod Limits
 pub mod Files
 pub mod Version
 pub mod Run
+pub mod Superset
