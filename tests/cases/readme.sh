@@ -1,6 +1,6 @@
-# The README as a new user follows it: its first steps, and each recipe of it, of RECIPES.md and of
-# the manual page, in folders of the test's own. Those for sshd and ssh are followed with real ones,
-# for which such a folder is /etc/ssh.
+# The README as a new user follows it: its first steps and its table, and each recipe of the runbook
+# and of the manual page, in folders of the test's own. Those for sshd and ssh are followed with real
+# ones, for which such a folder is /etc/ssh.
 
 mkdir steps && cp -r "$top/demo" steps && ln -s "$program" steps/ssh-keygen &&
   ln -s "$krl" steps/krl && cd steps || exit 1
@@ -8,7 +8,30 @@ transcript 'the first steps of the README' < <(awk '/^## / { here = $0 == "## Fi
   /^```/ { on = !on; next } here && on' "$top/README.md")
 cd ..
 
-judge 'each recipe of the manual page is in the README or in RECIPES.md' "$(
+# The commands of its table, with the files that they name.
+mkdir table && cd table || exit 1
+for name in user-ca alice canary; do "$openssh" -q -t ed25519 -N '' -C $name -f $name; done
+{ sed 's/^/key: /' alice.pub && echo "sha256: $(cat canary.pub)"; } >revoked.txt
+mkdir -p tools home of_root && cp alice.pub home && cp user-ca.pub of_root
+ln -s "$program" tools/krl-keygen && ln -s "$krl" tools/krl
+"$krl" make -q -f old.krl -z 1 revoked.txt
+judge 'each command of the table does what it says' "$(
+  sed -n 's/^| .* | `\(krl[^`]*\)` |$/\1/p' "$top/README.md" >commands
+  [ "$(wc -l <commands)" -ge 8 ] || echo '  there are too few'
+  while IFS= read -r it; do
+    got=$(PATH=$PWD/tools:$PATH bash -c "$(room=$PWD in_room "$it")" 2>&1)
+    status=$?
+    case $it in
+      *' -Q '* | *audit*) wanted=1 ;;
+      *) wanted=0 ;;
+    esac
+    differs "the status of $it" $wanted $status && [ $status = $wanted ] || echo "$got"
+    [[ $wanted = 0 || $got == *[Rr][Ee][Vv][Oo][Kk][Ee][Dd]* ]] || echo "  $it says: $got"
+  done <commands
+)"
+cd ..
+
+judge 'each recipe of the manual page is in the runbook or in RECIPES.md' "$(
   recipes >all-recipes
   manual_recipes >its-recipes
   asks 1 grep -vxF -f all-recipes its-recipes
@@ -32,7 +55,8 @@ for name in alice other; do
 done
 "$openssh" -q -s host-ca -I host -z 7 -h -n 127.0.0.1 "$room/host.pub"
 cat "$room"/{one,two,user}.pub >"$room/allowed"
-configure "Include $room/sshd_config.d/*.conf" "TrustedUserCAKeys $PWD/user-ca.pub" \
+cp user-ca.pub "$room/user_ca.pub"
+configure "Include $room/sshd_config.d/*.conf" "TrustedUserCAKeys $room/user_ca.pub" \
   "HostCertificate $room/host-cert.pub"
 serve
 ln -s config "$room/sshd_config"
@@ -83,7 +107,10 @@ follows 'one line names it' "$lines" 0 \
 refuses 'a key of the list' one
 lets_in 'another key' two
 "$program" -k -f revoked.krl "$room/two.pub"
+cp "$room/revoked.krl" in-force
+ln "$room/revoked.krl" before
 follows 'a new list is put in place' "$check" 0 '' again
+stays 'it gets its name by a rename, and the old one stays whole' before
 refuses 'a key of the new list without a reload' two
 lets_in 'a key of the list before it' one
 cp "$room/revoked.krl" in-force
@@ -140,6 +167,8 @@ tools/systemctl reload ssh
 # ---- a person is locked out, and lists of several authorities are made anew
 
 anew='krl make -f revoked.krl -z' shown='krl show revoked.krl >'
+out='[ -z "$(tail -c 1 revoked.txt)" ] || echo >>revoked.txt
+  awk '"'/^[^#]/ { n++; print \"ca: \""
 lines_under user-ca.pub 'id: alice' host-ca.pub 'serial: 9' >revoked.txt
 follows 'a list under two authorities' "$anew" 0 '*'
 cp revoked.krl "$room/revoked.krl"
@@ -148,9 +177,9 @@ lets_in 'the key, and another certificate of it, of a person whose key ID is rev
 lines_under user-ca.pub 'id: nobody' host-ca.pub 'serial: 99' | head -c -1 >revoked.txt
 cp "$room/user.pub" alice.pub
 cp "$room/alice.pub" alice-cert.pub
-follows 'a person is locked out' '[ -z "$(tail -c 1 revoked.txt)" ]' 0 ''
-judge 'the line before those of this person is as it was' \
-  "$(differs lines "serial: 99"$'\n'"ca: $(cat user-ca.pub)" "$(sed -n 4,5p revoked.txt)")"
+follows 'a person is locked out' "$out" 0 ''
+judge 'the line before those of this person is as it was' "$(differs lines \
+  "serial: 99"$'\n'"ca: $(cut -d ' ' -f 1,2 user-ca.pub)" "$(sed -n 4,5p revoked.txt)")"
 follows 'the list is made anew' "$anew" 0 '*' again
 cp revoked.krl "$room/revoked.krl"
 refuses 'the key, and all certificates of it, of a person who is locked out' user alice other
@@ -208,6 +237,45 @@ judge 'no truncated list that can be read revokes the canary' "$(
   done
   [ $taken -ge 4 ] || echo "  only $taken can be read"
 )"
+# ---- a stolen authority
+
+guard='krl check revoked.krl --newer-than'
+trust=$'awk \'\n    FILENAME == ARGV[1]'
+end='[ -z "$(tail -c 1 revoked.txt)" ] || echo >>revoked.txt
+  awk '"'/^[^#]/ { n++; print \"key: \" \$1, \$2 } END { exit !n }' old-ca.pub"
+"$openssh" -q -t ed25519 -N '' -C new-ca -f new-ca
+"$openssh" -q -s new-ca -I new -z 1 -n "$user" "$room/user.pub" &&
+  mv "$room/user-cert.pub" "$room/new.pub"
+# The key of a certificate gets in by it alone, and a file of a user trusts the authority, too.
+{ cat "$room/one.pub" && sed 's/^/cert-authority /' user-ca.pub; } >"$room/allowed"
+cp user-ca.pub old-ca.pub
+{ echo '# ours' && cat host-ca.pub && head -c -1 old-ca.pub; } >"$room/user_ca.pub"
+printf 'sha256: %s' "$(cat canary.pub)" >revoked.txt
+"$krl" make -q -f "$room/revoked.krl" -z 1 revoked.txt
+cp "$room/revoked.krl" in-force
+lets_in 'a certificate of an authority that was stolen' alice
+refuses 'a certificate of an authority that is not trusted yet' new
+follows 'an authority is revoked' "$end" 0 '*'
+judge 'the list is refused while the host trusts the authority' "$(
+  is_refused "$guard"
+  try_recipe "$guard" | grep -q "^keep: $room/user_ca.pub: 1 of 2 keys " || try_recipe "$guard"
+)"
+stays 'the list in force stays, as before the steps' "$room/revoked.krl"
+follows 'another authority takes its place' "$trust" 0 "$("$openssh" -l -f host-ca.pub)
+$("$openssh" -l -f new-ca.pub)"
+judge 'comments and other authorities stay' \
+  "$(asks 0 diff <(echo '# ours' && cat host-ca.pub new-ca.pub) "$room/user_ca.pub")"
+lets_in 'a certificate of the new authority' new
+lets_in 'a certificate of the old one, which a file of a user trusts' alice
+follows 'the list that revokes it is put in force' "$guard" 0 '' again
+refuses 'a certificate of the old authority, whoever trusts it' alice other
+lets_in 'a certificate of the new authority, and a key' new one
+cp "$room/user_ca.pub" in-force
+follows 'the steps end where the old authority is not trusted' "$trust" 1 '' again
+: >old-ca.pub
+follows 'the steps end without an old authority' "$trust" 1 '' again
+stays 'the trusted authorities stay' "$room/user_ca.pub"
+
 # ---- the keys of hosts
 
 # reaches NAME WANTED [WORD..]: whether ssh accepts the key of the host, with the words.
@@ -269,7 +337,8 @@ cat user-ca.pub >of_root/.ssh/authorized_keys
 { cat host-ca.pub && echo 'ssh-mldsa65 AAAA' && cat alice.pub; } >home/b/.ssh/authorized_keys
 cat alice.pub >home/d/.ssh/authorized_keys
 at=$PWD/home
-follows 'all keys of a host' 'for file in' 0 "$PWD/of_root/.ssh/authorized_keys (user-ca): ok
+each=$'(\n  worst=0\n  for file in'
+follows 'all keys of a host' "$each" 1 "$PWD/of_root/.ssh/authorized_keys (user-ca): ok
 $at/a/.ssh/authorized_keys (host-ca): ok
 $at/a/.ssh/authorized_keys (user): REVOKED
 $at/a/.ssh/authorized_keys: status 1
@@ -278,6 +347,26 @@ ssh-keygen: $at/b/.ssh/authorized_keys: line 2: line 1 NoKey
 $at/b/.ssh/authorized_keys: status 255
 $at/d/.ssh/authorized_keys (user): REVOKED
 $at/d/.ssh/authorized_keys: status 1" again
+# A link is followed, and a pipe is reported, as is a link that leads nowhere.
+mkdir -p others/home/{a,b,c,d}/.ssh others/of_root/.ssh && cp revoked.krl others
+ln -s ../tools others/tools && cd others || exit 1
+at=$PWD/home
+cat ../user-ca.pub >of_root/.ssh/authorized_keys
+follows 'a host without a revoked key' "$each" 0 \
+  "$PWD/of_root/.ssh/authorized_keys (user-ca): ok" again
+cat ../alice.pub >keys && ln -s ../../../keys home/a/.ssh/authorized_keys
+cat ../alice.pub >home/b/.ssh/authorized_keys2
+mkfifo home/c/.ssh/authorized_keys
+ln -s gone home/d/.ssh/authorized_keys
+follows 'all keys of a host, with links, a second file and a pipe' "$each" 1 \
+  "$PWD/of_root/.ssh/authorized_keys (user-ca): ok
+$at/a/.ssh/authorized_keys (user): REVOKED
+$at/a/.ssh/authorized_keys: status 1
+$at/c/.ssh/authorized_keys: status 255
+$at/d/.ssh/authorized_keys: status 255
+$at/b/.ssh/authorized_keys2 (user): REVOKED
+$at/b/.ssh/authorized_keys2: status 1" again
+cd .. && at=$PWD/home
 followed=$((followed + 1))
 judge 'the revoked keys of a host' "$(
   found=$(try_recipe 'krl audit' | grep "^$at" | cut -d: -f 1-3)
@@ -287,4 +376,5 @@ $at/b/.ssh/authorized_keys:3: revoked
 $at/d/.ssh/authorized_keys:1: revoked" "$found"
 )"
 ends
-all_followed README.md
+judge 'the README has no recipe of its own' "$(recipes_in README.md)"
+all_followed docs/RUNBOOK.md

@@ -1,4 +1,5 @@
-# The recipes of docs/RECIPES.md, in folders of the test's own.
+# The recipes of docs/RECIPES.md, in folders of the test's own, also with files that somebody else
+# could have written: keys of two CAs, lines without an end, comments that look like ours, pipes.
 
 room=$scratch/room
 begin_recipes
@@ -11,17 +12,20 @@ done
 
 # ---- a rollout is guarded
 
+cp user-ca.pub "$room/user_ca.pub"
 { echo 'serial: 5' && echo "sha256: $(cat canary.pub)"; } >users
 "$program" -k -f revoked.krl -z 10 -s user-ca.pub users
 cp revoked.krl "$room/revoked.krl"
 "$program" -k -u -f revoked.krl -s user-ca.pub - <<<'serial: 6'
 guard='krl check revoked.krl --newer-than' remedy=$'ssh-keygen -Q -f revoked.krl\n'
 cp revoked.krl whole.krl
-follows 'a list is guarded without krl' "$remedy" 0 "user-ca.pub (user-ca): ok
+follows 'a list is guarded without krl' "$remedy" 0 "$room/user_ca.pub (user-ca): ok
 $room/host.pub (host): ok
 canary.pub (canary): REVOKED"
 cp "$room/revoked.krl" in-force
+ln "$room/revoked.krl" before
 follows 'a list is guarded' "$guard" 0 ''
+stays 'it gets its name by a rename, and the old one stays whole' before
 # guarded NAME: neither recipe puts the list in force.
 guarded() {
   local it
@@ -45,6 +49,15 @@ judge 'an older list is refused' "$(
   is_refused "$guard"
   cmp in-force "$room/revoked.krl" 2>&1
 )"
+
+# In this file one key is revoked, and another is not.
+mkdir two && cp whole.krl two/revoked.krl && ln -s ../tools two/tools &&
+  cat canary.pub alice.pub >two/canary.pub && cd two || exit 1
+judge 'a file of two canaries, of which one is not revoked, without krl' "$(
+  is_refused "$remedy"
+  cmp ../in-force "$room/revoked.krl" 2>&1
+)"
+cd ..
 
 # ---- a signed list is fetched
 
@@ -90,6 +103,26 @@ serial: 8 # until tomorrow
 serial: 9 # until '"$(date +%F)"', and lost' host-ca.pub 'id: host' >revoked.txt
 follows 'entries that expire' 'awk -v today' 0 '*'
 has 'what is over is left out' revoked.krl "$user" 'serial: 6-9' "$host" 'id: host'
+cp revoked.krl kept.krl
+# The owner of a key chooses its comment.
+cp alice.pub of-alice.pub
+sed -i 's/ alice$/ alice # until 2001-02-03/' of-alice.pub
+for name in a b c d; do "$openssh" -q -t ed25519 -N '' -C "$name # until 2001-02-03" -f $name; done
+lines_under user-ca.pub 'id: over # until 2001-02-03
+id-hex: 6f # until 2001-02-03
+ serial: 10 # until 2001-02-03
+Serial: 11 # until 2001-02-03
+serial: 12 # since 2001-01-01 # until 2001-02-03' >revoked.txt
+{ sed 's/^/key: /' a.pub && sed 's/^/sha1: /' b.pub && sed 's/^/SHA256: /' c.pub && cat d.pub; } \
+  >>revoked.txt
+sed 's/ [^ ]*$/ me # until 2001-02-03/' user-5.pub >>revoked.txt
+follows 'entries that expire beside keys whose owners write such comments' 'awk -v today' 0 '*' again
+expect 'their keys are revoked' 1 "$(for name in a b c d; do
+  echo "$name.pub ($name # until 2001-02-03): REVOKED"
+done; echo 'user-5.pub (alice): REVOKED')"$'\n' '' -Q -f revoked.krl {a,b,c,d}.pub user-5.pub
+has 'only what begins with its word expires' revoked.krl "$user" 'serial: 5' 'serial: 10-12' \
+  "$(contents revoked.krl | grep -E '^(key|hash)')"
+mv kept.krl revoked.krl
 
 # ---- what changed
 
@@ -127,15 +160,118 @@ stays 'the merged list stays' both.krl
 # ---- the entries of one authority
 
 ours='krl show revoked.krl | awk'
+# shown_ca FILE: the line of the authority as it is shown.
+shown_ca() {
+  printf 'ca: %s # %s' "$(cut -d ' ' -f 1,2 "$1")" "$("$openssh" -l -f "$1" | cut -d ' ' -f 2)"
+}
 lines_under host-ca.pub 'serial: 2\nid: host' user-ca.pub 'serial: 6-9' |
   "$krl" make -q -f revoked.krl -
-follows 'the entries of one authority' "$ours" 0 'serial: 6-9'
+follows 'the entries of one authority' "$ours" 0 "$(shown_ca user-ca.pub)
+serial: 6-9"
 {
   lines_under user-ca.pub 'id: bob\nserial: 1\nid-hex: 2362' host-ca.pub 'id: host'
   printf 'ca: all\nserial: 3\n' && cat alice.pub
 } | "$krl" make -q -f revoked.krl -
-follows 'the entries of an authority among others' "$ours" 0 \
-  $'serial: 1\nid-hex: 2362\nid: bob' again
+entries=$(shown_ca user-ca.pub)$'\nserial: 1\nid-hex: 2362\nid: bob'
+follows 'the entries of an authority among others' "$ours" 0 "$entries" again
+cp user-ca.pub its.pub
+head -c -1 its.pub >user-ca.pub
+follows 'the entries of an authority whose file has no line end' "$ours" 0 "$entries" again
+{ echo '# ours' && cat its.pub host-ca.pub; } >user-ca.pub
+judge 'the entries of two authorities' "$(
+  differs lines "$(printf '%s\n' "$entries" "$(shown_ca host-ca.pub)" 'id: host' | sort)" \
+    "$(try_recipe "$ours" | sort)"
+)"
+cp alice.pub user-ca.pub
+follows 'the entries of an authority that the list has not' "$ours" 1 '' again
+: >user-ca.pub
+follows 'the entries of no authority' "$ours" 1 '' again
+cp its.pub user-ca.pub
+mv revoked.krl whole.krl && head -c 60 whole.krl >revoked.krl
+follows 'the entries of an authority in a truncated list' "$ours" 1 '*' again
+mv whole.krl revoked.krl
+
+# ---- the revoked keys of a whole host
+
+whole='{ find / -xdev'
+judge 'the manual page of krl has the recipe' \
+  "$(manual_blocks krl.1 | grep -qF "$(recipe "$whole" | sed -n 1p)" || echo '  it has another')"
+"$program" -k -f revoked.krl alice.pub
+mkdir -p whole/home/{a,b,d,e,f}/.ssh whole/home/c whole/srv/{keys,c} \
+  whole/etc/ssh/authorized_keys.d
+cat host-ca.pub >whole/home/authorized_keys
+follows 'a whole host that has no revoked key' "$whole" 0 '*'
+cat alice.pub >whole/srv/keys/a && ln -s ../../../srv/keys/a whole/home/a/.ssh/authorized_keys
+cat alice.pub >whole/home/b/.ssh/authorized_keys2
+cp alice whole/srv/c/id_ed25519 && ln -s ../../srv/c whole/home/c/.ssh
+cat alice.pub >whole/etc/ssh/authorized_keys.d/d
+sed 's/^/host /' alice.pub >whole/etc/ssh/ssh_known_hosts
+mkfifo whole/home/e/.ssh/authorized_keys
+ln -s gone whole/home/f/.ssh/authorized_keys
+judge 'a whole host, with links, other names and a pipe' "$(
+  got=$(try_recipe "$whole"; echo "status $?")
+  differs 'what is found' "etc/ssh/authorized_keys.d/d revoked
+etc/ssh/ssh_known_hosts revoked
+home/a/.ssh/authorized_keys revoked
+home/b/.ssh/authorized_keys2 revoked
+home/c/.ssh/id_ed25519 revoked
+home/e/.ssh/authorized_keys unread
+home/f/.ssh/authorized_keys unread
+status 1" "$(sed -n "s|^$PWD/whole/\([^:]*\):\([0-9]*:\)\{0,1\} \([a-z]*\):.*|\1 \3|p; /^status/p" \
+    <<<"$got" | sort)"
+)"
+printf '#!/bin/sh\n%s "$@"\nexit 1\n' "$(command -v find)" >tools/find && chmod +x tools/find
+rm -r whole/{srv,etc} whole/home/?
+judge 'a folder that cannot be searched' "$(
+  got=$(try_recipe "$whole"; echo "status $?")
+  differs status 'status 3' "${got##*$'\n'}"
+  grep -q '^folders that could not be searched: unread: ' <<<"$got" || echo "$got"
+)"
+rm tools/find
+
+# ---- the revoked keys of many hosts
+
+many=$'worst=0\n  [ -s hosts ]'
+judge 'the manual page of krl has this recipe, too' \
+  "$(manual_blocks krl.1 | grep -qF 'timeout 1h ssh -n -- "$host"' || echo '  it has another')"
+mkdir -p home of_root && : >of_root/authorized_keys
+cp revoked.krl "$room/revoked.krl"
+cat >tools/ssh <<'END_OF_FILE'
+#!/bin/sh
+[ "$1 $2" = '-n --' ] || exit 99
+case $3 in
+  -* | down*) echo "ssh: connect to host $3 port 22: Connection refused" >&2 && exit 255 ;;
+  revoked) cat alice.pub >home/authorized_keys ;;
+  *) : >home/authorized_keys ;;
+esac
+shift 3
+exec sh -c "$*"
+END_OF_FILE
+chmod +x tools/ssh
+# audited STATUS LINE..: the recipe ends so, and the file audit has these lines about statuses.
+audited() {
+  local got
+  try_recipe "$many" >output
+  got=$?
+  differs status "$1" $got
+  differs statuses "$(printf '%s\n' "${@:2}")" "$(grep -E '^[^:]*: status [0-9]+$' audit)"
+}
+printf 'good\nother' >hosts
+follows 'hosts without a revoked key' "$many" 0 ''
+judge 'each has its status, also where the last line has no end' \
+  "$(audited 0 'good: status 0' 'other: status 0')"
+printf 'down|&/\nrevoked\n-oProxyCommand=touch x\ngood\n' >hosts
+judge 'a host that cannot be reached, and one with a revoked key' "$(
+  audited 1 'down|&/: status 255' 'revoked: status 1' '-oProxyCommand=touch x: status 255' \
+    'good: status 0'
+  grep -qxF 'down|&/: ssh: connect to host down|&/ port 22: Connection refused' audit || cat audit
+  grep -q "^revoked: $PWD/home/authorized_keys:1: revoked: " audit || cat audit
+)"
+: >hosts
+follows 'a file without hosts' "$many" 1 '' again
+rm hosts
+follows 'no file of hosts' "$many" 1 '' again
+rm -r tools/ssh home of_root
 
 # ---- the line of a key
 
@@ -146,19 +282,59 @@ follows 'the entries of an authority among others' "$ours" 0 \
   printf '# Zo\xeb\n' && sed 's/host-ca/Zo\xeb/' host-ca.pub
   printf '  \t\n# hers\n' && sed 's/^/no-pty /' alice.pub
 } >authorized_keys
-follows 'the line of a revoked key' 'paste' 0 '8:authorized_keys (alice): REVOKED'
+line='krl-keygen -Q -f revoked.krl authorized_keys >answers'
+follows 'the line of a revoked key' "$line" 0 '8:authorized_keys (alice): REVOKED'
+sed 's/ alice$/ ok): ok/; s/ [^ ]*host-ca$/ a: REVOKED/' -i authorized_keys
+follows 'the line of a key whose comment is an answer' "$line" 0 \
+  '8:authorized_keys (ok): ok): REVOKED' again
+echo 'ssh-mldsa65 AAAA' >>authorized_keys
+follows 'a line that cannot be read' "$line" 255 '*' again
 
 # ---- the lines of a command
 
 cp revoked.krl in-force
 lines_under host-ca.pub 'serial: 7' >revoked.txt
 printf '#!/bin/sh\necho serial: 5\nexit 1\n' >tools/leavers && chmod +x tools/leavers
-leave="sed 's/^/ca: /' user-ca.pub >leavers.txt"
+leave="awk '/^[^#]/ { n++; print \"ca: \" \$1, \$2 } END { exit n != 1 }' user-ca.pub >leavers.txt"
 follows 'a command that fails' "$leave" 1 ''
 stays 'the list stays' revoked.krl
 printf '#!/bin/sh\necho serial: 7\n' >tools/leavers
 follows 'a command that ends well' "$leave" 0 '*' again
 has 'its lines are under the CA' revoked.krl "$user" 'serial: 7' "$host" 'serial: 7'
+printf '#!/bin/sh\necho serial: 8\n' >tools/leavers
+head -c -1 its.pub >user-ca.pub
+follows 'a CA whose file has no line end' "$leave" 0 '*' again
+has 'the lines are under this CA' revoked.krl "$user" 'serial: 8' "$host" 'serial: 7'
+cp revoked.krl in-force
+printf '#!/bin/sh\necho serial: 9\n' >tools/leavers
+cat its.pub host-ca.pub >user-ca.pub
+follows 'a file of two CAs' "$leave" 1 '' again
+echo '# ours' >user-ca.pub
+follows 'a file without a CA' "$leave" 1 '' again
+stays 'the list stays, too' revoked.krl
+
+# ---- a person is locked out
+
+# What readme.sh does with a real sshd, by files that others could have written.
+out='[ -z "$(tail -c 1 revoked.txt)" ] || echo >>revoked.txt
+  awk '"'/^[^#]/ { n++; print \"ca: \""
+{ echo '# of both' && cat its.pub && echo && head -c -1 host-ca.pub; } >user-ca.pub
+head -c -1 of-alice.pub >kept && mv kept alice.pub
+sed 's/ [^ ]*$/ a b # until 2001-02-03\r/' user-5.pub >alice-cert.pub
+printf 'serial: 99' | cat <(sed 's/^/ca: /' its.pub) - >revoked.txt
+judge 'a person is locked out by two CAs' "$(try_recipe "$out")"
+"$krl" make -q -f revoked.krl revoked.txt
+has 'the key ID is revoked under both, and the key' revoked.krl "$user" 'id: alice' 'serial: 99' \
+  "$host" 'id: alice' "key: $(cut -d ' ' -f 1,2 alice.pub)"
+judge 'no comment of a key that was handed in is in the text' "$(grep -n until revoked.txt)"
+cp revoked.txt before
+for name in user-ca alice; do
+  cp $name.pub whole.pub && : >$name.pub && : >alice-cert.pub
+  judge "an empty $name.pub locks nobody out, and says so" "$(is_refused "$out")"
+  mv whole.pub $name.pub
+done
+judge 'the text has only what was there before' \
+  "$(head -c "$(stat -c %s before)" revoked.txt | cmp - before 2>&1)"
 
 # That for all keys of a host is followed by readme.sh, beside krl audit.
 followed=$((followed + 1))

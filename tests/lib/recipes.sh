@@ -1,9 +1,9 @@
 # The recipes of the documents: commands that are shown without what they print.
 
-# manual_blocks: the literal displays of the manual page, each after a line of its own with a form
-# feed.
+# manual_blocks [PAGE]: the literal displays of the manual page of ssh-keygen, or of another, each
+# after a line of its own with a form feed.
 manual_blocks() {
-  sed 's/\\e/\\/g' "$top/docs/ssh-keygen.1" |
+  sed 's/\\e/\\/g' "$top/docs/${1:-ssh-keygen.1}" |
     awk '/^\.Bd -literal/ { on = 1; printf "\f\n"; next } /^\.Ed/ { on = 0 } on'
 }
 
@@ -24,9 +24,9 @@ recipes_in() {
   page_blocks "$top/$1" | recipes_of
 }
 
-# recipes: those of the README and of RECIPES.md.
+# recipes: those of the README, the runbook and RECIPES.md.
 recipes() {
-  recipes_in README.md && recipes_in docs/RECIPES.md
+  recipes_in README.md && recipes_in docs/RUNBOOK.md && recipes_in docs/RECIPES.md
 }
 
 # manual_recipes: those of the manual page, with the name of the program as it is installed.
@@ -55,19 +55,19 @@ in_room() {
   local words=(-e "s|/etc/ssh/ssh_host_ed25519_key|$room/host|g; s|/etc/ssh|$room|g")
   words+=(-e "s|/usr/local|$room/local|g")
   words+=(-e "s|/etc/systemd/system|$room/units|g; s|/home|$PWD/home|g")
-  words+=(-e "s|~root/|$PWD/of_root/|g; s|/root |$PWD/of_root |g")
+  words+=(-e "s|~root/|$PWD/of_root/|g; s|/root |$PWD/of_root |g; s|find / |find $PWD/whole |")
   sed "${words[@]}" <<<"$1"
 }
 
-# try_recipe BEGINNING: runs the recipe that begins so.
+# try_recipe BEGINNING: runs the recipe that begins so, for three minutes at most.
 try_recipe() {
-  PATH=$PWD/tools:$PATH bash -c "$(in_room "$(recipe "$1")")" 2>&1
+  PATH=$PWD/tools:$PATH timeout 180 bash -c "$(in_room "$(recipe "$1")")" 2>&1
 }
 
 # ends_script BEGINNING: whether a script with set -e ends at the recipe that begins so.
 ends_script() {
   rm -f went-on
-  PATH=$PWD/tools:$PATH bash -e -c "$(in_room "$(recipe "$1")")
+  PATH=$PWD/tools:$PATH timeout 180 bash -e -c "$(in_room "$(recipe "$1")")
 : >went-on" >/dev/null 2>&1
   [ ! -e went-on ]
 }
