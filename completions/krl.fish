@@ -1,4 +1,4 @@
-# What fish offers for the words of krl, as its manual page has them.
+# What fish offers for the words of krl, as its help has them.
 
 set -l audits '__fish_seen_subcommand_from audit'
 set -l checks '__fish_seen_subcommand_from check'
@@ -19,19 +19,21 @@ complete -c krl -n "$none" -a make \
 complete -c krl -n "$none" -a diff -d 'Print what one list names and another does not'
 complete -c krl -n "$none" -a help \
   -d 'Print the options of a task'
-complete -c krl -s h -l help -d 'Print the options'
-complete -c krl -s V -l version -d 'Print the name and version'
+complete -c krl -s h -l help -d 'Print help'
+complete -c krl -s V -l version -d 'Print version'
 complete -c krl -n "$audits" -F
 complete -c krl -n "$audits" -s f -rF -d 'The revocation list'
 complete -c krl -n "$audits" -s a -d 'Name the keys that are not revoked as well'
 complete -c krl -n "$audits" -s q -d 'Print nothing on standard output'
-complete -c krl -n "$audits" -l all -d 'Read every regular file of a directory'
-complete -c krl -n "$audits" -l json -d 'Print JSON objects'
-complete -c krl -n "$audits" -l files0-from -rF -d 'Read names of files'
+complete -c krl -n "$audits" -l all \
+  -d 'Read every regular file of a directory, whatever its name'
+complete -c krl -n "$audits" -l json -d 'Print one JSON object on a line for each finding'
+complete -c krl -n "$audits" -l files0-from -rF \
+  -d 'Read names of files, each ended by a zero byte'
 complete -c krl -n "$checks" -F
 complete -c krl -n "$checks" -l newer-than -rF -d 'Refuse a version below that of this list'
 complete -c krl -n "$checks" -l superset-of -rF \
-  -d 'Refuse a list that does not name all of this list'
+  -d 'Refuse a list that does not name all that this list names'
 complete -c krl -n "$checks" -l max-age -xa '90m 24h 7d' \
   -d 'Refuse a list that was made longer ago than this'
 complete -c krl -n "$checks" -l keep -rF -d 'Refuse a list that revokes a key of this file'
@@ -41,7 +43,7 @@ complete -c krl -n "$checks" -l allow-empty -d 'Take a list that revokes nobody'
 complete -c krl -n "$checks" -l json -d 'Print each condition as a JSON object'
 complete -c krl -n "$checks" -l print-version -d 'Print the version of the list alone'
 complete -c krl -n "$shows" -F
-complete -c krl -n "$shows" -l json -d 'Print JSON objects'
+complete -c krl -n "$shows" -l json -d 'Print one JSON object on a line for each entry'
 complete -c krl -n "$makes" -F
 complete -c krl -n "$makes" -s f -rF -d 'The revocation list that is made'
 complete -c krl -n "$makes" -s z -x -d 'Its version'
@@ -49,4 +51,4 @@ complete -c krl -n "$makes" -l comment -x -d 'Its comment'
 complete -c krl -n "$makes" -s q -d 'Do not say what was made'
 complete -c krl -n "$makes" -l allow-empty -d 'Make a list that revokes nobody'
 complete -c krl -n "$diffs" -F
-complete -c krl -n "$diffs" -l json -d 'Print JSON objects'
+complete -c krl -n "$diffs" -l json -d 'Print one JSON object on a line for each entry'

@@ -1,4 +1,4 @@
-# The completions that bash gets for the command-line arguments.
+# The completions that bash, zsh and fish get for the command-line arguments.
 
 mkdir words && cd words || exit 1
 touch one.pub two.krl 'a b.pub'
@@ -72,4 +72,30 @@ offers_krl 'a list to show' two.krl show t
 offers_krl 'the options of a list that is made' \
   --allow-empty,--comment,--help,--version,-f,-q,-z make -
 offers_krl 'texts to make a list of' "$every" make -f two.krl ''
+cd ..
+
+# beside_help SHELL FILE PROGRAM NAME [TASK]: the shell is offered the options of the help, with its
+# words.
+beside_help() {
+  judge "$1 is offered the options of ${*:4}, with the words of its help" \
+    "$(asks 0 python3 -B "$tests/lib/completions.py" "$1" "$top/completions/$2" "${@:3}")"
+}
+for shell in zsh fish; do
+  if ! need $shell $shell; then
+    echo "# the completions of $shell are skipped: it is missing, and could not be installed"
+    continue
+  fi
+  [ $shell = zsh ] && files=(_krl _ssh-keygen) || files=(krl.fish ssh-keygen.fish)
+  for task in audit check show make diff; do
+    beside_help $shell "${files[0]}" "$krl" krl $task
+  done
+  beside_help $shell "${files[1]}" "$program" ssh-keygen
+done
+# The options that bash is offered are those of the help too.
+cd words || exit 1
+for task in audit check show make diff; do
+  offers_krl "the options of the help of krl $task" "$("$krl" $task --help |
+    sed -n 's/^  \( *\)\(-[A-Za-z], \)\{0,1\}\(--\{0,1\}[A-Za-z0-9-]*\).*/\3/p' | sort | paste -sd ,)" \
+    $task -
+done
 cd ..
