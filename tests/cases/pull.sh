@@ -9,7 +9,9 @@ units=$top/examples/systemd
 room=$scratch/room
 mkdir tools web "$room"
 ln -s "$krl" tools/krl
-for name in user-ca host alice signing; do "$openssh" -q -t ed25519 -N '' -C $name -f $name; done
+for name in user-ca new-ca host alice signing; do
+  "$openssh" -q -t ed25519 -N '' -C $name -f $name
+done
 echo "krl namespaces=\"krl\" $(cat signing.pub)" >signers
 openssl req -x509 -newkey ec -pkeyopt ec_paramgen_curve:prime256v1 -nodes -days 2 -keyout key.pem \
   -out cert.pem -subj /CN=localhost -addext subjectAltName=IP:127.0.0.1 2>openssl.log
@@ -69,6 +71,10 @@ url=$secure/other.krl pulls 'a list with the signature of another' 1 '' 'the sig
 url=http://127.0.0.1:$(cat http)/revoked.krl pulls 'no list without TLS' 1 '' rotocol
 TMPDIR=/dev/null pulls 'the first list, beside which it is made ready' 0 20
 judge 'all may read it' "$(differs mode 644 "$(stat -c %a "$room/revoked.krl")")"
+rm "$room/revoked.krl"
+(umask 077 && pull)
+judge 'all may read it where the files of the user are private' \
+  "$(differs mode 644 "$(stat -c %a "$room/revoked.krl")"; in_force 20)"
 inode=$(stat -c %i "$room/revoked.krl")
 pulls 'the same list' 0 20
 judge 'the same list is not renamed' "$(differs inode "$inode" "$(stat -c %i "$room/revoked.krl")")"
@@ -80,7 +86,20 @@ publish 30 user-ca.pub
 pulls 'a list that revokes a key to keep' 1 20 user-ca.pub
 publish 30 host.pub
 pulls 'a list that revokes the second key to keep' 1 20 host.pub
+# The CA was stolen: another one has taken its place in the file of those that are kept.
+keep=(new-ca.pub host.pub)
+ln "$room/revoked.krl" before
+publish 22 user-ca.pub
+pulls 'a list that revokes a CA which is no longer kept' 0 22
+judge 'it gets its name by a rename, and the old one stays whole' "$(differs 'the version of the old one' \
+  20 "$(od -An -j 12 -N 8 -t u8 --endian=big before | tr -d ' ')")"
+keep=(user-ca.pub host.pub)
+rm "$room/revoked.krl" before
+publish 20 alice.pub
+pulls 'a list where there is none' 0 20
 publish 30 alice.pub
+url=$secure/revoked.krl.moved pulls 'a list to which another address leads' 1 20 \
+  'the signature is wrong'
 "$program" -k -f web/revoked.krl -z 31 alice.pub >/dev/null
 pulls 'a list that was changed after it was signed' 1 20 'the signature is wrong'
 publish 30 alice.pub
@@ -167,11 +186,21 @@ judge 'the list is on the disk before it gets its name' \
 # ---- the units
 
 for it in 'service ReadWritePaths=/etc/ssh' 'service ProtectSystem=strict' \
+  'service ProtectHome=yes' 'service PrivateTmp=yes' 'service PrivateDevices=yes' \
+  'service NoNewPrivileges=yes' 'service CapabilityBoundingSet=CAP_DAC_OVERRIDE' \
   'service RestrictAddressFamilies=AF_UNIX AF_INET AF_INET6' 'service Type=oneshot' \
-  'service After=network-online.target' 'timer OnBootSec=1min' 'timer OnUnitActiveSec=10min' \
-  'timer WantedBy=timers.target'; do
+  'service Wants=network-online.target' 'service After=network-online.target' \
+  'timer OnBootSec=1min' 'timer OnUnitActiveSec=10min' 'timer RandomizedDelaySec=5min' \
+  'timer FixedRandomDelay=yes' 'timer WantedBy=timers.target'; do
   judge "krl-pull.${it%% *} has ${it#* }" \
     "$(grep -qx -e "${it#* }" "$units/krl-pull.${it%% *}" || echo '  it does not')"
 done
+command='/usr/local/sbin/krl-pull https://pki.example.com/revoked.krl /etc/ssh/revoked.krl'
+command+=' /etc/ssh/user_ca.pub'
+judge 'the service keeps the user CA' "$(differs command "$command" \
+  "$(sed -n '/^ExecStart=/,/[^\\]$/p' "$units/krl-pull.service" | sed 's/^ExecStart=//; s/\\$//' |
+    xargs)")"
+judge 'and so does the line for cron' \
+  "$(tr '\n' ' ' <"$top/docs/RECIPES.md" | grep -qF "\`$command\`" || echo '  it does not')"
 kill $servers
 trap 'rm -rf "$scratch"' EXIT

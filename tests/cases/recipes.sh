@@ -23,9 +23,16 @@ follows 'a list is guarded without krl' "$remedy" 0 "$room/user_ca.pub (user-ca)
 $room/host.pub (host): ok
 canary.pub (canary): REVOKED"
 cp "$room/revoked.krl" in-force
-ln "$room/revoked.krl" before
+# renames NAME BEGINNING: the recipe gives the list in force another file, and does not write to it.
+renames() {
+  ln -f "$room/revoked.krl" before
+  try_recipe "$2" >output
+  judge "$1 by a rename" \
+    "$([ -s "$room/revoked.krl" ] && [ ! before -ef "$room/revoked.krl" ] || echo '  it is not')"
+}
+renames 'a list is put in force without krl' "$remedy"
+renames 'a list is put in force' "$guard"
 follows 'a list is guarded' "$guard" 0 ''
-stays 'it gets its name by a rename, and the old one stays whole' before
 # guarded NAME: neither recipe puts the list in force.
 guarded() {
   local it

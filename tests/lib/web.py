@@ -4,7 +4,8 @@
 
 It serves the files of the folder, over TLS if the file of a certificate and its key is given, and
 writes its port to the file PORTS. It never says how long a file is. A name that ends in .endless has
-more bytes than any list, and one that ends in .slow never comes.
+more bytes than any list, one that ends in .slow never comes, and one with .moved leads to the same
+name without that.
 """
 
 import http.server
@@ -21,6 +22,10 @@ class Handler(http.server.BaseHTTPRequestHandler):
         path = FOLDER + self.path
         if self.path.endswith(".slow"):
             time.sleep(60)
+        elif ".moved" in self.path:
+            self.send_response(302)
+            self.send_header("Location", self.path.replace(".moved", ""))
+            self.end_headers()
         elif self.path.endswith(".endless"):
             self.send_response(200)
             self.end_headers()
