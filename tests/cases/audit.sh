@@ -348,6 +348,28 @@ leaving/x.pub:1: $ok_b" leaving
 slow/2.slow.pub:1: $ok_b
 slow/3.pub: unread: opening another file of its owner took too long
 slow/4.slow.pub: unread: opening another file of its owner took too long" slow
+  # An opening that is slow by chance, and files of root, who has no need to make one last.
+  mkdir brief of_root && echo "$b" | tee brief/{1.brief,2,3}.pub >of_root/1.slow.pub
+  cp brief/2.pub of_root
+  chown -R 65534 brief 2>/dev/null
+  opens 'an opening of one second' 0 '3 files, 3 keys: 0 revoked in 0 files, 0 unread' \
+    "brief/1.brief.pub:1: $ok_b
+brief/2.pub:1: $ok_b
+brief/3.pub:1: $ok_b" brief
+  [ "$(id -u)" != 0 ] ||
+    opens 'a slow opening of a file of root' 0 '2 files, 2 keys: 0 revoked in 0 files, 0 unread' \
+      "of_root/1.slow.pub:1: $ok_b
+of_root/2.pub:1: $ok_b" of_root
+  NO_CLOCK=yes opens 'a slow opening without a clock' 0 \
+    '2 files, 2 keys: 0 revoked in 0 files, 0 unread' "slow/2.slow.pub:1: $ok_b
+slow/3.pub:1: $ok_b" slow/2.slow.pub slow/3.pub
+  # The user who names a pipe waits for it.
+  mkfifo slow/pipe.slow.pub && chown 65534 slow/pipe.slow.pub 2>/dev/null
+  timeout 60 sh -c 'echo "$1" >slow/pipe.slow.pub' sh "$b" &
+  opens 'a slow opening of a pipe that is named' 0 \
+    '2 files, 2 keys: 0 revoked in 0 files, 0 unread' "slow/pipe.slow.pub:1: $ok_b
+slow/3.pub:1: $ok_b" slow/pipe.slow.pub slow/3.pub
+  rm slow/pipe.slow.pub
 else
   judge 'a C compiler is there' '  install gcc'
 fi
@@ -387,6 +409,13 @@ if unshare -m mount -t tmpfs none above/other 2>/dev/null; then
   said=$(unshare -m sh -c 'mount -t tmpfs none above/other && echo "$1" >above/other/x.pub &&
     "$2" audit -f r.krl above' sh "$g" "$program" 2>/dev/null)
   judge 'another file system' "$(differs findings "above/other/x.pub:1: $by_g" "$said")"
+  # The files of two file systems have the same numbers.
+  mkdir one two
+  said=$(unshare -m sh -c 'mount -t tmpfs none one && mount -t tmpfs none two &&
+    echo "$1" >one/x.pub && echo "$2" >two/x.pub && stat -c %i one/x.pub two/x.pub | uniq | wc -l &&
+    "$3" audit -f r.krl one two' sh "$b" "$g" "$program" 2>/dev/null)
+  judge 'two files of one number, on two file systems' \
+    "$(differs findings "1"$'\n'"two/x.pub:1: $by_g" "$said")"
 else
   echo '# no file system can be mounted here, so none is entered'
 fi

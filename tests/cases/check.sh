@@ -142,6 +142,11 @@ done
 checks 'a list from the future' 1 \
   "age: future.krl: generated $(date -u -d @$((now + 3630)) +%FT%TZ), 60m from now" \
   --max-age 9999d future.krl
+# What sets the date of a list that is made is no clock.
+SOURCE_DATE_EPOCH=$((now - 3000)) checks 'a list that is too old, by the clock alone' 1 \
+  "age: old.krl: $dated, 50m ago" --max-age 49m old.krl
+SOURCE_DATE_EPOCH=86400 checks 'a list that is young enough, by the clock alone' 0 '' \
+  --max-age 2h old.krl
 checks 'a list without a limit' 0 '' older.krl
 checks 'a list of the day before yesterday' 1 \
   "age: older.krl: generated $(date -u -d @$((now - 49 * 3600 - 60)) +%FT%TZ), 49h ago" \

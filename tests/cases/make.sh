@@ -289,3 +289,61 @@ serial: 4-9"
 "$keygen" -k -f wanted.krl -z 1 -s ca-one.pub - <<<"serial: 1-9
 key: $g"
 judge 'two lists are one' "$(asks 0 cmp both.krl wanted.krl)"
+
+# Texts of 64 MiB, and longer ones: none is cut there.
+rm -f made.krl
+{
+  printf 'ca: all\nserial: 5\n#' && head -c $((67108864 - 30)) /dev/zero | tr '\0' - &&
+    printf '\nserial: 6\n'
+} >long
+judge 'the length of the text' "$(differs bytes 67108864 "$(stat -c %s long)")"
+expect 'a text of 64 MiB' 0 '' $'krl make: made.krl: version 1: 1 CA, 2 serial numbers\n' \
+  make -f made.krl long
+cp made.krl before.krl
+echo 'serial: 7' >>long
+run make -f made.krl long
+judge 'a text of more than 64 MiB is refused' "$(
+  differs 'exit status' 255 "$got_status"
+  grep -q '^krl: long: .*\[krl 12 TooLong\]$' "$scratch/error" || cat "$scratch/error"
+  cmp before.krl made.krl 2>&1
+)"
+rm long
+
+# Nothing is left beside a list that is not made, also after a fault that is found under the lock.
+mkdir beside && cd beside || exit 1
+printf 'ca: all\nserial: 5\n' >text
+echo garbage >none.krl
+"$program" make -q -f full.krl -z 18446744073709551615 text
+for it in 'make -f none.krl text' 'make -f full.krl text' 'make -f made.krl text missing' \
+  'make -f made.krl /dev/null' 'make -f gone/made.krl text'; do
+  # shellcheck disable=SC2086
+  run $it
+  judge "what is beside the list after krl $it" "$(
+    differs 'exit status' 255 "$got_status"
+    differs files 'full.krl none.krl text' "$(ls -A | xargs)"
+  )"
+done
+# A link that leads to itself, and one that another process turns without end.
+ln -s spins.krl spins.krl
+timeout 60 "$program" make -f spins.krl -z 1 text >"$scratch/output" 2>&1
+judge 'a link that leads to itself' "$(differs 'exit status' 255 $?; [ -L spins.krl ] || ls -l)"
+mkdir a b
+timeout 100 python3 - <<'END' &
+import os, time
+for turn in range(10**9):
+    os.symlink("ab"[turn % 2] + "/it.krl", "next")
+    os.rename("next", "turned.krl")
+END
+for _ in {1..100}; do [ -L turned.krl ] && break || sleep 0.1; done
+timeout 60 "$program" make -q -f turned.krl -z 1 text >"$scratch/output" 2>&1
+status=$?
+kill $! && wait $! 2>/dev/null
+judge 'a link that another process turns without end' "$(
+  case $status in
+    0) [ -s a/it.krl ] || [ -s b/it.krl ] || echo '  no list is made' ;;
+    255) ;;
+    *) differs 'exit status' 255 $status ;;
+  esac
+  differs 'other files' '' "$(ls -A a b | grep -vxE 'it.krl|[ab]:|')"
+)"
+cd ..

@@ -120,11 +120,22 @@ judge 'a list of 64 MiB' "$(
   } | sha256sum)" "$("$program" show large.krl | sha256sum)"
 )"
 echo >>large.krl
-run show large.krl
-judge 'a list of one byte more' "$(
-  differs 'exit status' 255 "$got_status"
-  differs 'standard output' '' "$got_output"
-)"
+# A plain list whose last line is beyond the limit.
+{ head -c 67108863 /dev/zero | tr '\0' '#' && echo && line ssh-ed25519 "$G"; } >large
+line ssh-ed25519 "$G" >g.pub
+for it in large.krl large; do
+  for words in "show $it" "check $it" "audit -f $it g.pub" "diff $it g.pub" "diff g.pub $it" \
+    "check g.pub --superset-of $it"; do
+    # shellcheck disable=SC2086
+    run $words
+    judge "a list of one byte more, and krl $words" "$(
+      differs 'exit status' 255 "$got_status"
+      differs 'standard output' '' "$got_output"
+      grep -q "^krl: $it: .*\[krl 12 TooLong\]$" "$scratch/error" || cat "$scratch/error"
+    )"
+  done
+done
+rm large large.krl
 
 # The facts of lists that OpenSSH makes, with the authority of each, as it prints them: the
 # fingerprint of a key, the digits of a hash.

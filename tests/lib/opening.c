@@ -1,13 +1,17 @@
 /* Loaded before the C library of a program, this lets the opening of a file whose name ends with
-   slow.pub last six seconds, as its owner can by a lease, puts a link to a device in the place of a
-   file whose name ends with swapped.pub right before it is opened, and removes a file whose name
-   ends with going right before it is looked at. */
+   slow.pub last six seconds, as its owner can by a lease, and that of one whose name ends with
+   brief.pub last one second, puts a link to a device in the place of a file whose name ends with
+   swapped.pub right before it is opened, and removes a file whose name ends with going right before
+   it is looked at. If NO_CLOCK is in the environment, no clock can be read. */
 #define _GNU_SOURCE
+#include <errno.h>
 #include <fcntl.h>
 #include <stdarg.h>
+#include <stdlib.h>
 #include <string.h>
 #include <sys/stat.h>
 #include <sys/syscall.h>
+#include <time.h>
 #include <unistd.h>
 
 static int ends(const char *path, const char *with) {
@@ -22,6 +26,8 @@ int open(const char *path, int flags, ...) {
   va_end(rest);
   if (ends(path, "slow.pub"))
     sleep(6);
+  if (ends(path, "brief.pub"))
+    sleep(1);
   if (ends(path, "swapped.pub") && unlink(path) == 0 && symlink("/dev/zero", path) != 0)
     return -1;
   return syscall(SYS_openat, AT_FDCWD, path, flags, mode);
@@ -31,4 +37,12 @@ int statx(int folder, const char *path, int flags, unsigned mask, struct statx *
   if (ends(path, "going"))
     unlink(path);
   return syscall(SYS_statx, folder, path, flags, mask, found);
+}
+
+int clock_gettime(clockid_t clock, struct timespec *time) {
+  if (getenv("NO_CLOCK")) {
+    errno = EINVAL;
+    return -1;
+  }
+  return syscall(SYS_clock_gettime, clock, time);
 }

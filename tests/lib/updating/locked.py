@@ -106,6 +106,54 @@ def in_place(place, made):
     place.judge("a lock on a list that is written in place", wrong)
 
 
+def without_streams(place):
+    """The line about waiting goes nowhere if the standard streams are closed: not into the list
+    that is written in place, whose file would otherwise get the number of one of them."""
+    user = closed(place, OLD)
+    for streams in ("2>&-", "1>&- 2>&-", "0<&- 1>&- 2>&-"):
+        steps = Steps(place, user=user)
+        place.program, program = "/bin/sh", place.program
+        steps.words = ("-c", 'exec "$0" "$@" ' + streams, program, *UPDATE)
+        with held(LIST, user):
+            done = steps.run(HURRY="1")
+        place.program = program
+        wrong = place.differs(done, 255, b"")
+        if content() != OLD:
+            wrong.append("the list is %r" % content()[:60])
+        place.judge("a lock on a list that is written in place, with %s" % streams, wrong)
+
+
+def leftovers(place, made):
+    """The new file of an update that was killed is removed by the next one that has the lock. One
+    that waits for the lock leaves it alone: it may belong to the update that has the lock."""
+    left = ".%s.0123456789abcdef.new" % LIST
+    place.enter()
+    place.put(left, b"half a list")
+    with open(LOCK, "wb") as lock:
+        fcntl.flock(lock, fcntl.LOCK_EX)
+        calls, done = Steps(place).seen(HURRY="1")
+    wrong = is_locked_out(place, done, calls) + place.stands(OLD, names=[LIST, LOCK, left])
+    place.judge("the new file of another update, while its lock is held", wrong)
+    wrong = place.differs(place.update(), 0, b"") + place.stands(made)
+    place.judge("a new file that was left", wrong)
+
+
+def after_faults(place):
+    """No fault leaves the lock, whether it is found before the lock is taken or under it."""
+    full = OLD[:12] + b"\xff" * 8 + OLD[20:]
+    for name, old, lines in (
+        ("a wrong line", OLD, b"serial: 9-7\n"),
+        ("a list that is none", b"garbage", b"serial: 5\n"),
+        ("the last version", full, b"serial: 5\n"),
+        ("a list that is truncated", OLD[:-1], b"serial: 5\n"),
+    ):
+        place.enter(old=old)
+        place.put("../spec", lines)
+        done = place.update()
+        wrong = [] if done.returncode == 255 else ["it ends with %d" % done.returncode]
+        place.judge("nothing is left after %s" % name, wrong + place.stands(old))
+
+
 def real_minute(place):
     """Begins an update that waits in real time, in a folder of its own. Its end is judged later."""
     place.enter("minute")
@@ -391,7 +439,9 @@ def streams(place):
 
 def all_of_them(place):
     made = place.made()
-    for case in (by_readers, by_writers, in_place, waits, left, shown_files, of_others):
+    for case in (by_readers, by_writers, in_place, waits, left, shown_files, of_others, leftovers):
         case(place, made)
     for case in (control_bytes, compared, planted, swapped, leased, streams):
+        case(place)
+    for case in (without_streams, after_faults):
         case(place)

@@ -2,14 +2,17 @@
 
 import errno
 import os
+import struct
 
 from files import OTHER
 from replacing.folder import LIST, OLD, without_key
 from updating.steps import ANEW, UPDATE, Steps, content, same, shown
 from wire import HEADER, section, string
 
-ANOTHER = HEADER + section(2, string(OTHER))
-LONGER = HEADER + section(2, string(OTHER + b"+"))
+# What other programs put there has a higher version, which counts where it is updated.
+HIGHER = HEADER[:12] + struct.pack(">Q", 77) + HEADER[20:]
+ANOTHER = HIGHER + section(2, string(OTHER))
+LONGER = HIGHER + section(2, string(OTHER + b"+"))
 FAULTS = (b"ssh-keygen: r.krl: output 1 Write after 0 bytes\n", b"ssh-keygen: r.krl: file 1 Open\n")
 SORTS = (errno.EIO, errno.EACCES, errno.ENOMEM)
 ALL = 1 << 62
@@ -27,7 +30,9 @@ def begin(place):
 
 def with_lines(base, made):
     """The list that an update makes of this one, by the one that it makes of the old one."""
-    return made.replace(OLD[len(HEADER) :], base[len(HEADER) :])
+    made = made.replace(OLD[len(HEADER) :], base[len(HEADER) :])
+    version = struct.unpack(">Q", base[12:20])[0] + 1
+    return made[:12] + struct.pack(">Q", version) + made[20:]
 
 
 def replaced(place, made):
@@ -66,7 +71,7 @@ def written(place, made):
     one, and one of the same length. What it writes before the renaming is kept, also if it comes
     right before that."""
     steps = Steps(place)
-    same_length = OLD[:-1] + bytes((OLD[-1] ^ 1,))
+    same_length = HIGHER + OLD[len(HIGHER) : -1] + bytes((OLD[-1] ^ 1,))
     for name, base in (("another", LONGER), ("the same", same_length)):
         begin(place)
         calls, _ = steps.calls()
