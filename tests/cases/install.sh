@@ -93,6 +93,16 @@ judge 'the program is in place of the link' \
 runs 'the program in place of a link' "$root/usr/bin/ssh-keygen"
 rm -r "$root"
 
+# A link that leads to no file belongs to another program, too.
+mkdir -p "$root/usr/bin" && ln -s gone "$root/usr/bin/ssh-keygen"
+made 'make install over a dangling link' 2 install PREFIX=/usr NAME=ssh-keygen
+judge 'the dangling link is left' \
+  "$(differs link gone "$(readlink "$root/usr/bin/ssh-keygen")"; find "$root" -type f)"
+made 'make install over a dangling link where FORCE says so' 0 install PREFIX=/usr \
+  NAME=ssh-keygen FORCE=1
+runs 'the program in place of a dangling link' "$root/usr/bin/ssh-keygen"
+rm -r "$root"
+
 # modes NAME FOLDER: all folders and files there are for everybody to read.
 modes() {
   judge "$1" "$(asks 0 find "$2" ! -type l \
@@ -214,7 +224,7 @@ holds 'what the package holds' \
   $(of krl-keygen usr | grep -v -e sha256 -e /man1/ | sed 's|site-functions|vendor-completions|') \
   ./usr/share/man/man1/krl-keygen.1.gz ./usr/share/man/man1/krl.1.gz \
   $(printf './usr/share/doc/krl-keygen/%s\n' README.md NEWS.gz changelog.gz copyright \
-    docs/{DECISIONS,DESIGN,FORMATS,GLOSSARY,RECIPES,THEOREMS}.md \
+    docs/{DECISIONS,DESIGN,FORMATS,GLOSSARY,RECIPES,RUNBOOK,THEOREMS}.md \
     bench/{README.md,libkrl.md,time.svg}) \
   $(cd "$top" && find examples/ansible examples/systemd -type f \
   -printf './usr/share/doc/krl-keygen/%p\n') \
@@ -252,6 +262,15 @@ umask 022
 mkdir "$root"
 for package in $(cat "$scratch/output"); do dpkg-deb --extract "$package" "$root"; done
 modes 'everybody may read what these packages have' "$root/usr"
+# By either file of the package, a package that is linked with the library needs the version in which
+# its calls came.
+judge 'a package that is linked with the library needs a version of it' "$(
+  dpkg-deb --control "$(sed -n 1p "$scratch/output")" "$scratch/of_library"
+  since=$(sed -n 's/^ krl_[a-z_]*@KRL_1 \([0-9]*\.[0-9]*\)$/\1/p' "$scratch/of_library/symbols")
+  differs calls "$(wc -w <<<$calls)" "$(wc -l <<<"$since")"
+  differs shlibs "libkrl 1 libkrl1 (>= $(sort -V <<<"$since" | tail -n 1))" \
+    "$(cat "$scratch/of_library/shlibs")"
+)"
 echo 'int krl_size(void); int main(void) { return krl_size(); }' >caller.c
 cc -o caller caller.c "$root/usr/lib/x86_64-linux-gnu/libkrl.a" && ./caller
 judge 'a caller is linked with the static library' "$(differs answer 7 $?)"
