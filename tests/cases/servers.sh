@@ -97,6 +97,9 @@ tries() {
   reports one 'krl 3 EndsEarly'
   rm revoked.krl
   lets_in 'without a list nobody gets in'
+  mkdir revoked.krl
+  lets_in 'a folder for a list lets nobody in'
+  rmdir revoked.krl
   kill $serving
   wait $serving 2>/dev/null
 }
