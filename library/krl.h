@@ -62,7 +62,12 @@ extern "C" {
 /* The list has no fault, but the authority of one of its sections is neither empty, for all
  * authorities, nor a key in its one spelling that OpenSSH accepts. OpenSSH may take it for a key, and
  * so revoke certificates that a comparison of bytes does not find, or refuse the list. So let nobody
- * in. */
+ * in.
+ *
+ * OpenSSH accepts no RSA or DSA key with a number of more than 16,384 bits, and no RSA key of fewer
+ * than 1,024 bits. The point of an ECDSA key must be on its curve, and each of its two coordinates
+ * must have more than half as many bits as the order of the curve, and be below the order less
+ * one. */
 #define KRL_LIST_AUTHORITY (-116)
 
 /* A line of a plain list is neither empty nor a comment nor a key. sshd refuses every key while
@@ -102,10 +107,10 @@ int32_t krl_check(const uint8_t *list, size_t list_length,
  * Each line of a plain list is empty, a comment, or a key as in a .pub file, with nothing before
  * it. It revokes this key and each certificate of it; the key of an authority also revokes each
  * certificate of that authority. The line of a certificate is as the line of its plain key. The
- * line of an RSA key of fewer than 1,024 bits revokes nothing. If any other text is on a line, the
- * answer is KRL_LIST_LINE for every key. A few lines that sshd reads get it too: base64 with a
- * carriage return in it, a key under the name of its signatures, numbers with a needless zero
- * byte.
+ * line of an RSA key of fewer than 1,024 bits revokes nothing. If any other text is on a line, also
+ * any other key that OpenSSH does not accept (KRL_LIST_AUTHORITY), the answer is KRL_LIST_LINE for
+ * every key. A few lines that sshd reads get it too: base64 with a carriage return in it, a key
+ * under the name of its signatures, numbers with a needless zero byte.
  *
  * The signature of a certificate on the list is not checked, nor are its authority and its
  * principals: sshd refuses every key for a list with a wrong one, and the call does not. It keeps
