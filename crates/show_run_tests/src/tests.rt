@@ -3,4 +3,5 @@
 mod comparisons;
 mod lines;
 mod page;
+mod pipes;
 mod runs;
