@@ -83,7 +83,9 @@ pulls 'an older list' 1 20
 publish 20 alice.pub signing.pub
 pulls 'another list of the same version' 1 20 'another list of version 20 is in force'
 publish 30 user-ca.pub
-pulls 'a list that revokes a key to keep' 1 20 user-ca.pub
+pulls 'a list that revokes a key to keep' 1 20 'keep: user-ca.pub: 1 of 1 key is revoked'
+judge 'it says where the steps are to revoke a CA' "$(grep -qF 'Revoke a stolen CA' output &&
+  grep -qx '## Revoke a stolen CA' "$top/docs/RUNBOOK.md" || cat output)"
 publish 30 host.pub
 pulls 'a list that revokes the second key to keep' 1 20 host.pub
 # The CA was stolen: another one has taken its place in the file of those that are kept.
