@@ -93,8 +93,8 @@ keep=(new-ca.pub host.pub)
 ln "$room/revoked.krl" before
 publish 22 user-ca.pub
 pulls 'a list that revokes a CA which is no longer kept' 0 22
-judge 'it gets its name by a rename, and the old one stays whole' "$(differs 'the version of the old one' \
-  20 "$(od -An -j 12 -N 8 -t u8 --endian=big before | tr -d ' ')")"
+judge 'it gets its name by a rename' \
+  "$([ ! before -ef "$room/revoked.krl" ] || echo '  the list in force is written')"
 keep=(user-ca.pub host.pub)
 rm "$room/revoked.krl" before
 publish 20 alice.pub
