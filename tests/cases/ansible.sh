@@ -13,7 +13,9 @@ fi
 [ "$(id -u)" != 0 ] || mkdir -p /run/sshd
 mkdir tools
 ln -s "$krl" tools/krl
-for name in user-ca canary leaver; do "$openssh" -q -t ed25519 -N '' -C $name -f $name; done
+for name in user-ca new-ca canary leaver; do
+  "$openssh" -q -t ed25519 -N '' -C $name -f $name
+done
 
 # host NAME: a folder with the configuration of a host.
 host() {
@@ -123,9 +125,22 @@ judge 'the same list again changes nothing, and sshd reads its configuration aga
   differs 'changed' 'first=0 second=0' "$(recap changed)"
   differs 'reloads' 2 "$(grep -c '^reloaded$' reloads)"
 )"
+judge 'an audit of a host does not report the canary' \
+  "$("$krl" audit -f revoked.krl first/etc/ssh 2>/dev/null; differs status 0 $?)"
 version 20 leaver.pub
-judge 'a check changes nothing' "$(plays 0 --check && in_force 10 10)"
+# An older version of the playbook left it there.
+cp canary.pub first/etc/ssh/canary.pub && cp leaver.pub second/etc/ssh/canary.pub
+ln first/etc/ssh/revoked.krl before
+judge 'a check changes nothing' "$(plays 0 --check && in_force 10 10
+  cmp canary.pub first/etc/ssh/canary.pub 2>&1)"
 judge 'a newer list is put in force' "$(plays 0 && in_force 20 20)"
+judge 'it gets its name by a rename' \
+  "$([ ! before -ef first/etc/ssh/revoked.krl ] || echo '  the list in force is written')"
+judge 'a host has the canary once, and keeps another file of that name' "$(
+  differs 'the canary' "$(cat canary.pub)" "$(cat first/etc/ssh/revoked.canary)"
+  [ ! -e first/etc/ssh/canary.pub ] || echo '  it has it twice'
+  cmp leaver.pub second/etc/ssh/canary.pub 2>&1
+)"
 
 version 10
 plays_ill 'an older list is refused' 'failed to validate' 20 20
@@ -154,6 +169,9 @@ version 30
 judge 'a damaged list is replaced' "$(plays 0 && in_force 30 30)"
 printf 'Match User nobody\n  RevokedKeys /dev/null\n' >>first/etc/ssh/sshd_config
 plays_ill 'a Match block that switches the list off is found' 'RevokedKeys /dev/null' 30 30
+sed -i '/^HostKey/q' first/etc/ssh/sshd_config
+printf 'match user nobody\n\trevokedkeys=none\n' >>first/etc/ssh/sshd_config
+plays_ill 'a Match block in lower case, too' 'revokedkeys=none' 30 30
 echo 'NoSuchLine yes' >>first/etc/ssh/sshd_config
 judge 'sshd is not reloaded where its configuration is wrong' "$(
   rm -f reloads
@@ -164,15 +182,24 @@ judge 'sshd is not reloaded where its configuration is wrong' "$(
 )"
 sed -i '/^HostKey/q' first/etc/ssh/sshd_config
 
+# The CA was stolen: a host takes the list that revokes it once it trusts another CA alone.
+version 31 user-ca.pub
+plays_ill 'a list that revokes the user CA is refused while a host trusts it' 'user_ca.pub' 30 30
+for name in first second; do cp new-ca.pub $name/etc/ssh/user_ca.pub; done
+judge 'it is put in force where the host trusts another CA' "$(plays 0 && in_force 31 31)"
+for name in first second; do cp user-ca.pub $name/etc/ssh/user_ca.pub; done
+version 32
+judge 'a list that does not revoke it' "$(plays 0 && in_force 32 32)"
+
 # The first step has two hosts, of which one fails.
 hosts first second later
 mv second/etc/ssh/user_ca.pub ca.pub
-version 31
+version 33
 judge 'a host that fails ends the run, for the other of its step too' "$(
   step=2 plays 2
   differs 'the hosts that were tried' 'first second' "$(recap failed | sed 's/=[01]//g')"
   differs 'the versions of the next step' '' "$(version_of later)"
-  differs 'the version of the host that fails' 30 "$(version_of second)"
+  differs 'the version of the host that fails' 32 "$(version_of second)"
 )"
 mv ca.pub second/etc/ssh/user_ca.pub
 
