@@ -4,7 +4,8 @@
      CALLS=FILE            the calls are written there, one on a line, in their order: the name, the
                            path that it was given or that of its file, and its other arguments, with
                            tabs between
-     AT=K                  before the K-th call, counted from 1,
+     AT=K                  before the K-th call, counted from 1, or each of several calls, with
+                           commas between,
      SIGNAL=N              the program sends itself this signal
      FAIL=NAME:K-L:ERRNO   the K-th to the L-th call of this name fail so; of NAME@END only those
                            count whose path ends so. There may be several, with commas between
@@ -27,8 +28,8 @@
 enum { ORDERS = 4, PATH = 4096 };
 
 static int calls = -1, is_ready, hurries;
-static long at, number = -1, longest, count;
-static int signal_sent, orders;
+static long at[ORDERS], number = -1, longest, count;
+static int signal_sent, stops, orders;
 static struct order {
   char name[32], end[64];
   long first, last, count;
@@ -42,9 +43,13 @@ static long number_of(const char *name, long usual) {
 
 /* Calls before the program itself begins do not count. */
 __attribute__((constructor)) static void begin(void) {
-  const char *file = getenv("CALLS"), *fail = getenv("FAIL");
+  const char *file = getenv("CALLS"), *fail = getenv("FAIL"), *stop = getenv("AT");
   hurries = getenv("HURRY") != NULL;
-  at = number_of("AT", 0);
+  for (; stop; stop = strchr(stop, ',') ? strchr(stop, ',') + 1 : NULL) {
+    if (stops == ORDERS)
+      abort();
+    at[stops++] = atol(stop);
+  }
   signal_sent = number_of("SIGNAL", 0);
   number = number_of("NUMBER", -1);
   longest = number_of("LONGEST", 0);
@@ -85,8 +90,9 @@ static int fails_at(const char *name, const char *path, const char *more) {
   count++;
   if (calls >= 0)
     syscall(SYS_write, calls, line, snprintf(line, sizeof line, "%s\t%s\t%s\n", name, path, more));
-  if (count == at && signal_sent)
-    raise(signal_sent);
+  for (int stop = 0; stop < stops; stop++)
+    if (count == at[stop] && signal_sent)
+      raise(signal_sent);
   for (int order = 0; order < orders; order++)
     is_one |= is_failing(&failing[order], name, path);
   return is_one;

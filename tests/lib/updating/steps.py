@@ -35,13 +35,22 @@ def ended(process, was_stopped):
     return Ended(process, was_stopped)
 
 
-class Steps:
-    """Runs with these words, maybe as another user."""
+def is_stopped(process):
+    """Whether the run is stopped by now, or has ended."""
+    # It is left to be waited for, where it has ended.
+    found = os.waitid(os.P_PID, process.pid, os.WSTOPPED | os.WEXITED | os.WNOWAIT)
+    return found.si_code == os.CLD_STOPPED
 
-    def __init__(self, place, words=UPDATE, user=None):
+
+class Steps:
+    """Runs with these words, maybe as another user. Standard input is a pipe with this text, if
+    there is one."""
+
+    def __init__(self, place, words=UPDATE, user=None, text=None):
         self.place = place
         self.words = words
         self.user = user
+        self.text = text
 
     def as_user(self):
         """The user as whom it runs, in no other group."""
@@ -50,46 +59,64 @@ class Steps:
     def run(self, **orders):
         """A run to its end, by the orders that the library is given."""
         environment = {"LD_PRELOAD": self.place.library, **orders}
-        as_user = {} if self.user is None else self.as_user()
-        return self.place.run(*self.words, env=environment, **as_user)
+        more = {} if self.user is None else self.as_user()
+        more |= {} if self.text is None else {"input": self.text}
+        return self.place.run(*self.words, env=environment, **more)
 
-    def calls(self, **orders):
+    def calls(self, acts=None, **orders):
         """The names of the calls of a run, in their order, and how it ended."""
-        calls, done = self.seen(**orders)
+        calls, done = self.seen(acts, **orders)
         return [it.name for it in calls], done
 
-    def seen(self, **orders):
-        """The calls of a run, in their order, and how it ended."""
+    def seen(self, acts=None, **orders):
+        """The calls of a run, in their order, and how it ended. It may be stopped as by
+        `stopped_at`."""
         log = os.path.join(self.place.scratch, "calls")
         with open(log, "wb") as out:
             os.fchmod(out.fileno(), 0o666)
-        done = self.run(CALLS=log, **orders)
+        orders["CALLS"] = log
+        done = self.stopped_at(acts, **orders) if acts else self.run(**orders)
         with open(log, encoding="utf-8") as text:
             lines = [line.rstrip("\n").split("\t") for line in text]
         here = os.getcwd()
         return [Call(*(it.replace(here + "/", "") for it in line)) for line in lines], done
 
-    def begun(self, number, **orders):
-        """A run that is stopped before this call, or has ended, and whether it is stopped."""
+    def begun(self, *numbers, **orders):
+        """A run that is stopped before the first of these calls, or has ended, and whether it is
+        stopped."""
         as_user = {} if self.user is None else self.as_user()
-        orders |= {"AT": str(number), "SIGNAL": str(int(signal.SIGSTOP))}
+        at = ",".join(map(str, numbers))
+        orders |= {"AT": at, "SIGNAL": str(int(signal.SIGSTOP))}
         process = subprocess.Popen(
             [self.place.program, *self.words],
-            stdin=subprocess.DEVNULL,
+            stdin=subprocess.DEVNULL if self.text is None else subprocess.PIPE,
             stdout=subprocess.PIPE,
             stderr=subprocess.PIPE,
             env={"LD_PRELOAD": self.place.library, **orders},
             **as_user,
         )
-        # It is left to be waited for, where it has ended.
-        found = os.waitid(os.P_PID, process.pid, os.WSTOPPED | os.WEXITED | os.WNOWAIT)
-        return process, found.si_code == os.CLD_STOPPED
+        if self.text is not None:
+            process.stdin.write(self.text)
+            process.stdin.close()
+            process.stdin = None
+        return process, is_stopped(process)
 
     def stopped(self, number, meanwhile, **orders):
         """A run that stops before this call. Then `meanwhile` is called, and the run continues."""
-        process, was_stopped = self.begun(number, **orders)
+        return self.stopped_at({number: meanwhile}, **orders)
+
+    def stopped_at(self, acts, **orders):
+        """A run that stops before each call that has an act by its number, in their order. The act
+        is called then, and the run continues."""
+        process, was_stopped = self.begun(*acts, **orders)
+        *before, last = acts.values()
+        for act in before:
+            if was_stopped:
+                act()
+                os.kill(process.pid, signal.SIGCONT)
+                was_stopped = is_stopped(process)
         if was_stopped:
-            meanwhile()
+            last()
         return ended(process, was_stopped)
 
 

@@ -1,0 +1,107 @@
+"""Another program changes the list right before each call of a run."""
+
+import os
+
+from races.lists import LATE, LATER, OLD, differs
+from replacing.folder import LIST
+from updating.steps import content, same
+
+
+def write(text):
+    """Writes a list in place."""
+    with open(LIST, "r+b") as file:
+        over(file, text)
+
+
+def over(file, text):
+    """Writes a list in place, by a file that is open."""
+    file.seek(0)
+    file.write(text)
+    file.truncate()
+    file.flush()
+
+
+def put(run):
+    """Renames a list over the name."""
+    run.place.put("../late", LATE)
+    os.rename("../late", LIST)
+
+
+def each(run, name, old, act, wanted):
+    """The act comes before each call in turn. `wanted` gives the lists that may be there then, by
+    the calls from that one on. Those of one name are judged together."""
+    run.begin(old)
+    calls, _ = run.calls()
+    wrong = {}
+    for number, call in enumerate(calls, 1):
+        run.begin(old)
+        done = run.stopped(number, act)
+        found = differs(done, *wanted(calls[number - 1 :]))
+        found += [] if done.was_stopped else ["there is no call %d" % number]
+        wrong.setdefault(call, []).extend("before call %d: %s" % (number, it) for it in found)
+    for call, found in wrong.items():
+        run.judge("%s before each of %d %s calls" % (name, calls.count(call), call), found)
+
+
+def written(run):
+    """A list that is written in place before the renaming, also right before it, is the one that
+    the new list follows. One that is written after it stays."""
+
+    def wanted(rest):
+        return [run.follows(LATE) if "rename" in rest else LATE]
+
+    each(run, "a list written", OLD, lambda: write(LATE), wanted)
+
+
+def twice(run):
+    """The other program has the list open. It writes right before the first renaming, and once more
+    before each call until the second one, when a list of this run is under the name. The new list
+    follows what was written last. Only a list that was read in part by then may be a fault, with
+    the list of this run over the old one."""
+    run.begin()
+    calls, _ = run.calls()
+    first = calls.index("rename") + 1
+
+    def raced(begun, later=None):
+        run.begin()
+        with open(LIST, "r+b") as file:
+            acts = {first: lambda: over(file, LATE)}
+            acts |= {later: lambda: over(file, LATER)} if later else {}
+            return begun(acts)
+
+    calls, done = raced(run.calls)
+    run.judge("a list written before the renaming", differs(done, run.follows(LATE)))
+    second = len(calls) - calls[::-1].index("rename")
+    last_read = second - calls[second - 1 :: -1].index("read")
+    wrong = [] if calls.count("rename") == 2 else ["the calls are %s" % calls]
+    for number in range(first + 1, second + 1):
+        done = raced(run.stopped_at, number)
+        found = differs(done, run.follows(LATER))
+        if number == last_read and done.returncode == 255:
+            found = [] if same(content(), run.follows(OLD)) else found
+        wrong += ["before call %d, %s: %s" % (number, calls[number - 1], it) for it in found]
+    name = "another list written before each of the next %d calls" % (second - first)
+    run.judge(name, wrong)
+
+
+def renamed(run):
+    """A list that another program renames over the old one. One call before the renaming is too
+    late to see, and after the last look at the name the list of this run was there already."""
+
+    def wanted(rest):
+        if "rename" in rest[1:]:
+            return [run.follows(LATE)]
+        if rest[0] == "rename":
+            return [run.follows(LATE), run.follows(OLD)]
+        return [run.follows(LATE), LATE] if "stat" in rest else [LATE]
+
+    each(run, "a list renamed over the old one", OLD, lambda: put(run), wanted)
+
+
+def appeared(run):
+    """A list that another program puts where there was none."""
+
+    def wanted(rest):
+        return [run.follows(LATE)] if "link" in rest or "stat" in rest else [LATE]
+
+    each(run, "a list where there was none", None, lambda: put(run), wanted)
