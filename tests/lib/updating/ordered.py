@@ -1,8 +1,9 @@
 """Which file each call of an update belongs to, and in which order they come.
 
-The rows are what the manual page promises: the lock is there before the list is read, until all is
-done; the new file has the list's group, owner and mode, and all of its bytes, when it is synced;
-then it takes the name; then the folder is synced, and the name followed once more."""
+The name is followed once before the lock. The other rows are what the manual page promises: the
+lock is there before the list is read, until all is done; the new file has the list's group, owner
+and mode, and all of its bytes, when it is synced; then it takes the name; then the folder is
+synced, and the name followed once more."""
 
 import errno
 import os
@@ -19,8 +20,7 @@ WRITER = "2"
 
 def changes(calls):
     """The calls that change or lock something, of the list and what is beside it, each as a line;
-    writes that follow each other once, the first read of the list, and the last look at the name.
-    """
+    writes that follow each other once, the first read of the list, and the looks at the name."""
     lines = []
     for it in calls:
         path = NEW.sub("NEW", it.path).replace(os.getcwd(), ".")
@@ -53,7 +53,7 @@ def replaced(place):
         if not is_root:
             group, owner = "-1:%d" % os.getegid(), "%d:-1" % os.geteuid()
         is_shared = mode & 0o020
-        wanted = ["create %s 600" % LOCK, "flock %s 6" % LOCK]
+        wanted = ["stat %s" % LIST, "create %s 600" % LOCK, "flock %s 6" % LOCK]
         wanted += ["fchown %s %s" % (LOCK, group)] if is_shared and is_root else []
         wanted += ["fchown %s %s" % (LOCK, owner)] if is_root else []
         wanted += ["fchmod %s 660" % LOCK] if is_shared else []
@@ -86,6 +86,7 @@ def replaced(place):
 def first(place):
     calls, done = owned(place, ANEW, None, 0).seen()
     wanted = [
+        "stat %s" % LIST,
         "create %s 600" % LOCK,
         "flock %s 6" % LOCK,
         "create NEW 666",
@@ -105,6 +106,7 @@ def first(place):
 def in_place(place):
     calls, done = Steps(place, user=closed(place, OLD)).seen()
     wanted = [
+        "stat %s" % LIST,
         "create %s 600" % LOCK,
         "flock %s 6" % LIST,
         "read %s" % LIST,
