@@ -3,7 +3,7 @@
 ghost use Rattle.std.specs.Prelude.{◌≡◌, ℕ, IfOk, IfSome, None, Ok, Some, take, true};
 ghost use Rattle.krl_system.specs.declared.locked_list.Locked.{Locked as LockedOf};
 
-use crate::locked_list::{Locked, MadeOf, Target, lock_target, release};
+use crate::locked_list::{Locked, MadeOf, Target, lock_target, release, unopened};
 use crate::replacing::{Written, write_list};
 use crate::waiting::Waiting;
 use byte_streams::FromRead;
@@ -115,6 +115,21 @@ impl<'a> ListPlace<'a> {
         }
     }
 
+    // Begins to read what is held again, if a list of this run replaced it. Otherwise the name is
+    // opened again.
+    fn follow(&mut self) -> Result<bool, Cause> {
+        let Some(locked) = &mut self.locked else {
+            return Ok(false);
+        };
+        match &mut locked.target {
+            Target::List(old) => match old.follow(self.rt, None) {
+                Ok(is_followed) => Ok(is_followed),
+                Err(error) => Err(unopened(&error)),
+            },
+            Target::Free(_) | Target::Stream(_) => Ok(false),
+        }
+    }
+
     // What follows after a list was written. What is under the name stays held if a list of this
     // run replaced one that it does not follow, so that the next list follows that one.
     fn after(&mut self, written: Written) -> Put
@@ -155,7 +170,9 @@ impl<'a> Place for ListPlace<'a> {
                     return Ok(old);
                 }
             }
-            self.release();
+            if !self.follow()? {
+                self.release();
+            }
         }
         Err(Cause::Output { count: 0 })
     }

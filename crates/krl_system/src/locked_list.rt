@@ -41,10 +41,10 @@ impl Target {
         matches!(self, Target::List(_))
     }
 
-    // Whether the old list was changed since it was opened, and no list has replaced it since.
+    // Whether the old list was changed since it was opened, or since it is read again.
     pub(crate) fn is_stale(&self) -> bool {
         match self {
-            Target::List(old) => old.put.is_none() && old.is_changed(),
+            Target::List(old) => old.is_changed(),
             Target::Free(_) | Target::Stream(_) => false,
         }
     }
@@ -107,6 +107,14 @@ impl OldList {
         }
     }
 
+    // Whether the file that this update knows of is still at the path, and was not written to.
+    pub(crate) fn is_in_place(&self, rt: &HostRuntime) -> bool {
+        match fs::symlink_metadata(rt, &self.path) {
+            Ok(found) => is_same(&found, self.at_path()) && is_unchanged(&found, self.at_path()),
+            Err(_) => false,
+        }
+    }
+
     // Begins to read the file again, if a list of this update is at its path that replaced it after
     // it was changed: the list that was put now, if any, otherwise an earlier one. A list that is
     // made of that one again would have nothing of the change. Returns whether it did.
@@ -116,7 +124,7 @@ impl OldList {
     {
         if put.is_some() {
             self.put = put;
-        } else if self.put.is_none() || !is_at(rt, &self.path, Some(self.at_path())) {
+        } else if self.put.is_none() || !self.is_in_place(rt) {
             return Ok(false);
         }
         self.found = self.file.metadata()?;

@@ -242,10 +242,10 @@ fn give_name(rt: &HostRuntime, new: &str, destination: Destination<'_>) -> Resul
     }
 }
 
-// Whether the old list, or the one that replaced it, is still at its path, and the old one was not
-// written to since it was opened.
+// Whether the old list, or the one that replaced it, is still at its path, and neither was written
+// to since.
 fn is_as_opened(rt: &HostRuntime, old: &OldList) -> bool {
-    !old.is_changed() && is_at(rt, &old.path, Some(old.at_path()))
+    !old.is_changed() && old.is_in_place(rt)
 }
 
 // Follows the name once more, and returns whether it leads to the list that was written. If it

@@ -22,3 +22,6 @@ returns-then-not-is_read-clause-kept c = record { still = inl (λ content held. 
 
 pub returns-clause-kept : goal.returns-clause-kept
 returns-clause-kept c = record { still = inl (λ content held. tt); later = λ was. tt }
+
+pub returns-in_err-follow-clause-kept : goal.returns-in_err-follow-clause-kept
+returns-in_err-follow-clause-kept c = record { still = inl (λ content held. tt); later = λ was. tt }
