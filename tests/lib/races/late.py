@@ -4,7 +4,6 @@ import os
 
 from races.lists import LATE, LATER, OLD, differs
 from replacing.folder import LIST
-from updating.steps import content, same
 
 
 def write(text):
@@ -54,34 +53,38 @@ def written(run):
 
 
 def twice(run):
-    """The other program has the list open. It writes right before the first renaming, and once more
-    before each call until the second one, when a list of this run is under the name. The new list
-    follows what was written last. Only a list that was read in part by then may be a fault, with
-    the list of this run over the old one."""
+    """The other program writes right before the first renaming, and once more before each call
+    until the second one, when a list of this run is under the name: into the file that it has open,
+    or into the one that has the name. The new list follows what was written last. Right before the
+    second renaming it is too late to see what was written to the list of this run."""
     run.begin()
     calls, _ = run.calls()
     first = calls.index("rename") + 1
 
-    def raced(begun, later=None):
+    def raced(begun, write_later, later=None):
         run.begin()
         with open(LIST, "r+b") as file:
             acts = {first: lambda: over(file, LATE)}
-            acts |= {later: lambda: over(file, LATER)} if later else {}
+            acts |= {later: lambda: write_later(file)} if later else {}
             return begun(acts)
 
-    calls, done = raced(run.calls)
+    calls, done = raced(run.calls, None)
     run.judge("a list written before the renaming", differs(done, run.follows(LATE)))
     second = len(calls) - calls[::-1].index("rename")
-    last_read = second - calls[second - 1 :: -1].index("read")
-    wrong = [] if calls.count("rename") == 2 else ["the calls are %s" % calls]
-    for number in range(first + 1, second + 1):
-        done = raced(run.stopped_at, number)
-        found = differs(done, run.follows(LATER))
-        if number == last_read and done.returncode == 255:
-            found = [] if same(content(), run.follows(OLD)) else found
-        wrong += ["before call %d, %s: %s" % (number, calls[number - 1], it) for it in found]
-    name = "another list written before each of the next %d calls" % (second - first)
-    run.judge(name, wrong)
+    count = [] if calls.count("rename") == 2 else ["the calls are %s" % calls]
+    for name, write_later in (
+        ("to the open file", lambda file: over(file, LATER)),
+        ("to the list of this run", lambda file: write(LATER)),
+    ):
+        wrong = list(count)
+        for number in range(first + 1, second + 1):
+            done = raced(run.stopped_at, write_later, number)
+            wanted = [run.follows(LATER)]
+            if number == second and name == "to the list of this run":
+                wanted.append(run.follows(LATE))
+            found = differs(done, *wanted)
+            wrong += ["before call %d, %s: %s" % (number, calls[number - 1], it) for it in found]
+        run.judge("written %s before each of the next %d calls" % (name, second - first), wrong)
 
 
 def renamed(run):
