@@ -6,7 +6,7 @@ ghost use Rattle.audit_run.specs.Fact.{Fact};
 use crate::tests::audits::LOUD;
 use crate::tests::shelf::Paper;
 use audit_run::{Audited, Found, Given, Identity, Kind, Opened, Order, Tree, audit_run};
-use byte_streams::{FromRead, Lent, ToWrite};
+use byte_streams::{FromRead, ToWrite};
 use krl_audit::Refusal;
 use ssh_wire::Bytes;
 use std::alloc::{AllocError, Global};
@@ -24,7 +24,7 @@ struct Well<'a> {
 impl<'a> Tree for Well<'a> {
     type Names = FromRead<Giver<'a>>;
 
-    type File = Lent<'static>;
+    type File = FromRead<Giver<'a>>;
 
     ghost states = { λ _ _. Unit {0} };
 
@@ -41,7 +41,7 @@ impl<'a> Tree for Well<'a> {
         &self,
         path: &str,
         _looked: Option<Found>,
-    ) -> Result<Result<Opened<Lent<'static>>, Refusal>, AllocError> {
+    ) -> Result<Result<Opened<FromRead<Giver<'a>>>, Refusal>, AllocError> {
         let identity = Identity {
             device: 0,
             number: path.len() as u64,
@@ -49,11 +49,11 @@ impl<'a> Tree for Well<'a> {
         Ok(Ok(Opened {
             is_file: true,
             identity,
-            file: Lent::new(GITHUB_LINE),
+            file: FromRead::new(Giver::new(GITHUB_LINE, 100)),
         }))
     }
 
-    fn why_unread(&self, _path: &str, _file: &Lent<'static>) -> Refusal {
+    fn why_unread(&self, _path: &str, _file: &FromRead<Giver<'a>>) -> Refusal {
         Refusal::Read
     }
 
@@ -104,10 +104,11 @@ fn audited_in(alloc: Global, depth: usize) -> (u8, u64) {
         names: b"k.pub\0d\0",
         last: b"k.pub\0",
     };
+    let input = FromRead::new(Giver::new(b"", 1));
     let given = Given {
         tree: &tree,
         names,
-        input: Lent::new(b""),
+        input,
     };
     let list = Bytes::from_vec(Vec::new(alloc));
     match audit_run(alloc, &order, list, given, &mut out) {

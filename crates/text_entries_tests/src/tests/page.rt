@@ -11,7 +11,7 @@ use span_sets::Held;
 use std::alloc::Global;
 use text_entries::{TextFault, read_text};
 use text_laws::laws::text_reads_back;
-use text_run::{Inputs, MakeFault, Text, read_texts};
+use text_run::{Inputs, MakeFault, read_texts};
 
 /// What a text names.
 fn named_by(alloc: Global, text: &[u8]) -> Result<Revocations<Held>, TextFault> {
@@ -20,17 +20,9 @@ fn named_by(alloc: Global, text: &[u8]) -> Result<Revocations<Held>, TextFault> 
     Ok(held)
 }
 
-/// The bytes of a list of version 1 that names what the texts name, and follows no other.
-fn list_of<'a>(alloc: Global, texts: &'a [Text<'a>]) -> Result<Vec<u8>, MakeFault<'a>> {
-    let inputs = Inputs {
-        name: "revoked.krl",
-        version: None,
-        date: 0,
-        comment: "",
-        allow_empty: false,
-        texts,
-    };
-    let list = read_texts(alloc, &inputs)?;
+/// The bytes of a list that names what the texts name, and follows no other.
+fn list_of<'a>(alloc: Global, inputs: &'a Inputs<'a>) -> Result<Vec<u8>, MakeFault<'a>> {
+    let list = read_texts(alloc, inputs)?;
     Ok(list.make(alloc, None)?.bytes)
 }
 
@@ -52,5 +44,13 @@ fn the_callers_of_the_pages(rt: HostRuntime) {
     assert!(rt; named_by(rt.alloc(), b"id: bob\n").is_err());
     let held = restored(rt.alloc(), b"ca: all\nserial: 9\n");
     assert!(rt; held.is_ok_and(|held| held.authorities() == 1));
-    assert!(rt; list_of(rt.alloc(), &[]).is_err());
+    let inputs = Inputs {
+        name: "revoked.krl",
+        version: None,
+        date: 0,
+        comment: "",
+        allow_empty: false,
+        texts: &[],
+    };
+    assert!(rt; list_of(rt.alloc(), &inputs).is_err());
 }
