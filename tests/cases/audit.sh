@@ -819,14 +819,17 @@ try_example() {
       -e 's| /home| home|; s|~/.ssh|home/bob|; s|^vim|vim -es -u NONE -S at|' >example
   PATH=$PWD/tools:$PATH bash example 2>/dev/null
 }
-mkdir tools && ln -s "$program" tools/krl && printf '#!/bin/sh\nshift 2 && exec "$@"\n' >tools/ssh
+mkdir tools && ln -s "$program" tools/krl && printf '#!/bin/sh\nshift 3 && exec "$@"\n' >tools/ssh
 chmod +x tools/ssh && echo one >hosts
 findings=$(sed -n 's/: \(revoked\|unread\):.*/: \1/p' <<<"$example" | sort)
-judge 'the example with find' "$(differs findings "$(grep -v known_hosts <<<"$findings")" \
-  "$(try_example find | sed 's|^./||; s/: \(revoked\|unread\):.*/: \1/' | sort)")"
-try_example while
-judge 'the example with ssh' "$(differs findings "$(sed 's/^/one: /' <<<"$findings")" \
-  "$(sed 's/: \(revoked\|unread\):.*/: \1/' audit | sort)")"
+judge 'the example with find' "$(differs findings "$findings" \
+  "$(try_example '{ find' | sed 's|^./||; s/: \(revoked\|unread\):.*/: \1/' | sort)")"
+try_example '(\n  set -e\n  worst=0'
+judge 'the example with ssh' "$(
+  differs findings "$(sed 's/^/one: /' <<<"$findings")" \
+    "$(sed -n 's/: \(revoked\|unread\):.*/: \1/p' audit | sort)"
+  differs status 'one: status 1' "$(tail -n 1 audit)"
+)"
 need jq jq || judge 'jq is there' '  install it, on Debian by apt-get install jq'
 judge 'the example with jq' "$(differs rows \
   "$(sed -n 's/^\(home.*\):\([0-9]*\): revoked: [^ ]* \([^ ]*\) .*/\1\t\2\t\3/p' <<<"$example")" \
