@@ -172,6 +172,15 @@ plays_ill 'a Match block that switches the list off is found' 'RevokedKeys /dev/
 sed -i '/^HostKey/q' first/etc/ssh/sshd_config
 printf 'match user nobody\n\trevokedkeys=none\n' >>first/etc/ssh/sshd_config
 plays_ill 'a Match block in lower case, too' 'revokedkeys=none' 30 30
+# sshd takes these too.
+for it in '"RevokedKeys" none' '="revokedkeys"none'; do
+  sed -i '/^HostKey/q' first/etc/ssh/sshd_config
+  printf 'Match User nobody\n%s\n' "$it" >>first/etc/ssh/sshd_config
+  plays_ill "a Match block with the line $it" "$it" 30 30
+  judge "sshd obeys the line $it" "$(differs 'the list of nobody' 'revokedkeys none' \
+    "$(/usr/sbin/sshd -T -C user=nobody,host=h,addr=127.0.0.1 -f first/etc/ssh/sshd_config 2>&1 |
+      grep -i revokedkeys)")"
+done
 echo 'NoSuchLine yes' >>first/etc/ssh/sshd_config
 judge 'sshd is not reloaded where its configuration is wrong' "$(
   rm -f reloads

@@ -112,8 +112,22 @@ pulls 'a plain list, which has no version' 255 20 'a plain list has no version'
 publish 30 alice.pub
 KRL_PROTO==http url=http://127.0.0.1:$(cat http)/revoked.krl \
   pulls 'a newer list, by another protocol that is named' 0 30
-truncate -s 20 "$room/revoked.krl"
+# krl is killed when it reads the list in force, or has no memory for it.
 publish 21 alice.pub
+for it in 'kill -9 $$:status 137' 'echo "[run 1 NoMemory]" >\&2 \&\& exit 255:NoMemory'; do
+  printf '#!/bin/sh\n' >tools/failing
+  sed "s|DOES|${it%:*}|; s|LIST|$room/revoked.krl|; s|KRL|$krl|" >>tools/failing <<'END'
+[ "$3" != LIST ] || { DOES; }
+exec KRL "$@"
+END
+  chmod +x tools/failing && mv tools/failing tools/krl
+  pulls "an older list, where krl fails at that in force: ${it#*:}" 1 30 "${it#*:}"
+done
+ln -sf "$krl" tools/krl
+rm "$room/revoked.krl" && mkdir "$room/revoked.krl"
+pulls 'a list where a folder has its name' 1 ''
+judge 'the folder is left' "$(ls -A "$room/revoked.krl")"
+rmdir "$room/revoked.krl" && head -c 20 web/revoked.krl >"$room/revoked.krl"
 pulls 'any list, where that in force is damaged' 0 21
 
 # ---- the options
@@ -183,7 +197,7 @@ for it in sync mv; do
 done
 pulls 'the last list' 0 60
 judge 'the list is on the disk before it gets its name' \
-  "$(differs steps $'sync krl\nmv krl' "$(cat order)")"
+  "$(differs steps $'sync krl\nmv -T' "$(cat order)")"
 
 # ---- the units
 
