@@ -47,7 +47,7 @@ def made():
         with open(spec) as given, open("text", "w") as out:
             out.write("ca: all\n" + given.read())
         commands = (
-            [AUDIT, "make", "-q", "-f", "made.krl", "-z", "1", "text"],
+            [AUDIT, "make", "-q", "--replace", "-f", "made.krl", "text"],
             [OURS, "-k", "-f", "other.krl", "-z", "1", "-s", "none", spec],
         )
         make, other = (instructions(words) for words in commands)

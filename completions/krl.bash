@@ -14,14 +14,18 @@ _krl() {
     offered=$(compgen -f -- "$word")
     compopt -o filenames 2>/dev/null
   elif [ "${COMP_WORDS[1]}" = check ]; then
-    offered=$(compgen -W '--newer-than --superset-of --max-age --keep --canary --allow-empty
-      --json --print-version --help --version' -- "$word")
-  elif [[ ${COMP_WORDS[1]} == @(show|diff) ]]; then
+    offered=$(compgen -W '--newer-than --superset-of --max-age --max-cas --keep --canary
+      --allow-empty --json --print-version --help --version' -- "$word")
+  elif [ "${COMP_WORDS[1]}" = show ]; then
+    offered=$(compgen -W '--json --no-name --help --version' -- "$word")
+  elif [ "${COMP_WORDS[1]}" = diff ]; then
     offered=$(compgen -W '--json --help --version' -- "$word")
   elif [ "${COMP_WORDS[1]}" = make ]; then
-    offered=$(compgen -W '-f -q -z --comment --allow-empty --help --version' -- "$word")
+    offered=$(compgen -W '-f -q -u -z --comment --replace --allow-empty --help
+      --version' -- "$word")
   else
-    offered=$(compgen -W '-a -f -q --all --json --files0-from --help --version' -- "$word")
+    offered=$(compgen -W '-a -f -q -x --all --canary --exclude --json --files0-from --help
+      --version' -- "$word")
   fi
   [ -z "$offered" ] || mapfile -t COMPREPLY <<<"$offered"
   return 0

@@ -25,8 +25,13 @@ complete -c krl -n "$audits" -F
 complete -c krl -n "$audits" -s f -rF -d 'The revocation list'
 complete -c krl -n "$audits" -s a -d 'Name the keys that are not revoked as well'
 complete -c krl -n "$audits" -s q -d 'Print nothing on standard output'
+complete -c krl -n "$audits" -s x -d 'Stay on the file system of each directory that is named'
 complete -c krl -n "$audits" -l all \
   -d 'Read every regular file of a directory, whatever its name'
+complete -c krl -n "$audits" -l canary -rF \
+  -d 'Audit nothing unless the list revokes each key of this file'
+complete -c krl -n "$audits" -l exclude -x \
+  -d 'Skip files and directories of this name in a directory'
 complete -c krl -n "$audits" -l json -d 'Print one JSON object on a line for each finding'
 complete -c krl -n "$audits" -l files0-from -rF \
   -d 'Read names of files, each ended by a zero byte'
@@ -36,6 +41,7 @@ complete -c krl -n "$checks" -l superset-of -rF \
   -d 'Refuse a list that does not name all that this list names'
 complete -c krl -n "$checks" -l max-age -xa '90m 24h 7d' \
   -d 'Refuse a list that was made longer ago than this'
+complete -c krl -n "$checks" -l max-cas -x -d 'Refuse a list with more CAs than this'
 complete -c krl -n "$checks" -l keep -rF -d 'Refuse a list that revokes a key of this file'
 complete -c krl -n "$checks" -l canary -rF \
   -d 'Refuse a list that does not revoke each key of this file'
@@ -44,11 +50,14 @@ complete -c krl -n "$checks" -l json -d 'Print each condition as a JSON object'
 complete -c krl -n "$checks" -l print-version -d 'Print the version of the list alone'
 complete -c krl -n "$shows" -F
 complete -c krl -n "$shows" -l json -d 'Print one JSON object on a line for each entry'
+complete -c krl -n "$shows" -l no-name -d 'Leave out the name of each list'
 complete -c krl -n "$makes" -F
 complete -c krl -n "$makes" -s f -rF -d 'The revocation list that is made'
 complete -c krl -n "$makes" -s z -x -d 'Its version'
 complete -c krl -n "$makes" -l comment -x -d 'Its comment'
 complete -c krl -n "$makes" -s q -d 'Do not say what was made'
+complete -c krl -n "$makes" -s u -d 'Keep what the list that is there names, and its comment'
+complete -c krl -n "$makes" -l replace -d 'Do not read the list that is replaced'
 complete -c krl -n "$makes" -l allow-empty -d 'Make a list that revokes nobody'
 complete -c krl -n "$diffs" -F
 complete -c krl -n "$diffs" -l json -d 'Print one JSON object on a line for each entry'

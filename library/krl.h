@@ -43,7 +43,7 @@ extern "C" {
 #define KRL_NO_MEMORY (-1) /* malloc gave none: the same call may succeed later */
 #define KRL_NOT_LOADED (-2) /* no list was read into the handle */
 
-/* -101 to -117: the list is refused. -101 to -115 are its first fault, by the last two digits;
+/* -101 to -118: the list is refused. -101 to -115 are its first fault, by the last two digits;
  * -113 and -114 are never answered. */
 #define KRL_LIST_MAGIC (-101) /* no KRL */
 #define KRL_LIST_FORMAT_VERSION (-102) /* not format version 1 */
@@ -74,19 +74,24 @@ extern "C" {
  * its list has such a line. */
 #define KRL_LIST_LINE (-117)
 
+/* The list has no fault, but one of its key IDs has a zero byte. OpenSSH ends the key ID there, and
+ * so revokes other certificates, or refuses the list. So let nobody in. */
+#define KRL_LIST_KEY_ID (-118)
+
 /* -201 to -203: the line has no key. */
 #define KRL_LINE_NO_KEY (-201)
 #define KRL_LINE_BASE64 (-202)
 #define KRL_LINE_WORD_DIFFERS (-203) /* the line names another type than the key has */
 
-/* -302 to -313: the blob is no plain key, -401 to -409: no certificate. -503 to -513: the key of
+/* -302 to -313: the blob is no plain key, -401 to -410: no certificate. -503 to -513: the key of
  * the certificate is no key, -602 to -613: the key of its authority is no key. The last two digits
  * of the number say the key's fault: 02 its type is not known, 03 another curve than its type says,
  * 04 its point has another form, 05 a length, 06 a number, 07 bytes after it, 08 more than
  * 65,536 bytes, and of a field: 11 it ends early, 12 a negative number, 13 a number with a
  * needless zero byte. -402, -502 and -507 are never answered: the type of a certificate is known
  * before it is read, and other fields follow its key. */
-#define KRL_IS_LIST_FAULT(answer) ((answer) <= -101 && (answer) >= -117)
+#define KRL_CERT_KEY_ID (-410) /* a certificate whose key ID has a zero byte, as above */
+#define KRL_IS_LIST_FAULT(answer) ((answer) <= -101 && (answer) >= -118)
 #define KRL_IS_KEY_FAULT(answer) ((answer) <= -201)
 
 /* Whether a list revokes the key of a blob.

@@ -58,8 +58,26 @@ device=$(words sk-ssh-ed25519@openssh.com)$(string "$(repeat 32 33)")$(words ssh
 says 'a security key' "$(line sk-ssh-ed25519@openssh.com "$device")" \
   "ok: sk-ssh-ed25519@openssh.com $(fingerprint "$device")"
 says 'control characters in a comment' "$g a"$'\e[31m'b "$by_g"': a\x1b[31mb'
-printf '\xef\xbb\xbf%s\n' "$g" >marked
-audits 'a byte order mark' 1 '1 file, 1 key: 1 revoked in 1 file, 0 unread' "marked:1: $by_g" marked
+says 'a comment that is shown in another order' "$g a"$'\u202e\u2066'b \
+  "$by_g"': a\xe2\x80\xae\xe2\x81\xa6b'
+says 'a comment with a line separator' "$g a"$'\u2028'"b: ok: c" "$by_g"': a\xe2\x80\xa8b: ok: c'
+says 'the characters beside them' "$g "$'\u61b\u61d\u200d\u2010\u2027\u202f\u2065\u206a' \
+  "$by_g"$': \u61b\u61d\u200d\u2010\u2027\u202f\u2065\u206a'
+echo "$g" >marked
+audits 'a key alone' 1 '1 file, 1 key: 1 revoked in 1 file, 0 unread' "marked:1: $by_g" marked
+# A byte order mark belongs to the first word: a host name may begin with it, and no key type does.
+mkdir order && printf '\xef\xbb\xbf%s\n' "$g" >order/authorized_keys
+printf '\xef\xbb\xbf#,* %s\n' "$g" | tee order/known_hosts >order/keys
+cp order/authorized_keys order/x.pub
+audits 'a byte order mark' 1 '4 files, 2 keys: 2 revoked in 2 files, 2 unread' \
+  "order/authorized_keys:1: $no_type
+order/keys:1: $by_g
+order/known_hosts:1: $by_g
+order/x.pub:1: $no_type" --all order
+judge 'OpenSSH takes it for a byte of a host name' "$(differs 'the key' "$(fingerprint "$G")" \
+  "$("$openssh" -l -F any.example -f order/known_hosts | sed -n 's/.*\(SHA256:[^ ]*\).*/\1/p')")"
+"$openssh" -l -f order/authorized_keys >/dev/null 2>&1
+judge 'OpenSSH takes it for a byte of a key type' "$(differs 'exit status' 255 $?)"
 printf '%s \x9b1m\xff\n' "$g" >high
 audits 'a comment that is not UTF-8' 1 '1 file, 1 key: 1 revoked in 1 file, 0 unread' \
   "high:1: $by_g: \\x9b1m\\xff" high
@@ -73,7 +91,7 @@ audits 'an empty file' 0 '1 file, 0 keys: 0 revoked in 0 files, 0 unread' '' emp
 # double quotes: so this line has the key G as a line of known hosts, and B as one of authorized keys.
 mkdir -p fields/etc/authorized_keys.d fields/b
 for it in known_hosts b/known_hosts2 etc/ssh_known_hosts2 authorized_keys b/authorized_keys2 \
-  etc/authorized_keys.d/me keys; do
+  etc/authorized_keys.d/{me,known_hosts} keys; do
   echo "host,\"x $g \"x $b" >"fields/$it"
 done
 # fields NAME COUNTS FINDING..: the findings about this file.
@@ -92,7 +110,9 @@ done
 for it in authorized_keys b/authorized_keys2 etc/authorized_keys.d/me; do
   fields $it '1 key: 0 revoked in 0 files' "$ok_b"
 done
-fields keys '2 keys: 1 revoked in 1 file' "$ok_b" "$as_host"
+for it in keys etc/authorized_keys.d/known_hosts; do
+  fields $it '2 keys: 1 revoked in 1 file' "$ok_b" "$as_host"
+done
 echo "@cert-authority host,\"x $g \"x $b" >fields/authorities
 fields authorities "$one_revoked" "$as_host"
 judge 'OpenSSH ends host names at the first blank' "$(differs 'the key' "$(fingerprint "$G")" \
@@ -122,6 +142,19 @@ armour/$it:$((armour + 2)): $by_g: me" armour/$it
 done
 judge 'OpenSSH reads a line behind a private key' "$(differs 'the key' "$(fingerprint "$G")" \
   "$("$openssh" -l -F host -f armour/known_hosts | sed -n 's/.*\(SHA256:[^ ]*\).*/\1/p')")"
+# A private key that is truncated is one line, and nothing behind it is read.
+{ head -n 3 first && echo "$g" && yes x | head -n 30; } >behind
+audits 'a line behind a truncated private key' 3 '1 file, 0 keys: 0 revoked in 0 files, 1 unread' \
+  'behind:1: unread: the private key file is cut or misspelt: private 1 Armour' -a behind
+expect 'a truncated private key to be kept' 1 \
+  'behind:1: unread: the private key file is cut or misspelt: private 1 Armour
+keep: behind: 0 of 0 keys are revoked, 1 line is not read
+' '' check --keep behind r.krl
+{ cat first first && yes x | head -n 21; } >behind
+audits 'a private key and other lines behind a private key' 3 \
+  "1 file, 1 key: 0 revoked in 0 files, $((armour + 21)) unread" "behind:1: $(key_of first): me
+$(seq -f "behind:%.0f: $no_type" $((armour + 1)) $((armour + 20)))
+behind: unread: and $((armour + 1)) more lines are unread" -a behind
 { echo "$g" && cat first; } >before
 audits 'a private key behind a line' 1 "1 file, 1 key: 1 revoked in 1 file, $armour unread" \
   "before:1: $by_g
@@ -142,6 +175,29 @@ audits 'as many lines as are named' 3 '1 file, 1 key: 0 revoked in 0 files, 20 u
   "${said//many_unread/as_many}" as_many
 rm many_unread
 
+# Many lines with revoked keys, and with others.
+{ yes "$g" | head -n 22 && yes "$b" | head -n 1021 && yes x | head -n 23; } >many
+audits 'many revoked keys' 1 '1 file, 1043 keys: 22 revoked in 1 file, 23 unread' \
+  "$(seq -f "many:%.0f: $by_g" 20)
+$(seq -f "many:%.0f: $no_type" 1044 1063)
+many: revoked: and 2 more lines are revoked
+many: unread: and 3 more lines are unread" many
+audits 'many keys' 1 '1 file, 1043 keys: 22 revoked in 1 file, 23 unread' \
+  "$(seq -f "many:%.0f: $by_g" 20)
+$(seq -f "many:%.0f: $ok_b" 23 42)
+$(seq -f "many:%.0f: $no_type" 1044 1063)
+many: revoked: and 2 more lines are revoked
+many: unread: and 3 more lines are unread
+many: ok: and 1001 more lines are ok" -a many
+rm many
+yes "$g" | head -n 21 >one_revoked
+audits 'one revoked key more than are named' 1 '1 file, 21 keys: 21 revoked in 1 file, 0 unread' \
+  "$(seq -f "one_revoked:%.0f: $by_g" 20)
+one_revoked: revoked: and 1 more line is revoked" one_revoked
+head -n 20 one_revoked >as_many
+audits 'as many as are named' 1 '1 file, 20 keys: 20 revoked in 1 file, 0 unread' \
+  "$(seq -f "as_many:%.0f: $by_g" 20)" as_many
+
 # Reasons, in their order.
 cert=$(certificate "$B" "$A" 0000000000000007 'a "b"')
 line ssh-ed25519-cert-v01@openssh.com "$cert" me >cert
@@ -159,6 +215,13 @@ for it in 'serial 7' 'key ID "a \"b\""'; do
   wanted+=", by $it of CA $(fingerprint "$A"), by $it of all CAs"
 done
 judge 'all reasons at once' "$(differs 'what is said' "$wanted: me" "$said")"
+
+# A certificate whose key ID has a zero byte: OpenSSH refuses it, or drops that byte at the end.
+zero=$(certificate "$B" "$G" 0000000000000007 bob@x)
+line ssh-ed25519-cert-v01@openssh.com "${zero/626f624078/626f620078}" me >zero_id
+audits 'a certificate whose key ID has a zero byte' 3 \
+  '1 file, 0 keys: 0 revoked in 0 files, 1 unread' \
+  'zero_id:1: unread: its key ID has a zero byte' zero_id
 
 # One reason alone: a SHA-1 of a key, and a SHA-256 of a CA.
 printf 'sha1: %s\n' "$b" >of_sha1
@@ -192,7 +255,7 @@ ln -s "$PWD/home/B" home/linked/B
 key_of() {
   echo "ok: ssh-ed25519 $("$openssh" -lf "$1.pub" | cut -d ' ' -f 2)"
 }
-audits 'a directory' 1 '13 files, 12 keys: 9 revoked in 9 files, 1 unread, 5 skipped' \
+audits 'a directory' 1 '12 files, 12 keys: 9 revoked in 9 files, 0 unread, 6 skipped by their names' \
   "home/.ssh/authorized_keys:1: $by_g
 home/.ssh/authorized_keys2:1: $by_g
 home/.ssh/id_plain:1: $(key_of private): me
@@ -204,35 +267,103 @@ home/.ssh/ssh_known_hosts2:1: $by_g
 home/.ssh/x.pub:1: $by_g
 home/B/known_hosts:1: $by_a
 home/a/link.pub:1: $by_g: \\x9b1m\\xff
-home/a/x.pub:1: $ok_b
-home/linked/B: unread: a link to a directory: name it" -a home
+home/a/x.pub:1: $ok_b" -a home
 # The links of a directory: to a directory, to a file, to nothing, and one that leads to itself.
 mkdir -p links/.ssh && cd links || exit 1
 ln -s ../home/B folder && ln -s ../marked file && ln -s gone dangling && ln -s loop loop
 ln -s gone id_dangling && ln -s ../home/B id_folder && ln -s ../private id_link
 ln -s gone .ssh/id_rsa
 cd ..
-audits 'links in a directory' 3 '6 files, 1 key: 0 revoked in 0 files, 5 unread, 2 skipped' \
+audits 'links in a directory' 3 '5 files, 1 key: 0 revoked in 0 files, 4 unread, 3 skipped by their names' \
   'links/.ssh/id_rsa: unread: No such file or directory
-links/folder: unread: a link to a directory: name it
 links/id_dangling: unread: No such file or directory
 links/id_folder: unread: a link to a directory: name it
 links/loop: unread: Too many levels of symbolic links' links
+# Links to directories are unread where files are looked for there, by the name of the link or of the
+# directory.
+mkdir -p towards/data/.ssh towards/data/authorized_keys.d towards/data/keys towards/links
+(cd towards/links && ln -s ../data/.ssh dots && ln -s ../data/authorized_keys.d served &&
+  ln -s ../data/keys .ssh && ln -s ../data/keys authorized_keys.d && ln -s ../data/keys keys &&
+  ln -s ../data/keys x.pub && ln -s dots over && ln -s ../data/.ssh/ slash && ln -s / root)
+link='unread: a link to a directory: name it'
+audits 'links to directories' 3 '7 files, 0 keys: 0 revoked in 0 files, 7 unread, 2 skipped by their names' \
+  "$(printf "towards/links/%s: $link\n" .ssh authorized_keys.d dots over served slash x.pub)" \
+  towards/links
+audits 'links to directories with --all' 3 '9 files, 0 keys: 0 revoked in 0 files, 9 unread' \
+  "$(printf "towards/links/%s: $link\n" \
+    .ssh authorized_keys.d dots keys over root served slash x.pub)" --all towards/links
+# The null device is an empty file, and no other device is.
+mkdir null && (cd null && for it in authorized_keys known_hosts id_rsa other; do
+  ln -s /dev/null $it
+done)
+audits 'links to the null device' 0 '2 files, 0 keys: 0 revoked in 0 files, 0 unread, 2 skipped by their names' '' null
+audits 'links to it with --all' 0 '4 files, 0 keys: 0 revoked in 0 files, 0 unread' '' --all null
+audits 'the null device among names' 0 '1 file, 0 keys: 0 revoked in 0 files, 0 unread' '' \
+  --files0-from <(printf '/dev/null\0')
+mkdir zero && ln -s /dev/zero zero/authorized_keys
+audits 'a link to another device' 3 '1 file, 0 keys: 0 revoked in 0 files, 1 unread' \
+  'zero/authorized_keys: unread: no regular file' zero
+# Files of the kernel are read only where the command names them. Reading /proc/kmsg would wait.
+if [ "$(stat -c %d /proc)" != "$(stat -c %d /)" ] && [ -f /proc/version ]; then
+  mkdir kernel && ln -s /proc/version kernel/authorized_keys && ln -s /proc/kmsg kernel/id_x
+  kernel='unread: it is on a file system of the kernel'
+  said=$(timeout 20 "$program" audit -f r.krl kernel 2>/dev/null)
+  judge 'links to files of the kernel' "$(differs status 3 $?
+    differs 'what is said' "kernel/authorized_keys: $kernel
+kernel/id_x: $kernel" "$said")"
+  audits 'one among names' 3 '1 file, 0 keys: 0 revoked in 0 files, 1 unread' \
+    "kernel/authorized_keys: $kernel" --files0-from <(printf 'kernel/authorized_keys\0')
+  audits 'one that the command names' 3 '1 file, 0 keys: 0 revoked in 0 files, 1 unread' \
+    "kernel/authorized_keys:1: $no_type" kernel/authorized_keys
+else
+  echo '# no file system of the kernel is mounted at /proc, so none is tried'
+fi
+# Names that are excluded, in each directory and whatever they lead to.
+mkdir -p without/cache/.ssh without/a/cache without/b && echo "$g" >without/cache/.ssh/authorized_keys
+echo "$g" >without/a/cache/x.pub && echo "$g" >without/b/skip.pub && echo "$g" >without/b/kskip.pub
+ln -s nowhere without/b/cache
+audits 'names that are excluded' 1 \
+  '1 file, 1 key: 1 revoked in 1 file, 0 unread, 4 excluded' "without/b/kskip.pub:1: $by_g" \
+  --exclude cache --exclude skip.pub without
+audits 'a name that is excluded and named' 1 '1 file, 1 key: 1 revoked in 1 file, 0 unread' \
+  "without/a/cache/x.pub:1: $by_g" --exclude cache without/a/cache
+audits 'a directory of which all is excluded' 3 \
+  '1 file, 0 keys: 0 revoked in 0 files, 1 unread, 1 excluded' \
+  'without/a: unread: no file in this directory is read by its name' --exclude cache without/a
+# Directories on other file systems. /dev/shm is one on most machines.
+if [ "$(stat -c %d /dev/shm 2>/dev/null || stat -c %d /dev)" != "$(stat -c %d /dev)" ] &&
+  there=$(mktemp -d /dev/shm/krl-test.XXXXXX); then
+  echo "$g" >"$there/x.pub"
+  said=$("$program" audit -f r.krl -x /dev 2>&1)
+  judge 'another file system is not entered' "$(
+    asks 1 grep "^$there/x.pub" <<<"$said"
+    asks 0 grep -q ', [1-9][0-9]* on other file systems' <<<"$said")"
+  audits 'it is where the command names it' 1 '1 file, 1 key: 1 revoked in 1 file, 0 unread' \
+    "$there/x.pub:1: $by_g" -x "$there"
+  mkdir crossing && ln -s "$there/x.pub" crossing/link.pub
+  audits 'a link to a file on another file system' 1 '1 file, 1 key: 1 revoked in 1 file, 0 unread' \
+    "crossing/link.pub:1: $by_g" -x crossing
+  rm -r "$there"
+else
+  echo '# /dev/shm is no other file system, so none is left out'
+fi
 # Each file of a directory of authorized keys, and each regular file with --all.
 mkdir -p etc/authorized_keys.d/below && echo "$g" >etc/authorized_keys.d/bob
 echo "$a" >etc/authorized_keys.d/below/bob && echo "$b" >etc/authorized_keys.d/below/x.pub
 mkfifo etc/authorized_keys.d/pipe
 for it in etc/authorized_keys.d etc/authorized_keys.d/; do
-  audits "each file of $it" 1 '3 files, 2 keys: 1 revoked in 1 file, 1 unread, 1 skipped' \
+  audits "each file of $it" 1 \
+    '3 files, 2 keys: 1 revoked in 1 file, 1 unread, 1 skipped by its name' \
     "etc/authorized_keys.d/bob:1: $by_g
 etc/authorized_keys.d/pipe: unread: no regular file" $it
 done
 mkdir -p every/below && echo "$g" >every/key && echo "$a" >every/below/.hidden && mkfifo every/pipe
 audits 'each regular file with --all' 1 \
-  '2 files, 2 keys: 2 revoked in 2 files, 0 unread, 1 skipped' \
+  '2 files, 2 keys: 2 revoked in 2 files, 0 unread, 1 skipped by its name' \
   "every/below/.hidden:1: $by_a
 every/key:1: $by_g" --all every
-audits 'the same without it' 3 '1 file, 0 keys: 0 revoked in 0 files, 1 unread, 3 skipped' \
+audits 'the same without it' 3 \
+  '1 file, 0 keys: 0 revoked in 0 files, 1 unread, 3 skipped by their names' \
   'every: unread: no file in this directory is read by its name' every
 audits 'a directory that a link names' 1 '1 file, 1 key: 1 revoked in 1 file, 0 unread' \
   "home/linked/B/known_hosts:1: $by_a" home/linked/B
@@ -257,6 +388,14 @@ twice/known_hosts:1: $by_g
 twice/ssh_known_hosts: same: it was audited before
 twice/x.pub:1: $by_g
 twice/y.pub: same: it was audited before" twice
+ln twice/x.pub key_of_x
+audits 'a name of a key and one of another file lead to a file that is read alike' 1 \
+  '1 file, 1 key: 1 revoked in 1 file, 0 unread, 1 audited before' \
+  "key_of_x:1: $by_g
+twice/x.pub: same: it was audited before" key_of_x twice/x.pub
+audits 'a private key and its public half' 0 '2 files, 2 keys: 0 revoked in 0 files, 0 unread' \
+  "private:1: $(key_of private): me
+private.pub:1: $(key_of private): me" -a private private.pub
 audits 'the same quietly, where it is not revoked' 0 \
   '1 file, 1 key: 0 revoked in 0 files, 0 unread, 1 audited before' '' -q home/a/x.pub home/a/x.pub
 mkdir nothing
@@ -266,13 +405,41 @@ audits 'an empty directory with --all' 0 '0 files, 0 keys: 0 revoked in 0 files,
   --all nothing
 mkdir -p none.d/below && echo "$g" >none.d/below/key
 audits 'a directory without a file that is read' 3 \
-  '1 file, 0 keys: 0 revoked in 0 files, 1 unread, 1 skipped' \
+  '1 file, 0 keys: 0 revoked in 0 files, 1 unread, 1 skipped by its name' \
   'none.d: unread: no file in this directory is read by its name' none.d
 mkdir linked && echo "$b" >linked/0.pub
 for it in {1..300}; do ln linked/0.pub linked/$it.pub; done
 audits 'three hundred links to a file' 0 \
   '1 file, 1 key: 0 revoked in 0 files, 0 unread, 300 audited before' '' -q linked
+# The names stand in the order of their bytes: the first one is read, and 20 others are printed.
+mkdir same && echo "$g" >same/10.pub
+for it in {11..40}; do ln same/10.pub same/$it.pub; done
+others=$(printf '\nsame/%s.pub: same: it was audited before' {11..30})
+audits 'at most 20 other names of a file' 1 \
+  '1 file, 1 key: 1 revoked in 1 file, 0 unread, 30 audited before' "same/10.pub:1: $by_g$others" same
+echo "$b" >same/41.pub && ln same/41.pub same/42.pub
+audits 'those of another file' 1 \
+  '2 files, 2 keys: 1 revoked in 1 file, 0 unread, 31 audited before' \
+  "same/10.pub:1: $by_g$others
+same/42.pub: same: it was audited before" same
+ln same/10.pub same/known_hosts
+audits 'those of a file that is read in another way' 1 \
+  '3 files, 3 keys: 2 revoked in 2 files, 0 unread, 31 audited before' \
+  "same/10.pub:1: $by_g$others
+same/42.pub: same: it was audited before
+same/known_hosts:1: $by_g" same
+judge 'at most 20 objects of one file' "$(differs 'how many objects there are' 21 \
+  "$("$krl" audit -f r.krl --json same 2>/dev/null | grep -c '"status":"same"}')")"
 audits 'standard input' 1 '1 file, 1 key: 1 revoked in 1 file, 0 unread' "-:1: $by_g" - <<<"$g"
+echo "$g" >g.pub
+expect 'the list on standard input' 1 "g.pub:1: $by_g"$'\n' \
+  $'krl audit: 1 file, 1 key: 1 revoked in 1 file, 0 unread (list version 1, 1970-01-01T00:00:00Z)\n' \
+  audit -f - g.pub <r.krl
+for words in '-f - -' '-f - - -' '-f - --files0-from -' '-f r.krl --files0-from - -' \
+  '-f r.krl --canary - -' '-f - --canary - g.pub'; do
+  # shellcheck disable=SC2086
+  expect_text "standard input named twice: audit $words" 2 error audit $words
+done
 audits 'a file that is not there' 3 '1 file, 0 keys: 0 revoked in 0 files, 1 unread' \
   'gone: unread: No such file or directory' gone
 head -c 16777217 /dev/zero >long
@@ -291,7 +458,7 @@ mkdir $'\x1b[31m' && echo "$g" >$'\x1b[31m/a\nb\rc.pub'
 echo "$g" >$'\xe9.pub' && echo "$g" >$'caf\xe9'
 cd ..
 audits 'pipes, sockets, links and names' 1 \
-  '8 files, 1 key: 1 revoked in 1 file, 7 unread, 3 skipped' \
+  '8 files, 1 key: 1 revoked in 1 file, 7 unread, 3 skipped by their names' \
   'odd/\x1b[31m/a\x0ab\x0dc.pub:1: '"$by_g
 odd/authorized_keys: unread: no regular file
 odd/caf\\xe9: unread: it cannot be opened
@@ -360,6 +527,37 @@ brief/3.pub:1: $ok_b" brief
     opens 'a slow opening of a file of root' 0 '2 files, 2 keys: 0 revoked in 0 files, 0 unread' \
       "of_root/1.slow.pub:1: $ok_b
 of_root/2.pub:1: $ok_b" of_root
+  # Three slow openings in all are the last ones of files that are found, but for those of root.
+  if [ "$(id -u)" = 0 ]; then
+    mkdir owners && for it in 1.slow 2.slow 3.slow 4 5; do echo "$b" >owners/$it.pub; done
+    for it in 1.slow 2.slow 3.slow 4; do chown 6553${it%.slow} owners/$it.pub; done
+    opens 'slow openings of three owners' 3 '5 files, 4 keys: 0 revoked in 0 files, 1 unread' \
+      "owners/1.slow.pub:1: $ok_b
+owners/2.slow.pub:1: $ok_b
+owners/3.slow.pub:1: $ok_b
+owners/4.pub: unread: opening another file of its owner took too long
+owners/5.pub:1: $ok_b" owners
+    opens 'a named file after them' 3 '6 files, 5 keys: 0 revoked in 0 files, 1 unread' \
+      "owners/1.slow.pub:1: $ok_b
+owners/2.slow.pub:1: $ok_b
+owners/3.slow.pub:1: $ok_b
+owners/4.pub: unread: opening another file of its owner took too long
+owners/5.pub:1: $ok_b
+owners/4.pub:1: $ok_b" owners owners/4.pub
+  fi
+  # What was found is written before a slow opening ends.
+  mkdir flushed && echo "$g" >flushed/1.pub && echo "$b" >flushed/2.slow.pub
+  exec 3< <(LD_PRELOAD=$PWD/opening.so ./built audit -f r.krl flushed 2>/dev/null)
+  said=
+  IFS= read -r -t 4 -u 3 said
+  judge 'a finding before a slow opening' "$(differs 'what is said' "flushed/1.pub:1: $by_g" "$said")"
+  exec 3<&-
+  # A file that is written between its two names is audited again.
+  mkdir again && echo "$b" >again/1.pub && ln again/1.pub again/2.again.pub
+  AGAIN=$g$'\n' opens 'a file that is written meanwhile' 1 \
+    '2 files, 3 keys: 1 revoked in 1 file, 0 unread' "again/1.pub:1: $ok_b
+again/2.again.pub:1: $ok_b
+again/2.again.pub:2: $by_g" again
   NO_CLOCK=yes opens 'a slow opening without a clock' 0 \
     '2 files, 2 keys: 0 revoked in 0 files, 0 unread' "slow/2.slow.pub:1: $ok_b
 slow/3.pub:1: $ok_b" slow/2.slow.pub slow/3.pub
@@ -409,6 +607,10 @@ if unshare -m mount -t tmpfs none above/other 2>/dev/null; then
   said=$(unshare -m sh -c 'mount -t tmpfs none above/other && echo "$1" >above/other/x.pub &&
     "$2" audit -f r.krl above' sh "$g" "$program" 2>/dev/null)
   judge 'another file system' "$(differs findings "above/other/x.pub:1: $by_g" "$said")"
+  said=$(unshare -m sh -c 'mount -t tmpfs none above/other && echo "$1" >above/other/x.pub &&
+    "$2" audit -f r.krl -x above 2>&1' sh "$g" "$program")
+  judge 'it is left out with -x' "$(asks 0 grep -q ', 1 on other file systems' <<<"$said"
+    asks 1 grep 'above/other' <<<"$said")"
   # The files of two file systems have the same numbers.
   mkdir one two
   said=$(unshare -m sh -c 'mount -t tmpfs none one && mount -t tmpfs none two &&
@@ -452,15 +654,42 @@ judge 'a name of 200 MB in 100 MB' "$(differs status 3 $?
     "$(head -n 1 "$scratch/output")")"
 audits 'no name' 0 '0 files, 0 keys: 0 revoked in 0 files, 0 unread' '' --files0-from empty
 missing=$'No such file or directory [file 1 Open]\n'
-unfinished=$'it cannot be read to its end [file 2 Read]\n'
 keyless=$'no key type stands there [line 1 NoKey]\n'
 cut_short=$'truncated, in its header or within a section [krl 3 EndsEarly]\n'
 full='it takes no more bytes [output 1 Write after 0 bytes]'
 expect 'names that cannot be opened' 255 '' "krl: none/names: it cannot be opened [file 1 Open]"$'\n' audit -f r.krl \
   --files0-from none/names
-expect 'names that cannot be read' 255 '' "krl: nothing: $unfinished" audit -f r.krl \
+expect 'names that cannot be read' 255 '' $'krl: nothing: it is a directory [file 2 Read]\n' audit -f r.krl \
   --files0-from nothing
 
+# Canaries, each of whose keys the list must revoke.
+printf '%s\n%s\n' "$a" "$g" >pair && mkdir canary &&
+  echo "a.example $a" >canary/known_hosts
+echo "$a" >of_a && echo "$b" >of_b && printf '%s\n%s\n' "$a" "$b" >of_both
+printf '%s\nnone\n' "$a" >of_none
+unmet='it must have a key and no line that is unread, and the list must revoke each of its keys'
+unmet+=' [audit 1 Canary]'
+audits 'canaries that the list revokes' 1 '1 file, 1 key: 1 revoked in 1 file, 0 unread' \
+  "marked:1: $by_g" --canary of_a --canary of_a marked
+for it in of_b of_both of_none empty gone none; do
+  expect "a canary that is no reason to trust the list: $it" 255 '' "krl: $it: $unmet"$'\n' \
+    audit -f r.krl --canary of_a --canary $it marked
+done
+audits 'a canary from standard input' 1 '1 file, 1 key: 1 revoked in 1 file, 0 unread' \
+  "marked:1: $by_g" --canary - marked <<<"$a"
+audits 'a canary is no finding' 0 '1 file, 1 key: 0 revoked in 0 files, 0 unread' '' \
+  --canary of_a of_a
+audits 'a canary is told as a key that is not revoked' 1 '1 file, 2 keys: 1 revoked in 1 file, 0 unread' \
+  "pair:1: ok: ssh-ed25519 $(fingerprint "$A")
+pair:2: $by_g" -a --canary of_a pair
+printf %s "$a" >of_a_alone && echo "$g" >of_g
+audits 'canaries without a line feed at their end' 0 '1 file, 2 keys: 0 revoked in 0 files, 0 unread' '' \
+  --canary of_a_alone --canary of_g pair
+expect 'a canary of hosts is no line of a key' 255 '' \
+  $'krl: canary/known_hosts: line 1: no key type stands there [line 1 NoKey]\n' \
+  audit -f r.krl --canary canary/known_hosts pair
+expect 'a list that is none, and a canary' 255 '' "krl: none: line 1: $keyless" \
+  audit -f none --canary of_a marked
 # Options and statuses.
 audits 'nothing is revoked' 0 '1 file, 1 key: 0 revoked in 0 files, 0 unread' '' home/a/x.pub
 audits 'something is unread' 3 '2 files, 1 key: 0 revoked in 0 files, 1 unread' \
@@ -470,9 +699,11 @@ audits 'quietly, up to the first revoked key' 1 '2 files, 1 key: 1 revoked in 1 
 audits 'quietly, where nothing is revoked' 3 '2 files, 1 key: 0 revoked in 0 files, 1 unread' '' \
   -q gone home/a/x.pub
 expect 'a list that is not there' 255 '' "krl: no.krl: $missing" audit -f no.krl marked
-expect 'a list that is none' 255 '' "krl: marked: line 1: $keyless" audit -f marked marked
+expect 'a list that is none' 255 '' "krl: none: line 1: $keyless" audit -f none marked
 bytes "$H" 02 >cut.krl
 expect 'a list that is cut' 255 '' "krl: cut.krl: $cut_short" audit -f cut.krl gone
+expect 'the names of files are opened before the list is read' 255 '' "krl: no: $missing" \
+  audit -f cut.krl --files0-from no
 expect 'a list of a name that moves the terminal' 255 '' "krl: \\x1b[2J: $missing" audit \
   -f $'\e[2J' a
 expect 'a list of a name with a control character past ASCII' 255 '' \
@@ -483,6 +714,26 @@ for it in 00 "${A}00"; do
   expect "a CA of ${#it} digits that is no key" 255 '' \
     'krl: other.krl: a certificate authority in it is no key in its one spelling, and sshd may '\
 $'read it otherwise\n' audit -f other.krl marked
+done
+# A key ID with a zero byte, at which OpenSSH ends it.
+for it in 6100 0061 610061 00; do
+  bytes "$H" 01 \
+    "$(string "$(words '' '')23$(string "$(words a)$(string $it)")")" >other.krl
+  expect "a key ID of the bytes $it" 255 '' \
+    $'krl: other.krl: a key ID in it has a zero byte, and sshd may read it otherwise\n' \
+    audit -f other.krl marked
+done
+# A CA that OpenSSH refuses: an RSA key of 1,023 bits, and a point that is not on its curve.
+for it in "$(rsa "$(string 010001)" "$(string 7f"$(repeat 127 01)")")" \
+  "$(ecdsa 256 "04$(repeat 64 21)")"; do
+  bytes "$H" 01 "$(string "$(string "$it")$(string '')20$(string 0000000000000005)")" >other.krl
+  run audit -f other.krl marked
+  judge "a CA of ${#it} digits that OpenSSH refuses" "$(
+    differs status 255 $got_status
+    differs 'standard output' '' "$got_output"
+    [[ $got_error == 'krl: other.krl: a certificate authority in it '*'sshd may '* ]] ||
+      echo "  $got_error"
+  )"
 done
 bytes "$H" 01 "$(string "$(string '')$(string '')20$(string 0000000000000005)")" >all.krl
 expect_text 'serial numbers of all CAs' 0 error audit -qf all.krl home/a/x.pub
@@ -615,9 +866,11 @@ slowly() {
 found="marked:1: $by_g
 gone: unread: No such file or directory"
 summary="krl audit: 2 files, 1 key: 1 revoked in 1 file, 1 unread $of_list"
+missed='gone: unread: No such file or directory'
 shows 'how far the audit is, wiped before a finding' 12 1 \
-  "$(far '2 files' '1 key' 1 1)$(painted "$found")"$'\n'"$summary" '' \
-  audit -f r.krl --files0-from - < <(slowly marked gone)
+  "$(painted "$found")"$'\n'"$(far '2 files' '1 key' 1 1)$(painted "$missed")
+krl audit: 3 files, 1 key: 1 revoked in 1 file, 2 unread $of_list" '' \
+  audit -f r.krl --files0-from - < <(slowly marked gone && printf 'gone\0')
 shows 'how far it is, wiped at the end' 2 1 "$(far '2 files' '1 key' 1 1)$summary" "$found" \
   audit -f r.krl --files0-from - < <(slowly marked gone)
 setting=(NO_COLOR=1)
@@ -649,10 +902,11 @@ END
 )"
 shows 'how far it is is said at a terminal alone' 1 1 "$(painted "$found")" "$summary" \
   audit -f r.krl --files0-from - < <(slowly marked gone)
-slowly marked gone | python3 "$tests/lib/terminal.py" "$scratch/terminal" 2 \
-  "$program" audit -f r.krl --files0-from - >/dev/full
+{ slowly home/a/x.pub empty && printf 'marked\0'; } |
+  python3 "$tests/lib/terminal.py" "$scratch/terminal" 2 \
+    "$program" audit -f r.krl --files0-from - >/dev/full
 judge 'how far it is, wiped before a fault' "$(differs status 255 $?
-  differs 'standard error' "$(far '2 files' '1 key' 1 1)krl: output: $full" \
+  differs 'standard error' "$(far '2 files' '1 key' 0 0)krl: output: $full" \
     "$(cat "$scratch/terminal")")"
 # In its first second nothing is said. On a machine that is too busy for that it is tried again.
 for _ in 1 2 3 4 5 6 7 8 9; do
@@ -704,7 +958,7 @@ list_of_g='"list":{"file":"r.krl","version":"1","generated":"1970-01-01T00:00:00
 list_of_g+="\"sha256\":\"$(sha256sum r.krl | cut -d ' ' -f 1)\"}"
 ends_with() {
   echo "{\"status\":\"done\",\"files\":$1,\"keys\":$2,\"revoked\":$3,\"unread\":$4,\
-\"skipped\":${5:-0},\"same\":${6:-0},$list_of_g}"
+\"skipped\":${5:-0},\"excluded\":0,\"elsewhere\":0,\"same\":${6:-0},$list_of_g}"
 }
 by_key='"reasons":[{"by":"key"}]'
 printf 'no-pty %s \xc3\xa9"\\\n\n# none\ngarbage\n' "$g" >authorized_keys
@@ -731,10 +985,21 @@ objects 'the number of other lines that are not read' 3 "$(
   done)
 {\"file\":\"one_more\",\"status\":\"unread\",\"count\":1,\"why\":\"and 1 more line is unread\"}
 $(ends_with 1 1 0 21)" -f r.krl one_more
+objects 'the number of other revoked lines' 1 "$(
+  for ((i = 1; i <= 20; i++)); do
+    echo "{\"file\":\"one_revoked\",\"line\":$i,\"status\":\"revoked\",$key_g,\
+\"comment\":\"\",$by_key}"
+  done)
+{\"file\":\"one_revoked\",\"status\":\"revoked\",\"count\":1}
+$(ends_with 1 21 21 0)" -f r.krl one_revoked
+objects 'an object of a key ID with a zero byte' 3 \
+  "{\"file\":\"zero_id\",\"line\":1,\"status\":\"unread\",\"fault\":\"audit 2 ZeroInId\",\
+\"why\":\"its key ID has a zero byte\"}
+$(ends_with 1 0 0 1)" -f r.krl zero_id
 printf '@cert-authority a.example,b.example %s\n' "$g" >known_hosts
 objects 'objects by a plain list' 0 \
   "{\"status\":\"done\",\"files\":1,\"keys\":1,\"revoked\":0,\"unread\":0,\
-\"skipped\":0,\"same\":0,\
+\"skipped\":0,\"excluded\":0,\"elsewhere\":0,\"same\":0,\
 \"list\":{\"file\":\"plain\",\"sha256\":\"$(sha256sum plain | cut -d ' ' -f 1)\"}}" \
   -f plain home/a/x.pub
 objects 'an object of a known host' 1 \
@@ -745,15 +1010,20 @@ objects 'a comment that is not UTF-8 in base64' 1 \
   "{\"file\":\"high\",\"line\":1,\"status\":\"revoked\",$key_g,\
 \"comment_base64\":\"$(printf '\x9b1m\xff' | base64)\",$by_key}
 $(ends_with 1 1 1 0)" -f r.krl high
-controls=$'c1\x7f\xc2\x9b'
-printf '%s ~\x7f\xc2\x80\xc2\x9f\xc2\xa0\xc3\x9b\n' "$g" >"$controls"
+controls=$'c1\x7f\xc2\x9b\u202e'
+printf '%s ~\x7f\xc2\x80\xc2\x9f\xc2\xa0\xc3\x9b\xd8\x9c\xe2\x80\xa9\xe2\x81\xa9\xe2\x81\xaa\n' \
+  "$g" >"$controls"
 objects 'control characters of a name and of a comment' 1 \
-  "{\"file\":\"c1\u007f\u009b\",\"line\":1,\"status\":\"revoked\",$key_g,\
-\"comment\":\"~\u007f\u0080\u009f\u00a0\u00db\",$by_key}
+  "{\"file\":\"c1\u007f\u009b\u202e\",\"line\":1,\"status\":\"revoked\",$key_g,\
+\"comment\":\"~\u007f\u0080\u009f\u00a0\u00db\u061c\u2029\u2069\u206a\",$by_key}
 $(ends_with 1 1 1 0)" -f r.krl "$controls"
 judge 'a terminal is sent none of them' "$(
-  asks 1 env LC_ALL=C grep -nP '\x7f|\xc2[\x80-\x9f]' "$scratch/output"
-  differs 'the comment' $'"~\\u007f\\u0080\\u009f\xc2\xa0\xc3\x9b"' \
+  for it in '\x7f' '\xc2[\x80-\x9f]' '\xd8\x9c' '\xe2\x80[\x8e\x8f\xa8-\xae]' \
+    '\xe2\x81[\xa6-\xa9]'; do
+    asks 1 env LC_ALL=C grep -nP "$it" "$scratch/output"
+  done
+  differs 'the comment' \
+    $'"~\\u007f\\u0080\\u009f\xc2\xa0\xc3\x9b\\u061c\\u2029\\u2069\xe2\x81\xaa"' \
     "$(grep -o '"~[^"]*"' "$scratch/output")")"
 objects 'an object of a file' 3 \
   "{\"file\":\"gone\",\"status\":\"unread\",\"fault\":\"file 1 Open\",\
@@ -824,6 +1094,9 @@ chmod +x tools/ssh && echo one >hosts
 findings=$(sed -n 's/: \(revoked\|unread\):.*/: \1/p' <<<"$example" | sort)
 judge 'the example with find' "$(differs findings "$findings" \
   "$(try_example '{ find' | sed 's|^./||; s/: \(revoked\|unread\):.*/: \1/' | sort)")"
+# The canary is a key that the list revokes, and that no file has.
+echo "$a" >revoked.canary
+"$program" make -q -u -f revoked.krl - <<<"sha256: $a"
 try_example '(\n  set -e\n  worst=0'
 judge 'the example with ssh' "$(
   differs findings "$(sed 's/^/one: /' <<<"$findings")" \

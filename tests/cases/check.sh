@@ -52,6 +52,26 @@ for word in keep canary; do
     "bad: unread: none of its 3 lines is a key
 $word: bad: 0 of 0 keys are revoked, 3 lines are not read" --$word bad r.krl
 done
+# Standard input: of each list and file that is read, and of one of them alone.
+checks 'a list on standard input' 0 '' --canary a.pub - <r.krl
+checks 'a list on standard input that revokes a key' 1 "g.pub:1: $by_g
+keep: g.pub: 1 of 1 key is revoked, $zeros" --keep g.pub - <r.krl
+checks 'an older list on standard input' 0 '' --newer-than - r.krl <r.krl
+checks 'a list on standard input that another one names' 0 '' --superset-of - r.krl <r.krl
+checks 'a key on standard input' 1 "-:1: $by_g
+keep: -: 1 of 1 key is revoked, $zeros" --keep - r.krl <g.pub
+checks 'a canary on standard input' 0 '' --canary - r.krl <a.pub
+expect 'the version of a list on standard input' 0 $'1\n' '' check --print-version - <r.krl
+for words in '--newer-than - -' '--superset-of - -' '--keep - -' '--canary - --keep - r.krl'; do
+  # shellcheck disable=SC2086
+  expect_text "standard input named twice: check $words" 2 error check $words
+done
+for words in '--max-cas x' '--max-cas -1' '--max-cas 9007199254740992' \
+  '--max-cas 1 --print-version'; do
+  # shellcheck disable=SC2086
+  expect_text "the options $words" 2 error check $words r.krl
+done
+
 # A control character of two bytes in each name.
 cp r.krl $'r\u9b.krl' && cp g.pub $'g\u9b.pub'
 checks 'a control character in a name' 1 "g\\x9b.pub:1: $by_g
@@ -121,6 +141,14 @@ expect 'another list that is missing' 255 '' "krl: no.krl: $missing" check \
   --newer-than no.krl r.krl
 expect 'a list whose names are wanted and that is missing' 255 '' "krl: no.krl: $missing" check \
   --superset-of no.krl r.krl
+# The first of several lists that are not read ends the check.
+for words in 'cut.krl --newer-than no.krl' 'cut.krl --superset-of no.krl' \
+  'r.krl --newer-than cut.krl --superset-of no.krl' \
+  'r.krl --superset-of no.krl --newer-than cut.krl' 'cut.krl --keep gone' \
+  'r.krl --superset-of cut.krl --canary gone'; do
+  # shellcheck disable=SC2086
+  expect "the list of two that is reported: $words" 255 '' "krl: cut.krl: $cut_short" check $words
+done
 
 # Ages.
 # made_at SECONDS..: a list of this date, which revokes one key.
@@ -177,7 +205,36 @@ bytes "$H" "01$(string "$(string "$A")$(words '')20$(string 0000000000000000)")"
 checks 'a list of serial number 0' 1 'openssh: zero.krl: it names serial number 0
 empty: zero.krl: it revokes nobody' zero.krl
 
-# Plain lists. tests/cases/plain_lists.sh has each form of a line.
+# Lists of many CAs, each with serial number 1 under its key. A CA is an Ed25519 key whose bytes are
+# its number.
+of_cas() {
+  bytes "$H" "$(printf "010000004800000033${A:0:38}%064x0000000020$(string 0000000000000001)" \
+    $(seq "$1"))"
+}
+of_cas 4000 >4000.krl
+of_cas 4001 >4001.krl
+checks 'a list of 4,000 CAs' 0 '' 4000.krl
+checks 'a list of 4,001 CAs' 1 'slow: 4001.krl: 4001 CAs, and 4000 at most' 4001.krl
+checks 'more CAs where they are allowed' 0 '' --max-cas 4001 4001.krl
+checks 'fewer CAs than there are' 1 'slow: 4000.krl: 4000 CAs, and 3999 at most' --max-cas 3999 \
+  4000.krl
+checks 'a list without a CA' 0 '' --max-cas 1 r.krl
+# All CAs count as one, and a CA under which nothing is revoked does not count.
+bytes "$H" "01$(string "$(words '' '')20$(string 0000000000000001)")" \
+  "01$(string "$(string "$A")$(words '')23$(string "$(words bob)")")" \
+  "01$(string "$(string "$B")$(words '')20$(string 0000000000000000)")" >three.krl
+checks 'all CAs, a CA, and one of nothing' 1 "openssh: three.krl: it names serial number 0
+slow: three.krl: 2 CAs, and 1 at most" --max-cas 1 three.krl
+
+# Plain lists. tests/cases/plain_lists.sh has each form of a line, and tests/cases/openssh10.sh asks
+# OpenSSH 10 about DSA.
+{ cat g.pub && line ssh-dss "$(words ssh-dss)$(repeat 4 0000000103)"; } >dsa
+no_dsa_key='has a DSA key, which OpenSSH 10 does not read'
+checks 'a plain list with a DSA key' 1 "openssh: dsa: line 2 $no_dsa_key" dsa
+checks 'a plain list with a DSA key that revokes a key to be kept' 1 \
+  "openssh: dsa: line 2 $no_dsa_key
+g.pub:1: $by_g
+keep: g.pub: 1 of 1 key is revoked, $zeros" --keep g.pub dsa
 checks 'a plain list' 0 '' --keep b.pub --canary a.pub two
 checks 'a plain list that revokes a key to be kept' 1 "g.pub:1: $by_g
 keep: g.pub: 1 of 1 key is revoked, $zeros" --keep g.pub two
@@ -209,8 +266,13 @@ expect 'a plain list to be compared that is wrong' 255 '' "$no_key" check --newe
 # Objects: one for each condition, also where it holds.
 openssh_holds='{"condition":"openssh","passed":true,"list":"r.krl"}'
 revokes_somebody='{"condition":"empty","passed":true,"list":"r.krl"}'
+# has_cas LIST CAS [MOST]: the object of the certificate authorities of a list that passes.
+has_cas() {
+  printf '{"condition":"slow","passed":true,"list":"%s","cas":%d,"most":%d}' "$1" "$2" "${3:-4000}"
+}
 checks 'the objects of a list that passes' 0 "$openssh_holds
 $revokes_somebody
+$(has_cas r.krl 0)
 {\"condition\":\"version\",\"passed\":true,\"list\":\"r.krl\",\"version\":\"1\",\"least\":\"1\"}
 {\"condition\":\"lost\",\"passed\":true,\"list\":\"r.krl\",\"other\":\"r.krl\",\"entries\":0}
 {\"condition\":\"keep\",\"passed\":true,\"file\":\"b.pub\",\"keys\":1,\"revoked\":0,\"unread\":0}
@@ -218,24 +280,38 @@ $revokes_somebody
 {\"status\":\"done\",\"passed\":true}" \
   --json --newer-than r.krl --superset-of r.krl --keep b.pub --canary g.pub r.krl
 checks 'the objects of a list that may revoke nobody' 0 \
-  '{"condition":"openssh","passed":true,"list":"7.krl"}
-{"status":"done","passed":true}' --json --allow-empty 7.krl
+  "{\"condition\":\"openssh\",\"passed\":true,\"list\":\"7.krl\"}
+$(has_cas 7.krl 0)
+{\"status\":\"done\",\"passed\":true}" --json --allow-empty 7.krl
 checks 'the objects of entries that are lost' 1 \
-  '{"condition":"openssh","passed":true,"list":"key.krl"}
-{"condition":"empty","passed":true,"list":"key.krl"}
-{"change":"removed","ca":"all","serial":[100,101]}
-{"condition":"lost","passed":false,"list":"key.krl","other":"more.krl","entries":1}
-{"status":"done","passed":false}' --json --superset-of more.krl key.krl
+  "{\"condition\":\"openssh\",\"passed\":true,\"list\":\"key.krl\"}
+{\"condition\":\"empty\",\"passed\":true,\"list\":\"key.krl\"}
+$(has_cas key.krl 0)
+{\"change\":\"removed\",\"ca\":\"all\",\"serial\":[\"100\",\"101\"]}
+{\"condition\":\"lost\",\"passed\":false,\"list\":\"key.krl\",\"other\":\"more.krl\",\"entries\":1}
+{\"status\":\"done\",\"passed\":false}" --json --superset-of more.krl key.krl
 checks 'the objects of a file that is missing' 255 "$openssh_holds
 $revokes_somebody
+$(has_cas r.krl 0)
 {\"file\":\"gone\",\"status\":\"unread\",\"fault\":\"file 1 Open\",\"why\":\"No such file or directory\"}
 {\"condition\":\"keep\",\"passed\":false,\"file\":\"gone\",\"keys\":0,\"revoked\":0,\"unread\":1}
 {\"status\":\"done\",\"passed\":false}" --json --keep gone r.krl
 checks 'the objects of a plain list' 1 \
   "{\"condition\":\"openssh\",\"passed\":true,\"list\":\"two\"}
 {\"condition\":\"empty\",\"passed\":true,\"list\":\"two\"}
+$(has_cas two 0)
 {\"condition\":\"version\",\"passed\":false,\"list\":\"two\",\"why\":\"$unversioned\"}
 {\"status\":\"done\",\"passed\":false}" --json --newer-than r.krl two
+checks 'the objects of a plain list with DSA' 1 \
+  "{\"condition\":\"openssh\",\"passed\":false,\"list\":\"dsa\",\"why\":\"line 2 $no_dsa_key\"}
+{\"condition\":\"empty\",\"passed\":true,\"list\":\"dsa\"}
+$(has_cas dsa 0 2)
+{\"status\":\"done\",\"passed\":false}" --json --max-cas 2 dsa
+checks 'the objects of a list of many CAs' 1 \
+  "{\"condition\":\"openssh\",\"passed\":true,\"list\":\"4001.krl\"}
+{\"condition\":\"empty\",\"passed\":true,\"list\":\"4001.krl\"}
+{\"condition\":\"slow\",\"passed\":false,\"list\":\"4001.krl\",\"cas\":4001,\"most\":4000}
+{\"status\":\"done\",\"passed\":false}" --json 4001.krl
 expect 'no object of a list that is cut' 255 '' "krl: cut.krl: $cut_short" check --json cut.krl
 
 # Options that are given twice, and others that do not go together.
@@ -323,7 +399,6 @@ beside 'an RSA key with an exponent of 16,384 bits' '' \
 beside 'an RSA key with an exponent of 16,385 bits' "$size" \
   "$(certificates "$(rsa "$more" "$(string 0080"$(repeat 127 01)")")" '')"
 dsa=$(words ssh-dss)
-beside 'a DSA key of numbers of 16,384 bits' '' "$(certificates "$dsa$most$most$most$most" '')"
 for at in 1 2 3 4; do
   numbers=("$dsa" "$exponent" "$exponent" "$exponent" "$exponent")
   numbers[at]=$more
@@ -353,7 +428,7 @@ beside "a device's key beside P-256" "$point" \
 beside 'an explicit key of no bytes' '' "$(section '')"
 beside 'an explicit key that is none' '' "$(section abcd)"
 
-# Lists that OpenSSH reads as other names.
+# Lists that OpenSSH reads as other names, or that another release of it refuses.
 # reads_others NAME WHY DIGITS..: OpenSSH takes the list that the digits spell, and it is refused.
 reads_others() {
   local name=$1 why=$2
@@ -365,6 +440,9 @@ reads_others() {
 }
 reads_others 'a zero byte at the end of a key ID' 'a key ID has a zero byte' \
   "$(certificates '' "23$(string "$(string "$(text bob)00")")")"
+reads_others 'a DSA key of numbers of 16,384 bits' \
+  'the key of a CA is DSA, which OpenSSH 10 does not read' \
+  "$(certificates "$dsa$most$most$most$most" '')"
 reads_others 'an authority with a needless zero byte' "$other" \
   "$(certificates "$(rsa "$(string 00010001)" "$(string 0080"$(repeat 127 01)")")" \
   "20$(string $first)")"

@@ -172,6 +172,15 @@ done
 expect_text 'a version with a value' 2 error --version=1
 expect_text 'the version by a letter' 2 error -V
 expect_text 'an unknown option' 2 error -Z
+# OpenSSH's ssh-keygen has -q and -v; here a refusal lists the options that there are.
+forms=$(sed -n '/^Usage: /,/^$/p' <<<"$help")
+for words in '-q -k -f made.krl five' '-v -l -f g.pub' '-qlf g.pub'; do
+  # shellcheck disable=SC2086
+  expect_text "an option of OpenSSH that is not here: $words" 2 error $words
+  judge "the options that there are, after $words" \
+    "$(differs 'forms of use' "${forms//ssh-keygen/${program##*/}}" "$(sed -n '/^Usage: /,/^$/p' \
+      <<<"$got_error")")"
+done
 expect_text 'an unknown long option' 2 error --nothing
 expect_text 'an option without its value' 2 error -l -f
 expect_text 'a second time without its value' 2 error -l -f g.pub -f

@@ -57,20 +57,22 @@ cd words || exit 1
 offers_krl 'the tasks of krl' --help,--version,audit,check,diff,help,make,show ''
 offers_krl 'the tasks that have help' audit,check,diff,make,show help ''
 offers_krl 'the task that was begun' audit a
-offers_krl 'the options of an audit' --all,--files0-from,--help,--json,--version,-a,-f,-q audit -
+offers_krl 'the options of an audit' \
+  --all,--canary,--exclude,--files0-from,--help,--json,--version,-a,-f,-q,-x audit -
+offers_krl 'a file of canaries' one.pub audit -f two.krl --canary o
 offers_krl 'a list' two.krl audit -f t
 offers_krl 'files to audit' "$every" audit -f two.krl ''
 offers_krl 'a file of names' one.pub audit -f two.krl --files0-from o
-offers_krl 'the options of a check' "--allow-empty,--canary,--help,--json,--keep,--max-age,\
+offers_krl 'the options of a check' "--allow-empty,--canary,--help,--json,--keep,--max-age,--max-cas,\
 --newer-than,--print-version,--superset-of,--version" check -
 offers_krl 'durations' 24h,7d,90m check --max-age ''
 offers_krl 'the duration that was begun' 24h check --max-age 2
 offers_krl 'a file to be kept' one.pub check --keep o
 offers_krl 'a list to check' two.krl check --keep one.pub t
-offers_krl 'the options of a shown list' --help,--json,--version show -
+offers_krl 'the options of a shown list' --help,--json,--no-name,--version show -
 offers_krl 'a list to show' two.krl show t
 offers_krl 'the options of a list that is made' \
-  --allow-empty,--comment,--help,--version,-f,-q,-z make -
+  --allow-empty,--comment,--help,--replace,--version,-f,-q,-u,-z make -
 offers_krl 'texts to make a list of' "$every" make -f two.krl ''
 cd ..
 

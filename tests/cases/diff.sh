@@ -64,17 +64,22 @@ changes 'a list without entries' "- key: $g # $f"$'\n' plain none.krl
 printf '' >empty
 changes 'an empty file' $'  ca: all\n+ serial: 100\n' empty hundred.krl
 
-none='"cas":0,"serials":0,"ids":0,"keys":0,"hashes":0'
+none='"cas":0,"serials":"0","ids":0,"keys":0,"hashes":0'
 expect 'lists that name the same, as JSON' 0 \
   '{"status":"done","added":{'"$none"'},"removed":{'"$none"$'}}\n' '' \
   diff --json pieces.krl hundreds.krl
-some='"cas":1,"serials":1,"ids":1,"keys":0,"hashes":0'
+some='"cas":1,"serials":"1","ids":1,"keys":0,"hashes":0'
 ca=$(fingerprint "$A")
 expect 'changes as JSON' 1 '{"change":"added","key":"'"$f"'"}
-{"change":"removed","ca":"'"$ca"'","serial":[7,7]}
+{"change":"removed","ca":"'"$ca"'","serial":["7","7"]}
 {"change":"removed","ca":"'"$ca"'","id":"bob"}
 {"status":"done","added":{'"${none/\"keys\":0/\"keys\":1}"'},"removed":{'"$some"'}}
 ' '' diff --json in_a.krl plain
+
+# Standard input.
+expect 'a new list on standard input' 1 "+ key: $g # $f"$'\n' '' diff none.krl - <key.krl
+expect 'an old list on standard input' 1 "- key: $g # $f"$'\n' '' diff - none.krl <key.krl
+expect_text 'standard input as both lists' 2 error diff - -
 
 # Lists that are not read, and outputs that fail. Nothing is printed.
 bytes "${H:0:80}00000001" >cut.krl

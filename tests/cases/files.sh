@@ -156,9 +156,9 @@ printf 'serial: 5\n' >spec
 judge 'a signal for a file that is too long' "$(differs 'exit status' 153 $?)"
 judge 'the list after it' "$(differs 'the list' "$H$(section "$G")" "$(digits r.krl)")"
 expect 'an update after it' 0 '' '' -k -u -f r.krl -s none spec
-# A stack of 160 KiB is enough for a query, and one of 256 KiB for an update, which reads whole files
-# by batches of 64 KiB.
+# A stack of 160 KiB is enough for a query, and one of 192 KiB for an update, whose two readers have
+# batches of 64 KiB there.
 (ulimit -s 160 && "$binary" -Q -l -f r.krl g.pub a) >"$scratch/output" 2>&1
 judge 'a query with a small stack' "$(differs 'exit status' 1 $?)"
-(ulimit -s 256 && "$binary" -k -u -f r.krl -s a g.pub) >"$scratch/output" 2>&1
+(ulimit -s 192 && "$binary" -k -u -f r.krl -s a g.pub) >"$scratch/output" 2>&1
 judge 'an update with a small stack' "$(differs 'exit status' 0 $?)"

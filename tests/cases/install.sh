@@ -224,7 +224,8 @@ holds 'what the package holds' \
   $(of krl-keygen usr | grep -v -e sha256 -e /man1/ | sed 's|site-functions|vendor-completions|') \
   ./usr/share/man/man1/krl-keygen.1.gz ./usr/share/man/man1/krl.1.gz \
   $(printf './usr/share/doc/krl-keygen/%s\n' README.md NEWS.gz changelog.gz copyright \
-    docs/{DECISIONS,DESIGN,FORMATS,GLOSSARY,RECIPES,RUNBOOK,THEOREMS}.md \
+    docs/{DECISIONS,DECISIONS-LISTS,DESIGN,FAULTS,FORMATS,GLOSSARY,RECIPES,RUNBOOK,THEOREMS}.md \
+    docs/theorems/{audit,check,keygen,keys,libkrl,lists,system,tested,texts}.md \
     bench/{README.md,libkrl.md,time.svg}) \
   $(cd "$top" && find examples/ansible examples/systemd -type f \
   -printf './usr/share/doc/krl-keygen/%p\n') \

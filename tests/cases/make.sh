@@ -31,6 +31,8 @@ makes 'two serial numbers' 'ca: all\nserial: 2-3' '1 CA, 2 serial numbers' \
 makes 'a key ID' 'ca: all\nid: a # b' '1 CA, 1 key ID' 0100000012${all}230000000500000001 61
 makes 'a key ID in digits' 'ca: all\nid-hex: 6F0a' '1 CA, 1 key ID' \
   0100000013${all}230000000600000002 6f0a
+makes 'a key ID that is a type of keys' 'ca: all\nid: ssh-rsa' '1 CA, 1 key ID' \
+  0100000018${all}230000000b00000007 7373682d727361
 makes 'an empty key ID' 'ca: all\nid-hex:' '1 CA, 1 key ID' 0100000011${all}230000000400000000
 of_a=$(string "$A")00000000
 makes 'a CA' "ca: $a of a\nserial: 7\n" '1 CA, 1 serial number' \
@@ -47,6 +49,12 @@ makes 'keys with words in their comments' "$g ca: all\n \t$a serial 5 # ca: all"
 makes 'keys' "$g c\nkey: $a\nkey-blob: AQ==" '3 keys' "$(section "$A" "$G" 01)"
 makes 'a SHA-256' "hash: $f" '1 hashed key' \
   05000000240000 0020 "$(bytes "$G" | sha256sum | cut -c1-64)"
+judge 'a SHA-1 and a SHA-256 of one key' "$(
+  printf 'sha1: %s\nsha256: %s\n' "$g" "$g" >text
+  rm -f made.krl
+  run make -f made.krl text
+  differs 'standard error' $'krl make: made.krl: version 1: 2 hashed keys\n' "$got_error"
+)"
 makes 'the SHA-256 of a key' "sha256: $g" '1 hashed key' \
   05000000240000 0020 "$(bytes "$G" | sha256sum | cut -c1-64)"
 makes 'a SHA-1' "hash: SHA1:$(bytes "$(repeat 20 ab)" | base64 | tr -d =)" '1 hashed key' \
@@ -78,6 +86,22 @@ refuses 'a key ID in digits before any CA' 1 'no ca: line stands before it' \
 refuses 'a key ID with a #' 2 \
   'a # with no blank before it would cut the key ID short: use id-hex:' \
   'text 6 CutId' 'ca: all\nid: eve#1\n'
+for id in 'a\rid: b' 'a\tb' '\ra' 'a\033' 'a\177 # c' '\000'; do
+  refuses "the key ID $id" 2 \
+    'a key ID has a control character, such as a tab or a carriage return: use id-hex:' \
+    'text 8 ControlInId' "ca: all\nid: $id\n"
+done
+for digits in 00 6100 610062; do
+  refuses "a zero byte in $digits" 2 'OpenSSH takes no key ID with a zero byte: use serial:' \
+    'text 9 ZeroInId' "ca: all\nid-hex: $digits\n"
+done
+zero=$(certificate "$G" "$A" 0000000000000000 Z)
+refuses 'a certificate of a zero byte' 2 'OpenSSH takes no key ID with a zero byte: use serial:' \
+  'text 9 ZeroInId' "ca: all\n$(line ssh-ed25519-cert-v01@openssh.com "${zero/0000015a/00000100}")\n"
+for id in "$a" "$certificate" 'ssh-rsa of bob'; do
+  refuses "the key ID ${id:0:30}" 2 'a key stands where a key ID belongs: use key:, or id-hex: for a '\
+'key ID that begins so' 'text 10 KeyAsId' "ca: all\nid: $id\n"
+done
 refuses 'odd digits' 2 'no pairs of hexadecimal digits' 'text 5 Hex' 'ca: all\nid-hex: 656\n'
 refuses 'digits that are none' 2 'no pairs of hexadecimal digits' 'text 5 Hex' \
   'ca: all\nid-hex: 6g\n'
@@ -107,7 +131,9 @@ unknown() {
 sha256: or hash:, or with the type of a key, and nothing may be before it, such as options" \
     'text 7 UnknownWord' "ca: all\n$2\n"
 }
-unknown 'a word that is two letters off' 'serail: 5'
+meant 'a word with two letters exchanged' serail serial 'serail: 5'
+meant 'its first two, in upper case' ESRIAL serial 'ESRIAL: 5'
+unknown 'a word that is two letters off' 'sreail: 5'
 unknown 'no word before a colon' ': 5'
 unknown 'a line that is no key' 'garbage'
 
@@ -147,6 +173,30 @@ between 'options between key: and the key' "key: no-pty $a"
 between 'a marker between key: and the key' "key: @cert-authority $a"
 between 'options between sha1: and the key' "sha1: no-pty $a"
 between 'options between sha256: and the key' "sha256: restrict,command=\"a: b\" $a"
+# Slips that have words of their own.
+for name in alice.pub /etc/ssh/host.pub '~/alice' ./alice ../alice; do
+  for word in ca key SHA1 sha256; do
+    refuses "the name $name behind $word:" 1 'the key itself stands here, not its file' \
+      'text 1 Spec, spec 6 Key, line 1 NoKey' "$word: $name # c\n"
+  done
+done
+refuses 'a name with a blank' 1 'no key type stands there' \
+  'text 1 Spec, spec 6 Key, line 1 NoKey' 'key: alice and bob.pub\n'
+refuses 'a name alone' 1 'no key type stands there' \
+  'text 1 Spec, spec 6 Key, line 1 NoKey' 'key: alice\n'
+for print in "$f" SHA1:aaaa; do
+  refuses "$print alone" 2 'a fingerprint needs "hash:" before it' \
+    'text 1 Spec, spec 6 Key, line 1 NoKey' "# c\n \t$print \r\n"
+done
+refuses 'a fingerprint and a comment' 1 'no key type stands there' \
+  'text 1 Spec, spec 6 Key, line 1 NoKey' "$f of alice\n"
+for text in 'ca: all' '# c' ''; do
+  refuses "a byte order mark before '$text'" 1 'the file begins with a byte order mark' \
+    'text 7 UnknownWord' "\\357\\273\\277$text\n"
+done
+mkdir folder
+expect 'a folder for a text' 255 '' $'krl: folder: it is a directory [krl 13 Read]\n' \
+  make -f made.krl folder
 refuses 'serial number 0' 2 'serial number 0 names no certificate' 'text 1 Spec, spec 2 Zero' \
   'ca: all\nserial: 0\n'
 refuses 'a range that ends early' 2 'a range of serial numbers ends below its first one' \
@@ -157,21 +207,74 @@ refuses 'a serial number that is none' 2 'a serial number is a number below 2^64
 # Texts without an entry, and texts that are not read. The list stays.
 printf '# nobody\nca: all\n' >none
 cp made.krl before.krl
-for text in none /dev/null; do
-  expect "the text $text, which names nobody" 255 '' \
-    $'krl: made.krl: no text has an entry, and the list would revoke nobody [make 1 Empty]\n' \
-    make -f made.krl -z 1 $text
+expect 'a text that names nobody' 255 '' \
+  $'krl: made.krl: no text has an entry, and the list would revoke nobody [make 1 Empty]\n' \
+  make -f made.krl -z 1 none
+# The first fault in the order of the texts is reported, and that of the list last.
+printf 'ca: all\nserial: 0\nid-hex: 6\n' >wrong
+printf 'serial: 5\n' >earlier
+echo garbage >none.krl
+first=$'krl: wrong: line 2: serial number 0 names no certificate [text 1 Spec, spec 2 Zero]\n'
+for words in 'made.krl wrong earlier' 'made.krl wrong missing' 'none.krl wrong'; do
+  # shellcheck disable=SC2086
+  expect "the fault of several that is reported: $words" 255 '' "$first" make -f $words
 done
+expect 'a text that is missing before a wrong one' 255 '' \
+  $'krl: missing: No such file or directory [file 1 Open]\n' make -f none.krl missing wrong
 expect 'no text' 255 '' \
   $'krl: made.krl: no text has an entry, and the list would revoke nobody [make 1 Empty]\n' \
   make -f made.krl -z 1
 expect 'a text that is missing' 255 '' \
   $'krl: missing: No such file or directory [file 1 Open]\n' make -f made.krl -z 1 none missing
 judge 'the list after texts that are refused' "$(asks 0 cmp before.krl made.krl)"
+
+# Each text needs an entry, but for a regular file with a comment or a CA.
+no_entry='it has no entry, which --allow-empty allows [make 2 NoEntry]'
+printf 'ca: all\nserial: 5\n' >text
+printf 'id: a\n' >wrong
+: >nothing
+printf ' \t\r\n\n' >blank
+printf 'ca: all\n' >only-ca
+mkfifo pipe
+for text in nothing blank /dev/null; do
+  expect "the text $text beside one with an entry" 255 '' "krl: $text: $no_entry"$'\n' \
+    make -f made.krl text $text
+done
+expect 'the first of two' 255 '' "krl: nothing: $no_entry"$'\n' make -f made.krl nothing text blank
+expect 'a wrong line behind a text without an entry' 255 '' \
+  $'krl: wrong: line 1: no ca: line stands before it [text 1 Spec, spec 4 NoAuthority]\n' \
+  make -f made.krl nothing wrong
+for given in '' '# c' 'ca: all' $'\n \n'; do
+  run make -f made.krl text - <<<"$given"
+  judge "${given@Q} as standard input" "$(
+    differs 'exit status' 255 "$got_status"
+    differs 'standard error' "krl: -: $no_entry"$'\n' "$got_error"
+  )"
+  echo "$given" >pipe &
+  expect "${given@Q} through a pipe" 255 '' "krl: pipe: $no_entry"$'\n' make -f made.krl pipe text
+  wait
+done
+# The pipe of a name that is mistyped.
+"$program" show mistyped.krl 2>"$scratch/error" | "$program" make -f made.krl - text \
+  >"$scratch/output" 2>&1
+judge 'a list that is shown by a mistyped name' "$(
+  differs 'exit status' 255 $?
+  differs output "krl: -: $no_entry"$'\n' "$(cat "$scratch/output")"$'\n'
+)"
+judge 'the list after texts without an entry' "$(asks 0 cmp before.krl made.krl)"
 rm made.krl
+expect 'texts with a comment or a CA alone beside one with an entry' 0 '' \
+  $'krl make: made.krl: version 1: 1 CA, 1 serial number\n' make -f made.krl none only-ca text
+for words in 'nothing blank' '/dev/null' '-'; do
+  # shellcheck disable=SC2086
+  expect "no entry in $words, which is allowed" 0 '' '' \
+    make -q -f made.krl --allow-empty --replace text $words </dev/null
+done
+rm made.krl pipe
 expect 'a list that may be empty' 0 '' $'krl make: made.krl: version 1: nothing\n' \
   make -f made.krl --allow-empty none
 judge 'the empty list' "$(differs bytes "$H" "$(digits made.krl)")"
+cp made.krl empty.krl
 
 # Versions, the comment and the date.
 version() {
@@ -195,6 +298,98 @@ echo garbage >made.krl
 expect 'one above a list that is none' 255 '' \
   $'krl: made.krl: it does not begin as a revocation list [krl 1 Magic]\n' make -f made.krl text
 judge 'a list that is none stays' "$(differs bytes garbage "$(cat made.krl)")"
+
+# Nothing but a list or an empty file is replaced, unless that is asked for.
+"$openssh" -q -t ed25519 -N '' -C '' -f private
+printf '%s\n' "$g" >plain
+bytes "$H" | head -c 40 >torn
+while read -r words name <&3; do
+  cp "$name" made.krl
+  # shellcheck disable=SC2086
+  run make -f made.krl $words text
+  judge "make $words over the file $name" "$(
+    differs 'exit status' 255 "$got_status"
+    grep -q "^krl: made.krl: .* \\[krl [0-9]* [A-Za-z]*\\]$" "$scratch/error" || cat "$scratch/error"
+    asks 0 cmp "$name" made.krl
+  )"
+done 3<<'ROWS'
+-z5 text
+-z5 private
+-z5 plain
+-z5 torn
+-u text
+-u private
+-u plain
+-u nothing
+-u torn
+-uz5 nothing
+-q nothing
+-q text
+ROWS
+for name in text private plain torn nothing; do
+  cp $name made.krl
+  expect "--replace over the file $name" 0 '' \
+    $'krl make: made.krl: version 1: 1 CA, 1 serial number\n' make --replace -f made.krl text
+  cp $name made.krl
+  expect "--replace and -z over the file $name" 0 '' \
+    $'krl make: made.krl: version 4: 1 CA, 1 serial number\n' make --replace -z 4 -f made.krl text
+done
+: >made.krl
+expect 'a version over an empty file' 0 '' $'krl make: made.krl: version 4: 1 CA, 1 serial number\n' \
+  make -z 4 -f made.krl text
+cp made.krl before.krl
+for wanted in 0 3 4; do
+  for how in -z -uz; do
+    expect "version $wanted over version 4 by $how" 255 '' \
+      $'krl: made.krl: the list there has this version or a later one [make 3 OldVersion]\n' \
+      make $how $wanted -f made.krl text
+  done
+done
+judge 'the list after versions that do not rise' "$(asks 0 cmp before.krl made.krl)"
+expect 'a lower version that replaces a list' 0 '' '' make -q --replace -z 3 -f made.krl text
+judge 'the lower version' "$(differs version 3 "$(version)")"
+
+# -u keeps what the list names, and its comment.
+SOURCE_DATE_EPOCH=86400 run make -q --replace -f made.krl -z 6 --comment 'of May' text
+printf 'ca: all\nserial: 7\n' >leavers
+expect 'an update' 0 '' $'krl make: made.krl: version 7: 1 CA, 2 serial numbers\n' \
+  make -u -f made.krl leavers
+expect 'the list that was updated' 0 $'# made.krl: version 7, 1970-01-01T00:00:00Z, of May
+ca: all
+serial: 5
+serial: 7
+' '' show made.krl
+expect 'an update without a text' 0 '' $'krl make: made.krl: version 8: 1 CA, 2 serial numbers\n' \
+  make -u -f made.krl
+expect 'an update by a text without an entry' 255 '' "krl: nothing: $no_entry"$'\n' \
+  make -u -f made.krl nothing
+expect 'an update with a comment and a version' 0 '' '' \
+  make -qu -f made.krl -z 20 --comment 'of June' only-ca
+expect 'its comment and its version' 0 $'# made.krl: version 20, 1970-01-01T00:00:00Z, of June
+ca: all
+serial: 5
+serial: 7
+' '' show made.krl
+expect 'an update of an empty list' 0 '' $'krl make: empty.krl: version 2: nothing\n' \
+  make -u -f empty.krl none
+rm -f missing.krl
+expect 'an update of a list that is missing' 255 '' \
+  $'krl: missing.krl: No such file or directory [file 1 Open]\n' make -u -f missing.krl leavers
+expect 'the same with a version' 255 '' \
+  $'krl: missing.krl: No such file or directory [file 1 Open]\n' make -uz5 -f missing.krl leavers
+judge 'no list is made' "$([ ! -e missing.krl ] || ls -l missing.krl)"
+# Updates at the same time lose nothing.
+for i in $(seq 8); do
+  "$program" make -q -u -f made.krl - <<<"ca: all
+serial: ${i}00" &
+done
+wait
+judge 'eight updates at once' "$(
+  differs version 28 "$(version)"
+  differs 'serial numbers' 10 "$("$program" show made.krl | grep -c '^serial: ')"
+)"
+
+rm made.krl
 SOURCE_DATE_EPOCH=86400 run make -q -f made.krl -z 7 --comment 'of May' text
 expect 'the comment and the date' 0 $'# made.krl: version 7, 1970-01-02T00:00:00Z, of May
 ca: all
@@ -209,7 +404,8 @@ expect 'a text does not fall under the CA of the one before it' 255 '' \
   make -f made.krl text second
 
 # Wrong words.
-for words in '' '-f made.krl -z x text' '-f made.krl -z -1 text' '-f a -f b text' '-k -f made.krl'; do
+for words in '' '-f made.krl -z x text' '-f made.krl -z -1 text' '-f a -f b text' '-k -f made.krl' \
+  '-f - text' '-f made.krl - -' '-f made.krl -u --replace text'; do
   # shellcheck disable=SC2086
   run make $words
   judge "the words 'make $words'" "$(
@@ -222,7 +418,7 @@ done
 # same of both.
 again() {
   "$program" show "$2" >shown
-  run make -q --allow-empty -f again.krl -z 1 shown
+  run make -q --allow-empty --replace -f again.krl shown
   judge "$1" "$(
     differs 'exit status' 0 "$got_status"
     differs 'standard error' '' "$got_error"
@@ -239,10 +435,18 @@ list() {
 list 'a list without sections'
 list 'the last serial number' 010000001d${all}21000000100000000000000001ffffffffffffffff
 list 'a bitmap' 010000001a${all}220000000d00000000000000010000000155
-for digits in 616161 '' 20 2061 6120 610962 610a62 6523 7f c3a9 00 0d 2d2d; do
+for digits in 616161 '' 20 2061 6120 610962 610a62 6523 7f c3a9 0d 2d2d 7373682d727361 \
+  7373682d7273612041; do
   list "the key ID of the bytes '$digits'" \
     "01$(string "${all}23$(string "$(string $digits)")")"
 done
+# What no line gives is shown, and refused when it is read.
+bytes "$H" "01$(string "${all}23$(string "$(string 610062)")")" >zero.krl
+"$program" show zero.krl >shown
+judge 'the line of a key ID with a zero byte' "$(differs line 'id-hex: 610062' "$(tail -n 1 shown)")"
+expect 'a list that has one' 255 '' \
+  $'krl: shown: line 3: OpenSSH takes no key ID with a zero byte: use serial: [text 9 ZeroInId]\n' \
+  make -f again.krl -z 1 shown
 list 'a CA that is no key' 01000000130000000178000000002300000005 0000000161
 odd=$(rsa "$(string 0003)" "$(string 00"$(repeat 128 a1)")")
 list 'keys that are none' "$(section "$G" "$odd" 01 00)"

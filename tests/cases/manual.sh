@@ -1,4 +1,4 @@
-# The manual page: well formed, with the forms of use that --help prints, and examples that were
+# The manual pages: well formed, with the forms of use that --help prints, and examples that were
 # run.
 
 page=$top/docs/ssh-keygen.1
@@ -18,6 +18,8 @@ forms=$("$program" --help |
   awk '/^Usage:/ { on = 1; sub(/^Usage:/, "") } on && !NF { exit } on { sub(/^ +/, ""); print }' |
   sed "s/^${program##*/} /ssh-keygen /")
 judge 'the synopsis is what --help says' "$(differs 'forms of use' "$forms" "$(rendered SYNOPSIS)")"
+judge 'the manual page of krl and the README have the options of its help' \
+  "$(asks 0 python3 -B "$tests/lib/pages/forms.py" "$krl" "$top/docs/krl.1" "$top/README.md")"
 
 # Its recipes are followed by readme.sh.
 cp -r "$top/demo" demo && cd demo || exit 1

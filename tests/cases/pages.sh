@@ -1,7 +1,8 @@
 # The pages of the crates: each library and each program has one, and the map links to it. A crate
 # of tests proves and runs the caller that a library's page shows, in the same words. The program
-# prints the output that its page shows. The crates have the names that THEOREMS.md cites, and each
-# lemma is cited. The page of the tests has a line for each part.
+# prints the output that its page shows. The crates have the names that THEOREMS.md and its pages
+# cite, and each lemma is cited. The map shows each crate above those that it uses. The page of the
+# tests has a line for each part.
 
 # shown LANGUAGE PAGE: what the page shows in it.
 shown() {
@@ -40,11 +41,11 @@ cd ../..
 
 judge 'each link of a page leads to a file and a heading' \
   "$(asks 0 python3 -B "$tests/lib/pages/links.py" "$top")"
-judge 'the names that THEOREMS.md cites stand in the crates' \
+judge 'the crates have the names that THEOREMS.md and its pages cite' \
   "$(asks 0 python3 -B "$tests/lib/pages/cited.py" "$top")"
 judge 'the files and names that the pages of the crates speak of are there' \
   "$(asks 0 python3 -B "$tests/lib/pages/modules.py" "$top")"
 judge 'each lemma is cited' "$(asks 0 python3 -B "$tests/lib/pages/uncited.py" "$top")"
 judge 'the page of the tests has a line for each part' \
-  "$(asks 1 diff <(sed -n 's/^| `\([a-z_]*\)` .*/\1/p' "$tests/README.md" | sort) \
+  "$(asks 1 diff <(sed -n 's/^| `\([a-z0-9_]*\)` .*/\1/p' "$tests/README.md" | sort) \
     <(printf '%s\n' "${!parts[@]}" | sort))"

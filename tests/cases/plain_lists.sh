@@ -81,9 +81,9 @@ refused() {
 }
 
 # read_so NAME WANTED: krl and libkrl give these answers. A list that revokes nobody is not to be
-# put in force.
+# put in force, nor is one for which the caller sets the status of krl check.
 read_so() {
-  local it got= keys=() numbers= status=0
+  local it got= keys=() numbers= status=${status:-0}
   [[ $2 == *=revoked* ]] || status=1
   for it in $2; do
     keys+=("$room/${it%=*}") numbers+=" $([[ $it == *=in ]]; echo $?)"
@@ -202,7 +202,7 @@ plain 'an RSA key with an exponent above 16,384 bits' "$all" '%s\n%s\n' \
 plain 'an RSA key below 1,024 bits with such an exponent' "$all" '%s\n%s\n' \
   "$(line ssh-rsa "$(modulus 127 "$(repeat 2049 01)")")" "$one"
 small=$(string 03)
-plain 'a DSA key of small numbers' "$first" '%s\n%s\n' \
+status=1 plain 'a DSA key of small numbers' "$first" '%s\n%s\n' \
   "$(line ssh-dss "$(words ssh-dss)$small$small$small$small")" "$one"
 for at in 1 2 3 4; do
   numbers=("$(words ssh-dss)" "$small" "$small" "$small" "$small")

@@ -12,6 +12,7 @@ cd ..
 mkdir table && cd table || exit 1
 for name in user-ca alice canary; do "$openssh" -q -t ed25519 -N '' -C $name -f $name; done
 { sed 's/^/key: /' alice.pub && echo "sha256: $(cat canary.pub)"; } >revoked.txt
+sed 's/^/key: /' alice.pub >more.txt
 mkdir -p tools home of_root && cp alice.pub home && cp user-ca.pub of_root
 ln -s "$program" tools/krl-keygen && ln -s "$krl" tools/krl
 "$krl" make -q -f old.krl -z 1 revoked.txt
@@ -93,7 +94,8 @@ refuses() {
   for key in "${@:2}"; do ! enters "$key" || wrong+="  it lets in $key"$'\n'; done
   judge "sshd refuses $1" "$wrong"
 }
-check=$'krl check revoked.krl\n' named='krl check /etc/ssh/revoked.krl'
+check=$'install -m 644 revoked.krl /etc/ssh/revoked.new/krl\n  krl check /etc/ssh/revoked.new/krl\n'
+named='krl check /etc/ssh/revoked.krl'
 both=$'krl-keygen -Q -f revoked.krl\n' lines='grep -ri revokedkeys'
 lets_in 'all keys before it has a list' one two
 follows 'where no list is in force, none is named' "$named" 255 '*' again
@@ -127,6 +129,17 @@ judge 'the program reads a list with an extension' "$("$program" -Q -f revoked.k
 judge 'a list that OpenSSH refuses is not put in place' "$(is_refused "$check")"
 judge 'both programs refuse it together' "$(is_refused "$both")"
 stays 'the list in force stays, too' "$room/revoked.krl"
+
+mv revoked.krl refused.krl && cp in-force revoked.krl
+mv "$room/revoked.krl" kept && mkdir "$room/revoked.krl"
+judge 'a folder in the place of the list' \
+  "$(is_refused "$check"; ls -A "$room/revoked.krl" "$room" | grep -x -e krl -e revoked.new)"
+rmdir "$room/revoked.krl" && mv kept "$room/revoked.krl"
+mkdir "$room/revoked.new"
+judge 'a list while another run is at work' \
+  "$(is_refused "$check"; [ -d "$room/revoked.new" ] || echo '  its folder is gone')"
+rmdir "$room/revoked.new" && mv refused.krl revoked.krl
+stays 'the list in force stays, as well' "$room/revoked.krl"
 
 # The statements about sshd.
 # settled COMMAND..: it finds nothing wrong.
@@ -166,9 +179,22 @@ tools/systemctl reload ssh
 
 # ---- a person is locked out, and lists of several authorities are made anew
 
+# keeps_later NAME BEGINNING: the recipe does not replace a list that has a later version.
+keeps_later() {
+  cp revoked.krl earlier.krl
+  printf 'ca: all\nserial: 5\n' | "$krl" make -q --replace -f revoked.krl -z 99999999999 -
+  cp revoked.krl later.krl
+  judge "a list of a later version stays: $1" "$(
+    is_refused "$2"
+    try_recipe "$2" >output
+    grep -q OldVersion output || cat output
+    cmp later.krl revoked.krl 2>&1
+  )"
+  mv earlier.krl revoked.krl
+}
+
 anew='krl make -f revoked.krl -z' shown='krl show revoked.krl >'
-out='[ -z "$(tail -c 1 revoked.txt)" ] || echo >>revoked.txt
-  awk '"'/^[^#]/ { n++; print \"ca: \""
+out=$'last=$(tail -c 1 revoked.txt)\n  [ -z "$last" ] || echo >>revoked.txt\n  id='
 lines_under user-ca.pub 'id: alice' host-ca.pub 'serial: 9' >revoked.txt
 follows 'a list under two authorities' "$anew" 0 '*'
 cp revoked.krl "$room/revoked.krl"
@@ -205,13 +231,13 @@ version() {
   "$program" -Q -l -f revoked.krl | sed -n 's/^# KRL version //p'
 }
 first=$(version)
-sleep 2
 follows 'a list is shown as a text' "$shown" 0 ''
 sed -i '/^serial: 5$/d' revoked.txt
 follows 'a revocation is taken back' "$anew" 0 '*' again
 answers 'what was taken back is fine, and all else revoked' user-7 host-7
 judge 'the version number rises' \
   "$([ "$(version)" -gt "$first" ] || echo "  it is $(version) after $first")"
+keeps_later 'the list is made anew' "$anew"
 cp revoked.krl in-force
 echo 'serial: 9-7' >>revoked.txt
 follows 'a wrong line' "$anew" 255 '*' again
@@ -239,10 +265,9 @@ judge 'no truncated list that can be read revokes the canary' "$(
 )"
 # ---- a stolen authority
 
-guard='krl check revoked.krl --newer-than'
-trust=$'awk \'\n    FILENAME == ARGV[1]'
-end='[ -z "$(tail -c 1 revoked.txt)" ] || echo >>revoked.txt
-  awk '"'/^[^#]/ { n++; print \"key: \" \$1, \$2 } END { exit !n }' old-ca.pub"
+guard=${check%$'\n'}' --newer-than'
+trust=$'awk \'\n    { sub('
+end=$'last=$(tail -c 1 revoked.txt)\n  [ -z "$last" ] || echo >>revoked.txt\n  awk '
 "$openssh" -q -t ed25519 -N '' -C new-ca -f new-ca
 "$openssh" -q -s new-ca -I new -z 1 -n "$user" "$room/user.pub" &&
   mv "$room/user-cert.pub" "$room/new.pub"
@@ -251,11 +276,12 @@ end='[ -z "$(tail -c 1 revoked.txt)" ] || echo >>revoked.txt
 cp user-ca.pub old-ca.pub
 { echo '# ours' && cat host-ca.pub && head -c -1 old-ca.pub; } >"$room/user_ca.pub"
 printf 'sha256: %s' "$(cat canary.pub)" >revoked.txt
-"$krl" make -q -f "$room/revoked.krl" -z 1 revoked.txt
+"$krl" make -q --replace -f "$room/revoked.krl" revoked.txt
 cp "$room/revoked.krl" in-force
 lets_in 'a certificate of an authority that was stolen' alice
 refuses 'a certificate of an authority that is not trusted yet' new
 follows 'an authority is revoked' "$end" 0 '*'
+keeps_later 'an authority is revoked' "$end"
 judge 'the list is refused while the host trusts the authority' "$(
   is_refused "$guard"
   try_recipe "$guard" | grep -q "^keep: $room/user_ca.pub: 1 of 2 keys " || try_recipe "$guard"
@@ -274,7 +300,21 @@ cp "$room/user_ca.pub" in-force
 follows 'the steps end where the old authority is not trusted' "$trust" 1 '' again
 : >old-ca.pub
 follows 'the steps end without an old authority' "$trust" 1 '' again
+printf '\r\n' >old-ca.pub
+{ cat in-force && printf ' \n\r\n'; } >"$room/user_ca.pub"
+follows 'the steps end where both files have lines without a key' "$trust" 1 '' again
+cp in-force "$room/user_ca.pub"
+mkdir "$room/user_ca.new"
+cp new-ca.pub old-ca.pub
+follows 'the steps end while another run is at work' "$trust" 1 '*' again
+rmdir "$room/user_ca.new"
 stays 'the trusted authorities stay' "$room/user_ca.pub"
+sed 's/$/\r/' new-ca.pub >old-ca.pub && cp user-ca.pub new-ca.pub
+ln "$room/user_ca.pub" before-them
+follows 'an authority whose file has other line ends goes' "$trust" 0 "$("$openssh" -l -f host-ca.pub)
+$("$openssh" -l -f user-ca.pub)" again
+judge 'the authorities get their name by a rename' \
+  "$([ ! before-them -ef "$room/user_ca.pub" ] || echo '  the file in force is written')"
 
 # ---- the keys of hosts
 
@@ -328,7 +368,7 @@ reaches 'no list' no
 
 # ---- all keys of a host
 
-"$program" -k -f revoked.krl alice.pub
+"$program" -k -f revoked.krl alice.pub - <<<"sha256: $(cat canary.pub)"
 mkdir -p of_root/.ssh home/{a,b,c,d}/.ssh
 cat user-ca.pub >of_root/.ssh/authorized_keys
 { printf '# mine\n\n' && cat host-ca.pub && printf '  \t\n# hers\n' &&
@@ -375,6 +415,17 @@ $at/b/.ssh/authorized_keys:2: unread
 $at/b/.ssh/authorized_keys:3: revoked
 $at/d/.ssh/authorized_keys:1: revoked" "$found"
 )"
+"$program" -k -f revoked.krl alice.pub
+judge 'no file is read where the list does not revoke the canary' "$(
+  differs 'what it finds' '' "$(try_recipe 'krl audit' | grep "^$at")"
+  is_refused 'krl audit'
+)"
+printf 'ca: all\nserial: 5\n' >more.txt
+follows 'lines are added to a list whose text is lost' 'krl make -u' 0 '*'
+judge 'it has what it had' \
+  "$(differs entries 'ca: all
+serial: 5
+key: '"$(cut -d ' ' -f 1,2 alice.pub)" "$(contents revoked.krl)")"
 ends
 judge 'the README has no recipe of its own' "$(recipes_in README.md)"
 all_followed docs/RUNBOOK.md

@@ -17,7 +17,8 @@ cp user-ca.pub "$room/user_ca.pub"
 "$program" -k -f revoked.krl -z 10 -s user-ca.pub users
 cp revoked.krl "$room/revoked.krl"
 "$program" -k -u -f revoked.krl -s user-ca.pub - <<<'serial: 6'
-guard='krl check revoked.krl --newer-than' remedy=$'ssh-keygen -Q -f revoked.krl\n'
+guard=$'install -m 644 revoked.krl /etc/ssh/revoked.new/krl\n  krl check /etc/ssh/revoked.new/krl --'
+remedy='new='
 cp revoked.krl whole.krl
 follows 'a list is guarded without krl' "$remedy" 0 "$room/user_ca.pub (user-ca): ok
 $room/host.pub (host): ok
@@ -36,9 +37,9 @@ follows 'a list is guarded' "$guard" 0 ''
 # guarded NAME: neither recipe puts the list in force.
 guarded() {
   local it
-  for it in "$guard" "$remedy"; do
-    judge "$1: ${it%% *}" "$(
-      is_refused "$it"
+  for it in guard remedy; do
+    judge "$1: $it" "$(
+      is_refused "${!it}"
       cmp in-force "$room/revoked.krl" 2>&1
     )"
   done
@@ -56,6 +57,35 @@ judge 'an older list is refused' "$(
   is_refused "$guard"
   cmp in-force "$room/revoked.krl" 2>&1
 )"
+
+# Another run has this folder, or was killed.
+mkdir "$room/revoked.new" && cp whole.krl revoked.krl
+guarded 'a list while another run is at work'
+judge 'the folder of the other run stays' "$([ -d "$room/revoked.new" ] || echo '  it is gone')"
+rmdir "$room/revoked.new"
+# The list is made anew right after the check.
+"$program" -k -f other.krl -z 99999999999 alice.pub
+# replaced NAME PROGRAM: each call of the recipes' program replaces the list afterwards.
+replaced() {
+  printf '#!/bin/sh\n%s "$@"\nstatus=$?\ncp other.krl revoked.krl\nexit $status\n' "$2" >replacing
+  mv replacing "tools/$1" && chmod +x "tools/$1"
+}
+replaced krl "$krl" && replaced krl-keygen "$program"
+for it in guard remedy; do
+  cp whole.krl revoked.krl
+  judge "what was checked is put in force: $it" "$(
+    try_recipe "${!it}" >/dev/null || echo '  it fails'
+    cmp other.krl revoked.krl 2>&1
+    cmp whole.krl "$room/revoked.krl" 2>&1
+  )"
+done
+ln -sf "$krl" tools/krl && ln -sf "$program" tools/krl-keygen
+cp whole.krl revoked.krl && rm "$room/revoked.krl" && mkdir "$room/revoked.krl"
+for it in guard remedy; do
+  judge "a folder in the place of the list: $it" \
+    "$(is_refused "${!it}"; ls -A "$room/revoked.krl" "$room" | grep -x -e krl -e revoked.new)"
+done
+rmdir "$room/revoked.krl" && cp in-force "$room/revoked.krl"
 
 # In this file one key is revoked, and another is not.
 mkdir two && cp whole.krl two/revoked.krl && ln -s ../tools two/tools &&
@@ -129,6 +159,16 @@ expect 'their keys are revoked' 1 "$(for name in a b c d; do
 done; echo 'user-5.pub (alice): REVOKED')"$'\n' '' -Q -f revoked.krl {a,b,c,d}.pub user-5.pub
 has 'only what begins with its word expires' revoked.krl "$user" 'serial: 5' 'serial: 10-12' \
   "$(contents revoked.krl | grep -E '^(key|hash)')"
+cp revoked.krl in-force
+lines_under user-ca.pub 'serial: 5 # until 2001-02-03\nid: eve# until 2001-02-03' >revoked.txt
+judge 'a wrong line is reported by its number in the text' "$(
+  is_refused 'awk -v today'
+  try_recipe 'awk -v today' | grep -q ': line 3: ' || try_recipe 'awk -v today'
+)"
+stays 'the list stays after a wrong line' revoked.krl
+lines_under user-ca.pub "$(seq -f 'serial: %.0f\n' 2 2 400 | tr -d '\n')" >revoked.txt
+on_full_disk 'entries that expire, where the disk is full' 'awk -v today'
+stays 'the list stays where the disk is full' revoked.krl
 mv kept.krl revoked.krl
 
 # ---- what changed
@@ -163,6 +203,10 @@ cp both.krl in-force
 head -c 60 in-force >hosts.krl
 follows 'a truncated list is not merged' "$merge" 255 '*' again
 stays 'the merged list stays' both.krl
+lines_under user-ca.pub "$(seq -f 'serial: %.0f\n' 2 2 400 | tr -d '\n')" |
+  "$krl" make -q --replace -f hosts.krl -
+on_full_disk 'lists are not merged where the disk is full' "$merge"
+stays 'the merged list stays, too' both.krl
 
 # ---- the entries of one authority
 
@@ -189,6 +233,8 @@ judge 'the entries of two authorities' "$(
   differs lines "$(printf '%s\n' "$entries" "$(shown_ca host-ca.pub)" 'id: host' | sort)" \
     "$(try_recipe "$ours" | sort)"
 )"
+{ sed 's/$/\r/' its.pub && printf '\r\nword\r\n'; } >user-ca.pub
+follows 'the entries of an authority whose file has other line ends' "$ours" 0 "$entries" again
 cp alice.pub user-ca.pub
 follows 'the entries of an authority that the list has not' "$ours" 1 '' again
 : >user-ca.pub
@@ -242,13 +288,16 @@ many=$'worst=0\n  [ -s hosts ]'
 judge 'the manual page of krl has this recipe, too' \
   "$(manual_blocks krl.1 | grep -qF 'timeout 1h ssh -n -- "$host"' || echo '  it has another')"
 mkdir -p home of_root && : >of_root/authorized_keys
-cp revoked.krl "$room/revoked.krl"
+cp canary.pub "$room/revoked.canary"
+"$program" -k -f "$room/revoked.krl" alice.pub - <<<"sha256: $(cat canary.pub)"
 cat >tools/ssh <<'END_OF_FILE'
 #!/bin/sh
 [ "$1 $2" = '-n --' ] || exit 99
 case $3 in
   -* | down*) echo "ssh: connect to host $3 port 22: Connection refused" >&2 && exit 255 ;;
   revoked) cat alice.pub >home/authorized_keys ;;
+  odd) printf 'a\033[2J\302\233b\n' && exit 3 ;;
+  endless) exec yes "$(printf %099999d 0)" ;;
   *) : >home/authorized_keys ;;
 esac
 shift 3
@@ -274,6 +323,16 @@ judge 'a host that cannot be reached, and one with a revoked key' "$(
   grep -qxF 'down|&/: ssh: connect to host down|&/ port 22: Connection refused' audit || cat audit
   grep -q "^revoked: $PWD/home/authorized_keys:1: revoked: " audit || cat audit
 )"
+printf 'odd\nendless\n' >hosts
+judge 'a host that moves the terminal, and one that prints without an end' "$(
+  audited 1 'odd: status 3' 'endless: status 153'
+  grep -qxF 'odd: a?[2J??b' audit || head -n 1 audit
+)"
+rm audit
+mv "$room/revoked.krl" whole.krl && cp revoked.krl "$room/revoked.krl"
+echo good >hosts
+judge 'a host whose list does not revoke the canary' "$(audited 1 'good: status 255')"
+mv whole.krl "$room/revoked.krl"
 : >hosts
 follows 'a file without hosts' "$many" 1 '' again
 rm hosts
@@ -289,7 +348,7 @@ rm -r tools/ssh home of_root
   printf '# Zo\xeb\n' && sed 's/host-ca/Zo\xeb/' host-ca.pub
   printf '  \t\n# hers\n' && sed 's/^/no-pty /' alice.pub
 } >authorized_keys
-line='krl-keygen -Q -f revoked.krl authorized_keys >answers'
+line='answers=$(krl-keygen'
 follows 'the line of a revoked key' "$line" 0 '8:authorized_keys (alice): REVOKED'
 sed 's/ alice$/ ok): ok/; s/ [^ ]*host-ca$/ a: REVOKED/' -i authorized_keys
 follows 'the line of a key whose comment is an answer' "$line" 0 \
@@ -302,7 +361,7 @@ follows 'a line that cannot be read' "$line" 255 '*' again
 cp revoked.krl in-force
 lines_under host-ca.pub 'serial: 7' >revoked.txt
 printf '#!/bin/sh\necho serial: 5\nexit 1\n' >tools/leavers && chmod +x tools/leavers
-leave="awk '/^[^#]/ { n++; print \"ca: \" \$1, \$2 } END { exit n != 1 }' user-ca.pub >leavers.txt"
+leave="awk '/^[^#]/ { n++; print \"ca: \" \$1, \$2 } END { exit n != 1 }' user-ca.pub"
 follows 'a command that fails' "$leave" 1 ''
 stays 'the list stays' revoked.krl
 printf '#!/bin/sh\necho serial: 7\n' >tools/leavers
@@ -318,13 +377,63 @@ cat its.pub host-ca.pub >user-ca.pub
 follows 'a file of two CAs' "$leave" 1 '' again
 echo '# ours' >user-ca.pub
 follows 'a file without a CA' "$leave" 1 '' again
+cp its.pub user-ca.pub
+printf '#!/bin/sh\n' >tools/leavers
+follows 'a command that prints nothing' "$leave" 1 '' again
 stays 'the list stays, too' revoked.krl
+
+# ---- two runs at the same time
+
+# input_has NUMBER: the files that these recipes read have this serial number.
+input_has() {
+  lines_under user-ca.pub "serial: $1" >revoked.txt
+  "$krl" make -q --replace -f hosts.krl revoked.txt
+  echo "serial: $1" >leavers.txt
+}
+# overtakes NAME BEGINNING LIST PROGRAM COMMAND: two runs of the recipe overlap. The program, which
+# calls the command, reads older input in the first run, and then waits until the second run has
+# ended. The first run is refused, and the list of the second one stays.
+overtakes() {
+  local run quick slow gate
+  rm -rf begun gate && mkfifo gate
+  {
+    printf '#!/bin/sh\n%s "$@"\nstatus=$?\n' "$5"
+    printf 'mkdir begun 2>/dev/null && read -r line <gate\nexit $status\n'
+  } >waiting
+  chmod +x waiting && mv waiting "tools/$4"
+  input_has 51
+  try_recipe "$2" >of-slow &
+  run=$!
+  for _ in $(seq 600); do [ ! -e begun ] || break; sleep 0.05; done
+  input_has 52
+  try_recipe "$2" >of-quick
+  quick=$?
+  cp "$3" in-force
+  # A version that the first run took now would be above that of the second one.
+  next_second "$2"
+  exec {gate}<>gate && echo >&$gate
+  wait $run
+  slow=$?
+  exec {gate}>&-
+  rm "tools/$4"
+  judge "two runs at the same time, of which the slow one is refused: $1" "$(
+    [ -e begun ] || echo '  no run waits'
+    [ $quick = 0 ] || cat of-quick
+    [ $slow != 0 ] || echo '  the slow run ends well'
+    grep -q OldVersion of-slow || cat of-slow
+    contents in-force | grep -qx 'serial: 52' || echo '  the quick run makes another list'
+    cmp in-force "$3" 2>&1
+  )"
+}
+overtakes 'entries that expire' 'awk -v today' revoked.krl awk "$(command -v awk)"
+overtakes 'lists are merged' "$merge" both.krl krl "$krl"
+ln -s "$krl" tools/krl
+overtakes 'the lines of a command' "$leave" revoked.krl leavers 'cat leavers.txt'
 
 # ---- a person is locked out
 
 # What readme.sh does with a real sshd, by files that others could have written.
-out='[ -z "$(tail -c 1 revoked.txt)" ] || echo >>revoked.txt
-  awk '"'/^[^#]/ { n++; print \"ca: \""
+out=$'last=$(tail -c 1 revoked.txt)\n  [ -z "$last" ] || echo >>revoked.txt\n  id='
 { echo '# of both' && cat its.pub && echo && head -c -1 host-ca.pub; } >user-ca.pub
 head -c -1 of-alice.pub >kept && mv kept alice.pub
 sed 's/ [^ ]*$/ a b # until 2001-02-03\r/' user-5.pub >alice-cert.pub
@@ -334,6 +443,15 @@ judge 'a person is locked out by two CAs' "$(try_recipe "$out")"
 has 'the key ID is revoked under both, and the key' revoked.krl "$user" 'id: alice' 'serial: 99' \
   "$host" 'id: alice' "key: $(cut -d ' ' -f 1,2 alice.pub)"
 judge 'no comment of a key that was handed in is in the text' "$(grep -n until revoked.txt)"
+judge 'a key ID with a backslash and quotes' "$(
+  steps=$(recipe "$out" | sed "s/id='alice'/id='CORP\\\\alice \"x\"'/")
+  bash -c "$(in_room "$steps")" 2>&1
+  differs lines 2 "$(grep -cxF 'id: CORP\alice "x"' revoked.txt)"
+)"
+mv revoked.txt before
+judge 'nobody is locked out without the text, and none is begun' \
+  "$(is_refused "$out"; ls revoked.txt 2>/dev/null)"
+mv before revoked.txt
 cp revoked.txt before
 for name in user-ca alice; do
   cp $name.pub whole.pub && : >$name.pub && : >alice-cert.pub

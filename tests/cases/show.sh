@@ -35,6 +35,10 @@ ids 'a key ID with a tab' 'id-hex: 610962' 610962
 ids 'a key ID with a line feed' 'id-hex: 610a62' 610a62
 ids 'a key ID with DEL' 'id-hex: 7f' 7f
 ids 'a key ID of other bytes' 'id-hex: c3a9' c3a9
+ids 'a key ID with a zero byte' 'id-hex: 610062' 610062
+ids 'a key ID that begins as a key' 'id-hex: 7373682d7273612041' "$(text 'ssh-rsa A')"
+ids 'a key ID that is a type of keys' 'id: ssh-rsa' "$(text ssh-rsa)"
+ids 'a key ID that begins nearly so' 'id: ssh-rsa: A' "$(text 'ssh-rsa: A')"
 shows 'a CA' "ca: $(line ssh-ed25519 "$A") # $(fingerprint "$A")"$'\nserial: 7\n' \
   01 00000048 "$(string "$A")" 00000000 20 00000008 0000000000000007
 shows 'a CA of one byte' $'ca-blob: eA==\nid: a\n' \
@@ -74,12 +78,66 @@ key: $g # $f
 " '' show ca.krl r.krl
 printed='"generated":"1970-01-01T00:00:00Z","comment":""}'
 expect 'JSON' 0 '{"list":"ca.krl","version":"1",'"$printed"'
-{"ca":"'"$(fingerprint "$A")"'","serial":[100,199]}
+{"ca":"'"$(fingerprint "$A")"'","serial":["100","199"]}
 {"ca":"'"$(fingerprint "$A")"'","id":"bob"}
 {"list":"r.krl","version":"1",'"$printed"'
 {"key":"'"$f"'"}
-{"status":"done","lists":2,"cas":1,"serials":100,"ids":1,"keys":1,"hashes":0}
+{"status":"done","lists":2,"cas":1,"serials":"100","ids":1,"keys":1,"hashes":0}
 ' '' show --json ca.krl r.krl
+
+# Every serial number of two CAs. A reader of JSON may round numbers above 2^53.
+last=18446744073709551615
+every=21000000100000000000000001ffffffffffffffff
+bytes "$H" "01$(string "$(string "$A")" 00000000 "$every")" \
+  "01$(string "$(string "$B")" 00000000 "$every")" >every.krl
+judge 'the serial numbers of two CAs, as JSON' "$(
+  run show --json every.krl
+  differs 'exit status' 0 "$got_status"
+  differs 'the numbers' "$(printf '["1","%s"]\n' $last $last)" \
+    "$(grep -o '\[.*\]' <<<"$got_output")"
+  differs 'the last line' '{"status":"done","lists":1,"cas":2,"serials":"36893488147419103230",'\
+'"ids":0,"keys":0,"hashes":0}' "$(tail -n 1 <<<"${got_output%$'\n'}")"
+)"
+
+# Lists without their names.
+expect 'lists without their names' 0 "# $head
+$ca
+serial: 100-199
+id: bob
+key: $g # $f
+# version 7, 1970-01-01T00:00:00Z, of May\\x1b\\x0a
+" '' show --no-name ca.krl $'g\e.pub' said.krl
+expect 'lists without their names, as JSON' 0 '{"version":"1",'"$printed"'
+{"key":"'"$f"'"}
+{"key":"'"$f"'"}
+{"status":"done","lists":2,"cas":0,"serials":"0","ids":0,"keys":2,"hashes":0}
+' '' show --json --no-name r.krl $'g\e.pub'
+judge 'a list that is read back without its name' "$(
+  "$program" show --no-name ca.krl | "$program" make -q -f again.krl -z 1 - 2>&1
+  differs 'the text' "$("$program" show --no-name ca.krl | tail -n +2)" \
+    "$("$program" show --no-name again.krl | tail -n +2)"
+)"
+
+# Standard input.
+expect 'a list on standard input' 0 "# -: $head
+key: $g # $f
+# ca.krl: $head
+$ca
+serial: 100-199
+id: bob
+" '' show - ca.krl <r.krl
+expect 'a plain list on standard input' 0 "# -: a plain list
+key: $g # $f
+" '' show - < <(echo "$g")
+cp r.krl ./-
+expect 'a list in a file called -' 0 "# ./-: $head
+key: $g # $f
+" '' show ./- </dev/null
+rm ./-
+expect 'a truncated list on standard input' 255 '' \
+  $'krl: -: truncated, in its header or within a section [krl 3 EndsEarly]\n' \
+  show - < <(head -c 90 ca.krl)
+expect_text 'standard input as two lists' 2 error show - r.krl -
 
 # Lists that are not read, and outputs that fail. Nothing is printed, not even of a list before.
 bytes "${H:0:80}00000001" >cut.krl
@@ -91,6 +149,13 @@ expect 'a list that is missing' 255 '' \
 { echo "$g" && echo garbage; } >wrong
 expect 'a file that is no list' 255 '' \
   $'krl: wrong: line 2: no key type stands there [line 1 NoKey]\n' show wrong
+mkdir folder
+expect 'a folder' 255 '' $'krl: folder: it is a directory [krl 13 Read]\n' show folder
+for text in 'ca: all' 'SERIAL:5 # c' 'id: alice' "key: $g"; do
+  printf '# of\n\n%s\n' "$text" >text
+  expect "a text for a list, with $text" 255 '' \
+    $'krl: text: line 3: this is a text: make a list of it by krl make [line 1 NoKey]\n' show text
+done
 if [ -e /dev/full ]; then
   "$program" show r.krl >/dev/full 2>"$scratch/error"
   judge 'a list onto a full device' "$(

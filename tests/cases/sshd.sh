@@ -68,6 +68,11 @@ lists 'all serial numbers but 0' "serial: 1-$highest" "a5 a$highest" 'a0 b5' "${
 lists 'the highest serial number' "serial: $highest" a$highest 'a5 a0' "${under_a[@]}"
 lists 'a certificate of serial number 0' "$(cat "$room/a0.pub")" a0 a5
 lists 'a certificate' "$(cat "$room/a7.pub")" a7 'a6 one'
+# A byte order mark at the start of authorized keys: sshd does not know the type behind it.
+cp "$room/allowed" "$room/unmarked"
+printf '\xef\xbb\xbf' | cat - "$room/one.pub" >"$room/allowed"
+judge 'sshd knows no key behind a byte order mark' "$(enters one && echo '  it lets in')"
+mv "$room/unmarked" "$room/allowed"
 # A key that sshd would read as another one, for OpenSSH drops the zero byte: it is in no list.
 cp "$room/revoked.krl" "$room/before.krl"
 sk=sk-ssh-ed25519@openssh.com

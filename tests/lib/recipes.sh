@@ -34,11 +34,18 @@ manual_recipes() {
   manual_blocks | sed 's/ssh-keygen -/krl-keygen -/g' | recipes_of
 }
 
-# recipe BEGINNING: the recipe whose first step begins so.
+# recipe BEGINNING: the recipe whose first step begins so, but for steps that make a file or a
+# folder of the recipe's own, or take the version of a list.
 recipe() {
-  recipes | awk -v beginning="$1" 'BEGIN { RS = "\f\n" }
-    { steps = $0; sub(/^\(\n  set -e\n  /, "", steps) }
-    index(steps, beginning) == 1 { printf "%s", $0 }'
+  recipes | beginning=$1 awk 'BEGIN { RS = "\f\n" }
+    {
+      steps = $0
+      if (sub(/^\(\n  set -e\n/, "", steps)) {
+        while (steps ~ /^  (mkdir|trap|text=|version=)/) sub(/^[^\n]*\n/, "", steps)
+        sub(/^  /, "", steps)
+      }
+    }
+    index(steps, ENVIRON["beginning"]) == 1 { printf "%s", $0 }'
 }
 
 # begin_recipes: makes the folder tools, which has the programs that recipes call. The folder $room
@@ -59,14 +66,26 @@ in_room() {
   sed "${words[@]}" <<<"$1"
 }
 
+# next_second BEGINNING: waits for the next second if the recipe that begins so has a version by the
+# clock, which must be above that of the list that it replaces. Else a recipe could be refused for a
+# list that the test has made in the same second, also one that must be refused for another reason.
+next_second() {
+  local now
+  [[ $(recipe "$1") == *'date +%s'* ]] || return 0
+  now=$(date +%s)
+  until [ "$(date +%s)" -gt "$now" ]; do sleep 0.05; done
+}
+
 # try_recipe BEGINNING: runs the recipe that begins so, for three minutes at most.
 try_recipe() {
+  next_second "$1"
   PATH=$PWD/tools:$PATH timeout 180 bash -c "$(in_room "$(recipe "$1")")" 2>&1
 }
 
 # ends_script BEGINNING: whether a script with set -e ends at the recipe that begins so.
 ends_script() {
   rm -f went-on
+  next_second "$1"
   PATH=$PWD/tools:$PATH timeout 180 bash -e -c "$(in_room "$(recipe "$1")")
 : >went-on" >/dev/null 2>&1
   [ ! -e went-on ]
@@ -93,6 +112,11 @@ follows() {
 is_refused() {
   ! try_recipe "$1" >/dev/null || echo '  it ends well'
   ends_script "$1" || echo '  a script with set -e goes on'
+}
+
+# on_full_disk NAME BEGINNING: the recipe fails where no file can have more than 1 KiB.
+on_full_disk() {
+  judge "$1" "$(trap '' XFSZ && ulimit -f 1 && is_refused "$2")"
 }
 
 # lines_under FILE LINES ..: a text with the CA of each file and its lines.

@@ -1,6 +1,6 @@
 -- The front of a list, with one byte more than a list may have.
-use Rattle.std.proofs.Common.{◌≡◌, ℕ, ◌+◌, ◌<◌, ◌≤◌, ◌⊎◌, nat_eq, nat_lt, Bool, true, false, List, length, take, Option, Some, refl, sym, ◌∙◌, inl, inr, arith}
-use Rattle.std.specs.Prelude.{◌↔◌}
+use Rattle.std.proofs.Common.{◌≡◌, ℕ, ◌+◌, ◌<◌, ◌≤◌, ◌⊎◌, nat_eq, nat_lt, Bool, true, false, List, length, take, Option, Some, Result, Ok, Err, refl, sym, subst, ◌∙◌, inl, inr, arith}
+use Rattle.std.specs.Prelude.{◌↔◌, IfErr, IfOk}
 use Rattle.std.specs.List.{starts_with}
 use Rattle.std.proofs.lemmas.Bool.{cases_lt, lt-ltb}
 use Rattle.std.proofs.lemmas.List.{length-take-le, take_all, take-take}
@@ -14,7 +14,8 @@ use Rattle.plain_list.specs.List.{HasFault}
 use Rattle.plain_list.specs.declared.fault.PlainFault.{PlainFault}
 use Rattle.plain_list.specs.declared.fault.PlainFault.TheVariants as faults
 use Rattle.run_faults.specs.RunFault.{RunFault}
-use Rattle.any_list.specs.List.{IsFaultIf, IsListFault, whole_fault, whole_ran_out}
+use Rattle.any_list.specs.List.{IsFaultIf, IsFileRead, IsListFault, IsReadList, whole_fault, whole_ran_out}
+use Rattle.any_list.specs.declared.list.List.{List as ListOf}
 
 -- as many bytes as are read of a file
 abbrev most : ℕ
@@ -37,15 +38,10 @@ too_long false bytes header entries long named = let within : length bytes ≤ l
 long_front : (bytes : List ℕ) → most < length bytes → limit < length (take most bytes)
 long_front bytes more = rw (length-take-le most bytes (omega arith)) (omega arith)
 
-names_as : (bytes : List ℕ) (header : Option Header) (entries : List Entry) → (most < length bytes) ⊎ (length bytes ≤ most) → Names bytes header entries ↔ Names (take most bytes) header entries
-names_as bytes header entries (inl more) = (
-  λ named. absurd (too_long (begins_list bytes) bytes header entries (omega arith) named),
-  λ named. absurd (too_long (begins_list (take most bytes)) (take most bytes) header entries (long_front bytes more) named),
-)
-names_as bytes header entries (inr all) = rw (take_all most bytes all) (λ named. named, λ named. named)
-
-pub names : (bytes : List ℕ) (header : Option Header) (entries : List Entry) → Names bytes header entries ↔ Names (take most bytes) header entries
-names bytes header entries = names_as bytes header entries (cases_lt most (length bytes))
+-- the front of a file that is a list is the whole file
+whole_as : (file : List ℕ) (header : Option Header) (entries : List Entry) → (most < length file) ⊎ (length file ≤ most) → Names (take most file) header entries → take most file ≡ file
+whole_as file header entries (inl more) named = absurd (too_long (begins_list (take most file)) (take most file) header entries (long_front file more) named)
+whole_as file header entries (inr all) named = take_all most file all
 
 -- ---- faults
 
@@ -88,5 +84,15 @@ faults_as name bytes stop (inl more) =
     )
 faults_as name bytes stop (inr all) = rw (take_all most bytes all) (λ fault. fault, λ fault. fault)
 
-pub faults_are : (name bytes : List ℕ) (stop : RunFault) → IsListFault name bytes stop ↔ IsListFault name (take most bytes) stop
+faults_are : (name bytes : List ℕ) (stop : RunFault) → IsListFault name bytes stop ↔ IsListFault name (take most bytes) stop
 faults_are name bytes stop = faults_as name bytes stop (cases_lt most (length bytes))
+
+-- ---- a file, by its front
+
+pub file_read : (hashed : Bool) (name bytes file : List ℕ) (result : Result ListOf RunFault) → bytes ≡ take most file → IfOk result (λ list. IsReadList hashed bytes list) → IfErr result (λ stop. IsListFault name bytes stop)
+    → IsFileRead hashed name file result
+file_read hashed name bytes file (Ok list) is read refused =
+    let front : IsReadList hashed (take most file) list = subst (λ (b : List ℕ). IsReadList hashed b list) is read in
+    subst (λ (b : List ℕ). IsReadList hashed b list) (whole_as file front.header front.entries (cases_lt most (length file)) front.named) front
+file_read hashed name bytes file (Err stop) is read refused =
+    (faults_are name file stop).1 (subst (λ (b : List ℕ). IsListFault name b stop) is refused)

@@ -1,5 +1,6 @@
 -- The facts about a list that was read from its bytes, and why a list is refused.
 use Rattle.std.specs.Prelude.{◌≡◌, ℕ, Bool, true, false, List, Option, Some, None, option_map}
+use Rattle.std.specs.Prelude.{Result, Ok, Err}
 use Rattle.sha2.specs.Sha256.{sha256}
 use Rattle.krl_types.specs.Entry.{Entry}
 use Rattle.krl_types.specs.declared.krl_fault.KrlFault.{KrlFault}
@@ -78,3 +79,8 @@ IsFaultIf false name bytes stop = IsLinesFault name bytes stop
 -- The list of this name, with these bytes, is refused for this.
 abbrev pub IsListFault : (name bytes : List ℕ) → RunFault → Type 0
 IsListFault name bytes stop = IsFaultIf (begins_list bytes) name bytes stop
+
+-- The list with these bytes was read, or is refused.
+abbrev pub IsFileRead : Bool → (name bytes : List ℕ) → Result ListOf RunFault → Type 0
+IsFileRead hashed name bytes (Ok list) = IsReadList hashed bytes list
+IsFileRead hashed name bytes (Err stop) = IsListFault name bytes stop

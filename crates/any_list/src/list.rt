@@ -1,8 +1,10 @@
 //! A list that was read from its bytes.
 
-ghost use Rattle.std.specs.Prelude.{◌≡◌, IfErr, IfOk};
-ghost use Rattle.any_list.specs.List.{IsLinesFault, IsListFault, IsReadLines, IsReadList};
-ghost use Rattle.any_list.specs.List.{IsReadWhole, IsWholeFault, plain_run_fault, sha256_if};
+ghost use Rattle.std.specs.Prelude.{◌≡◌, ◌+◌, ℕ, List as ListOf, IfErr, IfOk, take};
+ghost use Rattle.krl_format.specs.Front.{limit};
+ghost use Rattle.any_list.specs.List.{IsFileRead, IsLinesFault, IsListFault, IsReadLines};
+ghost use Rattle.any_list.specs.List.{IsReadList, IsReadWhole, IsWholeFault, plain_run_fault};
+ghost use Rattle.any_list.specs.List.{sha256_if};
 
 use byte_streams::Lent;
 use key_text::sha256_of;
@@ -33,6 +35,9 @@ pub fn read_list<'a>(
 ) -> Result<List, RunFault<'a>>
     ensures found { IfOk result (λ list. IsReadList hashed bytes.now list) }
     ensures fault { IfErr result (λ stop. IsListFault name.now bytes.now stop) }
+    // No more of a file need be read than this.
+    ensures front { (file : ListOf ℕ) → bytes.now ≡ take (limit + 1) file
+        → IsFileRead hashed name.now file result }
 {
     if begins_list(bytes) {
         read_whole(alloc, name, bytes, hashed)

@@ -13,10 +13,8 @@ use Rattle.run_output.specs.Carries.{Carries, IsEnded}
 use Rattle.run_output.specs.Printer.{HasSaid, Printer}
 use Rattle.run_output.specs.Run.{Item, Stopped}
 use Rattle.krl_types.specs.Subject.{Subject}
-use Rattle.krl_entries.specs.Reasons.{reasons_of}
-use Rattle.krl_entries.specs.Revocations.{Means}
 use Rattle.krl_entries.specs.declared.reasons.Reasons.{Reasons}
-use Rattle.krl_audit.specs.Audit.{ToldFile, file_kinds}
+use Rattle.krl_audit.specs.Audit.{JudgesAs, ToldFile, file_kinds}
 use Rattle.krl_audit.specs.Counts.{all_counted}
 use Rattle.krl_audit.specs.declared.counts.Counts.{Counts}
 use Rattle.krl_audit.specs.declared.judge.Judge.{Judge}
@@ -28,6 +26,7 @@ use Rattle.audit_run.specs.Visits.{all_tallied, gives, gives_one, is_seen, passe
 use Rattle.audit_run.specs.Visits.{visit_items, visits_items, with_audited, with_key, with_skipped}
 use Rattle.audit_run.specs.declared.files.Files.{Files}
 use Rattle.audit_run.specs.declared.files.Since.{Since}
+use Rattle.audit_run.specs.declared.files.Skip.{Skip}
 use Rattle.audit_run.specs.declared.stop.Stop.{Stop}
 use Rattle.audit_run.specs.declared.stop.Stop.TheVariants as stops
 
@@ -103,8 +102,8 @@ gives_append (x ∷ xs) ys =
 passes_append : (xs ys : List Visit) → passes (xs ++ ys) ≡ passes xs || passes ys
 passes_append [] ys = refl
 passes_append (Audited key name content ∷ xs) ys = passes_append xs ys
-passes_append (Same key name ∷ xs) ys = passes_append xs ys
-passes_append (Skipped count ∷ xs) ys =
+passes_append (Same told key name ∷ xs) ys = passes_append xs ys
+passes_append (Skipped why count ∷ xs) ys =
     ap (λ (b : Bool). nat_lt 0 count || b) (passes_append xs ys) ∙ sym (or_assoc (nat_lt 0 count) (passes xs) (passes ys))
 
 since_then : (xs ys : List Visit) (stop : Option Stop) (old mid new : Since) → IsSince xs None old mid → IsSince ys stop mid new
@@ -297,22 +296,22 @@ pub gave_since : (old new : Since) (key : Option (List ℕ)) (name : List ℕ) (
     → new.gave ≡ true → new.passed ≡ old.passed → IsSince (Audited key name content ∷ []) None old new
 gave_since old new key name content is was = (is ∙ or_true old.gave, was ∙ or_false old.passed)
 
-pub same_gave_since : (old new : Since) (key name : List ℕ) → new.gave ≡ true → new.passed ≡ old.passed
-    → IsSince (Same key name ∷ []) None old new
-same_gave_since old new key name is was = (is ∙ or_true old.gave, was ∙ or_false old.passed)
+pub same_gave_since : (old new : Since) (told : Bool) (key name : List ℕ) → new.gave ≡ true → new.passed ≡ old.passed
+    → IsSince (Same told key name ∷ []) None old new
+same_gave_since old new told key name is was = (is ∙ or_true old.gave, was ∙ or_false old.passed)
 
 -- names were passed over
-pub skipped_meets : (count : ℕ) (old new : State) → new.judge ≡ old.judge → new.printer ≡ old.printer
-    → new.tally ≡ record { counts = old.tally.counts; files = with_skipped count old.tally.files }
+pub skipped_meets : (why : Skip) (count : ℕ) (old new : State) → new.judge ≡ old.judge → new.printer ≡ old.printer
+    → new.tally ≡ record { counts = old.tally.counts; files = with_skipped why count old.tally.files }
     → new.since.gave ≡ old.since.gave → new.since.passed ≡ old.since.passed || nat_lt 0 count
-    → Meets (Skipped count ∷ []) None old new
-skipped_meets count old new judge printer tally gave passed = record {
+    → Meets (Skipped why count ∷ []) None old new
+skipped_meets why count old new judge printer tally gave passed = record {
   audits = record {
     judge = judge;
-    audits = λ entries means. record {
+    audits = λ reasons judges. record {
       says = λ before said has.
           let kept : HasSaid before said new.printer = subst (λ (p : Printer). HasSaid before said p) (sym printer) has in
-          let none = items_one (reasons_of entries) old.judge.shown (Skipped count) in
+          let none = items_one reasons old.judge.shown (Skipped why count) in
           subst (λ (items : List Item). HasSaid before items new.printer)
           (sym (ap (λ (items : List Item). said ++ items) none ∙ append-nil said)) kept;
       tallies = tally;
@@ -330,10 +329,10 @@ pub nothing_met : (now : State) → Meets [] None now now
 nothing_met now = record {
   audits = record {
     judge = refl;
-    audits = λ entries means. record {
+    audits = λ reasons judges. record {
       says = λ before said has.
           subst (λ (items : List Item). HasSaid before items now.printer)
-          (sym (ap (λ (items : List Item). said ++ items) (items_none (reasons_of entries) now.judge.shown) ∙ append-nil said)) has;
+          (sym (ap (λ (items : List Item). said ++ items) (items_none reasons now.judge.shown) ∙ append-nil said)) has;
       tallies = refl;
       timely = tt;
       quiet = λ silent. tt;
@@ -347,11 +346,11 @@ pub nothing_begun : (now : State) → Meets [] (Some stops.NoMemory) now now
 nothing_begun now = record {
   audits = record {
     judge = refl;
-    audits = λ entries means. record {
+    audits = λ reasons judges. record {
       says = λ before said has. record {
         said = said;
         later = [];
-        parts = ap (λ (items : List Item). said ++ items) (items_none (reasons_of entries) now.judge.shown);
+        parts = ap (λ (items : List Item). said ++ items) (items_none reasons now.judge.shown);
         has_said = has;
       };
       tallies = tt;
@@ -399,9 +398,9 @@ pub by_then : (xs ys : List Visit) (stop : Option Stop) (old mid new : State) �
     → AuditsBy ys stop mid new → AuditsBy (xs ++ ys) stop old new
 by_then xs ys stop old mid new first second = record {
   judge = second.judge ∙ first.judge;
-  audits = λ entries means.
-      let also : Means mid.judge.list.now entries = subst (λ (j : Judge). Means j.list.now entries) (sym first.judge) means in
-      audits_then (reasons_of entries) xs ys stop old mid new first.judge (first.audits entries means) (second.audits entries also);
+  audits = λ reasons judges.
+      let also : JudgesAs mid.judge reasons = subst (λ (j : Judge). JudgesAs j reasons) (sym first.judge) judges in
+      audits_then reasons xs ys stop old mid new first.judge (first.audits reasons judges) (second.audits reasons also);
 }
 
 pub meets_then : (xs ys : List Visit) (stop : Option Stop) (old mid new : State) → Meets xs None old mid
@@ -434,6 +433,21 @@ pub goes_as : (result : Result (Unit {0}) Stop) (Is Also : List Visit → Type 0
     → Goes result (λ (done : Unit {0}). Also) old new
 goes_as result Is Also old new implies was =
     record { visits = was.visits; is = begun_as result Is Also was.visits (implies was.visits) was.is; meets = was.meets }
+
+begun_more : {A : Type 0} (result : Result A Stop) (Is Also : A → List Visit → Type 0) (visits : List Visit)
+    → ((value : A) → Is value visits → Also value visits) → Begun result Is visits → Begun result Also visits
+begun_more (Ok done) Is Also visits implies is = implies done is
+begun_more (Err stop) Is Also visits implies (inl is) = inl (is.0, implies is.0 is.1)
+begun_more (Err stop) Is Also visits implies (inr none) = inr none
+
+-- what holds of it, by its value, holds of more
+pub goes_more : {A : Type 0} (result : Result A Stop) (Is Also : A → List Visit → Type 0) (old new : State)
+    → ((value : A) (visits : List Visit) → Is value visits → Also value visits) → Goes result Is old new → Goes result Also old new
+goes_more result Is Also old new implies was = record {
+  visits = was.visits;
+  is = begun_more result Is Also was.visits (λ value. implies value was.visits) was.is;
+  meets = was.meets;
+}
 
 pub goes_nothing : {A : Type 0} (Is : A → List Visit → Type 0) (now : State) → Goes (Err stops.NoMemory) Is now now
 goes_nothing Is now = record { visits = []; is = inr refl; meets = nothing_begun now }

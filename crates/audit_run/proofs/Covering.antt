@@ -9,7 +9,7 @@ use Rattle.audit_tree.specs.Paths.{path_in}
 use Rattle.audit_run.specs.Entries.{IsEntry}
 use Rattle.audit_run.specs.Fact.{Fact}
 use Rattle.audit_run.specs.Visits.{Visit}
-use Rattle.audit_run.specs.Walk.{IsEntered, Level, Turn, Turns, goes, goes_down, leaves, none, turned}
+use Rattle.audit_run.specs.Walk.{IsEnteredBelow, Level, Turn, Turns, goes, goes_down, leaves, none, turned}
 
 -- ---- parts of a list
 
@@ -36,7 +36,7 @@ pub data CoversName (Knows : Fact → Type 0) (every : Bool) (now had : List Lev
   went : (some : List Visit) → IsEntry Knows level.every level.path name.items false some → IsPartOf some visits
       → CoversName Knows every now had visits level name
   below : (some : List Visit) (deeper : List Level) → IsEntry Knows level.every level.path name.items true []
-      → IsEntered Knows every false (path_in level.path name.items) some deeper → IsPartOf some visits → IsPartOf deeper had
+      → IsEnteredBelow Knows every (path_in level.path name.items) some deeper → IsPartOf some visits → IsPartOf deeper had
       → CoversName Knows every now had visits level name
 
 -- The directories that were had are those at the start and all that were entered since.
@@ -68,11 +68,11 @@ entry_as Knows last level name other down visits path every same is =
     (subst (λ (e : Bool). IsEntry Knows e last.path name.items down visits) every is))
 
 entered_as : (Knows : Fact → Type 0) (every : Bool) (last level : Level) (name other : Vec ℕ) (visits : List Visit) (deeper : List Level)
-    → last.path ≡ level.path → name ≡ other → IsEntered Knows every false (path_in last.path name.items) visits deeper
-    → IsEntered Knows every false (path_in level.path other.items) visits deeper
+    → last.path ≡ level.path → name ≡ other → IsEnteredBelow Knows every (path_in last.path name.items) visits deeper
+    → IsEnteredBelow Knows every (path_in level.path other.items) visits deeper
 entered_as Knows every last level name other visits deeper path same is =
-    subst (λ (n : Vec ℕ). IsEntered Knows every false (path_in level.path n.items) visits deeper) same
-    (subst (λ (p : List ℕ). IsEntered Knows every false (path_in p name.items) visits deeper) path is)
+    subst (λ (n : Vec ℕ). IsEnteredBelow Knows every (path_in level.path n.items) visits deeper) same
+    (subst (λ (p : List ℕ). IsEnteredBelow Knows every (path_in p name.items) visits deeper) path is)
 
 names_at : (at last : Level) (name : Vec ℕ) → last ≡ at → Contains at.names name → Contains last.names name
 names_at at last name same left = subst (λ (l : Level). Contains l.names name) (sym same) left
@@ -174,7 +174,7 @@ pub data IsGoneTo (Knows : Fact → Type 0) (every : Bool) (had : List Level) (v
     gone : (some : List Visit) → IsEntry Knows level.every level.path name.items false some → IsPartOf some visits
         → IsGoneTo Knows every had visits level name
     gone_down : (some : List Visit) (deeper : List Level) → IsEntry Knows level.every level.path name.items true []
-        → IsEntered Knows every false (path_in level.path name.items) some deeper → IsPartOf some visits → IsPartOf deeper had
+        → IsEnteredBelow Knows every (path_in level.path name.items) some deeper → IsPartOf some visits → IsPartOf deeper had
         → IsGoneTo Knows every had visits level name
 
 all_gone : (Knows : Fact → Type 0) (every : Bool) (had : List Level) (visits : List Visit) (level : Level) (name : Vec ℕ)

@@ -5,7 +5,8 @@ use Rattle.audit_tree.specs.Names.{selection_of}
 use Rattle.audit_tree.specs.Paths.{path_in}
 use Rattle.audit_tree.specs.declared.names.Selection.{Selection}
 use Rattle.krl_audit.specs.declared.why.Refusal.{Refusal}
-use Rattle.audit_run.specs.Entries.{IsEntry, IsLooked, here, is_directory, is_expected}
+use Rattle.audit_run.specs.Entries.{IsKept, IsLooked, here, is_expected}
+use Rattle.audit_run.specs.Names.{is_directory}
 use Rattle.audit_run.specs.Fact.{Fact, Leads}
 use Rattle.audit_run.specs.Names.{is_never}
 use Rattle.audit_run.specs.Visits.{Begun, Visit}
@@ -17,7 +18,7 @@ pub entry_here : (Knows : Fact → Type 0) (every : Bool) (directory name at oth
     (expected : Bool) (found : Result Found Refusal) (visits : List Visit) → IsUtf8 name → at ≡ path_in directory name
     → other ≡ path_in directory name → selection ≡ selection_of every name → expected ≡ is_expected directory name
     → is_never selection ≡ false → Knows (Leads at false found) → is_directory found ≡ false
-    → IsLooked Knows other selection expected found visits → IsEntry Knows every directory name false visits
+    → IsLooked Knows other selection expected found visits → IsKept Knows every directory name false visits
 entry_here Knows every directory name at other selection expected found visits utf8 at_is other_is chosen wants never looked is leads =
     let looked_at : Knows (Leads (path_in directory name) false found) =
     subst (λ (p : List ℕ). Knows (Leads p false found)) at_is looked in

@@ -7,7 +7,7 @@ use Rattle.std.proofs.lemmas.List.Sorted.{Contains-permutation, IsPermutation-re
 use Rattle.std.specs.Global.{Vec}
 use Rattle.std.specs.Prelude.{Contains, IfSome, reverse}
 use Rattle.std.specs.Str.{IsUtf8}
-use Rattle.audit_tree.specs.Names.{selection_of}
+use Rattle.audit_tree.specs.Names.{is_sought, selection_of}
 use Rattle.audit_tree.specs.Paths.{path_in}
 use Rattle.audit_tree.specs.declared.names.Selection.{Selection}
 use Rattle.key_text.specs.Armour.{begins_container}
@@ -16,15 +16,16 @@ use Rattle.krl_audit.specs.declared.why.Refusal.TheVariants as refusals
 use Rattle.audit_run.specs.Below.{HasName, IsBelow, IsFileBelow, IsSelected, IsSteady, IsVisitOf, LeadsToFile, SomeUnread, SomeVisit}
 use Rattle.audit_run.specs.Below.{by_front, by_name, deeper, itself, linked, regular}
 use Rattle.audit_run.specs.Entries.{IsBehind, IsFileBy, IsFound, IsLooked, IsOpened, IsOpenedIf, IsPrivateBy, IsPrivateFile, IsPrivateIf}
-use Rattle.audit_run.specs.Entries.{IsRegularBy, below, here, is_directory, is_expected, no_text, not_selected, other as passed_file, private, read, same as seen_before}
+use Rattle.audit_run.specs.Entries.{IsKept, IsRegularBy, below, excluded, here, kept, is_expected, no_text, not_selected, other as passed_file, private, read, same as seen_before}
+use Rattle.audit_run.specs.Names.{is_directory}
 use Rattle.audit_run.specs.Entries.{unread}
-use Rattle.audit_run.specs.Fact.{Fact, Leads, OpenFile}
-use Rattle.audit_run.specs.Names.{AreWanted, IsWanted, MayBeDirectory, behind, dots, is_directory_kind, is_dots, is_link_kind, is_never}
+use Rattle.audit_run.specs.Fact.{Elsewhere, Excludes, Fact, Leads, OpenFile}
+use Rattle.audit_run.specs.Names.{AreWanted, IsWanted, MayBeDirectory, behind, dots, excluded_name, is_directory_kind, is_dots, is_link_kind, is_never}
 use Rattle.audit_run.specs.Names.{left_out, looked_at, names_after, no_name, not_looked_at, selected, taken}
 use Rattle.audit_run.specs.Names.{no_text as no_text_name, not_selected as not_selected_name}
 use Rattle.audit_run.specs.Reading.{front_of}
 use Rattle.audit_run.specs.Visits.{Audited, Visit, refused}
-use Rattle.audit_run.specs.Walk.{IsDirectory, IsEntered, IsOpen, Level, Turns, before, endless, entered, every_in, not_entered, stopped, walked}
+use Rattle.audit_run.specs.Walk.{IsDirectory, IsEntered, IsEnteredBelow, IsOpen, Level, Turns, before, elsewhere, endless, entered, entered_below, every_in, not_entered, stopped, walked}
 use Rattle.audit_run.specs.declared.kind.Found.{Found}
 use Rattle.audit_run.specs.declared.kind.Kind.{Kind}
 use Rattle.audit_run.specs.declared.kind.Kind.TheVariants as kinds
@@ -60,7 +61,7 @@ one_visit visits path visit is of = (visit, (subst (λ (v : List Visit). Contain
 opened_visit : (Knows : Fact → Type 0) (path : List ℕ) (held : OpenFile) (visits : List Visit)
     → IsOpened Knows path held.identity held.bytes visits → SomeVisit path visits
 opened_visit Knows path held visits (read is) = one_visit visits path _ is.visits_are refl
-opened_visit Knows path held visits (seen_before is) = one_visit visits path _ is refl
+opened_visit Knows path held visits (seen_before told is) = one_visit visits path _ is refl
 
 opened_if_visit : (Knows : Fact → Type 0) (path : List ℕ) (held : OpenFile) (is_file : Bool) (visits : List Visit)
     → IsOpenedIf is_file Knows path held.identity held.bytes visits → SomeVisit path visits
@@ -151,16 +152,16 @@ looked_visit Knows path selection expected looked file visits steady looks (link
 directory_link : (kind : Kind) → kind ≡ kinds.Directory → is_link_kind kind ≡ true → ⊥
 directory_link kind is link = let so : is_link_kind kinds.Directory ≡ true = subst (λ (k : Kind). is_link_kind k ≡ true) is link in cc
 
-may_not : (Knows : Fact → Type 0) (path : List ℕ) (found : Found) → IsSteady Knows → Knows (Leads path false (Ok found))
-    → found.kind ≡ kinds.Directory → MayBeDirectory Knows path false → ⊥
-may_not Knows path found steady leads kind (not_looked_at refusal looked may) = absurd (cc)
-may_not Knows path found steady leads kind (looked_at found_too looked link may) =
+may_not : (Knows : Fact → Type 0) (sought : Bool) (path : List ℕ) (found : Found) → IsSteady Knows → Knows (Leads path false (Ok found))
+    → found.kind ≡ kinds.Directory → MayBeDirectory Knows sought path false → ⊥
+may_not Knows sought path found steady leads kind (not_looked_at refusal looked may) = absurd (cc)
+may_not Knows sought path found steady leads kind (looked_at found_too looked link may) =
     let same : Ok found_too ≡ Ok found = steady.leads path false (Ok found_too) (Ok found) looked leads in
     let it : found_too ≡ found = cc in
     let directory : is_directory_kind found_too.kind ≡ true =
     ap (λ (f : Found). is_directory_kind f.kind) it ∙ ap (λ (k : Kind). is_directory_kind k) kind in
     cc
-may_not Knows path found steady leads kind (behind found_too followed looked link_is follows may) =
+may_not Knows sought path found steady leads kind (behind found_too looked link_is may) =
     let same : Ok found_too ≡ Ok found = steady.leads path false (Ok found_too) (Ok found) looked leads in
     let it : found_too ≡ found = cc in
     directory_link found_too.kind (ap (λ (f : Found). f.kind) it ∙ kind) link_is
@@ -170,18 +171,20 @@ directory_wanted : (Knows : Fact → Type 0) (every : Bool) (path name : List �
     → IsUtf8 name → Knows (Leads (path_in path name) false (Ok found)) → found.kind ≡ kinds.Directory
     → IsWanted Knows every path false name → ⊥
 directory_wanted Knows every path name found steady no_dots text leads kind (dots is wanted) = cc
-directory_wanted Knows every path name found steady no_dots text leads kind (selected not_dots never wanted) = cc
-directory_wanted Knows every path name found steady no_dots text leads kind (no_text_name not_dots never bad wanted) = cc
-directory_wanted Knows every path name found steady no_dots text leads kind (not_selected_name not_dots never utf8 may) =
-    may_not Knows (path_in path name) found steady leads kind may
+directory_wanted Knows every path name found steady no_dots text leads kind (excluded_name not_dots leaves wanted) = cc
+directory_wanted Knows every path name found steady no_dots text leads kind (selected not_dots keeps never wanted) = cc
+directory_wanted Knows every path name found steady no_dots text leads kind (no_text_name not_dots keeps never bad wanted) = cc
+directory_wanted Knows every path name found steady no_dots text leads kind (not_selected_name not_dots keeps never utf8 may) =
+    may_not Knows (is_sought name) (path_in path name) found steady leads kind may
 
 -- so is one that is selected
 selected_wanted : (Knows : Fact → Type 0) (every : Bool) (path name : List ℕ) → is_dots name ≡ false
     → is_never (selection_of every name) ≡ false → IsWanted Knows every path false name → ⊥
 selected_wanted Knows every path name no_dots chosen (dots is wanted) = cc
-selected_wanted Knows every path name no_dots chosen (selected not_dots never wanted) = cc
-selected_wanted Knows every path name no_dots chosen (no_text_name not_dots never bad wanted) = cc
-selected_wanted Knows every path name no_dots chosen (not_selected_name not_dots never utf8 may) = cc
+selected_wanted Knows every path name no_dots chosen (excluded_name not_dots leaves wanted) = cc
+selected_wanted Knows every path name no_dots chosen (selected not_dots keeps never wanted) = cc
+selected_wanted Knows every path name no_dots chosen (no_text_name not_dots keeps never bad wanted) = cc
+selected_wanted Knows every path name no_dots chosen (not_selected_name not_dots keeps never utf8 may) = cc
 
 are_taken : (Knows : Fact → Type 0) (every : Bool) (path name : List ℕ) (names : List (List ℕ)) (wanted : List (Vec ℕ)) (skipped : ℕ)
     → AreWanted Knows every path names wanted skipped → Contains names name → (IsWanted Knows every path false name → ⊥)
@@ -249,20 +252,43 @@ name_had Knows every named directory name had steady was has not_left =
     let back = Contains-permutation was.names (reverse was.names) it.0 (IsPermutation-reverse was.names) one in
     (it.0, (it.1.0, subst (λ (n : List (Vec ℕ)). Contains n it.0) (sym was.names_are) back))
 
+not_at_once : (Knows : Fact → Type 0) (name : List ℕ) → IsSteady Knows → Knows (Excludes name true) → Knows (Excludes name false) → ⊥
+not_at_once Knows name steady leaves keeps =
+    let same : true ≡ false = steady.excludes name true false leaves keeps in
+    cc
+
+-- a directory that is on the same file system was entered
+below_had : (Knows : Fact → Type 0) (every : Bool) (path : List ℕ) (visits all : List Visit) (levels had : List Level) → IsSteady Knows
+    → Knows (Elsewhere path false) → IsEnteredBelow Knows every path visits levels → IsPartOf visits all → IsPartOf levels had
+    → WasEntered Knows every false path had ⊎ SomeUnread all
+below_had Knows every path visits all levels had steady stays (elsewhere leaves is levels_are) part grows =
+    let same : true ≡ false = steady.elsewheres path true false leaves stays in
+    absurd (cc)
+below_had Knows every path visits all levels had steady stays (entered_below stays_too enters) part grows =
+    level_had Knows every false path visits all levels had enters part grows
+
+kept_down : (Knows : Fact → Type 0) (every : Bool) (path name : List ℕ) (found : Found) (visits : List Visit) → IsSteady Knows
+    → Knows (Leads (path_in path name) false (Ok found)) → found.kind ≡ kinds.Directory → IsUtf8 name
+    → IsKept Knows every path name false visits → ⊥
+kept_down Knows every path name found visits steady leads kind text (no_text bad down is) = bad text
+kept_down Knows every path name found visits steady leads kind text (not_selected utf8 never down is) = cc
+kept_down Knows every path name found visits steady leads kind text (below found_too utf8 never looked dir down is) = cc
+kept_down Knows every path name found visits steady leads kind text (here found_too utf8 never looked dir down is) =
+    let it = steady.leads (path_in path name) false found_too (Ok found) looked leads in
+    let so : is_directory (Ok found) ≡ false = subst (λ (o : Result Found Refusal). is_directory o ≡ false) it dir in
+    not_both (is_directory_kind found.kind) (ap (λ (k : Kind). is_directory_kind k) kind) so
+
 -- where it leads to a directory this was entered
 went_down : (Knows : Fact → Type 0) (every : Bool) (had : List Level) (all : List Visit) (level : Level) (name : Vec ℕ) (found : Found)
     → IsSteady Knows → Knows (Leads (path_in level.path name.items) false (Ok found)) → found.kind ≡ kinds.Directory → IsUtf8 name.items
-    → IsGoneTo Knows every had all level name
+    → Knows (Excludes name.items false) → Knows (Elsewhere (path_in level.path name.items) false) → IsGoneTo Knows every had all level name
     → WasEntered Knows every false (path_in level.path name.items) had ⊎ SomeUnread all
-went_down Knows every had all level name found steady leads kind text (gone_down some deep is enters part grows) =
-    level_had Knows every false (path_in level.path name.items) some all deep had enters part grows
-went_down Knows every had all level name found steady leads kind text (gone some (no_text bad down is) part) = absurd (bad text)
-went_down Knows every had all level name found steady leads kind text (gone some (not_selected utf8 never down is) part) = absurd (cc)
-went_down Knows every had all level name found steady leads kind text (gone some (below found_too utf8 never looked dir down is) part) = absurd (cc)
-went_down Knows every had all level name found steady leads kind text (gone some (here found_too utf8 never looked dir down is) part) =
-    let it = steady.leads (path_in level.path name.items) false found_too (Ok found) looked leads in
-    let so : is_directory (Ok found) ≡ false = subst (λ (o : Result Found Refusal). is_directory o ≡ false) it dir in
-    absurd (not_both (is_directory_kind found.kind) (ap (λ (k : Kind). is_directory_kind k) kind) so)
+went_down Knows every had all level name found steady leads kind text keeps stays (gone_down some deep is enters part grows) =
+    below_had Knows every (path_in level.path name.items) some all deep had steady stays enters part grows
+went_down Knows every had all level name found steady leads kind text keeps stays (gone some (excluded leaves down is) part) =
+    absurd (not_at_once Knows name.items steady leaves keeps)
+went_down Knows every had all level name found steady leads kind text keeps stays (gone some (kept there is) part) =
+    absurd (kept_down Knows level.every level.path name.items found some steady leads kind text is)
 
 -- each directory below was entered
 pub below_entered : (Knows : Fact → Type 0) (every : Bool) (top : List ℕ) (had start : List Level) (all first : List Visit)
@@ -271,7 +297,7 @@ pub below_entered : (Knows : Fact → Type 0) (every : Bool) (top : List ℕ) (h
     → WasEntered Knows every named directory had ⊎ SomeUnread all
 below_entered Knows every top had start all first steady enters part walk _ _ itself =
     level_had Knows every true top first all start had enters part walk.starts
-below_entered Knows every top had start all first steady enters part walk _ _ (deeper named directory name found under has leads kind) =
+below_entered Knows every top had start all first steady enters part walk _ _ (deeper named directory name found under has leads kind stays) =
     elim (below_entered Knows every top had start all first steady enters part walk named directory under) [
       | inr unread_one ↦ inr unread_one
       | inl was ↦
@@ -283,8 +309,11 @@ below_entered Knows every top had start all first steady enters part walk _ _ (d
           let leads_there : Knows (Leads (path_in was.level.path it.0.items) false (Ok found)) =
           subst (λ (p : List ℕ). Knows (Leads p false (Ok found))) (sym path) leads in
           let text : IsUtf8 it.0.items = subst (λ (n : List ℕ). IsUtf8 n) (sym it.1.0) has.text in
+          let keeps : Knows (Excludes it.0.items false) = subst (λ (n : List ℕ). Knows (Excludes n false)) (sym it.1.0) has.not_excluded in
+          let stays_there : Knows (Elsewhere (path_in was.level.path it.0.items) false) =
+          subst (λ (p : List ℕ). Knows (Elsewhere p false)) (sym path) stays in
           subst (λ (p : List ℕ). WasEntered Knows every false p had ⊎ SomeUnread all) path
-          (went_down Knows every had all was.level it.0 found steady leads_there kind text goes)
+          (went_down Knows every had all was.level it.0 found steady leads_there kind text keeps stays_there goes)
     ]
 
 -- ---- a file
@@ -306,29 +335,42 @@ leads_here Knows path file looked steady looks (linked link found kind_is follow
 visit_of_more : (path : List ℕ) (some all : List Visit) → IsPartOf some all → SomeVisit path some → SomeVisit path all
 visit_of_more path some all part visit = (visit.0, (part visit.0 visit.1.0, visit.1.1))
 
+kept_here : (Knows : Fact → Type 0) (every : Bool) (path name : List ℕ) (file : Found) (visits : List Visit)
+    → IsSteady Knows → LeadsToFile Knows (path_in path name) file → file.kind ≡ kinds.File → IsUtf8 name
+    → IsSelected Knows (path_in path name) file (selection_of every name)
+    → IsKept Knows every path name false visits → SomeVisit (path_in path name) visits
+kept_here Knows every path name file visits steady leads kind text selects (no_text bad down is) = absurd (bad text)
+kept_here Knows every path name file visits steady leads kind text selects (not_selected utf8 never down is) = absurd (cc)
+kept_here Knows every path name file visits steady leads kind text selects (below found_too utf8 never looked dir down is) = absurd (cc)
+kept_here Knows every path name file visits steady leads kind text selects (here looked utf8 never looks dir down is) =
+    looked_visit Knows (path_in path name) (selection_of every name) (is_expected path name) looked file
+    visits steady looks leads kind selects is
+
+not_down : (Knows : Fact → Type 0) (every : Bool) (path name : List ℕ) (file : Found) (visits : List Visit)
+    → IsSteady Knows → LeadsToFile Knows (path_in path name) file → file.kind ≡ kinds.File → IsUtf8 name
+    → IsSelected Knows (path_in path name) file (selection_of every name)
+    → IsKept Knows every path name true visits → ⊥
+not_down Knows every path name file visits steady leads kind text selects (no_text bad down is) = bad text
+not_down Knows every path name file visits steady leads kind text selects (not_selected utf8 never down is) =
+    not_both (is_never (selection_of every name)) never (not_never Knows (path_in path name) file (selection_of every name) selects)
+not_down Knows every path name file visits steady leads kind text selects (below looked utf8 never looks dir down is) =
+    not_both (is_directory looked) dir (leads_here Knows (path_in path name) file looked steady looks leads kind)
+not_down Knows every path name file visits steady leads kind text selects (here looked utf8 never looks dir down is) = cc
+
 file_gone : (Knows : Fact → Type 0) (every : Bool) (had : List Level) (all : List Visit) (level : Level) (name : Vec ℕ) (file : Found)
     → IsSteady Knows → LeadsToFile Knows (path_in level.path name.items) file → file.kind ≡ kinds.File → IsUtf8 name.items
-    → IsSelected Knows (path_in level.path name.items) file (selection_of level.every name.items)
+    → IsSelected Knows (path_in level.path name.items) file (selection_of level.every name.items) → Knows (Excludes name.items false)
     → IsGoneTo Knows every had all level name → SomeVisit (path_in level.path name.items) all
-file_gone Knows every had all level name file steady leads kind text selects (gone some (no_text bad down is) part) = absurd (bad text)
-file_gone Knows every had all level name file steady leads kind text selects (gone some (not_selected utf8 never down is) part) = absurd (cc)
-file_gone Knows every had all level name file steady leads kind text selects (gone some (below found_too utf8 never looked dir down is) part) =
-    absurd (cc)
-file_gone Knows every had all level name file steady leads kind text selects (gone some (here looked utf8 never looks dir down is) part) =
+file_gone Knows every had all level name file steady leads kind text selects keeps (gone some (excluded leaves down is) part) =
+    absurd (not_at_once Knows name.items steady leaves keeps)
+file_gone Knows every had all level name file steady leads kind text selects keeps (gone some (kept there is) part) =
     visit_of_more (path_in level.path name.items) some all part
-    (looked_visit Knows (path_in level.path name.items) (selection_of level.every name.items) (is_expected level.path name.items) looked file
-    some steady looks leads kind selects is)
-file_gone Knows every had all level name file steady leads kind text selects
-    (gone_down some deep (no_text bad down is) enters part grows) = absurd (bad text)
-file_gone Knows every had all level name file steady leads kind text selects
-    (gone_down some deep (not_selected utf8 never down is) enters part grows) =
-    absurd (not_both (is_never (selection_of level.every name.items)) never
-    (not_never Knows (path_in level.path name.items) file (selection_of level.every name.items) selects))
-file_gone Knows every had all level name file steady leads kind text selects
-    (gone_down some deep (below looked utf8 never looks dir down is) enters part grows) =
-    absurd (not_both (is_directory looked) dir (leads_here Knows (path_in level.path name.items) file looked steady looks leads kind))
-file_gone Knows every had all level name file steady leads kind text selects
-    (gone_down some deep (here looked utf8 never looks dir down is) enters part grows) = absurd (cc)
+    (kept_here Knows level.every level.path name.items file some steady leads kind text selects is)
+file_gone Knows every had all level name file steady leads kind text selects keeps
+    (gone_down some deep (excluded leaves down is) enters part grows) = absurd (cc)
+file_gone Knows every had all level name file steady leads kind text selects keeps
+    (gone_down some deep (kept there is) enters part grows) =
+    absurd (not_down Knows level.every level.path name.items file [] steady leads kind text selects is)
 
 gone_more : (Knows : Fact → Type 0) (every : Bool) (had : List Level) (some all : List Visit) (level : Level) (name : Vec ℕ)
     → IsPartOf some all → IsGoneTo Knows every had some level name → IsGoneTo Knows every had all level name
@@ -368,8 +410,10 @@ file_in_walk Knows every top path start count first rest all steady enters turns
           subst (λ (s : Selection). IsSelected Knows (path_in was.level.path it.0.items) file.file s) selection
           (subst (λ (p : List ℕ). IsSelected Knows p file.file (selection_of (every_in every file.directory) file.name)) here file.selected) in
           let text : IsUtf8 it.0.items = subst (λ (n : List ℕ). IsUtf8 n) (sym it.1.0) file.has_name.text in
+          let keeps : Knows (Excludes it.0.items false) =
+          subst (λ (n : List ℕ). Knows (Excludes n false)) (sym it.1.0) file.has_name.not_excluded in
           inl (subst (λ (p : List ℕ). SomeVisit p all) (sym here)
-          (file_gone Knows every covers.0 all was.level it.0 file.file steady leads file.is_file text selects goes))
+          (file_gone Knows every covers.0 all was.level it.0 file.file steady leads file.is_file text selects keeps goes))
     ]
 
 -- ---- the law

@@ -7,6 +7,7 @@ pub mod Paths
 pub mod Naming
 pub mod Turning
 pub mod Running
+pub mod Flushing
 pub mod Inputs
 pub mod Directory
 pub mod Covering

@@ -6,11 +6,11 @@ use Rattle.std.proofs.lemmas.List.{map-append}
 use Rattle.std.specs.Global.{Vec}
 use Rattle.audit_tree.specs.Paths.{path_in}
 use Rattle.krl_audit.specs.declared.why.Refusal.TheVariants as refusals
-use Rattle.audit_run.specs.Entries.{IsEntry, below, here, no_text, not_selected}
+use Rattle.audit_run.specs.Entries.{IsEntry, IsKept, below, excluded, here, kept, no_text, not_selected}
 use Rattle.audit_run.specs.Fact.{Fact, Lists}
 use Rattle.audit_run.specs.Names.{most_bytes}
 use Rattle.audit_run.specs.Visits.{AuditsBy, Begun, Meets, State, Visit}
-use Rattle.audit_run.specs.Walk.{IsClosed, IsDirectory, IsEntered, Level, MayTurn, Turn, Turns, goes, goes_down, leaves}
+use Rattle.audit_run.specs.Walk.{IsClosed, IsDirectory, IsEntered, IsEnteredBelow, Level, MayTurn, Turn, Turns, goes, goes_down, leaves}
 use Rattle.audit_run.specs.Walk.{Walked, level_of, levels_of, none, too_many, turned, stopped}
 use Rattle.audit_run.specs.declared.walk.Entered.{Entered}
 use Rattle.audit_run.specs.declared.files.Since.{Since}
@@ -32,12 +32,17 @@ too_many_at Knows path named failed result left lists (inr many) same is = too_m
 
 -- ---- one step
 
+kept_nothing : (Knows : Fact → Type 0) (every : Bool) (directory name : List ℕ) (visits : List Visit)
+    → IsKept Knows every directory name true visits → visits ≡ []
+kept_nothing Knows every directory name visits (no_text bad down is) = absurd (cc)
+kept_nothing Knows every directory name visits (not_selected utf8 never down is) = is
+kept_nothing Knows every directory name visits (below found utf8 never leads dir down is) = is
+kept_nothing Knows every directory name visits (here found utf8 never leads dir down is) = absurd (cc)
+
 pub down_nothing : (Knows : Fact → Type 0) (every : Bool) (directory name : List ℕ) (visits : List Visit)
     → IsEntry Knows every directory name true visits → visits ≡ []
-down_nothing Knows every directory name visits (no_text bad down is) = absurd (cc)
-down_nothing Knows every directory name visits (not_selected utf8 never down is) = is
-down_nothing Knows every directory name visits (below found utf8 never leads dir down is) = is
-down_nothing Knows every directory name visits (here found utf8 never leads dir down is) = absurd (cc)
+down_nothing Knows every directory name visits (excluded out down is) = absurd (cc)
+down_nothing Knows every directory name visits (kept keeps is) = kept_nothing Knows every directory name visits is
 
 -- a name of the last directory was gone to, at most
 pub entry_turn : (Knows : Fact → Type 0) (every : Bool) (levels now : List Level) (last : Level) (left : List (Vec ℕ)) (name : Vec ℕ)
@@ -61,12 +66,12 @@ entry_stopped Knows every levels now last left name stop visits names (inr nothi
 pub down_turn : (Knows : Fact → Type 0) (every : Bool) (levels : List Level) (last : Level) (left : List (Vec ℕ)) (name : Vec ℕ)
     (first visits : List Visit) (path : List ℕ) (deeper : List Level) → last.names ≡ left ++ name ∷ []
     → IsEntry Knows last.every last.path name.items true first → path ≡ path_in last.path name.items
-    → IsEntered Knows every false path visits deeper
+    → IsEnteredBelow Knows every path visits deeper
     → Turn Knows every (levels ++ last ∷ []) (first ++ visits) ((levels ++ (record last { names = left }) ∷ []) ++ deeper)
 down_turn Knows every levels last left name first visits path deeper names is at enters =
     let nothing = down_nothing Knows last.every last.path name.items first is in
-    let there : IsEntered Knows every false (path_in last.path name.items) visits deeper =
-    subst (λ (p : List ℕ). IsEntered Knows every false p visits deeper) at enters in
+    let there : IsEnteredBelow Knows every (path_in last.path name.items) visits deeper =
+    subst (λ (p : List ℕ). IsEnteredBelow Knows every p visits deeper) at enters in
     let entry : IsEntry Knows last.every last.path name.items true [] =
     subst (λ (v : List Visit). IsEntry Knows last.every last.path name.items true v) nothing is in
     subst (λ (v : List Visit). Turn Knows every (levels ++ last ∷ []) (v ++ visits) ((levels ++ (record last { names = left }) ∷ []) ++ deeper))
@@ -76,7 +81,7 @@ pub down_stopped : {X : Type 0} (Knows : Fact → Type 0) (every : Bool) (levels
     (name : Vec ℕ) (first visits : List Visit) (path : List ℕ) (stop : Stop) (level_of_it : Option X → List Level)
     → last.names ≡ left ++ name ∷ [] → IsEntry Knows last.every last.path name.items true first
     → path ≡ path_in last.path name.items
-    → Begun {A = Option X} (Err stop) (λ (it : Option X) (v : List Visit). IsEntered Knows every false path v (level_of_it it)) visits
+    → Begun {A = Option X} (Err stop) (λ (it : Option X) (v : List Visit). IsEnteredBelow Knows every path v (level_of_it it)) visits
     → Begun {A = Unit {0}} (Err stop) (λ (done : Unit {0}). MayTurn false Knows every (levels ++ last ∷ []) now) (first ++ visits)
 down_stopped Knows every levels now last left name first visits path stop level_of_it names is at (inl enters) =
     inl (tt, inl (_, down_turn Knows every levels last left name first visits path (level_of_it enters.0) names is at enters.1))
@@ -95,7 +100,7 @@ here_turn Knows every levels next last left name visits names is held =
 pub below_turn : (Knows : Fact → Type 0) (every : Bool) (levels mid next : List Level) (last : Level) (left : List (Vec ℕ)) (name : Vec ℕ)
     (first visits : List Visit) (path : List ℕ) (deeper : List Level) → last.names ≡ left ++ name ∷ []
     → IsEntry Knows last.every last.path name.items true first → path ≡ path_in last.path name.items
-    → IsEntered Knows every false path visits deeper → mid ≡ levels ++ (record last { names = left }) ∷ []
+    → IsEnteredBelow Knows every path visits deeper → mid ≡ levels ++ (record last { names = left }) ∷ []
     → next ≡ mid ++ deeper → Turn Knows every (levels ++ last ∷ []) (first ++ visits) next
 below_turn Knows every levels mid next last left name first visits path deeper names is at enters held more =
     subst (λ (n : List Level). Turn Knows every (levels ++ last ∷ []) (first ++ visits) n)
@@ -128,8 +133,8 @@ pub since_begun : (visits : List Visit) (stop : Option Stop) (old new : State) (
     → AuditsBy visits stop (record old { since = since }) new → AuditsBy visits stop old new
 since_begun visits stop old new since by = record {
   judge = by.judge;
-  audits = λ entries means.
-      let was = by.audits entries means in
+  audits = λ reasons judges.
+      let was = by.audits reasons judges in
       record { says = was.says; tallies = was.tallies; timely = was.timely; quiet = was.quiet; writer = was.writer };
 }
 

@@ -1,4 +1,4 @@
--- What is below a directory, in a tree of files that does not change.
+-- Files below a directory, in a tree of files that does not change.
 use Rattle.std.specs.Prelude.{◌≡◌, ℕ, Bool, true, false, List, [], Contains, Option, Some, None}
 use Rattle.std.specs.Prelude.{Result, Ok, Err}
 use Rattle.std.specs.Str.{IsUtf8}
@@ -8,7 +8,7 @@ use Rattle.audit_tree.specs.Paths.{path_in}
 use Rattle.audit_tree.specs.declared.names.Selection.{Selection}
 use Rattle.audit_tree.specs.declared.names.Selection.TheVariants as selections
 use Rattle.krl_audit.specs.declared.why.Refusal.{Refusal}
-use Rattle.audit_run.specs.Fact.{Fact, Leads, Lists, OpenFile, Opens}
+use Rattle.audit_run.specs.Fact.{Elsewhere, Excludes, Fact, Leads, Lists, OpenFile, Opens}
 use Rattle.audit_run.specs.Names.{is_dots, names_after}
 use Rattle.audit_run.specs.Reading.{front_of}
 use Rattle.audit_run.specs.Visits.{Audited, Same, Skipped, Visit}
@@ -20,29 +20,36 @@ use Rattle.audit_run.specs.declared.kind.Kind.TheVariants as kinds
 pub record IsSteady (Knows : Fact → Type 0) : Type 0 where
   pub leads : (path : List ℕ) (followed : Bool) (one other : Result Found Refusal)
       → Knows (Leads path followed one) → Knows (Leads path followed other) → one ≡ other
+  pub excludes : (name : List ℕ) (one other : Bool) → Knows (Excludes name one)
+      → Knows (Excludes name other) → one ≡ other
+  pub elsewheres : (path : List ℕ) (one other : Bool) → Knows (Elsewhere path one)
+      → Knows (Elsewhere path other) → one ≡ other
   pub opens : (path : List ℕ) (looked : Option Found) (one other : Result OpenFile Refusal)
       → Knows (Opens path looked one) → Knows (Opens path looked other) → one ≡ other
   pub lists : (path : List ℕ) (named : Bool) (one other : Result (Option (List ℕ)) Refusal)
       → Knows (Lists path named one) → Knows (Lists path named other) → one ≡ other
 
--- A directory, which is named or not, has this name: it is text, and neither that of the directory
--- itself nor that of the one that it is in.
+-- A directory, which is named or not, has this name: it is text, the command does not exclude it,
+-- and it is neither that of the directory itself nor that of the one that it is in.
 pub record HasName (Knows : Fact → Type 0) (named : Bool) (directory name : List ℕ)
     : Type 0 where
   pub bytes : List ℕ
   pub lists : Knows (Lists directory named (Ok (Some bytes)))
   pub one_of : Contains (names_after [] bytes) name
   pub no_dots : is_dots name ≡ false
+  pub not_excluded : Knows (Excludes name false)
   pub text : IsUtf8 name
 
--- A directory is the one that is named, or is found in one that is below it. No link is followed.
+-- A directory is the one that is named, or is found in one that is below it. No link is followed,
+-- and where the audit stays on one file system no directory on another one is entered.
 pub data IsBelow (Knows : Fact → Type 0) (top : List ℕ)
     : (named : Bool) → (directory : List ℕ) → Type 0 where
   itself : IsBelow Knows top true top
   deeper : (named : Bool) (directory name : List ℕ) (found : Found)
       → IsBelow Knows top named directory → HasName Knows named directory name
       → Knows (Leads (path_in directory name) false (Ok found))
-      → found.kind ≡ kinds.Directory → IsBelow Knows top false (path_in directory name)
+      → found.kind ≡ kinds.Directory → Knows (Elsewhere (path_in directory name) false)
+      → IsBelow Knows top false (path_in directory name)
 
 -- A path is that of this regular file, or of a link to it.
 pub data LeadsToFile (Knows : Fact → Type 0) (path : List ℕ) (file : Found) : Type 0 where
@@ -76,8 +83,8 @@ pub record IsFileBelow (Knows : Fact → Type 0) (every : Bool) (top path : List
 
 abbrev pub IsVisitOf : List ℕ → Visit → Type 0
 IsVisitOf path (Audited key name content) = name ≡ path
-IsVisitOf path (Same key name) = name ≡ path
-IsVisitOf path (Skipped count) = ⊥
+IsVisitOf path (Same told key name) = name ≡ path
+IsVisitOf path (Skipped why count) = ⊥
 
 -- a path was audited, or is one more name of a file that was
 abbrev pub SomeVisit : List ℕ → List Visit → Type 0

@@ -1,6 +1,6 @@
 -- Where a path leads, by the facts that a tree states about it.
 use Rattle.std.specs.Prelude.{◌≡◌, ℕ, Bool, true, false, List, [], ◌∷◌}
-use Rattle.std.specs.Prelude.{Option, Some, IfSome, Result, Ok, Err}
+use Rattle.std.specs.Prelude.{Option, Some, None, IfSome, Result, Ok, Err}
 use Rattle.std.specs.Str.{IsUtf8}
 use Rattle.key_text.specs.Armour.{begins_container}
 use Rattle.audit_tree.specs.Names.{selection_of}
@@ -13,10 +13,11 @@ use Rattle.krl_audit.specs.declared.front.Fronts.{Fronts}
 use Rattle.krl_audit.specs.declared.front.Fronts.TheVariants as fronts
 use Rattle.krl_audit.specs.declared.why.Refusal.{Refusal}
 use Rattle.krl_audit.specs.declared.why.Refusal.TheVariants as refusals
-use Rattle.audit_run.specs.Fact.{Fact, Fails, Leads, OpenFile, Opens}
-use Rattle.audit_run.specs.Names.{is_directory_kind, is_link_kind, is_never}
+use Rattle.audit_run.specs.Fact.{Excludes, Fact, Fails, Leads, OpenFile, Opens}
+use Rattle.audit_run.specs.Names.{is_directory, is_directory_kind, is_link_kind, is_never}
 use Rattle.audit_run.specs.Reading.{IsContent, front_of}
 use Rattle.audit_run.specs.Visits.{Audited, Same, Skipped, Visit, refused}
+use Rattle.audit_run.specs.declared.files.Skip.TheVariants as skips
 use Rattle.audit_run.specs.declared.kind.Found.{Found}
 use Rattle.audit_run.specs.declared.kind.Identity.{Identity}
 use Rattle.audit_run.specs.declared.kind.Kind.{Kind}
@@ -39,7 +40,9 @@ way_of path = way_by (fronts_of path) (is_read_by_lines path)
 -- A file, and how its path says that it is read: a file with several names is audited once for each
 -- of these ways.
 abbrev pub key_of : List ℕ → Identity → List ℕ
-key_of path identity = identity.device ∷ identity.number ∷ way_of path ∷ []
+key_of path identity =
+    identity.device ∷ identity.number ∷ identity.size ∷ identity.changed ∷ identity.nanoseconds
+    ∷ way_of path ∷ []
 
 -- ---- a file
 
@@ -59,7 +62,7 @@ pub data IsOpened (Knows : Fact → Type 0) (path : List ℕ) (identity : Identi
     (bytes : Option (List ℕ)) (visits : List Visit) : Type 0 where
   read : IsRead (FailsAt Knows path) path bytes (Some (key_of path identity)) visits
       → IsOpened Knows path identity bytes visits
-  same : visits ≡ Same (key_of path identity) path ∷ []
+  same : (told : Bool) → visits ≡ Same told (key_of path identity) path ∷ []
       → IsOpened Knows path identity bytes visits
 
 -- one that is no regular file once it is open is not read
@@ -87,7 +90,7 @@ pub data IsPrivateFile (Knows : Fact → Type 0) (path : List ℕ) (identity : I
       → IsOpened Knows path identity bytes visits
       → IsPrivateFile Knows path identity bytes visits
   other : IfSome bytes (λ all. begins_container (front_of all) ≡ false)
-      → visits ≡ Skipped 1 ∷ [] → IsPrivateFile Knows path identity bytes visits
+      → visits ≡ Skipped skips.ByName 1 ∷ [] → IsPrivateFile Knows path identity bytes visits
   unread : (refusal : Refusal) → Knows (Fails path refusal) → visits ≡ refused path refusal
       → IsPrivateFile Knows path identity bytes visits
 
@@ -129,7 +132,13 @@ IsFileBy selections.Never Knows path found visits = IsPrivate Knows path found v
 -- what is no regular file is not opened
 abbrev pub irregular : (expected : Bool) → List ℕ → List Visit
 irregular true path = refused path refusals.Irregular
-irregular false path = Skipped 1 ∷ []
+irregular false path = Skipped skips.ByName 1 ∷ []
+
+-- The null device is an empty file. One that is read only as a private key file is skipped.
+abbrev pub empty_file : Selection → List ℕ → List Visit
+empty_file selections.Always path = Audited None path (Ok []) ∷ []
+empty_file selections.IfPrivate path = Skipped skips.ByName 1 ∷ []
+empty_file selections.Never path = Skipped skips.ByName 1 ∷ []
 
 -- A file that was found, or to which a link leads that was found. It is no directory.
 abbrev pub IsFound : Kind → (Fact → Type 0) → (path : List ℕ) → Selection → (expected : Bool)
@@ -139,6 +148,8 @@ IsFound kinds.File Knows path selection expected found visits =
 IsFound kinds.Directory Knows path selection expected found visits =
     visits ≡ irregular expected path
 IsFound kinds.Link Knows path selection expected found visits = visits ≡ irregular expected path
+IsFound kinds.Null Knows path selection expected found visits =
+    visits ≡ empty_file selection path
 IsFound kinds.Other Knows path selection expected found visits = visits ≡ irregular expected path
 
 -- A link to a directory is not followed.
@@ -175,27 +186,31 @@ IsLooked Knows path selection expected (Err refusal) visits = visits ≡ refused
 IsLooked Knows path selection expected (Ok found) visits =
     IsLookedIf (is_link_kind found.kind) Knows path selection expected found visits
 
-abbrev pub is_directory : Result Found Refusal → Bool
-is_directory (Ok found) = is_directory_kind found.kind
-is_directory (Err refusal) = false
-
 -- A name that an audit goes to, of a directory of which every file is read or not, leads to this:
 -- to a directory that is entered, or not.
-pub data IsEntry (Knows : Fact → Type 0) (every : Bool) (directory name : List ℕ) (down : Bool)
+pub data IsKept (Knows : Fact → Type 0) (every : Bool) (directory name : List ℕ) (down : Bool)
     (visits : List Visit) : Type 0 where
   no_text : (IsUtf8 name → ⊥) → down ≡ false
       → visits ≡ refused (visible_bytes false (path_in directory name)) refusals.Open
-      → IsEntry Knows every directory name down visits
+      → IsKept Knows every directory name down visits
   not_selected : IsUtf8 name → is_never (selection_of every name) ≡ true → down ≡ true
-      → visits ≡ [] → IsEntry Knows every directory name down visits
+      → visits ≡ [] → IsKept Knows every directory name down visits
   below : (found : Result Found Refusal) → IsUtf8 name
       → is_never (selection_of every name) ≡ false
       → Knows (Leads (path_in directory name) false found) → is_directory found ≡ true
-      → down ≡ true → visits ≡ [] → IsEntry Knows every directory name down visits
+      → down ≡ true → visits ≡ [] → IsKept Knows every directory name down visits
   here : (found : Result Found Refusal) → IsUtf8 name
       → is_never (selection_of every name) ≡ false
       → Knows (Leads (path_in directory name) false found) → is_directory found ≡ false
       → down ≡ false
       → IsLooked Knows (path_in directory name) (selection_of every name)
       (is_expected directory name) found visits
+      → IsKept Knows every directory name down visits
+
+-- The same of a name that the command excludes or not. One that it excludes is counted.
+pub data IsEntry (Knows : Fact → Type 0) (every : Bool) (directory name : List ℕ) (down : Bool)
+    (visits : List Visit) : Type 0 where
+  excluded : Knows (Excludes name true) → down ≡ false → visits ≡ Skipped skips.Excluded 1 ∷ []
+      → IsEntry Knows every directory name down visits
+  kept : Knows (Excludes name false) → IsKept Knows every directory name down visits
       → IsEntry Knows every directory name down visits

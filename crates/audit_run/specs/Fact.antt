@@ -18,6 +18,13 @@ open_file is_file identity bytes =
 pub data Fact : Type 0 where
   -- what a path leads to, if links are followed or not, or why it cannot be looked at
   Leads : (path : List ℕ) (followed : Bool) → Result Found Refusal → Fact
+  -- whether the command excludes a name of a directory
+  Excludes : (name : List ℕ) → Bool → Fact
+  -- whether the directory that a link leads to has a name that is looked for
+  Sought : (path : List ℕ) → Bool → Fact
+  -- whether a directory that was found is on another file system than the directory that was named
+  -- last, and the audit stays on one
+  Elsewhere : (path : List ℕ) → Bool → Fact
   -- what is opened at a path that was looked at or not, or why it cannot be opened
   Opens : (path : List ℕ) (looked : Option Found) → Result OpenFile Refusal → Fact
   -- why an open file could not be read to its end

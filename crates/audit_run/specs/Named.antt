@@ -7,14 +7,16 @@ use Rattle.std.specs.Str.{IsUtf8, bytes_eq}
 use Rattle.krl_audit.specs.Visible.{visible_bytes}
 use Rattle.krl_audit.specs.declared.why.Refusal.{Refusal}
 use Rattle.krl_audit.specs.declared.why.Refusal.TheVariants as refusals
-use Rattle.audit_run.specs.Entries.{FailsAt, IsOpened, IsRead, IsRegular, is_directory}
+use Rattle.audit_run.specs.Entries.{FailsAt, IsOpened, IsRead, IsRegular}
 use Rattle.audit_run.specs.Fact.{Fact, Leads, OpenFile, Opens}
-use Rattle.audit_run.specs.Names.{is_file_kind, most_bytes, names_after}
+use Rattle.audit_run.specs.Names.{is_directory, is_file_kind, is_null_kind, most_bytes}
+use Rattle.audit_run.specs.Names.{names_after}
 use Rattle.audit_run.specs.Reading.{InputFails}
 use Rattle.audit_run.specs.Visits.{Audited, Visit, refused}
 use Rattle.audit_run.specs.Walk.{IsDirectory}
 use Rattle.audit_run.specs.declared.kind.Found.{Found}
 use Rattle.audit_run.specs.declared.kind.Identity.{Identity}
+use Rattle.audit_run.specs.declared.kind.Kind.{Kind}
 
 -- ---- one name
 
@@ -22,7 +24,7 @@ abbrev pub is_file : Result Found Refusal → Bool
 is_file (Ok found) = is_file_kind found.kind
 is_file (Err refusal) = false
 
--- what is no regular file once it is open is read too, and has no key
+-- what is no regular file is read too, and has no key
 abbrev pub IsWaitingIf : Bool → (Fact → Type 0) → List ℕ → Identity → Option (List ℕ)
     → List Visit → Type 0
 IsWaitingIf true Knows path identity bytes visits = IsOpened Knows path identity bytes visits
@@ -34,7 +36,7 @@ IsWaitingBy Knows path (Err refusal) visits = visits ≡ refused path refusal
 IsWaitingBy Knows path (Ok held) visits =
     IsWaitingIf held.is_file Knows path held.identity held.bytes visits
 
--- A path that the command names and that is no regular file, as a pipe, is opened and read.
+-- A path that the command names and that is no directory is opened and read, also if it is a pipe.
 pub record IsWaiting (Knows : Fact → Type 0) (path : List ℕ) (visits : List Visit) : Type 0 where
   pub opened : Result OpenFile Refusal
   pub opens : Knows (Opens path None opened)
@@ -66,11 +68,8 @@ pub data IsNamed (Knows : Fact → Type 0) (Failed : Type 0) (every whole : Bool
       → Knows (Leads path true found) → is_directory found ≡ true
       → IsDirectory Knows every whole path visits
       → IsNamed Knows Failed every whole path input visits
-  file : (found : Found) → is_input path ≡ false → Knows (Leads path true (Ok found))
-      → is_file_kind found.kind ≡ true → IsRegular Knows path found visits
-      → IsNamed Knows Failed every whole path input visits
   waiting : (found : Result Found Refusal) → is_input path ≡ false
-      → Knows (Leads path true found) → is_directory found ≡ false → is_file found ≡ false
+      → Knows (Leads path true found) → is_directory found ≡ false
       → IsWaiting Knows path visits → IsNamed Knows Failed every whole path input visits
   before_path : whole ≡ false → visits ≡ [] → IsNamed Knows Failed every whole path input visits
 
@@ -80,9 +79,14 @@ pub data IsNamed (Knows : Fact → Type 0) (Failed : Type 0) (every whole : Bool
 abbrev pub most_name : ℕ
 most_name = 4096
 
--- what a name that is no directory and no file leads to is not read
+-- Only directories and regular files are read. The null device is an empty file.
+abbrev pub other_at : Kind → List ℕ → List Visit
+other_at kind path =
+    if is_null_kind kind then Audited None path (Ok []) ∷ [] else refused path refusals.Irregular
+
+-- what a name that is no directory and no file leads to
 abbrev pub irregular_at : List ℕ → Result Found Refusal → List Visit
-irregular_at path (Ok found) = refused path refusals.Irregular
+irregular_at path (Ok found) = other_at found.kind path
 irregular_at path (Err refusal) = refused path refusal
 
 -- A name of a list of names leads to this. No pipe is waited for.

@@ -9,13 +9,13 @@ use Rattle.std.specs.Global.{Vec}
 use Rattle.std.specs.List.Sorted.{IsSorted}
 use Rattle.std.specs.Ordering.{nat_cmp}
 use Rattle.std.specs.Str.{IsUtf8, bytes_eq}
-use Rattle.audit_tree.specs.Names.{selection_of}
+use Rattle.audit_tree.specs.Names.{is_sought, selection_of}
 use Rattle.audit_tree.specs.Paths.{path_in}
 use Rattle.audit_tree.specs.declared.names.Selection.{Selection}
 use Rattle.audit_tree.specs.declared.names.Selection.TheVariants as selections
 use Rattle.krl_audit.specs.declared.why.Refusal.{Refusal}
 use Rattle.krl_audit.specs.declared.why.Refusal.TheVariants.{Missing}
-use Rattle.audit_run.specs.Fact.{Fact, Leads}
+use Rattle.audit_run.specs.Fact.{Excludes, Fact, Leads, Sought}
 use Rattle.audit_run.specs.declared.kind.Found.{Found}
 use Rattle.audit_run.specs.declared.kind.Kind.{Kind}
 use Rattle.audit_run.specs.declared.kind.Kind.TheVariants as kinds
@@ -27,19 +27,33 @@ abbrev pub is_directory_kind : Kind → Bool
 is_directory_kind kinds.Directory = true
 is_directory_kind kinds.File = false
 is_directory_kind kinds.Link = false
+is_directory_kind kinds.Null = false
 is_directory_kind kinds.Other = false
 
 abbrev pub is_link_kind : Kind → Bool
 is_link_kind kinds.Directory = false
 is_link_kind kinds.File = false
 is_link_kind kinds.Link = true
+is_link_kind kinds.Null = false
 is_link_kind kinds.Other = false
 
 abbrev pub is_file_kind : Kind → Bool
 is_file_kind kinds.Directory = false
 is_file_kind kinds.File = true
 is_file_kind kinds.Link = false
+is_file_kind kinds.Null = false
 is_file_kind kinds.Other = false
+
+abbrev pub is_null_kind : Kind → Bool
+is_null_kind kinds.Directory = false
+is_null_kind kinds.File = false
+is_null_kind kinds.Link = false
+is_null_kind kinds.Null = true
+is_null_kind kinds.Other = false
+
+abbrev pub is_directory : Result Found Refusal → Bool
+is_directory (Ok found) = is_directory_kind found.kind
+is_directory (Err refusal) = false
 
 -- ---- one name
 
@@ -53,35 +67,52 @@ is_never selections.Always = false
 is_never selections.IfPrivate = false
 is_never selections.Never = true
 
--- a link leads to a directory, or it may: what it leads to cannot be looked at
+-- A link that is not known to lead to a directory may lead to one: what it leads to cannot be
+-- looked at.
 abbrev pub may_be_behind : Result Found Refusal → Bool
-may_be_behind (Ok found) = is_directory_kind found.kind
+may_be_behind (Ok found) = false
 may_be_behind (Err Missing) = false
 may_be_behind (Err refusal) = true
 
--- A path is that of a directory, leads to one, or cannot be looked at.
-pub data MayBeDirectory (Knows : Fact → Type 0) (path : List ℕ) (may : Bool) : Type 0 where
+-- A link, whose own name is looked for or not, leads to a directory whose files are looked for, by
+-- its own name or that of the directory; or it cannot be looked at.
+pub data MayBeWanted (Knows : Fact → Type 0) (sought : Bool) (path : List ℕ) (may : Bool)
+    : Type 0 where
+  linked : (other : Result Found Refusal) (leads : Bool) → Knows (Leads path true other)
+      → is_directory other ≡ true → Knows (Sought path leads) → may ≡ sought || leads
+      → MayBeWanted Knows sought path may
+  unlinked : (other : Result Found Refusal) → Knows (Leads path true other)
+      → is_directory other ≡ false → may ≡ may_be_behind other → MayBeWanted Knows sought path may
+
+-- A path is that of a directory, leads to one whose files are looked for, or cannot be looked at.
+pub data MayBeDirectory (Knows : Fact → Type 0) (sought : Bool) (path : List ℕ) (may : Bool)
+    : Type 0 where
   not_looked_at : (refusal : Refusal) → Knows (Leads path false (Err refusal)) → may ≡ true
-      → MayBeDirectory Knows path may
+      → MayBeDirectory Knows sought path may
   looked_at : (found : Found) → Knows (Leads path false (Ok found))
       → is_link_kind found.kind ≡ false → may ≡ is_directory_kind found.kind
-      → MayBeDirectory Knows path may
-  behind : (found : Found) (other : Result Found Refusal) → Knows (Leads path false (Ok found))
-      → is_link_kind found.kind ≡ true → Knows (Leads path true other)
-      → may ≡ may_be_behind other → MayBeDirectory Knows path may
+      → MayBeDirectory Knows sought path may
+  behind : (found : Found) → Knows (Leads path false (Ok found)) → is_link_kind found.kind ≡ true
+      → MayBeWanted Knows sought path may → MayBeDirectory Knows sought path may
 
 -- Whether an audit goes to a name of the directory at this path, of which every file is read or
 -- not: never to the directory itself or the one that it is in, always to a file that its name
--- selects, and otherwise to what may be a directory.
+-- selects, and otherwise to what may be a directory. A name that the command excludes comes too, to
+-- be counted, and is not looked at.
 pub data IsWanted (Knows : Fact → Type 0) (every : Bool) (path : List ℕ) (wanted : Bool)
     (name : List ℕ) : Type 0 where
   dots : is_dots name ≡ true → wanted ≡ false → IsWanted Knows every path wanted name
-  selected : is_dots name ≡ false → is_never (selection_of every name) ≡ false → wanted ≡ true
+  excluded_name : is_dots name ≡ false → Knows (Excludes name true) → wanted ≡ true
       → IsWanted Knows every path wanted name
-  no_text : is_dots name ≡ false → is_never (selection_of every name) ≡ true
-      → (IsUtf8 name → ⊥) → wanted ≡ true → IsWanted Knows every path wanted name
-  not_selected : is_dots name ≡ false → is_never (selection_of every name) ≡ true
-      → IsUtf8 name → MayBeDirectory Knows (path_in path name) wanted
+  selected : is_dots name ≡ false → Knows (Excludes name false)
+      → is_never (selection_of every name) ≡ false → wanted ≡ true
+      → IsWanted Knows every path wanted name
+  no_text : is_dots name ≡ false → Knows (Excludes name false)
+      → is_never (selection_of every name) ≡ true → (IsUtf8 name → ⊥) → wanted ≡ true
+      → IsWanted Knows every path wanted name
+  not_selected : is_dots name ≡ false → Knows (Excludes name false)
+      → is_never (selection_of every name) ≡ true → IsUtf8 name
+      → MayBeDirectory Knows (is_sought name) (path_in path name) wanted
       → IsWanted Knows every path wanted name
 
 -- ---- all names

@@ -1,6 +1,6 @@
 -- The whole audit, from a list that was read and what a tree states to the text and the status.
 use Rattle.std.specs.Prelude.{◌≡◌, ℕ, ◌<◌, Bool, true, false, List, [], ◌∷◌, ◌++◌, codes}
-use Rattle.std.specs.Prelude.{Option, Some, None, is_some, not, Result, Ok, Err, ◌↔◌}
+use Rattle.std.specs.Prelude.{Option, Some, None, is_some, not, Result, Ok, Err}
 use Rattle.std.specs.Borrow.{Bor}
 use Rattle.json_lines.specs.Field.{json_line}
 use Rattle.run_faults.specs.RunFault.{RunFault, output_run_fault, run_fault_of}
@@ -10,9 +10,10 @@ use Rattle.run_output.specs.Carries.{Reaches}
 use Rattle.run_output.specs.Printer.{HasSaid}
 use Rattle.run_output.specs.Run.{Item, Passed, Stopped, said_of}
 use Rattle.krl_types.specs.Entry.{Entry}
-use Rattle.krl_entries.specs.Reasons.{reasons_of}
+use Rattle.krl_types.specs.Subject.{Subject}
 use Rattle.krl_entries.specs.Revocations.{Means}
-use Rattle.krl_audit.specs.Audit.{EndsAudit}
+use Rattle.krl_entries.specs.declared.reasons.Reasons.{Reasons}
+use Rattle.krl_audit.specs.Audit.{EndsAudit, JudgesAs, MeanCanaries, reasons_but}
 use Rattle.krl_audit.specs.Objects.{done_object}
 use Rattle.audit_tree.specs.declared.summary.Summary.{Summary}
 use Rattle.any_list.specs.List.{IsListFault, IsReadList}
@@ -21,7 +22,8 @@ use Rattle.run_output.specs.declared.done.Done.{Done}
 use Rattle.krl_audit.specs.declared.judge.Form.{Form}
 use Rattle.krl_audit.specs.declared.judge.Form.TheVariants as forms
 use Rattle.krl_audit.specs.declared.judge.Shown.{Shown}
-use Rattle.krl_openssh.specs.Authority.{AuthoritiesAreKeys}
+use Rattle.krl_openssh.specs.Comparable.{IsIncomparable}
+use Rattle.krl_openssh.specs.declared.authorities.Incomparable.{Incomparable}
 use Rattle.krl_format.specs.Krl.{SpelledSection, Spells}
 use Rattle.krl_format.specs.declared.header.Header.{Header}
 use Rattle.audit_run.specs.Fact.{Fact}
@@ -134,30 +136,30 @@ pub data IsRunOf (Unread : Type 0) (order : Order) (items last : List Item) (who
       → run ≡ items ++ Stopped (names_fault order.names_from.now) ∷ []
       → IsRunOf Unread order items last whole tally stop run
 
--- An audit by these entries meets this, with each file once, and prints it. Where no finding is
+-- An audit by these reasons meets this, with each file once, and prints it. Where no finding is
 -- asked for, it ends at the first file with a revoked key.
 pub record IsAudit (Knows : Fact → Type 0) (order : Order) (queried : Queried)
-    (readers : Readers) (entries : List Entry) (old tally : Tally)
+    (readers : Readers) (reasons : Subject → Reasons) (old tally : Tally)
     (stop : Option RunFault) (run : List Item) : Type 0 where
   pub visits : List Visit
   pub whole : Bool
   pub given : AreGiven Knows order.every_file whole readers order.paths.now visits
-  pub timely : AreTimely (reasons_of entries) old visits
+  pub timely : AreTimely reasons old visits
   pub quiet : order.shown.revoked ≡ false
-      → AreQuiet (reasons_of entries) (not whole) old visits
+      → AreQuiet reasons (not whole) old visits
   pub is_run : IsRunOf (AreUnread Knows order.every_file readers visits) order
-      (visits_items (reasons_of entries) order.shown visits)
+      (visits_items reasons order.shown visits)
       (last_items order.list.now queried tally) whole tally stop run
-  pub tally_is : stop ≡ None → tally ≡ all_tallied (reasons_of entries) old visits
+  pub tally_is : stop ≡ None → tally ≡ all_tallied reasons old visits
 
 -- All was audited after nothing was printed, or the audit was stopped.
 abbrev pub AuditsAll : (Fact → Type 0) → Order → Queried → Readers → Option RunFault → State
     → State → Type 0
 AuditsAll Knows order queried readers stop old new =
-    (entries : List Entry) (before : Option (List ℕ)) → Means old.judge.list.now entries
+    (reasons : Subject → Reasons) (before : Option (List ℕ)) → JudgesAs old.judge reasons
     → old.judge.shown ≡ order.shown → HasSaid before [] old.printer
     → (run : List Item)
-    × (IsAudit Knows order queried readers entries old.tally new.tally stop run
+    × (IsAudit Knows order queried readers reasons old.tally new.tally stop run
     × (Reaches before run stop new.printer × (new.printer.writer ≡ old.printer.writer)))
 
 abbrev pub summary_of : Tally → Queried → Summary
@@ -173,15 +175,18 @@ abbrev pub summary_unless : Option RunFault → Summary → Option Summary
 summary_unless None summary = Some summary
 summary_unless (Some fault) summary = None
 
--- The end of an audit. One that was stopped has a fault, and no summary.
+-- The end of an audit by what the list and the keys of canaries mean. One that was stopped has a
+-- fault, and no summary.
 pub record EndsAuditBy (Knows : Fact → Type 0) (order : Order) (queried : Queried)
     (readers : Readers) (before after : Option (List ℕ)) (failed : Bool)
     (summary : Option Summary) (status : ℕ) (fault : Option RunFault) : Type 0 where
   pub tally : Tally
   pub summary_is : summary ≡ summary_unless fault (summary_of tally queried)
-  pub ends : (entries : List Entry) → Means queried.list.now entries
+  pub ends : (canaries : Option (List Entry)) → MeanCanaries order.canaries canaries
+      → (entries : List Entry) → Means queried.list.now entries
       → (stop : Option RunFault) × (run : List Item)
-      × (IsAudit Knows order queried readers entries nothing_tallied tally stop run
+      × (IsAudit Knows order queried readers (reasons_but canaries entries) nothing_tallied tally
+      stop run
       × (EndsAudit run tally.counts before after failed status fault
       × (fault ≡ None → stop ≡ None)))
 
@@ -197,13 +202,13 @@ abbrev pub is_hashed : Shown → Bool
 is_hashed shown = hashed_if shown.form shown.revoked
 
 -- Whether a list that was read from these bytes is a key revocation list with a certificate
--- authority that is no key in its one spelling.
-pub data HasOther (list : ReadList) (bytes : List ℕ) (other : Bool) : Type 0 where
-  plain : list.stated ≡ None → other ≡ false → HasOther list bytes other
+-- authority or a key ID that cannot be compared.
+pub data HasNames (list : ReadList) (bytes : List ℕ) (why : Option Incomparable) : Type 0 where
+  plain : list.stated ≡ None → why ≡ None → HasNames list bytes why
   whole : is_some list.stated ≡ true
       → ((header : Header) (sections : List SpelledSection) → Spells bytes header sections
-      → (other ≡ false) ↔ AuthoritiesAreKeys sections)
-      → HasOther list bytes other
+      → IsIncomparable sections why)
+      → HasNames list bytes why
 
 -- an audit by a list that was read from these bytes
 pub record AuditsRead (Knows : Fact → Type 0) (order : Order) (bytes : List ℕ)
@@ -212,7 +217,7 @@ pub record AuditsRead (Knows : Fact → Type 0) (order : Order) (bytes : List �
   pub list : ReadList
   pub queried : Queried
   pub is_read : IsReadList (is_hashed order.shown) bytes list
-  pub fine : HasOther list bytes false
+  pub fine : HasNames list bytes None
   pub revocations : queried.list.now ≡ list.revocations
   pub stated : queried.stated ≡ list.stated
   pub sha256 : queried.sha256 ≡ list.sha256
@@ -224,9 +229,9 @@ abbrev pub EndsAuditRun : (Fact → Type 0) → Order → (bytes : List ℕ) →
     → (before after : Option (List ℕ)) → Bool → Audited → Type 0
 EndsAuditRun Knows order bytes readers before after failed (ends.Ended done summary) =
     AuditsRead Knows order bytes readers before after failed done summary
-EndsAuditRun Knows order bytes readers before after failed ends.OtherAuthority =
+EndsAuditRun Knows order bytes readers before after failed (ends.Incomparable why) =
     (list : ReadList)
-    × (IsReadList (is_hashed order.shown) bytes list × (HasOther list bytes true
+    × (IsReadList (is_hashed order.shown) bytes list × (HasNames list bytes (Some why)
     × ((after ≡ before) × (failed ≡ false))))
 EndsAuditRun Knows order bytes readers before after failed (ends.Refused stop) =
     IsListFault order.list.now bytes stop × ((after ≡ before) × (failed ≡ false))

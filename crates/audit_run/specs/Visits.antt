@@ -1,11 +1,12 @@
 -- The visits of an audit, one after another, and what it prints and counts of each.
-use Rattle.std.specs.Prelude.{◌≡◌, ℕ, ◌+◌, ◌-◌, ◌^◌, ◌<◌, ◌||◌, nat_lt, min, Bool, true, false}
-use Rattle.std.specs.Prelude.{is_ok, is_some, List}
+use Rattle.std.specs.Prelude.{◌≡◌, ℕ, ◌+◌, ◌-◌, ◌^◌, ◌<◌, ◌||◌, nat_lt, min, zero, suc}
+use Rattle.std.specs.Prelude.{if◌then◌else◌, is_ok, is_some, Bool, true, false, List}
 use Rattle.std.specs.Prelude.{[], ◌∷◌, ◌++◌, Option, Some, None, Result, Ok, Err, ◌⊎◌}
 use Rattle.std.specs.BTreeSet.{contains, insert_key}
 use Rattle.std.specs.Cmp.Lexicographic.{slice_cmp}
 use Rattle.std.specs.List.{flat_map}
-use Rattle.std.specs.Ordering.{nat_cmp}
+use Rattle.std.specs.Ordering.{nat_cmp, ordering_then}
+use Rattle.std.specs.declared.cmp.Ordering.{Ordering}
 use Rattle.std.specs.Result.{result_err}
 use Rattle.run_faults.specs.RunFault.{output_run_fault}
 use Rattle.run_faults.specs.declared.cause.Cause.{Cause}
@@ -14,19 +15,19 @@ use Rattle.run_output.specs.Carries.{IsLost}
 use Rattle.run_output.specs.Printer.{HasSaid, Printer}
 use Rattle.run_output.specs.Run.{Item}
 use Rattle.krl_types.specs.Subject.{Subject}
-use Rattle.krl_types.specs.Entry.{Entry}
-use Rattle.krl_entries.specs.Reasons.{reasons_of}
-use Rattle.krl_entries.specs.Revocations.{Means}
 use Rattle.krl_entries.specs.declared.reasons.Reasons.{Reasons}
-use Rattle.krl_audit.specs.Audit.{file_items, file_kinds, said_if}
+use Rattle.krl_audit.specs.Audit.{JudgesAs, file_items, file_kinds, said_if}
 use Rattle.krl_audit.specs.Counts.{all_counted, one_more}
 use Rattle.krl_audit.specs.Same.{same_said}
 use Rattle.krl_audit.specs.declared.counts.Counts.{Counts}
+use Rattle.krl_audit.specs.declared.done.FileCounts.{FileCounts}
 use Rattle.krl_audit.specs.declared.judge.Judge.{Judge}
 use Rattle.krl_audit.specs.declared.judge.Shown.{Shown}
 use Rattle.krl_audit.specs.declared.why.Refusal.{Refusal}
 use Rattle.audit_run.specs.declared.files.Files.{Files}
 use Rattle.audit_run.specs.declared.files.Since.{Since}
+use Rattle.audit_run.specs.declared.files.Skip.{Skip}
+use Rattle.audit_run.specs.declared.files.Skip.TheVariants as skips
 use Rattle.audit_run.specs.declared.stop.Stop.{Stop}
 use Rattle.audit_run.specs.declared.stop.Stop.TheVariants as stops
 
@@ -34,21 +35,24 @@ use Rattle.audit_run.specs.declared.stop.Stop.TheVariants as stops
 pub data Visit : Type 0 where
   -- a file is audited, by its bytes or why there are none; a regular one that was opened has a key
   Audited : (key : Option (List ℕ)) (name : List ℕ) → Result (List ℕ) Refusal → Visit
-  -- a name leads to a file that was audited before
-  Same : (key name : List ℕ) → Visit
-  -- this many names of a directory are passed over
-  Skipped : ℕ → Visit
+  -- a name leads to a file that was audited before: it is printed, or counted alone
+  Same : (told : Bool) (key name : List ℕ) → Visit
+  -- this many names of a directory are passed over for this reason
+  Skipped : Skip → ℕ → Visit
 
 abbrev pub refused : List ℕ → Refusal → List Visit
 refused name refusal = Audited None name (Err refusal) ∷ []
 
 -- ---- what is printed
 
+abbrev pub same_items : Shown → (told : Bool) → List ℕ → List Item
+same_items shown true name = said_if shown.revoked name (same_said shown.form name) ∷ []
+same_items shown false name = []
+
 abbrev pub visit_items : (Subject → Reasons) → Shown → Visit → List Item
 visit_items reasons shown (Audited key name content) = file_items reasons shown name content
-visit_items reasons shown (Same key name) =
-    said_if shown.revoked name (same_said shown.form name) ∷ []
-visit_items reasons shown (Skipped count) = []
+visit_items reasons shown (Same told key name) = same_items shown told name
+visit_items reasons shown (Skipped why count) = []
 
 unfoldable pub visits_items : (Subject → Reasons) → Shown → List Visit → List Item
 visits_items reasons shown visits = flat_map (visit_items reasons shown) visits
@@ -63,9 +67,10 @@ pub record Tally : Type 0 where
 -- no file
 abbrev pub no_files : Files
 no_files = record {
-  counts = record { audited = 0; same = 0; skipped = 0 };
+  counts = record { audited = 0; same = 0; skipped = 0; excluded = 0; elsewhere = 0 };
   revoked = 0;
   seen = record { keys = [] };
+  names = record { keys = [] };
 }
 
 abbrev pub with_key : Option (List ℕ) → Files → Files
@@ -80,14 +85,51 @@ with_audited revoked files = record files {
   revoked = one_more files.revoked revoked;
 }
 
-abbrev pub with_same : Files → Files
-with_same files =
-    record files { counts = record files.counts { same = one_more files.counts.same true } }
+-- ---- other names of a file
 
-abbrev pub with_skipped : ℕ → Files → Files
-with_skipped count files = record files {
-  counts = record files.counts { skipped = min (files.counts.skipped + count) (2 ^ 64 - 1) };
+-- how many other names of one file are printed
+abbrev pub most_names : ℕ
+most_names = 20
+
+-- other names, by the file's key and then by their numbers
+abbrev pub name_cmp : List ℕ × ℕ → List ℕ × ℕ → Ordering
+name_cmp one other = ordering_then (slice_cmp nat_cmp one.0 other.0) (nat_cmp one.1 other.1)
+
+-- the first number from this one, of this many, that no other name of the file with this key has
+abbrev pub free_from : Files → List ℕ → (number left : ℕ) → ℕ
+free_from files key number zero = number
+free_from files key number (suc left) =
+    if contains name_cmp files.names (key, number) then free_from files key (number + 1) left
+    else number
+
+-- how many other names of the file with this key were met, up to as many as are printed
+abbrev pub names_of : Files → List ℕ → ℕ
+names_of files key = free_from files key 0 most_names
+
+abbrev pub is_told : Files → List ℕ → Bool
+is_told files key = nat_lt (names_of files key) most_names
+
+abbrev pub with_same : List ℕ → Files → Files
+with_same key files = record files {
+  counts = record files.counts { same = one_more files.counts.same true };
+  names = record { keys = insert_key name_cmp files.names.keys (key, names_of files key) };
 }
+
+-- a count with this many more, which stops at its maximum
+abbrev pub more_by : (old count : ℕ) → ℕ
+more_by old count = min (old + count) (2 ^ 64 - 1)
+
+abbrev pub skipped_more : Skip → ℕ → FileCounts → FileCounts
+skipped_more skips.ByName count counts =
+    record counts { skipped = more_by counts.skipped count }
+skipped_more skips.Excluded count counts =
+    record counts { excluded = more_by counts.excluded count }
+skipped_more skips.Elsewhere count counts =
+    record counts { elsewhere = more_by counts.elsewhere count }
+
+abbrev pub with_skipped : Skip → ℕ → Files → Files
+with_skipped why count files =
+    record files { counts = skipped_more why count files.counts }
 
 -- no file was audited
 abbrev pub nothing_tallied : Tally
@@ -103,10 +145,10 @@ tally_with key tally counts = record {
 abbrev pub tallied : (Subject → Reasons) → Tally → Visit → Tally
 tallied reasons tally (Audited key name content) =
     tally_with key tally (all_counted tally.counts (file_kinds reasons name content))
-tallied reasons tally (Same key name) =
-    record { counts = tally.counts; files = with_same tally.files }
-tallied reasons tally (Skipped count) =
-    record { counts = tally.counts; files = with_skipped count tally.files }
+tallied reasons tally (Same told key name) =
+    record { counts = tally.counts; files = with_same key tally.files }
+tallied reasons tally (Skipped why count) =
+    record { counts = tally.counts; files = with_skipped why count tally.files }
 
 abbrev pub all_tallied : (Subject → Reasons) → Tally → List Visit → Tally
 all_tallied reasons tally [] = tally
@@ -118,12 +160,13 @@ all_tallied reasons tally (visit ∷ visits) =
 abbrev pub is_seen : Files → List ℕ → Bool
 is_seen files key = contains (slice_cmp nat_cmp) files.seen key
 
--- A file with a key is audited exactly if none with this key was.
+-- A file with a key is audited exactly if none with this key was. Its first other names are printed.
 abbrev pub IsTimely : Tally → Visit → Type 0
 IsTimely tally (Audited None name content) = Unit {0}
 IsTimely tally (Audited (Some key) name content) = is_seen tally.files key ≡ false
-IsTimely tally (Same key name) = is_seen tally.files key ≡ true
-IsTimely tally (Skipped count) = Unit {0}
+IsTimely tally (Same told key name) =
+    (is_seen tally.files key ≡ true) × (told ≡ is_told tally.files key)
+IsTimely tally (Skipped why count) = Unit {0}
 
 abbrev pub AreTimely : (Subject → Reasons) → Tally → List Visit → Type 0
 AreTimely reasons tally [] = Unit {0}
@@ -213,18 +256,18 @@ pub record Audits (reasons : Subject → Reasons) (visits : List Visit) (stop : 
       → AreQuiet reasons (is_some stop) old.tally visits
   pub writer : new.printer.writer ≡ old.printer.writer
 
--- An audit by a list is one for each row of entries that it means.
+-- An audit by a list is one by the reasons that it gives.
 pub record AuditsBy (visits : List Visit) (stop : Option Stop) (old new : State) : Type 0 where
   pub judge : new.judge ≡ old.judge
-  pub audits : (entries : List Entry) → Means old.judge.list.now entries
-      → Audits (reasons_of entries) visits stop old new
+  pub audits : (reasons : Subject → Reasons) → JudgesAs old.judge reasons
+      → Audits reasons visits stop old new
 
 -- ---- since a directory that is named was entered
 
 abbrev pub gives_one : Visit → Bool
 gives_one (Audited key name content) = true
-gives_one (Same key name) = true
-gives_one (Skipped count) = false
+gives_one (Same told key name) = true
+gives_one (Skipped why count) = false
 
 -- some file is audited, or was before
 abbrev pub gives : List Visit → Bool
@@ -233,8 +276,8 @@ gives (visit ∷ visits) = gives_one visit || gives visits
 
 abbrev pub passes_one : Visit → Bool
 passes_one (Audited key name content) = false
-passes_one (Same key name) = false
-passes_one (Skipped count) = nat_lt 0 count
+passes_one (Same told key name) = false
+passes_one (Skipped why count) = nat_lt 0 count
 
 -- some name is passed over
 abbrev pub passes : List Visit → Bool

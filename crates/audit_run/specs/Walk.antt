@@ -11,10 +11,11 @@ use Rattle.krl_audit.specs.Front.{reads_every}
 use Rattle.krl_audit.specs.declared.why.Refusal.{Refusal}
 use Rattle.krl_audit.specs.declared.why.Refusal.TheVariants as refusals
 use Rattle.audit_run.specs.Entries.{IsEntry}
-use Rattle.audit_run.specs.Fact.{Breaks, Fact, Lists}
+use Rattle.audit_run.specs.Fact.{Breaks, Elsewhere, Fact, Lists}
 use Rattle.audit_run.specs.Names.{AreWantedInOrder, most_bytes}
 use Rattle.audit_run.specs.Visits.{Meets, Skipped, State, Visit, gives, passes, refused}
 use Rattle.audit_run.specs.declared.files.Since.{Since}
+use Rattle.audit_run.specs.declared.files.Skip.TheVariants as skips
 use Rattle.audit_run.specs.declared.names.Listing.{Listing}
 use Rattle.audit_run.specs.declared.walk.Entered.{Entered}
 
@@ -62,9 +63,19 @@ pub data IsEntered (Knows : Fact → Type 0) (every named : Bool) (path : List �
       → visits ≡ refused path refusal → levels ≡ []
       → IsEntered Knows every named path visits levels
   entered : (names : List (Vec ℕ)) (skipped : ℕ)
-      → IsOpen Knows (every_in every path) path named names skipped → visits ≡ Skipped skipped ∷ []
+      → IsOpen Knows (every_in every path) path named names skipped
+      → visits ≡ Skipped skips.ByName skipped ∷ []
       → levels ≡ (record { path = path; every = every_in every path; names = reverse names }) ∷ []
       → IsEntered Knows every named path visits levels
+
+-- A directory that was found is entered, or it is on another file system and the audit stays on
+-- one.
+pub data IsEnteredBelow (Knows : Fact → Type 0) (every : Bool) (path : List ℕ)
+    (visits : List Visit) (levels : List Level) : Type 0 where
+  elsewhere : Knows (Elsewhere path true) → visits ≡ Skipped skips.Elsewhere 1 ∷ []
+      → levels ≡ [] → IsEnteredBelow Knows every path visits levels
+  entered_below : Knows (Elsewhere path false) → IsEntered Knows every false path visits levels
+      → IsEnteredBelow Knows every path visits levels
 
 -- The next name of the directory that was entered last leads to this, or it has no name left.
 pub data Turn (Knows : Fact → Type 0) (every : Bool) : List Level → List Visit → List Level → Type 0
@@ -79,7 +90,7 @@ pub data Turn (Knows : Fact → Type 0) (every : Bool) : List Level → List Vis
     goes_down : (levels : List Level) (last : Level) (left : List (Vec ℕ)) (name : Vec ℕ)
         (visits : List Visit) (below : List Level) → last.names ≡ left ++ name ∷ []
         → IsEntry Knows last.every last.path name.items true []
-        → IsEntered Knows every false (path_in last.path name.items) visits below
+        → IsEnteredBelow Knows every (path_in last.path name.items) visits below
         → Turn Knows every (levels ++ last ∷ []) visits
         ((levels ++ (record last { names = left }) ∷ []) ++ below)
 

@@ -1,19 +1,21 @@
-//! What the names of a directory lead to.
+//! Names of a directory, and the files that they lead to.
 
 ghost use Rattle.std.specs.Prelude.{◌≡◌, ◌∷◌, [], IfOk, IfSome, None, Some, true, false, is_some};
 ghost use Rattle.std.specs.Prelude.{ℕ, List, Option, string_bytes};
 ghost use Rattle.std.specs.Io.KnownBytes.{Consumes};
 ghost use Rattle.std.specs.Result.{result_err};
 ghost use Rattle.audit_tree.specs.Paths.{path_in};
-ghost use Rattle.audit_run.specs.Entries.{IsEntry, IsFileBy, IsFound, IsLink, IsBehind, IsLooked};
+ghost use Rattle.audit_run.specs.Entries.{IsEntry, IsFileBy, IsFound, IsKept, IsLink, IsBehind};
+ghost use Rattle.audit_run.specs.Entries.{IsLooked, empty_file};
 ghost use Rattle.audit_run.specs.Entries.{FailsAt, IsOpened, IsOpenedIf, IsPrivate, IsPrivateBy};
 ghost use Rattle.audit_run.specs.Entries.{IsPrivateFile, IsPrivateIf, IsRead, IsRegular};
-ghost use Rattle.audit_run.specs.Entries.{IsRegularBy, irregular, is_directory, is_expected};
+ghost use Rattle.audit_run.specs.Entries.{IsRegularBy, irregular, is_expected};
+ghost use Rattle.audit_run.specs.Names.{is_directory};
 ghost use Rattle.audit_run.specs.Entries.{key_of};
 ghost use Rattle.audit_run.specs.Reading.{IsBegun};
 ghost use Rattle.audit_run.specs.Visits.{Goes, Meets, is_seen};
 
-use crate::files::{Key, key_of};
+use crate::files::{Key, Skip, key_of};
 use crate::kind::{Found, Kind, Opened};
 use crate::names::{Place, is_never};
 use crate::reading::{Reading, content_of, is_private, read_file, read_front};
@@ -33,8 +35,8 @@ pub(crate) struct Entry<'p> {
     expected: bool,
 }
 
-/// Audits what a name of a directory leads to. Answers its path where that is a directory that is
-/// entered.
+/// Audits what a name of a directory leads to, unless the command excludes it. Answers its path
+/// where that is a directory that is entered.
 pub(crate) fn audit_entry<T: Tree, W: Screen>(
     tree: &T,
     round: &mut Round<'_, '_, W>,
@@ -42,6 +44,25 @@ pub(crate) fn audit_entry<T: Tree, W: Screen>(
     name: &[u8],
 ) -> Result<Option<String>, Stop>
     ensures entry { Goes result (λ below. IsEntry (T.states tree.now) place.entry.every
+        place.entry.path.now name.now (is_some below)) round.old round.new }
+    ensures below { IfOk result (λ below. IfSome below (λ path.
+        string_bytes path ≡ path_in place.entry.path.now name.now)) }
+{
+    if tree.is_excluded(name) {
+        round.skip(Skip::Excluded, 1);
+        return Ok(None);
+    }
+    audit_kept(tree, round, place, name)
+}
+
+// Audits what a name of a directory leads to that is not excluded.
+fn audit_kept<T: Tree, W: Screen>(
+    tree: &T,
+    round: &mut Round<'_, '_, W>,
+    place: Place<'_>,
+    name: &[u8],
+) -> Result<Option<String>, Stop>
+    ensures entry { Goes result (λ below. IsKept (T.states tree.now) place.entry.every
         place.entry.path.now name.now (is_some below)) round.old round.new }
     ensures below { IfOk result (λ below. IfSome below (λ path.
         string_bytes path ≡ path_in place.entry.path.now name.now)) }
@@ -139,7 +160,8 @@ fn audit_behind<T: Tree, W: Screen>(
     }
 }
 
-// Audits what was found. A pipe, a socket or a device is not opened.
+// Audits what was found. A pipe, a socket or a device is not opened; the null device is an empty
+// file.
 fn audit_found<T: Tree, W: Screen>(
     tree: &T,
     round: &mut Round<'_, '_, W>,
@@ -151,8 +173,23 @@ fn audit_found<T: Tree, W: Screen>(
 {
     match found.kind {
         Kind::File => audit_file(tree, round, entry, found),
+        Kind::Null => audit_null(round, entry),
         Kind::Directory | Kind::Link | Kind::Other => {
             refuse_irregular(round, entry.path, entry.expected)
+        }
+    }
+}
+
+// Audits the null device as an empty file, which is no private key file.
+fn audit_null<W: Screen>(round: &mut Round<'_, '_, W>, entry: Entry<'_>) -> Result<(), Stop>
+    ensures { Meets (empty_file entry.entry.selection entry.entry.path.now) (result_err result)
+        round.old round.new }
+{
+    match entry.selection {
+        Selection::Always => round.audit(None, entry.path, Ok(b"")),
+        Selection::IfPrivate | Selection::Never => {
+            round.skip(Skip::ByName, 1);
+            Ok(())
         }
     }
 }
@@ -168,7 +205,7 @@ fn refuse_irregular<W: Screen>(
     if expected {
         round.audit(None, path, Err(Refusal::Irregular))
     } else {
-        round.skip(1);
+        round.skip(Skip::ByName, 1);
         Ok(())
     }
 }
@@ -294,7 +331,7 @@ fn audit_by_front<T: Tree, W: Screen>(
         return audit_opened(tree, round, path, reading);
     }
     round.text = reading.text;
-    round.skip(1);
+    round.skip(Skip::ByName, 1);
     Ok(())
 }
 

@@ -1,8 +1,8 @@
 //! The counts of files, and which files were audited.
 
-ghost use Rattle.std.specs.Prelude.{◌≡◌, OnOk};
-ghost use Rattle.audit_run.specs.Visits.{is_seen, no_files, with_audited, with_key};
-ghost use Rattle.audit_run.specs.Visits.{with_same, with_skipped};
+ghost use Rattle.std.specs.Prelude.{◌≡◌, ◌+◌, ◌≤◌, OnOk};
+ghost use Rattle.audit_run.specs.Visits.{free_from, is_seen, is_told, names_of, no_files};
+ghost use Rattle.audit_run.specs.Visits.{with_audited, with_key, with_same, with_skipped};
 ghost use Rattle.audit_run.specs.Entries.{key_of, way_of};
 
 use crate::kind::Identity;
@@ -10,10 +10,24 @@ use krl_audit::{FileCounts, Fronts, is_read_by_lines};
 use std::alloc::{AllocError, Global};
 use std::collections::BTreeSet;
 
-/// A file by its device, its number there, and how its path says that it is read. A file with
-/// several names is audited once for each of these ways, since a link would otherwise hide how sshd
-/// or ssh reads it.
-pub(crate) type Key = [u64; 3];
+/// A file by its identity, and how its path says that it is read. A file with several names is
+/// audited once for each of these ways, since a link would otherwise hide how sshd or ssh reads it.
+pub(crate) type Key = [u64; 6];
+
+// How many other names of one file are printed. The others are counted alone, since a user can give
+// a file any number of names.
+const MOST_NAMES: u64 = 20;
+
+/// Why names of a directory are passed over.
+#[derive(Clone, Copy)]
+pub(crate) enum Skip {
+    /// No file of this name is read.
+    ByName,
+    /// The command excludes the name.
+    Excluded,
+    /// It is a directory on another file system, and the audit stays on one.
+    Elsewhere,
+}
 
 /// The counts of files, and which files were audited.
 #[derive(Drop)]
@@ -24,6 +38,8 @@ pub struct Files {
     pub(crate) revoked: u64,
     /// The keys of the files that were audited.
     pub(crate) seen: BTreeSet<Key>,
+    /// Other names of these files, by number.
+    pub(crate) names: BTreeSet<(Key, u64)>,
 }
 
 /// The visits since a directory that is named was entered.
@@ -52,6 +68,7 @@ impl Files {
             counts: FileCounts::NONE,
             revoked: 0,
             seen: BTreeSet::new(alloc),
+            names: BTreeSet::new(alloc),
         }
     }
 
@@ -82,18 +99,51 @@ impl Files {
         }
     }
 
-    /// Counts a name of a file that was audited before.
-    pub(crate) fn count_same(&mut self)
-        ensures { self.new ≡ with_same self.old }
+    // How many other names of the file with this key were met, up to as many as are printed.
+    fn names_of(&self, key: Key) -> u64
+        ensures { result ≡ names_of self.now key }
     {
-        self.counts.same = self.counts.same.saturating_add(1);
+        self.free_from(key, 0, MOST_NAMES)
     }
 
-    /// Counts names that are passed over.
-    pub(crate) fn count_skipped(&mut self, count: u64)
-        ensures { self.new ≡ with_skipped count self.old }
+    // The first number from this one, of this many, that no other name of the file with this key
+    // has.
+    fn free_from(&self, key: Key, number: u64, left: u64) -> u64
+        requires { number + left ≤ 20 }
+        ensures { result ≡ free_from self.now key number left }
     {
-        self.counts.skipped = self.counts.skipped.saturating_add(count);
+        if left == 0 || !self.names.contains(&(key, number)) {
+            return number;
+        }
+        self.free_from(key, number + 1, left - 1)
+    }
+
+    /// Whether the next other name of the file with this key is printed.
+    pub(crate) fn is_told(&self, key: Key) -> bool
+        ensures { result ≡ is_told self.now key }
+    {
+        self.names_of(key) < MOST_NAMES
+    }
+
+    /// Counts a name of a file that was audited before.
+    pub(crate) fn count_same(&mut self, key: Key) -> Result<(), AllocError>
+        ensures { OnOk result (self.new ≡ with_same key self.old) }
+    {
+        let number = self.names_of(key);
+        self.names.insert((key, number))?;
+        self.counts.same = self.counts.same.saturating_add(1);
+        Ok(())
+    }
+
+    /// Counts names that are passed over for this reason.
+    pub(crate) fn count_skipped(&mut self, why: Skip, count: u64)
+        ensures { self.new ≡ with_skipped why count self.old }
+    {
+        match why {
+            Skip::ByName => self.counts.skipped = self.counts.skipped.saturating_add(count),
+            Skip::Excluded => self.counts.excluded = self.counts.excluded.saturating_add(count),
+            Skip::Elsewhere => self.counts.elsewhere = self.counts.elsewhere.saturating_add(count),
+        }
     }
 }
 
@@ -101,7 +151,14 @@ impl Files {
 pub(crate) fn key_of(path: &[u8], identity: Identity) -> Key
     ensures { result ≡ key_of path.now identity }
 {
-    [identity.device, identity.number, way_of(path)]
+    [
+        identity.device,
+        identity.number,
+        identity.size,
+        identity.changed,
+        identity.nanoseconds,
+        way_of(path),
+    ]
 }
 
 // How the name of a file says that it is read, as a number.

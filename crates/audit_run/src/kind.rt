@@ -1,7 +1,8 @@
-//! What a path leads to, and what is read there.
+//! The file that a path leads to.
 
 ghost use Rattle.std.specs.Prelude.{◌≡◌};
 ghost use Rattle.audit_run.specs.Names.{is_directory_kind, is_file_kind, is_link_kind};
+ghost use Rattle.audit_run.specs.Names.{is_null_kind};
 
 /// The kind of file that a path leads to.
 #[derive(Clone, Copy, PartialEq, Eq)]
@@ -12,7 +13,9 @@ pub enum Kind {
     File,
     /// A symbolic link that was not followed.
     Link,
-    /// A pipe, a socket or a device.
+    /// The null device, which reads as an empty file.
+    Null,
+    /// A pipe, a socket or another device.
     Other,
 }
 
@@ -23,7 +26,7 @@ impl Kind {
     {
         match self {
             Kind::Directory => true,
-            Kind::File | Kind::Link | Kind::Other => false,
+            Kind::File | Kind::Link | Kind::Null | Kind::Other => false,
         }
     }
 
@@ -33,7 +36,17 @@ impl Kind {
     {
         match self {
             Kind::File => true,
-            Kind::Directory | Kind::Link | Kind::Other => false,
+            Kind::Directory | Kind::Link | Kind::Null | Kind::Other => false,
+        }
+    }
+
+    /// Whether it is the null device.
+    pub(crate) fn is_null(self) -> bool
+        ensures { result ≡ is_null_kind self }
+    {
+        match self {
+            Kind::Null => true,
+            Kind::Directory | Kind::File | Kind::Link | Kind::Other => false,
         }
     }
 
@@ -43,7 +56,7 @@ impl Kind {
     {
         match self {
             Kind::Link => true,
-            Kind::Directory | Kind::File | Kind::Other => false,
+            Kind::Directory | Kind::File | Kind::Null | Kind::Other => false,
         }
     }
 }
@@ -55,15 +68,24 @@ pub struct Found {
     pub kind: Kind,
     /// Its owner, by number.
     pub owner: u32,
+    /// The device that it is on.
+    pub device: u64,
 }
 
-/// A file, whatever names it has.
+/// A file, whatever names it has. A file that takes the number of one that is gone, or that was
+/// written meanwhile, is another one.
 #[derive(Clone, Copy)]
 pub struct Identity {
     /// The device that it is on.
     pub device: u64,
     /// Its number there.
     pub number: u64,
+    /// The number of its bytes.
+    pub size: u64,
+    /// When it was changed last, in seconds.
+    pub changed: u64,
+    /// The nanoseconds of that second.
+    pub nanoseconds: u64,
 }
 
 /// A file that is open.

@@ -12,6 +12,7 @@ mod order;
 mod reading;
 mod round;
 mod run;
+mod sending;
 mod stop;
 mod tree;
 mod walk;

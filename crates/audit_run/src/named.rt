@@ -7,13 +7,14 @@ ghost use Rattle.std.specs.Result.{result_err};
 ghost use Rattle.krl_audit.specs.Visible.{visible_bytes};
 ghost use Rattle.audit_run.specs.Named.{AreNamed, Each, IsBroken, IsInput, IsNamed, IsOnList};
 ghost use Rattle.audit_run.specs.Named.{IsOnNames, IsWaiting, IsWaitingIf, input_after};
-ghost use Rattle.audit_run.specs.Named.{is_file, irregular_at, most_name, names_to, rest_after};
+ghost use Rattle.audit_run.specs.Named.{is_file, irregular_at, most_name, names_to, other_at};
+ghost use Rattle.audit_run.specs.Named.{rest_after};
 ghost use Rattle.audit_run.specs.Names.{names_after};
 ghost use Rattle.audit_run.specs.Reading.{SomeFailed, left_in};
 ghost use Rattle.audit_run.specs.Visits.{Goes, Meets, Took, Went, is_whole, refused};
 
 use crate::entries::{audit_opened, audit_read, audit_regular, is_directory};
-use crate::kind::Opened;
+use crate::kind::{Kind, Opened};
 use crate::reading::{Reading, content_of, read_input};
 use crate::round::{Round, Screen};
 use crate::stop::Stop;
@@ -69,11 +70,7 @@ fn audit_named<T: Tree, I: Source + Drop, W: Screen>(
     if is_directory(found) {
         return audit_directory(tree, round, every, path);
     }
-    match found {
-        Ok(found) if found.kind.is_file() => audit_regular(tree, round, path, found),
-        Ok(_) => audit_waiting(tree, round, path),
-        Err(_) => audit_waiting(tree, round, path),
-    }
+    audit_waiting(tree, round, path)
 }
 
 // Audits standard input, unless it was read before.
@@ -97,7 +94,7 @@ fn audit_input<I: Source + Drop, W: Screen>(
     done
 }
 
-// Audits what the command names and is no regular file, as a pipe, or says why it cannot.
+// Audits what the command names and is no directory, or says why it cannot.
 fn audit_waiting<T: Tree, W: Screen>(
     tree: &T,
     round: &mut Round<'_, '_, W>,
@@ -112,7 +109,7 @@ fn audit_waiting<T: Tree, W: Screen>(
     }
 }
 
-// Audits what is open and was no regular file when it was looked at.
+// Audits what is open and was named. A regular file is audited once.
 fn audit_open<T: Tree, W: Screen>(
     tree: &T,
     round: &mut Round<'_, '_, W>,
@@ -250,8 +247,19 @@ fn audit_text<T: Tree, W: Screen>(
     }
     match found {
         Ok(found) if found.kind.is_file() => audit_regular(tree, round, path, found),
-        Ok(_) => round.audit(None, path, Err(Refusal::Irregular)),
+        Ok(found) => audit_other(round, path, found.kind),
         Err(refusal) => round.audit(None, path, Err(refusal)),
+    }
+}
+
+// Audits the null device as an empty file, or says that this is no regular file.
+fn audit_other<W: Screen>(round: &mut Round<'_, '_, W>, path: &str, kind: Kind) -> Result<(), Stop>
+    ensures { Meets (other_at kind path.now) (result_err result) round.old round.new }
+{
+    if kind.is_null() {
+        round.audit(None, path, Ok(b""))
+    } else {
+        round.audit(None, path, Err(Refusal::Irregular))
     }
 }
 

@@ -1,14 +1,16 @@
 //! The names of a directory that an audit goes to.
 
 ghost use Rattle.std.specs.Prelude.{◌≡◌, ◌+◌, ◌∷◌, ◌++◌, [], false, ℕ, List, IfOk, OnOk};
-ghost use Rattle.audit_run.specs.Names.{Continues, IsListing, IsWanted, MayBeDirectory, is_dots};
+ghost use Rattle.audit_run.specs.Names.{Continues, IsListing, IsWanted, MayBeDirectory};
+ghost use Rattle.audit_run.specs.Names.{MayBeWanted, is_dots};
 ghost use Rattle.audit_run.specs.Walk.{IsNamesOf};
 ghost use Rattle.audit_run.specs.Names.{capped, is_never, may_be_behind, passed_over};
 
+use crate::entries::is_directory;
 use crate::kind::Found;
 use crate::round::{Round, Screen};
 use crate::tree::Tree;
-use audit_tree::{Selection, path_in, selection_of, sort_names};
+use audit_tree::{Selection, is_sought, path_in, selection_of, sort_names};
 use byte_streams::Source;
 use krl_audit::Refusal;
 use std::alloc::{AllocError, Global};
@@ -152,7 +154,8 @@ fn with_passed(skipped: u64, name: &[u8]) -> u64
     }
 }
 
-// Whether an audit goes to a name of a directory: by its name, or since it may be a directory.
+// Whether an audit goes to a name of a directory: by its name, or since it may be a directory. One
+// that the command excludes is not looked at, and counted when it comes.
 fn is_wanted<T: Tree>(
     alloc: Global,
     tree: &T,
@@ -165,33 +168,51 @@ fn is_wanted<T: Tree>(
     if is_dots(name) {
         return Ok(false);
     }
+    if tree.is_excluded(name) {
+        return Ok(true);
+    }
     if !is_never(selection_of(place.every, name)) {
         return Ok(true);
     }
-    let Ok(name) = str::from_utf8(name) else {
+    let Ok(text) = str::from_utf8(name) else {
         return Ok(true);
     };
-    let path = path_in(alloc, place.path, name)?;
-    Ok(may_be_directory(tree, path.as_str()))
+    let path = path_in(alloc, place.path, text)?;
+    Ok(may_be_directory(tree, path.as_str(), is_sought(name)))
 }
 
-// Whether a path is that of a directory, leads to one, or cannot be looked at.
-fn may_be_directory<T: Tree>(tree: &T, path: &str) -> bool
-    ensures { MayBeDirectory (T.states tree.now) path.now result }
+// Whether a path is that of a directory, leads to one whose files are looked for, or cannot be
+// looked at.
+fn may_be_directory<T: Tree>(tree: &T, path: &str, sought: bool) -> bool
+    ensures { MayBeDirectory (T.states tree.now) sought path.now result }
 {
     match tree.look(path, false) {
-        Ok(found) if found.kind.is_link() => may_be_behind(tree.look(path, true)),
+        Ok(found) if found.kind.is_link() => may_be_wanted(tree, path, sought),
         Ok(found) => found.kind.is_directory(),
         Err(_) => true,
     }
 }
 
-// Whether a link leads to a directory, or may. One that leads to nothing leads to no directory.
+// Whether a link leads to a directory whose files are looked for, by its own name or that of the
+// directory, or cannot be looked at.
+fn may_be_wanted<T: Tree>(tree: &T, path: &str, sought: bool) -> bool
+    ensures { MayBeWanted (T.states tree.now) sought path.now result }
+{
+    let behind = tree.look(path, true);
+    if !is_directory(behind) {
+        return may_be_behind(behind);
+    }
+    let leads = tree.leads_to_sought(path);
+    sought || leads
+}
+
+// Whether a link that is not known to lead to a directory may lead to one. One that leads to
+// nothing leads to no directory.
 fn may_be_behind(behind: Result<Found, Refusal>) -> bool
     ensures { result ≡ may_be_behind behind }
 {
     match behind {
-        Ok(found) => found.kind.is_directory(),
+        Ok(_) => false,
         Err(Refusal::Missing) => false,
         Err(_) => true,
     }

@@ -6,12 +6,16 @@ ghost use Rattle.audit_run.specs.Order.{IsOrder};
 use crate::options::{Options, Terminal};
 use krl_arguments::Audit;
 use krl_audit::Shown;
+use krl_entries::Revocations;
+use span_sets::Held;
 
 /// An audit that is asked for.
 #[derive(Clone, Copy)]
 pub struct Order<'a> {
     /// The name of the list.
     pub list: &'a str,
+    /// Keys that the list revokes on purpose: they are no findings.
+    pub canaries: Option<&'a Revocations<Held>>,
     /// Which findings are printed, and how.
     pub shown: Shown,
     /// Whether every regular file of a directory is read, whatever its name.
@@ -23,10 +27,14 @@ pub struct Order<'a> {
 }
 
 impl<'a> Order<'a> {
-    /// The audit that this task of the command asks for, with its findings in colour where the
-    /// terminal shows colours.
-    pub fn of(task: &'a Audit<'a>, terminal: Terminal) -> Order<'a>
-        ensures { IsOrder task.now terminal result }
+    /// The audit that this task of the command asks for, given the keys of its canaries, with its
+    /// findings in colour where the terminal shows colours.
+    pub fn of(
+        task: &'a Audit<'a>,
+        canaries: Option<&'a Revocations<Held>>,
+        terminal: Terminal,
+    ) -> Order<'a>
+        ensures { IsOrder task.now canaries.entry terminal result }
     {
         let options = Options {
             quiet: task.quiet,
@@ -36,6 +44,7 @@ impl<'a> Order<'a> {
         };
         Order {
             list: task.list,
+            canaries,
             shown: options.shown(),
             every_file: task.every_file,
             names_from: task.names_from.unwrap_or(""),

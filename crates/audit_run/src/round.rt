@@ -4,9 +4,10 @@ ghost use Rattle.std.specs.Prelude.{◌≡◌, ◌&&◌, ◌∷◌, [], IfSome, 
 ghost use Rattle.std.specs.Result.{result_err};
 ghost use Rattle.krl_audit.specs.Audit.{content_of};
 ghost use Rattle.audit_run.specs.Visits.{Audited, Meets, Same, Skipped, at_start, is_seen};
-ghost use Rattle.audit_run.specs.Visits.{stop_for};
+ghost use Rattle.audit_run.specs.Visits.{is_told, stop_for};
 
-use crate::files::{Files, Key, Since};
+use crate::files::{Files, Key, Since, Skip};
+use crate::sending::{audit_and_send, say_same_if};
 use crate::stop::Stop;
 use audit_tree::Summary;
 use byte_streams::Sink;
@@ -120,7 +121,7 @@ impl<'q, 'w, W: Screen> Round<'q, 'w, W> {
     {
         self.files.keep(key)?;
         let before = self.auditor.counts.revoked;
-        if let Err(fault) = self.auditor.audit_file(name, content) {
+        if let Err(fault) = audit_and_send(&mut self.auditor, name, content) {
             return Err(stop_by(&fault));
         }
         let revoked = self.auditor.counts.revoked > before;
@@ -133,25 +134,27 @@ impl<'q, 'w, W: Screen> Round<'q, 'w, W> {
         Ok(())
     }
 
-    /// Says that a file was audited before, and counts its name.
+    /// Counts a name of a file that was audited before, and says so of the first ones.
     pub(crate) fn say_same(&mut self, key: Key, name: &str) -> Result<(), Stop>
         requires { is_seen self.old.tally.files key ≡ true }
-        ensures { Meets (Same key name.now ∷ []) (result_err result) self.old self.new }
+        ensures { Meets (Same (is_told self.old.tally.files key) key name.now ∷ [])
+            (result_err result) self.old self.new }
     {
-        if let Err(fault) = self.auditor.say_same(name) {
+        let is_told = self.files.is_told(key);
+        self.files.count_same(key)?;
+        if let Err(fault) = say_same_if(&mut self.auditor, name, is_told) {
             return Err(stop_by(&fault));
         }
-        self.files.count_same();
         self.since.gave = true;
         self.show();
         Ok(())
     }
 
-    /// Counts names that are passed over.
-    pub(crate) fn skip(&mut self, count: u64)
-        ensures { Meets (Skipped count ∷ []) None self.old self.new }
+    /// Counts names that are passed over for this reason.
+    pub(crate) fn skip(&mut self, why: Skip, count: u64)
+        ensures { Meets (Skipped why count ∷ []) None self.old self.new }
     {
-        self.files.count_skipped(count);
+        self.files.count_skipped(why, count);
         self.since.passed |= count > 0;
     }
 }

@@ -1,11 +1,9 @@
 //! The whole audit.
 
-ghost use Rattle.std.specs.Prelude.{◌≡◌, List, Option, Some, false, IfSome};
+ghost use Rattle.std.specs.Prelude.{◌≡◌, Option, Some, false, IfSome};
 ghost use Rattle.std.specs.Result.{result_err};
-ghost use Rattle.krl_types.specs.Entry.{Entry};
-ghost use Rattle.krl_entries.specs.Revocations.{Means};
 ghost use Rattle.run_output.specs.Carries.{Carries};
-ghost use Rattle.audit_run.specs.Run.{AuditsAll, EndsAuditBy, EndsAuditRun, HasOther, IsGiven};
+ghost use Rattle.audit_run.specs.Run.{AuditsAll, EndsAuditBy, EndsAuditRun, HasNames, IsGiven};
 ghost use Rattle.audit_run.specs.Run.{is_hashed, last_items, names_fault, readers_of, stop_fault};
 ghost use Rattle.audit_run.specs.Run.{summary_of, summary_unless};
 ghost use Rattle.audit_run.specs.Visits.{Took};
@@ -20,7 +18,7 @@ use audit_tree::Summary;
 use byte_streams::Source;
 use krl_audit::{Auditor, Form, Judge, ListFacts, Shown, Stated};
 use krl_entries::Revocations;
-use krl_openssh::authorities_are_keys;
+use krl_openssh::{Incomparable, first_incomparable};
 use run_faults::{Cause, FileFault, RunFault};
 use run_output::{Done, Printer, Run};
 use span_sets::Held;
@@ -54,8 +52,8 @@ pub enum Audited<'a> {
         done: Done<'a>,
         summary: Option<Summary>,
     },
-    /// The list names a certificate authority that is no key in its one spelling.
-    OtherAuthority,
+    /// The list has names that cannot be compared with those of certificates.
+    Incomparable(Incomparable),
     /// The list is refused.
     Refused(RunFault<'a>),
 }
@@ -68,9 +66,9 @@ struct Counted<'a> {
 }
 
 /// Audits what the command asks for, given the bytes of the list. No audit is made by a list whose
-/// certificate authorities sshd may read otherwise. The status of an audit that came to an end is
-/// 255 if it was stopped, otherwise 1 if a key is revoked, otherwise 3 if something was not read,
-/// otherwise 0.
+/// certificate authorities or key IDs sshd may read otherwise. The status of an audit that came to
+/// an end is 255 if it was stopped, otherwise 1 if a key is revoked, otherwise 3 if something was
+/// not read, otherwise 0.
 pub fn audit_run<'a, T: Tree, N: Source + Drop, I: Source + Drop, W: Screen>(
     alloc: Global,
     order: &Order<'a>,
@@ -89,8 +87,8 @@ pub fn audit_run<'a, T: Tree, N: Source + Drop, I: Source + Drop, W: Screen>(
         Ok(read) => read,
         Err(fault) => return Audited::Refused(fault),
     };
-    if has_other_authority(&read, list.as_slice()) {
-        return Audited::OtherAuthority;
+    if let Some(why) = why_incomparable(&read, list.as_slice()) {
+        return Audited::Incomparable(why);
     }
     drop(list);
     let queried = Queried {
@@ -112,12 +110,15 @@ fn is_hashed(shown: Shown) -> bool
     }
 }
 
-// Whether a list names a certificate authority by other bytes than those of a key in its one
-// spelling. sshd compares such an authority as a key, and an audit compares bytes.
-fn has_other_authority(list: &ReadList, bytes: &[u8]) -> bool
-    ensures { HasOther list.now bytes.now result }
+// Why names of a list cannot be compared with those of certificates, if so. sshd compares a
+// certificate authority as a key and a key ID as text, and an audit compares bytes.
+fn why_incomparable(list: &ReadList, bytes: &[u8]) -> Option<Incomparable>
+    ensures { HasNames list.now bytes.now result }
 {
-    list.stated.is_some() && !authorities_are_keys(bytes)
+    match list.stated {
+        Some(_) => first_incomparable(bytes),
+        None => None,
+    }
 }
 
 // Audits what the command asks for, by a list that was read.
@@ -128,7 +129,6 @@ fn audit_by<'a, T: Tree, N: Source + Drop, I: Source + Drop, W: Screen>(
     given: Given<'_, T, N, I>,
     out: &mut W,
 ) -> Counted<'a>
-    requires read { (entries : List Entry) × Means queried.now.list.now entries }
     requires working { W.Sink.has_failed out.old ≡ false }
     requires names { IfSome given.names (λ names. N.has_failed names ≡ false) }
     requires input { I.has_failed given.input ≡ false }
@@ -141,6 +141,7 @@ fn audit_by<'a, T: Tree, N: Source + Drop, I: Source + Drop, W: Screen>(
     let printer = Printer::new(&mut buffer, out);
     let judge = Judge {
         list: queried.list,
+        canaries: order.canaries,
         shown: order.shown,
     };
     let mut round = Round::new(alloc, judge, printer, queried.stated);
@@ -195,7 +196,6 @@ fn audit_all<'a, T: Tree, N: Source + Drop, I: Source + Drop, W: Screen>(
     queried: &Queried<'_>,
     given: Given<'_, T, N, I>,
 ) -> Option<RunFault<'a>>
-    requires read { (entries : List Entry) × Means round.old.judge.list.now entries }
     requires names { IfSome given.names (λ names. N.has_failed names ≡ false) }
     requires input { I.has_failed given.input ≡ false }
     ensures all { AuditsAll (T.states given.entry.tree.now) order.now queried.now

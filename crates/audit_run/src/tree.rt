@@ -1,7 +1,8 @@
 //! Where an audit finds files.
 
 ghost use Rattle.std.specs.Prelude.{◌≡◌, true, false, IfErr, IfOk, Err, Ok};
-ghost use Rattle.audit_run.specs.Fact.{Breaks, Fact, Fails, Leads, Lists, Opens, open_file};
+ghost use Rattle.audit_run.specs.Fact.{Breaks, Elsewhere, Excludes, Fact, Fails, Leads, Lists};
+ghost use Rattle.audit_run.specs.Fact.{Opens, Sought, open_file};
 
 use crate::kind::{Found, Opened};
 use byte_streams::Source;
@@ -23,6 +24,19 @@ pub trait Tree {
     /// Looks where a path leads. A link is followed or not.
     fn look(&self, path: &str, followed: bool) -> Result<Found, Refusal>
         ensures { states self.now (Leads path.now followed result) };
+
+    /// Whether the command excludes a name of a directory.
+    fn is_excluded(&self, name: &[u8]) -> bool
+        ensures { states self.now (Excludes name.now result) };
+
+    /// Whether the directory that a link leads to has a name that is looked for.
+    fn leads_to_sought(&self, path: &str) -> bool
+        ensures { states self.now (Sought path.now result) };
+
+    /// Whether a directory that was found is on another file system than the directory that was
+    /// named last, and the audit stays on one.
+    fn is_elsewhere(&self, path: &str) -> bool
+        ensures { states self.now (Elsewhere path.now result) };
 
     /// Opens what is at a path, or says why not: what a look has found, or, without one, what the
     /// command names, which is waited for. Fails only if an allocation fails.

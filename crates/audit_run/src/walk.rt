@@ -3,12 +3,12 @@
 ghost use Rattle.std.specs.Prelude.{◌≡◌, ◌∷◌, ◌++◌, [], true, false, is_ok, OnOk, string_bytes};
 ghost use Rattle.std.specs.Result.{result_err};
 ghost use Rattle.audit_run.specs.Visits.{Goes, Meets, State, Went};
-ghost use Rattle.audit_run.specs.Walk.{IsDirectory, IsEntered, MayTurn, Walked, entering};
-ghost use Rattle.audit_run.specs.Walk.{every_in, level_in};
+ghost use Rattle.audit_run.specs.Walk.{IsDirectory, IsEntered, IsEnteredBelow, MayTurn, Walked};
+ghost use Rattle.audit_run.specs.Walk.{entering, every_in, level_in};
 ghost use Rattle.audit_run.specs.Walk.{is_settled, level_of, levels_of, no_file};
 
 use crate::entries::audit_entry;
-use crate::files::Since;
+use crate::files::{Since, Skip};
 use crate::names::{Place, names_in};
 use crate::round::{Round, Screen};
 use crate::stop::Stop;
@@ -94,9 +94,27 @@ fn take_turn<T: Tree, W: Screen>(
     let Some(path) = below else {
         return Ok(());
     };
-    let next = enter(tree, round, every, false, path)?;
+    let next = enter_below(tree, round, every, path)?;
     push_below(entered, next)?;
     Ok(())
+}
+
+// Enters a directory that was found, unless it is on another file system and the audit stays on
+// one, or says why it cannot be entered.
+fn enter_below<T: Tree, W: Screen>(
+    tree: &T,
+    round: &mut Round<'_, '_, W>,
+    every: bool,
+    path: String,
+) -> Result<Option<Entered>, Stop>
+    ensures { Goes result (λ level visits. IsEnteredBelow (T.states tree.now) every
+        (string_bytes path) visits (level_in level)) round.old round.new }
+{
+    if tree.is_elsewhere(path.as_str()) {
+        round.skip(Skip::Elsewhere, 1);
+        return Ok(None);
+    }
+    enter(tree, round, every, false, path)
 }
 
 // Enters a directory that is named or was found, or says why it cannot be entered.
@@ -118,7 +136,7 @@ fn enter<T: Tree, W: Screen>(
     let names = names_in(tree, round, place, named)?;
     match names {
         Ok(listing) => {
-            round.skip(listing.skipped);
+            round.skip(Skip::ByName, listing.skipped);
             let mut names = listing.names;
             names.reverse();
             Ok(Some(Entered { path, every, names }))

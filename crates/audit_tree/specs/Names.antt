@@ -22,6 +22,12 @@ abbrev pub is_private_name : List ℕ → Bool
 is_private_name name =
     starts_with nat_eq name (codes "id_") || starts_with nat_eq name (codes "ssh_host_")
 
+-- the name of a file that is read, or of a directory whose files sshd or ssh reads
+abbrev pub is_sought : List ℕ → Bool
+is_sought name =
+    bytes_eq name (codes ".ssh")
+    || (bytes_eq name (codes "authorized_keys.d") || (is_key_name name || is_private_name name))
+
 -- whether a file of this name is read, where each file of its directory is or not
 abbrev pub selection_of : (every : Bool) → List ℕ → Selection
 selection_of every name =

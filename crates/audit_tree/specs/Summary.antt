@@ -1,6 +1,6 @@
 -- The last line of an audit.
-use Rattle.std.specs.Prelude.{ℕ, ◌==◌, List, [], ◌++◌, codes, decimal, if◌then◌else◌, Option, Some}
-use Rattle.std.specs.Prelude.{None}
+use Rattle.std.specs.Prelude.{ℕ, ◌==◌, Bool, true, false, List, [], ◌++◌, codes, decimal}
+use Rattle.std.specs.Prelude.{if◌then◌else◌, Option, Some, None}
 use Rattle.cert_listing.specs.Time.{instant_text}
 use Rattle.krl_audit.specs.declared.done.Stated.{Stated}
 use Rattle.krl_audit.specs.Amount.{amount_text}
@@ -33,11 +33,18 @@ abbrev pub others_text : ℕ → List ℕ → List ℕ
 others_text count why =
     if count == 0 then [] else codes ", " ++ (decimal count ++ (codes " " ++ why))
 
+-- why names were skipped
+abbrev pub skipped_words : Bool → List ℕ
+skipped_words true = codes "skipped by its name"
+skipped_words false = codes "skipped by their names"
+
 -- the numbers of names that were not audited
 abbrev pub names_text : Summary → List ℕ
 names_text summary =
-    others_text summary.files.skipped (codes "skipped")
-    ++ others_text summary.files.same (codes "audited before")
+    others_text summary.files.skipped (skipped_words (summary.files.skipped == 1))
+    ++ (others_text summary.files.excluded (codes "excluded")
+    ++ (others_text summary.files.elsewhere (codes "on other file systems")
+    ++ others_text summary.files.same (codes "audited before")))
 
 -- the number of revoked keys, and of lines and files that were not read
 abbrev pub findings_text : Summary → List ℕ

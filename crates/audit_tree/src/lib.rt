@@ -8,7 +8,7 @@ mod paths;
 mod progress;
 mod summary;
 
-pub use names::{Selection, is_audited, selection_of};
+pub use names::{Selection, is_audited, is_sought, selection_of};
 pub use order::sort_names;
 pub use paths::{path_in, shown_path};
 pub use progress::{push_progress, push_wipe};

@@ -1,7 +1,8 @@
 //! Which files of a directory are read (krl(1), FILES THAT ARE READ).
 
 ghost use Rattle.std.specs.Prelude.{◌≡◌};
-ghost use Rattle.audit_tree.specs.Names.{is_audited, is_key_name, is_private_name, selection_of};
+ghost use Rattle.audit_tree.specs.Names.{is_audited, is_key_name, is_private_name, is_sought};
+ghost use Rattle.audit_tree.specs.Names.{selection_of};
 
 use key_text::is_container;
 
@@ -38,6 +39,17 @@ pub fn is_audited(every: bool, name: &[u8], text: &[u8]) -> bool
         Selection::IfPrivate => is_container(text),
         Selection::Never => false,
     }
+}
+
+/// Returns true if it is the name of a file that is read, or of a directory whose files sshd or ssh
+/// reads.
+pub fn is_sought(name: &[u8]) -> bool
+    ensures { result ≡ is_sought name.now }
+{
+    name == b".ssh".as_slice()
+        || name == b"authorized_keys.d".as_slice()
+        || is_key_name(name)
+        || is_private_name(name)
 }
 
 // Returns true if it is the name of a file of public keys.

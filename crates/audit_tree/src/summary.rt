@@ -2,7 +2,7 @@
 
 ghost use Rattle.std.specs.Prelude.{◌≡◌, ◌++◌, OnOk};
 ghost use Rattle.audit_tree.specs.Summary.{findings_text, inputs_text, list_text};
-ghost use Rattle.audit_tree.specs.Summary.{names_text, others_text, summary_text};
+ghost use Rattle.audit_tree.specs.Summary.{names_text, others_text, skipped_words, summary_text};
 
 use cert_listing::time_text;
 use krl_audit::{Amount, Counts, FileCounts, Stated};
@@ -68,8 +68,21 @@ fn push_findings(summary: &Summary, text: &mut Vec<u8>) -> Result<(), AllocError
 fn push_names(summary: &Summary, text: &mut Vec<u8>) -> Result<(), AllocError>
     ensures { OnOk result (text.new.items ≡ text.old.items ++ names_text summary.now) }
 {
-    put!(text; Others(summary.files.skipped, b"skipped"),
+    put!(text; Others(summary.files.skipped, skipped_words(summary.files.skipped == 1)),
+        Others(summary.files.excluded, b"excluded"),
+        Others(summary.files.elsewhere, b"on other file systems"),
         Others(summary.files.same, b"audited before"))
+}
+
+// Why names were skipped.
+fn skipped_words(one: bool) -> &'static [u8]
+    ensures { result.now ≡ skipped_words one }
+{
+    if one {
+        b"skipped by its name"
+    } else {
+        b"skipped by their names"
+    }
 }
 
 // Appends the list that was queried.

@@ -1,5 +1,5 @@
 -- The format of a list.
-use Rattle.std.proofs.Common.{◌≡◌, ℕ, Bool, true, false, List, Option, Some, None, refl, sym, ap, subst, ◌∙◌}
+use Rattle.std.proofs.Common.{◌≡◌, ℕ, ◌+◌, Bool, true, false, List, [], ◌∷◌, Option, Some, None, refl, sym, ap, subst, ◌∙◌}
 use Rattle.std.specs.Prelude.{option_map}
 use Rattle.krl_format.specs.Front.{IsFirstKrlFault}
 use Rattle.krl_format.specs.declared.header.Header.{Header}
@@ -10,7 +10,13 @@ use Rattle.krl_openssh.specs.declared.difference.Difference.{Difference}
 use Rattle.plain_list.specs.Any.{NamesIf, begins_list}
 use Rattle.any_list.specs.List.{IsReadList, stated_in}
 use Rattle.any_list.specs.declared.list.List.{List as ReadList}
-use Rattle.check_run.specs.Lists.{IsDifference, IsDifferenceIf}
+use Rattle.krl_checker.specs.declared.condition.Condition.TheVariants.{OpenSsh, OpenSshLines}
+use Rattle.plain_list.specs.Dsa.{IsFirstDsa, line_dsa}
+use Rattle.plain_list.specs.List.{lines_of}
+use Rattle.plain_list.specs.declared.dsa.DsaLine.{DsaLine}
+use Rattle.plain_list.specs.declared.dsa.DsaPart.{DsaPart}
+use Rattle.plain_list.proofs.DsaLines.{IsAt, all_passed, at_first, found, next_line}
+use Rattle.check_run.specs.Lists.{IsFormat, IsFormatIf}
 
 -- A list that states a version begins as a key revocation list, and has no fault.
 pub record IsWhole (bytes : List ℕ) : Type 0 where
@@ -35,8 +41,24 @@ lines_if false bytes header entries is none named = is
 states_lines : (bytes : List ℕ) (list : ReadList) → IsReadList false bytes list → list.stated ≡ None → begins_list bytes ≡ false
 states_lines bytes list read is = lines_if (begins_list bytes) bytes read.header read.entries refl (sym read.stated_is ∙ is) read.named
 
-pub differs : (bytes : List ℕ) (list : ReadList) (value : Stated) (difference : Option Difference) → IsReadList false bytes list → list.stated ≡ Some value → IsFirstDifference bytes difference → IsDifference bytes difference
-differs bytes list value difference read is first = subst (λ (b : Bool). IsDifferenceIf b bytes difference) (sym (states_whole bytes list value read is).begins) first
+pub differs : (bytes : List ℕ) (list : ReadList) (value : Stated) (difference : Option Difference) → IsReadList false bytes list → list.stated ≡ Some value → IsFirstDifference bytes difference → IsFormat bytes (OpenSsh difference)
+differs bytes list value difference read is first = subst (λ (b : Bool). IsFormatIf b bytes (OpenSsh difference)) (sym (states_whole bytes list value read is).begins) (difference, first, refl)
 
-pub differs_not : (bytes : List ℕ) (list : ReadList) → IsReadList false bytes list → list.stated ≡ None → IsDifference bytes None
-differs_not bytes list read is = subst (λ (b : Bool). IsDifferenceIf b bytes None) (sym (states_lines bytes list read is)) refl
+pub has_lines : (bytes : List ℕ) (list : ReadList) (line : Option DsaLine) → IsReadList false bytes list → list.stated ≡ None → IsFirstDsa (lines_of bytes) line → IsFormat bytes (OpenSshLines line)
+has_lines bytes list line read is first = subst (λ (b : Bool). IsFormatIf b bytes (OpenSshLines line)) (sym (states_lines bytes list read is)) (line, first, refl)
+
+-- ---- the first line with DSA, if there is one
+
+-- at a line, by whether a later one is the first
+first_at : (lines : List (List ℕ)) (passed : ℕ) (line : List ℕ) (rest : List (List ℕ)) → IsAt lines passed (line ∷ rest) → (line_dsa line ≡ None → (first : Option DsaLine) × IsFirstDsa lines first)
+    → (part : Option DsaPart) → line_dsa line ≡ part → (first : Option DsaLine) × IsFirstDsa lines first
+first_at lines passed line rest at later (Some part) is = (Some (record { number = passed + 1; part = part }), found lines passed line rest part at is)
+first_at lines passed line rest at later None is = later is
+
+first_by : (lines : List (List ℕ)) (passed : ℕ) (rest : List (List ℕ)) → IsAt lines passed rest → (first : Option DsaLine) × IsFirstDsa lines first
+first_by lines passed [] at = (None, all_passed lines passed at)
+first_by lines passed (line ∷ rest) at =
+    first_at lines passed line rest at (λ none. first_by lines (passed + 1) rest (next_line lines passed line rest at none)) (line_dsa line) refl
+
+pub some_first : (lines : List (List ℕ)) → (line : Option DsaLine) × IsFirstDsa lines line
+some_first lines = first_by lines 0 lines (at_first lines)

@@ -1,5 +1,5 @@
 -- A list that passes the check beside another one revokes all that the other one revokes.
-use Rattle.std.proofs.Common.{◌≡◌, ◌∙◌, ◌||◌, refl, subst, sym, Bool, true, false, List, Option, Some, is_some}
+use Rattle.std.proofs.Common.{◌≡◌, ◌∙◌, ◌||◌, refl, subst, sym, Bool, true, false, List, Option, Some}
 use Rattle.std.proofs.lemmas.Bool.{not-false, or_parts}
 use Rattle.krl_arguments.specs.declared.task.Check.{Check}
 use Rattle.krl_types.specs.Entry.{Entry}
@@ -14,7 +14,9 @@ use Rattle.krl_entries.proofs.NameTests.{none_tested, some_tested}
 use Rattle.krl_entries.proofs.OwnEntries.{means_itself}
 use Rattle.krl_checker.specs.Check.{names_nobody}
 use Rattle.krl_checker.proofs.Nobody.{law}
-use Rattle.check_run.specs.Lists.{ages_fail, empty_fails, limits_fail, version_of, versions_fail}
+use Rattle.krl_checker.specs.Condition.{fails}
+use Rattle.krl_checker.specs.declared.condition.Condition.TheVariants.{Slow}
+use Rattle.check_run.specs.Lists.{ages_fail, empty_fails, limits_fail, most_cas, version_of, versions_fail}
 use Rattle.check_run.specs.Losses.{AreLost, losses_fail}
 use Rattle.check_run.specs.Run.{Judged, list_fails}
 use Rattle.check_run.specs.declared.lists.Lost.{Lost}
@@ -36,9 +38,12 @@ all_revoked own others lost are nobody = revoked_by_more own others (named_too o
 nothing_fails : (list : Judged) (task : Check) → list_fails list task ≡ false → losses_fail list.limits.lost.now ≡ false
 nothing_fails list task none =
     let limits = list.limits in
-    let rest = or_parts (is_some list.difference) (empty_fails list.nobody task.allow_empty || limits_fail list.stated limits) none in
-    let beside = or_parts (empty_fails list.nobody task.allow_empty) (limits_fail list.stated limits) rest.1 in
-    let later = or_parts (versions_fail (version_of list.stated) limits.other) (ages_fail list.stated limits.age || losses_fail limits.lost.now) beside.1 in
+    let slow = fails (Slow list.authorities (most_cas task.max_cas)) in
+    let own = limits_fail list.stated limits in
+    let beside = or_parts (fails list.format) (empty_fails list.nobody task.allow_empty || (slow || own)) none in
+    let named = or_parts (empty_fails list.nobody task.allow_empty) (slow || own) beside.1 in
+    let counted = or_parts slow own named.1 in
+    let later = or_parts (versions_fail (version_of list.stated) limits.other) (ages_fail list.stated limits.age || losses_fail limits.lost.now) counted.1 in
     (or_parts (ages_fail list.stated limits.age) (losses_fail limits.lost.now) later.1).1
 
 pub passed : (own others : List Entry) (list : Judged) (task : Check) (lost : Lost) → list.limits.lost.now ≡ Some lost → AreLost own others lost.held → list_fails list task ≡ false

@@ -1,4 +1,4 @@
--- What a host may say.
+-- Facts that a host may state.
 use Rattle.std.specs.Prelude.{ℕ, List, Option, Result, Ok, Err}
 use Rattle.run_faults.specs.declared.cause.Cause.{Cause}
 use Rattle.krl_audit.specs.declared.why.Refusal.{Refusal}

@@ -1,24 +1,30 @@
 -- The conditions for the list itself.
 use Rattle.std.specs.Borrow.{Bor}
 use Rattle.std.specs.Prelude.{◌≡◌, ℕ, ◌||◌, ◌&&◌, nat_lt, not, Bool, true, false, List, [], ◌∷◌}
-use Rattle.std.specs.Prelude.{◌++◌, Option, Some, None, Result, Ok, Err, OnOk, is_some, option_map}
+use Rattle.std.specs.Prelude.{◌++◌, Option, Some, None, Result, Ok, Err, OnOk, length, option_map}
 use Rattle.std.specs.Prelude.{if◌then◌else◌}
 use Rattle.run_faults.specs.RunFault.{RunFault, run_fault_of}
 use Rattle.run_faults.specs.declared.cause.Cause.{Cause}
 use Rattle.run_output.specs.Carries.{Carries}
 use Rattle.run_output.specs.Printer.{Printer}
-use Rattle.run_output.specs.Run.{Item}
+use Rattle.run_output.specs.Run.{Item, Passed}
 use Rattle.krl_format.specs.declared.header.Header.{Header}
 use Rattle.krl_types.specs.Entry.{Entry}
+use Rattle.krl_entries.specs.Revocations.{Revocations}
 use Rattle.krl_audit.specs.declared.done.Stated.{Stated}
 use Rattle.krl_audit.specs.declared.judge.Form.{Form}
 use Rattle.krl_openssh.specs.Fields.{IsFirstDifference}
 use Rattle.krl_openssh.specs.declared.difference.Difference.{Difference}
 use Rattle.krl_checker.specs.Check.{condition_items}
-use Rattle.krl_checker.specs.Condition.{is_fresh}
+use Rattle.krl_checker.specs.Condition.{fails, is_fresh}
+use Rattle.krl_checker.specs.declared.condition.Condition.{Condition}
 use Rattle.krl_checker.specs.declared.condition.Condition.TheVariants.{Age, Empty, NoDate}
-use Rattle.krl_checker.specs.declared.condition.Condition.TheVariants.{NoVersion, OpenSsh, Version}
+use Rattle.krl_checker.specs.declared.condition.Condition.TheVariants.{NoVersion, OpenSsh}
+use Rattle.krl_checker.specs.declared.condition.Condition.TheVariants.{OpenSshLines, Slow, Version}
 use Rattle.plain_list.specs.Any.{Names, begins_list}
+use Rattle.plain_list.specs.Dsa.{IsFirstDsa}
+use Rattle.plain_list.specs.List.{lines_of}
+use Rattle.plain_list.specs.declared.dsa.DsaLine.{DsaLine}
 use Rattle.any_list.specs.List.{IsListFault, IsReadList, stated_in}
 use Rattle.check_run.specs.Fact.{Fact, ListOf}
 use Rattle.check_run.specs.Losses.{losses_fail, losses_items}
@@ -83,21 +89,38 @@ pub record Checks (items : List Item) (fails : Bool) (result : Result (Unit {0})
 
 -- ---- the format
 
--- The first difference of a key revocation list for OpenSSH. A plain list that is read has none.
-abbrev pub IsDifferenceIf : Bool → List ℕ → Option Difference → Type 0
-IsDifferenceIf true bytes difference = IsFirstDifference bytes difference
-IsDifferenceIf false bytes difference = difference ≡ None
+-- The condition for the first difference of a key revocation list, or for the first line of a plain
+-- list with DSA.
+abbrev pub IsFormatIf : Bool → List ℕ → Condition → Type 0
+IsFormatIf true bytes condition =
+    (difference : Option Difference) × IsFirstDifference bytes difference
+    × (condition ≡ OpenSsh difference)
+IsFormatIf false bytes condition =
+    (line : Option DsaLine) × IsFirstDsa (lines_of bytes) line × (condition ≡ OpenSshLines line)
 
-abbrev pub IsDifference : List ℕ → Option Difference → Type 0
-IsDifference bytes difference = IsDifferenceIf (begins_list bytes) bytes difference
+abbrev pub IsFormat : List ℕ → Condition → Type 0
+IsFormat bytes condition = IsFormatIf (begins_list bytes) bytes condition
+
+-- There may be no memory to read the lines of a plain list again.
+abbrev pub format_items : Form → List ℕ → Condition → List Item
+format_items form name (OpenSshLines line) =
+    Passed name ∷ condition_items form name (OpenSshLines line)
+format_items form name condition = condition_items form name condition
+
+-- The lines of a plain list were checked.
+pub record ChecksLines (form : Form) (name bytes : List ℕ) (result : Result (Unit {0}) RunFault)
+    (old new : Printer) (before after : Bool) : Type 0 where
+  pub line : Option DsaLine
+  pub is_first : IsFirstDsa (lines_of bytes) line
+  pub checks : Checks (format_items form name (OpenSshLines line)) (fails (OpenSshLines line))
+      result old new before after
 
 -- The format of a list was checked.
 pub record ChecksFormat (form : Form) (name bytes : List ℕ) (result : Result (Unit {0}) RunFault)
     (old new : Printer) (before after : Bool) : Type 0 where
-  pub difference : Option Difference
-  pub is : IsDifference bytes difference
-  pub checks : Checks (condition_items form name (OpenSsh difference)) (is_some difference) result
-      old new before after
+  pub format : Condition
+  pub is : IsFormat bytes format
+  pub checks : Checks (format_items form name format) (fails format) result old new before after
 
 -- ---- lists that revoke nobody
 
@@ -107,6 +130,15 @@ empty_fails nobody allow_empty = not allow_empty && nobody
 abbrev pub empty_items : Form → List ℕ → (nobody allow_empty : Bool) → List Item
 empty_items form name nobody allow_empty =
     if allow_empty then [] else condition_items form name (Empty nobody)
+
+-- ---- lists of many certificate authorities
+
+abbrev pub most_cas : Option ℕ → ℕ
+most_cas None = 4_000
+most_cas (Some most) = most
+
+abbrev pub slow_of : Revocations → Option ℕ → Condition
+slow_of held max_cas = Slow (length held.sections) (most_cas max_cas)
 
 -- ---- the version
 

@@ -1,6 +1,6 @@
 -- A whole check: what it prints, and how it ends.
 use Rattle.std.specs.Prelude.{◌≡◌, ◌↔◌, ℕ, ◌||◌, Bool, true, false, List, [], ◌∷◌, ◌++◌, Option}
-use Rattle.std.specs.Prelude.{Some, None, Result, Ok, Err, OnOk, if◌then◌else◌, is_some}
+use Rattle.std.specs.Prelude.{Some, None, Result, Ok, Err, OnOk, if◌then◌else◌, length}
 use Rattle.run_faults.specs.RunFault.{RunFault}
 use Rattle.run_output.specs.Printer.{Printer}
 use Rattle.run_output.specs.Run.{Item}
@@ -13,17 +13,20 @@ use Rattle.krl_entries.specs.Revocations.{Revocations}
 use Rattle.krl_audit.specs.declared.done.Stated.{Stated}
 use Rattle.krl_audit.specs.declared.judge.Form.{Form}
 use Rattle.krl_audit.specs.declared.judge.Form.TheVariants.{Json, Text}
-use Rattle.krl_openssh.specs.declared.difference.Difference.{Difference}
+use Rattle.krl_checker.specs.Authorities.{HasAuthorities}
 use Rattle.krl_checker.specs.Check.{EndsCheck, NamesNobody, condition_items, end_items}
 use Rattle.krl_checker.specs.Check.{names_nobody}
-use Rattle.krl_checker.specs.declared.condition.Condition.TheVariants.{OpenSsh}
+use Rattle.krl_checker.specs.Condition.{fails}
+use Rattle.krl_checker.specs.declared.condition.Condition.{Condition}
+use Rattle.krl_checker.specs.declared.condition.Condition.TheVariants.{Slow}
 use Rattle.plain_list.specs.Any.{Names}
 use Rattle.check_run.specs.Fact.{Fact, ListOf}
 use Rattle.check_run.specs.Files.{AreRead, Named, Read, files_of, reads_fail, reads_items}
 use Rattle.check_run.specs.Files.{some_unread}
 use Rattle.check_run.specs.Limits.{AreLimits, AreOthers, IsClockless, IsLostUnknown}
-use Rattle.check_run.specs.Lists.{Checks, IsDifference, IsOtherOf, IsOtherRefused, IsRefused}
-use Rattle.check_run.specs.Lists.{empty_fails, empty_items, stated_by, limits_fail, limits_items}
+use Rattle.check_run.specs.Lists.{Checks, IsFormat, IsOtherOf, IsOtherRefused, IsRefused}
+use Rattle.check_run.specs.Lists.{empty_fails, empty_items, format_items, limits_fail}
+use Rattle.check_run.specs.Lists.{limits_items, most_cas, stated_by}
 use Rattle.check_run.specs.Version.{PrintsVersion}
 use Rattle.check_run.specs.declared.limits.Limits.{Limits}
 use Rattle.check_run.specs.declared.lists.Lost.{Lost}
@@ -32,11 +35,13 @@ use Rattle.check_run.specs.declared.limits.Unanswered.{Unanswered}
 
 -- ---- all conditions, in their order
 
--- The facts that the conditions for the list itself depend on: the first difference for OpenSSH,
--- whether it revokes nobody, its version and date, and its limits.
+-- The facts that the conditions for the list itself depend on: the condition that OpenSSH reads it
+-- alike, whether it revokes nobody, how many certificate authorities it has, its version and date,
+-- and its limits.
 pub record Judged : Type 0 where
-  pub difference : Option Difference
+  pub format : Condition
   pub nobody : Bool
+  pub authorities : ℕ
   pub stated : Option Stated
   pub limits : Limits
 
@@ -46,14 +51,17 @@ form_of task = if task.json then Json else Text
 
 abbrev pub list_items : Form → List ℕ → Judged → Check → List Item
 list_items form name list task =
-    condition_items form name (OpenSsh list.difference)
+    format_items form name list.format
     ++ (empty_items form name list.nobody task.allow_empty
-    ++ limits_items form name list.stated list.limits)
+    ++ (condition_items form name (Slow list.authorities (most_cas task.max_cas))
+    ++ limits_items form name list.stated list.limits))
 
 abbrev pub list_fails : Judged → Check → Bool
 list_fails list task =
-    is_some list.difference
-    || (empty_fails list.nobody task.allow_empty || limits_fail list.stated list.limits)
+    fails list.format
+    || (empty_fails list.nobody task.allow_empty
+    || (fails (Slow list.authorities (most_cas task.max_cas))
+    || limits_fail list.stated list.limits))
 
 -- A check of this list, by its limits, prints these items. It says whether a condition fails and
 -- whether a file was not read, and these files were not reached.
@@ -64,8 +72,9 @@ pub record IsChecked (told : List Fact) (name bytes : List ℕ) (task : Check)
     pub entries : List Entry
     pub names : Names bytes header entries
     pub list : Judged
-    pub is_difference : IsDifference bytes list.difference
+    pub is_format : IsFormat bytes list.format
     pub is_nobody : list.nobody ≡ true ↔ NamesNobody entries
+    pub are_counted : HasAuthorities entries list.authorities
     pub stated_is : list.stated ≡ stated_by header
     pub limits_are : list.limits ≡ limits
     pub reads : List Read
@@ -155,8 +164,9 @@ pub record ChecksList (form : Form) (name bytes : List ℕ) (stated : Option Sta
     (held : Revocations) (task : Check) (limits : Limits) (result : Result (Unit {0}) RunFault)
     (old new : Printer) (before after : Bool) : Type 0 where
   pub list : Judged
-  pub is_difference : IsDifference bytes list.difference
+  pub is_format : IsFormat bytes list.format
   pub nobody_is : list.nobody ≡ names_nobody held
+  pub authorities_is : list.authorities ≡ length held.sections
   pub stated_is : list.stated ≡ stated
   pub limits_are : list.limits ≡ limits
   pub checks : Checks (list_items form name list task) (list_fails list task) result old new before

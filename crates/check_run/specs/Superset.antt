@@ -1,4 +1,4 @@
--- What a list revokes that names all that another list names.
+-- A list that names all that another list names, and revokes all that it revokes.
 use Rattle.std.specs.Prelude.{◌≡◌, ◌++◌, ◌∷◌, ℕ, List, Option, Ok}
 use Rattle.krl_format.specs.declared.header.Header.{Header}
 use Rattle.krl_types.specs.Entry.{Entry}

@@ -5,7 +5,7 @@ ghost use Rattle.any_list.specs.List.{IsReadList};
 ghost use Rattle.check_run.specs.Run.{ChecksAll, ChecksList, EndsChecked, form_of};
 ghost use Rattle.show_run.specs.Told.{Tells};
 
-use crate::conditions::{check_empty, check_format, check_limits};
+use crate::conditions::{check_empty, check_format, check_limits, check_slow};
 use crate::files::check_files;
 use crate::host::Host;
 use crate::limits::Limits;
@@ -14,7 +14,7 @@ use byte_streams::Sink;
 use krl_arguments::Check;
 use krl_audit::{Auditor, Form};
 use krl_checker::Checker;
-use krl_checker::laws::nobody_is_named;
+use krl_checker::laws::{authorities_are_counted, nobody_is_named};
 use run_faults::RunFault;
 use run_output::{Done, Printer, Run};
 use std::alloc::Global;
@@ -83,6 +83,7 @@ fn check_all<'a, H: Host, W: Sink>(
         ≡ checker.old.auditor.run.printer.writer }
 {
     nobody_is_named();
+    authorities_are_counted();
     check_list(checker, job)?;
     check_files(checker, host, job.task)?;
     checker.say_end(job.given.name)
@@ -105,5 +106,6 @@ fn check_list<'a, W: Sink>(
     let stated = job.given.list.stated;
     check_format(checker, job.given)?;
     check_empty(checker, name, job.task.allow_empty)?;
+    check_slow(checker, name, job.task.max_cas)?;
     check_limits(checker, name, stated, job.limits)
 }

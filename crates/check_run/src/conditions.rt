@@ -1,10 +1,11 @@
 //! The conditions for the list itself.
 
 ghost use Rattle.std.specs.Prelude.{◌≡◌, false, true};
-ghost use Rattle.krl_checker.specs.Check.{names_nobody};
-ghost use Rattle.check_run.specs.Lists.{Checks, ChecksFormat, IsDifference, ages_fail, ages_items};
+ghost use Rattle.krl_checker.specs.Check.{condition_items, names_nobody};
+ghost use Rattle.krl_checker.specs.Condition.{fails};
+ghost use Rattle.check_run.specs.Lists.{Checks, ChecksFormat, ChecksLines, ages_fail, ages_items};
 ghost use Rattle.check_run.specs.Lists.{empty_fails, empty_items, limits_fail, limits_items};
-ghost use Rattle.check_run.specs.Lists.{version_of, versions_fail, versions_items};
+ghost use Rattle.check_run.specs.Lists.{slow_of, version_of, versions_fail, versions_items};
 ghost use Rattle.check_run.specs.Losses.{lost_form, lost_items, losses_fail, losses_items};
 ghost use Rattle.any_list.specs.List.{IsReadList};
 
@@ -13,12 +14,17 @@ use crate::lists::{Given, Lost, Other, version_of};
 use byte_streams::Sink;
 use krl_audit::{Form, Stated};
 use krl_checker::{Checker, Condition, names_nobody};
-use krl_openssh::{Difference, first_difference};
+use krl_openssh::first_difference;
 use list_text::{Counts, Form as TextForm, Side};
-use run_faults::RunFault;
+use plain_list::first_dsa_line;
+use run_faults::{Cause, RunFault};
 use show_run::show_held;
 
-/// Checks that OpenSSH reads a list alike. A plain list that was read is read alike.
+// How many certificate authorities a list may have by itself. With as many, a login takes sshd a
+// second or two.
+const MOST_AUTHORITIES: u64 = 4_000;
+
+/// Checks that OpenSSH reads a list alike.
 pub(crate) fn check_format<'a, W: Sink>(
     checker: &mut Checker<'_, '_, W>,
     given: &Given<'a>,
@@ -31,17 +37,30 @@ pub(crate) fn check_format<'a, W: Sink>(
     ensures unread { checker.new.unread ≡ checker.old.unread }
     ensures judge { checker.new.auditor.judge ≡ checker.old.auditor.judge }
 {
-    checker.check(given.name, Condition::OpenSsh(difference_of(given)))
+    match given.list.stated {
+        Some(_) => {
+            let difference = first_difference(given.bytes.as_slice());
+            checker.check(given.name, Condition::OpenSsh(difference))
+        }
+        None => check_lines(checker, given.name, given.bytes.as_slice()),
+    }
 }
 
-// The first difference of a list for OpenSSH, if there is one.
-fn difference_of(given: &Given<'_>) -> Option<Difference>
-    requires { IsReadList false given.now.bytes given.now.list }
-    ensures { IsDifference given.now.bytes result }
+// Checks that OpenSSH reads each line of a plain list.
+fn check_lines<'a, W: Sink>(
+    checker: &mut Checker<'_, '_, W>,
+    name: &'a str,
+    bytes: &[u8],
+) -> Result<(), RunFault<'a>>
+    ensures checks { ChecksLines checker.old.auditor.judge.shown.form name.now bytes.now result
+        checker.old.auditor.run.printer checker.new.auditor.run.printer checker.old.refused
+        checker.new.refused }
+    ensures unread { checker.new.unread ≡ checker.old.unread }
+    ensures judge { checker.new.auditor.judge ≡ checker.old.auditor.judge }
 {
-    match given.list.stated {
-        Some(_) => first_difference(given.bytes.as_slice()),
-        None => None,
+    match first_dsa_line(checker.auditor.run.alloc, bytes) {
+        Ok(line) => checker.check(name, Condition::OpenSshLines(line)),
+        Err(_) => Err(RunFault::whole(name, Cause::NoMemory)),
     }
 }
 
@@ -64,6 +83,25 @@ pub(crate) fn check_empty<'a, W: Sink>(
     }
     let nobody = names_nobody(checker.auditor.judge.list);
     checker.check(name, Condition::Empty(nobody))
+}
+
+/// Checks that a list has at most so many certificate authorities, or at most 4,000 where no number
+/// is given.
+pub(crate) fn check_slow<'a, W: Sink>(
+    checker: &mut Checker<'_, '_, W>,
+    name: &'a str,
+    max_cas: Option<u64>,
+) -> Result<(), RunFault<'a>>
+    ensures checks { let slow = slow_of checker.old.auditor.judge.list.now max_cas in
+        Checks (condition_items checker.old.auditor.judge.shown.form name.now slow) (fails slow)
+        result checker.old.auditor.run.printer checker.new.auditor.run.printer checker.old.refused
+        checker.new.refused }
+    ensures unread { checker.new.unread ≡ checker.old.unread }
+    ensures judge { checker.new.auditor.judge ≡ checker.old.auditor.judge }
+{
+    let authorities = checker.auditor.judge.list.authorities() as u64;
+    let most = max_cas.unwrap_or(MOST_AUTHORITIES);
+    checker.check(name, Condition::Slow(authorities, most))
 }
 
 /// Checks the version, the age and the names of a list by its limits.

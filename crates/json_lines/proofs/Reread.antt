@@ -7,9 +7,10 @@ use Rattle.json.specs.Print.{escape, quoted, token_text, begins, ends, print_fro
 use Rattle.json.proofs.Printed.Strings.{content-escape, lex-escape}
 use Rattle.json.proofs.Printed.Numbers.{lex-number, in_word-ended}
 use Rattle.json_lines.specs.Controls.{escaped_from}
+use Rattle.json_lines.specs.declared.escapes.Held.TheVariants as held
 use Rattle.json_lines.proofs.Strings.{Safe, lex_string, read_string, safe_kept}
 
--- A number's text has no byte of a control character.
+-- A number's text has no byte that may begin a character that is escaped.
 abbrev pub HasSafeNumber : Token → Type 0
 HasSafeNumber begin_object = Unit {0}
 HasSafeNumber end_object = Unit {0}
@@ -28,12 +29,12 @@ HaveSafeNumbers (t ∷ ts) = HasSafeNumber t × HaveSafeNumbers ts
 
 -- Both texts go on in the same way.
 abbrev GoOn : List ℕ → Type 0
-GoOn r = lex between (escaped_from false r) ≡ lex between r
+GoOn r = lex between (escaped_from held.Nothing r) ≡ lex between r
 
 -- after a value stands a comma, a closing bracket or nothing
 record Ended (r : List ℕ) : Type 0 where
   plain : ends_word r ≡ true
-  escaped : ends_word (escaped_from false r) ≡ true
+  escaped : ends_word (escaped_from held.Nothing r) ≡ true
 
 value_ended : (ts : List Token) → Ended (print_from true ts)
 unfolding print_from escaped_from
@@ -53,11 +54,11 @@ quoted_plain : (s r : List ℕ) → lex between (quoted s ++ r) ≡ token (strin
 unfolding lex
 quoted_plain s r = ap (λ l. lex between (34 ∷ l)) (append_assoc (escape s) (34 ∷ []) r) ∙ ap₂ (λ o l. token (string_token o) ∷ l) (content-escape s r) (lex-escape s r)
 
-quoted_escaped : (s r : List ℕ) → lex between (escaped_from false (quoted s ++ r)) ≡ token (string s) ∷ lex between (escaped_from false r)
+quoted_escaped : (s r : List ℕ) → lex between (escaped_from held.Nothing (quoted s ++ r)) ≡ token (string s) ∷ lex between (escaped_from held.Nothing r)
 unfolding lex escaped_from
 quoted_escaped s r =
-    ap (λ l. lex between (escaped_from false (34 ∷ l))) (append_assoc (escape s) (34 ∷ []) r)
-    ∙ ap₂ (λ o l. token (string_token o) ∷ l) (read_string false s r) (lex_string false s r)
+    ap (λ l. lex between (escaped_from held.Nothing (34 ∷ l))) (append_assoc (escape s) (34 ∷ []) r)
+    ∙ ap₂ (λ o l. token (string_token o) ∷ l) (read_string held.Nothing s r) (lex_string held.Nothing s r)
 
 quoted_same : (s r : List ℕ) → GoOn r → GoOn (quoted s ++ r)
 quoted_same s r rest = quoted_escaped s r ∙ ap (λ l. token (string s) ∷ l) rest ∙ sym (quoted_plain s r)
@@ -68,7 +69,7 @@ colon_same r rest = ap (λ l. colon ∷ l) rest
 
 number_same : (s r : List ℕ) → IsPrintable (number s) → Safe s → Ended r → GoOn r → GoOn (s ++ r)
 number_same s r is safe ended rest =
-    ap (lex between) (safe_kept s r safe) ∙ lex-number s (escaped_from false r) is ended.escaped ∙ ap (λ l. token (number s) ∷ l) rest ∙ sym (lex-number s r is ended.plain)
+    ap (lex between) (safe_kept s r safe) ∙ lex-number s (escaped_from held.Nothing r) is ended.escaped ∙ ap (λ l. token (number s) ∷ l) rest ∙ sym (lex-number s r is ended.plain)
 
 true_read : (r : List ℕ) → ends_word r ≡ true → lex between (116 ∷ 114 ∷ 117 ∷ 101 ∷ r) ≡ token (boolean true) ∷ lex between r
 unfolding lex word
@@ -90,14 +91,14 @@ token_same begin_array r h safe ended rest = ap (λ l. token begin_array ∷ l) 
 token_same end_array r h safe ended rest = ap (λ l. token end_array ∷ l) rest
 token_same (key s) r h safe ended rest =
     let after = append_assoc (quoted s) (58 ∷ []) r in
-    ap (λ l. lex between (escaped_from false l)) after ∙ quoted_same s (58 ∷ r) (colon_same r rest) ∙ sym (ap (lex between) after)
+    ap (λ l. lex between (escaped_from held.Nothing l)) after ∙ quoted_same s (58 ∷ r) (colon_same r rest) ∙ sym (ap (lex between) after)
 token_same (string s) r h safe ended rest = quoted_same s r rest
 token_same (number s) r h safe ended rest = number_same s r h safe (ended refl) rest
 token_same (boolean true) r h safe ended rest =
-    true_read (escaped_from false r) (ended refl).escaped ∙ ap (λ l. token (boolean true) ∷ l) rest ∙ sym (true_read r (ended refl).plain)
+    true_read (escaped_from held.Nothing r) (ended refl).escaped ∙ ap (λ l. token (boolean true) ∷ l) rest ∙ sym (true_read r (ended refl).plain)
 token_same (boolean false) r h safe ended rest =
-    false_read (escaped_from false r) (ended refl).escaped ∙ ap (λ l. token (boolean false) ∷ l) rest ∙ sym (false_read r (ended refl).plain)
-token_same null r h safe ended rest = null_read (escaped_from false r) (ended refl).escaped ∙ ap (λ l. token null ∷ l) rest ∙ sym (null_read r (ended refl).plain)
+    false_read (escaped_from held.Nothing r) (ended refl).escaped ∙ ap (λ l. token (boolean false) ∷ l) rest ∙ sym (false_read r (ended refl).plain)
+token_same null r h safe ended rest = null_read (escaped_from held.Nothing r) (ended refl).escaped ∙ ap (λ l. token null ∷ l) rest ∙ sym (null_read r (ended refl).plain)
 token_same bad r h safe ended rest = absurd h
 
 separator_same : (b : Bool) (r : List ℕ) → GoOn r → GoOn (cond b (44 ∷ []) [] ++ r)

@@ -13,7 +13,9 @@ use Rattle.json.specs.Token as tokens
 use Rattle.json.specs.Tree.{depth, HasNumbers, ItemsHaveNumbers, MembersHaveNumbers, items_tokens, json_tokens, members_tokens}
 use Rattle.json.proofs.Printed.Decimals.{IsNumber-decimal}
 use Rattle.json.proofs.Printed.Trees.{ArePrintable-json_tokens, document-print}
-use Rattle.json_lines.specs.Controls.{alone, ends_control, escaped_from, held, spelled, written}
+use Rattle.json_lines.specs.Controls.{alone, bytes_of, code_of, ends as ends_at, escaped_from, is_first, joins, may_be_control, next_of, spelled, written}
+use Rattle.json_lines.specs.declared.escapes.Held.{Held}
+use Rattle.json_lines.specs.declared.escapes.Held.TheVariants as held
 use Rattle.json_lines.specs.Field.{json_text}
 use Rattle.json_lines.specs.ReadBack.{HasCounts, IsReadBack, ItemsHaveCounts, MembersHaveCounts}
 use Rattle.json_lines.proofs.Reread.{HaveSafeNumbers, print_same}
@@ -124,37 +126,45 @@ print_free after_value (t ∷ ts) free =
     free_append (separator after_value t) (token_text t ++ print_from (ends t) ts) (separator_free _)
     (free_append (token_text t) (print_from (ends t) ts) free.0 (print_free (ends t) ts free.1))
 
--- ---- escapes of control characters
+-- ---- escapes of characters
 
 spelled_free : (x : ℕ) (rest : List ℕ) → Free rest → Free (spelled x ++ rest)
-spelled_free x rest free = (refl, (refl, (refl, (refl, (digit_free (x / 16), (digit_free (x % 16), free))))))
+spelled_free x rest free = (refl, (refl, (digit_free (x / 4096), (digit_free (x / 256 % 16), (digit_free (x / 16 % 16), (digit_free (x % 16), free))))))
 
-held_free : (p : Bool) → Free (held p)
-held_free true = (refl, tt)
-held_free false = tt
+held_free : (p : Held) → Free (bytes_of p)
+held_free held.Nothing = tt
+held_free held.Latin = (refl, tt)
+held_free held.Arabic = (refl, tt)
+held_free held.General = (refl, tt)
+held_free held.Marks = (refl, (refl, tt))
+held_free held.Isolates = (refl, (refl, tt))
 
 alone_free : (x : ℕ) → is_feed x ≡ false → Free (alone x)
-alone_free x is = free_pick (x == 127) (spelled 127) (cond (x == 194) [] (x ∷ [])) (λ _. spelled_free 127 [] tt) (λ _. free_pick (x == 194) [] (x ∷ []) (λ _. tt) (λ _. (is, tt)))
+alone_free x is = free_pick (x == 127) (spelled 127) (cond (is_first x) [] (x ∷ [])) (λ _. spelled_free 127 [] tt) (λ _. free_pick (is_first x) [] (x ∷ []) (λ _. tt) (λ _. (is, tt)))
 
-written_free : (p : Bool) (x : ℕ) → is_feed x ≡ false → Free (written p x)
+written_free : (p : Held) (x : ℕ) → is_feed x ≡ false → Free (written p x)
 written_free p x is =
-    free_pick (p && ends_control x) (spelled x) (held p ++ alone x) (λ _. spelled_free x [] tt) (λ _. free_append (held p) (alone x) (held_free p) (alone_free x is))
+    free_pick (ends_at p x) (spelled (code_of p x)) (cond (joins p x) [] (bytes_of p ++ alone x)) (λ _. spelled_free (code_of p x) [] tt)
+    (λ _. free_pick (joins p x) [] (bytes_of p ++ alone x) (λ _. tt) (λ _. free_append (bytes_of p) (alone x) (held_free p) (alone_free x is)))
 
-escaped_free : (p : Bool) (text : List ℕ) → Free text → Free (escaped_from p text)
+escaped_free : (p : Held) (text : List ℕ) → Free text → Free (escaped_from p text)
 unfolding escaped_from
 escaped_free p [] free = held_free p
-escaped_free p (x ∷ text) free = free_append (written p x) (escaped_from (x == 194) text) (written_free p x free.0) (escaped_free (x == 194) text free.1)
+escaped_free p (x ∷ text) free = free_append (written p x) (escaped_from (next_of p x) text) (written_free p x free.0) (escaped_free (next_of p x) text free.1)
 
 text_free : (value : Json) → HasCounts value → Free (json_text value)
 unfolding json_text
-text_free value has = escaped_free false (print (json_tokens value)) (print_free false (json_tokens value) (tokens_free value has))
+text_free value has = escaped_free held.Nothing (print (json_tokens value)) (print_free false (json_tokens value) (tokens_free value has))
 
--- ---- numbers have no control characters
+-- ---- numbers have no characters that are escaped
+
+low_safe : (x : ℕ) → x < 127 → may_be_control x ≡ false
+low_safe x small = rw (ne_eqb x 127 (λ e. omega arith), ne_eqb x 194 (λ e. omega arith), ne_eqb x 216 (λ e. omega arith), ne_eqb x 226 (λ e. omega arith)) refl
 
 decimal_safe : (n : ℕ) → n < 2 ^ 64 → Safe (decimal n)
 decimal_safe n small =
-    decimal_by_steps (λ n ds. Safe ds) (λ n below. (ne_eqb (48 + n) 127 (λ e. omega arith), (ne_eqb (48 + n) 194 (λ e. omega arith), tt)))
-    (λ n ds above rest. safe_append ds ((48 + n % 10) ∷ []) rest (ne_eqb (48 + n % 10) 127 (λ e. omega arith), (ne_eqb (48 + n % 10) 194 (λ e. omega arith), tt))) n small
+    decimal_by_steps (λ n ds. Safe ds) (λ n below. (low_safe (48 + n) (omega arith), tt))
+    (λ n ds above rest. safe_append ds ((48 + n % 10) ∷ []) rest (low_safe (48 + n % 10) (omega arith), tt)) n small
 
 safe_numbers_append : (a b : List tokens.Token) → HaveSafeNumbers a → HaveSafeNumbers b → HaveSafeNumbers (a ++ b)
 safe_numbers_append [] b first second = second

@@ -12,7 +12,8 @@ pub fn lines_are_read_back()
     ensures { (value : Json) → HasCounts value → depth value ≤ max_depth → IsReadBack value }
 {}
 
-/// The text of a value has neither DEL nor a character from U+0080 to U+009F.
+/// The text of a value has neither DEL nor a character from U+0080 to U+009F, and none of Unicode's
+/// bidirectional controls and line separators.
 pub fn texts_have_no_controls()
     ensures { (value : Json) → HasNoControls (json_text value) }
 {}

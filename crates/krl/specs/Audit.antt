@@ -1,6 +1,8 @@
 -- How an audit of the file system ends. Nothing is claimed of what the file system states.
 use Rattle.std.specs.Prelude.{◌≡◌, ℕ, Bool, List, Option}
+use Rattle.std.specs.Borrow.{Bor}
 use Rattle.krl_arguments.specs.declared.task.Audit.{Audit}
+use Rattle.krl_entries.specs.Revocations.{Revocations}
 use Rattle.audit_run.specs.Fact.{Fact}
 use Rattle.audit_run.specs.Order.{IsOrder}
 use Rattle.audit_run.specs.Run.{EndsAuditRun, Readers}
@@ -11,9 +13,10 @@ use Rattle.krl.specs.Ending.{audit_status}
 
 -- The status is that of an audit that the task asks for, by a list with these bytes.
 pub record EndsAudit (task : Audit) (bytes : List ℕ) (readers : Readers) (status : ℕ) : Type 0 where
+  pub canaries : Option (Bor Revocations)
   pub terminal : Terminal
   pub order : Order
-  pub is_order : IsOrder task terminal order
+  pub is_order : IsOrder task canaries terminal order
   pub before : Option (List ℕ)
   pub after : Option (List ℕ)
   pub failed : Bool

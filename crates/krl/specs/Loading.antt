@@ -5,7 +5,7 @@ use Rattle.run_faults.specs.Named.{file_limit}
 use Rattle.krl_audit.specs.declared.why.Refusal.{Refusal}
 use Rattle.krl_audit.specs.declared.why.Refusal.TheVariants.{Missing, Denied, Irregular, Loop}
 use Rattle.krl_audit.specs.declared.why.Refusal.TheVariants.{DirectoryLink, NoFile, LongName}
-use Rattle.krl_audit.specs.declared.why.Refusal.TheVariants.{Slow, Open, Read, TooLong}
+use Rattle.krl_audit.specs.declared.why.Refusal.TheVariants.{Slow, Kernel, Open, Read, TooLong}
 
 -- This many bytes came from a reader that has these bytes left and failed or not: all that it had,
 -- or too many, or those before it failed.
@@ -21,4 +21,5 @@ IsRead left failed size (Err DirectoryLink) = ⊥
 IsRead left failed size (Err NoFile) = ⊥
 IsRead left failed size (Err LongName) = ⊥
 IsRead left failed size (Err Slow) = ⊥
+IsRead left failed size (Err Kernel) = ⊥
 IsRead left failed size (Err Open) = ⊥

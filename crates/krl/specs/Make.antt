@@ -1,16 +1,20 @@
 -- The list that is made (krl(1), KRL MAKE).
-use Rattle.std.specs.Prelude.{◌≡◌, ℕ, List, [], Option, Some, None, map}
+use Rattle.std.specs.Prelude.{◌≡◌, ℕ, Bool, true, false, List, map}
 use Rattle.std.specs.Borrow.{Bor}
 use Rattle.krl_arguments.specs.declared.task.Make.{Make}
 use Rattle.krl_entries.specs.Revocations.{Revocations}
+use Rattle.list_making.specs.Place.{Old}
 use Rattle.text_run.specs.Making.{Text}
 use Rattle.text_run.specs.Over.{MakesOver}
 use Rattle.text_run.specs.declared.inputs.Inputs.{Inputs}
+use Rattle.text_run.specs.declared.inputs.Over.{Over}
+use Rattle.text_run.specs.declared.inputs.Over.TheVariants.{Nothing, Version, Contents}
 
--- the text that is given, which is empty if there is none
-abbrev pub text_or_nothing : Option (Bor (List ℕ)) → List ℕ
-text_or_nothing None = []
-text_or_nothing (Some text) = text.now
+-- what the list has of the one under its name, by `-u` and `--replace`
+abbrev pub over_of : (update replace : Bool) → Over
+over_of true replace = Contents
+over_of false true = Nothing
+over_of false false = Version
 
 abbrev pub name_of : Text → List ℕ
 name_of text = text.name
@@ -21,9 +25,10 @@ now_of name = name.now
 -- These inputs are those of the task, with this date and these texts.
 pub record IsAsked (task : Make) (date : ℕ) (texts : List Text) (inputs : Inputs) : Type 0 where
   pub name : inputs.name.now ≡ task.list.now
+  pub over : inputs.over ≡ over_of task.update task.replace
   pub version : inputs.version ≡ task.version
   pub date_is : inputs.date ≡ date
-  pub comment : inputs.comment.now ≡ text_or_nothing task.comment
+  pub comment : inputs.comment ≡ task.comment
   pub allow_empty : inputs.allow_empty ≡ task.allow_empty
   pub texts_are : inputs.texts.now ≡ texts
 
@@ -35,7 +40,7 @@ pub record IsMade (task : Make) : Type 0 where
   pub named : map name_of texts ≡ map now_of task.files.items
   pub inputs : Inputs
   pub asked : IsAsked task date texts inputs
-  pub old : Option (List ℕ)
+  pub old : Old
   pub bytes : List ℕ
   pub version : ℕ
   pub contents : Revocations

@@ -10,16 +10,19 @@ use Rattle.krl_arguments.specs.declared.task.Check.{Check}
 use Rattle.krl_arguments.specs.declared.task.Diff.{Diff}
 use Rattle.krl_arguments.specs.declared.task.Show.{Show}
 use Rattle.list_text.specs.declared.form.Form.{Form}
-use Rattle.list_text.specs.declared.form.Form.TheVariants.{Json, Text}
+use Rattle.list_text.specs.declared.form.Form.TheVariants.{Json, JsonUnnamed, Text}
+use Rattle.list_text.specs.declared.form.Form.TheVariants.{Unnamed}
 use Rattle.run_faults.specs.RunFault.{RunFault}
 use Rattle.run_output.specs.declared.done.Done.{Done}
 use Rattle.show_run.specs.Run.{EndsShowRun}
 use Rattle.show_run.specs.Told.{Reading}
 
 -- the form in which lists are shown
-abbrev pub shown_form : (json : Bool) → Form
-shown_form true = Json
-shown_form false = Text
+abbrev pub shown_form : (json no_name : Bool) → Form
+shown_form true false = Json
+shown_form true true = JsonUnnamed
+shown_form false false = Text
+shown_form false true = Unnamed
 
 -- The lists of the task were shown so, with this status.
 pub record IsShown (task : Show) (status : ℕ) : Type 0 where
@@ -29,7 +32,8 @@ pub record IsShown (task : Show) (status : ℕ) : Type 0 where
   pub failed : Bool
   pub fault : Option RunFault
   pub ends
-      : EndsShowRun told task.lists.items (shown_form task.json) before after failed status fault
+      : EndsShowRun told task.lists.items (shown_form task.json task.no_name) before after failed
+      status fault
 
 -- the lists that a task compares
 abbrev pub comparison_of : Diff → Comparison

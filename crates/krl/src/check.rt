@@ -4,7 +4,7 @@ ghost use Rattle.krl.specs.Runs.{IsChecked};
 
 use crate::Krl;
 use crate::ending::fail_in_words;
-use crate::loading::{bytes_of, open, read};
+use crate::loading::{INPUT, bytes_of, open, read};
 use byte_streams::{FromRead, ToWrite};
 use check_run::{Host, check_run};
 use krl_arguments::Check;
@@ -42,6 +42,9 @@ impl<'a> Host for System<'a> {
     }
 
     fn read(&mut self, name: &str, text: &mut Vec<u8>) -> Result<Result<(), Refusal>, AllocError> {
+        if name == INPUT {
+            return read(&mut FromRead::new(self.rt.stdin()), text);
+        }
         match open(self.rt, name) {
             Ok(file) => read(&mut FromRead::new(file), text),
             Err(refusal) => Ok(Err(refusal)),

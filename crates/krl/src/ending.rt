@@ -1,25 +1,31 @@
 //! How a run ends: with a status, and a line that says why it stopped.
 
-ghost use Rattle.std.specs.Prelude.{◌≡◌, IfOk};
+ghost use Rattle.std.specs.Prelude.{◌≡◌, IfOk, false};
 ghost use Rattle.run_faults.specs.RunFault.{line_part};
 ghost use Rattle.krl_audit.specs.Causes.{cause_words};
-ghost use Rattle.krl.specs.Ending.{audit_status, fault_line, words_line};
+ghost use Rattle.krl.specs.Ending.{audit_status, fault_line, is_looked_at, words_line};
 
 use crate::Krl;
-use crate::loading::why_unopened;
+use crate::loading::{bytes_of, why_unopened};
 use audit_run::Audited;
 use audit_tree::{Summary, push_summary};
 use krl_audit::{Visible, cause_words, refusal_words};
+use krl_core::KrlFault;
+use krl_openssh::Incomparable;
 use line_pieces::{Printed, Words, put};
 use program_edge::{end, print_line, stop};
-use run_faults::{Cause, FileFault, RunFault};
+use run_faults::{Cause, FileFault, KeyCause, RunFault};
 use run_output::FAILED;
 use std::alloc::{AllocError, Global};
+use std::fs;
+use text_entries::has_word_at;
 use text_run::{MakeCause, MakeFault, fault_line as make_fault_line};
 
-// Why no audit is made by a list whose authorities OpenSSH compares otherwise.
+// Why no audit is made by a list whose authorities or key IDs OpenSSH compares otherwise.
 const OTHER_AUTHORITY: &[u8] = b"a certificate authority in it is no key in its one spelling, and \
 sshd may read it otherwise";
+
+const OTHER_KEY_ID: &[u8] = b"a key ID in it has a zero byte, and sshd may read it otherwise";
 
 // The number of a line, if there is one.
 #[derive(Clone, Copy)]
@@ -57,8 +63,16 @@ pub fn end_audit(rt: &HostRuntime, list: &str, audited: Audited) -> u8
             }
             end(rt, &Krl, &done)
         }
-        Audited::OtherAuthority => fail_in_words(rt, list, OTHER_AUTHORITY),
+        Audited::Incomparable(why) => fail_in_words(rt, list, words_of(why)),
         Audited::Refused(fault) => stop(rt, &Krl, &fault),
+    }
+}
+
+// Why no audit is made by such a list.
+fn words_of(why: Incomparable) -> &'static [u8] {
+    match why {
+        Incomparable::Authority => OTHER_AUTHORITY,
+        Incomparable::KeyId => OTHER_KEY_ID,
     }
 }
 
@@ -93,14 +107,37 @@ fn words_line(alloc: Global, name: &str, why: &[u8]) -> Result<Vec<u8>, AllocErr
     Ok(text)
 }
 
-/// Why the run stopped, in words. For a file that cannot be opened they are the system's reason.
+/// Why the run stopped, in words. A file that cannot be opened or read, or a line of it that is no
+/// key, is looked at once more: the words are the system's reason, or say what the file is.
 pub fn reason_of(rt: &HostRuntime, fault: &RunFault) -> &'static [u8]
-    ensures { ¬ (fault.now.cause ≡ Cause.File FileFault.Open)
+    ensures { is_looked_at fault.now.cause ≡ false
         → result.now ≡ cause_words fault.now.cause }
 {
     match fault.cause {
         Cause::File(FileFault::Open) => refusal_words(why_unopened(rt, fault.name)),
+        Cause::File(FileFault::Read) | Cause::Krl(KrlFault::Read) if is_directory(rt, fault.name) =>
+            { b"it is a directory" }
+        Cause::Key(KeyCause::Line(_)) if is_text(rt, fault) => {
+            b"this is a text: make a list of it by krl make"
+        }
         cause => cause_words(cause),
+    }
+}
+
+// Whether the file is a directory by now.
+fn is_directory(rt: &HostRuntime, name: &str) -> bool {
+    fs::metadata(rt, name).is_ok_and(|found| found.is_dir())
+}
+
+// Whether the line with the fault begins with a word of texts, as `krl make` reads them. Only a
+// regular file is read once more.
+fn is_text(rt: &HostRuntime, fault: &RunFault) -> bool {
+    if !fs::metadata(rt, fault.name).is_ok_and(|found| found.is_file()) {
+        return false;
+    }
+    match (fault.line, bytes_of(rt, fault.name)) {
+        (Some(line), Ok(bytes)) => has_word_at(bytes.as_slice(), line),
+        _ => false,
     }
 }
 

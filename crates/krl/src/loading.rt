@@ -19,6 +19,9 @@ use std::fs::{self, File};
 use std::io::{self, ErrorKind};
 use text_run::Text;
 
+/// The name of standard input.
+pub const INPUT: &str = "-";
+
 // How many bytes of a file are read at a time.
 const BATCH: usize = 8_192;
 
@@ -82,24 +85,38 @@ pub fn read<R: Source>(
     Ok(Err(Refusal::TooLong))
 }
 
-/// A text, or standard input if its name is `-`.
+/// A text, or standard input if its name is `-`, which counts as no regular file.
 pub fn text_of<'a>(rt: &HostRuntime, name: &'a str) -> Text<'a>
     ensures { result.name ≡ name.now }
 {
-    let content = if name == "-" {
-        read_rest(rt.alloc(), FromRead::new(rt.stdin()), LIST_LIMIT)
+    let (is_file, content) = if name == INPUT {
+        let input = FromRead::new(rt.stdin());
+        (false, read_rest(rt.alloc(), input, LIST_LIMIT))
     } else {
         match fs::open(rt, name) {
-            Ok(file) => read_rest(rt.alloc(), FromRead::new(file), LIST_LIMIT),
-            Err(_) => Err(Cause::File(FileFault::Open)),
+            Ok(file) => {
+                let is_file = matches!(file.metadata(), Ok(found) if found.is_file());
+                (
+                    is_file,
+                    read_rest(rt.alloc(), FromRead::new(file), LIST_LIMIT),
+                )
+            }
+            Err(_) => (false, Err(Cause::File(FileFault::Open))),
         }
     };
-    Text { name, content }
+    Text {
+        name,
+        is_file,
+        content,
+    }
 }
 
-/// The bytes of a list's file: of a longer one, one byte more than a list may have, so that it has
-/// its first fault.
+/// The bytes of a list's file, or of standard input if its name is `-`: of a longer one, one byte
+/// more than a list may have, so that it has its first fault.
 pub fn bytes_of(rt: &HostRuntime, name: &str) -> Result<Bytes, Cause> {
+    if name == INPUT {
+        return read_list(rt.alloc(), rt.stdin());
+    }
     match fs::open(rt, name) {
         Ok(file) => read_list(rt.alloc(), file),
         Err(_) => Err(Cause::File(FileFault::Open)),

@@ -2,6 +2,7 @@
 #![tactic(auto)]
 
 mod audit;
+mod canaries;
 mod check;
 mod diff;
 mod disk;
@@ -36,10 +37,6 @@ const NAME: &str = "krl";
 struct Krl;
 
 impl Lines for Krl {
-    fn name(&self) -> &'static str {
-        NAME
-    }
-
     fn fault_line(&self, rt: &HostRuntime, fault: &RunFault) -> Result<Vec<u8>, AllocError> {
         fault_line(rt.alloc(), reason_of(rt, fault), fault)
     }

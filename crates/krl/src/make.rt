@@ -1,7 +1,7 @@
 //! `krl make`: a list that is made of texts and put under its name.
 
 ghost use Rattle.std.specs.Prelude.{◌≡◌, ◌⊎◌, IfOk, map};
-ghost use Rattle.krl.specs.Make.{IsAsked, IsMade, name_of, now_of};
+ghost use Rattle.krl.specs.Make.{IsAsked, IsMade, name_of, now_of, over_of};
 ghost use Rattle.text_run.specs.Fault.{whole_fault};
 ghost use Rattle.text_run.specs.declared.make_fault.MakeCause.TheVariants.{Run};
 
@@ -11,7 +11,7 @@ use krl_arguments::Make;
 use krl_system::{ListPlace, date};
 use program_edge::print_line;
 use run_faults::Cause;
-use text_run::{Facts, Inputs, MakeCause, MakeFault, Text, made_line, text_run};
+use text_run::{Facts, Inputs, MakeCause, MakeFault, Over, Text, made_line, text_run};
 
 /// Makes the list of the task. Returns the exit status.
 pub fn make<'a>(rt: &'a HostRuntime, task: &Make<'a>) -> u8
@@ -44,11 +44,25 @@ fn inputs_of<'a>(task: &Make<'a>, date: u64, texts: &'a [Text<'a>]) -> Inputs<'a
 {
     Inputs {
         name: task.list,
+        over: over_of(task.update, task.replace),
         version: task.version,
         date,
-        comment: task.comment.unwrap_or(""),
+        comment: task.comment,
         allow_empty: task.allow_empty,
         texts,
+    }
+}
+
+// How the list follows the one under its name. Both options together are a fault of the words.
+fn over_of(update: bool, replace: bool) -> Over
+    ensures { result ≡ over_of update replace }
+{
+    if update {
+        Over::Contents
+    } else if replace {
+        Over::Nothing
+    } else {
+        Over::Version
     }
 }
 

@@ -1,4 +1,4 @@
-//! What a terminal shows of an audit: colours, and a line that says how far it is.
+//! The display of an audit on a terminal: colours, and a line that says how far it is.
 
 ghost use Rattle.std.specs.Prelude.{◌≡◌, false};
 

@@ -15,7 +15,7 @@ use show_run::show_run;
 pub fn show(rt: &HostRuntime, task: &Show) -> u8
     ensures { IsShown task.now result }
 {
-    let form = form_of(task.json);
+    let form = form_of(task.json, task.no_name);
     let mut out = ToWrite::new(rt.stdout());
     let mut files = ListFiles::new(rt);
     let done = show_run(
@@ -29,8 +29,13 @@ pub fn show(rt: &HostRuntime, task: &Show) -> u8
 }
 
 // The form in which lists are shown.
-fn form_of(json: bool) -> Form
-    ensures { result ≡ shown_form json }
+fn form_of(json: bool, no_name: bool) -> Form
+    ensures { result ≡ shown_form json no_name }
 {
-    if json { Form::Json } else { Form::Text }
+    match (json, no_name) {
+        (true, false) => Form::Json,
+        (true, true) => Form::JsonUnnamed,
+        (false, false) => Form::Text,
+        (false, true) => Form::Unnamed,
+    }
 }

@@ -1,2 +1,3 @@
 pub mod Durations
+pub mod ReadNames
 pub mod Reading

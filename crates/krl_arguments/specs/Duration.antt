@@ -12,10 +12,10 @@ seconds_of unit =
     else if unit == 100 then Some 86400
     else None
 
--- the seconds of this number of units, if there is one and the seconds are below 2^64
+-- the seconds of this number of units, if there is one and the seconds are below 2^53
 abbrev pub whole_seconds : Option ℕ → Option ℕ → Option ℕ
 whole_seconds (Some count) (Some unit) =
-    if nat_lt 0 count && nat_lt (count * unit) (2 ^ 64) then Some (count * unit) else None
+    if nat_lt 0 count && nat_lt (count * unit) (2 ^ 53) then Some (count * unit) else None
 whole_seconds (Some count) None = None
 whole_seconds None unit = None
 

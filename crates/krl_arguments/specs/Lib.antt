@@ -1,6 +1,8 @@
 pub mod Options
 pub mod Duration
+pub mod Number
+pub mod Inputs
+pub mod Misuse
 pub mod Making
 pub mod Task
-pub mod Shown
 pub mod Command

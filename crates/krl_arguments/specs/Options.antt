@@ -7,42 +7,49 @@ use Rattle.option_table.specs.Argument.{long_value_rule, long_values_rule, neede
 use Rattle.option_table.specs.Argument.{some_words_rule, with_rules, word_rule, words_rule}
 use Rattle.krl_arguments.specs.declared.options.Subcommand.{Subcommand}
 
--- krl audit: -f, -a, -q, --all, --json, --files0-from, and the files
+-- krl audit: -f, -a, -q, -x, --all, --canary, --exclude, --json, --files0-from, and the files
 abbrev pub audit_rules : List Rule
 audit_rules =
     needed_rule (codes "list") 102
     ∷ letter_rule (codes "fine") 97
     ∷ letter_rule (codes "quiet") 113
+    ∷ letter_rule (codes "one-file-system") 120
     ∷ long_rule (codes "all")
+    ∷ long_values_rule (codes "canary")
+    ∷ long_values_rule (codes "exclude")
     ∷ long_rule (codes "json")
     ∷ long_value_rule (codes "files0-from")
     ∷ words_rule (codes "files") ∷ []
 
--- krl check: the list, --newer-than, --superset-of, --max-age, --keep, --canary, --allow-empty,
--- --json and --print-version
+-- krl check: the list, --newer-than, --superset-of, --max-age, --max-cas, --keep, --canary,
+-- --allow-empty, --json and --print-version
 abbrev pub check_rules : List Rule
 check_rules =
     word_rule (codes "list")
     ∷ long_value_rule (codes "newer-than")
     ∷ long_value_rule (codes "superset-of")
     ∷ long_value_rule (codes "max-age")
+    ∷ long_value_rule (codes "max-cas")
     ∷ long_values_rule (codes "keep")
     ∷ long_values_rule (codes "canary")
     ∷ long_rule (codes "allow-empty")
     ∷ long_rule (codes "json")
     ∷ long_rule (codes "print-version") ∷ []
 
--- krl show: --json, and the lists
+-- krl show: --json, --no-name, and the lists
 abbrev pub show_rules : List Rule
-show_rules = long_rule (codes "json") ∷ some_words_rule (codes "lists") ∷ []
+show_rules =
+    long_rule (codes "json") ∷ long_rule (codes "no-name") ∷ some_words_rule (codes "lists") ∷ []
 
--- krl make: -f, -z, --comment, -q, --allow-empty, and the texts
+-- krl make: -f, -z, --comment, -q, -u, --replace, --allow-empty, and the texts
 abbrev pub make_rules : List Rule
 make_rules =
     needed_rule (codes "list") 102
     ∷ letter_value_rule (codes "version") 122
     ∷ long_value_rule (codes "comment")
     ∷ letter_rule (codes "quiet") 113
+    ∷ letter_rule (codes "update") 117
+    ∷ long_rule (codes "replace")
     ∷ long_rule (codes "allow-empty")
     ∷ words_rule (codes "files") ∷ []
 

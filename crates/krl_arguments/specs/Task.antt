@@ -1,14 +1,18 @@
 -- The tasks that words ask for (krl(1), SYNOPSIS).
-use Rattle.std.specs.Prelude.{ℕ, ◌&&◌, ◌||◌, Bool, false, not, List, codes, is_some, map, Option}
-use Rattle.std.specs.Prelude.{Some, None, option_and_then, option_map, if◌then◌else◌}
-use Rattle.std.specs.Option.{option_map_or}
+use Rattle.std.specs.Prelude.{ℕ, ◌&&◌, Bool, not, List, codes, is_some, map, Option, Some, None}
+use Rattle.std.specs.Prelude.{Result, Ok, Err, option_and_then, option_map, if◌then◌else◌}
 use Rattle.std.specs.Str.{bytes_eq}
 use Rattle.clap.specs.Simple.{subcommand_of}
 use Rattle.clap.specs.Walk.{Row, first_of, is_empty}
 use Rattle.option_table.specs.Value.{is_set, values_in}
 use Rattle.krl_arguments.specs.Duration.{duration_of}
+use Rattle.krl_arguments.specs.Inputs.{reads_twice}
 use Rattle.krl_arguments.specs.Making.{Make, make_by, make_of}
+use Rattle.krl_arguments.specs.Misuse.{result_map}
+use Rattle.krl_arguments.specs.Number.{count_at, is_wrong}
 use Rattle.krl_arguments.specs.Options.{program}
+use Rattle.krl_arguments.specs.declared.misuse.Misuse.{Misuse}
+use Rattle.krl_arguments.specs.declared.misuse.Misuse.TheVariants as misuses
 use Rattle.krl_arguments.specs.declared.task.Audit.{Audit as AuditOf}
 use Rattle.krl_arguments.specs.declared.task.Check.{Check as CheckOf}
 use Rattle.krl_arguments.specs.declared.task.Diff.{Diff as DiffOf}
@@ -16,13 +20,17 @@ use Rattle.krl_arguments.specs.declared.task.Show.{Show as ShowOf}
 use Rattle.krl_arguments.specs.declared.task.Task.{Task as TaskOf}
 use Rattle.krl_arguments.specs.declared.task.Task.TheVariants as tasks
 
--- an audit: the list, whether -a, --all, -q and --json are given, the file of names, and the files
+-- an audit: the list, whether -a, --all, -q, --json and -x are given, the canaries, the names that
+-- are excluded, the file of names, and the files
 pub record Audit : Type 0 where
   pub list : List ℕ
   pub all : Bool
   pub every_file : Bool
   pub quiet : Bool
   pub json : Bool
+  pub one_file_system : Bool
+  pub canary : List (List ℕ)
+  pub exclude : List (List ℕ)
   pub names_from : Option (List ℕ)
   pub files : List (List ℕ)
 
@@ -33,16 +41,18 @@ pub record Check : Type 0 where
   pub newer_than : Option (List ℕ)
   pub superset_of : Option (List ℕ)
   pub max_age : Option ℕ
+  pub max_cas : Option ℕ
   pub keep : List (List ℕ)
   pub canary : List (List ℕ)
   pub allow_empty : Bool
   pub json : Bool
   pub print_version : Bool
 
--- lists that are shown, and whether --json is given
+-- lists that are shown, and whether --json and --no-name are given
 pub record Show : Type 0 where
   pub lists : List (List ℕ)
   pub json : Bool
+  pub no_name : Bool
 
 -- two lists that are compared, and whether --json is given
 pub record Diff : Type 0 where
@@ -66,27 +76,30 @@ audit_with rows list = record {
   every_file = is_set (codes "all") rows;
   quiet = is_set (codes "quiet") rows;
   json = is_set (codes "json") rows;
+  one_file_system = is_set (codes "one-file-system") rows;
+  canary = values_in (codes "canary") rows;
+  exclude = values_in (codes "exclude") rows;
   names_from = first_of (codes "files0-from") rows;
   files = values_in (codes "files") rows;
 }
 
 -- The audit, if a file, a directory or a file of names is given.
-abbrev pub if_any : Audit → Option Audit
+abbrev pub if_any : Audit → Result Audit Misuse
 if_any audit =
-    if not (is_some audit.names_from) && is_empty audit.files then None else Some audit
+    if not (is_some audit.names_from) && is_empty audit.files then Err misuses.NothingToAudit
+    else Ok audit
 
-abbrev pub audit_of : List Row → Option Audit
-audit_of rows =
-    option_and_then (λ list. if_any (audit_with rows list)) (first_of (codes "list") rows)
+-- the audit by this list
+abbrev pub audit_by_list : List Row → Option (List ℕ) → Result Audit Misuse
+audit_by_list rows None = Err misuses.Incomplete
+audit_by_list rows (Some list) = if_any (audit_with rows list)
+
+abbrev pub audit_of : List Row → Result Audit Misuse
+audit_of rows = audit_by_list rows (first_of (codes "list") rows)
 
 -- the seconds of --max-age, if it is given and is a duration
 abbrev pub max_age_of : List Row → Option ℕ
 max_age_of rows = option_and_then duration_of (first_of (codes "max-age") rows)
-
--- --max-age is given and is no duration
-abbrev pub has_wrong_age : List Row → Bool
-has_wrong_age rows = option_map_or (λ text. not (is_some (duration_of text)))
-    (first_of (codes "max-age") rows) false
 
 abbrev pub check_with : List Row → List ℕ → Check
 check_with rows list = record {
@@ -94,6 +107,7 @@ check_with rows list = record {
   newer_than = first_of (codes "newer-than") rows;
   superset_of = first_of (codes "superset-of") rows;
   max_age = max_age_of rows;
+  max_cas = count_at (codes "max-cas") rows;
   keep = values_in (codes "keep") rows;
   canary = values_in (codes "canary") rows;
   allow_empty = is_set (codes "allow-empty") rows;
@@ -105,46 +119,57 @@ check_with rows list = record {
 abbrev pub has_only_version : Check → Bool
 has_only_version check =
     not (is_some check.newer_than) && (not (is_some check.superset_of)
-    && (not (is_some check.max_age) && (is_empty check.keep
-    && (is_empty check.canary && (not check.allow_empty && not check.json)))))
+    && (not (is_some check.max_age) && (not (is_some check.max_cas) && (is_empty check.keep
+    && (is_empty check.canary && (not check.allow_empty && not check.json))))))
 
--- The check, unless its age is no duration, or its version is requested together with a condition.
-abbrev pub if_whole : Bool → Check → Option Check
-if_whole has_wrong_age check =
-    if has_wrong_age || (check.print_version && not (has_only_version check)) then None
-    else Some check
+-- The check, unless its age is no duration, its number of CAs is no number, or its version is
+-- requested together with a condition.
+abbrev pub if_checks : List Row → Check → Result Check Misuse
+if_checks rows check =
+    if is_wrong (codes "max-age") check.max_age rows then Err misuses.WrongAge
+    else if is_wrong (codes "max-cas") check.max_cas rows then Err misuses.WrongMost
+    else if check.print_version && not (has_only_version check) then Err misuses.VersionAlone
+    else Ok check
 
-abbrev pub check_of : List Row → Option Check
-check_of rows = option_and_then
-    (λ list. if_whole (has_wrong_age rows) (check_with rows list))
-    (first_of (codes "list") rows)
+-- the check of this list
+abbrev pub check_of_list : List Row → Option (List ℕ) → Result Check Misuse
+check_of_list rows None = Err misuses.Incomplete
+check_of_list rows (Some list) = if_checks rows (check_with rows list)
+
+abbrev pub check_of : List Row → Result Check Misuse
+check_of rows = check_of_list rows (first_of (codes "list") rows)
 
 abbrev pub show_with : List Row → Show
-show_with rows =
-    record { lists = values_in (codes "lists") rows; json = is_set (codes "json") rows }
+show_with rows = record {
+  lists = values_in (codes "lists") rows;
+  json = is_set (codes "json") rows;
+  no_name = is_set (codes "no-name") rows;
+}
 
-abbrev pub diff_with : List Row → (old new : List ℕ) → Diff
-diff_with rows old new = record { old = old; new = new; json = is_set (codes "json") rows }
+-- the comparison of these lists
+abbrev pub diff_with : (old new : Option (List ℕ)) → (json : Bool) → Result Diff Misuse
+diff_with (Some old) (Some new) json = Ok (record { old = old; new = new; json = json })
+diff_with None new json = Err misuses.Incomplete
+diff_with (Some old) None json = Err misuses.Incomplete
 
-abbrev pub diff_from : List Row → (old : List ℕ) → Option Diff
-diff_from rows old = option_map (diff_with rows old) (first_of (codes "new") rows)
-
-abbrev pub diff_of : List Row → Option Diff
-diff_of rows = option_and_then (diff_from rows) (first_of (codes "old") rows)
+abbrev pub diff_of : List Row → Result Diff Misuse
+diff_of rows = diff_with (first_of (codes "old") rows) (first_of (codes "new") rows)
+    (is_set (codes "json") rows)
 
 -- the task of the subcommand of this name
-abbrev pub named_task : List ℕ → List Row → Option Task
+abbrev pub named_task : List ℕ → List Row → Result Task Misuse
 named_task name rows =
-    if bytes_eq name (codes "audit") then option_map AuditTask (audit_of rows)
-    else if bytes_eq name (codes "check") then option_map CheckTask (check_of rows)
-    else if bytes_eq name (codes "show") then Some (ShowTask (show_with rows))
-    else if bytes_eq name (codes "make") then option_map MakeTask (make_of rows)
-    else if bytes_eq name (codes "diff") then option_map DiffTask (diff_of rows)
-    else None
+    if bytes_eq name (codes "audit") then result_map AuditTask (audit_of rows)
+    else if bytes_eq name (codes "check") then result_map CheckTask (check_of rows)
+    else if bytes_eq name (codes "show") then Ok (ShowTask (show_with rows))
+    else if bytes_eq name (codes "make") then result_map MakeTask (make_of rows)
+    else if bytes_eq name (codes "diff") then result_map DiffTask (diff_of rows)
+    else Err misuses.Incomplete
 
-abbrev pub task_in : Option (List ℕ × List Row) → Option Task
-task_in None = None
-task_in (Some (name, rows)) = named_task name rows
+abbrev pub task_in : Option (List ℕ × List Row) → Result Task Misuse
+task_in None = Err misuses.Incomplete
+task_in (Some (name, rows)) =
+    if reads_twice name rows then Err misuses.TwoInputs else named_task name rows
 
 -- the subcommand that these words name, and its values, the program's name before them
 unfoldable pub found_in : List (List ℕ) → Option (List ℕ × List Row)
@@ -159,6 +184,9 @@ audit_by audit = record {
   every_file = audit.every_file;
   quiet = audit.quiet;
   json = audit.json;
+  one_file_system = audit.one_file_system;
+  canary = map (λ name. name.now) audit.canary.items;
+  exclude = map (λ name. name.now) audit.exclude.items;
   names_from = option_map (λ text. text.now) audit.names_from;
   files = map (λ name. name.now) audit.files.items;
 }
@@ -169,6 +197,7 @@ check_by check = record {
   newer_than = option_map (λ text. text.now) check.newer_than;
   superset_of = option_map (λ text. text.now) check.superset_of;
   max_age = check.max_age;
+  max_cas = check.max_cas;
   keep = map (λ name. name.now) check.keep.items;
   canary = map (λ name. name.now) check.canary.items;
   allow_empty = check.allow_empty;
@@ -177,7 +206,11 @@ check_by check = record {
 }
 
 abbrev pub show_by : ShowOf → Show
-show_by show = record { lists = map (λ name. name.now) show.lists.items; json = show.json }
+show_by show = record {
+  lists = map (λ name. name.now) show.lists.items;
+  json = show.json;
+  no_name = show.no_name;
+}
 
 abbrev pub diff_by : DiffOf → Diff
 diff_by diff = record { old = diff.old.now; new = diff.new.now; json = diff.json }

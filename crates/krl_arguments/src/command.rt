@@ -5,7 +5,7 @@ ghost use Rattle.clap.specs.Simple.{subcommand_rows_of};
 ghost use Rattle.krl_arguments.specs.Command.{AsksFor, IsCommand};
 
 use crate::options::program;
-use crate::shown::{text_for, text_of_misuse};
+use crate::shown::text_for;
 use crate::task::Task;
 use crate::tasks::task_in;
 use clap::ArgMatches;
@@ -35,10 +35,10 @@ fn asked_for<'a>(alloc: Global, matches: &ArgMatches<'a>) -> Result<Task<'a>, Co
     ensures { AsksFor (subcommand_rows_of matches.now) result }
 {
     match task_in(alloc, matches)? {
-        Some(task) => Ok(task),
-        None => Err(CommandFault::Words {
+        Ok(task) => Ok(task),
+        Err(misuse) => Err(CommandFault::Words {
             help: false,
-            text: text_of_misuse(alloc, matches)?,
+            text: String::from_str(alloc, misuse.text())?,
         }),
     }
 }

@@ -4,6 +4,7 @@ ghost use Rattle.std.specs.Prelude.{◌≡◌};
 ghost use Rattle.krl_job.specs.Job.{number_of};
 ghost use Rattle.krl_arguments.specs.Duration.{duration_of, seconds_of, whole_seconds};
 
+use crate::number::MOST;
 use krl_job::number_of;
 use std::str;
 
@@ -40,12 +41,15 @@ fn number_in(digits: &[u8]) -> Option<u64>
     }
 }
 
-// The seconds of this number of units, if there is one and the seconds are below 2^64.
+// The seconds of this number of units, if there is one and the seconds are below 2^53.
 fn whole_seconds(count: Option<u64>, unit: Option<u64>) -> Option<u64>
     ensures { result ≡ whole_seconds count unit }
 {
     match (count, unit) {
-        (Some(count), Some(unit)) if count > 0 => count.checked_mul(unit),
+        (Some(count), Some(unit)) if count > 0 => match count.checked_mul(unit) {
+            Some(seconds) if seconds < MOST => Some(seconds),
+            _ => None,
+        },
         _ => None,
     }
 }

@@ -3,7 +3,10 @@
 
 mod command;
 mod duration;
+mod inputs;
 mod making;
+mod misuse;
+mod number;
 mod options;
 mod shown;
 mod task;

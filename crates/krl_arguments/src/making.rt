@@ -1,26 +1,31 @@
 //! The lists that words ask to be made.
 
-ghost use Rattle.std.specs.Prelude.{◌≡◌, IfOk, option_map};
+ghost use Rattle.std.specs.Prelude.{◌≡◌, IfOk};
 ghost use Rattle.clap.specs.Matches.{found_of};
 ghost use Rattle.clap.specs.Walk.{rows_of};
-ghost use Rattle.krl_arguments.specs.Making.{has_wrong_version, if_numbered, make_by, make_of};
-ghost use Rattle.krl_arguments.specs.Making.{make_with, version_of};
+ghost use Rattle.krl_arguments.specs.Making.{if_makes, make_by, make_of, make_with};
+ghost use Rattle.krl_arguments.specs.Misuse.{result_map};
 
+use crate::misuse::Misuse;
+use crate::number::{is_wrong, number_at};
 use crate::task::Make;
 use clap::ArgMatches;
-use krl_job::number_of;
 use option_table::{is_set, value_of, values_of};
 use std::alloc::{AllocError, Global};
 
-/// The list that these matches ask for, or `None` if its version is no number.
-pub fn make_in<'a>(alloc: Global, found: &ArgMatches<'a>) -> Result<Option<Make<'a>>, AllocError>
+/// The list that these matches ask for, or why they ask for none.
+pub(crate) fn make_in<'a>(
+    alloc: Global,
+    found: &ArgMatches<'a>,
+) -> Result<Result<Make<'a>, Misuse>, AllocError>
     ensures { IfOk result (λ make.
-        option_map make_by make ≡ make_of (rows_of (found_of found.now))) }
+        result_map make_by make ≡ make_of (rows_of (found_of found.now))) }
 {
-    match value_of(found, "list") {
-        Some(list) => Ok(if_numbered(has_wrong_version(found), make_with(alloc, found, list)?)),
-        None => Ok(None),
-    }
+    let Some(list) = value_of(found, "list") else {
+        return Ok(Err(Misuse::Incomplete));
+    };
+    let make = make_with(alloc, found, list)?;
+    Ok(if_makes(is_wrong(found, "version", make.version), make))
 }
 
 // The list of this name.
@@ -35,37 +40,28 @@ fn make_with<'a>(
     let files = values_of(alloc, found, "files")?;
     Ok(Make {
         list,
-        version: version_of(found),
+        version: number_at(found, "version"),
         comment: value_of(found, "comment"),
         quiet: is_set(found, "quiet"),
+        update: is_set(found, "update"),
+        replace: is_set(found, "replace"),
         allow_empty: is_set(found, "allow-empty"),
         files,
     })
 }
 
-// The number of `-z`, if it is given and is one.
-fn version_of(found: &ArgMatches<'_>) -> Option<u64>
-    ensures { result ≡ version_of (rows_of (found_of found.now)) }
+// The list, unless its version is no number, it is standard input, or it is to be kept and not to
+// be read.
+fn if_makes(wrong: bool, make: Make<'_>) -> Result<Make<'_>, Misuse>
+    ensures { result_map make_by result ≡ if_makes wrong (make_by make.entry) }
 {
-    match value_of(found, "version") {
-        Some(text) => number_of(text),
-        None => None,
+    if wrong {
+        Err(Misuse::WrongVersion)
+    } else if make.list == "-" {
+        Err(Misuse::InputReplaced)
+    } else if make.update && make.replace {
+        Err(Misuse::UpdateReplaces)
+    } else {
+        Ok(make)
     }
-}
-
-// Returns true if `-z` is given and is no number.
-fn has_wrong_version(found: &ArgMatches<'_>) -> bool
-    ensures { result ≡ has_wrong_version (rows_of (found_of found.now)) }
-{
-    match value_of(found, "version") {
-        Some(text) => number_of(text).is_none(),
-        None => false,
-    }
-}
-
-// The list, unless its version is no number.
-fn if_numbered(has_wrong_version: bool, make: Make<'_>) -> Option<Make<'_>>
-    ensures { option_map make_by result ≡ if_numbered has_wrong_version (make_by make.entry) }
-{
-    if has_wrong_version { None } else { Some(make) }
 }

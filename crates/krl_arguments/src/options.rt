@@ -20,11 +20,11 @@ pub struct Subcommand {
     arguments: &'static [Argument],
 }
 
-const AUDIT: [Argument; 7] = [
+const AUDIT: [Argument; 10] = [
     Argument {
         id: "list",
         form: Form::Needed('f', "krl"),
-        help: "The revocation list",
+        help: "The revocation list; - is standard input",
     },
     Argument {
         id: "fine",
@@ -37,9 +37,24 @@ const AUDIT: [Argument; 7] = [
         help: "Print nothing on standard output, and end after the first file with a revoked key",
     },
     Argument {
+        id: "one-file-system",
+        form: Form::Letter('x'),
+        help: "Stay on the file system of each directory that is named",
+    },
+    Argument {
         id: "all",
         form: Form::Long,
         help: "Read every regular file of a directory, whatever its name",
+    },
+    Argument {
+        id: "canary",
+        form: Form::LongValues("file"),
+        help: "Audit nothing unless the list revokes each key of this file",
+    },
+    Argument {
+        id: "exclude",
+        form: Form::LongValues("name"),
+        help: "Skip files and directories of this name in a directory",
     },
     Argument {
         id: "json",
@@ -58,11 +73,11 @@ const AUDIT: [Argument; 7] = [
     },
 ];
 
-const CHECK: [Argument; 9] = [
+const CHECK: [Argument; 10] = [
     Argument {
         id: "list",
         form: Form::Word("krl"),
-        help: "The revocation list",
+        help: "The revocation list; - is standard input",
     },
     Argument {
         id: "newer-than",
@@ -78,6 +93,11 @@ const CHECK: [Argument; 9] = [
         id: "max-age",
         form: Form::LongValue("duration"),
         help: "Refuse a list that was made longer ago than this, as 90m, 24h or 7d",
+    },
+    Argument {
+        id: "max-cas",
+        form: Form::LongValue("number"),
+        help: "Refuse a list with more CAs than this, instead of more than 4,000",
     },
     Argument {
         id: "keep",
@@ -106,20 +126,25 @@ const CHECK: [Argument; 9] = [
     },
 ];
 
-const SHOW: [Argument; 2] = [
+const SHOW: [Argument; 3] = [
     Argument {
         id: "json",
         form: Form::Long,
         help: "Print one JSON object on a line for each entry",
     },
     Argument {
+        id: "no-name",
+        form: Form::Long,
+        help: "Leave out the name of each list",
+    },
+    Argument {
         id: "lists",
         form: Form::SomeWords("krl"),
-        help: "The revocation lists",
+        help: "The revocation lists; - is standard input",
     },
 ];
 
-const MAKE: [Argument; 6] = [
+const MAKE: [Argument; 8] = [
     Argument {
         id: "list",
         form: Form::Needed('f', "krl"),
@@ -139,6 +164,16 @@ const MAKE: [Argument; 6] = [
         id: "quiet",
         form: Form::Letter('q'),
         help: "Do not say what was made",
+    },
+    Argument {
+        id: "update",
+        form: Form::Letter('u'),
+        help: "Keep what the list that is there names, and its comment",
+    },
+    Argument {
+        id: "replace",
+        form: Form::Long,
+        help: "Do not read the list that is replaced",
     },
     Argument {
         id: "allow-empty",
@@ -161,12 +196,12 @@ const DIFF: [Argument; 3] = [
     Argument {
         id: "old",
         form: Form::Word("old"),
-        help: "The old revocation list",
+        help: "The old revocation list; - is standard input",
     },
     Argument {
         id: "new",
         form: Form::Word("new"),
-        help: "The new revocation list",
+        help: "The new revocation list; - is standard input",
     },
 ];
 

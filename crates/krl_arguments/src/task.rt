@@ -28,6 +28,12 @@ pub struct Audit<'a> {
     pub quiet: bool,
     /// True if findings are printed as JSON, by `--json`.
     pub json: bool,
+    /// True if the audit stays on the file system of each named directory, by `-x`.
+    pub one_file_system: bool,
+    /// The files of keys that the list must revoke, by `--canary`.
+    pub canary: Vec<&'a str>,
+    /// The names of files and directories that are skipped, by `--exclude`.
+    pub exclude: Vec<&'a str>,
     /// The file of names of files, by `--files0-from`.
     pub names_from: Option<&'a str>,
     /// Files and directories.
@@ -45,6 +51,8 @@ pub struct Check<'a> {
     pub superset_of: Option<&'a str>,
     /// The largest number of seconds since it was made, by `--max-age`.
     pub max_age: Option<u64>,
+    /// The largest number of its certificate authorities, by `--max-cas`.
+    pub max_cas: Option<u64>,
     /// The files of keys that it must not revoke, by `--keep`.
     pub keep: Vec<&'a str>,
     /// The files of keys that it must revoke, by `--canary`.
@@ -64,6 +72,8 @@ pub struct Show<'a> {
     pub lists: Vec<&'a str>,
     /// True if they are printed as JSON, by `--json`.
     pub json: bool,
+    /// True if their names are not printed, by `--no-name`.
+    pub no_name: bool,
 }
 
 /// `krl make`: the list, its version and comment, and the texts that it is made of.
@@ -77,6 +87,10 @@ pub struct Make<'a> {
     pub comment: Option<&'a str>,
     /// True if nothing is said about the list that was made, by `-q`.
     pub quiet: bool,
+    /// True if it names what the list names that it replaces, too, by `-u`.
+    pub update: bool,
+    /// True if the list that it replaces is not read, by `--replace`.
+    pub replace: bool,
     /// True if it may revoke nobody, by `--allow-empty`.
     pub allow_empty: bool,
     /// The texts.

@@ -1,30 +1,40 @@
 //! The task of words that can be parsed.
 
-ghost use Rattle.std.specs.Prelude.{◌≡◌, IfOk, option_map};
+ghost use Rattle.std.specs.Prelude.{◌≡◌, IfOk};
 ghost use Rattle.clap.specs.Matches.{found_of};
 ghost use Rattle.clap.specs.Simple.{subcommand_rows_of};
 ghost use Rattle.clap.specs.Walk.{rows_of};
+ghost use Rattle.krl_arguments.specs.Misuse.{result_map};
 ghost use Rattle.krl_arguments.specs.Task.{audit_by, audit_of, audit_with, check_by, check_of};
-ghost use Rattle.krl_arguments.specs.Task.{check_with, has_only_version, has_wrong_age, if_any};
-ghost use Rattle.krl_arguments.specs.Task.{if_whole, max_age_of, named_task, show_by, show_with};
-ghost use Rattle.krl_arguments.specs.Task.{diff_by, diff_from, diff_of, task_by, task_in};
+ghost use Rattle.krl_arguments.specs.Task.{check_with, diff_by, diff_of, has_only_version, if_any};
+ghost use Rattle.krl_arguments.specs.Task.{if_checks, max_age_of, named_task, show_by, show_with};
+ghost use Rattle.krl_arguments.specs.Task.{task_by, task_in};
 
 use crate::duration::duration_of;
+use crate::inputs::reads_twice;
 use crate::making::make_in;
+use crate::misuse::Misuse;
+use crate::number::{count_at, is_wrong};
 use crate::task::{Audit, Check, Diff, Show, Task};
 use clap::ArgMatches;
 use option_table::{is_set, value_of, values_of};
 use std::alloc::{AllocError, Global};
 
-/// The task of these matches, or `None` if the options do not go together.
-pub fn task_in<'a>(alloc: Global, matches: &ArgMatches<'a>) -> Result<Option<Task<'a>>, AllocError>
+/// The task of these matches, or why they ask for none.
+pub(crate) fn task_in<'a>(
+    alloc: Global,
+    matches: &ArgMatches<'a>,
+) -> Result<Result<Task<'a>, Misuse>, AllocError>
     ensures { IfOk result (λ task.
-        option_map task_by task ≡ task_in (subcommand_rows_of matches.now)) }
+        result_map task_by task ≡ task_in (subcommand_rows_of matches.now)) }
 {
-    match matches.subcommand() {
-        Some((name, found)) => named_task(alloc, name, found),
-        None => Ok(None),
+    let Some((name, found)) = matches.subcommand() else {
+        return Ok(Err(Misuse::Incomplete));
+    };
+    if reads_twice(alloc, name, found)? {
+        return Ok(Err(Misuse::TwoInputs));
     }
+    named_task(alloc, name, found)
 }
 
 // The task of a subcommand with this name.
@@ -32,9 +42,9 @@ fn named_task<'a>(
     alloc: Global,
     name: &str,
     found: &ArgMatches<'a>,
-) -> Result<Option<Task<'a>>, AllocError>
+) -> Result<Result<Task<'a>, Misuse>, AllocError>
     ensures { IfOk result (λ task.
-        option_map task_by task ≡ named_task name.now (rows_of (found_of found.now))) }
+        result_map task_by task ≡ named_task name.now (rows_of (found_of found.now))) }
 {
     if name == "audit" {
         return Ok(audit_in(alloc, found)?.map(Task::Audit));
@@ -43,7 +53,7 @@ fn named_task<'a>(
         return Ok(check_in(alloc, found)?.map(Task::Check));
     }
     if name == "show" {
-        return Ok(Some(Task::Show(show_with(alloc, found)?)));
+        return Ok(Ok(Task::Show(show_with(alloc, found)?)));
     }
     if name == "make" {
         return Ok(make_in(alloc, found)?.map(Task::Make));
@@ -51,17 +61,20 @@ fn named_task<'a>(
     if name == "diff" {
         return Ok(diff_in(found).map(Task::Diff));
     }
-    Ok(None)
+    Ok(Err(Misuse::Incomplete))
 }
 
 // The audit of these matches.
-fn audit_in<'a>(alloc: Global, found: &ArgMatches<'a>) -> Result<Option<Audit<'a>>, AllocError>
+fn audit_in<'a>(
+    alloc: Global,
+    found: &ArgMatches<'a>,
+) -> Result<Result<Audit<'a>, Misuse>, AllocError>
     ensures { IfOk result (λ audit.
-        option_map audit_by audit ≡ audit_of (rows_of (found_of found.now))) }
+        result_map audit_by audit ≡ audit_of (rows_of (found_of found.now))) }
 {
     match value_of(found, "list") {
         Some(list) => Ok(if_any(audit_with(alloc, found, list)?)),
-        None => Ok(None),
+        None => Ok(Err(Misuse::Incomplete)),
     }
 }
 
@@ -74,6 +87,8 @@ fn audit_with<'a>(
     ensures { IfOk result (λ audit.
         audit_by audit ≡ audit_with (rows_of (found_of found.now)) list.now) }
 {
+    let canary = values_of(alloc, found, "canary")?;
+    let exclude = values_of(alloc, found, "exclude")?;
     let files = values_of(alloc, found, "files")?;
     Ok(Audit {
         list,
@@ -81,30 +96,36 @@ fn audit_with<'a>(
         every_file: is_set(found, "all"),
         quiet: is_set(found, "quiet"),
         json: is_set(found, "json"),
+        one_file_system: is_set(found, "one-file-system"),
+        canary,
+        exclude,
         names_from: value_of(found, "files0-from"),
         files,
     })
 }
 
 // The audit, if a file, a directory or a file of names is given.
-fn if_any(audit: Audit<'_>) -> Option<Audit<'_>>
-    ensures { option_map audit_by result ≡ if_any (audit_by audit.entry) }
+fn if_any(audit: Audit<'_>) -> Result<Audit<'_>, Misuse>
+    ensures { result_map audit_by result ≡ if_any (audit_by audit.entry) }
 {
     if audit.names_from.is_none() && audit.files.is_empty() {
-        None
+        Err(Misuse::NothingToAudit)
     } else {
-        Some(audit)
+        Ok(audit)
     }
 }
 
 // The check of these matches.
-fn check_in<'a>(alloc: Global, found: &ArgMatches<'a>) -> Result<Option<Check<'a>>, AllocError>
+fn check_in<'a>(
+    alloc: Global,
+    found: &ArgMatches<'a>,
+) -> Result<Result<Check<'a>, Misuse>, AllocError>
     ensures { IfOk result (λ check.
-        option_map check_by check ≡ check_of (rows_of (found_of found.now))) }
+        result_map check_by check ≡ check_of (rows_of (found_of found.now))) }
 {
     match value_of(found, "list") {
-        Some(list) => Ok(if_whole(has_wrong_age(found), check_with(alloc, found, list)?)),
-        None => Ok(None),
+        Some(list) => Ok(if_checks(found, check_with(alloc, found, list)?)),
+        None => Ok(Err(Misuse::Incomplete)),
     }
 }
 
@@ -124,6 +145,7 @@ fn check_with<'a>(
         newer_than: value_of(found, "newer-than"),
         superset_of: value_of(found, "superset-of"),
         max_age: max_age_of(found),
+        max_cas: count_at(found, "max-cas"),
         keep,
         canary,
         allow_empty: is_set(found, "allow-empty"),
@@ -142,24 +164,20 @@ fn max_age_of(found: &ArgMatches<'_>) -> Option<u64>
     }
 }
 
-/// Returns true if `--max-age` is given and is no duration.
-pub fn has_wrong_age(found: &ArgMatches<'_>) -> bool
-    ensures { result ≡ has_wrong_age (rows_of (found_of found.now)) }
+// The check, unless its age is no duration, its number of CAs is no number, or its version is
+// requested together with a condition.
+fn if_checks<'a>(found: &ArgMatches<'_>, check: Check<'a>) -> Result<Check<'a>, Misuse>
+    ensures { result_map check_by result
+        ≡ if_checks (rows_of (found_of found.now)) (check_by check.entry) }
 {
-    match value_of(found, "max-age") {
-        Some(text) => duration_of(text).is_none(),
-        None => false,
-    }
-}
-
-// The check, unless its age is no duration, or its version is requested together with a condition.
-fn if_whole(has_wrong_age: bool, check: Check<'_>) -> Option<Check<'_>>
-    ensures { option_map check_by result ≡ if_whole has_wrong_age (check_by check.entry) }
-{
-    if has_wrong_age || check.print_version && !has_only_version(&check) {
-        None
+    if is_wrong(found, "max-age", check.max_age) {
+        Err(Misuse::WrongAge)
+    } else if is_wrong(found, "max-cas", check.max_cas) {
+        Err(Misuse::WrongMost)
+    } else if check.print_version && !has_only_version(&check) {
+        Err(Misuse::VersionAlone)
     } else {
-        Some(check)
+        Ok(check)
     }
 }
 
@@ -170,6 +188,7 @@ fn has_only_version(check: &Check<'_>) -> bool
     check.newer_than.is_none()
         && check.superset_of.is_none()
         && check.max_age.is_none()
+        && check.max_cas.is_none()
         && check.keep.is_empty()
         && check.canary.is_empty()
         && !check.allow_empty
@@ -184,29 +203,20 @@ fn show_with<'a>(alloc: Global, found: &ArgMatches<'a>) -> Result<Show<'a>, Allo
     Ok(Show {
         lists,
         json: is_set(found, "json"),
+        no_name: is_set(found, "no-name"),
     })
 }
 
 // The lists that are compared.
-fn diff_in<'a>(found: &ArgMatches<'a>) -> Option<Diff<'a>>
-    ensures { option_map diff_by result ≡ diff_of (rows_of (found_of found.now)) }
+fn diff_in<'a>(found: &ArgMatches<'a>) -> Result<Diff<'a>, Misuse>
+    ensures { result_map diff_by result ≡ diff_of (rows_of (found_of found.now)) }
 {
-    match value_of(found, "old") {
-        Some(old) => diff_from(found, old),
-        None => None,
-    }
-}
-
-// The comparison that begins with this old list.
-fn diff_from<'a>(found: &ArgMatches<'a>, old: &'a str) -> Option<Diff<'a>>
-    ensures { option_map diff_by result ≡ diff_from (rows_of (found_of found.now)) old.now }
-{
-    match value_of(found, "new") {
-        Some(new) => Some(Diff {
+    match (value_of(found, "old"), value_of(found, "new")) {
+        (Some(old), Some(new)) => Ok(Diff {
             old,
             new,
             json: is_set(found, "json"),
         }),
-        None => None,
+        _ => Err(Misuse::Incomplete),
     }
 }

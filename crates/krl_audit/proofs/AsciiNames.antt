@@ -1,12 +1,12 @@
 -- A text that is not UTF-8 is shown as ASCII.
-use Rattle.std.proofs.Common.{◌≡◌, ℕ, zero, suc, ◌<◌, ◌/◌, ◌%◌, ◌==◌, ◌||◌, ◌&&◌, Bool, true, false, List, [], ◌∷◌, IsAscii, IsUtf8, codes, encode_utf8, if◌then◌else◌, inl, inr, nat_lt, refl, sym, subst, arith, ltb-true}
+use Rattle.std.proofs.Common.{◌≡◌, ℕ, zero, suc, ◌<◌, ◌/◌, ◌%◌, ◌==◌, ◌||◌, ◌&&◌, Bool, true, false, List, [], ◌∷◌, IsAscii, IsUtf8, codes, encode_utf8, flat_map, if◌then◌else◌, inl, inr, nat_lt, refl, sym, subst, arith, ltb-true}
 use Rattle.std.specs.Char.{is_control}
 use Rattle.std.proofs.lemmas.Bool.{and_parts, cases_eq, cases_lt}
 use Rattle.std.proofs.lemmas.List.{get_or_past}
 use Rattle.std.proofs.lemmas.Str.{IsAscii-append, IsUtf8-from_ascii, encode_ascii}
 use Rattle.std.proofs.lemmas.Str.Ascii.{IsAscii-cons, IsAscii-nil}
 use Rattle.ssh_cert.specs.Escape.{hex_digit, numbered}
-use Rattle.krl_audit.specs.Visible.{visible_byte, visible_bytes, visible_char}
+use Rattle.krl_audit.specs.Visible.{is_bidi_or_line_end, visible_byte, visible_bytes, visible_char}
 
 abbrev digits_below : ℕ → Bool
 digits_below zero = true
@@ -38,12 +38,18 @@ numbered_ascii code =
     let digits = IsAscii-cons (hex_digit (code / 16)) (hex_digit (code % 16) ∷ []) (digit_ascii (code / 16)) last in
     IsAscii-append (92 ∷ 120 ∷ []) (hex_digit (code / 16) ∷ hex_digit (code % 16) ∷ []) (IsAscii-cons 92 (120 ∷ []) (omega arith) (IsAscii-cons 120 [] (omega arith) IsAscii-nil)) digits
 
+each_ascii : (bytes : List ℕ) → IsAscii (flat_map numbered bytes)
+each_ascii [] = IsAscii-nil
+each_ascii (byte ∷ bytes) = IsAscii-append (numbered byte) (flat_map numbered bytes) (numbered_ascii byte) (each_ascii bytes)
+
 char_ascii : (quoted : Bool) (code : ℕ) → code < 128 → IsAscii (visible_char quoted code)
 unfolding visible_char
 char_ascii quoted code small =
     let alone : IsAscii (code ∷ []) = IsAscii-cons code [] small IsAscii-nil in
-    pick_ascii (is_control code) (numbered code) (if quoted && (code == 34 || code == 92) then 92 ∷ code ∷ [] else encode_utf8 code) (numbered_ascii code)
-    (pick_ascii (quoted && (code == 34 || code == 92)) (92 ∷ code ∷ []) (encode_utf8 code) (IsAscii-cons 92 (code ∷ []) (omega arith) alone) (rw (encode_ascii code small) alone))
+    let other = if quoted && (code == 34 || code == 92) then 92 ∷ code ∷ [] else encode_utf8 code in
+    pick_ascii (is_control code) (numbered code) (if is_bidi_or_line_end code then flat_map numbered (encode_utf8 code) else other) (numbered_ascii code)
+    (pick_ascii (is_bidi_or_line_end code) (flat_map numbered (encode_utf8 code)) other (each_ascii (encode_utf8 code))
+    (pick_ascii (quoted && (code == 34 || code == 92)) (92 ∷ code ∷ []) (encode_utf8 code) (IsAscii-cons 92 (code ∷ []) (omega arith) alone) (rw (encode_ascii code small) alone)))
 
 byte_ascii-if : (quoted : Bool) (byte : ℕ) (small : Bool) → nat_lt byte 128 ≡ small → IsAscii (if small then visible_char quoted byte else numbered byte)
 byte_ascii-if quoted byte true is = char_ascii quoted byte (ltb-true byte 128 is)

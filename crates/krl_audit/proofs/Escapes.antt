@@ -17,7 +17,7 @@ use Rattle.ssh_cert.specs.Escape.{hex_digit, numbered}
 use Rattle.key_text.specs.Fingerprints.{fingerprint_text, unpadded}
 use Rattle.key_text.specs.declared.hash.Hash.TheVariants.{Sha256}
 use Rattle.krl_audit.specs.Colour.{HasNoEscape}
-use Rattle.krl_audit.specs.Visible.{visible, visible_byte, visible_bytes, visible_char}
+use Rattle.krl_audit.specs.Visible.{is_bidi_or_line_end, visible, visible_byte, visible_bytes, visible_char}
 
 abbrev is_escape : ℕ → Bool
 is_escape byte = byte == 27
@@ -96,8 +96,10 @@ and_second false b is = absurd (true≢false (sym is))
 char_free : (quoted : Bool) (code : ℕ) → HasNoEscape (visible_char quoted code)
 unfolding visible_char
 char_free quoted code =
-    free_pick (is_control code) (numbered code) (if quoted && (code == 34 || code == 92) then 92 ∷ code ∷ [] else encode_utf8 code) (λ _. numbered_free code)
-    (λ plain. free_pick (quoted && (code == 34 || code == 92)) (92 ∷ code ∷ []) (encode_utf8 code) (λ is. pair_free code (and_second quoted (code == 34 || code == 92) is)) (λ _. encode_free code plain))
+    let other = if quoted && (code == 34 || code == 92) then 92 ∷ code ∷ [] else encode_utf8 code in
+    free_pick (is_control code) (numbered code) (if is_bidi_or_line_end code then flat_map numbered (encode_utf8 code) else other) (λ _. numbered_free code)
+    (λ plain. free_pick (is_bidi_or_line_end code) (flat_map numbered (encode_utf8 code)) other (λ _. free_flat numbered numbered_free (encode_utf8 code))
+    (λ _. free_pick (quoted && (code == 34 || code == 92)) (92 ∷ code ∷ []) (encode_utf8 code) (λ is. pair_free code (and_second quoted (code == 34 || code == 92) is)) (λ _. encode_free code plain)))
 
 byte_free : (quoted : Bool) (byte : ℕ) → HasNoEscape (visible_byte quoted byte)
 unfolding visible_byte

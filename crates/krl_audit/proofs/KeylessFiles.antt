@@ -6,9 +6,9 @@ use Rattle.key_text.specs.Lines.{is_newline}
 use Rattle.krl_audit.specs.Audit.{keyless}
 use Rattle.krl_audit.specs.Front.{fronts_of}
 use Rattle.krl_audit.specs.Keyless.{keyless_lines}
-use Rattle.krl_audit.specs.Outcome.{outcomes_of, plain_lines, read_all, without_mark}
+use Rattle.krl_audit.specs.Outcome.{outcomes_of, plain_lines, read_all}
 use Rattle.krl_audit.specs.declared.front.Fronts.{Fronts}
-use Rattle.krl_audit.proofs.Files.{bare_lines}
+use Rattle.krl_audit.proofs.Files.{split_lines}
 
 -- a private key file is no such file
 pub private_is_not : (name text : List ℕ) → begins_container text ≡ true → None ≡ keyless_lines name text
@@ -16,9 +16,9 @@ unfolding keyless_lines
 private_is_not name text begins = rw begins refl
 
 -- any other file, by its lines
-pub plain_is : (name text bare line : List ℕ) (kind : Fronts) (after : List (List ℕ)) → begins_container text ≡ false → kind ≡ fronts_of name → bare ≡ without_mark text → slice_split is_newline bare ≡ line ∷ after
+pub plain_is : (name text line : List ℕ) (kind : Fronts) (after : List (List ℕ)) → begins_container text ≡ false → kind ≡ fronts_of name → slice_split is_newline text ≡ line ∷ after
     → keyless (outcomes_of kind line ∷ read_all kind after) ≡ keyless_lines name text
 unfolding keyless_lines
-plain_is name text bare line kind after begins kind_is is split =
-    let read : plain_lines (fronts_of name) text ≡ outcomes_of kind line ∷ read_all kind after = ap (λ (k : Fronts). plain_lines k text) (sym kind_is) ∙ bare_lines kind text bare line after is split in
+plain_is name text line kind after begins kind_is split =
+    let read : plain_lines (fronts_of name) text ≡ outcomes_of kind line ∷ read_all kind after = ap (λ (k : Fronts). plain_lines k text) (sym kind_is) ∙ split_lines kind text line after split in
     rw begins (ap keyless (sym read))

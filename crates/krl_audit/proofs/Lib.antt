@@ -1,3 +1,4 @@
+pub mod Canaries
 pub mod Judging
 pub mod Telling
 pub mod Surveying

@@ -34,9 +34,12 @@ use Rattle.krl_entries.specs.declared.reasons.Reason.{Reason}
 use Rattle.krl_entries.specs.declared.reasons.Reason.TheVariants as reasons
 use Rattle.krl_entries.specs.declared.reasons.Reasons.{Reasons}
 use Rattle.krl_audit.specs.Colour.{HasNoEscape, IsCount, IsPainted, in_colour, painted, verdict_word, word_text}
+use Rattle.krl_audit.specs.More.{are_more, kind_mark, kind_word, more_line, more_words}
 use Rattle.krl_audit.specs.Text.{comment_words, key_line, key_words, location_text, of_authority, reason_parts, reason_words, reasons_text, type_of, unread_line}
 use Rattle.krl_audit.specs.Visible.{visible}
-use Rattle.krl_audit.specs.Why.{line_why, more_words, refusal_why, why_text}
+use Rattle.krl_audit.specs.Why.{line_why, refusal_why, why_text}
+use Rattle.krl_audit.specs.declared.counts.LineKind.{LineKind}
+use Rattle.krl_audit.specs.declared.counts.LineKind.TheVariants as line_kinds
 use Rattle.krl_audit.specs.declared.why.Refusal.{Refusal}
 use Rattle.krl_audit.specs.declared.why.Refusal.TheVariants as refusals
 use Rattle.krl_audit.specs.declared.why.Why.{Why}
@@ -239,23 +242,50 @@ refusal_free refusals.DirectoryLink = refl
 refusal_free refusals.NoFile = refl
 refusal_free refusals.LongName = refl
 refusal_free refusals.Slow = refl
+refusal_free refusals.Kernel = refl
 refusal_free refusals.Open = refl
 refusal_free refusals.Read = refl
 refusal_free refusals.TooLong = refl
 
-more_free : (one : Bool) → HasNoEscape (more_words one)
-more_free true = refl
-more_free false = refl
-
 why_free : (why : Why) → IsCount why → HasNoEscape (why_text why)
 why_free (whys.Key (key_causes.Line fault)) small = line_free fault
 why_free (whys.Key (key_causes.Subject fault)) small = free_append (codes "the key is cut or misspelt: ") (subject_fault_text fault) refl (subject_free fault)
+why_free whys.ZeroInId small = refl
 why_free (whys.Private fault) small = free_append (codes "the private key file is cut or misspelt: ") (private_fault_text fault) refl (private_free fault)
 why_free (whys.File refusal) small = refusal_free refusal
 why_free (whys.NoKeys lines) small = three_free (codes "none of its ") (decimal lines) (codes " lines is a key") refl (decimal_free lines small) refl
-why_free (whys.More lines) small = free_append (codes "and ") (decimal lines ++ more_words (lines == 1)) refl (free_append (decimal lines) (more_words (lines == 1)) (decimal_free lines small) (more_free (lines == 1)))
 
 pub unread_painted : (name : List ℕ) (number : ℕ) (why : Why) → number < 2 ^ 64 → IsCount why → IsPainted (unread_line false name number why) (unread_line true name number why)
 unread_painted name number why small few =
     one_word (location_text name number) (why_text why ++ 10 ∷ []) (codes "33") (codes "unread") (place_free name number small) refl
     (free_append (why_text why) (10 ∷ []) (why_free why few) refl)
+
+-- ---- lines that are only counted
+
+are_more_free : (one : Bool) → HasNoEscape (are_more one)
+are_more_free true = refl
+are_more_free false = refl
+
+kind_free : (kind : LineKind) → HasNoEscape (kind_word kind)
+kind_free line_kinds.Empty = refl
+kind_free line_kinds.Distrusted = refl
+kind_free line_kinds.Fine = refl
+kind_free line_kinds.Revoked = refl
+kind_free line_kinds.Unread = refl
+
+more_words_free : (kind : LineKind) (lines : ℕ) → lines < 2 ^ 64 → HasNoEscape (more_words kind lines)
+more_words_free kind lines few =
+    free_append (codes "and ") (decimal lines ++ (are_more (lines == 1) ++ kind_word kind)) refl
+    (three_free (decimal lines) (are_more (lines == 1)) (kind_word kind) (decimal_free lines few) (are_more_free (lines == 1)) (kind_free kind))
+
+kind_painted : (location tail : List ℕ) (kind : LineKind) → HasNoEscape location → HasNoEscape tail
+    → IsPainted (location ++ (kind_mark false kind ++ tail)) (location ++ (kind_mark true kind ++ tail))
+kind_painted location tail line_kinds.Empty before after = one_word location tail (codes "33") (codes "unread") before refl after
+kind_painted location tail line_kinds.Distrusted before after = one_word location tail (codes "33") (codes "unread") before refl after
+kind_painted location tail line_kinds.Fine before after = one_word location tail (codes "32") (codes "ok") before refl after
+kind_painted location tail line_kinds.Revoked before after = one_word location tail (codes "31") (codes "revoked") before refl after
+kind_painted location tail line_kinds.Unread before after = one_word location tail (codes "33") (codes "unread") before refl after
+
+pub more_painted : (name : List ℕ) (kind : LineKind) (lines : ℕ) → lines < 2 ^ 64 → IsPainted (more_line false name kind lines) (more_line true name kind lines)
+more_painted name kind lines few =
+    kind_painted (location_text name 0) (more_words kind lines ++ 10 ∷ []) kind (place_free name 0 (omega arith)) (free_append (more_words kind lines) (10 ∷ []) (more_words_free kind lines few) refl)

@@ -15,8 +15,8 @@ use Rattle.krl_entries.specs.declared.reasons.Reasons.{Reasons}
 use Rattle.json.specs.Json.{Json}
 use Rattle.json_lines.specs.Field.{Field, number_field, text_field, word_field}
 use Rattle.json_lines.proofs.Shallow.{FieldsFit, Fits, ValuesFit, array_fits, deeper, digits_fit, fields_fit, number_fits, object_fits, text_fits, values_fit, word_fits}
-use Rattle.krl_audit.specs.Colour.{IsCount}
-use Rattle.krl_audit.specs.Objects.{by_value, cause_field, cert_field, cert_fields, cert_names, count_fields, done_object, front_fields, front_word, id_field, id_value, key_fields, key_object, line_fields, list_facts, list_field, list_fields, location_fields, marker_fields}
+use Rattle.krl_audit.specs.More.{kind_word, more_fields, more_object, more_words, why_more}
+use Rattle.krl_audit.specs.Objects.{by_value, cert_field, cert_fields, cert_names, count_fields, done_object, front_fields, front_word, id_field, id_value, key_fields, key_object, line_fields, list_facts, list_field, list_fields, location_fields, marker_fields}
 use Rattle.krl_audit.specs.Objects.{of_value, reason_value, reason_values, reasons_field, serial_field, serial_value, stated_fields, status_word, unread_object, version_fields, why_fault, why_fields}
 use Rattle.krl_audit.specs.Objects.{AreCounts}
 use Rattle.krl_audit.specs.Outcome.{Found}
@@ -24,11 +24,12 @@ use Rattle.krl_audit.specs.Same.{same_fields, same_object}
 use Rattle.krl_audit.specs.Text.{type_of}
 use Rattle.krl_audit.specs.Why.{why_text}
 use Rattle.krl_audit.specs.declared.counts.Counts.{Counts}
+use Rattle.krl_audit.specs.declared.counts.LineKind.{LineKind}
+use Rattle.krl_audit.specs.declared.counts.LineKind.TheVariants as kinds
 use Rattle.krl_audit.specs.declared.done.FileCounts.{FileCounts}
 use Rattle.krl_audit.specs.declared.done.ListFacts.{ListFacts}
 use Rattle.krl_audit.specs.declared.done.Stated.{Stated}
 use Rattle.krl_audit.specs.declared.why.Why.{Why}
-use Rattle.krl_audit.specs.declared.why.Why.TheVariants as whys
 
 -- ---- reasons
 
@@ -123,20 +124,10 @@ key_object_fits name number found all small =
     (fields_fit 2 location (key ++ (line ++ list)) (place_fits name number small)
     (fields_fit 2 key (line ++ list) (key_fits found.blob found.comment found.asked all) (fields_fit 2 line list line_fit (list_fits found.asked all))))
 
-fault_fits : (why : Why) → Fits 2 (word_field (codes "fault") (why_fault why)).value
-fault_fits why = word_fits 2 (codes "fault") (why_fault why)
-
-cause_fits : (why : Why) → IsCount why → Fits 2 (cause_field why).value
-cause_fits (whys.Key cause) few = fault_fits (whys.Key cause)
-cause_fits (whys.Private fault) few = fault_fits (whys.Private fault)
-cause_fits (whys.File refusal) few = fault_fits (whys.File refusal)
-cause_fits (whys.NoKeys lines) few = fault_fits (whys.NoKeys lines)
-cause_fits (whys.More lines) few = number_fits 2 (codes "count") lines few
-
-pub unread_object_fits : (name : List ℕ) (number : ℕ) (why : Why) → number < 2 ^ 64 → IsCount why → Fits 3 (unread_object name number why)
-unread_object_fits name number why small few =
+pub unread_object_fits : (name : List ℕ) (number : ℕ) (why : Why) → number < 2 ^ 64 → Fits 3 (unread_object name number why)
+unread_object_fits name number why small =
     object_fits 2 (location_fields name number ++ why_fields why) (fields_fit 2 (location_fields name number) (why_fields why) (place_fits name number small)
-    (word_fits 2 (codes "status") (codes "unread"), (cause_fits why few, (text_fits 2 (codes "why") (why_text why), tt))))
+    (word_fits 2 (codes "status") (codes "unread"), (word_fits 2 (codes "fault") (why_fault why), (text_fits 2 (codes "why") (why_text why), tt))))
 
 version_fit : (stated : Stated) → FieldsFit 0 (version_fields stated)
 version_fit stated = (digits_fit 0 (codes "version") stated.version, (text_fits 0 (codes "generated") (instant_text stated.generated), tt))
@@ -154,6 +145,18 @@ facts_fit list = (
 list_field_fits : (list : ListFacts) → FieldsFit 2 (list_field list ∷ [])
 list_field_fits list = (deeper 1 2 (list_field list).value (omega arith) (object_fits 0 (list_facts list) (facts_fit list)), tt)
 
+why_more_fits : (kind : LineKind) (lines : ℕ) → FieldsFit 2 (why_more kind lines)
+why_more_fits kinds.Empty lines = tt
+why_more_fits kinds.Distrusted lines = tt
+why_more_fits kinds.Fine lines = tt
+why_more_fits kinds.Revoked lines = tt
+why_more_fits kinds.Unread lines = (text_fits 2 (codes "why") (more_words kinds.Unread lines), tt)
+
+pub more_object_fits : (name : List ℕ) (kind : LineKind) (lines : ℕ) → lines < 2 ^ 64 → Fits 3 (more_object name kind lines)
+more_object_fits name kind lines few =
+    object_fits 2 (more_fields name kind lines)
+    (word_fits 2 (codes "file") name, (word_fits 2 (codes "status") (kind_word kind), (number_fits 2 (codes "count") lines few, why_more_fits kind lines)))
+
 pub same_object_fits : (name : List ℕ) → Fits 3 (same_object name)
 same_object_fits name =
     object_fits 2 (same_fields name) (word_fits 2 (codes "file") name, (word_fits 2 (codes "status") (codes "same"), tt))
@@ -169,7 +172,13 @@ counts_fit files counts are = (
         number_fits 2 (codes "unread") counts.unread are.unread,
         (
           number_fits 2 (codes "skipped") files.skipped are.skipped,
-          (number_fits 2 (codes "same") files.same are.same, tt),
+          (
+            number_fits 2 (codes "excluded") files.excluded are.excluded,
+            (
+              number_fits 2 (codes "elsewhere") files.elsewhere are.elsewhere,
+              (number_fits 2 (codes "same") files.same are.same, tt),
+            ),
+          ),
         ),
       ),
     ),

@@ -17,7 +17,7 @@ use Rattle.krl_entries.proofs.ReasonTests.{any_is_revoked}
 use Rattle.krl_entries.proofs.RevokedTests.{revoked_tested}
 use Rattle.ssh_cert.specs.SubjectReading.{subject_of}
 use Rattle.krl_audit.specs.Audit.{kind_of}
-use Rattle.krl_audit.specs.Outcome.{Empty, Found, HasFound, IsFound, Key, Outcome, Outcomes, Unread, by_either, by_hosts, by_options, hosts_of, is_bare, is_same, is_same_part, line_outcome, merged, one, options_of, outcomes_of, part_outcome, two}
+use Rattle.krl_audit.specs.Outcome.{Empty, Found, HasFound, IsFound, Key, Outcome, Outcomes, Unread, by_either, by_hosts, by_options, has_zero_in_id, hosts_of, is_bare, is_same, is_same_part, line_outcome, merged, one, options_of, outcomes_of, part_outcome, two}
 use Rattle.krl_audit.specs.declared.front.Fronts.{Fronts}
 use Rattle.krl_audit.specs.declared.front.Fronts.TheVariants as fronts
 use Rattle.krl_audit.specs.declared.counts.LineKind.TheVariants as kinds
@@ -75,25 +75,25 @@ same_parts (Some part) (Some other) same = ap Some ((bytes_eq-Decides part other
 
 -- a part that spells a key gives it
 part_found : (marker : Option Marker) (hosts : Bool) (line : List ℕ) (part : Option (List ℕ)) (word blob comment : List ℕ) (asked : Subject) → content_at part ≡ Ok (content word blob comment) → subject_of blob ≡ Ok asked
-    → IsFound blob (part_outcome marker hosts line part)
+    → has_zero_in_id asked.cert ≡ false → IsFound blob (part_outcome marker hosts line part)
 unfolding part_outcome
-part_found marker hosts line part word blob comment asked is read = rw (is, read) refl
+part_found marker hosts line part word blob comment asked is read no_zero = rw (is, read, no_zero) refl
 
 either_by : (line : List ℕ) (same : Bool) → is_same_part (key_part line) (host_part line) ≡ same → (word blob comment : List ℕ) (asked : Subject)
-    → (content_at (key_part line) ≡ Ok (content word blob comment)) ⊎ (content_at (host_part line) ≡ Ok (content word blob comment)) → subject_of blob ≡ Ok asked
+    → (content_at (key_part line) ≡ Ok (content word blob comment)) ⊎ (content_at (host_part line) ≡ Ok (content word blob comment)) → subject_of blob ≡ Ok asked → has_zero_in_id asked.cert ≡ false
     → HasFound (if same then one (by_options line) else merged (by_options line) (by_hosts None line)) blob
-either_by line true same word blob comment asked (inl is) read = inl (part_found None false line (key_part line) word blob comment asked is read)
-either_by line true same word blob comment asked (inr is) read =
-    inl (part_found None false line (key_part line) word blob comment asked (ap content_at (same_parts (key_part line) (host_part line) same) ∙ is) read)
-either_by line false same word blob comment asked (inl is) read = first_found (by_options line) (by_hosts None line) blob (part_found None false line (key_part line) word blob comment asked is read)
-either_by line false same word blob comment asked (inr is) read = second_found (by_options line) (by_hosts None line) blob (part_found None true line (host_part line) word blob comment asked is read)
+either_by line true same word blob comment asked (inl is) read no_zero = inl (part_found None false line (key_part line) word blob comment asked is read no_zero)
+either_by line true same word blob comment asked (inr is) read no_zero =
+    inl (part_found None false line (key_part line) word blob comment asked (ap content_at (same_parts (key_part line) (host_part line) same) ∙ is) read no_zero)
+either_by line false same word blob comment asked (inl is) read no_zero = first_found (by_options line) (by_hosts None line) blob (part_found None false line (key_part line) word blob comment asked is read no_zero)
+either_by line false same word blob comment asked (inr is) read no_zero = second_found (by_options line) (by_hosts None line) blob (part_found None true line (host_part line) word blob comment asked is read no_zero)
 
 pub either_found : (text word blob comment : List ℕ) (asked : Subject) → has_key text ≡ true → marker_of text ≡ None
-    → (line_at text ≡ Ok (content word blob comment)) ⊎ (host_line_at text ≡ Ok (content word blob comment)) → subject_of blob ≡ Ok asked
+    → (line_at text ≡ Ok (content word blob comment)) ⊎ (host_line_at text ≡ Ok (content word blob comment)) → subject_of blob ≡ Ok asked → has_zero_in_id asked.cert ≡ false
     → HasFound (outcomes_of fronts.Either text) blob
 unfolding outcomes_of unmarked by_either line_at host_line_at
-either_found text word blob comment asked has none is read =
-    rw (has, none) (either_by (trimmed text) (is_same_part (key_part (trimmed text)) (host_part (trimmed text))) refl word blob comment asked is read)
+either_found text word blob comment asked has none is read no_zero =
+    rw (has, none) (either_by (trimmed text) (is_same_part (key_part (trimmed text)) (host_part (trimmed text))) refl word blob comment asked is read no_zero)
 
 -- ---- the kind of a key
 

@@ -1,12 +1,15 @@
 -- Auditing files: the findings of their lines, and the counts.
 use Rattle.std.specs.Borrow.{Bor}
-use Rattle.std.specs.Prelude.{◌≡◌, ℕ, ◌+◌, ◌-◌, ◌&&◌, Bool, true, false, not, List, [], ◌∷◌, ◌++◌}
+use Rattle.std.specs.Prelude.{◌≡◌, ℕ, ◌+◌, ◌-◌, ◌&&◌, Bool, true, false, List, [], ◌∷◌, ◌++◌}
 use Rattle.std.specs.Prelude.{IfOk, is_some, map, nat_lt, OnOk, Option, Some, None, Result, Ok, Err}
 use Rattle.std.specs.Prelude.{if◌then◌else◌}
 use Rattle.key_text.specs.declared.marker.Marker.{Marker}
 use Rattle.key_text.specs.declared.marker.Marker.TheVariants as markers
 use Rattle.krl_types.specs.Subject.{Subject}
-use Rattle.krl_entries.specs.Reasons.{any_reason, held_reasons}
+use Rattle.krl_types.specs.Entry.{Entry}
+use Rattle.krl_entries.specs.Reasons.{any_reason, has_reason, held_reasons, reasons_of}
+use Rattle.krl_entries.specs.Revocations.{Means, Revocations}
+use Rattle.krl_entries.specs.declared.reasons.Reason.TheVariants.{Key as reason_of_key}
 use Rattle.krl_entries.specs.declared.reasons.Reasons.{Reasons}
 use Rattle.run_faults.specs.RunFault.{RunFault}
 use Rattle.run_output.specs.Carries.{Carries}
@@ -14,12 +17,14 @@ use Rattle.run_output.specs.Done.{EndsWith}
 use Rattle.run_output.specs.Printer.{Printer}
 use Rattle.run_output.specs.Run.{Item, Passed, said_of}
 use Rattle.key_text.specs.Armour.{begins_container}
-use Rattle.krl_audit.specs.Counts.{all_counted, audit_status, one_more}
+use Rattle.krl_audit.specs.Counts.{all_counted, audit_status}
 use Rattle.krl_audit.specs.Front.{fronts_of}
 use Rattle.json_lines.specs.Field.{json_line}
+use Rattle.krl_audit.specs.More.{more_said}
 use Rattle.krl_audit.specs.Objects.{key_object, unread_object}
 use Rattle.krl_audit.specs.Outcome.{Empty, Found, Key, Outcome, Outcomes, Placed}
 use Rattle.krl_audit.specs.Outcome.{Unread, place, placed_from, plain_lines, private_lines}
+use Rattle.krl_audit.specs.Tally.{all_tallied, most, none_yet, tallied, within}
 use Rattle.krl_audit.specs.Text.{key_line, unread_line}
 use Rattle.krl_audit.specs.declared.counts.Counts.{Counts}
 use Rattle.krl_audit.specs.declared.counts.LineKind.{LineKind}
@@ -28,6 +33,7 @@ use Rattle.krl_audit.specs.declared.judge.Form.{Form}
 use Rattle.krl_audit.specs.declared.judge.Form.TheVariants as forms
 use Rattle.krl_audit.specs.declared.judge.Judge.{Judge}
 use Rattle.krl_audit.specs.declared.judge.Shown.{Shown}
+use Rattle.krl_audit.specs.declared.tally.Tally.{Tally}
 use Rattle.krl_audit.specs.declared.why.Refusal.{Refusal}
 use Rattle.krl_audit.specs.declared.why.Why.{Why}
 use Rattle.krl_audit.specs.declared.why.Why.TheVariants as whys
@@ -147,57 +153,36 @@ file_lines name (Ok text) = text_lines (begins_container text) name text
 
 -- ---- the items of a file
 
--- the number of lines of a file that are reported as unread one by one
-abbrev pub most_unread : ℕ
-most_unread = 20
+-- the items of lines after these lines of their file
+abbrev pub lines_items : (Subject → Reasons) → Shown → List ℕ → Tally → List Placed → List Item
+lines_items reasons shown name tally [] = []
+lines_items reasons shown name tally (line ∷ lines) =
+    line_item reasons (within tally shown) name line.number line.outcome
+    ∷ lines_items reasons shown name (tallied tally (kind_of reasons line.outcome)) lines
 
-abbrev pub is_unread : Outcome → Bool
-is_unread Empty = false
-is_unread (Key found) = false
-is_unread (Unread why) = true
+-- how many lines of a kind there are, beyond those that are printed one by one
+abbrev pub more_item : Shown → List ℕ → LineKind → ℕ → Item
+more_item shown name kind lines =
+    said_if (says shown kind && nat_lt most lines) name
+    (more_said shown.form name kind (lines - most))
 
--- how many lines of a file were not read, after this one: a count that stops at its maximum
-abbrev pub unread_after : ℕ → Outcome → ℕ
-unread_after unread outcome = one_more unread (is_unread outcome)
+-- the last items of a file
+abbrev pub rest_items : Shown → List ℕ → Tally → List Item
+rest_items shown name tally =
+    more_item shown name kinds.Revoked tally.revoked
+    ∷ more_item shown name kinds.Unread tally.unread
+    ∷ more_item shown name kinds.Fine tally.fine ∷ []
 
-abbrev pub unread_all : ℕ → List Placed → ℕ
-unread_all unread [] = unread
-unread_all unread (line ∷ lines) = unread_all (unread_after unread line.outcome) lines
-
--- whether a line is only counted, if this number of lines was not read before it
-abbrev pub is_beyond : ℕ → Outcome → Bool
-is_beyond unread outcome = not (nat_lt unread most_unread) && is_unread outcome
-
-abbrev pub item_if : Bool → (Subject → Reasons) → Shown → List ℕ → Placed → Item
-item_if true reasons shown name line = Passed name
-item_if false reasons shown name line = line_item reasons shown name line.number line.outcome
-
--- the items of lines, if this number of lines of their file was not read before
-abbrev pub lines_items : (Subject → Reasons) → Shown → List ℕ → ℕ → List Placed → List Item
-lines_items reasons shown name unread [] = []
-lines_items reasons shown name unread (line ∷ lines) =
-    item_if (is_beyond unread line.outcome) reasons shown name line
-    ∷ lines_items reasons shown name (unread_after unread line.outcome) lines
-
--- The last item of a file: how many of its lines, beyond the first 20, are not read.
-abbrev pub rest_if : Bool → (Subject → Reasons) → Shown → List ℕ → ℕ → List Item
-rest_if false reasons shown name unread = []
-rest_if true reasons shown name unread =
-    line_item reasons shown name 0 (Unread (whys.More (unread - most_unread))) ∷ []
-
-abbrev pub rest_items : (Subject → Reasons) → Shown → List ℕ → ℕ → List Item
-rest_items reasons shown name unread =
-    rest_if (nat_lt most_unread unread) reasons shown name unread
+abbrev pub kinds_of : (Subject → Reasons) → List Placed → List LineKind
+kinds_of reasons lines = map (λ line. kind_of reasons line.outcome) lines
 
 -- the items of a file, and the kinds of lines that are counted
 unfoldable pub file_items : (Subject → Reasons) → Shown → List ℕ → Result (List ℕ) Refusal
     → List Item
 file_items reasons shown name content =
     let lines = file_lines name content in
-    lines_items reasons shown name 0 lines ++ rest_items reasons shown name (unread_all 0 lines)
-
-abbrev pub kinds_of : (Subject → Reasons) → List Placed → List LineKind
-kinds_of reasons lines = map (λ line. kind_of reasons line.outcome) lines
+    lines_items reasons shown name none_yet lines
+    ++ rest_items shown name (all_tallied none_yet (kinds_of reasons lines))
 
 unfoldable pub file_kinds : (Subject → Reasons) → List ℕ → Result (List ℕ) Refusal
     → List LineKind
@@ -216,9 +201,38 @@ abbrev pub content_of : Result (Bor (List ℕ)) Refusal → Result (List ℕ) Re
 content_of (Ok text) = Ok text.now
 content_of (Err refusal) = Err refusal
 
--- The list gives these reasons.
+-- no reason for a canary, and for another key these
+abbrev pub reasons_unless : (is_canary : Bool) → Reasons → Reasons
+reasons_unless true reasons = record { bits = 0 }
+reasons_unless false reasons = reasons
+
+-- the reasons that a list gives, by the keys that are canaries
+abbrev pub reasons_beside : Option (Bor Revocations) → Revocations → Subject → Reasons
+reasons_beside None list asked = held_reasons list asked
+reasons_beside (Some canaries) list asked =
+    reasons_unless (has_reason (held_reasons canaries.now asked) reason_of_key) (held_reasons list asked)
+
+abbrev pub judged_reasons : Judge → Subject → Reasons
+judged_reasons judge asked = reasons_beside judge.canaries judge.list.now asked
+
+-- The list gives these reasons, but for canaries.
 abbrev pub JudgesAs : Judge → (Subject → Reasons) → Type 0
-JudgesAs judge reasons = (asked : Subject) → held_reasons judge.list.now asked ≡ reasons asked
+JudgesAs judge reasons = (asked : Subject) → judged_reasons judge asked ≡ reasons asked
+
+-- ---- what entries mean
+
+-- the reasons for which entries revoke a key, by the entries whose keys are canaries
+abbrev pub reasons_but : Option (List Entry) → List Entry → Subject → Reasons
+reasons_but None entries = reasons_of entries
+reasons_but (Some canaries) entries =
+    λ asked. reasons_unless (has_reason (reasons_of canaries asked) reason_of_key) (reasons_of entries asked)
+
+-- These entries have the keys that are canaries.
+abbrev pub MeanCanaries : Option (Bor Revocations) → Option (List Entry) → Type 0
+MeanCanaries None None = Unit {0}
+MeanCanaries None (Some entries) = ⊥
+MeanCanaries (Some held) None = ⊥
+MeanCanaries (Some held) (Some entries) = Means held.now entries
 
 -- The line was printed if it is to be printed, and this is its kind; or the audit was stopped at
 -- it.
@@ -228,14 +242,13 @@ pub record SaysLine (reasons : Subject → Reasons) (shown : Shown) (name : List
   pub kind_is : IfOk result (λ kind. kind ≡ kind_of reasons line.outcome)
 
 -- Exactly the items of these lines were printed after the earlier ones, and all lines were counted;
--- or the audit was stopped within them. Before them this number of lines of their file was not
--- read.
-pub record Told (reasons : Subject → Reasons) (shown : Shown) (name : List ℕ) (unread : ℕ)
-    (lines : List Placed) (result : Result ℕ RunFault) (old new : Printer) (before after : Counts)
-    : Type 0 where
-  pub carries : Carries (lines_items reasons shown name unread lines) result old new
+-- or the audit was stopped within them. Before them their file had lines of these numbers.
+pub record Told (reasons : Subject → Reasons) (shown : Shown) (name : List ℕ) (tally : Tally)
+    (lines : List Placed) (result : Result Tally RunFault) (old new : Printer)
+    (before after : Counts) : Type 0 where
+  pub carries : Carries (lines_items reasons shown name tally lines) result old new
   pub counts : OnOk result (after ≡ all_counted before (kinds_of reasons lines))
-  pub unread_is : IfOk result (λ now. now ≡ unread_all unread lines)
+  pub tally_is : IfOk result (λ now. now ≡ all_tallied tally (kinds_of reasons lines))
 
 -- The same for a file.
 pub record ToldFile (reasons : Subject → Reasons) (shown : Shown) (name : List ℕ)

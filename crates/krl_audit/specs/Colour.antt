@@ -2,7 +2,7 @@
 use Rattle.std.specs.Prelude.{◌≡◌, ℕ, ◌<◌, ◌^◌, ◌==◌, Bool, true, false, List, ◌∷◌, ◌++◌, codes}
 use Rattle.std.specs.List.{list_any}
 use Rattle.krl_audit.specs.declared.why.Why.{Why}
-use Rattle.krl_audit.specs.declared.why.Why.TheVariants.{More, NoKeys}
+use Rattle.krl_audit.specs.declared.why.Why.TheVariants.{NoKeys}
 
 -- the escape sequence that begins a colour, or ends all colours
 abbrev pub rendition : List ℕ → List ℕ
@@ -47,5 +47,4 @@ pub record IsPainted (plain coloured : List ℕ) : Type 0 where
 -- the number of lines of a file fits in eight bytes
 abbrev pub IsCount : Why → Type 0
 IsCount (NoKeys lines) = lines < 2 ^ 64
-IsCount (More lines) = lines < 2 ^ 64
 IsCount _ = Unit {0}

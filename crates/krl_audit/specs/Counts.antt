@@ -20,6 +20,10 @@ abbrev pub is_unread_kind : LineKind → Bool
 is_unread_kind kinds.Unread = true
 is_unread_kind _ = false
 
+abbrev pub is_fine_kind : LineKind → Bool
+is_fine_kind kinds.Fine = true
+is_fine_kind _ = false
+
 -- a count that stops at its maximum
 abbrev pub one_more : ℕ → Bool → ℕ
 one_more count is_one = if is_one then min (count + 1) (2 ^ 64 - 1) else count

@@ -4,8 +4,10 @@ pub mod Why
 pub mod Causes
 pub mod Outcome
 pub mod Counts
+pub mod Tally
 pub mod Visible
 pub mod Text
+pub mod More
 pub mod Objects
 pub mod Audit
 pub mod Keyless

@@ -153,6 +153,7 @@ refusal_fault refusals.DirectoryLink = files.Open
 refusal_fault refusals.NoFile = files.NoKeys
 refusal_fault refusals.LongName = files.Open
 refusal_fault refusals.Slow = files.Open
+refusal_fault refusals.Kernel = files.Open
 refusal_fault refusals.Open = files.Open
 refusal_fault refusals.Read = files.Read
 refusal_fault refusals.TooLong = files.TooLong
@@ -160,20 +161,15 @@ refusal_fault refusals.TooLong = files.TooLong
 -- the fault, by its family, its number and its name
 abbrev pub why_fault : Why → List ℕ
 why_fault (whys.Key cause) = key_cause_text cause
+why_fault whys.ZeroInId = codes "audit 2 ZeroInId"
 why_fault (whys.Private fault) = private_fault_text fault
 why_fault (whys.File refusal) = file_fault_text (refusal_fault refusal)
 why_fault (whys.NoKeys lines) = file_fault_text files.NoKeys
-why_fault (whys.More lines) = []
-
--- lines that are not reported one by one have faults of their own
-abbrev pub cause_field : Why → Field
-cause_field (whys.More lines) = number_field (codes "count") lines
-cause_field why = word_field (codes "fault") (why_fault why)
 
 abbrev pub why_fields : Why → List Field
 why_fields why =
     word_field (codes "status") (codes "unread")
-    ∷ cause_field why
+    ∷ word_field (codes "fault") (why_fault why)
     ∷ text_field (codes "why") (why_text why) ∷ []
 
 -- the object of a line or file that is not read: it has no text of the line itself
@@ -210,7 +206,10 @@ line_count_fields counts =
 -- the names that were not audited
 abbrev pub name_count_fields : FileCounts → List Field
 name_count_fields files =
-    number_field (codes "skipped") files.skipped ∷ number_field (codes "same") files.same ∷ []
+    number_field (codes "skipped") files.skipped
+    ∷ number_field (codes "excluded") files.excluded
+    ∷ number_field (codes "elsewhere") files.elsewhere
+    ∷ number_field (codes "same") files.same ∷ []
 
 abbrev pub count_fields : FileCounts → Counts → List Field
 count_fields files counts =
@@ -222,6 +221,8 @@ pub record AreCounts (files : FileCounts) (counts : Counts) : Type 0 where
   pub audited : files.audited < 2 ^ 64
   pub same : files.same < 2 ^ 64
   pub skipped : files.skipped < 2 ^ 64
+  pub excluded : files.excluded < 2 ^ 64
+  pub elsewhere : files.elsewhere < 2 ^ 64
   pub keys : counts.keys < 2 ^ 64
   pub revoked : counts.revoked < 2 ^ 64
   pub unread : counts.unread < 2 ^ 64

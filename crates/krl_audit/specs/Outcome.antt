@@ -1,13 +1,13 @@
 -- The outcomes of each line of a file of keys: nothing, a key, or why it is not read.
-use Rattle.std.specs.Prelude.{◌≡◌, ◌⊎◌, ℕ, ◌+◌, Bool, true, false, List, [], ◌∷◌, ◌++◌, drop, map}
-use Rattle.std.specs.Prelude.{nat_eq, Option, Some, None, Result, Ok, Err, if◌then◌else◌}
+use Rattle.std.specs.Prelude.{◌≡◌, ◌⊎◌, ℕ, ◌+◌, ◌==◌, Bool, true, false, List, [], ◌∷◌, ◌++◌, map}
+use Rattle.std.specs.Prelude.{Option, Some, None, Result, Ok, Err, if◌then◌else◌}
 use Rattle.std.specs.Borrow.{Bor}
-use Rattle.std.specs.List.{slice_split, starts_with}
+use Rattle.std.specs.List.{list_any, slice_split}
 use Rattle.std.specs.Str.{bytes_eq}
-use Rattle.ssh_cert.specs.SubjectReading.{IsAsked, subject_of}
+use Rattle.ssh_cert.specs.SubjectReading.{subject_of}
 use Rattle.ssh_cert.specs.declared.subject_fault.SubjectFault.{SubjectFault}
 use Rattle.keyed_lines.specs.declared.key_cause.KeyCause.TheVariants as keys
-use Rattle.krl_types.specs.Subject.{Subject}
+use Rattle.krl_types.specs.Subject.{CertNames, Subject}
 use Rattle.key_text.specs.Armour.{end_line}
 use Rattle.key_text.specs.Blanks.{before_ending, trimmed}
 use Rattle.key_text.specs.ContainerReading.{Opened, opened_of, private_at}
@@ -48,11 +48,20 @@ pub data Outcome : Type 0 where
   Key : Found → Outcome
   Unread : Why → Outcome
 
+abbrev pub has_zero : List ℕ → Bool
+has_zero text = list_any (λ byte. byte == 0) text
+
+-- The key ID of a certificate has a zero byte: OpenSSH refuses it, or drops that byte at the end of
+-- the ID, which a list may name then.
+abbrev pub has_zero_in_id : Option CertNames → Bool
+has_zero_in_id None = false
+has_zero_in_id (Some cert) = has_zero cert.key_id
+
 -- the outcome of the bytes of a key, by the query that they make
 abbrev pub asked_outcome : Option Marker → Bool → (front blob comment : List ℕ)
     → Result Subject SubjectFault → Outcome
 asked_outcome marker hosts front blob comment (Ok asked) =
-    Key (record {
+    if has_zero_in_id asked.cert then Unread whys.ZeroInId else Key (record {
       marker = marker;
       hosts = hosts;
       front = front;
@@ -186,13 +195,6 @@ private_outcome (Err fault) = Unread (whys.Private fault)
 
 -- ---- files
 
--- the byte order mark of UTF-8
-abbrev pub order_mark : List ℕ
-order_mark = 239 ∷ 187 ∷ 191 ∷ []
-
-unfoldable pub without_mark : List ℕ → List ℕ
-without_mark text = if starts_with nat_eq text order_mark then drop 3 text else text
-
 -- an outcome, and the number of its line
 pub record Placed : Type 0 where
   pub number : ℕ
@@ -241,9 +243,10 @@ private_lines name text =
     place 1 (private_outcome (opened_at text))
     ∷ placed_beside (fronts_of name) (is_read_by_lines name) (slice_split is_newline text)
 
--- the lines of another file
+-- The lines of another file. A byte order mark at its start belongs to its first line, as it does
+-- for ssh and sshd.
 unfoldable pub plain_lines : Fronts → List ℕ → List Outcomes
-plain_lines kind text = read_all kind (slice_split is_newline (without_mark text))
+plain_lines kind text = read_all kind (slice_split is_newline text)
 
 -- ---- the result of reading
 
@@ -278,9 +281,11 @@ pub record GivesOutcomes (read : Read) (outcomes : Outcomes) : Type 0 where
   pub second : GivesSecond read.second outcomes.second
 
 -- A list can be queried for the bytes, or this is why not.
-abbrev pub SaysFault : Option SubjectFault → Result Subject SubjectFault → Type 0
-SaysFault None read = IsAsked read
-SaysFault (Some fault) read = read ≡ Err fault
+abbrev pub SaysWhy : Option Why → Result Subject SubjectFault → Type 0
+SaysWhy None read =
+    (asked : Subject) × ((read ≡ Ok asked) × (has_zero_in_id asked.cert ≡ false))
+SaysWhy (Some why) read = (marker : Option Marker) (hosts : Bool) (front blob comment : List ℕ)
+    → asked_outcome marker hosts front blob comment read ≡ Unread why
 
 abbrev pub GivesOpened : Result Private PrivateFault → Result Opened PrivateFault → Type 0
 GivesOpened (Ok private) read = read ≡ Ok (opened_of private)

@@ -1,16 +1,24 @@
 -- Texts as they are shown: a control character is shown by its number, so a terminal does not obey
--- it.
-use Rattle.std.specs.Prelude.{ℕ, ◌==◌, ◌||◌, ◌&&◌, Bool, List, [], ◌∷◌, nat_lt}
+-- it. Unicode's bidirectional controls and line separators are shown byte by byte.
+use Rattle.std.specs.Prelude.{ℕ, ◌==◌, ◌||◌, ◌&&◌, Bool, List, [], ◌∷◌, nat_le, nat_lt}
 use Rattle.std.specs.Prelude.{if◌then◌else◌}
 use Rattle.std.specs.Char.{encode_utf8, is_control}
 use Rattle.std.specs.List.{flat_map}
 use Rattle.std.specs.Str.{chars, is_utf8}
 use Rattle.ssh_cert.specs.Escape.{numbered}
 
+-- U+061C, U+200E, U+200F, U+202A to U+202E, and U+2066 to U+2069, which change the order in which a
+-- text is shown; U+2028 and U+2029, which end a line
+abbrev pub is_bidi_or_line_end : ℕ → Bool
+is_bidi_or_line_end code =
+    (code == 0x61c) || ((code == 0x200e) || ((code == 0x200f)
+    || ((nat_le 0x2028 code && nat_lt code 0x202f) || (nat_le 0x2066 code && nat_lt code 0x206a))))
+
 -- between quotes, a quote and a backslash have a backslash before them
 unfoldable pub visible_char : Bool → ℕ → List ℕ
 visible_char quoted code =
     if is_control code then numbered code
+    else if is_bidi_or_line_end code then flat_map numbered (encode_utf8 code)
     else if quoted && (code == 34 || code == 92) then 92 ∷ code ∷ [] else encode_utf8 code
 
 -- a byte of a text that is not UTF-8

@@ -1,5 +1,5 @@
 -- The words for why a line or a file is not read.
-use Rattle.std.specs.Prelude.{ℕ, ◌==◌, Bool, true, false, List, ◌++◌, codes, decimal}
+use Rattle.std.specs.Prelude.{ℕ, List, ◌++◌, codes, decimal}
 use Rattle.ssh_cert.specs.SubjectFault.{subject_fault_text}
 use Rattle.key_text.specs.PrivateFault.{private_fault_text}
 use Rattle.key_text.specs.declared.line_fault.LineFault.{LineFault}
@@ -25,20 +25,17 @@ refusal_why refusals.DirectoryLink = codes "a link to a directory: name it"
 refusal_why refusals.NoFile = codes "no file in this directory is read by its name"
 refusal_why refusals.LongName = codes "its name has more than 4,096 bytes"
 refusal_why refusals.Slow = codes "opening another file of its owner took too long"
+refusal_why refusals.Kernel = codes "it is on a file system of the kernel"
 refusal_why refusals.Open = codes "it cannot be opened"
 refusal_why refusals.Read = codes "it cannot be read to its end"
 refusal_why refusals.TooLong = codes "it has more than 16 MiB"
-
-abbrev pub more_words : Bool → List ℕ
-more_words true = codes " more line is unread"
-more_words false = codes " more lines are unread"
 
 abbrev pub why_text : Why → List ℕ
 why_text (whys.Key (keys.Line fault)) = line_why fault
 why_text (whys.Key (keys.Subject fault)) =
     codes "the key is cut or misspelt: " ++ subject_fault_text fault
+why_text whys.ZeroInId = codes "its key ID has a zero byte"
 why_text (whys.Private fault) =
     codes "the private key file is cut or misspelt: " ++ private_fault_text fault
 why_text (whys.File refusal) = refusal_why refusal
 why_text (whys.NoKeys lines) = codes "none of its " ++ (decimal lines ++ codes " lines is a key")
-why_text (whys.More lines) = codes "and " ++ (decimal lines ++ more_words (lines == 1))

@@ -8,12 +8,9 @@ ghost use Rattle.run_output.specs.Carries.{Carries, Reaches};
 ghost use Rattle.run_output.specs.Run.{Item, said_of};
 ghost use Rattle.json_lines.specs.Field.{json_line};
 ghost use Rattle.krl_types.specs.Subject.{Subject as SubjectOf};
-ghost use Rattle.krl_types.specs.Entry.{Entry};
-ghost use Rattle.krl_entries.specs.Reasons.{reasons_of};
-ghost use Rattle.krl_entries.specs.Revocations.{Means};
 ghost use Rattle.krl_entries.specs.declared.reasons.Reasons.{Reasons as ReasonsOf};
 ghost use Rattle.krl_audit.specs.Audit.{EndsAudit, JudgesAs, Told, ToldFile, SaysLine, content_of};
-ghost use Rattle.krl_audit.specs.Audit.{file_lines, text_lines};
+ghost use Rattle.krl_audit.specs.Audit.{file_lines, more_item, text_lines};
 ghost use Rattle.krl_audit.specs.Audit.{rest_items, said_if, whole};
 ghost use Rattle.krl_audit.specs.Objects.{done_object};
 ghost use Rattle.krl_audit.specs.declared.front.Fronts.{Fronts as FrontsOf};
@@ -21,24 +18,23 @@ ghost use Rattle.krl_audit.specs.Outcome.{GivesOutcome, GivesOutcomes, Outcome a
 ghost use Rattle.krl_audit.specs.Outcome.{Outcomes as OutcomesOf, LeadsBehind, opened_at};
 ghost use Rattle.krl_audit.specs.Outcome.{outcomes_of, private_lines};
 ghost use Rattle.krl_audit.specs.Outcome.{place, place_all, placed_behind, placed_from};
-ghost use Rattle.krl_audit.specs.Outcome.{private_outcome, read_all, without_mark};
+ghost use Rattle.krl_audit.specs.Outcome.{private_outcome, read_all};
+ghost use Rattle.krl_audit.specs.Tally.{none_yet, within};
 
 use crate::counts::{Counts, LineKind};
 use crate::done::{FileCounts, ListFacts, write_done};
 use crate::front::{Fronts, is_read_by_lines};
-use crate::judge::Judge;
+use crate::judge::{Judge, Shown, says};
+use crate::more::{More, write_more};
 use crate::outcome::{Outcome, Outcomes, checked, open_private, read_outcomes};
 use crate::survey::keyless;
+use crate::tally::{MOST, Tally};
 use crate::text::Location;
-use crate::unread::{MOST_UNREAD, is_beyond, unread_after};
 use crate::why::{Refusal, Why};
 use byte_streams::Sink;
 use key_text::{Private, before_ending, is_container, split_line};
 use run_faults::{Cause, RunFault};
 use run_output::{Done, Run};
-
-// The byte order mark of UTF-8.
-const ORDER_MARK: &[u8] = b"\xef\xbb\xbf";
 
 // The line that ends a private key.
 const END_LINE: &[u8] = b"-----END OPENSSH PRIVATE KEY-----";
@@ -57,30 +53,31 @@ pub struct Auditor<'q, 'w, W: Sink> {
 impl<'q, 'w, W: Sink> Auditor<'q, 'w, W> {
     /// Audits a file, given its bytes or why there are none: prints the findings of each of its
     /// lines after the earlier findings, and counts the lines. Each finding depends only on the
-    /// list's entries, on the name and on the bytes. The first 20 lines that are not read are
-    /// printed one by one, and then how many more there are.
+    /// list's entries and the canaries, on the name and on the bytes. The first 20 lines with a revoked key are
+    /// printed one by one, and then how many more there are; so are the lines that are not read,
+    /// and those with a key that is not revoked.
     pub fn audit_file<'a>(
         &mut self,
         name: &'a str,
         content: Result<&[u8], Refusal>,
     ) -> Result<(), RunFault<'a>>
-        ensures told { (entries : List Entry) → Means self.old.judge.list.now entries
-            → ToldFile (reasons_of entries) self.old.judge.shown name.now (content_of content.entry)
+        ensures told { (reasons : SubjectOf → ReasonsOf) → JudgesAs self.old.judge reasons
+            → ToldFile reasons self.old.judge.shown name.now (content_of content.entry)
             result self.old.run.printer self.new.run.printer self.old.counts self.new.counts }
         ensures judge { self.new.judge ≡ self.old.judge }
     {
-        let unread = self.audit_lines(name, content)?;
-        self.say_rest(name, unread)
+        let tally = self.audit_lines(name, content)?;
+        self.say_rest(name, tally)
     }
 
-    // Audits a file but for its last finding. Returns the number of lines that are not read.
+    // Audits a file but for its last finding. Returns the numbers of its lines.
     fn audit_lines<'a>(
         &mut self,
         name: &'a str,
         content: Result<&[u8], Refusal>,
-    ) -> Result<u64, RunFault<'a>>
+    ) -> Result<Tally, RunFault<'a>>
         ensures told { (reasons : SubjectOf → ReasonsOf) → JudgesAs self.old.judge reasons
-            → Told reasons self.old.judge.shown name.now 0
+            → Told reasons self.old.judge.shown name.now none_yet
             (file_lines name.now (content_of content.entry)) result self.old.run.printer
             self.new.run.printer self.old.counts self.new.counts }
         ensures judge { self.new.judge ≡ self.old.judge }
@@ -93,14 +90,14 @@ impl<'q, 'w, W: Sink> Auditor<'q, 'w, W> {
     }
 
     // Audits a file that begins with no private key.
-    fn audit_plain<'a>(&mut self, name: &'a str, text: &[u8]) -> Result<u64, RunFault<'a>>
+    fn audit_plain<'a>(&mut self, name: &'a str, text: &[u8]) -> Result<Tally, RunFault<'a>>
         ensures told { (reasons : SubjectOf → ReasonsOf) → JudgesAs self.old.judge reasons
-            → Told reasons self.old.judge.shown name.now 0 (text_lines false name.now text.now)
-            result self.old.run.printer self.new.run.printer self.old.counts self.new.counts }
+            → Told reasons self.old.judge.shown name.now none_yet
+            (text_lines false name.now text.now) result self.old.run.printer
+            self.new.run.printer self.old.counts self.new.counts }
         ensures judge { self.new.judge ≡ self.old.judge }
     {
         let fronts = Fronts::of(name.as_bytes());
-        let text = without_mark(text);
         let (line, after) = split_line(text);
         let Ok(first) = read_outcomes(self.run.alloc, fronts, line) else {
             return Err(RunFault::whole(name, Cause::NoMemory));
@@ -119,19 +116,19 @@ impl<'q, 'w, W: Sink> Auditor<'q, 'w, W> {
         fronts: Fronts,
         first: &Outcomes<'_>,
         after: Option<&[u8]>,
-    ) -> Result<u64, RunFault<'a>>
+    ) -> Result<Tally, RunFault<'a>>
         requires { IfSome after (λ rest. length rest.now + 2 < 2 ^ 64) }
         ensures told { (given : OutcomesOf) → GivesOutcomes first.now given
             → (reasons : SubjectOf → ReasonsOf) → JudgesAs self.old.judge reasons
-            → Told reasons self.old.judge.shown name.now 0
+            → Told reasons self.old.judge.shown name.now none_yet
             (placed_from 1 (given ∷ read_all fronts (lines_left after.entry))) result
             self.old.run.printer self.new.run.printer self.old.counts self.new.counts }
         ensures judge { self.new.judge ≡ self.old.judge }
     {
-        let unread = self.say_all(Location { name, number: 1 }, 0, first)?;
+        let tally = self.say_all(Location { name, number: 1 }, Tally::NONE, first)?;
         match after {
-            None => Ok(unread),
-            Some(rest) => self.audit_rest(Location { name, number: 1 }, fronts, unread, rest),
+            None => Ok(tally),
+            Some(rest) => self.audit_rest(Location { name, number: 1 }, fronts, tally, rest),
         }
     }
 
@@ -140,26 +137,26 @@ impl<'q, 'w, W: Sink> Auditor<'q, 'w, W> {
         &mut self,
         location: Location<'a>,
         fronts: Fronts,
-        unread: u64,
+        tally: Tally,
         text: &[u8],
-    ) -> Result<u64, RunFault<'a>>
+    ) -> Result<Tally, RunFault<'a>>
         requires { location.number + length text.now + 1 < 2 ^ 64 }
         ensures told { (reasons : SubjectOf → ReasonsOf) → JudgesAs self.old.judge reasons
-            → Told reasons self.old.judge.shown location.entry.name.now unread
+            → Told reasons self.old.judge.shown location.entry.name.now tally
             (placed_from (location.entry.number + 1)
             (read_all fronts (slice_split is_newline text.now))) result self.old.run.printer
             self.new.run.printer self.old.counts self.new.counts }
         ensures judge { self.new.judge ≡ self.old.judge }
     {
         let Location { name, mut number } = location;
-        let mut unread = unread;
+        let mut tally = tally;
         let mut rest = text;
         loop {
             let (line, after) = split_line(rest);
             number += 1;
-            unread = self.say_line(Location { name, number }, fronts, unread, line)?;
+            tally = self.say_line(Location { name, number }, fronts, tally, line)?;
             let Some(after) = after else {
-                return Ok(unread);
+                return Ok(tally);
             };
             rest = after;
         }
@@ -170,17 +167,17 @@ impl<'q, 'w, W: Sink> Auditor<'q, 'w, W> {
         &mut self,
         location: Location<'a>,
         fronts: Fronts,
-        unread: u64,
+        tally: Tally,
         line: &[u8],
-    ) -> Result<u64, RunFault<'a>>
+    ) -> Result<Tally, RunFault<'a>>
         ensures told { (reasons : SubjectOf → ReasonsOf) → JudgesAs self.old.judge reasons
-            → Told reasons self.old.judge.shown location.entry.name.now unread
+            → Told reasons self.old.judge.shown location.entry.name.now tally
             (place_all location.entry.number (outcomes_of fronts line.now)) result
             self.old.run.printer self.new.run.printer self.old.counts self.new.counts }
         ensures judge { self.new.judge ≡ self.old.judge }
     {
         match read_outcomes(self.run.alloc, fronts, line) {
-            Ok(read) => self.say_all(location, unread, &read),
+            Ok(read) => self.say_all(location, tally, &read),
             Err(_) => Err(RunFault::whole(location.name, Cause::NoMemory)),
         }
     }
@@ -189,66 +186,66 @@ impl<'q, 'w, W: Sink> Auditor<'q, 'w, W> {
     fn say_all<'a>(
         &mut self,
         location: Location<'a>,
-        unread: u64,
+        tally: Tally,
         read: &Outcomes<'_>,
-    ) -> Result<u64, RunFault<'a>>
+    ) -> Result<Tally, RunFault<'a>>
         ensures told { (given : OutcomesOf) → GivesOutcomes read.now given
             → (reasons : SubjectOf → ReasonsOf) → JudgesAs self.old.judge reasons
-            → Told reasons self.old.judge.shown location.entry.name.now unread
+            → Told reasons self.old.judge.shown location.entry.name.now tally
             (place_all location.entry.number given) result self.old.run.printer
             self.new.run.printer self.old.counts self.new.counts }
         ensures judge { self.new.judge ≡ self.old.judge }
     {
-        let unread = self.say(location, unread, &read.first)?;
+        let tally = self.say(location, tally, &read.first)?;
         match &read.second {
-            None => Ok(unread),
-            Some(second) => self.say(location, unread, second),
+            None => Ok(tally),
+            Some(second) => self.say(location, tally, second),
         }
     }
 
-    // Prints the finding of an outcome, if it is to be printed, and counts it. `unread` is the
-    // number of lines of the file that were not read before it.
+    // Prints the finding of an outcome, if it is to be printed, and counts it. Before it the file
+    // had lines of these numbers.
     fn say<'a>(
         &mut self,
         location: Location<'a>,
-        unread: u64,
+        tally: Tally,
         outcome: &Outcome<'_>,
-    ) -> Result<u64, RunFault<'a>>
+    ) -> Result<Tally, RunFault<'a>>
         ensures told { (given : OutcomeOf) → GivesOutcome outcome.now given
             → (reasons : SubjectOf → ReasonsOf) → JudgesAs self.old.judge reasons
-            → Told reasons self.old.judge.shown location.entry.name.now unread
+            → Told reasons self.old.judge.shown location.entry.name.now tally
             (place location.entry.number given ∷ []) result self.old.run.printer
             self.new.run.printer self.old.counts self.new.counts }
         ensures judge { self.new.judge ≡ self.old.judge }
     {
-        if is_beyond(unread, outcome) {
-            self.counts = self.counts.with(LineKind::Unread);
-            return Ok(unread.saturating_add(1));
-        }
-        let kind = self.say_judged(location, outcome)?;
+        let shown = tally.within(self.judge.shown);
+        let kind = self.say_judged(location, shown, outcome)?;
         self.counts = self.counts.with(kind);
-        Ok(unread_after(unread, outcome))
+        Ok(tally.with(kind))
     }
 
     // Prints the finding of an outcome, if it is to be printed, and returns its kind.
     fn say_judged<'a>(
         &mut self,
         location: Location<'a>,
+        shown: Shown,
         outcome: &Outcome<'_>,
     ) -> Result<LineKind, RunFault<'a>>
         ensures said { (given : OutcomeOf) → GivesOutcome outcome.now given
             → (reasons : SubjectOf → ReasonsOf) → JudgesAs self.old.judge reasons
-            → SaysLine reasons self.old.judge.shown location.entry.name.now
+            → SaysLine reasons shown location.entry.name.now
             (place location.entry.number given) result self.old.run.printer
             self.new.run.printer }
         ensures judge { self.new.judge ≡ self.old.judge }
         ensures counts { self.new.counts ≡ self.old.counts }
     {
         let alloc = self.run.alloc;
-        let made = match self
-            .judge
-            .judge(alloc, location, outcome, &mut self.run.line)
-        {
+        let judge = Judge {
+            list: self.judge.list,
+            canaries: self.judge.canaries,
+            shown,
+        };
+        let made = match judge.judge(alloc, location, outcome, &mut self.run.line) {
             Ok(made) => made,
             Err(_) => return Err(RunFault::whole(location.name, Cause::NoMemory)),
         };
@@ -257,32 +254,27 @@ impl<'q, 'w, W: Sink> Auditor<'q, 'w, W> {
     }
 
     // Audits a private key file, and the lines that are read beside its key.
-    fn audit_private<'a>(&mut self, name: &'a str, text: &[u8]) -> Result<u64, RunFault<'a>>
+    fn audit_private<'a>(&mut self, name: &'a str, text: &[u8]) -> Result<Tally, RunFault<'a>>
         ensures told { (reasons : SubjectOf → ReasonsOf) → JudgesAs self.old.judge reasons
-            → Told reasons self.old.judge.shown name.now 0 (private_lines name.now text.now)
+            → Told reasons self.old.judge.shown name.now none_yet (private_lines name.now text.now)
             result self.old.run.printer self.new.run.printer self.old.counts self.new.counts }
         ensures judge { self.new.judge ≡ self.old.judge }
     {
-        let unread = self.say_private(name, text)?;
+        let tally = self.say_private(name, text)?;
         let fronts = Fronts::of(name.as_bytes());
         if is_read_by_lines(name.as_bytes()) {
-            return self.audit_rest(Location { name, number: 0 }, fronts, unread, text);
+            return self.audit_rest(Location { name, number: 0 }, fronts, tally, text);
         }
         match behind_private(text) {
-            None => Ok(unread),
-            Some((number, rest)) => self.audit_rest(
-                Location { name, number },
-                fronts,
-                unread,
-                rest,
-            ),
+            None => Ok(tally),
+            Some((number, rest)) => self.audit_rest(Location { name, number }, fronts, tally, rest),
         }
     }
 
     // Audits the key of a private key file.
-    fn say_private<'a>(&mut self, name: &'a str, text: &[u8]) -> Result<u64, RunFault<'a>>
+    fn say_private<'a>(&mut self, name: &'a str, text: &[u8]) -> Result<Tally, RunFault<'a>>
         ensures told { (reasons : SubjectOf → ReasonsOf) → JudgesAs self.old.judge reasons
-            → Told reasons self.old.judge.shown name.now 0
+            → Told reasons self.old.judge.shown name.now none_yet
             (place 1 (private_outcome (opened_at text.now)) ∷ []) result self.old.run.printer
             self.new.run.printer self.old.counts self.new.counts }
         ensures judge { self.new.judge ≡ self.old.judge }
@@ -291,40 +283,64 @@ impl<'q, 'w, W: Sink> Auditor<'q, 'w, W> {
         match open_private(self.run.alloc, text) {
             Ok(Ok(Private { blob, comment })) => {
                 let outcome = checked(None, false, &[], blob, comment.as_slice());
-                self.say(location, 0, &outcome)
+                self.say(location, Tally::NONE, &outcome)
             }
-            Ok(Err(fault)) => self.say(location, 0, &Outcome::Unread(Why::Private(fault))),
+            Ok(Err(fault)) => {
+                self.say(location, Tally::NONE, &Outcome::Unread(Why::Private(fault)))
+            }
             Err(_) => Err(RunFault::whole(name, Cause::NoMemory)),
         }
     }
 
     // Prints that a file is not read, if it is to be printed, and counts it.
-    fn say_whole<'a>(&mut self, name: &'a str, why: Why) -> Result<u64, RunFault<'a>>
+    fn say_whole<'a>(&mut self, name: &'a str, why: Why) -> Result<Tally, RunFault<'a>>
         ensures told { (reasons : SubjectOf → ReasonsOf) → JudgesAs self.old.judge reasons
-            → Told reasons self.old.judge.shown name.now 0 (whole why) result
+            → Told reasons self.old.judge.shown name.now none_yet (whole why) result
             self.old.run.printer self.new.run.printer self.old.counts self.new.counts }
         ensures judge { self.new.judge ≡ self.old.judge }
     {
-        self.say(Location { name, number: 0 }, 0, &Outcome::Unread(why))
+        self.say(
+            Location { name, number: 0 },
+            Tally::NONE,
+            &Outcome::Unread(why),
+        )
     }
 
-    // Prints how many lines of a file are not read beyond those that were printed, if there are
-    // any.
-    fn say_rest<'a>(&mut self, name: &'a str, unread: u64) -> Result<(), RunFault<'a>>
-        ensures said { (reasons : SubjectOf → ReasonsOf) → JudgesAs self.old.judge reasons
-            → Carries (rest_items reasons self.old.judge.shown name.now unread) result
+    // Prints of each kind how many lines a file has beyond those that were printed one by one, if
+    // there are any.
+    fn say_rest<'a>(&mut self, name: &'a str, tally: Tally) -> Result<(), RunFault<'a>>
+        ensures said { Carries (rest_items self.old.judge.shown name.now tally) result
             self.old.run.printer self.new.run.printer }
         ensures judge { self.new.judge ≡ self.old.judge }
         ensures counts { self.new.counts ≡ self.old.counts }
     {
-        if unread <= MOST_UNREAD {
-            return Ok(());
+        self.say_more(name, LineKind::Revoked, tally.revoked)?;
+        self.say_more(name, LineKind::Unread, tally.unread)?;
+        self.say_more(name, LineKind::Fine, tally.fine)
+    }
+
+    // Prints how many lines of this kind a file has beyond those that were printed one by one.
+    fn say_more<'a>(
+        &mut self,
+        name: &'a str,
+        kind: LineKind,
+        lines: u64,
+    ) -> Result<(), RunFault<'a>>
+        ensures said { Carries (more_item self.old.judge.shown name.now kind lines ∷ []) result
+            self.old.run.printer self.new.run.printer }
+        ensures judge { self.new.judge ≡ self.old.judge }
+        ensures counts { self.new.counts ≡ self.old.counts }
+    {
+        let shown = self.judge.shown;
+        let said = says(shown, kind) && MOST < lines;
+        let more = More {
+            kind,
+            lines: lines.saturating_sub(MOST),
+        };
+        if said && write_more(self.run.alloc, shown.form, name, more, &mut self.run.line).is_err() {
+            return Err(RunFault::whole(name, Cause::NoMemory));
         }
-        let rest = Outcome::Unread(Why::More(unread - MOST_UNREAD));
-        match self.say_judged(Location { name, number: 0 }, &rest) {
-            Ok(_) => Ok(()),
-            Err(stop) => Err(stop),
-        }
+        say_made(&mut self.run, name, said)
     }
 
     /// Prints the last object of an audit that was not stopped: the counts of files and of lines,
@@ -393,17 +409,5 @@ fn behind_private(text: &[u8]) -> Option<(u64, &[u8])>
             return Some((passed, rest_of_text));
         }
         rest = rest_of_text;
-    }
-}
-
-/// The text without a byte order mark at its start.
-#[tactic(auto, unfolding(crate::specs::Outcome::without_mark))]
-pub(crate) fn without_mark(text: &[u8]) -> &[u8]
-    ensures { result.now ≡ without_mark text.now }
-{
-    if text.starts_with(ORDER_MARK) {
-        &text[3..]
-    } else {
-        text
     }
 }

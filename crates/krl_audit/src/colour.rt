@@ -9,9 +9,9 @@ use std::alloc::AllocError;
 /// The word of a finding, between colons, in a colour or not.
 #[derive(Clone, Copy)]
 pub(crate) struct Mark {
-    coloured: bool,
-    colour: &'static [u8],
-    word: &'static [u8],
+    pub(crate) coloured: bool,
+    pub(crate) colour: &'static [u8],
+    pub(crate) word: &'static [u8],
 }
 
 impl Printed for Mark {

@@ -65,8 +65,8 @@ impl Counts {
     }
 }
 
-// A count, and one more if it includes this line.
-fn one_more(count: u64, is_one: bool) -> u64
+/// A count, and one more if it includes this line.
+pub(crate) fn one_more(count: u64, is_one: bool) -> u64
     ensures { result ≡ one_more count is_one }
 {
     if is_one {

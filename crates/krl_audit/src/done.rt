@@ -30,6 +30,10 @@ pub struct FileCounts {
     pub same: u64,
     /// The number of files of directories that were skipped by their names.
     pub skipped: u64,
+    /// The number of names of directories that were skipped since the command excludes them.
+    pub excluded: u64,
+    /// The number of directories that were skipped since they are on other file systems.
+    pub elsewhere: u64,
 }
 
 impl FileCounts {
@@ -38,6 +42,8 @@ impl FileCounts {
         audited: 0,
         same: 0,
         skipped: 0,
+        excluded: 0,
+        elsewhere: 0,
     };
 }
 
@@ -95,6 +101,8 @@ fn put_name_counts(out: &mut LineWriter, files: FileCounts) -> Result<(), AllocE
     ensures { OnOk result (out.new ≡ out.old ++ fields_tokens (name_count_fields files)) }
 {
     put_number(out, "skipped", files.skipped)?;
+    put_number(out, "excluded", files.excluded)?;
+    put_number(out, "elsewhere", files.elsewhere)?;
     put_number(out, "same", files.same)?;
     Ok(())
 }

@@ -7,16 +7,16 @@ use crate::why::{Refusal, Why};
 use run_faults::FileFault;
 use std::alloc::{AllocError, Global};
 
-/// The fault, by its family, its number and its name. Lines that are only counted have none.
+/// The fault, by its family, its number and its name.
 pub(crate) fn fault_text(alloc: Global, why: Why) -> Result<String, AllocError>
     ensures { IfOk result (λ text. string_bytes text ≡ why_fault why) }
 {
     match why {
         Why::Key(cause) => cause.to_string(alloc),
+        Why::ZeroInId => String::from_str(alloc, "audit 2 ZeroInId"),
         Why::Private(fault) => fault.to_string(alloc),
         Why::File(refusal) => refusal_fault(refusal).to_string(alloc),
         Why::NoKeys(_) => FileFault::NoKeys.to_string(alloc),
-        Why::More(_) => Ok(String::new(alloc)),
     }
 }
 
@@ -28,7 +28,8 @@ pub fn refusal_fault(refusal: Refusal) -> FileFault
     match refusal {
         Refusal::Missing | Refusal::Denied | Refusal::Irregular | Refusal::Loop | Refusal::Open =>
             FileFault::Open,
-        Refusal::DirectoryLink | Refusal::LongName | Refusal::Slow => FileFault::Open,
+        Refusal::DirectoryLink | Refusal::LongName => FileFault::Open,
+        Refusal::Slow | Refusal::Kernel => FileFault::Open,
         Refusal::NoFile => FileFault::NoKeys,
         Refusal::Read => FileFault::Read,
         Refusal::TooLong => FileFault::TooLong,

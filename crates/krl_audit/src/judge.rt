@@ -3,7 +3,7 @@
 ghost use Rattle.std.specs.Prelude.{◌≡◌, IfOk};
 ghost use Rattle.krl_types.specs.Subject.{Subject as SubjectOf};
 ghost use Rattle.krl_entries.specs.declared.reasons.Reasons.{Reasons as ReasonsOf};
-ghost use Rattle.krl_audit.specs.Audit.{IsMade, JudgesAs, key_kind, says};
+ghost use Rattle.krl_audit.specs.Audit.{IsMade, JudgesAs, judged_reasons, key_kind, says};
 ghost use Rattle.krl_audit.specs.Outcome.{GivesOutcome, Outcome as OutcomeOf, Unread};
 ghost use Rattle.krl_audit.specs.declared.outcome.Outcome.TheVariants.{Key};
 
@@ -13,7 +13,8 @@ use crate::said::{say_key, say_unread};
 use crate::text::{Location, Verdict};
 use crate::why::Why;
 use key_text::Marker;
-use krl_entries::Revocations;
+use krl_entries::{Reason, Reasons, Revocations};
+use krl_types::Subject;
 use run_faults::KeyCause;
 use span_sets::Held;
 use ssh_cert::read_any;
@@ -48,6 +49,8 @@ pub struct Shown {
 pub struct Judge<'q> {
     /// The list.
     pub list: &'q Revocations<Held>,
+    /// Keys that the list revokes on purpose: they are no findings.
+    pub canaries: Option<&'q Revocations<Held>>,
     /// Which findings are printed.
     pub shown: Shown,
 }
@@ -128,7 +131,7 @@ impl<'q> Judge<'q> {
             ),
         };
         let subject = any.subject(alloc)?;
-        let reasons = self.list.reasons(&subject);
+        let reasons = self.reasons(&subject);
         let kind = key_kind(found.marker, reasons.any());
         let said = says(self.shown, kind);
         if said {
@@ -140,6 +143,16 @@ impl<'q> Judge<'q> {
             say_key(alloc, self.shown.form, location, &verdict, line)?;
         }
         Ok(Made { kind, said })
+    }
+
+    // Why the list revokes a key, unless it is a canary.
+    fn reasons(&self, subject: &Subject<'_>) -> Reasons
+        ensures { result ≡ judged_reasons self.now subject.now }
+    {
+        match self.canaries {
+            Some(canaries) if canaries.reasons(subject).has(Reason::Key) => Reasons { bits: 0 },
+            Some(_) | None => self.list.reasons(subject),
+        }
     }
 }
 
@@ -154,8 +167,8 @@ fn key_kind(marker: Option<Marker>, revoked: bool) -> LineKind
     }
 }
 
-// Returns true if a line of this kind is printed.
-fn says(shown: Shown, kind: LineKind) -> bool
+/// Returns true if a line of this kind is printed.
+pub(crate) fn says(shown: Shown, kind: LineKind) -> bool
     ensures { result ≡ says shown kind }
 {
     match kind {

@@ -3,7 +3,6 @@
 ghost use Rattle.std.specs.Prelude.{◌≡◌, IfOk};
 ghost use Rattle.krl_audit.specs.Keyless.{keyless_lines};
 
-use crate::auditor::without_mark;
 use crate::front::Fronts;
 use crate::outcome::read_outcomes;
 use crate::survey::keyless;
@@ -19,7 +18,6 @@ pub fn keyless_lines(alloc: Global, name: &str, text: &[u8]) -> Result<Option<u6
         return Ok(None);
     }
     let fronts = Fronts::of(name.as_bytes());
-    let text = without_mark(text);
     let (line, _after) = split_line(text);
     let first = read_outcomes(alloc, fronts, line)?;
     keyless(alloc, fronts, &first, text)

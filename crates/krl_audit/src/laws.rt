@@ -18,12 +18,14 @@ ghost use Rattle.krl_entries.specs.declared.reasons.Reasons.{Reasons};
 ghost use Rattle.json_lines.specs.ReadBack.{IsReadBack};
 ghost use Rattle.krl_audit.specs.Audit.{kind_of};
 ghost use Rattle.krl_audit.specs.Colour.{IsCount, IsPainted};
+ghost use Rattle.krl_audit.specs.More.{more_line, more_object};
 ghost use Rattle.krl_audit.specs.Objects.{AreCounts, done_object, key_object, unread_object};
 ghost use Rattle.krl_audit.specs.Outcome.{Empty, Found, HasFound, Key, Unread, asked_outcome};
-ghost use Rattle.krl_audit.specs.Outcome.{hosts_of, one, options_of, outcomes_of};
+ghost use Rattle.krl_audit.specs.Outcome.{has_zero_in_id, hosts_of, one, options_of, outcomes_of};
 ghost use Rattle.krl_audit.specs.Same.{same_object};
 ghost use Rattle.krl_audit.specs.Text.{key_line, unread_line};
 ghost use Rattle.krl_audit.specs.declared.counts.Counts.{Counts as CountsOf};
+ghost use Rattle.krl_audit.specs.declared.counts.LineKind.{LineKind as LineKindOf};
 ghost use Rattle.krl_audit.specs.declared.counts.LineKind.TheVariants as kinds;
 ghost use Rattle.krl_audit.specs.declared.done.FileCounts.{FileCounts as FileCountsOf};
 ghost use Rattle.krl_audit.specs.declared.front.Fronts.{Fronts as FrontsOf};
@@ -72,12 +74,13 @@ pub fn lines_by_what_is_spelled()
 }
 
 /// A line of a file of which nobody knows whether it is of authorized keys or of known hosts has
-/// the key that it spells as either of them.
+/// the key that it spells as either of them, unless the key ID of a certificate has a zero byte.
 pub fn both_readings_are_found()
     ensures { (text word blob comment : List ℕ) (asked : Subject) → has_key text ≡ true
         → marker_of text ≡ None
         → IsKeyLine text word blob comment ⊎ IsHostLine text word blob comment
-        → IsSubject blob asked → HasFound (outcomes_of fronts.Either text) blob }
+        → IsSubject blob asked → has_zero_in_id asked.cert ≡ false
+        → HasFound (outcomes_of fronts.Either text) blob }
 {
     line_read_where_spelled();
     host_line_read_where_spelled();
@@ -98,7 +101,9 @@ pub fn objects_are_read_back()
     ensures key { (name : List ℕ) (number : ℕ) (found : Found) (all : Reasons)
         → number < 2 ^ 64 → IsReadBack (key_object name number found all) }
     ensures unread { (name : List ℕ) (number : ℕ) (why : WhyOf) → number < 2 ^ 64
-        → IsCount why → IsReadBack (unread_object name number why) }
+        → IsReadBack (unread_object name number why) }
+    ensures more { (name : List ℕ) (kind : LineKindOf) (lines : ℕ) → lines < 2 ^ 64
+        → IsReadBack (more_object name kind lines) }
     ensures same { (name : List ℕ) → IsReadBack (same_object name) }
     ensures done { (files : FileCountsOf) (counts : CountsOf) (list : ListFactsOf)
         → AreCounts files counts → IsReadBack (done_object files counts list) }
@@ -117,6 +122,8 @@ pub fn one_word_is_in_colour()
     ensures unread { (name : List ℕ) (number : ℕ) (why : WhyOf) → number < 2 ^ 64
         → IsCount why
         → IsPainted (unread_line false name number why) (unread_line true name number why) }
+    ensures more { (name : List ℕ) (kind : LineKindOf) (lines : ℕ) → lines < 2 ^ 64
+        → IsPainted (more_line false name kind lines) (more_line true name kind lines) }
 {
     string_is_read_back();
 }

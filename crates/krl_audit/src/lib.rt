@@ -13,6 +13,7 @@ mod front;
 mod judge;
 mod keyless;
 pub mod laws;
+mod more;
 mod objects;
 mod outcome;
 mod reason_values;
@@ -20,8 +21,8 @@ mod reasons;
 mod said;
 mod same;
 mod survey;
+mod tally;
 mod text;
-mod unread;
 mod visible;
 mod why;
 

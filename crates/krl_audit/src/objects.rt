@@ -4,7 +4,7 @@ ghost use Rattle.std.specs.Prelude.{◌≡◌, ◌∷◌, ◌++◌, [], OnOk};
 ghost use Rattle.key_text.specs.Marker.{marker_word};
 ghost use Rattle.krl_entries.specs.Reasons.{any_reason};
 ghost use Rattle.json_lines.specs.Field.{fields_tokens, json_line};
-ghost use Rattle.krl_audit.specs.Objects.{cause_field, cert_field, cert_fields, front_fields};
+ghost use Rattle.krl_audit.specs.Objects.{cert_field, cert_fields, front_fields};
 ghost use Rattle.krl_audit.specs.Objects.{front_word};
 ghost use Rattle.krl_audit.specs.Objects.{key_fields, key_object, line_fields, list_fields};
 ghost use Rattle.krl_audit.specs.Objects.{marker_fields, location_fields, status_word};
@@ -81,24 +81,11 @@ fn put_why(alloc: Global, out: &mut LineWriter, why: Why) -> Result<(), AllocErr
 {
     let mut words = Vec::new(alloc);
     put!(&mut words; Told { alloc, why })?;
+    let fault = fault_text(alloc, why)?;
     put_word(out, "status", "unread")?;
-    put_cause(alloc, out, why)?;
+    put_word(out, "fault", fault.as_str())?;
     put_text(alloc, out, "why", &words)?;
     Ok(())
-}
-
-// Writes the fault, or the number of lines that are only counted.
-#[tactic(auto, unfolding(json_lines::specs::Field::fields_tokens))]
-fn put_cause(alloc: Global, out: &mut LineWriter, why: Why) -> Result<(), AllocError>
-    ensures { OnOk result (out.new ≡ out.old ++ fields_tokens (cause_field why ∷ [])) }
-{
-    match why {
-        Why::More(lines) => put_number(out, "count", lines),
-        Why::Key(_) | Why::Private(_) | Why::File(_) | Why::NoKeys(_) => {
-            let fault = fault_text(alloc, why)?;
-            put_word(out, "fault", fault.as_str())
-        }
-    }
 }
 
 // Writes the type of a key, the fingerprint of its plain key, and its comment.

@@ -1,11 +1,13 @@
 //! The outcomes of each line of a file of keys.
 
 ghost use Rattle.std.specs.Prelude.{◌≡◌, IfOk, None, option_map};
+ghost use Rattle.ssh_cert.specs.AnyKey.{asked_of};
 ghost use Rattle.ssh_cert.specs.SubjectReading.{subject_of};
 ghost use Rattle.key_text.specs.ContainerReading.{private_at};
-ghost use Rattle.krl_audit.specs.Outcome.{GivesOpened, GivesOutcome, GivesOutcomes, SaysFault};
+ghost use Rattle.krl_audit.specs.Outcome.{GivesOpened, GivesOutcome, GivesOutcomes, SaysWhy};
 ghost use Rattle.krl_audit.specs.Outcome.{asked_outcome, bare_outcomes, by_either, half_opened};
-ghost use Rattle.krl_audit.specs.Outcome.{is_bare, is_same, is_same_part, merged, one};
+ghost use Rattle.krl_audit.specs.Outcome.{has_zero, has_zero_in_id, is_bare, is_same};
+ghost use Rattle.krl_audit.specs.Outcome.{is_same_part, merged, one};
 ghost use Rattle.krl_audit.specs.Outcome.{opened_at};
 ghost use Rattle.krl_audit.specs.Outcome.{Outcome as OutcomeOf, outcomes_of, part_outcome};
 
@@ -16,7 +18,7 @@ use key_text::{
     key_part, read_part, read_private, read_public_half, split_marker,
 };
 use run_faults::KeyCause;
-use ssh_cert::{SubjectFault, read_any};
+use ssh_cert::{AnyKey, read_any};
 use ssh_wire::Bytes;
 use std::alloc::{AllocError, Global};
 
@@ -208,7 +210,7 @@ pub(crate) fn checked<'a>(
     ensures { GivesOutcome result
         (asked_outcome marker hosts front.now blob comment.now (subject_of blob)) }
 {
-    match fault_of(blob.as_slice()) {
+    match why_of(blob.as_slice()) {
         None => Outcome::Key(Found {
             marker,
             hosts,
@@ -216,18 +218,41 @@ pub(crate) fn checked<'a>(
             blob,
             comment,
         }),
-        Some(fault) => Outcome::Unread(Why::Key(KeyCause::Subject(fault))),
+        Some(why) => Outcome::Unread(why),
     }
 }
 
 // Why a list cannot be queried for the bytes.
-fn fault_of(blob: &[u8]) -> Option<SubjectFault>
-    ensures { SaysFault result (subject_of blob.now) }
+fn why_of(blob: &[u8]) -> Option<Why>
+    ensures { SaysWhy result (subject_of blob.now) }
 {
     match read_any(blob) {
-        Ok(_) => None,
-        Err(fault) => Some(fault),
+        Ok(any) => {
+            if has_zero_in_id(&any) {
+                Some(Why::ZeroInId)
+            } else {
+                None
+            }
+        }
+        Err(fault) => Some(Why::Key(KeyCause::Subject(fault))),
     }
+}
+
+// Returns true if the key ID of a certificate has a zero byte.
+fn has_zero_in_id(any: &AnyKey<'_>) -> bool
+    ensures { result ≡ has_zero_in_id (asked_of any.now).cert }
+{
+    match any {
+        AnyKey::Plain(_) => false,
+        AnyKey::Certified(cert) => has_zero(cert.key_id()),
+    }
+}
+
+// Returns true if a text has a zero byte.
+fn has_zero(text: &[u8]) -> bool
+    ensures { result ≡ has_zero text.now }
+{
+    text.iter().any(|byte| *byte == 0)
 }
 
 /// The public key of a private key file, with its comment if it is not encrypted.

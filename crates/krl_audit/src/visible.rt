@@ -3,7 +3,9 @@
 ghost use Rattle.std.specs.Prelude.{◌≡◌, ◌++◌, ◌<◌, IfOk, OnOk, false, string_bytes};
 ghost use Rattle.std.specs.List.{flat_map};
 ghost use Rattle.std.specs.Str.{chars};
-ghost use Rattle.krl_audit.specs.Visible.{visible, visible_byte, visible_bytes, visible_char};
+ghost use Rattle.ssh_cert.specs.Escape.{numbered};
+ghost use Rattle.krl_audit.specs.Visible.{is_bidi_or_line_end, visible, visible_byte};
+ghost use Rattle.krl_audit.specs.Visible.{visible_bytes, visible_char};
 
 use line_pieces::Printed;
 use ssh_cert::push_numbered;
@@ -23,8 +25,10 @@ impl<'a> Printed for Visible<'a> {
 }
 
 // Appends a text with each control character as `\x` and two hexadecimal digits, also those from
-// 0x80 to 0x9f, which some terminals obey. In a text that is not UTF-8 each byte from 0x80 on is
-// shown in the same way. Between quotes a quote and a backslash have a backslash before them.
+// 0x80 to 0x9f, which some terminals obey. Each byte of Unicode's bidirectional controls and line
+// separators, with which one line looks like another one or like two, is shown in the same way, and
+// so is each byte from 0x80 on of a text that is not UTF-8. Between quotes a quote and a backslash
+// have a backslash before them.
 #[tactic(auto, unfolding(crate::specs::Visible::visible))]
 fn push_visible(out: &mut Vec<u8>, text: &[u8], quoted: bool) -> Result<(), AllocError>
     ensures { OnOk result (out.new.items ≡ out.old.items ++ visible quoted text.now) }
@@ -75,11 +79,37 @@ fn push_char(out: &mut Vec<u8>, character: char, quoted: bool) -> Result<(), All
     if character.is_control() {
         return push_numbered(out, character as u32 as u8);
     }
+    if is_bidi_or_line_end(character) {
+        let mut bytes = [0; 4];
+        return push_each(out, character.encode_utf8(&mut bytes).as_bytes());
+    }
     if quoted && (character == '"' || character == '\\') {
         return out.extend_from_slice(&[b'\\', character as u32 as u8]);
     }
     let mut bytes = [0; 4];
     out.extend_from_slice(character.encode_utf8(&mut bytes).as_bytes())
+}
+
+// Returns true for Unicode's bidirectional controls, and for its line and paragraph separators.
+fn is_bidi_or_line_end(character: char) -> bool
+    ensures { result ≡ is_bidi_or_line_end character }
+{
+    let code = character as u32;
+    code == 0x61c
+        || code == 0x200e
+        || code == 0x200f
+        || (0x2028 <= code && code < 0x202f)
+        || (0x2066 <= code && code < 0x206a)
+}
+
+// Appends each byte by its number.
+fn push_each(out: &mut Vec<u8>, bytes: &[u8]) -> Result<(), AllocError>
+    ensures { OnOk result (out.new.items ≡ out.old.items ++ flat_map numbered bytes.now) }
+{
+    for byte in bytes {
+        push_numbered(out, *byte)?;
+    }
+    Ok(())
 }
 
 // Appends a byte of a text that is not UTF-8.

@@ -1,7 +1,7 @@
 //! Why a line or a file is not read.
 
 ghost use Rattle.std.specs.Prelude.{◌≡◌};
-ghost use Rattle.krl_audit.specs.Why.{line_why, more_words, refusal_why, why_text};
+ghost use Rattle.krl_audit.specs.Why.{line_why, refusal_why, why_text};
 
 use key_text::{LineFault, PrivateFault};
 use line_pieces::{Printed, Words, put};
@@ -27,6 +27,8 @@ pub enum Refusal {
     LongName,
     /// Opening another file of its owner took long, and opening it may take as long.
     Slow,
+    /// It is on a file system of the kernel, where reading may wait or change something.
+    Kernel,
     /// It cannot be opened for another reason.
     Open,
     /// It cannot be read to its end.
@@ -40,14 +42,14 @@ pub enum Refusal {
 pub enum Why {
     /// A line has no key, or none that is known.
     Key(KeyCause),
+    /// The key ID of a certificate has a zero byte.
+    ZeroInId,
     /// A private key file is truncated or misspelt.
     Private(PrivateFault),
     /// A file is not read.
     File(Refusal),
     /// A file has no key, and this number of lines that are not keys.
     NoKeys(u64),
-    /// This number of lines of a file is not read, beyond those that are reported one by one.
-    More(u64),
 }
 
 /// Why a line or a file is not read, in words for people.
@@ -67,25 +69,14 @@ impl Printed for Told {
                 let said = fault.to_string(self.alloc)?;
                 put!(out; b"the key is cut or misspelt: ", Words(said.as_bytes()))
             }
+            Why::ZeroInId => put!(out; b"its key ID has a zero byte"),
             Why::Private(fault) => {
                 let said = fault.to_string(self.alloc)?;
                 put!(out; b"the private key file is cut or misspelt: ", Words(said.as_bytes()))
             }
             Why::File(refusal) => put!(out; Words(refusal_words(refusal))),
             Why::NoKeys(lines) => put!(out; b"none of its ", lines, b" lines is a key"),
-            Why::More(lines) => put!(out; b"and ", lines, Words(more_words(lines == 1))),
         }
-    }
-}
-
-// The words behind the number of lines that are not reported one by one.
-fn more_words(one: bool) -> &'static [u8]
-    ensures { result.now ≡ more_words one }
-{
-    if one {
-        b" more line is unread"
-    } else {
-        b" more lines are unread"
     }
 }
 
@@ -114,6 +105,7 @@ pub fn refusal_words(refusal: Refusal) -> &'static [u8]
         Refusal::NoFile => b"no file in this directory is read by its name",
         Refusal::LongName => b"its name has more than 4,096 bytes",
         Refusal::Slow => b"opening another file of its owner took too long",
+        Refusal::Kernel => b"it is on a file system of the kernel",
         Refusal::Open => b"it cannot be opened",
         Refusal::Read => b"it cannot be read to its end",
         Refusal::TooLong => b"it has more than 16 MiB",

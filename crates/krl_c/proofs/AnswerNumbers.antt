@@ -5,7 +5,8 @@ use Rattle.krl_c.proofs.Common.{◌∙◌, ◌≡◌, answered, Answers, Answers
 use Rattle.krl_c.proofs.Common.{AnswersOfLine, AnswersStored, ap, Bool, Entry, false, false≢true, inl}
 use Rattle.krl_c.proofs.Common.{inr, IsRefusal, IsSubjectFault, line_number, line_ran_out, LineFault}
 use Rattle.krl_c.proofs.Common.{List, list_number, list_ran_out, loaded, names, negsuc, no_blob, no_line}
-use Rattle.krl_c.proofs.Common.{no_list, no_memory, not_loaded_for, other_authority, plain_number}
+use Rattle.krl_c.proofs.Common.{no_list, no_memory, not_loaded_for, other_names, plain_number}
+use Rattle.krl_c.proofs.Common.{blob_number, BlobFault, Incomparable, IsRefusedBlob, names_number}
 use Rattle.krl_c.proofs.Common.{pos, ran_out, refl, refusal_number, said, Says, spares, subject_number}
 use Rattle.krl_c.proofs.Common.{SubjectFault, subst, sym, true, ℕ, ℤ}
 use Rattle.krl_types.specs.Subject.{Subject}
@@ -24,11 +25,13 @@ use Rattle.ssh_cert.specs.declared.subject_fault.SubjectFault.TheVariants as sub
 use Rattle.krl_c.specs.Answer.{of_key as of_key_line}
 use Rattle.krl_c.specs.Any.{AnswersIf, AnswersPlain, no_plain, plain}
 use Rattle.krl_c.specs.Laws.{IsAnswer, IsReady}
-use Rattle.krl_c.specs.Number.{authority_number, cert_number}
+use Rattle.krl_c.specs.Number.{cert_number}
 use Rattle.krl_c.specs.Stored.{Loads}
 use Rattle.krl_c.specs.Why.{Explains, ExplainsBlob, explained}
 use Rattle.krl_c.specs.Why.{no_blob as unexplained_blob}
 use Rattle.krl_c.specs.Why.{ran_out as why_ran_out}
+use Rattle.krl_c.specs.declared.asked.BlobFault.TheVariants as blobs
+use Rattle.krl_openssh.specs.declared.authorities.Incomparable.TheVariants as incomparables
 use Rattle.krl_c.specs.declared.refusal.Refusal.{Refusal}
 use Rattle.krl_c.specs.declared.refusal.Refusal.TheVariants as refusals
 use Rattle.krl_c.specs.declared.stored.Stored.{Stored}
@@ -57,10 +60,14 @@ of_list : (fault : KrlFault) → NotRead fault → IsAnswer (list_number fault)
 of_list lists.Read is = absurd is
 of_list _ is = below _ refl
 
+of_names : (why : Incomparable) → IsAnswer (names_number why)
+of_names incomparables.Authority = below 115 refl
+of_names incomparables.KeyId = below 117 refl
+
 of_refusal : (list : List ℕ) (refusal : Refusal) → IsRefusal ⊥ list refusal → IsAnswer (refusal_number refusal)
 of_refusal list (refusals.Fault fault) (inl (is, why)) = subst (λ (f : KrlFault). IsAnswer (list_number f)) (sym is) (below 0 refl)
 of_refusal list (refusals.Fault fault) (inr first) = of_list fault (not_read list fault first)
-of_refusal list refusals.Authority other = below 115 refl
+of_refusal list (refusals.Incomparable why) other = of_names why
 
 of_plain : (fault : PlainFault) → IsAnswer (plain_number fault)
 of_plain plains.NoMemory = below 0 refl
@@ -100,6 +107,10 @@ of_subject : (blob : List ℕ) (fault : SubjectFault) → IsSubjectFault blob fa
 of_subject blob fault (no_key why other first is) = subst (λ (f : SubjectFault). IsAnswer (subject_number f)) (sym is) (of_key why)
 of_subject blob fault (no_certificate why named first is) = subst (λ (f : SubjectFault). IsAnswer (subject_number f)) (sym is) (of_certificate why (of_cert blob why named first))
 
+of_blob : (blob : List ℕ) (fault : BlobFault) → IsRefusedBlob blob fault → IsAnswer (blob_number fault)
+of_blob blob (blobs.Subject fault) first = of_subject blob fault first
+of_blob blob blobs.KeyId odd = below 409 refl
+
 -- ---- answers
 
 from : (number answer : ℤ) → answer ≡ number → IsAnswer number → IsAnswer answer
@@ -111,7 +122,7 @@ says entries asked answer (spares not is) = from (pos 0) answer is (not_below 0)
 
 pub for_blob : (entries : List Entry) (blob : List ℕ) (answer : ℤ) → AnswersBlob entries blob answer → IsAnswer answer
 for_blob entries blob answer (said asked subject is) = says entries asked answer is
-for_blob entries blob answer (no_blob fault first is) = from (subject_number fault) answer is (of_subject blob fault first)
+for_blob entries blob answer (no_blob fault first is) = from (blob_number fault) answer is (of_blob blob fault first)
 for_blob entries blob answer (ran_out asked is) = from no_memory answer is (below 0 refl)
 
 pub for_line : (entries : List Entry) (text : List ℕ) (answer : ℤ) → AnswersLine entries text answer → IsAnswer answer
@@ -121,12 +132,12 @@ for_line entries text answer (line_ran_out words is) = from no_memory answer is 
 
 for_reasons : (entries : List Entry) (blob : List ℕ) (answer : ℤ) → ExplainsBlob entries blob answer → IsAnswer answer
 for_reasons entries blob answer (explained asked bits subject has is) = from (pos bits) answer is (not_below bits)
-for_reasons entries blob answer (unexplained_blob fault first is) = from (subject_number fault) answer is (of_subject blob fault first)
+for_reasons entries blob answer (unexplained_blob fault first is) = from (blob_number fault) answer is (of_blob blob fault first)
 for_reasons entries blob answer (why_ran_out asked is) = from no_memory answer is (below 0 refl)
 
 by_list : {IsAsked : Type 0} {Told : List Entry → ℤ → Type 0} (list : List ℕ) (answer : ℤ) → ((entries : List Entry) → Told entries answer → IsAnswer answer) → AnswersBy IsAsked Told list answer → IsAnswer answer
 by_list list answer each (answered entries compared is) = each entries is
-by_list list answer each (other_authority odd is) = from authority_number answer is (below 115 refl)
+by_list list answer each (other_names why odd is) = from (names_number why) answer is (of_names why)
 by_list list answer each (no_list fault first is) = from (list_number fault) answer is (of_list fault (not_read list fault first))
 by_list list answer each (list_ran_out why is) = from no_memory answer is (below 0 refl)
 

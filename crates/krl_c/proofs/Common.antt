@@ -6,10 +6,15 @@ pub use Rattle.std.proofs.Common.{refl, Result, rules, SFits, Some, subst, suc, 
 pub use Rattle.std.proofs.Common.{unsigned_abs, w32, zero, ℕ, ℤ}
 pub use Rattle.key_text.specs.declared.line_fault.LineFault.{LineFault}
 pub use Rattle.krl_c.specs.Answer.{answered, Answers, AnswersBlob, AnswersBy, AnswersLine}
-pub use Rattle.krl_c.specs.Answer.{AnswersOfLine, HasOne, HasOtherAuthority, IsCompared}
+pub use Rattle.krl_c.specs.Answer.{AnswersOfLine, HasIncomparable, HasOne, IsCompared}
 pub use Rattle.plain_list.specs.Any.{IsListOf}
 pub use Rattle.krl_c.specs.Answer.{IsRefusal, line_ran_out, list_ran_out, names, no_blob, no_line}
-pub use Rattle.krl_c.specs.Answer.{no_list, of_key, other_authority, ran_out, said, Says, spares}
+pub use Rattle.krl_c.specs.Answer.{no_list, of_key, other_names, ran_out, said, Says, spares}
+pub use Rattle.krl_c.specs.Asked.{IsQuery, IsRefusedBlob, IsReportedRefusal}
+pub use Rattle.krl_c.specs.declared.asked.BlobFault.{BlobFault}
+pub use Rattle.krl_openssh.specs.Comparable.{IsIncomparable}
+pub use Rattle.krl_openssh.specs.declared.authorities.Incomparable.{Incomparable}
+pub use Rattle.krl_c.specs.Number.{blob_number, names_number}
 pub use Rattle.krl_c.specs.Number.{line_number, list_number, no_memory, plain_number}
 pub use Rattle.krl_c.specs.Number.{refusal_number, subject_number}
 pub use Rattle.krl_c.specs.Stored.{AnswersStored, loaded, not_loaded_for, unloaded}

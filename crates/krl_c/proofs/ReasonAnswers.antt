@@ -1,8 +1,8 @@
 -- The reasons for a query, and its answer.
 use Rattle.krl_c.proofs.Common.{◌%◌, ◌/◌, ◌<◌, ◌^◌, ◌↔◌, ◌∙◌, ◌≡◌, ◌⊎◌, answered, Answers, AnswersBlob}
 use Rattle.krl_c.proofs.Common.{ap, arith, Entry, inl, inr, List, list_number, list_ran_out}
-use Rattle.krl_c.proofs.Common.{names, negsuc, no_blob, no_list, no_memory, other_authority, pos, ran_out}
-use Rattle.krl_c.proofs.Common.{refl, said, Says, spares, subject_number, SubjectFault, subst, suc, sym, zero, ℕ, ℤ}
+use Rattle.krl_c.proofs.Common.{names, negsuc, no_blob, no_list, no_memory, other_names, names_number, pos, ran_out}
+use Rattle.krl_c.proofs.Common.{refl, said, Says, spares, blob_number, BlobFault, Incomparable, subject_number, SubjectFault, subst, suc, sym, zero, ℕ, ℤ}
 use Rattle.std.specs.Int.{bit_at}
 use Rattle.std.proofs.Math.Nat.{pow-succ'}
 use Rattle.std.proofs.lemmas.Nat.Bits.{bit_at-suc, bit_at-zero, bit_at_lowest}
@@ -19,6 +19,8 @@ use Rattle.krl_entries.specs.declared.reasons.Reason.{Reason}
 use Rattle.krl_entries.specs.declared.reasons.Reason.TheVariants as reasons
 use Rattle.krl_c.specs.Laws.{answer_of}
 use Rattle.krl_c.specs.Number.{fine}
+use Rattle.krl_c.specs.declared.asked.BlobFault.TheVariants as blobs
+use Rattle.krl_openssh.specs.declared.authorities.Incomparable.TheVariants as incomparables
 use Rattle.krl_c.specs.Why.{Explains, ExplainsBlob, HasReasons, explained}
 use Rattle.krl_c.specs.Why.{no_blob as unexplained_blob}
 use Rattle.krl_c.specs.Why.{ran_out as why_ran_out}
@@ -90,17 +92,25 @@ subject_same (subjects.Key fault) = key_same fault
 subject_same (subjects.Cert fault) = cert_same fault
 subject_same subjects.NoMemory = refl
 
+blob_same : (fault : BlobFault) → answer_of (blob_number fault) ≡ blob_number fault
+blob_same (blobs.Subject fault) = subject_same fault
+blob_same blobs.KeyId = refl
+
+names_same : (why : Incomparable) → answer_of (names_number why) ≡ names_number why
+names_same incomparables.Authority = refl
+names_same incomparables.KeyId = refl
+
 -- ---- the answer for the reasons
 
 for_blob : ForAReason → (entries : List Entry) (blob : List ℕ) (number : ℤ) → ExplainsBlob entries blob number → AnswersBlob entries blob (answer_of number)
 for_blob for entries blob number (explained asked bits subject has is) =
     said asked subject (subst (λ (n : ℤ). Says entries asked (answer_of n)) (sym is) (says for entries asked bits has))
-for_blob for entries blob number (unexplained_blob fault first is) = no_blob fault first (ap answer_of is ∙ subject_same fault)
+for_blob for entries blob number (unexplained_blob fault first is) = no_blob fault first (ap answer_of is ∙ blob_same fault)
 for_blob for entries blob number (why_ran_out asked is) = ran_out asked (ap answer_of is)
 
 pub answers : ForAReason → (list blob : List ℕ) (number : ℤ) → Explains list blob number → Answers list blob (answer_of number)
 answers for list blob number (answered entries compared is) = answered entries compared (for_blob for entries blob number is)
-answers for list blob number (other_authority odd is) = other_authority odd (ap answer_of is)
+answers for list blob number (other_names why odd is) = other_names why odd (ap answer_of is ∙ names_same why)
 answers for list blob number (no_list fault first is) = no_list fault first (ap answer_of is ∙ list_same fault)
 answers for list blob number (list_ran_out why is) = list_ran_out why (ap answer_of is)
 

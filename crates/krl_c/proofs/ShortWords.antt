@@ -37,7 +37,8 @@ of_list n =
     row (n == 13) _ _ (some (omega arith)) (
     row (n == 15) _ _ (some (omega arith)) (
     row (n == 16) _ _ (some (omega arith)) (
-    row (n == 17) _ _ (some (omega arith)) none)))))))))))))))
+    row (n == 17) _ _ (some (omega arith)) (
+    row (n == 18) _ _ (some (omega arith)) none))))))))))))))))
 
 of_line : (n : ℕ) → IsWithin 64 (line_words n)
 of_line n = row (n == 1) _ _ (some (omega arith)) (row (n == 2) _ _ (some (omega arith)) (row (n == 3) _ _ (some (omega arith)) none))
@@ -63,7 +64,8 @@ of_cert n =
     row (n == 5) _ _ (some (omega arith)) (
     row (n == 6) _ _ (some (omega arith)) (
     row (n == 8) _ _ (some (omega arith)) (
-    row (n == 9) _ _ (some (omega arith)) none))))))
+    row (n == 9) _ _ (some (omega arith)) (
+    row (n == 10) _ _ (some (omega arith)) none)))))))
 
 of_plain : (n : ℕ) → IsWithin 64 (plain_words n)
 of_plain n = row (n == 1) _ _ (some (omega arith)) (row (n == 2) _ _ (some (omega arith)) none)

@@ -30,7 +30,8 @@ list_words n =
     (if n == 15 then Some (fault_text lists.CriticalExtension) else
     (if n == 16 then Some (codes "an authority of the list is no key in its one spelling") else
     (if n == 17 then Some (codes "a line of the plain list is no key") else
-    None)))))))))))))))
+    (if n == 18 then Some (codes "a key ID of the list has a zero byte") else
+    None))))))))))))))))
 
 -- by the number of a line's fault
 abbrev pub line_words : ℕ → Option (List ℕ)
@@ -65,7 +66,8 @@ cert_words n =
     (if n == 6 then Some (cert_fault_text certs.Principals) else
     (if n == 8 then Some (cert_fault_text certs.Signature) else
     (if n == 9 then Some (cert_fault_text certs.Trailing) else
-    None))))))
+    (if n == 10 then Some (codes "its key ID has a zero byte") else
+    None)))))))
 
 -- by the number of an answer that is not a fault
 abbrev pub plain_words : ℕ → Option (List ℕ)

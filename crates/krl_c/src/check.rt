@@ -8,22 +8,23 @@ ghost use Rattle.plain_list.specs.Any.{IsListOf};
 ghost use Rattle.krl_c.specs.Answer.{Answers, AnswersOfLine, IsCompared, IsRefusal};
 ghost use Rattle.krl_c.specs.Streamed.{StoresAsked};
 
-use crate::number::{FINE, REVOKED, of_line, of_list, of_subject};
+use crate::asked::asked_for;
+use crate::number::{FINE, REVOKED, of_blob, of_line, of_list};
 use crate::refusal::Refusal;
 use byte_streams::Lent;
 use key_text::read_line;
 use krl_core::{KrlFault, Walk};
-use krl_openssh::authorities_are_keys;
+use krl_openssh::first_incomparable;
 use krl_queries::Questions;
 use span_sets::Held;
-use ssh_cert::{Subject, subject};
+use ssh_cert::Subject;
 use std::alloc::Global;
 
 // Queries a list for a blob.
 pub(crate) fn ask_list(alloc: Global, list: &[u8], blob: &[u8]) -> i32
     ensures { Answers list.now blob.now result }
 {
-    match subject(alloc, blob) {
+    match asked_for(alloc, blob) {
         Ok(asked) => match compared(alloc, list, &asked) {
             Ok(questions) => {
                 if questions.answer(&asked) {
@@ -35,7 +36,7 @@ pub(crate) fn ask_list(alloc: Global, list: &[u8], blob: &[u8]) -> i32
             Err(refusal) => of_list(refusal),
         },
         Err(fault) => match judge(alloc, list) {
-            Ok(()) => of_subject(fault),
+            Ok(()) => of_blob(fault),
             Err(refusal) => of_list(refusal),
         },
     }
@@ -54,7 +55,7 @@ pub(crate) fn ask_list_of_line(alloc: Global, list: &[u8], line: &[u8]) -> i32
     }
 }
 
-// Streams a list whose authorities can be compared, or returns why it gives no answer.
+// Streams a list whose names can be compared, or returns why it gives no answer.
 pub(crate) fn compared(
     alloc: Global,
     list: &[u8],
@@ -67,13 +68,10 @@ pub(crate) fn compared(
     ensures refused { IfErr result (λ refusal. IsRefusal (Unit {0}) list.now refusal) }
 {
     match stream(alloc, list, asked) {
-        Ok(questions) => {
-            if authorities_are_keys(list) {
-                Ok(questions)
-            } else {
-                Err(Refusal::Authority)
-            }
-        }
+        Ok(questions) => match first_incomparable(list) {
+            None => Ok(questions),
+            Some(why) => Err(Refusal::Incomparable(why)),
+        },
         Err(fault) => Err(Refusal::Fault(fault)),
     }
 }
@@ -104,13 +102,10 @@ pub(crate) fn judge(alloc: Global, list: &[u8]) -> Result<(), Refusal>
     ensures refused { IfErr result (λ refusal. IsRefusal ⊥ list.now refusal) }
 {
     match stream_unasked(alloc, list) {
-        Ok(()) => {
-            if authorities_are_keys(list) {
-                Ok(())
-            } else {
-                Err(Refusal::Authority)
-            }
-        }
+        Ok(()) => match first_incomparable(list) {
+            None => Ok(()),
+            Some(why) => Err(Refusal::Incomparable(why)),
+        },
         Err(fault) => Err(Refusal::Fault(fault)),
     }
 }

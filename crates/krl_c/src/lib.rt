@@ -15,6 +15,7 @@ ghost use Rattle.krl_c.specs.Words.{words};
 ghost use Rattle.krl_c.specs.Written.{written};
 
 mod any;
+mod asked;
 mod check;
 mod handle;
 mod init;

@@ -6,17 +6,17 @@ ghost use Rattle.krl_types.specs.Entry.{Entry};
 ghost use Rattle.krl_core.specs.Reading.{HoldsAll};
 ghost use Rattle.krl_c.specs.Answer.{AnswersBlob, AnswersLine, IsCompared, IsRefusal};
 
-use crate::number::{FINE, REVOKED, of_line, of_subject};
+use crate::asked::asked_for;
+use crate::number::{FINE, REVOKED, of_blob, of_line};
 use crate::refusal::Refusal;
 use byte_streams::Lent;
 use key_text::read_line;
 use krl_core::{Revocations, read_krl};
-use krl_openssh::authorities_are_keys;
+use krl_openssh::first_incomparable;
 use span_sets::Held;
-use ssh_cert::subject;
 use std::alloc::Global;
 
-// The entries of a list, if each of its authorities is a key in its one spelling.
+// The entries of a list, if its names can be compared.
 pub(crate) fn load_list(alloc: Global, list: &[u8]) -> Result<Revocations<Held>, Refusal>
     ensures found { IfOk result (λ held. (entries : List Entry)
         × IsCompared list.now entries × HoldsAll list.now held entries) }
@@ -24,13 +24,10 @@ pub(crate) fn load_list(alloc: Global, list: &[u8]) -> Result<Revocations<Held>,
 {
     let (read, _source) = read_krl::<Held, _>(alloc, Lent::new(list));
     match read {
-        Ok((_header, held)) => {
-            if authorities_are_keys(list) {
-                Ok(held)
-            } else {
-                Err(Refusal::Authority)
-            }
-        }
+        Ok((_header, held)) => match first_incomparable(list) {
+            None => Ok(held),
+            Some(why) => Err(Refusal::Incomparable(why)),
+        },
         Err(fault) => Err(Refusal::Fault(fault)),
     }
 }
@@ -40,9 +37,9 @@ pub(crate) fn ask_loaded(alloc: Global, held: &Revocations<Held>, blob: &[u8]) -
     ensures { (entries : List Entry) → Means held.now entries
         → AnswersBlob entries blob.now result }
 {
-    match subject(alloc, blob) {
+    match asked_for(alloc, blob) {
         Ok(asked) => { if held.query(&asked) { REVOKED } else { FINE } }
-        Err(fault) => of_subject(fault),
+        Err(fault) => of_blob(fault),
     }
 }
 

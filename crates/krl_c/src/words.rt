@@ -95,6 +95,7 @@ fn list_words(number: u32) -> Option<&'static str>
         15 => Some("krl 15 CriticalExtension"),
         16 => Some("an authority of the list is no key in its one spelling"),
         17 => Some("a line of the plain list is no key"),
+        18 => Some("a key ID of the list has a zero byte"),
         _ => None,
     }
 }
@@ -145,6 +146,7 @@ fn cert_words(number: u32) -> Option<&'static str>
         6 => Some("cert 6 Principals"),
         8 => Some("cert 8 Signature"),
         9 => Some("cert 9 Trailing"),
+        10 => Some("its key ID has a zero byte"),
         _ => None,
     }
 }

@@ -18,7 +18,9 @@ is_fresh generated now max_age =
 -- The condition fails by what was found.
 abbrev pub fails : Condition → Bool
 fails (conditions.OpenSsh difference) = is_some difference
+fails (conditions.OpenSshLines line) = is_some line
 fails (conditions.Empty nobody) = nobody
+fails (conditions.Slow authorities most) = nat_lt most authorities
 fails (conditions.Version version least) = nat_lt version least
 fails conditions.NoVersion = true
 fails (conditions.Age generated now max_age) = not (is_fresh generated now max_age)
@@ -29,7 +31,9 @@ fails (conditions.Keys role counts) = not (is_met role counts)
 
 abbrev pub condition_word : Condition → List ℕ
 condition_word (conditions.OpenSsh difference) = codes "openssh"
+condition_word (conditions.OpenSshLines line) = codes "openssh"
 condition_word (conditions.Empty nobody) = codes "empty"
+condition_word (conditions.Slow authorities most) = codes "slow"
 condition_word (conditions.Version version least) = codes "version"
 condition_word conditions.NoVersion = codes "version"
 condition_word (conditions.Age generated now max_age) = codes "age"

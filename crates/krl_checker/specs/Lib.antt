@@ -1,3 +1,4 @@
+pub mod Authorities
 pub mod Role
 pub mod Condition
 pub mod Text

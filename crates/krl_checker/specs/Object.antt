@@ -7,8 +7,9 @@ use Rattle.cert_listing.specs.Time.{instant_text}
 use Rattle.krl_audit.specs.Objects.{line_count_fields}
 use Rattle.krl_openssh.specs.Difference.{difference_words}
 use Rattle.krl_openssh.specs.declared.difference.Difference.{Difference}
+use Rattle.plain_list.specs.declared.dsa.DsaLine.{DsaLine}
 use Rattle.krl_checker.specs.Condition.{condition_word, fails}
-use Rattle.krl_checker.specs.Text.{no_date, no_version}
+use Rattle.krl_checker.specs.Text.{dsa_text, no_date, no_version}
 use Rattle.krl_checker.specs.declared.condition.Condition.{Condition}
 use Rattle.krl_checker.specs.declared.condition.Condition.TheVariants as conditions
 
@@ -18,6 +19,14 @@ why_field words = word_field (codes "why") words
 abbrev pub difference_fields : Option Difference → List Field
 difference_fields None = []
 difference_fields (Some difference) = why_field (difference_words difference) ∷ []
+
+abbrev pub dsa_fields : Option DsaLine → List Field
+dsa_fields None = []
+dsa_fields (Some line) = text_field (codes "why") (dsa_text line) ∷ []
+
+abbrev pub slow_fields : (authorities most : ℕ) → List Field
+slow_fields authorities most =
+    number_field (codes "cas") authorities ∷ number_field (codes "most") most ∷ []
 
 abbrev pub version_fields : (version least : ℕ) → List Field
 version_fields version least =
@@ -37,7 +46,9 @@ lost_fields other entries =
 -- what was found
 abbrev pub finding_fields : Condition → List Field
 finding_fields (conditions.OpenSsh difference) = difference_fields difference
+finding_fields (conditions.OpenSshLines line) = dsa_fields line
 finding_fields (conditions.Empty nobody) = []
+finding_fields (conditions.Slow authorities most) = slow_fields authorities most
 finding_fields (conditions.Version version least) = version_fields version least
 finding_fields conditions.NoVersion = why_field no_version ∷ []
 finding_fields (conditions.Age generated now max_age) = age_fields generated now max_age

@@ -7,6 +7,8 @@ use Rattle.krl_audit.specs.Visible.{visible}
 use Rattle.krl_audit.specs.declared.counts.Counts.{Counts}
 use Rattle.krl_openssh.specs.Difference.{difference_words}
 use Rattle.krl_openssh.specs.declared.difference.Difference.{Difference}
+use Rattle.plain_list.specs.Dsa.{dsa_words}
+use Rattle.plain_list.specs.declared.dsa.DsaLine.{DsaLine}
 use Rattle.krl_checker.specs.Condition.{condition_word}
 use Rattle.krl_checker.specs.declared.condition.Condition.{Condition}
 use Rattle.krl_checker.specs.declared.condition.Condition.TheVariants as conditions
@@ -38,6 +40,23 @@ abbrev pub difference_text : Option Difference → List ℕ
 difference_text None = []
 difference_text (Some difference) = difference_words difference
 
+-- a line of a plain list that OpenSSH 10 does not read
+abbrev pub dsa_text : DsaLine → List ℕ
+dsa_text line =
+    codes "line "
+    ++ (decimal line.number ++ (codes " has "
+    ++ (dsa_words line.part ++ codes ", which OpenSSH 10 does not read")))
+
+abbrev pub dsa_if : Option DsaLine → List ℕ
+dsa_if None = []
+dsa_if (Some line) = dsa_text line
+
+-- how many certificate authorities a list has, and how many it may have
+abbrev pub slow_text : (authorities most : ℕ) → List ℕ
+slow_text authorities most =
+    amount_text authorities (codes "CA")
+    ++ (codes ", and " ++ (decimal most ++ codes " at most"))
+
 abbrev pub counts_text : Counts → List ℕ
 counts_text counts =
     decimal counts.revoked
@@ -53,7 +72,9 @@ no_date = codes "a plain list has no date"
 -- what was found about the list or the file of this name
 abbrev pub finding_text : List ℕ → Condition → List ℕ
 finding_text name (conditions.OpenSsh difference) = difference_text difference
+finding_text name (conditions.OpenSshLines line) = dsa_if line
 finding_text name (conditions.Empty nobody) = codes "it revokes nobody"
+finding_text name (conditions.Slow authorities most) = slow_text authorities most
 finding_text name (conditions.Version version least) =
     decimal version ++ (codes " is below " ++ decimal least)
 finding_text name conditions.NoVersion = no_version

@@ -56,7 +56,11 @@ impl<'q, 'w, W: Sink> Checker<'q, 'w, W> {
         let line = Vec::new(alloc);
         Checker {
             auditor: Auditor {
-                judge: Judge { list, shown },
+                judge: Judge {
+                    list,
+                    canaries: None,
+                    shown,
+                },
                 run: Run {
                     alloc,
                     printer,
@@ -123,6 +127,7 @@ impl<'q, 'w, W: Sink> Checker<'q, 'w, W> {
         ensures form { self.new.auditor.judge.shown.form ≡ self.old.auditor.judge.shown.form }
     {
         self.unread |= content.is_err();
+        self.auditor.judge.canaries = None;
         self.auditor.judge.shown = role.shown(self.auditor.judge.shown.form);
         self.auditor.counts = Counts::NONE;
         self.auditor.audit_file(name, content)?;

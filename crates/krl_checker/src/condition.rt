@@ -6,6 +6,7 @@ ghost use Rattle.krl_checker.specs.Condition.{condition_word, fails, is_fresh};
 use crate::role::Role;
 use krl_audit::Counts;
 use krl_openssh::Difference;
+use plain_list::DsaLine;
 
 // How many seconds after the present moment a list may have been made, since clocks differ.
 const MOST_AHEAD: u64 = 300;
@@ -16,8 +17,13 @@ pub enum Condition<'a> {
     /// OpenSSH also reads the list, and reads the same names: the first difference, if there is
     /// one.
     OpenSsh(Option<Difference>),
+    /// OpenSSH also reads each line of a plain list: the first line with DSA, if there is one.
+    OpenSshLines(Option<DsaLine>),
     /// It revokes somebody: true if it revokes nobody.
     Empty(bool),
+    /// Logins stay fast, since OpenSSH searches the certificate authorities of a list one after
+    /// the other: how many it has, and how many it may have.
+    Slow(u64, u64),
     /// Its version is not below that of another list: both versions.
     Version(u64, u64),
     /// Two versions are compared, and this list, a plain one, has none.
@@ -42,7 +48,9 @@ impl<'a> Condition<'a> {
     {
         match self {
             Condition::OpenSsh(difference) => difference.is_some(),
+            Condition::OpenSshLines(line) => line.is_some(),
             Condition::Empty(nobody) => nobody,
+            Condition::Slow(authorities, most) => authorities > most,
             Condition::Version(version, least) => version < least,
             Condition::Age(generated, now, max_age) => !is_fresh(generated, now, max_age),
             Condition::NothingLost(_) => false,
@@ -56,8 +64,9 @@ impl<'a> Condition<'a> {
         ensures { result.now ≡ condition_word self.entry }
     {
         match self {
-            Condition::OpenSsh(_) => "openssh",
+            Condition::OpenSsh(_) | Condition::OpenSshLines(_) => "openssh",
             Condition::Empty(_) => "empty",
+            Condition::Slow(..) => "slow",
             Condition::Version(..) | Condition::NoVersion => "version",
             Condition::Age(..) | Condition::NoDate => "age",
             Condition::NothingLost(_) | Condition::Lost(..) => "lost",

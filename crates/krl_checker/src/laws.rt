@@ -12,6 +12,7 @@ ghost use Rattle.krl_types.specs.Entry.{Entry};
 ghost use Rattle.krl_types.specs.Subject.{Subject};
 ghost use Rattle.krl_entries.specs.Revocations.{Means, Revocations};
 ghost use Rattle.krl_entries.specs.declared.reasons.Reasons.{Reasons};
+ghost use Rattle.krl_checker.specs.Authorities.{HasAuthorities};
 ghost use Rattle.krl_checker.specs.Check.{NamesNobody, counts_of, names_nobody, none_counted};
 ghost use Rattle.krl_checker.specs.Role.{AreMarked, AreMet, HasKey, SomeMarked, is_met};
 ghost use Rattle.krl_checker.specs.declared.role.Role.{Role};
@@ -21,6 +22,12 @@ ghost use Rattle.krl_checker.specs.declared.role.Role.TheVariants as roles;
 pub fn nobody_is_named()
     ensures { (list : Revocations) (entries : List Entry) → Means list entries
         → (names_nobody list ≡ true ↔ NamesNobody entries) }
+{}
+
+/// A list holds as many authorities as its entries name, each counted once.
+pub fn authorities_are_counted()
+    ensures { (list : Revocations) (entries : List Entry) → Means list entries
+        → HasAuthorities entries (length list.sections) }
 {}
 
 /// The counts of the lines of a file meet the condition exactly if each line may be in the file,

@@ -4,16 +4,19 @@ ghost use Rattle.std.specs.Prelude.{◌≡◌, ◌∷◌, ◌++◌, [], OnOk};
 ghost use Rattle.json_lines.specs.Field.{fields_tokens, json_line};
 ghost use Rattle.krl_audit.specs.Objects.{line_count_fields};
 ghost use Rattle.krl_checker.specs.Object.{age_fields, condition_object, difference_fields};
-ghost use Rattle.krl_checker.specs.Object.{end_object, finding_fields, kind_word, lost_fields};
-ghost use Rattle.krl_checker.specs.Object.{passed_field, verdict_fields, version_fields};
+ghost use Rattle.krl_checker.specs.Object.{dsa_fields, end_object, finding_fields, kind_word};
+ghost use Rattle.krl_checker.specs.Object.{lost_fields, passed_field, slow_fields};
+ghost use Rattle.krl_checker.specs.Object.{verdict_fields, version_fields};
 
 use crate::condition::Condition;
-use crate::text::{no_date, no_version};
+use crate::text::{Dsa, no_date, no_version};
 use cert_listing::time_text;
 use json::Token;
 use json_lines::{LineWriter, put_digits, put_number, put_text, put_word};
 use krl_audit::Counts;
 use krl_openssh::Difference;
+use line_pieces::put;
+use plain_list::DsaLine;
 use std::alloc::{AllocError, Global};
 
 /// Makes the line of a condition about the list or the file of this name.
@@ -85,7 +88,9 @@ fn put_finding(
 {
     match condition {
         Condition::OpenSsh(difference) => put_difference(out, difference),
+        Condition::OpenSshLines(line) => put_dsa(alloc, out, line),
         Condition::Empty(_) => Ok(()),
+        Condition::Slow(authorities, most) => put_slow(out, authorities, most),
         Condition::Version(version, least) => put_versions(out, version, least),
         Condition::NoVersion => put_word(out, "why", no_version()),
         Condition::Age(generated, now, max_age) => put_age(alloc, out, generated, now, max_age),
@@ -105,6 +110,28 @@ fn put_difference(out: &mut LineWriter, difference: Option<Difference>) -> Resul
         None => Ok(()),
         Some(difference) => put_word(out, "why", difference.words()),
     }
+}
+
+// Writes the words about a line with DSA, if there is one.
+#[tactic(auto, unfolding(json_lines::specs::Field::fields_tokens))]
+fn put_dsa(alloc: Global, out: &mut LineWriter, line: Option<DsaLine>) -> Result<(), AllocError>
+    ensures { OnOk result (out.new ≡ out.old ++ fields_tokens (dsa_fields line)) }
+{
+    let Some(line) = line else {
+        return Ok(());
+    };
+    let mut why = Vec::new(alloc);
+    put!(&mut why; Dsa(line))?;
+    put_text(alloc, out, "why", &why)
+}
+
+// Writes how many certificate authorities a list has, and how many it may have.
+fn put_slow(out: &mut LineWriter, authorities: u64, most: u64) -> Result<(), AllocError>
+    ensures { OnOk result (out.new ≡ out.old ++ fields_tokens (slow_fields authorities most)) }
+{
+    put_number(out, "cas", authorities)?;
+    put_number(out, "most", most)?;
+    Ok(())
 }
 
 // Writes the version of a list, and the one that it must not be below.

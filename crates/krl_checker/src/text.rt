@@ -2,7 +2,8 @@
 
 ghost use Rattle.std.specs.Prelude.{◌≡◌, OnOk};
 ghost use Rattle.krl_checker.specs.Text.{condition_line, counts_text, difference_text};
-ghost use Rattle.krl_checker.specs.Text.{distance_text, entries_text, finding_text, named_by};
+ghost use Rattle.krl_checker.specs.Text.{distance_text, dsa_if, dsa_text, entries_text};
+ghost use Rattle.krl_checker.specs.Text.{finding_text, named_by};
 ghost use Rattle.krl_checker.specs.Text.{no_date, no_version, span_text, subject_text};
 
 use crate::condition::Condition;
@@ -10,6 +11,7 @@ use cert_listing::time_text;
 use krl_audit::{Amount, Counts, Visible};
 use krl_openssh::Difference;
 use line_pieces::{Printed, Words, put};
+use plain_list::DsaLine;
 use std::alloc::{AllocError, Global};
 
 /// Why a plain list is refused whose version is compared.
@@ -70,7 +72,11 @@ impl<'a> Printed for Finding<'a> {
     fn push_to(&self, out: &mut Vec<u8>) -> Result<(), AllocError> {
         match self.condition {
             Condition::OpenSsh(difference) => put!(out; Words(why_of(difference))),
+            Condition::OpenSshLines(line) => put!(out; DsaIf(line)),
             Condition::Empty(_) => put!(out; b"it revokes nobody"),
+            Condition::Slow(authorities, most) => {
+                put!(out; Amount(authorities, b"CA"), b", and ", most, b" at most")
+            }
             Condition::Version(version, least) => put!(out; version, b" is below ", least),
             Condition::NoVersion => put!(out; Words(no_version().as_bytes())),
             Condition::Age(instant, now, _) => {
@@ -94,6 +100,34 @@ fn why_of(difference: Option<Difference>) -> &'static [u8]
     match difference {
         None => b"",
         Some(difference) => difference.words().as_bytes(),
+    }
+}
+
+// A line of a plain list that OpenSSH 10 does not read.
+#[derive(Clone, Copy)]
+pub(crate) struct Dsa(pub(crate) DsaLine);
+
+impl Printed for Dsa {
+    ghost text = { λ dsa. dsa_text dsa.0 };
+
+    fn push_to(&self, out: &mut Vec<u8>) -> Result<(), AllocError> {
+        put!(out; b"line ", self.0.number, b" has ", Words(self.0.part.words().as_bytes()),
+            b", which OpenSSH 10 does not read")
+    }
+}
+
+// That line, if there is one.
+#[derive(Clone, Copy)]
+struct DsaIf(Option<DsaLine>);
+
+impl Printed for DsaIf {
+    ghost text = { λ dsa. dsa_if dsa.0 };
+
+    fn push_to(&self, out: &mut Vec<u8>) -> Result<(), AllocError> {
+        match self.0 {
+            None => Ok(()),
+            Some(line) => Dsa(line).push_to(out),
+        }
     }
 }
 

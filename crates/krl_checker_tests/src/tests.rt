@@ -2,5 +2,6 @@
 
 mod any_lists;
 mod checks;
+mod objects;
 mod page;
 mod runs;

@@ -9,6 +9,7 @@ use Rattle.krl_make.specs.declared.run.Wanted.{Wanted}
 use Rattle.krl_runs.specs.Query.{IsRun}
 use Rattle.krl_system.specs.Files.{authority_name, name_of, now_of}
 use Rattle.krl_words.specs.Command.{IsCommand}
+use Rattle.list_making.specs.Place.{Old}
 use Rattle.option_table.specs.Fault.{command_fault_status}
 use Rattle.option_table.specs.declared.fault.CommandFault.{CommandFault}
 use Rattle.run_faults.specs.Keys.{Named}
@@ -53,7 +54,7 @@ pub record IsMade (job : Job) : Type 0 where
   pub version : wanted.version ≡ job.version
   pub authority : authority_name wanted.authority.now ≡ authority_of job.authority
   pub files : map name_of wanted.files.now ≡ map now_of job.files.items
-  pub old : Option (List ℕ)
+  pub old : Old
   pub bytes : List ℕ
   pub made : RunsOver wanted old (Ok bytes)
 

@@ -27,10 +27,6 @@ const NAME: &str = "ssh-keygen";
 struct Tool;
 
 impl Lines for Tool {
-    fn name(&self) -> &'static str {
-        NAME
-    }
-
     fn fault_line(&self, rt: &HostRuntime, fault: &RunFault) -> Result<Vec<u8>, AllocError> {
         let mut line = fault_text(rt.alloc(), NAME.as_bytes(), fault)?;
         line.push(b'\n')?;

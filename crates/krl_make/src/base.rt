@@ -1,12 +1,13 @@
 //! The content of the old list, before the lines are added.
 
-ghost use Rattle.std.specs.Prelude.{◌≡◌, [], IfErr, IfOk, Ok};
+ghost use Rattle.std.specs.Prelude.{◌≡◌, [], IfErr, IfOk, Ok, false, option_map};
+ghost use Rattle.std.specs.Option.{ForSome};
 ghost use Rattle.krl_entries.specs.Revocations.{Means, nothing};
 ghost use Rattle.krl_make.specs.Making.{base_of, new_base};
 ghost use Rattle.krl_make.specs.Over.{IsReadOver, IsUnread};
 
 use crate::run::Wanted;
-use byte_streams::Lent;
+use byte_streams::Source;
 use krl_core::{Header, Revocations, read_krl};
 use run_faults::{Cause, FileFault, RunFault, cause_of};
 use span_sets::Held;
@@ -25,21 +26,23 @@ pub struct Base {
 }
 
 /// Reads the old list, if it is updated.
-pub fn read_base<'a>(
+pub fn read_base<'a, R: Source + Drop>(
     alloc: Global,
     wanted: &Wanted<'a>,
-    old: Option<Bytes>,
+    old: Option<R>,
 ) -> Result<Base, RunFault<'a>>
-    ensures read { IfOk result (λ base. IsReadOver wanted.now.update old (Ok base)) }
-    ensures refused { IfErr result (IsUnread wanted.now old) }
+    requires { ForSome old (λ reader. R.has_failed reader ≡ false) }
+    ensures read { IfOk result (λ base.
+        IsReadOver wanted.now.update (option_map R.left old) (Ok base)) }
+    ensures refused { IfErr result (IsUnread wanted.now (option_map R.left old)) }
 {
     if !wanted.update {
         return Ok(new_base(alloc));
     }
-    let Some(bytes) = &old else {
+    let Some(reader) = old else {
         return Err(RunFault::whole(wanted.name, Cause::File(FileFault::Open)));
     };
-    let (read, _lent) = read_krl::<Held, _>(alloc, Lent::new(bytes.as_slice()));
+    let (read, _reader) = read_krl::<Held, R>(alloc, reader);
     match read {
         Ok((header, revocations)) => Ok(base_of(header, revocations)),
         Err(fault) => Err(RunFault::whole(wanted.name, cause_of(fault))),

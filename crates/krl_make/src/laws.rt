@@ -53,7 +53,7 @@ pub fn held_is_paid()
 pub fn update_keeps_the_old_list()
     ensures { (wanted : Wanted) (text bytes : List ℕ) (header : Header)
         (sections : List SpelledSection) → wanted.update ≡ true → Spells text header sections
-        → RunsOver wanted (Some text) (Ok bytes)
+        → RunsOver wanted (Some (Some text)) (Ok bytes)
         → (made : Header) × (added : List Entry)
         × NamesSame made bytes (entries_of sections ++ added) }
 {}

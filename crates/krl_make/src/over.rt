@@ -1,9 +1,9 @@
 //! A list that is wanted, as the maker of lists over what is under its name.
 
 use crate::run::{Wanted, make_run};
+use byte_streams::Source;
 use list_making::{Made, Maker};
 use run_faults::{Cause, RunFault};
-use ssh_wire::Bytes;
 use std::alloc::Global;
 
 impl<'a> Maker for Wanted<'a> {
@@ -27,7 +27,11 @@ impl<'a> Maker for Wanted<'a> {
         self.update
     }
 
-    fn make(&self, alloc: Global, old: Option<Bytes>) -> Result<Made<()>, RunFault<'a>> {
+    fn make<R: Source + Drop>(
+        &self,
+        alloc: Global,
+        old: Option<R>,
+    ) -> Result<Made<()>, RunFault<'a>> {
         make_run(alloc, self, old)
     }
 

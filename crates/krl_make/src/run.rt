@@ -1,6 +1,7 @@
 //! Making a list from an old one and from specification files.
 
-ghost use Rattle.std.specs.Prelude.{◌≡◌, IfErr, IfOk, Ok};
+ghost use Rattle.std.specs.Prelude.{◌≡◌, IfErr, IfOk, Ok, false, option_map};
+ghost use Rattle.std.specs.Option.{ForSome};
 ghost use Rattle.krl_make.specs.Making.{HasNumbers, IsCurrentFile, Makes, WritesList, WritesMore};
 ghost use Rattle.krl_make.specs.Making.{after_old, files_entries};
 ghost use Rattle.krl_make.specs.Over.{Refuses, RunsOver};
@@ -9,13 +10,13 @@ ghost use Rattle.krl_spec.specs.Under.{authority_under};
 use crate::authority::{AuthorityOption, first_key};
 use crate::base::{Base, read_base};
 use crate::files::add_files;
+use byte_streams::Source;
 use krl_core::{Header, Revocations};
 use krl_spec::Under;
 use krl_writer::{TextFault, krl_text};
 use list_making::{Made, next_version};
 use run_faults::{Cause, Named, RunFault};
 use span_sets::Held;
-use ssh_wire::Bytes;
 use std::alloc::Global;
 
 // The version of a list that follows no other.
@@ -45,13 +46,15 @@ pub struct Wanted<'a> {
 /// The first fault stops the run: that of the old list; that its version is the largest; that of
 /// the authority's file; those of the files and lines in order; that the list would be too long to
 /// be read.
-pub fn make_run<'a>(
+pub fn make_run<'a, R: Source + Drop>(
     alloc: Global,
     wanted: &Wanted<'a>,
-    old: Option<Bytes>,
+    old: Option<R>,
 ) -> Result<Made<()>, RunFault<'a>>
-    ensures made { IfOk result (λ made. RunsOver wanted.now old (Ok made.bytes.items)) }
-    ensures refused { IfErr result (Refuses wanted.now old) }
+    requires { ForSome old (λ reader. R.has_failed reader ≡ false) }
+    ensures made { IfOk result (λ made.
+        RunsOver wanted.now (option_map R.left old) (Ok made.bytes.items)) }
+    ensures refused { IfErr result (Refuses wanted.now (option_map R.left old)) }
 {
     let base = match read_base(alloc, wanted, old) {
         Ok(base) => base,

@@ -1,7 +1,6 @@
 -- The authorities of a list without a difference are keys that OpenSSH accepts.
-use Rattle.std.proofs.Common.{◌≡◌, ℕ, ◌-◌, ◌<◌, ◌^◌, true, false, List, [], ◌∷◌, ◌++◌, length, None, Result, Ok, Err, inl, inr, refl, sym, ap, subst, ◌∙◌, arith, ltb, append_assoc}
-use Rattle.std.specs.Prelude.{slice_index_or}
-use Rattle.ssh_wire.specs.Rows.{BeginsWithPart, BeginsWithTable, Text}
+use Rattle.std.proofs.Common.{◌≡◌, ℕ, ◌-◌, ◌<◌, ◌^◌, true, false, List, [], ◌∷◌, ◌++◌, length, Option, None, Result, Ok, Err, inl, inr, refl, sym, ap, subst, ◌∙◌, arith, ltb, append_assoc}
+use Rattle.ssh_wire.specs.Rows.{BeginsWithPart, Text}
 use Rattle.ssh_wire.specs.Wire.{IsBytes, number, number_of, string}
 use Rattle.ssh_wire.proofs.Digits.{IsBytes-back, IsBytes-front}
 use Rattle.ssh_wire.proofs.Fields.{IsBytes-in_string, length-number, number_of-number}
@@ -12,7 +11,7 @@ use Rattle.openssh_keys.specs.Judgement.{judgement_of}
 use Rattle.openssh_keys.specs.declared.judgement.Judgement.{Judgement}
 use Rattle.openssh_keys.specs.declared.judgement.Judgement.TheVariants as judgements
 use Rattle.krl_types.specs.declared.krl_fault.KrlFault.TheVariants as faults
-use Rattle.krl_format.specs.Krl.{Certificates, Extension, Keys, Sha1s, Sha256s, Signature, SignaturesLast, SpelledSection, SpellsEach, SpellsSection, authority_fields}
+use Rattle.krl_format.specs.Krl.{Certificates, Extension, Keys, Sha1s, Sha256s, Signature, SignaturesLast, SpelledSection, SpellsEach, SpellsSection}
 use Rattle.krl_format.specs.Place.{can_end}
 use Rattle.krl_format.specs.declared.place.Place.{Place}
 use Rattle.krl_format.specs.declared.place.Place.TheVariants as places
@@ -21,8 +20,10 @@ use Rattle.krl_format.specs.declared.place.field.Field.TheVariants as fields
 use Rattle.krl_format.specs.declared.section.Section.TheVariants as section_kinds
 use Rattle.krl_format.proofs.Judgements.{held_back, same_place}
 use Rattle.krl_openssh.specs.Authority.{AuthoritiesAreKeys, HasKeyOrAll, IsKeyOrAll}
-use Rattle.krl_openssh.specs.Difference.{authority_difference, judgement_difference, key_difference}
-use Rattle.krl_openssh.proofs.AlikeLists.{IsAlike, IsBoundary, follow, last_front, one_more}
+use Rattle.krl_openssh.specs.Difference.{authority_difference, judgement_difference, key_difference, kind_difference, or_later}
+use Rattle.krl_openssh.specs.declared.difference.Difference.{Difference}
+use Rattle.krl_openssh.proofs.Spelled.{authority_front}
+use Rattle.krl_openssh.proofs.AlikeLists.{IsAlike, IsBoundary, both_none, follow, last_front, one_more}
 
 -- ---- an authority without a difference
 
@@ -32,8 +33,11 @@ accepted judgements.Short none = absurd cc
 accepted judgements.Long none = absurd cc
 accepted judgements.Point none = absurd cc
 
+judged_so : (judgement : Judgement) (later : Option Difference) → or_later (judgement_difference judgement) later ≡ None → judgement ≡ judgements.Accepted
+judged_so judgement later none = accepted judgement (both_none (judgement_difference judgement) later none).0
+
 by_key : (authority : List ℕ) (read : Result PublicKey KeyFault) → key_at authority ≡ read → key_difference read ≡ None → ((key : PublicKey) → key_at authority ≡ Ok key → IsKey authority key) → IsKeyOrAll authority
-by_key authority (Ok key) is none spelled = inr (record { key = key; is_key = spelled key is; accepted = accepted (judgement_of key) none })
+by_key authority (Ok key) is none spelled = inr (record { key = key; is_key = spelled key is; accepted = judged_so (judgement_of key) (kind_difference key.kind) none })
 by_key authority (Err fault) is none spelled = absurd cc
 
 is_key : (authority : List ℕ) → authority_difference authority ≡ None → ((key : PublicKey) → key_at authority ≡ Ok key → IsKey authority key) → IsKeyOrAll authority
@@ -95,11 +99,6 @@ at_section (places.SectionType true) content authority more rest may parts fits 
 at_section _ content authority more rest may parts fits alike = absurd cc
 
 -- ---- all sections
-
--- the content begins with the authority
-authority_front : (content body : List ℕ) (values : List (List ℕ)) → BeginsWithTable authority_fields [] content values body → (more : List ℕ) × BeginsWithPart Text content (slice_index_or values 0 []) more
-authority_front content body values (authority, a, is_authority, any_authority, (reserved, b, is_reserved, any_reserved, (same, ends))) =
-    (a, subst (λ (v : List (List ℕ)). BeginsWithPart Text content (slice_index_or v 0 []) a) same is_authority)
 
 -- Reading bytes gives a key only if they are its blob.
 abbrev pub IsSpelled : Type 0

@@ -25,7 +25,7 @@ pub record IsAlike (place : Place) (left : List ℕ) : Type 0 where
   pub parts : left ≡ concat fields
   pub none : first_difference place fields ≡ None
 
-both_none : (one later : Option Difference) → or_later one later ≡ None → (one ≡ None) × (later ≡ None)
+pub both_none : (one later : Option Difference) → or_later one later ≡ None → (one ≡ None) × (later ≡ None)
 both_none None later e = (refl, e)
 both_none (Some difference) later e = absurd cc
 

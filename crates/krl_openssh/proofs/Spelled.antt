@@ -1,6 +1,5 @@
 -- The front of a list, and of each of its sections.
-use Rattle.std.proofs.Common.{◌≡◌, ℕ, ◌^◌, ◌<◌, ◌≤◌, ◌-◌, ◌⊎◌, inl, inr, Bool, true, false, List, [], ◌∷◌, ◌++◌, length, take, drop, refl, sym, ap, subst, ◌∙◌, arith, length-append, append_assoc}
-use Rattle.std.proofs.lemmas.Bool.{false≢true}
+use Rattle.std.proofs.Common.{◌≡◌, ℕ, ◌^◌, ◌<◌, ◌≤◌, ◌-◌, ◌⊎◌, inl, inr, Bool, true, false, List, [], ◌∷◌, ◌++◌, length, take, drop, refl, sym, ap, subst, ◌∙◌, arith, append_assoc}
 use Rattle.std.proofs.lemmas.List.{append-nil, length-take-le, take_rest}
 use Rattle.std.specs.Prelude.{IsTrue, ◌↔◌, Option, Some, Result, Ok, Err, slice_index_or}
 use Rattle.ssh_wire.specs.Rows.{BeginsWithPart, BeginsWithTable, Text}
@@ -8,7 +7,7 @@ use Rattle.ssh_wire.specs.declared.fault.WireFault.{WireFault}
 use Rattle.ssh_wire.specs.Wire.{number_of, string}
 use Rattle.krl_format.specs.Field.{row_of, rows_of}
 use Rattle.krl_format.specs.Front.{Passes}
-use Rattle.krl_format.specs.Krl.{Certificates, Extension, Keys, Sha1s, Sha256s, Signature, SpelledSection, SpellsContent, SpellsEach, SpellsSection, authority_fields}
+use Rattle.krl_format.specs.Krl.{Certificates, Extension, Keys, Sha1s, Sha256s, Signature, SpelledSection, SpellsCertificates, SpellsContent, SpellsSection, Subsection, authority_fields}
 use Rattle.krl_format.specs.Place.{expected}
 use Rattle.krl_format.specs.declared.place.Place.{Place}
 use Rattle.krl_format.specs.declared.place.Place.TheVariants as places
@@ -22,7 +21,10 @@ use Rattle.krl_format.specs.declared.section.Subsection.{Subsection as Subsectio
 use Rattle.krl_format.proofs.Judgements.{same_place}
 use Rattle.krl_format.proofs.OneSpelling.{section_type}
 use Rattle.krl_format.proofs.TableRows.{after_is, fields_at}
-use Rattle.krl_openssh.specs.Authority.{AuthoritiesAreKeys, IsJudged, IsKeyOrAll}
+use Rattle.krl_openssh.specs.Comparable.{IsFine, IsJudged}
+use Rattle.krl_openssh.specs.declared.authorities.Incomparable.{Incomparable}
+use Rattle.krl_openssh.specs.declared.authorities.Incomparable.TheVariants as reasons
+use Rattle.krl_openssh.proofs.Walk.{HasBytes}
 
 -- ---- what was read
 
@@ -140,44 +142,59 @@ has_string section first rest spells next after is none =
 -- ---- the judgement on a section
 
 -- a content begins with its authority
-authority_front : (content body : List ℕ) (values : List (List ℕ)) → BeginsWithTable authority_fields [] content values body → (more : List ℕ) × BeginsWithPart Text content (slice_index_or values 0 []) more
+pub authority_front : (content body : List ℕ) (values : List (List ℕ)) → BeginsWithTable authority_fields [] content values body → (more : List ℕ) × BeginsWithPart Text content (slice_index_or values 0 []) more
 authority_front content body values (authority, a, is_authority, any_authority, (reserved, b, is_reserved, any_reserved, (same, ends))) =
     (a, subst (λ (v : List (List ℕ)). BeginsWithPart Text content (slice_index_or v 0 []) a) same is_authority)
 
--- a section of certificates, judged by its authority
-pub judged_certificates : (section : SpelledSection) (first rest after content left : List ℕ) (fine : Bool) (next : Place) (spells : SpellsSection first section) → IsNext section first rest spells next after
-    → next ≡ places.SectionLength section_kinds.Certificates → Takes after content left → ((authority more : List ℕ) → content ≡ string authority ++ more → length authority < 2 ^ 32 → IsTrue fine ↔ IsKeyOrAll authority)
-    → IsJudged section fine left rest
-judged_certificates (Certificates authority subsections) first rest after content left fine next spells is here takes begins =
+-- a section of certificates, judged by its content
+pub judged_certificates : (why : Incomparable) (section : SpelledSection) (first rest after content left : List ℕ) (fine : Bool) (next : Place) (spells : SpellsSection first section) → IsNext section first rest spells next after
+    → next ≡ places.SectionLength section_kinds.Certificates → Takes after content left
+    → ((authority : List ℕ) (subsections : List Subsection) → SpellsCertificates content authority subsections → length content < 2 ^ 32 → IsTrue fine ↔ IsFine why (Certificates authority subsections))
+    → IsJudged (IsFine why section) fine left rest
+judged_certificates why (Certificates authority subsections) first rest after content left fine next spells is here takes by =
     let so = begins_so (Certificates authority subsections) first spells in
     let taken = takes so.content (so.after ++ rest) is.after_is so.fits in
-    let held = spells.content_is in
-    let (more, named) = authority_front spells.content held.body held.values held.fields in
-    let begun = subst (λ (text : List ℕ). BeginsWithPart Text spells.content text more) held.authority_is named in
     record {
-      judged = begins authority more (taken.0 ∙ begun.spelled) begun.is_part;
+      judged = by authority subsections (subst (λ (c : List ℕ). SpellsCertificates c authority subsections) (sym taken.0) spells.content_is) (omega (arith, so.fits, ap length taken.0));
       left_is = λ _. taken.1;
     }
-judged_certificates section first rest after content left fine next spells is here takes begins = let other = sym is.place_is ∙ here in absurd cc
-
--- a signature, whose second string is skipped
-pub judged_signature : (section : SpelledSection) (first rest after content middle left : List ℕ) (fine : Bool) (next : Place) (row : Field) (size behind : ℕ) (spells : SpellsSection first section) → IsNext section first rest spells next after
-    → next ≡ places.Field row size behind → Takes after content middle → ((text rest : List ℕ) → middle ≡ string text ++ rest → length text < 2 ^ 32 → IsTrue fine × (left ≡ rest))
-    → IsJudged section fine left rest
-judged_signature Signature first rest after content middle left fine next row size behind (bytes, spelled, (values, (key, a, is_key, any_key, (signature, b, is_signature, any_signature, (same, ends))))) is here takes skips =
-    let taken = takes key (a ++ rest) is.after_is is_key.is_part in
-    let middle_is : middle ≡ string signature ++ rest = taken.1 ∙ ap (λ (x : List ℕ). x ++ rest) is_signature.spelled ∙ append_assoc (string signature) b rest ∙ ap (λ (x : List ℕ). string signature ++ (x ++ rest)) ends in
-    let skipped = skips signature rest middle_is is_signature.is_part in
-    record {
-      judged = ((λ _. tt), (λ _. skipped.0));
-      left_is = λ _. skipped.1;
-    }
-judged_signature section first rest after content middle left fine next row size behind spells is here takes skips = let other = sym is.place_is ∙ here in absurd cc
+judged_certificates why section first rest after content left fine next spells is here takes by = let other = sym is.place_is ∙ here in absurd cc
 
 abbrev pub IsPlain : Place → Type 0
 IsPlain (places.SectionLength section_kinds.Certificates) = ⊥
 IsPlain (places.SectionLength section) = Unit {0}
 IsPlain _ = ⊥
+
+-- a section without certificates names none
+pub fine_signature : (why : Incomparable) → IsFine why Signature
+fine_signature reasons.Authority = tt
+fine_signature reasons.KeyId = tt
+
+fine_plain : (why : Incomparable) (section : SpelledSection) → IsPlain (place_of section) → IsFine why section
+fine_plain why (Certificates authority subsections) plain = absurd plain
+fine_plain why Signature plain = absurd plain
+fine_plain reasons.Authority (Keys blobs) plain = tt
+fine_plain reasons.Authority (Sha1s hashes) plain = tt
+fine_plain reasons.Authority (Sha256s hashes) plain = tt
+fine_plain reasons.Authority Extension plain = tt
+fine_plain reasons.KeyId (Keys blobs) plain = tt
+fine_plain reasons.KeyId (Sha1s hashes) plain = tt
+fine_plain reasons.KeyId (Sha256s hashes) plain = tt
+fine_plain reasons.KeyId Extension plain = tt
+
+-- a signature, whose second string is skipped
+pub judged_signature : (why : Incomparable) (section : SpelledSection) (first rest after content middle left : List ℕ) (fine : Bool) (next : Place) (row : Field) (size behind : ℕ) (spells : SpellsSection first section) → IsNext section first rest spells next after
+    → next ≡ places.Field row size behind → Takes after content middle → ((text rest : List ℕ) → middle ≡ string text ++ rest → length text < 2 ^ 32 → IsTrue fine × (left ≡ rest))
+    → IsJudged (IsFine why section) fine left rest
+judged_signature why Signature first rest after content middle left fine next row size behind (bytes, spelled, (values, (key, a, is_key, any_key, (signature, b, is_signature, any_signature, (same, ends))))) is here takes skips =
+    let taken = takes key (a ++ rest) is.after_is is_key.is_part in
+    let middle_is : middle ≡ string signature ++ rest = taken.1 ∙ ap (λ (x : List ℕ). x ++ rest) is_signature.spelled ∙ append_assoc (string signature) b rest ∙ ap (λ (x : List ℕ). string signature ++ (x ++ rest)) ends in
+    let skipped = skips signature rest middle_is is_signature.is_part in
+    record {
+      judged = ((λ _. fine_signature why), (λ _. skipped.0));
+      left_is = λ _. skipped.1;
+    }
+judged_signature why section first rest after content middle left fine next row size behind spells is here takes skips = let other = sym is.place_is ∙ here in absurd cc
 
 pub is_plain : (next : Place) (kind : SectionKind) → next ≡ places.SectionLength kind
     → (kind ≡ section_kinds.Keys) ⊎ ((kind ≡ section_kinds.Sha1s) ⊎ ((kind ≡ section_kinds.Sha256s) ⊎ (kind ≡ section_kinds.Extension))) → IsPlain next
@@ -187,15 +204,15 @@ is_plain next kind at (inr (inr (inl is))) = subst IsPlain (sym (at ∙ ap (λ (
 is_plain next kind at (inr (inr (inr is))) = subst IsPlain (sym (at ∙ ap (λ (k : SectionKind). places.SectionLength k) is)) tt
 
 -- a section of one string without an authority
-pub judged_plain : (section : SpelledSection) (first rest after content left : List ℕ) (next : Place) (spells : SpellsSection first section) → IsNext section first rest spells next after → IsPlain next → Takes after content left
-    → IsJudged section true left rest
-judged_plain (Certificates authority subsections) first rest after content left next spells is plain takes = absurd (subst IsPlain is.place_is plain)
-judged_plain Signature first rest after content left next spells is plain takes = absurd (subst IsPlain is.place_is plain)
-judged_plain section first rest after content left next spells is plain takes =
+pub judged_plain : (why : Incomparable) (section : SpelledSection) (first rest after content left : List ℕ) (next : Place) (spells : SpellsSection first section) → IsNext section first rest spells next after → IsPlain next → Takes after content left
+    → IsJudged (IsFine why section) true left rest
+judged_plain why (Certificates authority subsections) first rest after content left next spells is plain takes = absurd (subst IsPlain is.place_is plain)
+judged_plain why Signature first rest after content left next spells is plain takes = absurd (subst IsPlain is.place_is plain)
+judged_plain why section first rest after content left next spells is plain takes =
     let so = begins_so section first spells in
     let taken = takes so.content (so.after ++ rest) is.after_is so.fits in
     record {
-      judged = ((λ _. tt), (λ _. refl));
+      judged = ((λ _. fine_plain why section (subst IsPlain is.place_is plain)), (λ _. refl));
       left_is = λ _. taken.1;
     }
 
@@ -238,49 +255,9 @@ never_other (Sha256s hashes) other = other
 never_other Signature other = other
 never_other Extension other = other
 
-pub judged_never : (section : SpelledSection) (first rest after left : List ℕ) (next : Place) (spells : SpellsSection first section) → IsNext section first rest spells next after → IsOther next → IsJudged section false left rest
-judged_never section first rest after left next spells is other = absurd (never_other section (subst IsOther is.place_is other))
+pub judged_never : (why : Incomparable) (section : SpelledSection) (first rest after left : List ℕ) (next : Place) (spells : SpellsSection first section) → IsNext section first rest spells next after → IsOther next → IsJudged (IsFine why section) false left rest
+judged_never why section first rest after left next spells is other = absurd (never_other section (subst IsOther is.place_is other))
 
--- ---- all sections
-
--- Some sections are left, and all of them have a valid authority exactly if all of the list's sections do.
-pub record Remains (sections : List SpelledSection) (left : List ℕ) : Type 0 where
-  pub todo : List SpelledSection
-  pub spelled : SpellsEach SpellsSection left todo
-  pub same : AuthoritiesAreKeys todo ↔ AuthoritiesAreKeys sections
-
--- a section at the front was judged, and the bytes after it are left if it is valid
-abbrev pub Judges : (old new : List ℕ) (fine : Bool) → Type 0
-Judges old new fine = (section : SpelledSection) (first rest : List ℕ) → SpellsSection first section → old ≡ first ++ rest → IsJudged section fine new rest
-
-module _ (sections : List SpelledSection) (old new : List ℕ) (some : old ≡ [] → ⊥) where
-  goes_on_to : (todo : List SpelledSection) → SpellsEach SpellsSection old todo → AuthoritiesAreKeys todo ↔ AuthoritiesAreKeys sections → Judges old new true → Remains sections new
-  goes_on_to [] none same judges = absurd (some none)
-  goes_on_to (section ∷ others) (first, (rest, (parts, one, later))) same judges =
-      let is = judges section first rest one parts in
-      record {
-        todo = others;
-        spelled = subst (λ (left : List ℕ). SpellsEach SpellsSection left others) (sym (is.left_is refl)) later;
-        same = (λ all. same.0 (is.judged.0 refl, all), λ all. (same.1 all).1);
-      }
-
-  refuses_at : (todo : List SpelledSection) → SpellsEach SpellsSection old todo → AuthoritiesAreKeys todo ↔ AuthoritiesAreKeys sections → Judges old new false → AuthoritiesAreKeys sections → ⊥
-  refuses_at [] none same judges keys = some none
-  refuses_at (section ∷ others) (first, (rest, (parts, one, later))) same judges keys =
-      false≢true ((judges section first rest one parts).judged.1 (same.1 keys).0)
-
-  pub goes_on : Remains sections old → Judges old new true → Remains sections new
-  goes_on is judges = goes_on_to is.todo is.spelled is.same judges
-
-  pub refuses : Remains sections old → Judges old new false → AuthoritiesAreKeys sections → ⊥
-  refuses is judges keys = refuses_at is.todo is.spelled is.same judges keys
-
-ends_at : (sections todo : List SpelledSection) (left : List ℕ) → left ≡ [] → SpellsEach SpellsSection left todo → AuthoritiesAreKeys todo ↔ AuthoritiesAreKeys sections → AuthoritiesAreKeys sections
-ends_at sections [] left none spelled same = same.0 tt
-ends_at sections (section ∷ others) left none (first, (rest, (parts, one, later))) same =
-    let begins = begins_so section first one in
-    absurd (omega (arith, ap length none, ap length parts, ap length begins.parts, length-append first rest))
-
--- nothing is left
-pub ends : (sections : List SpelledSection) (left : List ℕ) → Remains sections left → left ≡ [] → AuthoritiesAreKeys sections
-ends sections left is none = ends_at sections is.todo left none is.spelled is.same
+-- Each section has a byte.
+pub section_has_bytes : HasBytes SpellsSection
+section_has_bytes section first is = omega (arith, ap length (begins_so section first is).parts)

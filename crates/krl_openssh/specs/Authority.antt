@@ -1,6 +1,6 @@
 -- Which certificate authorities of a list can be compared with that of a certificate, and leave the
 -- list one that OpenSSH reads.
-use Rattle.std.specs.Prelude.{◌≡◌, ◌⊎◌, ◌↔◌, ℕ, Bool, IsTrue, List, [], ⊤}
+use Rattle.std.specs.Prelude.{◌≡◌, ◌⊎◌, ℕ, List, [], ⊤}
 use Rattle.std.specs.List.{AllByRecursion}
 use Rattle.ssh_key.specs.Key.{IsKey, PublicKey}
 use Rattle.openssh_keys.specs.Judgement.{judgement_of}
@@ -30,10 +30,3 @@ HasKeyOrAll Extension = ⊤
 -- Each authority that the sections name is so.
 abbrev pub AuthoritiesAreKeys : List SpelledSection → Type 0
 AuthoritiesAreKeys sections = AllByRecursion HasKeyOrAll sections
-
--- ---- the steps of the pass over the sections
-
--- A section was judged. If it is valid, the bytes after it are left.
-pub record IsJudged (section : SpelledSection) (fine : Bool) (left rest : List ℕ) : Type 0 where
-  pub judged : IsTrue fine ↔ HasKeyOrAll section
-  pub left_is : IsTrue fine → left ≡ rest

@@ -7,6 +7,8 @@ use Rattle.ssh_wire.specs.Wire.{number_of}
 use Rattle.ssh_key.specs.Key.{PublicKey}
 use Rattle.ssh_key.specs.KeyReading.{key_at}
 use Rattle.ssh_key.specs.declared.fault.KeyFault.{KeyFault}
+use Rattle.ssh_key.specs.declared.kind.Kind.{Kind}
+use Rattle.ssh_key.specs.declared.kind.Kind.TheVariants as key_kinds
 use Rattle.openssh_keys.specs.Judgement.{judgement_of}
 use Rattle.openssh_keys.specs.declared.judgement.Judgement.{Judgement}
 use Rattle.openssh_keys.specs.declared.judgement.Judgement.TheVariants as judgements
@@ -36,6 +38,8 @@ difference_words differences.LongBitmap = codes "a bitmap has more than 2,048 by
 difference_words differences.Authority = codes "a CA is no key, or a key in another spelling"
 difference_words differences.KeySize = codes "the key of a CA is too short or too long"
 difference_words differences.Point = codes "the key of a CA has an invalid point"
+difference_words differences.Dsa =
+    codes "the key of a CA is DSA, which OpenSSH 10 does not read"
 difference_words differences.Extension = codes "it has an extension"
 difference_words differences.Signature = codes "it has a signature"
 
@@ -73,8 +77,18 @@ judgement_difference judgements.Short = Some differences.KeySize
 judgement_difference judgements.Long = Some differences.KeySize
 judgement_difference judgements.Point = Some differences.Point
 
+-- OpenSSH 10 reads no key of DSA.
+abbrev pub kind_difference : Kind → Option Difference
+kind_difference key_kinds.Dsa = Some differences.Dsa
+kind_difference _ = None
+
+abbrev pub or_later : Option Difference → Option Difference → Option Difference
+or_later (Some difference) later = Some difference
+or_later None later = later
+
 abbrev pub key_difference : Result PublicKey KeyFault → Option Difference
-key_difference (Ok key) = judgement_difference (judgement_of key)
+key_difference (Ok key) =
+    or_later (judgement_difference (judgement_of key)) (kind_difference key.kind)
 key_difference (Err fault) = Some differences.Authority
 
 -- An authority is empty, for all authorities, or a key.
@@ -140,10 +154,6 @@ difference_at (places.Byte offset size room_before room_after) field =
     bits_difference offset size room_before (number_of field)
 
 -- ---- all fields
-
-abbrev pub or_later : Option Difference → Option Difference → Option Difference
-or_later (Some difference) later = Some difference
-or_later None later = later
 
 abbrev pub place_or : Place → Result Place KrlFault → Place
 place_or other (Ok next) = next

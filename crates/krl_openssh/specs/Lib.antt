@@ -1,3 +1,4 @@
 pub mod Authority
+pub mod Comparable
 pub mod Difference
 pub mod Fields

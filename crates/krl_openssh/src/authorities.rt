@@ -1,35 +1,63 @@
-//! The pass over the sections of a list that checks their authorities.
+//! The pass over the sections of a list that checks the names by which they revoke certificates.
 
 ghost use Rattle.std.specs.Prelude.{◌≡◌, ◌↔◌, ◌<◌, ◌≤◌, ◌^◌, ◌++◌, List, ℕ, IsTrue, MatchOption};
 ghost use Rattle.std.specs.Prelude.{length};
 ghost use Rattle.ssh_wire.specs.Rows.{BeginsWithPart};
 ghost use Rattle.ssh_wire.specs.Wire.{string};
 ghost use Rattle.krl_format.specs.Field.{part_of};
-ghost use Rattle.krl_format.specs.Krl.{SpelledSection, Spells, SpellsSection};
+ghost use Rattle.krl_format.specs.Krl.{Certificates, SpelledSection, Spells, SpellsSection};
+ghost use Rattle.krl_format.specs.Krl.{SpellsCertificates, Subsection};
 ghost use Rattle.krl_format.specs.declared.header.Header.{Header as HeaderOf};
 ghost use Rattle.openssh_keys.specs.Judgement.{judgement_of};
 ghost use Rattle.openssh_keys.specs.declared.judgement.Judgement.TheVariants.{Accepted};
-ghost use Rattle.krl_openssh.specs.Authority.{AuthoritiesAreKeys, IsJudged, IsKeyOrAll};
+ghost use Rattle.krl_openssh.specs.Authority.{IsKeyOrAll};
+ghost use Rattle.krl_openssh.specs.Comparable.{AreFine, IsFine, IsIncomparable, IsJudged};
 
+use crate::key_ids::key_ids_are_whole;
+use crate::strings::{skips_string, take_string};
 use krl_format::{Field, FieldPart, Place, Section};
 use openssh_keys::{Judgement, judge};
 use ssh_key::laws::read_where_spelled;
 use ssh_key::{PublicKey, read_key};
 use ssh_wire::Cursor;
 
-/// Whether each certificate authority that a list names is a key in its one spelling that OpenSSH
-/// accepts, or empty, which means all authorities. The list must be one that can be read; for other
-/// bytes nothing is promised. Does not allocate.
-pub fn authorities_are_keys(list: &[u8]) -> bool
+/// Why a certificate cannot be looked for in a list by comparing bytes.
+#[derive(Clone, Copy, PartialEq, Eq)]
+pub enum Incomparable {
+    /// A certificate authority is neither empty, which means all authorities, nor a key in its one
+    /// spelling that OpenSSH accepts.
+    Authority,
+    /// A key ID has a zero byte. OpenSSH reads another key ID, or refuses the list.
+    KeyId,
+}
+
+/// Returns why names of a list cannot be compared with those of certificates, if so: first for its
+/// certificate authorities, and then for its key IDs. The list must be one that can be read; for
+/// other bytes nothing is promised. Does not allocate.
+pub fn first_incomparable(list: &[u8]) -> Option<Incomparable>
     ensures { (header : HeaderOf) (sections : List SpelledSection)
-        → Spells list.now header sections → IsTrue result ↔ AuthoritiesAreKeys sections }
+        → Spells list.now header sections → IsIncomparable sections result }
+{
+    if !are_fine(Incomparable::Authority, list) {
+        Some(Incomparable::Authority)
+    } else if !are_fine(Incomparable::KeyId, list) {
+        Some(Incomparable::KeyId)
+    } else {
+        None
+    }
+}
+
+// Whether no section of a list is incomparable for this reason.
+fn are_fine(why: Incomparable, list: &[u8]) -> bool
+    ensures { (header : HeaderOf) (sections : List SpelledSection)
+        → Spells list.now header sections → IsTrue result ↔ AreFine why sections }
 {
     let Some(sections) = past_header(list) else {
         return false;
     };
     let mut left = Cursor::new(sections);
     while !left.at_end() {
-        if !section_is_fine(&mut left) {
+        if !section_is_fine(why, &mut left) {
             return false;
         }
     }
@@ -99,12 +127,12 @@ fn skips_bytes(count: usize, left: &mut Cursor) -> bool
     true
 }
 
-// Skips a section, and returns whether its authority, if it has one, is a key or empty.
-fn section_is_fine<'a>(left: &mut Cursor<'a>) -> bool
+// Skips a section, and returns whether it is not incomparable for this reason.
+fn section_is_fine(why: Incomparable, left: &mut Cursor) -> bool
     ensures goes_on { IsTrue result → length left.new < length left.old }
     ensures judged { (section : SpelledSection) (first rest : List ℕ)
         → SpellsSection first section → left.old ≡ first ++ rest
-        → IsJudged section result left.new rest }
+        → IsJudged (IsFine why section) result left.new rest }
 {
     let bytes = left.rest();
     let Some((size, next)) = (Place::SectionType { signed: false }).passes(bytes) else {
@@ -116,7 +144,7 @@ fn section_is_fine<'a>(left: &mut Cursor<'a>) -> bool
     };
     match next {
         Place::SectionLength { section } => match section {
-            Section::Certificates => begins_with_key(content),
+            Section::Certificates => content_is_fine(why, content),
             Section::Keys | Section::Sha1s | Section::Sha256s | Section::Extension => true,
         },
         // The key of a signature comes before the signature.
@@ -136,6 +164,18 @@ fn section_is_fine<'a>(left: &mut Cursor<'a>) -> bool
     }
 }
 
+// Whether the content of a section of certificates is not incomparable for this reason.
+fn content_is_fine(why: Incomparable, content: &[u8]) -> bool
+    ensures { (authority : List ℕ) (subsections : List Subsection)
+        → SpellsCertificates content.now authority subsections → length content.now < 2 ^ 32
+        → IsTrue result ↔ IsFine why (Certificates authority subsections) }
+{
+    match why {
+        Incomparable::Authority => begins_with_key(content),
+        Incomparable::KeyId => key_ids_are_whole(content),
+    }
+}
+
 // Whether the content of a section of certificates begins with a key or with an empty authority.
 fn begins_with_key(content: &[u8]) -> bool
     ensures { (authority rest : List ℕ) → content.now ≡ string authority ++ rest
@@ -144,30 +184,5 @@ fn begins_with_key(content: &[u8]) -> bool
     match take_string(&mut Cursor::new(content)) {
         Some(authority) => is_key_or_all(authority),
         None => false,
-    }
-}
-
-// Skips the string at the front, if there is one.
-fn skips_string(left: &mut Cursor) -> bool
-    ensures shorter { length left.new ≤ length left.old }
-    ensures text { (text rest : List ℕ) → left.old ≡ string text ++ rest → length text < 2 ^ 32
-        → IsTrue result × (left.new ≡ rest) }
-{
-    match take_string(left) {
-        Some(_) => true,
-        None => false,
-    }
-}
-
-// Takes the string at the front.
-fn take_string<'a>(left: &mut Cursor<'a>) -> Option<&'a [u8]>
-    ensures shorter { MatchOption result (left.new ≡ left.old)
-        (λ _. length left.new < length left.old) }
-    ensures text { (text rest : List ℕ) → left.old ≡ string text ++ rest → length text < 2 ^ 32
-        → MatchOption result ⊥ (λ taken. (taken.now ≡ text) × (left.new ≡ rest)) }
-{
-    match left.string() {
-        Ok(text) => Some(text),
-        Err(_) => None,
     }
 }

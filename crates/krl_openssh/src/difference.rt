@@ -1,18 +1,19 @@
 //! The fields of a list for which OpenSSH refuses it, or reads other names.
 
-ghost use Rattle.std.specs.Prelude.{◌≡◌, length};
+ghost use Rattle.std.specs.Prelude.{◌≡◌, length, Ok};
 ghost use Rattle.krl_format.specs.Place.{expected};
 ghost use Rattle.krl_openssh.specs.Difference.{authority_difference, bits_difference};
 ghost use Rattle.krl_openssh.specs.Difference.{comment_difference, difference_at, difference_words};
 ghost use Rattle.krl_openssh.specs.Difference.{found_if, has_zero, is_long, item_difference};
-ghost use Rattle.krl_openssh.specs.Difference.{judgement_difference, names_zero};
+ghost use Rattle.krl_openssh.specs.Difference.{judgement_difference, key_difference};
+ghost use Rattle.krl_openssh.specs.Difference.{kind_difference, names_zero};
 ghost use Rattle.krl_openssh.specs.Difference.{section_difference, subsection_difference};
 ghost use Rattle.krl_openssh.specs.Difference.{table_difference, text_difference};
 
 use krl_format::{Field, Place, Section, Subsection, Table};
 use krl_types::ItemKind;
 use openssh_keys::{Judgement, judge};
-use ssh_key::read_key;
+use ssh_key::{Kind, PublicKey, read_key};
 use ssh_wire::{byte_of, u64_of};
 
 /// Why OpenSSH refuses a list, or reads other names from it.
@@ -34,6 +35,8 @@ pub enum Difference {
     /// A certificate authority is a key of ECDSA whose point is not on its curve, or has a
     /// coordinate that OpenSSH refuses.
     Point,
+    /// A certificate authority is a DSA key, which OpenSSH 10 does not read.
+    Dsa,
     /// There is an extension.
     Extension,
     /// There is a signature.
@@ -53,6 +56,7 @@ impl Difference {
             Difference::Authority => "a CA is no key, or a key in another spelling",
             Difference::KeySize => "the key of a CA is too short or too long",
             Difference::Point => "the key of a CA has an invalid point",
+            Difference::Dsa => "the key of a CA is DSA, which OpenSSH 10 does not read",
             Difference::Extension => "it has an extension",
             Difference::Signature => "it has a signature",
         }
@@ -156,8 +160,8 @@ fn comment_difference(comment: &[u8]) -> Option<Difference>
     found_if(has_zero(front), Difference::Comment)
 }
 
-// Returns true if a text has a zero byte.
-fn has_zero(text: &[u8]) -> bool
+/// Returns true if a text has a zero byte.
+pub(crate) fn has_zero(text: &[u8]) -> bool
     ensures { result ≡ has_zero text.now }
 {
     text.contains(&0)
@@ -182,8 +186,34 @@ fn authority_difference(authority: &[u8]) -> Option<Difference>
         return None;
     }
     match read_key(authority) {
-        Ok(key) => judgement_difference(judge(&key)),
+        Ok(key) => key_difference(&key),
         Err(_) => Some(Difference::Authority),
+    }
+}
+
+// The difference of a key: by OpenSSH's judgement, and otherwise by its kind.
+fn key_difference(key: &PublicKey) -> Option<Difference>
+    ensures { result ≡ key_difference (Ok key.now) }
+{
+    match judgement_difference(judge(key)) {
+        Some(difference) => Some(difference),
+        None => kind_difference(key.kind()),
+    }
+}
+
+// The difference of a key of this kind.
+fn kind_difference(kind: Kind) -> Option<Difference>
+    ensures { result ≡ kind_difference kind }
+{
+    match kind {
+        Kind::Dsa => Some(Difference::Dsa),
+        Kind::Rsa
+        | Kind::Ecdsa256
+        | Kind::Ecdsa384
+        | Kind::Ecdsa521
+        | Kind::Ed25519
+        | Kind::EcdsaSk
+        | Kind::Ed25519Sk => None,
     }
 }
 

@@ -4,8 +4,10 @@
 mod authorities;
 mod difference;
 mod first;
+mod key_ids;
 pub mod laws;
+mod strings;
 
-pub use authorities::authorities_are_keys;
+pub use authorities::{Incomparable, first_incomparable};
 pub use difference::Difference;
 pub use first::first_difference;

@@ -17,9 +17,9 @@ use run_faults::SpecCause;
 use serial_set::Spans;
 use std::alloc::Global;
 
-/// Adds the entry of the content of a line without a directive.
+// Adds the entry of the content of a line without a directive.
 #[tactic(auto, unfolding(keyed_lines::specs::Keys::subject_in))]
-pub fn add_bare<S: Spans>(
+fn add_bare<S: Spans>(
     alloc: Global,
     revocations: &mut Revocations<S>,
     text: &[u8],

@@ -12,10 +12,9 @@ mod number;
 mod spec_fault;
 mod under;
 
-pub use adding::add_bare;
 pub use blanks::{bare_line, position_of};
 pub use directive::Directive;
-pub use entries::add_order;
+pub use entries::{add_order, add_subject};
 pub use keys::{ask, key_line};
 pub use lines::read_spec;
 pub use run_faults::SpecCause;

@@ -1,17 +1,22 @@
 //! The files that the command line names.
 
-ghost use Rattle.std.specs.Prelude.{◌≡◌, IfOk, map};
+ghost use Rattle.std.specs.Prelude.{◌≡◌, IfOk, IfSome, map, take};
 ghost use Rattle.krl_job.specs.Job.{authority_of};
 ghost use Rattle.krl_system.specs.Files.{authority_name, name_of, now_of};
 
 use byte_streams::FromRead;
 use krl_job::AuthorityOption;
+use list_making::read_rest;
 use run_faults::{Cause, FileFault, Named, RunFault, load};
+use ssh_wire::Bytes;
+use std::alloc::Global;
 use std::fs::{self, File};
-use std::io::BufReader;
+use std::io::{BufReader, Read};
 
 // How many bytes of a list are read ahead.
 const BUFFER: usize = 65_536;
+// One byte more than a list may have, so that a longer one has its first fault.
+const MOST: u64 = 67_108_865;
 
 /// The list with this name, with a buffer.
 pub fn open_list(rt: &HostRuntime, name: &str) -> Result<BufReader<File>, Cause> {
@@ -22,11 +27,20 @@ pub fn open_list(rt: &HostRuntime, name: &str) -> Result<BufReader<File>, Cause>
 }
 
 // A list with a buffer, since it is read a field at a time.
-fn buffered(rt: &HostRuntime, file: File) -> Result<BufReader<File>, Cause> {
+pub(crate) fn buffered(rt: &HostRuntime, file: File) -> Result<BufReader<File>, Cause> {
     match BufReader::with_capacity(rt.alloc(), BUFFER, file) {
         Ok(list) => Ok(list),
         Err(_) => Err(Cause::NoMemory),
     }
+}
+
+/// The bytes of a list's file: of a longer one, one byte more than a list may have, so that it has
+/// its first fault.
+pub fn read_list<R: Read + Drop>(alloc: Global, file: R) -> Result<Bytes, Cause>
+    ensures { IfOk result (λ bytes. IfSome (R.remaining file) (λ left.
+        bytes ≡ take 67108865 left)) }
+{
+    read_rest(alloc, FromRead::new(file.take(MOST)), MOST)
 }
 
 /// The file with this name.

@@ -16,6 +16,6 @@ mod streams;
 mod waiting;
 
 pub use clock::{date, moment, present};
-pub use files::{open, open_authority, open_files, open_list, open_or_input};
-pub use list_place::{ListPlace, read_list};
+pub use files::{open, open_authority, open_files, open_list, open_or_input, read_list};
+pub use list_place::{ListPlace, OldReader};
 pub use streams::{NOTHING, Placeholders, open_placeholders};

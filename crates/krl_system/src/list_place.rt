@@ -1,24 +1,54 @@
 //! The name of a list in the file system, as a place where lists are put.
 
-ghost use Rattle.std.specs.Prelude.{◌≡◌, ℕ, IfOk, IfSome, None, Ok, Some, take, true};
+ghost use Rattle.std.specs.Prelude.{◌≡◌, ℕ, IfOk, None, Ok, Some, false, true};
+ghost use Rattle.std.specs.Option.{ForSome};
 ghost use Rattle.krl_system.specs.declared.locked_list.Locked.{Locked as LockedOf};
 
+use crate::files::buffered;
 use crate::locked_list::{Locked, MadeOf, Target, lock_target, release, unopened};
 use crate::replacing::{Written, write_list};
 use crate::waiting::Waiting;
-use byte_streams::FromRead;
-use list_making::{Place, Put, read_rest};
+use byte_streams::{Failed, FromBuffer, Source};
+use list_making::{Place, Put};
 use run_faults::{Cause, FileFault};
-use ssh_wire::Bytes;
-use std::alloc::Global;
 use std::fs::{self, File};
-use std::io::Read;
 
 // How often the name is looked at again because it now belongs to another file, or its file was
 // changed meanwhile.
 const TRIES: u32 = 10_000;
-// One byte more than a list may have, so that a longer one has its first fault.
-const MOST: u64 = 67_108_865;
+
+/// A reader of a list that a new one follows.
+#[derive(Drop)]
+pub struct OldReader {
+    reader: FromBuffer<File>,
+}
+
+impl Source for OldReader {
+    ghost left = { λ list. ⟦<FromBuffer<File> as Source>⟧.left list.reader };
+
+    ghost has_failed = { λ list. ⟦<FromBuffer<File> as Source>⟧.has_failed list.reader };
+
+    ghost buffered = { λ list. ⟦<FromBuffer<File> as Source>⟧.buffered list.reader };
+
+    #[inline(always)]
+    fn read(&mut self, into: &mut [u8]) -> Result<usize, Failed> {
+        self.reader.read(into)
+    }
+
+    fn failed(&self) -> bool {
+        self.reader.failed()
+    }
+
+    #[inline(always)]
+    fn buffer(&self) -> &[u8] {
+        self.reader.buffer()
+    }
+
+    #[inline(always)]
+    fn consume(&mut self, count: usize) {
+        self.reader.consume(count)
+    }
+}
 
 /// The name of a list. Nothing is claimed about what is under it.
 #[derive(Drop)]
@@ -27,8 +57,10 @@ pub struct ListPlace<'a> {
     name: &'a str,
     waiting: Waiting<'a>,
     tries: u32,
-    // The pipe or the device that is read as the old list.
+    // The pipe or the device that is the old list, until it is read.
     stream: Option<File>,
+    // Whether the old list is a pipe or a device, and the new one is put into such a one only.
+    is_streamed: bool,
     // What is under the name, while it is held.
     locked: Option<Locked>,
 }
@@ -44,6 +76,7 @@ impl<'a> ListPlace<'a> {
             waiting: Waiting::new(program, name),
             tries: 0,
             stream: None,
+            is_streamed: false,
             locked: None,
         }
     }
@@ -58,6 +91,7 @@ impl<'a> ListPlace<'a> {
             Ok(found) if found.is_file() => Ok(()),
             Ok(_) => {
                 self.stream = Some(file);
+                self.is_streamed = true;
                 Ok(())
             }
             Err(_) => Err(Cause::File(FileFault::Open)),
@@ -95,38 +129,31 @@ impl<'a> ListPlace<'a> {
         }
     }
 
-    // The bytes of the regular file that is held, if there is one.
-    fn read(&self, alloc: Global) -> Result<Option<Bytes>, Cause> {
+    // A reader of the regular file that is held, if there is one.
+    fn reader(&self) -> Result<Option<OldReader>, Cause>
+        ensures { IfOk result (λ list.
+            ForSome list (λ it. ⟦<OldReader as Source>⟧.has_failed it ≡ false)) }
+    {
         match &self.locked {
             Some(locked) => match &locked.target {
-                Target::List(old) => Ok(Some(read_list(alloc, &old.file)?)),
+                Target::List(old) => match old.file.try_clone() {
+                    Ok(file) => Ok(Some(reader_of(self.rt, file)?)),
+                    Err(error) => Err(unopened(&error)),
+                },
                 Target::Free(_) | Target::Stream(_) => Ok(None),
             },
             None => Ok(None),
         }
     }
 
-    // Whether what was read was changed meanwhile, so that it is read again after a turn of
-    // waiting.
-    fn is_stale(&mut self) -> bool {
-        match &self.locked {
-            Some(locked) => locked.target.is_stale() && self.waiting.wait(self.rt).is_ok(),
-            None => true,
-        }
-    }
-
-    // Begins to read what is held again, if a list of this run replaced it. Otherwise the name is
-    // opened again.
-    fn follow(&mut self) -> Result<bool, Cause> {
-        let Some(locked) = &mut self.locked else {
-            return Ok(false);
-        };
-        match &mut locked.target {
-            Target::List(old) => match old.follow(self.rt, None) {
-                Ok(is_followed) => Ok(is_followed),
-                Err(error) => Err(unopened(&error)),
+    // Begins to read what is held again, if a list of this run replaced it.
+    fn follow(&mut self) -> bool {
+        match &mut self.locked {
+            Some(locked) => match &mut locked.target {
+                Target::List(old) => old.follow(self.rt, None).unwrap_or(false),
+                Target::Free(_) | Target::Stream(_) => false,
             },
-            Target::Free(_) | Target::Stream(_) => Ok(false),
+            None => false,
         }
     }
 
@@ -148,6 +175,8 @@ impl<'a> ListPlace<'a> {
 }
 
 impl<'a> Place for ListPlace<'a> {
+    type List = OldReader;
+
     ghost holds = { λ _ _. Unit {0} };
 
     ghost base = { λ _ _. Unit {0} };
@@ -156,28 +185,38 @@ impl<'a> Place for ListPlace<'a> {
 
     ghost overtaken = { λ _. Unit {0} };
 
-    fn hold(&mut self, alloc: Global, is_read: bool) -> Result<Option<Bytes>, Cause> {
+    fn hold(&mut self, is_read: bool) -> Result<Option<OldReader>, Cause> {
         if let Some(stream) = self.stream.take() {
-            let old = read_list(alloc, stream)?;
-            self.locked = lock_target(self.rt, self.name, MadeOf::Stream, &mut self.waiting)?;
-            return Ok(Some(old));
+            return Ok(Some(reader_of(self.rt, stream)?));
         }
         for tries in self.tries..TRIES {
             self.tries = tries + 1;
             if self.lock(is_read)? {
-                let old = if is_read { self.read(alloc)? } else { None };
-                if !is_read || !self.is_stale() {
-                    return Ok(old);
-                }
+                return if is_read { self.reader() } else { Ok(None) };
             }
-            if !self.follow()? {
-                self.release();
-            }
+            self.release();
         }
         Err(Cause::Output { count: 0 })
     }
 
+    // A list that was changed is read again after a turn of waiting, as long as one is left.
+    fn is_changed(&mut self) -> bool {
+        let is_stale = match &self.locked {
+            Some(locked) => locked.target.is_stale() && self.waiting.wait(self.rt).is_ok(),
+            None => false,
+        };
+        if is_stale && !self.follow() {
+            self.release();
+        }
+        is_stale
+    }
+
+    // A pipe or a device is opened to be written only once it was read, since it has no end before
+    // all that write it have closed it.
     fn put(&mut self, bytes: &[u8]) -> Result<Put, Cause> {
+        if self.is_streamed && self.locked.is_none() {
+            self.locked = lock_target(self.rt, self.name, MadeOf::Stream, &mut self.waiting)?;
+        }
         let Some(locked) = &mut self.locked else {
             return Ok(Put::Again);
         };
@@ -188,11 +227,10 @@ impl<'a> Place for ListPlace<'a> {
     }
 }
 
-/// The bytes of a list's file: of a longer one, one byte more than a list may have, so that it has
-/// its first fault.
-pub fn read_list<R: Read + Drop>(alloc: Global, file: R) -> Result<Bytes, Cause>
-    ensures { IfOk result (λ bytes. IfSome (R.remaining file) (λ left.
-        bytes ≡ take 67108865 left)) }
+// A reader of a file, with a buffer.
+fn reader_of(rt: &HostRuntime, file: File) -> Result<OldReader, Cause>
+    ensures { IfOk result (λ it. ⟦<OldReader as Source>⟧.has_failed it ≡ false) }
 {
-    read_rest(alloc, FromRead::new(file.take(MOST)), MOST)
+    let reader = FromBuffer::new(buffered(rt, file)?);
+    Ok(OldReader { reader })
 }

@@ -1,6 +1,7 @@
 //! Waiting for another update of a list.
 
-ghost use Rattle.std.specs.Prelude.{◌≡◌, ◌≤◌, ◌↔◌, IsErr};
+ghost use Rattle.std.specs.Prelude.{◌≡◌, ◌≤◌, ◌↔◌, ◌++◌, codes, IfOk, IsErr};
+ghost use Rattle.ssh_cert.specs.Escape.{escaped};
 
 use byte_streams::{ToWrite, send};
 use line_pieces::{Escaped, Words, put};
@@ -62,7 +63,10 @@ fn announce(rt: &HostRuntime, program: &str, name: &str) {
 }
 
 // The line that is printed.
-fn waiting_text(alloc: Global, program: &str, name: &str) -> Result<Vec<u8>, AllocError> {
+fn waiting_text(alloc: Global, program: &str, name: &str) -> Result<Vec<u8>, AllocError>
+    ensures { IfOk result (λ text. text.items ≡ program.now
+        ++ (codes ": waiting for another update of " ++ (escaped name.now ++ codes "\n"))) }
+{
     let mut text = Vec::new(alloc);
     put!(&mut text; Words(program.as_bytes()), b": waiting for another update of ",
         Escaped(name.as_bytes()), b"\n")?;

@@ -1,22 +1,22 @@
 -- A list that is made over what is under its name, and put there.
 use Rattle.std.specs.Prelude.{◌≡◌, ℕ, ◌⊎◌, Bool, true, List, Option, Some}
 use Rattle.run_faults.specs.declared.cause.Cause.{Cause}
-use Rattle.list_making.specs.Place.{IsCut, IsKept}
+use Rattle.list_making.specs.Place.{IsCut, IsKept, Old}
 
 -- The bytes were made over the list that they follow, where that is read, and are under the name
 -- now in its stead.
-pub record IsPut {P : Type 0} (holds replaced : P → Option (List ℕ) → Type 0) (reads : Bool)
-    (Makes : Option (List ℕ) → Type 0) (bytes : List ℕ) (new : P) : Type 0 where
-  pub old : Option (List ℕ)
+pub record IsPut {P : Type 0} (holds : P → Option (List ℕ) → Type 0)
+    (replaced : P → Old → Type 0) (reads : Bool) (Makes : Old → Type 0) (bytes : List ℕ) (new : P)
+    : Type 0 where
+  pub old : Old
   pub over : reads ≡ true → replaced new old
   pub makes : Makes old
   pub held : holds new (Some bytes)
 
 -- Why no list was put: none is made over the list that it follows; or the place has a fault.
-pub data WhyUnput {P F : Type 0} (base : P → Option (List ℕ) → Type 0) (reads : Bool)
-    (Refuses : Option (List ℕ) → F → Type 0) (fault_of : Cause → F) (new : P) (fault : F)
-    : Type 0 where
-  refused : (old : Option (List ℕ)) → (reads ≡ true → base new old) → Refuses old fault
+pub data WhyUnput {P F : Type 0} (base : P → Old → Type 0) (reads : Bool)
+    (Refuses : Old → F → Type 0) (fault_of : Cause → F) (new : P) (fault : F) : Type 0 where
+  refused : (old : Old) → (reads ≡ true → base new old) → Refuses old fault
       → WhyUnput base reads Refuses fault_of new fault
   unheld : (cause : Cause) → fault ≡ fault_of cause
       → WhyUnput base reads Refuses fault_of new fault

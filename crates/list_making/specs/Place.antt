@@ -3,6 +3,10 @@ use Rattle.std.specs.Prelude.{ℕ, ◌<◌, ◌⊎◌, List, Option}
 use Rattle.run_faults.specs.declared.cause.Cause.{Cause}
 use Rattle.run_faults.specs.declared.cause.Cause.TheVariants.{Output}
 
+-- The list that a new one follows: there is none, or its bytes, if its reader knows them.
+abbrev pub Old : Type 0
+Old = Option (Option (List ℕ))
+
 -- What may have been under the name still may be there, or another program changed it. A change by
 -- another program is not forgotten.
 pub record IsKept {P : Type 0} (holds : P → Option (List ℕ) → Type 0) (overtaken : P → Type 0)

@@ -1,13 +1,15 @@
 //! Making a list over what is under its name, until no other program changes that meanwhile.
 
-ghost use Rattle.std.specs.Prelude.{◌≡◌, ℕ, Bool, List, IfErr, IfOk, IfSome, None, Ok, Option};
+ghost use Rattle.std.specs.Prelude.{◌≡◌, ℕ, Bool, List, IfErr, IfOk, IfSome, None, Ok, false};
+ghost use Rattle.std.specs.Prelude.{option_map};
+ghost use Rattle.std.specs.Option.{ForSome};
 ghost use Rattle.run_faults.specs.declared.cause.Cause.{Cause as CauseOf};
-ghost use Rattle.list_making.specs.Place.{IsKept};
+ghost use Rattle.list_making.specs.Place.{IsKept, Old};
 ghost use Rattle.list_making.specs.Making.{IsPut, IsUntouched, WhyUnput};
 
 use crate::place::{Place, Put};
+use byte_streams::Source;
 use run_faults::Cause;
-use ssh_wire::Bytes;
 use std::alloc::Global;
 
 // How often a list is made again because another program changed what is under its name. Each of
@@ -35,10 +37,10 @@ pub trait Maker {
     ghost reads: { Self → Bool };
 
     // what it makes over an old list, or without one
-    ghost makes: { Self → Option (List ℕ) → List ℕ → Self.Facts → Type 0 };
+    ghost makes: { Self → Old → List ℕ → Self.Facts → Type 0 };
 
     // why it makes none
-    ghost refuses: { Self → Option (List ℕ) → Self.Fault → Type 0 };
+    ghost refuses: { Self → Old → Self.Fault → Type 0 };
 
     // the fault of a list that cannot be held or put
     ghost fault_of: { Self → CauseOf → Self.Fault };
@@ -47,10 +49,16 @@ pub trait Maker {
     fn reads_old(&self) -> bool
         ensures { result ≡ reads self.now };
 
-    /// The bytes of a list over an old one, or without one.
-    fn make(&self, alloc: Global, old: Option<Bytes>) -> Result<Made<Self::Facts>, Self::Fault>
-        ensures made { IfOk result (λ made. makes self.now old made.bytes.items made.facts) }
-        ensures refused { IfErr result (refuses self.now old) };
+    /// The bytes of a list over an old one that a reader gives, or without one.
+    fn make<R: Source + Drop>(
+        &self,
+        alloc: Global,
+        old: Option<R>,
+    ) -> Result<Made<Self::Facts>, Self::Fault>
+        requires { ForSome old (λ reader. R.has_failed reader ≡ false) }
+        ensures made { IfOk result (λ made.
+            makes self.now (option_map R.left old) made.bytes.items made.facts) }
+        ensures refused { IfErr result (refuses self.now (option_map R.left old)) };
 
     /// The fault of a list that cannot be held or put.
     fn fault(&self, cause: Cause) -> Self::Fault
@@ -80,7 +88,7 @@ pub fn make_at<P: Place, M: Maker>(
 }
 
 // Makes the list once, and puts it there. Returns none if another program changed meanwhile what is
-// there.
+// there: a fault of a list that was changed while it was read is no fault of the list.
 fn make_once<P: Place, M: Maker>(
     alloc: Global,
     maker: &M,
@@ -95,11 +103,15 @@ fn make_once<P: Place, M: Maker>(
     ensures kept { IfErr result (IsUntouched P.holds P.overtaken (M.fault_of maker.now) place.old
         place.new) }
 {
-    let old = match place.hold(alloc, maker.reads_old()) {
+    let old = match place.hold(maker.reads_old()) {
         Ok(old) => old,
         Err(cause) => return Err(maker.fault(cause)),
     };
-    let made = match maker.make(alloc, old) {
+    let made = maker.make(alloc, old);
+    if place.is_changed() {
+        return Ok(None);
+    }
+    let made = match made {
         Ok(made) => made,
         Err(fault) => return Err(fault),
     };

@@ -19,6 +19,10 @@ nothing_counted = record {
 abbrev pub plus : (count more : ℕ) → ℕ
 plus count more = min (count + more) (2 ^ 64 - 1)
 
+-- this many more serial numbers, but at most 2^128-1
+abbrev pub plus_serials : (count more : ℕ) → ℕ
+plus_serials count more = min (count + more) (2 ^ 128 - 1)
+
 -- one more entry: one line of the text, whose span or name is counted too
 abbrev pub and_entry : Counts → Counts
 and_entry counts = record counts { entries = plus counts.entries 1 }
@@ -29,11 +33,27 @@ counted counts (ListFact name header) = record counts { lists = plus counts.list
 counted counts (AuthorityFact authority) =
     record counts { authorities = plus counts.authorities 1 }
 counted counts (SerialsFact authority span) =
-    record (and_entry counts) { serials = plus (plus counts.serials (span.hi - span.lo)) 1 }
+    record (and_entry counts) {
+      serials = plus_serials (plus_serials counts.serials (span.hi - span.lo)) 1;
+    }
 counted counts (IdFact authority id) = record (and_entry counts) { ids = plus counts.ids 1 }
 counted counts (KeyFact blob) = record (and_entry counts) { keys = plus counts.keys 1 }
 counted counts (Sha1Fact hash) = record (and_entry counts) { hashes = plus counts.hashes 1 }
 counted counts (Sha256Fact hash) = record (and_entry counts) { hashes = plus counts.hashes 1 }
+
+-- how many serial numbers a fact has, and how many all facts have
+abbrev pub serials_in : Fact → ℕ
+serials_in (ListFact name header) = 0
+serials_in (AuthorityFact authority) = 0
+serials_in (SerialsFact authority span) = span.hi - span.lo + 1
+serials_in (IdFact authority id) = 0
+serials_in (KeyFact blob) = 0
+serials_in (Sha1Fact hash) = 0
+serials_in (Sha256Fact hash) = 0
+
+abbrev pub serials_of : List Fact → ℕ
+serials_of [] = 0
+serials_of (fact ∷ facts) = serials_in fact + serials_of facts
 
 abbrev pub counted_all : Counts → List Fact → Counts
 counted_all counts [] = counts

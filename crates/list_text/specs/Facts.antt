@@ -1,5 +1,5 @@
 -- The facts about a list, in the order in which they are printed (krl(1), KRL SHOW).
-use Rattle.std.specs.Prelude.{ℕ, List, [], ◌∷◌, ◌++◌, map, Option, option_map}
+use Rattle.std.specs.Prelude.{ℕ, List, ◌∷◌, ◌++◌, map, Option, option_map}
 use Rattle.std.specs.List.{flat_map}
 use Rattle.serial_set.specs.declared.span.Span.{Span}
 use Rattle.krl_entries.specs.Revocations.{Revocations, Section}

@@ -1,7 +1,7 @@
 -- The facts about a list as JSON objects (krl(1), KRL SHOW).
 use Rattle.std.specs.Prelude.{ℕ, ◌==◌, if◌then◌else◌, List, [], ◌∷◌, ◌++◌, codes, decimal, length}
 use Rattle.std.specs.Prelude.{Option, Some, None}
-use Rattle.json.specs.Json.{Json, number}
+use Rattle.json.specs.Json.{string}
 use Rattle.json_lines.specs.Field.{Field, array_of, digits_field, field, json_line, number_field}
 use Rattle.json_lines.specs.Field.{object_of, text_field, word_field}
 use Rattle.serial_set.specs.declared.span.Span.{Span}
@@ -25,10 +25,11 @@ authority_text authority =
 abbrev pub authority_field : List ℕ → Field
 authority_field authority = text_field (codes "ca") (authority_text authority)
 
--- the first and the last serial number
+-- the first and the last serial number, as strings, because they may be too large for a reader's
+-- numbers
 abbrev pub serials_field : Span → Field
 serials_field span = field (codes "serial")
-    (array_of (number (decimal span.lo) ∷ number (decimal span.hi) ∷ []))
+    (array_of (string (decimal span.lo) ∷ string (decimal span.hi) ∷ []))
 
 abbrev pub hash_field : (label hash : List ℕ) → Field
 hash_field label hash = text_field (codes "hash") (hash_text label hash)
@@ -63,11 +64,22 @@ unfoldable pub object_line : Option Side → Fact → List ℕ
 object_line side (AuthorityFact authority) = []
 object_line side fact = json_line (object_of (side_fields side ++ fact_fields fact))
 
+-- The line of a fact, without the name of a list. A plain list has nothing else to say.
+abbrev pub unnamed_object : Fact → List ℕ
+unnamed_object (ListFact name None) = []
+unnamed_object (ListFact name (Some header)) = json_line (object_of (header_fields (Some header)))
+unnamed_object (AuthorityFact authority) = object_line None (AuthorityFact authority)
+unnamed_object (SerialsFact authority span) = object_line None (SerialsFact authority span)
+unnamed_object (IdFact authority id) = object_line None (IdFact authority id)
+unnamed_object (KeyFact blob) = object_line None (KeyFact blob)
+unnamed_object (Sha1Fact hash) = object_line None (Sha1Fact hash)
+unnamed_object (Sha256Fact hash) = object_line None (Sha256Fact hash)
+
 -- how many facts of each kind
 abbrev pub kind_fields : Counts → List Field
 kind_fields counts =
     number_field (codes "cas") counts.authorities
-    ∷ number_field (codes "serials") counts.serials
+    ∷ digits_field (codes "serials") counts.serials
     ∷ number_field (codes "ids") counts.ids
     ∷ number_field (codes "keys") counts.keys
     ∷ number_field (codes "hashes") counts.hashes ∷ []

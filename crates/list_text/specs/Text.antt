@@ -1,6 +1,6 @@
 -- The text of a list: a line for each fact (krl(1), THE TEXT OF A LIST).
 use Rattle.std.specs.Prelude.{ℕ, ◌==◌, ◌&&◌, ◌||◌, nat_eq, nat_le, not, Bool, false, List, []}
-use Rattle.std.specs.Prelude.{◌∷◌, ◌++◌, codes, decimal, length, map, Option, Some, None, Result}
+use Rattle.std.specs.Prelude.{◌++◌, codes, decimal, length, map, Option, Some, None, Result}
 use Rattle.std.specs.Prelude.{Ok, Err, if◌then◌else◌}
 use Rattle.std.specs.List.{concat, ends_with, list_all, starts_with}
 use Rattle.base64.specs.Engines.{standard}
@@ -17,6 +17,7 @@ use Rattle.cert_listing.specs.Time.{instant_text}
 use Rattle.krl_audit.specs.Visible.{visible}
 use Rattle.krl_entries.specs.Revocations.{Revocations}
 use Rattle.krl_format.specs.declared.header.Header.{Header}
+use Rattle.text_entries.specs.Values.{looks_like_key}
 use Rattle.list_text.specs.Facts.{Fact, ListFact, AuthorityFact, SerialsFact, IdFact, KeyFact}
 use Rattle.list_text.specs.Facts.{Sha1Fact, Sha256Fact, facts_of}
 
@@ -58,11 +59,12 @@ abbrev pub has_blank_end : List ℕ → Bool
 has_blank_end id =
     starts_with nat_eq id (codes " ") || ends_with nat_eq id (codes " ")
 
--- A line can have the key ID as it is: it is not empty, neither end is a blank, and each byte is
--- one of a text.
+-- A line can have the key ID as it is: it is not empty, neither end is a blank, it does not begin
+-- as a key, and each byte is one of a text.
 abbrev pub is_text : List ℕ → Bool
 is_text id =
-    not (length id == 0) && (not (has_blank_end id) && list_all is_text_byte id)
+    not (length id == 0) && (not (has_blank_end id)
+    && (not (looks_like_key id) && list_all is_text_byte id))
 
 abbrev pub id_line : List ℕ → List ℕ
 id_line id =
@@ -92,6 +94,13 @@ list_line name (Some header) =
     ++ (codes ", " ++ (instant_text header.date ++ (comment_part header.comment ++ codes "\n"))))))
 list_line name None = codes "# " ++ (visible false name ++ codes ": a plain list\n")
 
+-- the same comment without the name, which a plain list does not have
+abbrev pub header_line : Option Header → List ℕ
+header_line (Some header) =
+    codes "# version " ++ (decimal header.version
+    ++ (codes ", " ++ (instant_text header.date ++ (comment_part header.comment ++ codes "\n"))))
+header_line None = []
+
 -- ---- all facts
 
 -- the line of a fact
@@ -103,6 +112,16 @@ fact_line (IdFact authority id) = id_line id
 fact_line (KeyFact blob) = key_line blob
 fact_line (Sha1Fact hash) = hash_line (codes "SHA1:") hash
 fact_line (Sha256Fact hash) = hash_line (codes "SHA256:") hash
+
+-- the same without the name of a list
+abbrev pub unnamed_line : Fact → List ℕ
+unnamed_line (ListFact name header) = header_line header
+unnamed_line (AuthorityFact authority) = fact_line (AuthorityFact authority)
+unnamed_line (SerialsFact authority span) = fact_line (SerialsFact authority span)
+unnamed_line (IdFact authority id) = fact_line (IdFact authority id)
+unnamed_line (KeyFact blob) = fact_line (KeyFact blob)
+unnamed_line (Sha1Fact hash) = fact_line (Sha1Fact hash)
+unnamed_line (Sha256Fact hash) = fact_line (Sha256Fact hash)
 
 -- the text of what is held
 abbrev pub text_of : Revocations → List ℕ

@@ -6,7 +6,8 @@ ghost use Rattle.list_text.specs.Facts.{fact_of};
 
 use crate::fact::Fact;
 
-/// How many facts were printed. Each number is at most 2^64-1.
+/// How many facts were printed. Each number is at most 2^64-1, and that of serial numbers 2^128-1,
+/// which no list reaches.
 #[derive(Clone, Copy)]
 pub struct Counts {
     /// Lists.
@@ -15,8 +16,8 @@ pub struct Counts {
     pub authorities: u64,
     /// Entries: lines of the text that are neither about a list nor an authority.
     pub entries: u64,
-    /// Serial numbers.
-    pub serials: u64,
+    /// Serial numbers. Each certificate authority may have 2^64-1 of them.
+    pub serials: u128,
     /// Key IDs.
     pub ids: u64,
     /// Keys.
@@ -52,7 +53,7 @@ impl Counts {
                 return;
             }
             Fact::Serials(_, span) => {
-                let between = span.hi.saturating_sub(span.lo);
+                let between = u128::from(span.hi.saturating_sub(span.lo));
                 self.serials = self.serials.saturating_add(between).saturating_add(1);
             }
             Fact::Id(..) => self.ids = self.ids.saturating_add(1),

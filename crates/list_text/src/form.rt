@@ -6,8 +6,8 @@ ghost use Rattle.list_text.specs.Forms.{form_line, last_line};
 
 use crate::counts::Counts;
 use crate::fact::Fact;
-use crate::line::{push_change, push_line};
-use crate::object::{write_done, write_object};
+use crate::line::{push_change, push_line, push_unnamed};
+use crate::object::{write_done, write_object, write_unnamed};
 use crate::side::Side;
 use std::alloc::{AllocError, Global};
 
@@ -18,6 +18,10 @@ pub enum Form {
     Text,
     /// As JSON objects.
     Json,
+    /// As text without the names of the lists.
+    Unnamed,
+    /// As JSON objects without the names of the lists.
+    JsonUnnamed,
     /// As text, each line with the mark of a side of a comparison.
     Change(Side),
     /// As JSON objects that say to which side of a comparison they belong.
@@ -25,7 +29,8 @@ pub enum Form {
 }
 
 impl Form {
-    /// Makes the line of a fact, with its line feed. It is empty for an authority as JSON.
+    /// Makes the line of a fact, with its line feed. It is empty for an authority as JSON, and for a
+    /// plain list without its name.
     #[inline(always)]
     pub fn write_fact(
         self,
@@ -39,6 +44,8 @@ impl Form {
         match self {
             Form::Text => push_line(alloc, fact, line),
             Form::Json => write_object(alloc, None, fact, line),
+            Form::Unnamed => push_unnamed(alloc, fact, line),
+            Form::JsonUnnamed => write_unnamed(alloc, fact, line),
             Form::Change(side) => push_change(alloc, side, fact, line),
             Form::JsonChange(side) => write_object(alloc, Some(side), fact, line),
         }
@@ -54,8 +61,8 @@ impl Form {
         ensures { OnOk result (line.new.items ≡ last_line self counts) }
     {
         match self {
-            Form::Json => write_done(alloc, counts, line),
-            Form::Text | Form::Change(_) | Form::JsonChange(_) => {
+            Form::Json | Form::JsonUnnamed => write_done(alloc, counts, line),
+            Form::Text | Form::Unnamed | Form::Change(_) | Form::JsonChange(_) => {
                 line.clear();
                 Ok(())
             }

@@ -4,6 +4,7 @@
 mod counts;
 mod fact;
 mod form;
+pub mod laws;
 mod line;
 mod object;
 mod side;

@@ -7,7 +7,8 @@ ghost use Rattle.list_text.specs.Facts.{fact_of};
 ghost use Rattle.list_text.specs.Text.{authority_line, fact_line, hash_line, hash_text, id_line};
 ghost use Rattle.list_text.specs.Text.{comment_part, has_blank_end, is_text, is_text_byte};
 ghost use Rattle.list_text.specs.Changes.{change_line, mark_of};
-ghost use Rattle.list_text.specs.Text.{list_line, named_line, serials_line};
+ghost use Rattle.list_text.specs.Text.{header_line, list_line, named_line, serials_line};
+ghost use Rattle.list_text.specs.Text.{unnamed_line};
 
 use crate::fact::Fact;
 use crate::side::Side;
@@ -20,6 +21,7 @@ use line_pieces::{Printed, Words, pieces, put};
 use serial_set::Span;
 use ssh_key::read_key;
 use std::alloc::{AllocError, Global};
+use text_entries::looks_like_key;
 
 /// Appends the line of a change: the mark of its side, or blanks before an authority, and the line
 /// of the fact.
@@ -64,6 +66,21 @@ pub(crate) fn push_line(alloc: Global, fact: Fact<'_>, line: &mut Vec<u8>) -> Re
     }
 }
 
+/// Appends the line of a fact, without the name of a list.
+#[inline(always)]
+pub(crate) fn push_unnamed(
+    alloc: Global,
+    fact: Fact<'_>,
+    line: &mut Vec<u8>,
+) -> Result<(), AllocError>
+    ensures { OnOk result (line.new.items ≡ line.old.items ++ unnamed_line (fact_of fact.entry)) }
+{
+    match fact {
+        Fact::List(_, header) => push_header(alloc, header, line),
+        _ => push_line(alloc, fact, line),
+    }
+}
+
 // The comment of a list, if it has one, after a comma.
 #[derive(Clone, Copy)]
 struct Comment<'a>(&'a [u8]);
@@ -95,6 +112,19 @@ fn push_list(
     };
     let date = time_text(alloc, header.date)?;
     put!(line; b"# ", name, b": version ", header.version, b", ", Words(&date),
+        Comment(header.comment.as_slice()), b"\n")
+}
+
+// Appends the comment about a list without its name. A plain list has none.
+fn push_header(alloc: Global, header: Option<&Header>, line: &mut Vec<u8>) -> Result<(), AllocError>
+    ensures { OnOk result (line.new.items ≡ line.old.items
+        ++ header_line (option_map (λ header. header.now) header.entry)) }
+{
+    let Some(header) = header else {
+        return Ok(());
+    };
+    let date = time_text(alloc, header.date)?;
+    put!(line; b"# version ", header.version, b", ", Words(&date),
         Comment(header.comment.as_slice()), b"\n")
 }
 
@@ -153,7 +183,7 @@ fn push_id(alloc: Global, id: &[u8], line: &mut Vec<u8>) -> Result<(), AllocErro
 fn is_text(id: &[u8]) -> bool
     ensures { result ≡ is_text id.now }
 {
-    !id.is_empty() && !has_blank_end(id) && are_text_bytes(id)
+    !id.is_empty() && !has_blank_end(id) && !looks_like_key(id) && are_text_bytes(id)
 }
 
 // Whether a line can have each byte as it is, and none is a `#`.

@@ -1,17 +1,20 @@
 //! The facts about a list as JSON objects.
 
-ghost use Rattle.std.specs.Prelude.{◌≡◌, ◌∷◌, ◌++◌, [], OnOk, option_map};
-ghost use Rattle.json_lines.specs.Field.{fields_tokens, json_line, object_of};
+ghost use Rattle.std.specs.Prelude.{◌≡◌, ◌∷◌, ◌++◌, [], OnOk, decimal, option_map};
+ghost use Rattle.json.specs.Token.{string};
+ghost use Rattle.json_lines.specs.Field.{digits_field, fields_tokens, json_line, object_of};
 ghost use Rattle.list_text.specs.Facts.{fact_of};
 ghost use Rattle.list_text.specs.Objects.{authority_field, changes_line, done_line, fact_fields};
 ghost use Rattle.list_text.specs.Objects.{hash_field, header_fields, kind_fields, object_line};
 ghost use Rattle.list_text.specs.Objects.{serials_field, side_field, side_fields};
+ghost use Rattle.list_text.specs.Objects.{unnamed_object};
 
 use crate::counts::Counts;
 use crate::fact::Fact;
 use crate::side::Side;
 use base64::engine::general_purpose::STANDARD_NO_PAD;
 use cert_listing::time_text;
+use itoa::Buffer;
 use json::Token;
 use json_lines::{LineWriter, put_digits, put_number, put_text, put_word};
 use key_text::{Hash, fingerprint};
@@ -35,6 +38,30 @@ pub(crate) fn write_object(
         return Ok(());
     }
     write_fields(alloc, side, fact, line)
+}
+
+/// Makes the line of a fact, without the name of a list. It is empty for an authority and for a
+/// plain list.
+pub(crate) fn write_unnamed(
+    alloc: Global,
+    fact: Fact<'_>,
+    line: &mut Vec<u8>,
+) -> Result<(), AllocError>
+    ensures { OnOk result (line.new.items ≡ unnamed_object (fact_of fact.entry)) }
+{
+    match fact {
+        Fact::List(_, None) => {
+            line.clear();
+            Ok(())
+        }
+        Fact::List(_, header) => {
+            let mut out = LineWriter::object(alloc)?;
+            put_header(alloc, &mut out, header)?;
+            *line = out.end_object()?;
+            Ok(())
+        }
+        _ => write_object(alloc, None, fact, line),
+    }
 }
 
 // Makes the line of an object with the side and the fields of a fact.
@@ -134,9 +161,17 @@ fn put_serials(out: &mut LineWriter, span: Span) -> Result<(), AllocError>
 {
     out.token(Token::Key("serial"))?;
     out.token(Token::BeginArray)?;
-    out.number(span.lo)?;
-    out.number(span.hi)?;
+    put_serial(out, span.lo)?;
+    put_serial(out, span.hi)?;
     out.token(Token::EndArray)
+}
+
+// Writes a serial number as a string.
+fn put_serial(out: &mut LineWriter, serial: u64) -> Result<(), AllocError>
+    ensures { OnOk result (out.new ≡ out.old ++ string (decimal serial) ∷ []) }
+{
+    let mut digits = Buffer::new();
+    out.token(Token::String(digits.format(serial)))
 }
 
 // Writes a hash.
@@ -205,9 +240,17 @@ fn put_kinds(out: &mut LineWriter, counts: Counts) -> Result<(), AllocError>
     ensures { OnOk result (out.new ≡ out.old ++ fields_tokens (kind_fields counts)) }
 {
     put_number(out, "cas", counts.authorities)?;
-    put_number(out, "serials", counts.serials)?;
+    put_total(out, "serials", counts.serials)?;
     put_number(out, "ids", counts.ids)?;
     put_number(out, "keys", counts.keys)?;
     put_number(out, "hashes", counts.hashes)?;
     Ok(())
+}
+
+// Writes a field with the digits of a number of up to 128 bits as a text.
+fn put_total(out: &mut LineWriter, name: &str, total: u128) -> Result<(), AllocError>
+    ensures { OnOk result (out.new ≡ out.old ++ fields_tokens (digits_field name.now total ∷ [])) }
+{
+    let mut digits = Buffer::new();
+    put_word(out, name, digits.format(total))
 }

@@ -1,3 +1,4 @@
 pub mod LinesRead
 pub mod Keys
 pub mod Revoked
+pub mod DsaLines

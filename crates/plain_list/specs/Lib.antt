@@ -3,3 +3,4 @@ pub mod Key
 pub mod List
 pub mod Spelled
 pub mod Any
+pub mod Dsa

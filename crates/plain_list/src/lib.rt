@@ -2,6 +2,7 @@
 #![tactic(auto)]
 
 mod any;
+mod dsa;
 mod fault;
 mod key;
 pub mod laws;
@@ -9,6 +10,7 @@ mod line;
 mod reading;
 
 pub use any::begins_list;
+pub use dsa::{DsaLine, DsaPart, first_dsa_line};
 pub use fault::PlainFault;
 pub use keyed_lines::KeyCause;
 pub use reading::read_plain;

@@ -14,9 +14,6 @@ const OUTPUT: &str = "output";
 
 /// The lines with which a program ends.
 pub trait Lines {
-    /// The name with which they begin.
-    fn name(&self) -> &'static str;
-
     /// The line that says why a run stopped, with its end.
     fn fault_line(&self, rt: &HostRuntime, fault: &RunFault) -> Result<Vec<u8>, AllocError>;
 

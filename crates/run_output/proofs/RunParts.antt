@@ -105,3 +105,23 @@ carries_sent (Err stop) name answer old new sends writer =
           };
       writer = writer;
     })
+
+-- the lines that wait
+pub carries_flushed : {A : Type 0} (result : Result A RunFault) (old new : Printer) → Sends result old new → new.writer ≡ old.writer
+    → Carries [] result old new
+carries_flushed (Ok value) old new sends writer = record {
+  says = λ before said has.
+      subst (λ (items : List Item). HasSaid before items new) (sym (append-nil said)) (sent_all before said old new has.added sends);
+  writer = writer;
+}
+carries_flushed (Err stop) old new sends writer =
+    rw sends.named (record {
+      says = λ before said has. record {
+        said = said;
+        later = [];
+        parts = refl;
+        unstopped = has.added.unstopped;
+        cut_off = record { named = refl; cut = sent_part before said stop old new has.added sends; broken = sends.broken };
+      };
+      writer = writer;
+    })

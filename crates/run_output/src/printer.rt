@@ -134,6 +134,16 @@ impl<'w, W: Sink> Printer<'w, W> {
         Ok(())
     }
 
+    /// Writes all waiting lines, so that a reader sees them before the run continues. An output
+    /// that has failed reports that fault again.
+    pub fn flush<'a>(&mut self) -> Result<(), RunFault<'a>>
+        ensures carries { Carries [] result self.old self.new }
+        ensures again { FailsAgain result self.old self.new }
+    {
+        self.check()?;
+        self.send()
+    }
+
     /// Ends a run: writes the waiting lines, unless the output has failed. The status is 255 if the
     /// run stopped early, otherwise 1 if it reported a revoked key, otherwise 0.
     pub fn finish<'a>(&mut self, stop: Option<RunFault<'a>>) -> Done<'a>

@@ -1,4 +1,4 @@
--- What a reader of lists has told so far, in order.
+-- The lists that a reader has told so far, in order.
 use Rattle.std.specs.Prelude.{◌≡◌, ℕ, List, ◌++◌, Option, Some, None, Result}
 use Rattle.run_faults.specs.declared.cause.Cause.{Cause}
 

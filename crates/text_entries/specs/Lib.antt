@@ -6,3 +6,4 @@ pub mod Lines
 pub mod Reading
 pub mod OneOff
 pub mod Misspelt
+pub mod Hint

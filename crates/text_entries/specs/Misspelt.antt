@@ -1,24 +1,20 @@
 -- The misspelt word of a line, and what was meant.
-use Rattle.std.specs.Prelude.{ℕ, ◌-◌, ◌==◌, ◌||◌, Bool, List, Option, Some, None, option_map}
-use Rattle.std.specs.Prelude.{slice_get}
+use Rattle.std.specs.Prelude.{ℕ, ◌-◌, ◌==◌, ◌||◌, Bool, List, Option, option_map, slice_get}
 use Rattle.std.specs.List.{before_first, find, slice_split}
 use Rattle.std.specs.Str.{str_to_ascii_lowercase}
 use Rattle.key_text.specs.Blanks.{is_blank}
 use Rattle.key_text.specs.Lines.{is_newline}
-use Rattle.krl_spec.specs.Blanks.{bare_line}
 use Rattle.text_entries.specs.OneOff.{is_one_off}
 use Rattle.text_entries.specs.Word.{is_named, name_of, words}
-use Rattle.text_entries.specs.declared.text_cause.TextCause.{TextCause}
-use Rattle.text_entries.specs.declared.text_cause.TextCause.TheVariants as causes
 use Rattle.text_entries.specs.declared.word.Word.{Word}
 
--- It is the same or one letter off, where letters in upper and lower case count the same.
+-- It is the same or one slip off, where letters in upper and lower case count the same.
 abbrev pub is_meant : Word → List ℕ → Bool
 is_meant word name =
     is_named word name
     || is_one_off (str_to_ascii_lowercase name) (str_to_ascii_lowercase (name_of word))
 
--- the first word that is the same or one letter off
+-- the first word that is the same or one slip off
 unfoldable pub meant : List ℕ → Option Word
 meant name = find (λ word. is_meant word name) words
 
@@ -41,16 +37,6 @@ is_word_end byte = byte == 58 || (byte == 61 || is_blank byte)
 unfoldable pub misspelt_in : List ℕ → Option Misspelt
 misspelt_in line = misspelt_word (before_first is_word_end line)
 
-abbrev pub misspelt_line : Option (List ℕ) → Option Misspelt
-misspelt_line None = None
-misspelt_line (Some line) = misspelt_in (bare_line line)
-
 -- the line of a text with this number, which counts from 1
 abbrev pub numbered_line : List ℕ → ℕ → Option (List ℕ)
 numbered_line text number = slice_get (slice_split is_newline text) (number - 1)
-
--- The misspelt word of the line of a text that has this fault. Only a line that begins neither with
--- a word and a colon nor with the type name of a key has one.
-unfoldable pub misspelt_at : List ℕ → ℕ → TextCause → Option Misspelt
-misspelt_at text number causes.UnknownWord = misspelt_line (numbered_line text number)
-misspelt_at text number cause = None

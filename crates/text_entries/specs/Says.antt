@@ -1,6 +1,6 @@
 -- The meaning of a line of the text of a list (krl(1), THE TEXT OF A LIST).
 use Rattle.std.specs.Prelude.{ℕ, List, [], ◌∷◌, Option, Some, None, Result, Ok, Err}
-use Rattle.std.specs.Prelude.{if◌then◌else◌}
+use Rattle.std.specs.Prelude.{Bool, false, if◌then◌else◌}
 use Rattle.ssh_wire.specs.Reading.{◌>>=◌}
 use Rattle.run_faults.specs.declared.spec_cause.SpecCause.{SpecCause}
 use Rattle.run_faults.specs.declared.spec_cause.SpecCause.TheVariants as specs
@@ -10,7 +10,8 @@ use Rattle.krl_spec.specs.Entries.{bare_entry, order_entry}
 use Rattle.krl_spec.specs.declared.directive.Directive.{Directive}
 use Rattle.krl_spec.specs.declared.directive.Directive.TheVariants as directives
 use Rattle.text_entries.specs.Values.{authority_blob_in, authority_in, begins_with_key, blob_in}
-use Rattle.text_entries.specs.Values.{bytes_in, is_cut, is_sha1, no_key, sha1_in}
+use Rattle.text_entries.specs.Values.{bytes_in, has_control, has_zero, is_cut, is_sha1}
+use Rattle.text_entries.specs.Values.{looks_like_key, no_key, sha1_in}
 use Rattle.text_entries.specs.Word.{Order, order_in}
 use Rattle.text_entries.specs.declared.text_cause.TextCause.{TextCause}
 use Rattle.text_entries.specs.declared.text_cause.TextCause.TheVariants as causes
@@ -38,12 +39,29 @@ current_says read = do
   authority ← read
   Ok (Current authority)
 
+abbrev pub has_zero_id : Entry → Bool
+has_zero_id (IdEntry authority id) = has_zero id
+has_zero_id entry = false
+
+-- An entry, unless it is a key ID with a zero byte: OpenSSH takes no list that has one.
+abbrev pub names_says : Entry → Result Saying TextCause
+names_says entry = if has_zero_id entry then Err causes.ZeroInId else Ok (Names entry)
+
 -- a key ID by its bytes, under the current authority
 abbrev pub id_hex_says : Option (List ℕ) → List ℕ → Result Saying TextCause
 id_hex_says None given = Err (causes.Spec specs.NoAuthority)
 id_hex_says (Some authority) given = do
   id ← bytes_in given
-  Ok (Names (IdEntry authority id))
+  names_says (IdEntry authority id)
+
+-- A key ID as it is: a `#` does not cut it short, it has no control characters, and it does not
+-- begin as a key.
+abbrev pub plain_id_says : Option (List ℕ) → List ℕ → List ℕ → Result Saying TextCause
+plain_id_says current line given =
+    if is_cut line then Err causes.CutId
+    else if has_control given then Err causes.ControlInId
+    else if looks_like_key given then Err causes.KeyAsId
+    else entry_says (order_entry current directives.Id given)
 
 abbrev pub key_blob_says : List ℕ → Result Saying TextCause
 key_blob_says given = do
@@ -66,9 +84,7 @@ abbrev pub word_says : Option (List ℕ) → List ℕ → Word → List ℕ → 
 word_says current line Authority given = current_says (authority_in given)
 word_says current line AuthorityBlob given = current_says (authority_blob_in given)
 word_says current line Serial given = entry_says (order_entry current directives.Serial given)
-word_says current line Id given =
-    if is_cut line then Err causes.CutId
-    else entry_says (order_entry current directives.Id given)
+word_says current line Id given = plain_id_says current line given
 word_says current line IdHex given = id_hex_says current given
 word_says current line Key given = keyed_says current directives.Key given
 word_says current line KeyBlob given = key_blob_says given
@@ -80,12 +96,17 @@ word_says current line Hash given =
 
 -- ---- any line
 
+-- the entry of a key line, or its fault
+abbrev pub bare_says : Result Entry SpecCause → Result Saying TextCause
+bare_says (Ok entry) = names_says entry
+bare_says (Err cause) = Err (causes.Spec cause)
+
 -- Content without a word is a key line, as in a specification file, but with nothing before the
 -- key: a word without its colon would be options of the key.
 abbrev pub key_line_says : List ℕ → Result Saying TextCause
 key_line_says [] = Ok Blank
 key_line_says (byte ∷ bytes) =
-    if begins_with_key (byte ∷ bytes) then entry_says (bare_entry (byte ∷ bytes))
+    if begins_with_key (byte ∷ bytes) then bare_says (bare_entry (byte ∷ bytes))
     else Err causes.UnknownWord
 
 abbrev pub order_says : Option (List ℕ) → List ℕ → Option Order → Result Saying TextCause

@@ -6,7 +6,8 @@ use Rattle.krl_spec.specs.Adding.{MayHide as SpecMayHide}
 use Rattle.text_entries.specs.declared.text_cause.TextCause.{TextCause}
 use Rattle.text_entries.specs.declared.text_cause.TextCause.TheVariants.{Spec, Certificate, NoBytes}
 use Rattle.text_entries.specs.declared.text_cause.TextCause.TheVariants.{Base64, Hex, CutId}
-use Rattle.text_entries.specs.declared.text_cause.TextCause.TheVariants.{UnknownWord}
+use Rattle.text_entries.specs.declared.text_cause.TextCause.TheVariants.{UnknownWord, ControlInId}
+use Rattle.text_entries.specs.declared.text_cause.TextCause.TheVariants.{ZeroInId, KeyAsId}
 
 abbrev pub text_cause_number : TextCause → ℕ
 text_cause_number (Spec cause) = 1
@@ -16,6 +17,9 @@ text_cause_number Base64 = 4
 text_cause_number Hex = 5
 text_cause_number CutId = 6
 text_cause_number UnknownWord = 7
+text_cause_number ControlInId = 8
+text_cause_number ZeroInId = 9
+text_cause_number KeyAsId = 10
 
 abbrev pub text_cause_text : TextCause → List ℕ
 text_cause_text (Spec cause) = codes "text 1 Spec, " ++ spec_cause_text cause
@@ -25,6 +29,9 @@ text_cause_text Base64 = codes "text 4 Base64"
 text_cause_text Hex = codes "text 5 Hex"
 text_cause_text CutId = codes "text 6 CutId"
 text_cause_text UnknownWord = codes "text 7 UnknownWord"
+text_cause_text ControlInId = codes "text 8 ControlInId"
+text_cause_text ZeroInId = codes "text 9 ZeroInId"
+text_cause_text KeyAsId = codes "text 10 KeyAsId"
 
 -- an allocation failed
 abbrev pub no_memory : TextCause
@@ -39,6 +46,9 @@ MayHide Base64 = ⊤
 MayHide Hex = ⊤
 MayHide CutId = ⊥
 MayHide UnknownWord = ⊥
+MayHide ControlInId = ⊥
+MayHide ZeroInId = ⊤
+MayHide KeyAsId = ⊥
 
 -- An allocation may fail before this is found.
 abbrev pub MayLackMemory : {A : Type 0} → Result A TextCause → Type 0

@@ -1,8 +1,8 @@
 -- The values of the words of the text of a list, and what cuts one short.
-use Rattle.std.specs.Prelude.{ℕ, Bool, ◌-◌, ◌==◌, ◌&&◌, not, nat_eq, nat_lt, List, [], ◌∷◌}
+use Rattle.std.specs.Prelude.{ℕ, Bool, ◌-◌, ◌==◌, ◌&&◌, ◌||◌, not, nat_eq, nat_lt, List, [], ◌∷◌}
 use Rattle.std.specs.Prelude.{length, slice_index, codes, Option, Some, None, Result, Ok, Err}
-use Rattle.std.specs.Prelude.{if◌then◌else◌, drop}
-use Rattle.std.specs.List.{position_or_len, starts_with}
+use Rattle.std.specs.Prelude.{if◌then◌else◌, drop, take}
+use Rattle.std.specs.List.{list_any, position_or_len, starts_with}
 use Rattle.base64.specs.Engines.{standard, standard_no_pad}
 use Rattle.base64.specs.GeneralPurpose.{decode_of}
 use Rattle.base64.specs.declared.decode.DecodeError.{DecodeError}
@@ -42,6 +42,9 @@ bytes_in text = in_fault no_hex (hex_decode_of text)
 -- The text begins with the type name of a key: no options, marker or host names are before it.
 abbrev pub begins_with_key : List ℕ → Bool
 begins_with_key text = is_type_name (first_word text)
+
+abbrev pub has_blank : List ℕ → Bool
+has_blank text = list_any is_blank text
 
 abbrev pub no_key : TextCause
 no_key = causes.Spec (specs.Key (keys.Line lines.NoKey))
@@ -104,3 +107,20 @@ is_cut line =
     nat_lt (position_or_len is_hash line) (length line)
     && not (nat_lt 0 (position_or_len is_hash line)
     && is_blank (slice_index line (position_or_len is_hash line - 1)))
+
+-- It begins as a key line: with the type name of a key and a blank. No type name is as long as that.
+abbrev pub looks_like_key : List ℕ → Bool
+looks_like_key text = has_blank (take 64 text) && begins_with_key text
+
+-- the control characters of ASCII
+abbrev pub is_control : ℕ → Bool
+is_control byte = nat_lt byte 32 || byte == 127
+
+abbrev pub has_control : List ℕ → Bool
+has_control text = list_any is_control text
+
+abbrev pub is_zero : ℕ → Bool
+is_zero byte = byte == 0
+
+abbrev pub has_zero : List ℕ → Bool
+has_zero text = list_any is_zero text

@@ -2,6 +2,7 @@
 #![tactic(auto)]
 
 mod authority;
+mod hint;
 mod line;
 mod misspelt;
 mod one_off;
@@ -11,8 +12,10 @@ mod text_fault;
 mod values;
 mod word;
 
-pub use misspelt::{Misspelt, misspelt_at};
+pub use hint::{Hint, has_word_at, hint_at};
+pub use misspelt::Misspelt;
 pub use one_off::one_off_where_spelled;
 pub use reading::read_text;
 pub use text_cause::TextCause;
 pub use text_fault::TextFault;
+pub use values::looks_like_key;

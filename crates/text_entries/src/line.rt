@@ -1,19 +1,24 @@
 //! Doing what a line of the text of a list says.
 
 ghost use Rattle.std.specs.Prelude.{◌≡◌, ℕ, List, Option, true};
-ghost use Rattle.krl_spec.specs.Entries.{order_entry};
+ghost use Rattle.krl_spec.specs.Entries.{bare_entry, names_entry, order_entry};
 ghost use Rattle.text_entries.specs.Reading.{TakesLine};
-ghost use Rattle.text_entries.specs.Says.{entry_says, id_hex_says, key_blob_says, key_line_says};
-ghost use Rattle.text_entries.specs.Says.{keyed_says, line_says, sha1_says, word_says};
+ghost use Rattle.text_entries.specs.Says.{bare_says, entry_says, has_zero_id, id_hex_says};
+ghost use Rattle.text_entries.specs.Says.{key_blob_says, key_line_says, keyed_says, line_says};
+ghost use Rattle.text_entries.specs.Says.{names_says, sha1_says, word_says};
 ghost use Rattle.text_entries.specs.Values.{is_sha1};
 
 use crate::authority::{read_authority, read_authority_blob, under};
 use crate::text_cause::TextCause;
-use crate::values::{NO_KEY, begins_with_key, is_cut, is_sha1, read_blob, read_bytes, read_sha1};
+use crate::values::{
+    NO_KEY, begins_with_key, has_control, has_zero, is_cut, is_sha1, looks_like_key, read_blob,
+    read_bytes, read_sha1,
+};
 use crate::word::{Order, Word, order_in};
 use krl_entries::Revocations;
-use krl_spec::{Directive, SpecCause, add_bare, add_order, bare_line};
+use krl_spec::{Directive, SpecCause, add_order, add_subject, ask, bare_line, key_line};
 use serial_set::Spans;
+use ssh_cert::Subject;
 use ssh_wire::Bytes;
 use std::alloc::Global;
 
@@ -57,6 +62,8 @@ fn take_order<S: Spans>(
             Ok(())
         }
         Word::Id if is_cut(line) => Err(TextCause::CutId),
+        Word::Id if has_control(order.given) => Err(TextCause::ControlInId),
+        Word::Id if looks_like_key(order.given) => Err(TextCause::KeyAsId),
         Word::IdHex => take_id_hex(alloc, revocations, current, order.given),
         Word::KeyBlob => take_key_blob(alloc, revocations, order.given),
         Word::Hash if is_sha1(order.given) => take_sha1(alloc, revocations, order.given),
@@ -118,9 +125,51 @@ fn take_key_line<S: Spans>(
     if !begins_with_key(content) {
         return Err(TextCause::UnknownWord);
     }
-    match add_bare(alloc, revocations, content) {
-        Ok(()) => Ok(()),
+    take_bare(alloc, revocations, content)
+}
+
+// Adds the entry of a key line.
+fn take_bare<S: Spans>(
+    alloc: Global,
+    revocations: &mut Revocations<S>,
+    text: &[u8],
+) -> Result<(), TextCause>
+    ensures { (current : Option (List ℕ)) → TakesLine (bare_says (bare_entry text.now)) result
+        current current revocations.old revocations.new }
+{
+    let line = match key_line(alloc, text) {
+        Ok(line) => line,
+        Err(cause) => return Err(TextCause::Spec(cause)),
+    };
+    match ask(alloc, line.blob.as_slice()) {
+        Ok(asked) => take_subject(revocations, &asked),
         Err(cause) => Err(TextCause::Spec(cause)),
+    }
+}
+
+// Adds the entry of a plain key or of a certificate.
+fn take_subject<S: Spans>(
+    revocations: &mut Revocations<S>,
+    asked: &Subject<'_>,
+) -> Result<(), TextCause>
+    ensures { (current : Option (List ℕ)) → TakesLine
+        (names_says (names_entry asked.now.plain asked.now.cert)) result
+        current current revocations.old revocations.new }
+{
+    if has_zero_id(asked) {
+        return Err(TextCause::ZeroInId);
+    }
+    add_subject(revocations, asked)?;
+    Ok(())
+}
+
+// Whether the entry of a certificate is a key ID with a zero byte.
+fn has_zero_id(asked: &Subject<'_>) -> bool
+    ensures { result ≡ has_zero_id (names_entry asked.now.plain asked.now.cert) }
+{
+    match &asked.cert {
+        Some(names) if names.serial == 0 => has_zero(names.key_id),
+        _ => false,
     }
 }
 
@@ -138,6 +187,9 @@ fn take_id_hex<S: Spans>(
         return Err(TextCause::Spec(SpecCause::NoAuthority));
     };
     let id = read_bytes(alloc, given)?;
+    if has_zero(id.as_slice()) {
+        return Err(TextCause::ZeroInId);
+    }
     revocations.add_id(authority.as_slice(), id.as_slice())?;
     Ok(())
 }

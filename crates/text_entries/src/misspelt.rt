@@ -2,17 +2,13 @@
 
 ghost use Rattle.std.specs.Prelude.{◌≡◌, MatchOption, None, Some};
 ghost use Rattle.std.specs.List.{before_first};
-ghost use Rattle.text_entries.specs.Misspelt.{is_word_end, misspelt_at, misspelt_in};
-ghost use Rattle.text_entries.specs.Misspelt.{numbered_line};
+ghost use Rattle.text_entries.specs.Misspelt.{is_word_end, misspelt_in, numbered_line};
 
-use crate::text_cause::TextCause;
-use crate::text_fault::TextFault;
 use crate::word::Word;
 use key_text::{is_blank, split_line};
-use krl_spec::bare_line;
 use std::marker::Model;
 
-/// What a line begins with instead of a word of texts and a colon, and the word that was meant.
+/// A beginning of a line instead of a word of texts and a colon, and the word that was meant.
 #[derive(Debug, Drop)]
 pub struct Misspelt<'a> {
     /// The beginning of the line.
@@ -29,23 +25,8 @@ impl<'a> Model for Misspelt<'a> {
     ghost view = { λ misspelt. record { word = misspelt.word.now; meant = misspelt.meant.now } };
 }
 
-/// The misspelt word of the line of a text that has this fault: what the line begins with, up to a
-/// colon, an equals sign or a blank. It has one if a word of texts is one letter off, or the same
-/// and only its colon is missing or misplaced. Letters in upper and lower case count the same. Only
-/// a line that begins neither with a word and a colon nor with the type name of a key has one.
-#[tactic(auto, unfolding(crate::specs::Misspelt::misspelt_at))]
-pub fn misspelt_at(text: &[u8], fault: TextFault) -> Option<Misspelt<'_>>
-    ensures { result ≡ misspelt_at text.now fault.line fault.cause }
-{
-    if fault.cause != TextCause::UnknownWord {
-        return None;
-    }
-    let line = numbered_line(text, fault.line)?;
-    misspelt_in(bare_line(line))
-}
-
-// The line with this number, counted from 1.
-fn numbered_line(text: &[u8], number: u64) -> Option<&[u8]>
+/// The line with this number, counted from 1.
+pub(crate) fn numbered_line(text: &[u8], number: u64) -> Option<&[u8]>
     ensures { MatchOption result (numbered_line text.now number ≡ None)
         (λ line. numbered_line text.now number ≡ Some line.now) }
 {
@@ -64,9 +45,11 @@ fn numbered_line(text: &[u8], number: u64) -> Option<&[u8]>
     }
 }
 
-// The misspelt word of a line's content.
+/// The misspelt word of a line's content: what it begins with, up to a colon, an equals sign or a
+/// blank. It has one if a word of texts is one slip off, or the same and only its colon is missing
+/// or misplaced. Letters in upper and lower case count the same.
 #[tactic(auto, unfolding(crate::specs::Misspelt::misspelt_in))]
-fn misspelt_in(line: &[u8]) -> Option<Misspelt<'_>>
+pub(crate) fn misspelt_in(line: &[u8]) -> Option<Misspelt<'_>>
     ensures { result ≡ misspelt_in line.now }
 {
     let word = before_word_end(line);

@@ -26,10 +26,16 @@ pub enum TextCause {
     CutId,
     /// It begins neither with a word of texts and a colon nor with the type name of a key.
     UnknownWord,
+    /// A key ID has a control character, and is not given by its bytes.
+    ControlInId,
+    /// A key ID has a zero byte.
+    ZeroInId,
+    /// A key ID begins with the type name of a key and a blank, and is not given by its bytes.
+    KeyAsId,
 }
 
 impl TextCause {
-    /// The fault's number, 1 to 7 in the order of the variants.
+    /// The fault's number, 1 to 10 in the order of the variants.
     pub fn number(self) -> u8
         ensures { result ≡ text_cause_number self }
     {
@@ -41,6 +47,9 @@ impl TextCause {
             TextCause::Hex => 5,
             TextCause::CutId => 6,
             TextCause::UnknownWord => 7,
+            TextCause::ControlInId => 8,
+            TextCause::ZeroInId => 9,
+            TextCause::KeyAsId => 10,
         }
     }
 }
@@ -57,6 +66,9 @@ impl fmt::Display for TextCause {
             TextCause::Hex => f.write_str("text 5 Hex"),
             TextCause::CutId => f.write_str("text 6 CutId"),
             TextCause::UnknownWord => f.write_str("text 7 UnknownWord"),
+            TextCause::ControlInId => f.write_str("text 8 ControlInId"),
+            TextCause::ZeroInId => f.write_str("text 9 ZeroInId"),
+            TextCause::KeyAsId => f.write_str("text 10 KeyAsId"),
         }
     }
 }

@@ -4,8 +4,9 @@ ghost use Rattle.std.specs.Prelude.{◌≡◌, Ok, true};
 ghost use Rattle.ssh_wire.specs.Reading.{Answers};
 ghost use Rattle.text_entries.specs.TextCause.{Reports};
 ghost use Rattle.run_faults.specs.declared.spec_cause.SpecCause.TheVariants.{Fingerprint};
-ghost use Rattle.text_entries.specs.Values.{begins_with_key, blob_in, bytes_in, is_cut, is_sha1};
-ghost use Rattle.text_entries.specs.Values.{sha1_in, sized};
+ghost use Rattle.text_entries.specs.Values.{begins_with_key, blob_in, bytes_in, has_blank};
+ghost use Rattle.text_entries.specs.Values.{has_control, has_zero, is_control, is_cut, is_sha1};
+ghost use Rattle.text_entries.specs.Values.{looks_like_key, sha1_in, sized};
 ghost use Rattle.text_entries.specs.declared.text_cause.TextCause.TheVariants.{Spec};
 
 use crate::text_cause::TextCause;
@@ -20,6 +21,9 @@ use ssh_wire::Bytes;
 use std::alloc::Global;
 
 const SHA1: &[u8] = b"SHA1:";
+
+// The name of each type of keys is shorter.
+const LONGEST: usize = 64;
 
 /// The fault of a value that is to be a key line, and does not begin with the type name of a key.
 pub const NO_KEY: TextCause = TextCause::Spec(SpecCause::Key(KeyCause::Line(LineFault::NoKey)));
@@ -100,4 +104,39 @@ pub fn is_cut(line: &[u8]) -> bool
 {
     let hash = position_of(line, b'#');
     hash < line.len() && !(hash > 0 && is_blank(line[hash - 1]))
+}
+
+/// Whether the text has a blank.
+pub fn has_blank(text: &[u8]) -> bool
+    ensures { result ≡ has_blank text.now }
+{
+    text.iter().any(|byte| is_blank(*byte))
+}
+
+/// Whether the text begins as a key line: with the type name of a key and a blank.
+pub fn looks_like_key(text: &[u8]) -> bool
+    ensures { result ≡ looks_like_key text.now }
+{
+    has_blank(&text[..LONGEST.min(text.len())]) && begins_with_key(text)
+}
+
+/// Whether a key ID has a control character of ASCII.
+pub fn has_control(id: &[u8]) -> bool
+    ensures { result ≡ has_control id.now }
+{
+    id.iter().any(|byte| is_control(*byte))
+}
+
+// Whether a byte is a control character of ASCII.
+fn is_control(byte: u8) -> bool
+    ensures { result ≡ is_control byte }
+{
+    byte < 32 || byte == 127
+}
+
+/// Whether a key ID has a zero byte, at which OpenSSH would end it.
+pub fn has_zero(id: &[u8]) -> bool
+    ensures { result ≡ has_zero id.now }
+{
+    id.iter().any(|byte| *byte == 0)
 }

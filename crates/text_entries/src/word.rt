@@ -81,7 +81,7 @@ impl Word {
         name.eq_ignore_ascii_case(self.name().as_bytes())
     }
 
-    /// The first word that is the given one or one letter off from it. Letters in upper and lower
+    /// The first word that is the given one or one slip off from it. Letters in upper and lower
     /// case count the same.
     #[tactic(auto, unfolding(crate::specs::Misspelt::meant))]
     pub fn meant(name: &[u8]) -> Option<Word>
@@ -90,7 +90,7 @@ impl Word {
         WORDS.iter().copied().find(|word| word.is_meant(name))
     }
 
-    // Whether the given word is the same or one letter off.
+    // Whether the given word is the same or one slip off.
     fn is_meant(self, name: &[u8]) -> bool
         ensures { result ≡ is_meant self name.now }
     {

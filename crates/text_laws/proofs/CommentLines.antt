@@ -10,7 +10,7 @@ use Rattle.std.proofs.lemmas.Str.{inside_one}
 use Rattle.cert_listing.specs.Time.{clock_text, date_digits, day_text, instant_text, month_at, two_digits, year_9999, year_at}
 use Rattle.key_text.specs.Blanks.{before_ending}
 use Rattle.key_text.specs.Lines.{is_newline}
-use Rattle.krl_audit.specs.Visible.{visible, visible_byte, visible_char}
+use Rattle.krl_audit.specs.Visible.{is_bidi_or_line_end, visible, visible_byte, visible_char}
 use Rattle.krl_format.specs.declared.header.Header.{Header}
 use Rattle.krl_spec.specs.Blanks.{after_endings, bare_line}
 use Rattle.list_text.specs.Text.{comment_part, list_line}
@@ -53,7 +53,10 @@ visible_char_no_feed code = elim (cases_Bool (is_control code)) [
   | inl control ↦ rw control (numbered_no_feed code)
   | inr plain ↦
       let other : code ≢ 10 = λ feed. let control : is_control code ≡ true = ap is_control feed in cc in
-      rw plain (char_no_feed code other)
+      elim (cases_Bool (is_bidi_or_line_end code)) [
+        | inl bidi ↦ rw (plain, bidi) (each_no_feed numbered numbered_no_feed (encode_utf8 code))
+        | inr one ↦ rw (plain, one) (char_no_feed code other)
+      ]
 ]
 
 visible_byte_no_feed : (byte : ℕ) → All HasNoFeed (visible_byte false byte)

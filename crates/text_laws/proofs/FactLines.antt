@@ -39,7 +39,7 @@ unfolding fact_line
 fact_reads current (ListFact name header) fits = list_reads current name header fits
 fact_reads current (AuthorityFact authority) fits = authority_reads current authority fits
 fact_reads current (SerialsFact authority span) fits = rw fits.0 (serials_read authority span fits.1)
-fact_reads current (IdFact authority id) fits = rw fits.0 (id_reads authority id fits.1)
+fact_reads current (IdFact authority id) fits = rw fits.0 (id_reads authority id fits.1 fits.2)
 fact_reads current (KeyFact blob) fits = key_reads current blob fits
 fact_reads current (Sha1Fact hash) fits = sha1_reads current hash fits.0 fits.1
 fact_reads current (Sha256Fact hash) fits = sha256_reads current hash fits.0 fits.1

@@ -7,7 +7,7 @@ use Rattle.krl_spec.specs.Entries.{order_entry}
 use Rattle.krl_spec.specs.declared.directive.Directive.{Directive}
 use Rattle.krl_spec.specs.declared.directive.Directive.TheVariants as directives
 use Rattle.text_entries.specs.Says.{entry_says, line_says, order_says, word_says}
-use Rattle.text_entries.specs.Values.{is_cut}
+use Rattle.text_entries.specs.Values.{has_control, is_cut, looks_like_key}
 use Rattle.text_entries.specs.Word.{Order, order_in}
 use Rattle.text_entries.specs.declared.text_cause.TextCause.{TextCause}
 use Rattle.text_entries.specs.declared.text_cause.TextCause.TheVariants as causes
@@ -29,7 +29,13 @@ word_free : (authority line given : List ℕ) (word : Word) → word_says None l
 word_free authority line given Serial lacks = entry_free authority given directives.Serial lacks
 word_free authority line given Id lacks = elim (cases_Bool (is_cut line)) [
   | inl cut ↦ rw cut refl
-  | inr whole ↦ rw whole (entry_free authority given directives.Id (rw whole at lacks))
+  | inr whole ↦ elim (cases_Bool (has_control given)) [
+    | inl control ↦ rw (whole, control) refl
+    | inr clean ↦ elim (cases_Bool (looks_like_key given)) [
+      | inl key ↦ rw (whole, clean, key) refl
+      | inr other ↦ rw (whole, clean, other) (entry_free authority given directives.Id (rw (whole, clean, other) at lacks))
+    ]
+  ]
 ]
 word_free authority line given IdHex lacks = absurd (lacks refl)
 word_free authority line given word lacks = refl

@@ -24,7 +24,7 @@ use Rattle.std.proofs.Math.Logic.Iff as Iff
 use Rattle.list_text.specs.Facts.{Fact, SerialsFact, IdFact, KeyFact, Sha1Fact, Sha256Fact, facts_of, section_facts}
 use Rattle.list_text.specs.Text.{text_of}
 use Rattle.text_entries.specs.Lines.{lines_of}
-use Rattle.text_laws.specs.FactLines.{AreSerials as AreSpanSerials}
+use Rattle.text_laws.specs.FactLines.{AreSerials as AreSpanSerials, HasNoZero}
 use Rattle.text_laws.specs.ReadBack.{CanBeShown, IsReadAs, IsReadInto, IsStored, Shown, StopsWith, entries_of_lists, facts_about, text_of_lists}
 use Rattle.text_laws.proofs.FactLines.{AllFit, all_entries, entries_of, facts_read}
 
@@ -83,25 +83,26 @@ spans_fit authority least (span ∷ spans) more runs serials fit =
     let order : AreSpanSerials span = record { some = first.0; rises = runs.1; fits = last.1 } in
     ((refl, order), spans_fit authority (span.hi + 2) spans more runs.2 (λ s covers. serials s (inr covers)) fit)
 
-ids_fit : (authority : List ℕ) (ids : List (List ℕ)) (more : List Fact) → All IsBytes ids
+ids_fit : (authority : List ℕ) (ids : List (List ℕ)) (more : List Fact) → All IsBytes ids → All HasNoZero ids
     → AllFit (Some authority) more
     → AllFit (Some authority) (map (IdFact authority) ids ++ more)
-ids_fit authority [] more bytes fit = fit
-ids_fit authority (id ∷ ids) more bytes fit = ((refl, All-head IsBytes id ids bytes), ids_fit authority ids more (All-tail IsBytes id ids bytes) fit)
+ids_fit authority [] more bytes whole fit = fit
+ids_fit authority (id ∷ ids) more bytes whole fit =
+    ((refl, All-head IsBytes id ids bytes, All-head HasNoZero id ids whole), ids_fit authority ids more (All-tail IsBytes id ids bytes) (All-tail HasNoZero id ids whole) fit)
 
 -- facts that fit under any authority
 abbrev FitAnywhere : List Fact → Type 0
 FitAnywhere facts = (current : Option (List ℕ)) → AllFit current facts
 
 section_fits : (section : Section) (more : List Fact) → IsOrderlySection section → IsBytes section.authority
-    → All IsBytes section.ids
+    → All IsBytes section.ids → All HasNoZero section.ids
     → FitAnywhere more → FitAnywhere (section_facts section ++ more)
 unfolding section_facts
-section_fits section more listed authority ids fit current =
+section_fits section more listed authority ids whole fit current =
     let spans : List Fact = map (SerialsFact section.authority) section.spans in
     let later : AllFit (Some section.authority) (spans ++ (map (IdFact section.authority) section.ids ++ more)) =
     spans_fit section.authority 0 section.spans (map (IdFact section.authority) section.ids ++ more) listed.runs listed.serials
-    (ids_fit section.authority section.ids more ids (fit (Some section.authority))) in
+    (ids_fit section.authority section.ids more ids whole (fit (Some section.authority))) in
     (authority, subst (AllFit (Some section.authority)) (sym (append_assoc spans (map (IdFact section.authority) section.ids) more)) later)
 
 abbrev HasBytes : Section → Type 0
@@ -110,15 +111,18 @@ HasBytes section = IsBytes section.authority
 abbrev HasIds : Section → Type 0
 HasIds section = All IsBytes section.ids
 
+abbrev HasWholeIds : Section → Type 0
+HasWholeIds section = All HasNoZero section.ids
+
 sections_fit : (sections : List Section) (more : List Fact) → All IsOrderlySection sections → All HasBytes sections
-    → All HasIds sections
+    → All HasIds sections → All HasWholeIds sections
     → FitAnywhere more → FitAnywhere (flat_map section_facts sections ++ more)
-sections_fit [] more listed authorities ids fit = fit
-sections_fit (section ∷ sections) more listed authorities ids fit =
-    let later = sections_fit sections more (All-tail IsOrderlySection section sections listed) (All-tail HasBytes section sections authorities) (All-tail HasIds section sections ids) fit in
+sections_fit [] more listed authorities ids whole fit = fit
+sections_fit (section ∷ sections) more listed authorities ids whole fit =
+    let later = sections_fit sections more (All-tail IsOrderlySection section sections listed) (All-tail HasBytes section sections authorities) (All-tail HasIds section sections ids) (All-tail HasWholeIds section sections whole) fit in
     subst FitAnywhere (sym (append_assoc (section_facts section) (flat_map section_facts sections) more))
     (section_fits section (flat_map section_facts sections ++ more) (All-head IsOrderlySection section sections listed)
-    (All-head HasBytes section sections authorities) (All-head HasIds section sections ids) later)
+    (All-head HasBytes section sections authorities) (All-head HasIds section sections ids) (All-head HasWholeIds section sections whole) later)
 
 keys_fit : (keys : List (List ℕ)) (more : List Fact) → All IsBytes keys → FitAnywhere more
     → FitAnywhere (map KeyFact keys ++ more)
@@ -154,7 +158,7 @@ held_fit_before r more stored fit =
     let sha256s : List Fact = map Sha256Fact r.sha256s in
     let parts : (sections ++ (keys ++ (sha1s ++ sha256s))) ++ more ≡ sections ++ (keys ++ (sha1s ++ (sha256s ++ more))) = simp append_assoc in
     subst FitAnywhere (sym parts)
-    (sections_fit r.sections (keys ++ (sha1s ++ (sha256s ++ more))) stored.orderly.listed stored.authorities stored.ids
+    (sections_fit r.sections (keys ++ (sha1s ++ (sha256s ++ more))) stored.orderly.listed stored.authorities stored.ids stored.whole_ids
     (keys_fit r.keys (sha1s ++ (sha256s ++ more)) stored.keys
     (sha1s_fit r.sha1s (sha256s ++ more) stored.sha1s stored.orderly.sha1_size
     (sha256s_fit r.sha256s more stored.sha256s stored.orderly.sha256_size fit))))

@@ -6,6 +6,7 @@ use Rattle.std.proofs.lemmas.Bool.{and_parts, cases_Bool, eqb-true, not-true, or
 use Rattle.std.proofs.lemmas.Bool.Decides.{Decides-eqb}
 use Rattle.std.proofs.lemmas.List.{reverse-append}
 use Rattle.std.proofs.lemmas.List.Elements.{All-contains, All-head, All-weaker, Contains-push}
+use Rattle.std.proofs.lemmas.List.Folds.{list_any_none}
 use Rattle.std.proofs.lemmas.List.Sums.{AllPass-from_list_all}
 use Rattle.std.proofs.lemmas.Slice.Eq.{ends_is, starts_is}
 use Rattle.hex.proofs.HexLemmas.{decode_of-encode_lower}
@@ -19,7 +20,7 @@ use Rattle.krl_spec.specs.declared.directive.Directive.TheVariants as directives
 use Rattle.krl_spec.proofs.LongestParts.{no_cut}
 use Rattle.list_text.specs.Text.{has_blank_end, id_line, is_text, is_text_byte}
 use Rattle.text_entries.specs.Says.{Names}
-use Rattle.text_entries.specs.Values.{bytes_in, is_cut}
+use Rattle.text_entries.specs.Values.{looks_like_key, bytes_in, has_control, has_zero, is_control, is_cut}
 use Rattle.text_entries.specs.Word.{word_named}
 use Rattle.text_entries.specs.declared.word.Word.TheVariants as words
 use Rattle.text_laws.proofs.Contents.{IsName, IsValue, line_no_hash, line_of, nothing_left, solid_value}
@@ -58,18 +59,21 @@ record IsText (id : List ℕ) : Type 0 where
   some : id ≢ []
   no_start : starts_with nat_eq id (codes " ") ≡ false
   no_end : ends_with nat_eq id (codes " ") ≡ false
+  no_key : looks_like_key id ≡ false
   each : AllPass is_text_byte id
 
 text_is : (id : List ℕ) → is_text id ≡ true → IsText id
 text_is id is =
-    let parts = and_parts (not (length id == 0)) (not (has_blank_end id) && list_all is_text_byte id) is in
-    let others = and_parts (not (has_blank_end id)) (list_all is_text_byte id) parts.1 in
+    let parts = and_parts (not (length id == 0)) (not (has_blank_end id) && (not (looks_like_key id) && list_all is_text_byte id)) is in
+    let others = and_parts (not (has_blank_end id)) (not (looks_like_key id) && list_all is_text_byte id) parts.1 in
+    let last = and_parts (not (looks_like_key id)) (list_all is_text_byte id) others.1 in
     let blanks = or_parts (starts_with nat_eq id (codes " ")) (ends_with nat_eq id (codes " ")) (not-true (has_blank_end id) others.0) in
     record {
       some = λ none. let empty : not (length id == 0) ≡ false = rw none refl in cc;
       no_start = blanks.0;
       no_end = blanks.1;
-      each = AllPass-from_list_all is_text_byte id others.1;
+      no_key = not-true (looks_like_key id) last.0;
+      each = AllPass-from_list_all is_text_byte id last.1;
     }
 
 text_value : (id : List ℕ) → IsText id → IsValue id
@@ -86,6 +90,12 @@ text_value (byte ∷ id) is =
       starts = rw (no_ending byte first begins) refl;
       ends = ap (suffix_len is_ending) ends.parts ∙ last_stops is_ending ends.front ends.last (no_ending ends.last last stops);
     }
+
+no_control : (byte : ℕ) → IsTextByte byte → is_control byte ≡ false
+no_control byte is = grind (arith, common_steps, and_parts, cases_Bool, eqb-true, or_cases)
+
+uncontrolled : (id : List ℕ) → IsText id → has_control id ≡ false
+uncontrolled id is = list_any_none is_control id (All-weaker IsTextByte (λ byte. is_control byte ≡ false) no_control id is.each)
 
 id_name : IsName (codes "id")
 id_name = literal_name (codes "id") (omega arith) refl refl
@@ -110,7 +120,7 @@ plain_read authority id is =
     let line : List ℕ = line_of (codes "id") id [] in
     let uncut : is_cut line ≡ false = whole line (line_no_hash (codes "id") id id_name kept) in
     line_reads (Some authority) (codes "id") id [] (codes "id: " ++ (id ++ codes "\n")) (Names (IdEntry authority id)) id_name kept nothing_left (plain_text (codes "id") id)
-    (word_line_says (Some authority) (codes "id") id [] words.Id id_name kept nothing_left id_word ∙ rw (uncut, id_entry authority id is.some) refl)
+    (word_line_says (Some authority) (codes "id") id [] words.Id id_name kept nothing_left id_word ∙ rw (uncut, uncontrolled id is, is.no_key, id_entry authority id is.some) refl)
 
 -- ---- a key ID by its bytes
 
@@ -125,19 +135,19 @@ bytes_again : (id : List ℕ) → IsBytes id → bytes_in (encode_lower id) ≡ 
 unfolding bytes_in
 bytes_again id bytes = rw (decode_of-encode_lower id bytes) refl
 
-hex_read : (authority id : List ℕ) → IsBytes id
+hex_read : (authority id : List ℕ) → IsBytes id → has_zero id ≡ false
     → Reads (Some authority) (codes "id-hex: " ++ (encode_lower id ++ codes "\n")) (Names (IdEntry authority id))
-hex_read authority id bytes =
+hex_read authority id bytes whole =
     let kept = solid_value (encode_lower id) (hex_solid id) in
     line_reads (Some authority) (codes "id-hex") (encode_lower id) [] (codes "id-hex: " ++ (encode_lower id ++ codes "\n")) (Names (IdEntry authority id)) hex_name kept nothing_left
     (plain_text (codes "id-hex") (encode_lower id))
-    (word_line_says (Some authority) (codes "id-hex") (encode_lower id) [] words.IdHex hex_name kept nothing_left hex_word ∙ rw (bytes_again id bytes) refl)
+    (word_line_says (Some authority) (codes "id-hex") (encode_lower id) [] words.IdHex hex_name kept nothing_left hex_word ∙ rw (bytes_again id bytes, whole) refl)
 
 -- ---- any key ID
 
-pub id_reads : (authority id : List ℕ) → IsBytes id
+pub id_reads : (authority id : List ℕ) → IsBytes id → has_zero id ≡ false
     → Reads (Some authority) (id_line id) (Names (IdEntry authority id))
-id_reads authority id bytes = elim (cases_Bool (is_text id)) [
+id_reads authority id bytes whole = elim (cases_Bool (is_text id)) [
   | inl text ↦ rw text (plain_read authority id (text_is id text))
-  | inr other ↦ rw other (hex_read authority id bytes)
+  | inr other ↦ rw other (hex_read authority id bytes whole)
 ]

@@ -23,8 +23,8 @@ use Rattle.show_run.specs.Showing.{fact_items, given_facts, line_item, lists_fac
 use Rattle.show_run.specs.declared.lists.Given.{Given}
 use Rattle.text_run.specs.Making.{Makes, Wanted}
 use Rattle.text_laws.specs.MadeLists.{IsMergedOf, only_text}
-use Rattle.text_laws.specs.Printed.{AreMerged, IsRead, shown_of}
-use Rattle.text_laws.specs.ReadBack.{CanBeShown, facts_about, text_of_lists}
+use Rattle.text_laws.specs.Printed.{AreMerged, HaveNoZeroIds, IsRead, shown_of}
+use Rattle.text_laws.specs.ReadBack.{CanBeShown, HasNoZeroIds, facts_about, text_of_lists}
 use Rattle.text_laws.proofs.MadeLists.{entries_made, made_again, merged}
 use Rattle.text_laws.proofs.ReadBytes.{IsReadAsSpelled}
 use Rattle.text_laws.proofs.ShownLists.{can_be_shown}
@@ -68,53 +68,57 @@ lists_can_be_shown : IsReadAsSpelled → (lists : List Given) → All IsRead lis
 lists_can_be_shown law [] read = All-nil CanBeShown
 lists_can_be_shown law (given ∷ lists) read =
     let is = All-head IsRead given lists read in
-    All-cons CanBeShown (shown_of given) (map shown_of lists) (can_be_shown law is.bytes (shown_of given) is.given_by.entries is.fits is.given_by.names is.given_by.means)
+    All-cons CanBeShown (shown_of given) (map shown_of lists) (can_be_shown law is.bytes (shown_of given) is.given_by.entries is.fits is.given_by.names is.given_by.means is.whole_ids)
     (lists_can_be_shown law lists (All-tail IsRead given lists read))
 
-made_of_printed : (lists : List Given) (wanted : Wanted) (text name bytes : List ℕ) (failed : Bool) (fault : Option RunFault) (contents : Revocations)
-    → EndsShown AsText lists (Some []) (Some text) failed 0 fault → Makes wanted (only_text name text) bytes contents
-    → Makes wanted (only_text name (text_of_lists (map shown_of lists))) bytes contents
-made_of_printed lists wanted text name bytes failed fault contents ends makes =
+made_of_printed : (lists : List Given) (wanted : Wanted) (is_file : Bool) (text name bytes : List ℕ) (failed : Bool) (fault : Option RunFault) (contents : Revocations)
+    → EndsShown AsText lists (Some []) (Some text) failed 0 fault → Makes wanted nothing (only_text is_file name text) bytes contents
+    → Makes wanted nothing (only_text is_file name (text_of_lists (map shown_of lists))) bytes contents
+made_of_printed lists wanted is_file text name bytes failed fault contents ends makes =
     let is : text ≡ text_of_lists (map shown_of lists) = printed_whole lists (Some []) (Some text) failed fault ends in
-    subst (λ (t : List ℕ). Makes wanted (only_text name t) bytes contents) is makes
+    subst (λ (t : List ℕ). Makes wanted nothing (only_text is_file name t) bytes contents) is makes
 
-pub printed_merged : IsReadAsSpelled → (lists : List Given) (wanted : Wanted) (text name bytes : List ℕ) (failed : Bool) (fault : Option RunFault) (contents : Revocations) → All IsRead lists
-    → EndsShown AsText lists (Some []) (Some text) failed 0 fault → Makes wanted (only_text name text) bytes contents
+pub printed_merged : IsReadAsSpelled → (lists : List Given) (wanted : Wanted) (is_file : Bool) (text name bytes : List ℕ) (failed : Bool) (fault : Option RunFault) (contents : Revocations) → All IsRead lists
+    → EndsShown AsText lists (Some []) (Some text) failed 0 fault → Makes wanted nothing (only_text is_file name text) bytes contents
     → IsMergedOf (map shown_of lists) wanted.header bytes
-printed_merged law lists wanted text name bytes failed fault contents read ends makes =
-    merged (map shown_of lists) wanted name bytes contents (lists_can_be_shown law lists read) (made_of_printed lists wanted text name bytes failed fault contents ends makes)
+printed_merged law lists wanted is_file text name bytes failed fault contents read ends makes =
+    merged (map shown_of lists) wanted is_file name bytes contents (lists_can_be_shown law lists read) (made_of_printed lists wanted is_file text name bytes failed fault contents ends makes)
 
-pub printed_again : IsReadAsSpelled → (given : Given) (wanted : Wanted) (text name bytes : List ℕ) (failed : Bool) (fault : Option RunFault) (contents : Revocations) → IsRead given
-    → EndsShown AsText (given ∷ []) (Some []) (Some text) failed 0 fault → Makes wanted (only_text name text) bytes contents
+pub printed_again : IsReadAsSpelled → (given : Given) (wanted : Wanted) (is_file : Bool) (text name bytes : List ℕ) (failed : Bool) (fault : Option RunFault) (contents : Revocations) → IsRead given
+    → EndsShown AsText (given ∷ []) (Some []) (Some text) failed 0 fault → Makes wanted nothing (only_text is_file name text) bytes contents
     → IsKrlText wanted.header given.revocations bytes
-printed_again law given wanted text name bytes failed fault contents is ends makes =
-    made_again (shown_of given) wanted name bytes contents (can_be_shown law is.bytes (shown_of given) is.given_by.entries is.fits is.given_by.names is.given_by.means)
-    (made_of_printed (given ∷ []) wanted text name bytes failed fault contents ends makes)
+printed_again law given wanted is_file text name bytes failed fault contents is ends makes =
+    made_again (shown_of given) wanted is_file name bytes contents (can_be_shown law is.bytes (shown_of given) is.given_by.entries is.fits is.given_by.names is.given_by.means is.whole_ids)
+    (made_of_printed (given ∷ []) wanted is_file text name bytes failed fault contents ends makes)
 
 -- An empty text names nothing.
-pub printed_none : (wanted : Wanted) (name bytes : List ℕ) (contents : Revocations) → Makes wanted (only_text name []) bytes contents → wanted.allow_empty ≡ true
-printed_none wanted name bytes contents makes =
+pub printed_none : (wanted : Wanted) (is_file : Bool) (name bytes : List ℕ) (contents : Revocations) → Makes wanted nothing (only_text is_file name []) bytes contents → wanted.allow_empty ≡ true
+printed_none wanted is_file name bytes contents makes =
     let named : List Entry = [] in
-    let is : makes.entries ≡ named = entries_made [] wanted name bytes contents (All-nil CanBeShown) makes in
-    let means : Means contents named = subst (Means contents) is makes.is.means in
+    let is : makes.entries ≡ named = entries_made [] wanted is_file name bytes contents (All-nil CanBeShown) makes in
+    let means : Means contents named = subst (Means contents) is (makes.adds.means [] nothing_meant) in
     let same : contents ≡ nothing = one_meaning contents nothing named means nothing_meant in
     allowed wanted.allow_empty (λ not. makes.some not same)
 
 -- ---- a whole run
 
-given_read : (told : List Reading) (names : List (Bor (List ℕ))) (lists : List Given) → AreGiven told names lists → All IsRead lists
-given_read [] [] [] given = All-nil IsRead
-given_read (one ∷ told) (name ∷ names) (list ∷ lists) given =
-    let is = given.0 in
-    All-cons IsRead list lists (record { name = name.now; bytes = is.bytes; fits = is.fits; given_by = is.is }) (given_read told names lists given.1)
-given_read told names lists given = absurd given
+abbrev HasWholeIds : Given → Type 0
+HasWholeIds given = HasNoZeroIds given.revocations
 
-pub run_merged : IsReadAsSpelled → (told : List Reading) (names : List (Bor (List ℕ))) (wanted : Wanted) (text name bytes : List ℕ) (failed : Bool) (fault : Option RunFault) (contents : Revocations)
-    → EndsShowRun told names AsText (Some []) (Some text) failed 0 fault → Makes wanted (only_text name text) bytes contents
+given_read : (told : List Reading) (names : List (Bor (List ℕ))) (lists : List Given) → AreGiven told names lists → All HasWholeIds lists → All IsRead lists
+given_read [] [] [] given whole = All-nil IsRead
+given_read (one ∷ told) (name ∷ names) (list ∷ lists) given whole =
+    let is = given.0 in
+    All-cons IsRead list lists (record { name = name.now; bytes = is.bytes; fits = is.fits; given_by = is.is; whole_ids = All-head HasWholeIds list lists whole })
+    (given_read told names lists given.1 (All-tail HasWholeIds list lists whole))
+given_read told names lists given whole = absurd given
+
+pub run_merged : IsReadAsSpelled → (told : List Reading) (names : List (Bor (List ℕ))) (wanted : Wanted) (is_file : Bool) (text name bytes : List ℕ) (failed : Bool) (fault : Option RunFault) (contents : Revocations)
+    → HaveNoZeroIds told names → EndsShowRun told names AsText (Some []) (Some text) failed 0 fault → Makes wanted nothing (only_text is_file name text) bytes contents
     → AreMerged told names wanted.header bytes
-run_merged law told names wanted text name bytes failed fault contents (shown lists given ends) makes = record {
+run_merged law told names wanted is_file text name bytes failed fault contents whole (shown lists given ends) makes = record {
   lists = lists;
   are_given = given;
-  merged = printed_merged law lists wanted text name bytes failed fault contents (given_read told names lists given) ends makes;
+  merged = printed_merged law lists wanted is_file text name bytes failed fault contents (given_read told names lists given (whole lists given)) ends makes;
 }
-run_merged law told names wanted text name bytes failed fault contents (refused stop is fault_is status_is after_is works) makes = absurd (omega (arith, status_is))
+run_merged law told names wanted is_file text name bytes failed fault contents whole (refused stop is fault_is status_is after_is works) makes = absurd (omega (arith, status_is))

@@ -12,7 +12,7 @@ use Rattle.krl_format.specs.Krl.{SpelledSection, Spells, header_fields, header_o
 use Rattle.krl_format.specs.declared.header.Header.{Header}
 use Rattle.plain_list.specs.Any.{Names, NamesIf, begins_list}
 use Rattle.text_laws.specs.FactLines.{HasNumbers}
-use Rattle.text_laws.specs.ReadBack.{CanBeShown, IsStored, Shown}
+use Rattle.text_laws.specs.ReadBack.{CanBeShown, HasNoZeroIds, IsStored, Shown}
 use Rattle.text_laws.proofs.ReadBytes.{AreBytes, EntryIsBytes, IsReadAsSpelled, list_bytes, plain_bytes}
 
 -- ---- names
@@ -85,15 +85,16 @@ ids_bytes (section ∷ sections) named =
     (All-weaker (Contains section.ids) IsBytes (λ text held. (named.id section.authority text (inl (refl, held))).1) section.ids (All-contains_itself section.ids))
     (ids_bytes sections (later_named section sections named))
 
-pub stored_bytes : (r : Revocations) (entries : List Entry) → Means r entries → AreBytes entries → IsStored r
+pub stored_bytes : (r : Revocations) (entries : List Entry) → Means r entries → AreBytes entries → HasNoZeroIds r → IsStored r
 unfolding NameIsBytes
-stored_bytes r entries means bytes =
+stored_bytes r entries means bytes whole =
     let each = λ (name : Name) (held : HoldsName r name). some_bytes entries name bytes ((means.names name).0 held) in
     let named : AreNamedByBytes r.sections = record { serial = λ a s held. each (SerialOf a s) held; id = λ a text held. each (IdOf a text) held } in
     record {
       orderly = means.orderly;
       authorities = authorities_bytes r.sections means.orderly.listed named;
       ids = ids_bytes r.sections named;
+      whole_ids = whole;
       keys = All-weaker (Contains r.keys) IsBytes (λ text held. each (KeyOf text) held) r.keys (All-contains_itself r.keys);
       sha1s = All-weaker (Contains r.sha1s) IsBytes (λ text held. each (Sha1Of text) held) r.sha1s (All-contains_itself r.sha1s);
       sha256s = All-weaker (Contains r.sha256s) IsBytes (λ text held. each (Sha256Of text) held) r.sha256s (All-contains_itself r.sha256s);
@@ -149,19 +150,19 @@ spelled_numbers bytes header sections spelled = subst (λ (h : Header). HasNumbe
 -- ---- any list
 
 by_magic : IsReadAsSpelled → (begins : Bool) (bytes : List ℕ) (list : Shown) (entries : List Entry) → IsBytes bytes
-    → NamesIf begins bytes list.header entries → Means list.contents entries
+    → NamesIf begins bytes list.header entries → Means list.contents entries → HasNoZeroIds list.contents
     → CanBeShown list
-by_magic law true bytes list entries fits names means =
+by_magic law true bytes list entries fits names means whole =
     let is = names.is in
     record {
       numbers = subst HasNumbers (sym names.header_is) (spelled_numbers bytes is.header is.sections is.spelled);
-      stored = stored_bytes list.contents entries means (subst AreBytes (sym is.entries_are) (list_bytes bytes is.header is.sections is.spelled fits));
+      stored = stored_bytes list.contents entries means (subst AreBytes (sym is.entries_are) (list_bytes bytes is.header is.sections is.spelled fits)) whole;
     }
-by_magic law false bytes list entries fits names means = record {
+by_magic law false bytes list entries fits names means whole = record {
   numbers = subst HasNumbers (sym names.header_is) tt;
-  stored = stored_bytes list.contents entries means (subst AreBytes (sym names.is.entries_are) (plain_bytes law bytes fits));
+  stored = stored_bytes list.contents entries means (subst AreBytes (sym names.is.entries_are) (plain_bytes law bytes fits)) whole;
 }
 
 pub can_be_shown : IsReadAsSpelled → (bytes : List ℕ) (list : Shown) (entries : List Entry) → IsBytes bytes
-    → Names bytes list.header entries → Means list.contents entries → CanBeShown list
-can_be_shown law bytes list entries fits names means = by_magic law (begins_list bytes) bytes list entries fits names means
+    → Names bytes list.header entries → Means list.contents entries → HasNoZeroIds list.contents → CanBeShown list
+can_be_shown law bytes list entries fits names means whole = by_magic law (begins_list bytes) bytes list entries fits names means whole

@@ -1,20 +1,22 @@
 -- Lines of specification files say the same in texts.
-use Rattle.std.proofs.Common.{◌≡◌, ℕ, ◌+◌, nat_lt, Bool, true, List, [], ◌∷◌, length, drop, Option, Some, None, option_map, refl, sym, ap, subst, inl, inr}
+use Rattle.std.proofs.Common.{◌≡◌, ℕ, ◌+◌, nat_lt, Bool, true, List, [], ◌∷◌, length, drop, Option, Some, None, Result, Ok, Err, option_map, refl, sym, ap, subst, inl, inr}
 use Rattle.std.specs.List.{before_first, find, position_or_len}
 use Rattle.std.specs.Str.{bytes_eq, str_to_ascii_lowercase}
 use Rattle.std.proofs.lemmas.Bool.{cases_Bool}
 use Rattle.std.proofs.lemmas.Slice.Eq.{bytes_eq-Decides}
 use Rattle.key_text.specs.Blanks.{after_blanks}
+use Rattle.krl_types.specs.Entry.{Entry}
+use Rattle.run_faults.specs.declared.spec_cause.SpecCause.{SpecCause}
 use Rattle.krl_spec.specs.Blanks.{bare_line}
 use Rattle.krl_spec.specs.Directive.{directive_named, directives as all_directives, is_colon, is_named, name_of as spec_name, order as spec_order, order_in as spec_order_in}
-use Rattle.krl_spec.specs.Entries.{counted_entry, line_entry, order_entry}
+use Rattle.krl_spec.specs.Entries.{bare_entry, counted_entry, line_entry, order_entry}
 use Rattle.krl_spec.specs.declared.directive.Directive.{Directive}
 use Rattle.krl_spec.specs.declared.directive.Directive.TheVariants as directives
-use Rattle.text_entries.specs.Says.{entry_says, key_line_says, line_says, word_says}
+use Rattle.text_entries.specs.Says.{bare_says, entry_says, key_line_says, line_says, word_says}
 use Rattle.text_entries.specs.Word.{name_of, order, order_in, word_named, words as all_words}
 use Rattle.text_entries.specs.declared.word.Word.{Word}
 use Rattle.text_entries.specs.declared.word.Word.TheVariants as words
-use Rattle.text_laws.specs.SpecLines.{IsBareAlike, IsReadAlike, spec_says}
+use Rattle.text_laws.specs.SpecLines.{IsBareAlike, IsReadAlike, IsWhole, spec_says}
 
 -- ---- the name
 
@@ -99,7 +101,7 @@ some_entry current (byte ∷ content) given directive is = rw is refl
 alike : (current : Option (List ℕ)) (line given : List ℕ) (directive : Directive) → IsReadAlike line directive given
     → word_says current line (word_of directive) given ≡ entry_says (order_entry current directive given)
 alike current line given directives.Serial is = refl
-alike current line given directives.Id is = rw is refl
+alike current line given directives.Id is = rw (is.0, is.1, is.2) refl
 alike current line given directives.Key is = rw is refl
 alike current line given directives.Sha1 is = rw is refl
 alike current line given directives.Sha256 is = rw is refl
@@ -112,10 +114,14 @@ unfolding line_says line_entry
 directive_says current line given directive found is =
     rw (order_is (bare_line line) given directive found, some_entry current (bare_line line) given directive found) (alike current line given directive is)
 
+whole_says : (read : Result Entry SpecCause) → IsWhole read → bare_says read ≡ entry_says read
+whole_says (Ok entry) whole = rw whole refl
+whole_says (Err cause) whole = refl
+
 content_says : (current : Option (List ℕ)) (content : List ℕ) → spec_order_in content ≡ None → IsBareAlike content
     → key_line_says content ≡ spec_says (counted_entry current content)
 content_says current [] none alike = refl
-content_says current (byte ∷ content) none alike = rw (alike, none) refl
+content_says current (byte ∷ content) none alike = rw (alike.0, none) (whole_says (bare_entry (byte ∷ content)) alike.1)
 
 pub key_says : (current : Option (List ℕ)) (line : List ℕ) → order_in (bare_line line) ≡ None
     → IsBareAlike (bare_line line) → line_says current line ≡ spec_says (line_entry current line)

@@ -1,6 +1,6 @@
 -- Facts about lists, as the reader of texts takes their lines.
 use Rattle.std.specs.Prelude.{◌≡◌, ℕ, ◌<◌, ◌≤◌, ◌^◌, List, [], ◌∷◌, length, Option, Some, None}
-use Rattle.std.specs.Prelude.{Ok, ⊤}
+use Rattle.std.specs.Prelude.{Ok, ⊤, false}
 use Rattle.std.specs.List.{slice_split}
 use Rattle.serial_set.specs.declared.span.Span.{Span}
 use Rattle.ssh_wire.specs.Wire.{IsBytes}
@@ -10,6 +10,7 @@ use Rattle.krl_types.specs.Entry.{IdEntry, KeyEntry, RangeEntry, Sha1Entry, Sha2
 use Rattle.list_text.specs.Facts.{Fact, ListFact, AuthorityFact, SerialsFact, IdFact, KeyFact}
 use Rattle.list_text.specs.Facts.{Sha1Fact, Sha256Fact}
 use Rattle.text_entries.specs.Says.{Blank, Current, Names, Saying, line_says}
+use Rattle.text_entries.specs.Values.{has_zero}
 
 -- what the line of a fact says
 abbrev pub fact_says : Fact → Saying
@@ -32,13 +33,19 @@ pub record AreSerials (span : Span) : Type 0 where
   pub rises : span.lo ≤ span.hi
   pub fits : span.hi < 2 ^ 64
 
--- The fact is about bytes and serial numbers, and the authority that it is under is the current
+-- No byte of a key ID is zero. OpenSSH refuses a list that has one, and no line of a text gives
 -- one.
+abbrev pub HasNoZero : List ℕ → Type 0
+HasNoZero id = has_zero id ≡ false
+
+-- The fact is about bytes and serial numbers, and the authority that it is under is the current
+-- one. No key ID has a zero byte.
 abbrev pub FitsUnder : Option (List ℕ) → Fact → Type 0
 FitsUnder current (ListFact name header) = HasNumbers header
 FitsUnder current (AuthorityFact authority) = IsBytes authority
 FitsUnder current (SerialsFact authority span) = (current ≡ Some authority) × AreSerials span
-FitsUnder current (IdFact authority id) = (current ≡ Some authority) × IsBytes id
+FitsUnder current (IdFact authority id) =
+    (current ≡ Some authority) × IsBytes id × HasNoZero id
 FitsUnder current (KeyFact blob) = IsBytes blob
 FitsUnder current (Sha1Fact hash) = IsBytes hash × (length hash ≡ 20)
 FitsUnder current (Sha256Fact hash) = IsBytes hash × (length hash ≡ 32)

@@ -11,14 +11,19 @@ use Rattle.list_text.specs.Text.{fact_line}
 use Rattle.text_entries.specs.Lines.{lines_of}
 use Rattle.text_entries.specs.Reading.{ReadsText}
 use Rattle.text_entries.specs.declared.text_fault.TextFault.{TextFault}
-use Rattle.text_laws.specs.FactLines.{HasNumbers}
+use Rattle.text_laws.specs.FactLines.{HasNoZero, HasNumbers}
+
+-- No key ID has a zero byte.
+abbrev pub HasNoZeroIds : Revocations → Type 0
+HasNoZeroIds r = All (λ section. All HasNoZero section.ids) r.sections
 
 -- Everything is in order, and the authorities, key IDs, keys and hashes are bytes: so it is in
--- memory.
+-- memory. No key ID has a zero byte.
 pub record IsStored (r : Revocations) : Type 0 where
   pub orderly : IsOrderly r
   pub authorities : All (λ section. IsBytes section.authority) r.sections
   pub ids : All (λ section. All IsBytes section.ids) r.sections
+  pub whole_ids : HasNoZeroIds r
   pub keys : All IsBytes r.keys
   pub sha1s : All IsBytes r.sha1s
   pub sha256s : All IsBytes r.sha256s

@@ -1,11 +1,14 @@
 -- Lines of specification files that say the same in texts.
 use Rattle.std.specs.Prelude.{◌≡◌, true, false, ⊤, List, [], ◌∷◌, ℕ, Option, Some, None, Result, Ok}
+use Rattle.std.specs.Prelude.{Err}
+use Rattle.krl_spec.specs.Entries.{bare_entry}
 use Rattle.krl_spec.specs.declared.directive.Directive.{Directive}
 use Rattle.krl_spec.specs.declared.directive.Directive.TheVariants.{Id, Key, Sha1, Sha256, Hash}
 use Rattle.krl_types.specs.Entry.{Entry}
 use Rattle.run_faults.specs.declared.spec_cause.SpecCause.{SpecCause}
-use Rattle.text_entries.specs.Says.{Blank, Saying, entry_says}
-use Rattle.text_entries.specs.Values.{begins_with_key, is_cut, is_sha1}
+use Rattle.text_entries.specs.Says.{Blank, Saying, entry_says, has_zero_id}
+use Rattle.text_entries.specs.Values.{begins_with_key, has_control, is_cut, is_sha1}
+use Rattle.text_entries.specs.Values.{looks_like_key}
 use Rattle.text_entries.specs.declared.text_cause.TextCause.{TextCause}
 
 -- what a line of a specification file says
@@ -13,16 +16,25 @@ abbrev pub spec_says : Option (Result Entry SpecCause) → Result Saying TextCau
 spec_says None = Ok Blank
 spec_says (Some read) = entry_says read
 
--- Texts refuse a key ID that is cut short and anything before a key, and take a SHA-1 too.
+-- Texts refuse a key ID that is cut short, that has a control character or that begins as a key,
+-- and anything before a key. They take a SHA-1 too.
 abbrev pub IsReadAlike : List ℕ → Directive → List ℕ → Type 0
-IsReadAlike line Id given = is_cut line ≡ false
+IsReadAlike line Id given =
+    (is_cut line ≡ false) × (has_control given ≡ false) × (looks_like_key given ≡ false)
 IsReadAlike line Key given = begins_with_key given ≡ true
 IsReadAlike line Sha1 given = begins_with_key given ≡ true
 IsReadAlike line Sha256 given = begins_with_key given ≡ true
 IsReadAlike line Hash given = is_sha1 given ≡ false
 IsReadAlike line directive given = ⊤
 
--- Content without a word is empty or begins with the type name of a key. Texts refuse any other.
+-- The entry is no key ID with a zero byte.
+abbrev pub IsWhole : Result Entry SpecCause → Type 0
+IsWhole (Ok entry) = has_zero_id entry ≡ false
+IsWhole (Err cause) = ⊤
+
+-- Content without a word is empty or begins with the type name of a key. Texts refuse any other,
+-- and a certificate that is named by a key ID with a zero byte.
 abbrev pub IsBareAlike : List ℕ → Type 0
 IsBareAlike [] = ⊤
-IsBareAlike (byte ∷ bytes) = begins_with_key (byte ∷ bytes) ≡ true
+IsBareAlike (byte ∷ bytes) =
+    (begins_with_key (byte ∷ bytes) ≡ true) × IsWhole (bare_entry (byte ∷ bytes))

@@ -22,7 +22,8 @@ ghost use Rattle.krl_types.specs.Entry.{Entry};
 ghost use Rattle.krl_types.specs.Naming.{NamesSame};
 ghost use Rattle.plain_list.specs.Any.{Names};
 ghost use Rattle.ssh_wire.specs.Wire.{IsBytes};
-ghost use Rattle.text_laws.specs.ReadBack.{CanBeShown, IsReadAs, IsReadInto, IsStored, Shown};
+ghost use Rattle.text_laws.specs.ReadBack.{CanBeShown, HasNoZeroIds, IsReadAs};
+ghost use Rattle.text_laws.specs.ReadBack.{IsReadInto, IsStored, Shown};
 ghost use Rattle.text_laws.specs.ReadBack.{StopsWith, entries_of_lists, text_of_lists};
 ghost use Rattle.text_laws.specs.SpecLines.{IsBareAlike, IsReadAlike, spec_says};
 ghost use Rattle.text_laws.specs.Joined.{AreWholeLines, LacksNoAuthority, later_by, lines_in};
@@ -34,7 +35,7 @@ ghost use Rattle.show_run.specs.Run.{EndsShowRun, EndsShown, run_items};
 ghost use Rattle.show_run.specs.Told.{Reading};
 ghost use Rattle.show_run.specs.declared.lists.Given.{Given};
 ghost use Rattle.text_laws.specs.MadeLists.{IsMergedOf, only_text, only_text_of};
-ghost use Rattle.text_laws.specs.Printed.{AreMerged, IsRead, shown_of};
+ghost use Rattle.text_laws.specs.Printed.{AreMerged, HaveNoZeroIds, IsRead, shown_of};
 ghost use Rattle.text_run.specs.Making.{Makes, Wanted as WantedOf};
 
 use plain_list::laws::line_read_as_spelled;
@@ -54,8 +55,9 @@ pub fn texts_join()
 {}
 
 /// A line of a specification file says the same in a text: one with a directive, but for a key ID
-/// that is cut short, a SHA-1 and a key with anything before it; and one without a word of texts
-/// that is empty or begins with the type name of a key.
+/// that is cut short, has a control character or begins as a key, a SHA-1 and a key with anything
+/// before it; and one without a word of texts that is empty or begins with the type name of a key,
+/// but for a certificate that is named by a key ID with a zero byte.
 pub fn spec_lines_say_the_same()
     ensures directives { (current : Option (List ℕ)) (line given : List ℕ) (directive : Directive)
         → spec_order_in (bare_line line) ≡ Some (spec_order given directive)
@@ -92,13 +94,15 @@ pub fn shown_lists_read_back()
         → IsReadAs (text_of_lists lists) (entries_of_lists lists) }
 {}
 
-/// Each list that is read from bytes can be shown, and its text has no fault and names exactly what
-/// the list names.
+/// Each list that is read from bytes can be shown, if no key ID in it has a zero byte. Its text
+/// then has no fault and names exactly what the list names.
 pub fn shown_list_names_the_same()
     ensures shown { (list : Shown) (bytes : List ℕ) (entries : List Entry) → IsBytes bytes
-        → Names bytes list.header entries → Means list.contents entries → CanBeShown list }
+        → Names bytes list.header entries → Means list.contents entries
+        → HasNoZeroIds list.contents → CanBeShown list }
     ensures names { (list : Shown) (bytes : List ℕ) (entries : List Entry) → IsBytes bytes
         → Names bytes list.header entries → Means list.contents entries
+        → HasNoZeroIds list.contents
         → ((lines_of (text_of_lists (list ∷ []))).fault ≡ None)
         × NamesSame entries (lines_of (text_of_lists (list ∷ []))).entries }
 {
@@ -108,13 +112,13 @@ pub fn shown_list_names_the_same()
 /// A list that is made of the texts of lists names exactly what these lists name. Made of the text
 /// of one list, it has the wanted header and the same contents, so both have the same lines.
 pub fn shown_lists_are_made_again()
-    ensures merged { (lists : List Shown) (wanted : WantedOf) (name bytes : List ℕ)
-        (contents : Revocations) → All CanBeShown lists
-        → Makes wanted (only_text_of name lists) bytes contents
+    ensures merged { (lists : List Shown) (wanted : WantedOf) (is_file : Bool)
+        (name bytes : List ℕ) (contents : Revocations) → All CanBeShown lists
+        → Makes wanted nothing (only_text_of is_file name lists) bytes contents
         → IsMergedOf lists wanted.header bytes }
-    ensures same { (list : Shown) (wanted : WantedOf) (name bytes : List ℕ)
-        (contents : Revocations) → CanBeShown list
-        → Makes wanted (only_text_of name (list ∷ [])) bytes contents
+    ensures same { (list : Shown) (wanted : WantedOf) (is_file : Bool)
+        (name bytes : List ℕ) (contents : Revocations) → CanBeShown list
+        → Makes wanted nothing (only_text_of is_file name (list ∷ [])) bytes contents
         → IsKrlText wanted.header list.contents bytes }
 {}
 
@@ -132,30 +136,34 @@ pub fn printed_text_is_text_of_lists()
 /// what was printed of one list, it has the wanted header and the same contents. No list is made of
 /// an empty text, unless the list may be empty.
 pub fn printed_lists_are_made_again()
-    ensures merged { (lists : List Given) (wanted : WantedOf) (text name bytes : List ℕ)
-        (failed : Bool) (fault : Option RunFaultOf) (contents : Revocations) → All IsRead lists
+    ensures merged { (lists : List Given) (wanted : WantedOf) (is_file : Bool)
+        (text name bytes : List ℕ) (failed : Bool) (fault : Option RunFaultOf)
+        (contents : Revocations) → All IsRead lists
         → EndsShown AsText lists (Some []) (Some text) failed 0 fault
-        → Makes wanted (only_text name text) bytes contents
+        → Makes wanted nothing (only_text is_file name text) bytes contents
         → IsMergedOf (map shown_of lists) wanted.header bytes }
-    ensures same { (given : Given) (wanted : WantedOf) (text name bytes : List ℕ)
-        (failed : Bool) (fault : Option RunFaultOf) (contents : Revocations) → IsRead given
+    ensures same { (given : Given) (wanted : WantedOf) (is_file : Bool)
+        (text name bytes : List ℕ) (failed : Bool) (fault : Option RunFaultOf)
+        (contents : Revocations) → IsRead given
         → EndsShown AsText (given ∷ []) (Some []) (Some text) failed 0 fault
-        → Makes wanted (only_text name text) bytes contents
+        → Makes wanted nothing (only_text is_file name text) bytes contents
         → IsKrlText wanted.header given.revocations bytes }
-    ensures none { (wanted : WantedOf) (name bytes : List ℕ) (contents : Revocations)
-        → Makes wanted (only_text name []) bytes contents → wanted.allow_empty ≡ true }
+    ensures none { (wanted : WantedOf) (is_file : Bool) (name bytes : List ℕ)
+        (contents : Revocations)
+        → Makes wanted nothing (only_text is_file name []) bytes contents
+        → wanted.allow_empty ≡ true }
 {
     line_read_as_spelled();
 }
 
 /// A list that is made of what a whole run printed, with status 0, names exactly what the lists of
-/// the run name.
+/// the run name, if no key ID in them has a zero byte.
 pub fn shown_run_is_made_again()
     ensures { (told : List Reading) (names : List (Bor (List ℕ))) (wanted : WantedOf)
-        (text name bytes : List ℕ) (failed : Bool) (fault : Option RunFaultOf)
-        (contents : Revocations)
+        (is_file : Bool) (text name bytes : List ℕ) (failed : Bool) (fault : Option RunFaultOf)
+        (contents : Revocations) → HaveNoZeroIds told names
         → EndsShowRun told names AsText (Some []) (Some text) failed 0 fault
-        → Makes wanted (only_text name text) bytes contents
+        → Makes wanted nothing (only_text is_file name text) bytes contents
         → AreMerged told names wanted.header bytes }
 {
     line_read_as_spelled();

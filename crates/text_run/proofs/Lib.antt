@@ -1,3 +1,7 @@
 pub mod TextsAdded
 pub mod Counted
 pub mod MadeLists
+pub mod Contents
+pub mod Updated
+pub mod Bases
+pub mod Aheads

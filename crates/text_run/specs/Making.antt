@@ -5,7 +5,7 @@ use Rattle.ssh_wire.specs.Reading.{◌>>=◌, in_fault}
 use Rattle.run_faults.specs.declared.cause.Cause.{Cause}
 use Rattle.run_faults.specs.declared.cause.Cause.TheVariants as causes
 use Rattle.krl_entries.specs.Changes.{MeansMore}
-use Rattle.krl_entries.specs.Revocations.{Means, Revocations, held, nothing}
+use Rattle.krl_entries.specs.Revocations.{Revocations, held, nothing}
 use Rattle.krl_format.specs.Front.{limit}
 use Rattle.krl_format.specs.declared.header.Header.{Header}
 use Rattle.krl_types.specs.Entry.{Entry}
@@ -17,13 +17,14 @@ use Rattle.text_entries.specs.Lines.{lines_of}
 use Rattle.text_entries.specs.declared.text_fault.TextFault.{TextFault}
 use Rattle.text_run.specs.Fault.{MakeFault, line_fault, whole_fault}
 use Rattle.text_run.specs.declared.make_fault.MakeCause.{MakeCause}
-use Rattle.text_run.specs.declared.make_fault.MakeCause.TheVariants.{Run, Empty}
+use Rattle.text_run.specs.declared.make_fault.MakeCause.TheVariants.{Run}
 
 -- ---- the texts
 
--- the name of a text, and its bytes or why there are none
+-- the name of a text, whether it is a regular file, and its bytes or why there are none
 pub record Text : Type 0 where
   pub name : List ℕ
+  pub is_file : Bool
   pub content : Result (List ℕ) Cause
 
 abbrev pub unless_fault : List ℕ → List ℕ → List Entry → Option TextFault
@@ -109,22 +110,16 @@ pub record Wanted : Type 0 where
 abbrev pub counts_of : Revocations → Counts
 counts_of contents = counted_all nothing_counted (facts_of contents)
 
--- a list with this header that names exactly these entries: its bytes, and what is held of it
-pub record IsMade (header : Header) (entries : List Entry) (bytes : List ℕ)
+-- The texts have no fault, and the list names exactly their entries beside what was held. It names
+-- something, unless it may be empty.
+pub record Makes (wanted : Wanted) (held : Revocations) (texts : List Text) (bytes : List ℕ)
     (contents : Revocations) : Type 0 where
-  pub means : Means contents entries
-  pub few : held contents ≤ length entries
-  pub written : IsKrlText header contents bytes
-  pub within : length bytes ≤ limit
-
--- The texts have no fault, and the list names exactly their entries. It names something, unless it
--- may be empty.
-pub record Makes (wanted : Wanted) (texts : List Text) (bytes : List ℕ) (contents : Revocations)
-    : Type 0 where
   pub entries : List Entry
   pub read : texts_entries texts ≡ Ok entries
   pub some : wanted.allow_empty ≡ false → contents ≢ nothing
-  pub is : IsMade wanted.header entries bytes contents
+  pub adds : HoldsMore held contents entries
+  pub written : IsKrlText wanted.header contents bytes
+  pub within : length bytes ≤ limit
 
 -- The bytes are those of the wanted list, with what is held. Otherwise an allocation failed, or the
 -- list would be too long to be read.
@@ -136,13 +131,3 @@ IsWritten view wanted contents (Err fault) =
     (fault ≡ whole_fault wanted.name (Run causes.NoMemory))
     ⊎ ((fault ≡ whole_fault wanted.name (Run causes.TextTooLong))
     × ((bytes : List ℕ) → IsKrlText wanted.header contents bytes → limit < length bytes))
-
--- Why texts are refused: the first fault, or an allocation failed at a text; or none has an entry,
--- and the list with this name may not be empty.
-pub data IsRefused (name : List ℕ) (allow_empty : Bool) (texts : List Text) (fault : MakeFault)
-    : Type 0 where
-  faulty : IsMakeFault (LacksMemoryAt texts) fault.cause (texts_entries texts) fault
-      → IsRefused name allow_empty texts fault
-  empty : (entries : List Entry) → texts_entries texts ≡ Ok entries → Means nothing entries
-      → allow_empty ≡ false → fault ≡ whole_fault name Empty
-      → IsRefused name allow_empty texts fault

@@ -7,12 +7,15 @@ use Rattle.run_faults.specs.declared.spec_cause.SpecCause.TheVariants as specs
 use Rattle.krl_audit.specs.Causes.{cause_words}
 use Rattle.krl_audit.specs.Visible.{visible}
 use Rattle.text_entries.specs.Misspelt.{Misspelt}
+use Rattle.text_entries.specs.declared.hint.Hint.{Hint}
+use Rattle.text_entries.specs.declared.hint.Hint.TheVariants as hints
 use Rattle.text_entries.specs.TextCause.{text_cause_text}
 use Rattle.text_entries.specs.declared.text_cause.TextCause.{TextCause}
 use Rattle.text_entries.specs.declared.text_cause.TextCause.TheVariants as texts
 use Rattle.text_run.specs.Fault.{MakeFault}
 use Rattle.text_run.specs.declared.make_fault.MakeCause.{MakeCause}
-use Rattle.text_run.specs.declared.make_fault.MakeCause.TheVariants.{Run, Line, Empty}
+use Rattle.text_run.specs.declared.make_fault.MakeCause.TheVariants.{Run, Line, Empty, NoEntry}
+use Rattle.text_run.specs.declared.make_fault.MakeCause.TheVariants.{OldVersion}
 
 -- ---- in words
 
@@ -38,11 +41,18 @@ text_words texts.UnknownWord =
     codes "a line begins with ca:, ca-blob:, serial:, id:, id-hex:, key:, key-blob:, sha1:, "
     ++ (codes "sha256: or hash:, or with the type of a key, and nothing may be before it, "
     ++ codes "such as options")
+text_words texts.ControlInId =
+    codes "a key ID has a control character, such as a tab or a carriage return: use id-hex:"
+text_words texts.ZeroInId = codes "OpenSSH takes no key ID with a zero byte: use serial:"
+text_words texts.KeyAsId =
+    codes "a key stands where a key ID belongs: use key:, or id-hex: for a key ID that begins so"
 
 abbrev pub make_words : MakeCause → List ℕ
 make_words (Run cause) = cause_words cause
 make_words (Line cause) = text_words cause
 make_words Empty = codes "no text has an entry, and the list would revoke nobody"
+make_words NoEntry = codes "it has no entry, which --allow-empty allows"
+make_words OldVersion = codes "the list there has this version or a later one"
 
 -- a misspelt word, and the one that was meant, with its colon
 abbrev pub meant_words : Misspelt → List ℕ
@@ -51,10 +61,17 @@ meant_words misspelt =
     ++ (visible true misspelt.word
     ++ (codes "\" is no word of a text: did you mean \"" ++ (misspelt.meant ++ codes ":\"?")))
 
--- why no list is made, or what was meant where a word is misspelt
-abbrev pub why_words : Option Misspelt → MakeCause → List ℕ
+-- what a line may be meant as
+abbrev pub hint_words : Hint → List ℕ
+hint_words (hints.Misspelt misspelt) = meant_words misspelt
+hint_words hints.Fingerprint = codes "a fingerprint needs \"hash:\" before it"
+hint_words hints.KeyFile = codes "the key itself stands here, not its file"
+hint_words hints.ByteOrderMark = codes "the file begins with a byte order mark"
+
+-- why no list is made, or what the line may be meant as
+abbrev pub why_words : Option Hint → MakeCause → List ℕ
 why_words None cause = make_words cause
-why_words (Some misspelt) cause = meant_words misspelt
+why_words (Some hint) cause = hint_words hint
 
 -- ---- by its number
 
@@ -62,6 +79,8 @@ abbrev pub make_cause_text : MakeCause → List ℕ
 make_cause_text (Run cause) = cause_text cause
 make_cause_text (Line cause) = text_cause_text cause
 make_cause_text Empty = codes "make 1 Empty"
+make_cause_text NoEntry = codes "make 2 NoEntry"
+make_cause_text OldVersion = codes "make 3 OldVersion"
 
 -- ---- the line
 
@@ -71,5 +90,5 @@ fault_line fault =
     codes "krl: "
     ++ (visible false fault.name
     ++ (codes ": " ++ (line_part fault.line
-    ++ (why_words fault.misspelt fault.cause
+    ++ (why_words fault.hint fault.cause
     ++ (codes " [" ++ (make_cause_text fault.cause ++ codes "]\n"))))))

@@ -2,8 +2,12 @@
 #![tactic(auto)]
 
 mod adding;
+mod ahead;
+mod base;
+mod content;
 mod counting;
 mod inputs;
+pub mod laws;
 mod listed;
 mod make_fault;
 mod refusal;
@@ -11,8 +15,8 @@ mod run;
 mod saying;
 mod text;
 
-pub use inputs::Inputs;
-pub use listed::{Facts, Listed, read_texts};
+pub use inputs::{Inputs, Over};
+pub use listed::{Facts, Listed, Merged, read_texts};
 pub use make_fault::{MakeCause, MakeFault};
 pub use refusal::fault_line;
 pub use run::text_run;

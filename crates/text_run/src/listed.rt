@@ -1,18 +1,20 @@
-//! What texts name, made into a list over what is under its name.
+//! A list that is made of texts, over the list under its name.
 
-ghost use Rattle.std.specs.Prelude.{◌≡◌, ◌^◌, ◌<◌, ◌↔◌, IfErr, IfOk, IsTrue, None, false};
-ghost use Rattle.krl_entries.specs.Revocations.{nothing};
-ghost use Rattle.text_run.specs.Making.{IsRefused, IsWritten};
-ghost use Rattle.text_run.specs.Over.{HasVersion, IsHeld, IsStated, IsVersionRefused, wanted_of};
+ghost use Rattle.std.specs.Prelude.{◌≡◌, IfErr, IfOk, MatchOption, unwrap_or};
+ghost use Rattle.text_run.specs.Making.{IsMakeFault, IsWritten, LacksMemoryAt, texts_entries};
+ghost use Rattle.text_run.specs.Over.{IsEnough, IsHeld, IsMerged, IsRefused, IsTooLittle};
+ghost use Rattle.text_run.specs.Over.{version_over, wanted_over};
 
 use crate::adding::add_texts;
-use crate::inputs::Inputs;
+use crate::base::read_base;
+use crate::content::first_mute;
+use crate::inputs::{Inputs, Over};
 use crate::make_fault::{MakeCause, MakeFault};
-use byte_streams::Lent;
-use krl_core::{Header, Revocations, read_krl};
+use byte_streams::Source;
+use krl_core::{Header, Revocations};
 use krl_writer::{TextFault, krl_text};
 use list_making::{Made, Maker, next_version};
-use run_faults::{Cause, cause_of};
+use run_faults::Cause;
 use span_sets::Held;
 use ssh_wire::Bytes;
 use std::alloc::Global;
@@ -20,97 +22,145 @@ use std::alloc::Global;
 // The version of a list that follows no other.
 const FIRST: u64 = 1;
 
-/// What is said about a list that was made: its version, and what it names.
+/// The facts about a list that was made: its version, and what it names.
 #[derive(Drop)]
 pub struct Facts {
     /// Its version.
     pub version: u64,
-    /// What it names.
+    /// The counts of what it names.
     pub revocations: Revocations<Held>,
 }
 
-/// What the texts of a list name.
+/// The outcome of making texts into a list: the version, and what is held of the old list and the texts, if the
+/// list names what the old one names.
+#[derive(Drop)]
+pub struct Merged {
+    /// The version.
+    pub version: u64,
+    /// The revocations of the old list and of the texts.
+    pub revocations: Option<Revocations<Held>>,
+}
+
+/// The revocations that the texts of a list name.
 #[derive(Drop)]
 pub struct Listed<'a> {
     /// The list that is asked for.
     pub inputs: &'a Inputs<'a>,
-    /// What its texts name.
+    /// The revocations that its texts name.
     pub revocations: Revocations<Held>,
 }
 
-/// What the texts name, or their first fault. Nothing is a fault too, unless it is allowed.
+/// The revocations that texts name, or their first fault. A text without an entry is a fault too, and so is
+/// nothing, unless it is allowed.
 pub fn read_texts<'a>(alloc: Global, inputs: &'a Inputs<'a>) -> Result<Listed<'a>, MakeFault<'a>>
     ensures same { IfOk result (λ list. list.inputs.now ≡ inputs.now) }
     ensures read { IfOk result (λ list. IsHeld inputs.now list.revocations) }
-    ensures refused { IfErr result (IsRefused inputs.now.name.now inputs.now.allow_empty
-        inputs.now.texts.now) }
+    ensures refused { IfErr result (IsRefused inputs.now) }
 {
     let mut revocations: Revocations<Held> = Revocations::new(alloc);
     add_texts(alloc, &mut revocations, inputs.texts)?;
-    if is_refused(inputs, &revocations) {
-        return Err(MakeFault::whole(inputs.name, MakeCause::Empty));
+    match why_refused(inputs, &revocations) {
+        Some(fault) => Err(fault),
+        None => Ok(Listed {
+            inputs,
+            revocations,
+        }),
     }
-    Ok(Listed {
-        inputs,
-        revocations,
-    })
 }
 
-// Whether nothing is held, and this is not allowed.
-fn is_refused(inputs: &Inputs<'_>, revocations: &Revocations<Held>) -> bool
-    ensures { IsTrue result
-        ↔ (inputs.now.allow_empty ≡ false) × (revocations.now ≡ nothing) }
+// Why texts without a fault are refused. A list that names all that the old one names needs none.
+fn why_refused<'a>(inputs: &'a Inputs<'a>, revocations: &Revocations<Held>) -> Option<MakeFault<'a>>
+    ensures { MatchOption result (IsEnough inputs.now revocations.now)
+        (IsTooLittle inputs.now revocations.now) }
 {
-    !inputs.allow_empty && revocations.is_nothing()
+    if inputs.allow_empty {
+        return None;
+    }
+    if let Some(text) = first_mute(inputs.texts) {
+        return Some(MakeFault::whole(text.name, MakeCause::NoEntry));
+    }
+    match inputs.over {
+        Over::Nothing | Over::Version if revocations.is_nothing() => {
+            Some(MakeFault::whole(inputs.name, MakeCause::Empty))
+        }
+        _ => None,
+    }
+}
+
+// The version of a list with this version, or over that of the old list.
+fn version_over(given: Option<u64>, stated: Option<u64>) -> Result<u64, MakeCause>
+    ensures value { result ≡ version_over given stated }
+{
+    if let (Some(given), Some(stated)) = (given, stated)
+        && given <= stated
+    {
+        return Err(MakeCause::OldVersion);
+    }
+    match next_version(given, stated, FIRST) {
+        Some(version) => Ok(version),
+        None => Err(MakeCause::Run(Cause::VersionFull)),
+    }
+}
+
+// The revocations of the old list and the texts, or of the texts alone.
+fn held_of<'a>(
+    merged: &'a Option<Revocations<Held>>,
+    listed: &'a Revocations<Held>,
+) -> &'a Revocations<Held>
+    ensures { result.now ≡ unwrap_or merged.now listed.now }
+{
+    match merged {
+        Some(merged) => merged,
+        None => listed,
+    }
 }
 
 impl<'a> Listed<'a> {
-    // The version of the list over an old one, or without one.
-    fn version_over(&self, alloc: Global, old: &Option<Bytes>) -> Result<u64, MakeFault<'a>>
-        ensures found { IfOk result (HasVersion self.now.inputs.now.version old.now) }
-        ensures fits { IfOk result (λ version. version < 2 ^ 64) }
-        ensures refused { IfErr result (IsVersionRefused self.now.inputs.now old.now) }
+    // Adds what the texts name to what is taken over from the old list, if that is all of it.
+    fn merge(
+        &self,
+        alloc: Global,
+        taken: Revocations<Held>,
+    ) -> Result<Option<Revocations<Held>>, MakeFault<'a>>
+        ensures merged { IfOk result (IsMerged self.now.inputs.now taken) }
+        ensures refused { IfErr result (λ fault. IsMakeFault
+            (LacksMemoryAt self.now.inputs.now.texts.now) fault.cause
+            (texts_entries self.now.inputs.now.texts.now) fault) }
     {
-        let stated = match self.stated(alloc, old) {
-            Ok(stated) => stated,
-            Err(fault) => return Err(fault),
-        };
-        match next_version(self.inputs.version, stated, FIRST) {
-            Some(version) => Ok(version),
-            None => Err(self.fault(Cause::VersionFull)),
-        }
-    }
-
-    // The version of the old list, if there is one and its version counts.
-    fn stated(&self, alloc: Global, old: &Option<Bytes>) -> Result<Option<u64>, MakeFault<'a>>
-        ensures found { IfOk result (λ stated. self.now.inputs.now.version ≡ None
-            → IsStated old.now stated) }
-        ensures refused { IfErr result (IsVersionRefused self.now.inputs.now old.now) }
-    {
-        let (None, Some(bytes)) = (self.inputs.version, old) else {
+        let Over::Contents = self.inputs.over else {
             return Ok(None);
         };
-        let (read, _lent) = read_krl::<Held, _>(alloc, Lent::new(bytes.as_slice()));
-        match read {
-            Ok((header, _revocations)) => Ok(Some(header.version)),
-            Err(fault) => Err(self.fault(cause_of(fault))),
+        let mut merged = taken;
+        match add_texts(alloc, &mut merged, self.inputs.texts) {
+            Ok(()) => Ok(Some(merged)),
+            Err(fault) => Err(fault),
         }
     }
 
-    // The bytes of the list of this version.
-    fn write(&self, alloc: Global, version: u64) -> Result<Vec<u8>, MakeFault<'a>>
-        ensures { IsWritten (λ made. made.items) (wanted_of self.now.inputs.now version)
-            self.now.revocations result }
+    // The bytes of the list of this version, with the given comment or that of the old list.
+    fn write(
+        &self,
+        alloc: Global,
+        version: u64,
+        old: Bytes,
+        revocations: &Revocations<Held>,
+    ) -> Result<Vec<u8>, MakeFault<'a>>
+        ensures { IsWritten (λ made. made.items)
+            (wanted_over self.now.inputs.now old version) revocations.now result }
     {
-        let Ok(comment) = Vec::from_slice(alloc, self.inputs.comment.as_bytes()) else {
-            return Err(self.fault(Cause::NoMemory));
+        let comment = match self.inputs.comment {
+            None => old,
+            Some(text) => match Vec::from_slice(alloc, text.as_bytes()) {
+                Ok(text) => Bytes::from_vec(text),
+                Err(_) => return Err(self.fault(Cause::NoMemory)),
+            },
         };
         let header = Header {
             version,
             date: self.inputs.date,
-            comment: Bytes::from_vec(comment),
+            comment,
         };
-        match krl_text(alloc, &header, &self.revocations) {
+        match krl_text(alloc, &header, revocations) {
             Ok(bytes) => Ok(bytes),
             Err(TextFault::NoMemory) => Err(self.fault(Cause::NoMemory)),
             Err(TextFault::TooLong) => Err(self.fault(Cause::TextTooLong)),
@@ -119,35 +169,55 @@ impl<'a> Listed<'a> {
 }
 
 impl<'a> Maker for Listed<'a> {
-    ghost use Rattle.text_run.specs.Over.{IsMadeOver, Refuses, fault_of, is_none};
+    ghost use Rattle.text_run.specs.Base.{is_read};
+    ghost use Rattle.text_run.specs.Over.{IsMadeOver, Refuses, fault_of};
 
-    type Facts = u64;
+    type Facts = Merged;
 
     type Fault = MakeFault<'a>;
 
-    ghost reads = { λ list. is_none list.inputs.now.version };
+    ghost reads = { λ list. is_read list.inputs.now.over };
 
-    ghost makes = { λ list old bytes version.
-        IsMadeOver list.inputs.now list.revocations old bytes version };
+    ghost makes = { λ list old bytes merged.
+        IsMadeOver list.inputs.now list.revocations old bytes merged };
 
     ghost refuses = { λ list old fault. Refuses list.inputs.now list.revocations old fault };
 
     ghost fault_of = { λ list cause. fault_of list.inputs.now cause };
 
     fn reads_old(&self) -> bool {
-        self.inputs.version.is_none()
+        match self.inputs.over {
+            Over::Nothing => false,
+            Over::Version | Over::Contents => true,
+        }
     }
 
-    fn make(&self, alloc: Global, old: Option<Bytes>) -> Result<Made<u64>, MakeFault<'a>> {
-        let version = match self.version_over(alloc, &old) {
+    fn make<R: Source + Drop>(
+        &self,
+        alloc: Global,
+        old: Option<R>,
+    ) -> Result<Made<Merged>, MakeFault<'a>> {
+        let base = match read_base(alloc, self.inputs, old) {
+            Ok(base) => base,
+            Err(cause) => return Err(self.fault(cause)),
+        };
+        let version = match version_over(self.inputs.version, base.version) {
             Ok(version) => version,
+            Err(cause) => return Err(MakeFault::whole(self.inputs.name, cause)),
+        };
+        let revocations = match self.merge(alloc, base.revocations) {
+            Ok(merged) => merged,
             Err(fault) => return Err(fault),
         };
-        match self.write(alloc, version) {
-            Ok(bytes) => Ok(Made {
-                bytes,
-                facts: version,
-            }),
+        let held = held_of(&revocations, &self.revocations);
+        match self.write(alloc, version, base.comment, held) {
+            Ok(bytes) => {
+                let facts = Merged {
+                    version,
+                    revocations,
+                };
+                Ok(Made { bytes, facts })
+            }
             Err(fault) => Err(fault),
         }
     }

@@ -7,7 +7,7 @@ ghost use Rattle.text_run.specs.Words.{make_cause_text};
 use run_faults::{Cause, SpecCause};
 use std::fmt;
 use std::marker::Model;
-use text_entries::{Misspelt, TextCause, TextFault, misspelt_at};
+use text_entries::{Hint, TextCause, TextFault, hint_at};
 
 /// Why no list is made.
 #[derive(Clone, Copy, Debug, PartialEq, Eq)]
@@ -18,6 +18,10 @@ pub enum MakeCause {
     Line(TextCause),
     /// No text has an entry.
     Empty,
+    /// A text has no entry.
+    NoEntry,
+    /// The version is not above that of the list under the name.
+    OldVersion,
 }
 
 impl fmt::Display for MakeCause {
@@ -28,6 +32,8 @@ impl fmt::Display for MakeCause {
             MakeCause::Run(cause) => cause.fmt(f),
             MakeCause::Line(cause) => cause.fmt(f),
             MakeCause::Empty => f.write_str("make 1 Empty"),
+            MakeCause::NoEntry => f.write_str("make 2 NoEntry"),
+            MakeCause::OldVersion => f.write_str("make 3 OldVersion"),
         }
     }
 }
@@ -41,8 +47,8 @@ pub struct MakeFault<'a> {
     pub line: Option<u64>,
     /// Why no list is made.
     pub cause: MakeCause,
-    /// The misspelt word of the line, and the one that was meant.
-    pub misspelt: Option<Misspelt<'a>>,
+    /// The form that the line may be meant in.
+    pub hint: Option<Hint<'a>>,
 }
 
 impl<'a> Model for MakeFault<'a> {
@@ -54,7 +60,7 @@ impl<'a> Model for MakeFault<'a> {
       name = fault.name.now;
       line = fault.line;
       cause = fault.cause;
-      misspelt = fault.misspelt;
+      hint = fault.hint;
     } };
 }
 
@@ -67,7 +73,7 @@ impl<'a> MakeFault<'a> {
             name,
             line: None,
             cause,
-            misspelt: None,
+            hint: None,
         }
     }
 }
@@ -84,6 +90,6 @@ pub(crate) fn line_fault<'a>(name: &'a str, text: &'a [u8], fault: TextFault) ->
         name,
         line: Some(fault.line),
         cause: MakeCause::Line(fault.cause),
-        misspelt: misspelt_at(text, fault),
+        hint: hint_at(text, fault),
     }
 }

@@ -2,19 +2,25 @@
 
 ghost use Rattle.std.specs.Prelude.{◌≡◌, IfOk};
 ghost use Rattle.run_faults.specs.RunFault.{line_part};
-ghost use Rattle.text_run.specs.Words.{fault_line, make_words, meant_words, spec_words, text_words};
-ghost use Rattle.text_run.specs.Words.{why_words};
+ghost use Rattle.text_run.specs.Words.{fault_line, hint_words, make_words, meant_words, spec_words};
+ghost use Rattle.text_run.specs.Words.{text_words, why_words};
 
 use crate::make_fault::{MakeCause, MakeFault};
 use krl_audit::{Visible, cause_words};
 use line_pieces::{Printed, Words, put};
 use run_faults::{Cause, SpecCause};
 use std::alloc::{AllocError, Global};
-use text_entries::{Misspelt, TextCause};
+use text_entries::{Hint, Misspelt, TextCause};
 
 const UNKNOWN_WORD: &[u8] = b"a line begins with ca:, ca-blob:, serial:, id:, id-hex:, key:, \
 key-blob:, sha1:, sha256: or hash:, or with the type of a key, and nothing may be before it, such \
 as options";
+
+const CONTROL_IN_ID: &[u8] = b"a key ID has a control character, such as a tab or a carriage \
+return: use id-hex:";
+
+const KEY_AS_ID: &[u8] = b"a key stands where a key ID belongs: use key:, or id-hex: for a key ID \
+that begins so";
 
 // The number of a line, if there is one.
 #[derive(Clone, Copy)]
@@ -44,13 +50,25 @@ pub fn fault_line(alloc: Global, fault: &MakeFault<'_>) -> Result<Vec<u8>, Alloc
     Ok(text)
 }
 
-// Why no list is made, or what was meant where a word is misspelt.
+// Why no list is made, or what the line may be meant as.
 fn why_words(alloc: Global, fault: &MakeFault<'_>) -> Result<Vec<u8>, AllocError>
-    ensures { IfOk result (λ text. text.items ≡ why_words fault.now.misspelt fault.now.cause) }
+    ensures { IfOk result (λ text. text.items ≡ why_words fault.now.hint fault.now.cause) }
 {
-    match &fault.misspelt {
+    match &fault.hint {
         None => Vec::from_slice(alloc, make_words(fault.cause)),
-        Some(misspelt) => meant_words(alloc, misspelt),
+        Some(hint) => hint_words(alloc, hint),
+    }
+}
+
+// The words for the form that a line may be meant in.
+fn hint_words(alloc: Global, hint: &Hint<'_>) -> Result<Vec<u8>, AllocError>
+    ensures { IfOk result (λ text. text.items ≡ hint_words hint.now) }
+{
+    match hint {
+        Hint::Misspelt(misspelt) => meant_words(alloc, misspelt),
+        Hint::Fingerprint => Vec::from_slice(alloc, b"a fingerprint needs \"hash:\" before it"),
+        Hint::KeyFile => Vec::from_slice(alloc, b"the key itself stands here, not its file"),
+        Hint::ByteOrderMark => Vec::from_slice(alloc, b"the file begins with a byte order mark"),
     }
 }
 
@@ -72,6 +90,8 @@ fn make_words(cause: MakeCause) -> &'static [u8]
         MakeCause::Run(cause) => cause_words(cause),
         MakeCause::Line(cause) => text_words(cause),
         MakeCause::Empty => b"no text has an entry, and the list would revoke nobody",
+        MakeCause::NoEntry => b"it has no entry, which --allow-empty allows",
+        MakeCause::OldVersion => b"the list there has this version or a later one",
     }
 }
 
@@ -87,6 +107,9 @@ fn text_words(cause: TextCause) -> &'static [u8]
         TextCause::Hex => b"no pairs of hexadecimal digits",
         TextCause::CutId => b"a # with no blank before it would cut the key ID short: use id-hex:",
         TextCause::UnknownWord => UNKNOWN_WORD,
+        TextCause::ControlInId => CONTROL_IN_ID,
+        TextCause::ZeroInId => b"OpenSSH takes no key ID with a zero byte: use serial:",
+        TextCause::KeyAsId => KEY_AS_ID,
     }
 }
 

@@ -2,7 +2,8 @@
 
 ghost use Rattle.std.specs.Prelude.{◌≡◌, IfErr, IfOk};
 ghost use Rattle.list_making.specs.Making.{IsPut, IsUntouched};
-ghost use Rattle.text_run.specs.Over.{MakesOver, WhyUnmade, fault_of, is_none};
+ghost use Rattle.text_run.specs.Base.{is_read};
+ghost use Rattle.text_run.specs.Over.{MakesOver, WhyUnmade, fault_of};
 
 use crate::inputs::Inputs;
 use crate::listed::{Facts, read_texts};
@@ -10,18 +11,19 @@ use crate::make_fault::MakeFault;
 use list_making::{Made, Place, make_at};
 use std::alloc::Global;
 
-/// Makes a list that names exactly what the lines of the texts name, over what is under its name,
-/// and puts it there. The texts are read first, and once, however often the list is made because
-/// another program changed what is under the name.
+/// Makes a list that names exactly what the lines of the texts name, and what the list under its
+/// name names if that is wanted, and puts it there. The texts are read first, and once, however
+/// often the list is made because another program changed what is under the name.
 ///
-/// The first fault stops the run: those of the texts and lines in order; that no text has an entry,
-/// unless that is allowed; then those of what is under the name, of the version and of the list.
+/// The first fault stops the run: those of the texts and lines in order; that a text has no entry,
+/// and that none has one, unless that is allowed; then those of what is under the name, of the
+/// version and of the list.
 pub fn text_run<'a, P: Place>(
     alloc: Global,
     inputs: &'a Inputs<'a>,
     place: &mut P,
 ) -> Result<Made<Facts>, MakeFault<'a>>
-    ensures made { IfOk result (λ made. IsPut P.holds P.replaced (is_none inputs.now.version)
+    ensures made { IfOk result (λ made. IsPut P.holds P.replaced (is_read inputs.now.over)
         (λ old. MakesOver inputs.now old made.bytes.items made.facts.version
         made.facts.revocations) made.bytes.items place.new) }
     ensures unmade { IfErr result (WhyUnmade P.base inputs.now place.new) }
@@ -35,8 +37,8 @@ pub fn text_run<'a, P: Place>(
     match make_at(alloc, &list, place) {
         Ok(Made { bytes, facts }) => {
             let facts = Facts {
-                version: facts,
-                revocations: list.revocations,
+                version: facts.version,
+                revocations: facts.revocations.unwrap_or(list.revocations),
             };
             Ok(Made { bytes, facts })
         }

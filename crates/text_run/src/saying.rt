@@ -5,16 +5,32 @@ ghost use Rattle.text_run.specs.Making.{counts_of};
 ghost use Rattle.text_run.specs.Said.{amounts, made_line, words};
 
 use crate::counting::count;
-use krl_audit::{Amount, Visible};
+use itoa::Buffer;
+use krl_audit::Visible;
 use krl_core::Revocations;
 use line_pieces::{Printed, Words, put};
 use list_text::Counts;
 use span_sets::Held;
 use std::alloc::{AllocError, Global};
 
+// A number of up to 128 bits.
+#[derive(Clone, Copy)]
+struct Total(u128);
+
+impl Printed for Total {
+    ghost use Rattle.std.specs.Prelude.{decimal};
+
+    ghost text = { λ total. decimal total.0 };
+
+    fn push_to(&self, out: &mut Vec<u8>) -> Result<(), AllocError> {
+        let mut digits = Buffer::new();
+        out.extend_from_slice(digits.format(self.0).as_bytes())
+    }
+}
+
 // A number of things after a comma, if there are any.
 #[derive(Clone, Copy)]
-struct Part(u64, &'static [u8]);
+struct Part(u128, &'static [u8]);
 
 impl Printed for Part {
     ghost use Rattle.text_run.specs.Said.{part};
@@ -25,7 +41,8 @@ impl Printed for Part {
         if self.0 == 0 {
             return Ok(());
         }
-        put!(out; b", ", Amount(self.0, self.1))
+        let plural: &[u8] = if self.0 == 1 { b"" } else { b"s" };
+        put!(out; b", ", Total(self.0), b" ", Words(self.1), Words(plural))
     }
 }
 
@@ -52,9 +69,9 @@ fn amounts(alloc: Global, counts: &Counts) -> Result<Vec<u8>, AllocError>
     ensures { IfOk result (λ text. text.items ≡ amounts counts.now) }
 {
     let mut text = Vec::new(alloc);
-    put!(&mut text; Part(counts.authorities, b"CA"), Part(counts.serials, b"serial number"),
-        Part(counts.ids, b"key ID"), Part(counts.keys, b"key"),
-        Part(counts.hashes, b"hashed key"))?;
+    put!(&mut text; Part(counts.authorities as u128, b"CA"),
+        Part(counts.serials, b"serial number"), Part(counts.ids as u128, b"key ID"),
+        Part(counts.keys as u128, b"key"), Part(counts.hashes as u128, b"hashed key"))?;
     Ok(text)
 }
 

@@ -4,11 +4,13 @@ use run_faults::Cause;
 use ssh_wire::Bytes;
 use std::marker::Model;
 
-/// The name of a text, and its bytes or why there are none.
+/// The name of a text, whether it is a regular file, and its bytes or why there are none.
 #[derive(Drop)]
 pub struct Text<'a> {
     /// The name, as it is given on the command line.
     pub name: &'a str,
+    /// Whether it is a regular file.
+    pub is_file: bool,
     /// The bytes, or why there are none.
     pub content: Result<Bytes, Cause>,
 }
@@ -18,5 +20,9 @@ impl<'a> Model for Text<'a> {
 
     ghost Value = { Text };
 
-    ghost view = { λ text. record { name = text.name.now; content = text.content } };
+    ghost view = { λ text. record {
+      name = text.name.now;
+      is_file = text.is_file;
+      content = text.content;
+    } };
 }

@@ -1,5 +1,5 @@
 """Lists that name a certificate authority in another spelling than its key's own, no key, or a key
-that OpenSSH refuses."""
+that OpenSSH refuses; and lists and certificates with a key ID that has a zero byte."""
 
 import base64
 import os
@@ -8,13 +8,16 @@ from pathlib import Path
 
 import krl
 from building import run
-from files import AUTHORITY, DEVICE, ECDSA, KEY, OTHER, RSA, SEVENTH, line
+from files import AUTHORITY, DEVICE, ECDSA, KEY, OTHER, RSA, SEVENTH, certificate, ids, line, of_all
 from trial import PROGRAM
-from wire import HEADER, certificates, section, serials, string, strings
+from wire import HEADER, bitmap, certificates, section, serials, span, string, strings
 
 OPENSSH = os.environ.get("OPENSSH", "ssh-keygen")
-# The answer of a list that is read, and has such an authority.
+# The answers of a list that is read, and has such an authority or such a key ID, and of such a
+# certificate.
 OTHER_SPELLING = -116
+LIST_KEY_ID = -118
+CERT_KEY_ID = -410
 
 
 def fields(blob):
@@ -121,6 +124,43 @@ def named(tests):
     tests.judge("which authorities are compared", wrong)
 
 
+def key_ids(tests):
+    """Which key IDs are compared, of lists and of certificates."""
+    library = krl.loaded()
+    wrong = []
+
+    def case(name, content, wanted, blob=SEVENTH):
+        found = answers(content, line(blob).strip().encode())
+        any_list = library.krl_check_any(content, len(content), blob, len(blob))
+        why = library.krl_why(content, len(content), blob, len(blob))
+        if found != (wanted, wanted) or any_list != wanted or min(why, 0) != min(wanted, 0):
+            wrong.append("%s: %s, %d and %d, not %d" % (name, found, any_list, why, wanted))
+
+    case("the key ID", of_all(ids("a")), 1)
+    case("another one", of_all(ids("ab", "")), 0)
+    # Bytes that are zero elsewhere count for nothing.
+    case("serial numbers", of_all(serials(7), span(1, 256), bitmap(1, bytes(9))), 1)
+    odd = {"at the end": b"a\0", "at the start": b"\0a", "within": b"a\0b", "alone": b"\0"}
+    for name, text in odd.items():
+        case("a zero byte " + name, of_all(ids(text)), LIST_KEY_ID)
+        behind = of_all(serials(5), ids("a", text))
+        case("a zero byte %s, behind others" % name, behind, LIST_KEY_ID)
+        late = of_all(ids("a")) + certificates(AUTHORITY, serials(7), ids(text))
+        case("a zero byte %s, in a later section" % name, late, LIST_KEY_ID)
+        case("a zero byte %s, of a plain key" % name, late, LIST_KEY_ID, KEY)
+        case("a zero byte %s, before a fault" % name, of_all(ids(text)) + b"\2", -103)
+        case("a zero byte %s, and an authority" % name, late + certificates(b"a"), OTHER_SPELLING)
+        asked = certificate(7, text)
+        for content in of_all(ids("a")), of_all(), of_all(serials(7)):
+            case("a certificate with a zero byte " + name, content, CERT_KEY_ID, asked)
+        case("both, a zero byte " + name, of_all(ids(text)), LIST_KEY_ID, asked)
+        plain = line(OTHER).encode()
+        found = library.krl_check_any(plain, len(plain), asked, len(asked))
+        if found != CERT_KEY_ID:
+            wrong.append("a plain list, a zero byte %s: %d" % (name, found))
+    tests.judge("which key IDs are compared", wrong)
+
+
 def by_the_program(tests):
     """The program reads such a list, and its answer is by the bytes, as the manual page says."""
     Path("other.krl").write_bytes(under(strings(b"ssh-ed25519\0", AUTHORITY[-32:]), serials(7)))
@@ -131,6 +171,7 @@ def by_the_program(tests):
 
 def authorities(tests):
     named(tests)
+    key_ids(tests)
     by_the_program(tests)
     for kind in "ed25519", "ecdsa", "rsa":
         beside_openssh(tests, kind)

@@ -3,8 +3,8 @@
 import struct
 
 import krl
-from authorities import OTHER_SPELLING, under
-from files import AUTHORITY, KEY, OTHER, extension, line, of_all
+from authorities import CERT_KEY_ID, LIST_KEY_ID, OTHER_SPELLING, under
+from files import AUTHORITY, KEY, OTHER, certificate, extension, ids, line, of_all
 from wire import HEADER, HIGHEST, bitmap, certificates, section, serials, span, string, strings
 
 LISTS = {
@@ -22,6 +22,7 @@ LISTS = {
     -112: HEADER + section(2, string(bytes(1 << 26))),
     -115: HEADER + section(255, strings("name"), b"\1", strings("contents")),
     OTHER_SPELLING: under(b"a", serials(7)),
+    LIST_KEY_ID: of_all(ids(b"a\0")),
 }
 OTHER_LINE = -117
 LINES = {
@@ -72,6 +73,7 @@ BLOBS = {
     -406: certified(*ED25519, inner=(b"\0", b"", b"")),
     -408: certified(*ED25519, last=b""),
     -409: WHOLE + b"\0",
+    CERT_KEY_ID: certificate(7, b"a\0"),
 }
 BLOBS.update({-300 - it: plain(*key) for it, key in KEYS.items()})
 # The type of a certificate is known, and other fields follow its key.
@@ -107,7 +109,7 @@ def numbers(tests):
         if of_any(content) != it:
             wrong.append("%d is answered as %d for a plain list" % (it, of_any(content)))
     wrong += ["%d of a blob" % it for it, blob in BLOBS.items() if of_any(text, blob) != it]
-    named = set(krl.FAULTS) | {OTHER_SPELLING, OTHER_LINE}
+    named = set(krl.FAULTS) | {OTHER_SPELLING, OTHER_LINE, LIST_KEY_ID, CERT_KEY_ID}
     wrong += ["%d has no input" % it for it in sorted(named - set(found) - NEVER)]
     wrong += ["%d is no number of the header" % it for it in sorted(set(found) - named)]
     tests.judge("an input for each of %d numbers" % len(found), wrong)

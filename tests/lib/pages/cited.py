@@ -1,18 +1,21 @@
-"""The names that the tables of docs/THEOREMS.md cite, sought in the crates.
+"""The names that the tables of docs/THEOREMS.md and docs/theorems/ cite, sought in the crates.
 
     cited.py TOP
 
 Each line of the output is a name that is not there. A name is a public function, a type, the name
 of a clause, a definition of specs/, or a crate. Each name that a row cites is looked up in the
 crates that the section's heading, or the name itself, gives; definitions also in the other crates.
+docs/THEOREMS.md also has a link to each page of docs/theorems/.
 """
 
+import glob
 import os
 import re
 import sys
 
 TOP = sys.argv[1]
 CRATES = os.path.join(TOP, "crates")
+INDEX = os.path.join("docs", "THEOREMS.md")
 
 
 def texts(crate, part):
@@ -102,15 +105,16 @@ def stands(name, crates, every):
     ) or any(it in crate.definitions for crate in every.values())
 
 
-def rows(path):
-    """The headings of a page, and the last column of each row of its tables."""
-    heading = ""
-    with open(os.path.join(TOP, path)) as page:
-        for number, line in enumerate(page, 1):
-            if line.startswith("#"):
-                heading = line
-            elif line.startswith("| ") and not line.startswith("|---"):
-                yield number, heading, line.rstrip().rstrip("|").split(" | ")[-1]
+def rows(paths):
+    """The page, the line, the heading and the last column of each row of the tables of pages."""
+    for path in paths:
+        heading = ""
+        with open(os.path.join(TOP, path)) as page:
+            for number, line in enumerate(page, 1):
+                if line.startswith("#"):
+                    heading = line
+                elif line.startswith("| ") and not line.startswith("|---"):
+                    yield path, number, heading, line.rstrip().rstrip("|").split(" | ")[-1]
 
 
 def main():
@@ -122,8 +126,15 @@ def main():
         for name in names
         if not name.endswith("_tests") and name != "test_fixtures"
     }
+    with open(os.path.join(TOP, INDEX)) as page:
+        index = page.read()
+    pages = sorted(glob.glob(os.path.join(TOP, "docs", "theorems", "*.md")))
+    pages = [os.path.relpath(it, TOP) for it in pages]
+    for path in pages:
+        if "(theorems/%s)" % os.path.basename(path) not in index:
+            print("  %s has no link to %s" % (INDEX, path))
     cited = 0
-    for number, heading, column in rows("docs/THEOREMS.md"):
+    for path, number, heading, column in rows([INDEX, *pages]):
         if "`" not in heading:
             continue
         crates = [every[it] for it in re.findall(r"`(\w+)`", heading) if it in every] or list(
@@ -136,7 +147,7 @@ def main():
             for one in spread(name):
                 cited += 1
                 if not stands(one, crates, every):
-                    print("  line %d: %s" % (number, one))
+                    print("  %s, line %d: %s" % (path, number, one))
     if cited < 10:
         print("  only %d names were found" % cited)
 

@@ -61,6 +61,12 @@ def makes(place):
     return Run(place, "krl make", words, b"ca: all\nserial: 1\n", False)
 
 
+def grows(place):
+    """Runs of `krl make -u`."""
+    words = ("make", "-q", "-u", "-f", LIST, "../text")
+    return Run(place, "krl make -u", words, b"ca: all\nserial: 1\n", True)
+
+
 def differs(done, *wanted):
     """What is wrong if the run did not end well, with one of these lists alone in the folder."""
     found = content()

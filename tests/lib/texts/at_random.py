@@ -5,11 +5,22 @@ import hashlib
 import struct
 
 from files import AUTHORITY, CERT, SEVENTH, certificate
-from texts.keys import blob, key
-from texts.named import MAGIC, Named, coded, fingerprint, line_of, of_blob, unpadded
+from texts.keys import FIELDS, blob, key
+from texts.named import (
+    CERTIFICATES,
+    MAGIC,
+    Named,
+    coded,
+    fingerprint,
+    line_of,
+    of_blob,
+    unpadded,
+)
 from wire import HIGHEST, bitmap, section, serials, span, string, strings
 
+# Key IDs that a line has as they are, and others.
 WORDS = [b"bob", b"alice@example.org", b"a b  c", b"ca: all", b"serial: 5", b"0", b"\\x23", b"all"]
+WORDS += [b"ssh-rsa", b"ssh-rsa: a", b"ssh-ed25519-cert-v01@openssh.com"]
 AWKWARD = [
     b"",
     b" ",
@@ -22,6 +33,8 @@ AWKWARD = [
     b"a #b",
     b"a\nid: b",
     b"a\0b",
+    b"ssh-rsa AAAA",
+    b"ssh-ed25519-cert-v01@openssh.com of bob",
     "Zo\u00eb".encode(),
     "\u009f".encode(),
     b"Zo\xeb",
@@ -210,7 +223,7 @@ def a_serial(pool, named, authority):
 
 
 def an_id(pool, named, authority):
-    text = pool.source.choice(pool.ids)
+    text = pool.source.choice([it for it in pool.ids if b"\0" not in it])
     named.add_id(authority, text)
     if text in WORDS:
         return "id: " + text.decode()
@@ -245,14 +258,14 @@ def a_sha1(pool, named):
 
 
 def a_certificate(pool, named):
-    """It counts under its own authority."""
+    """It counts under its own authority. A key ID that it counts by may have any byte but zero."""
     serial = pool.source.choice([0, 7, HIGHEST])
-    text = certificate(serial, "a")
+    text = pool.source.choice([it for it in pool.ids if serial or b"\0" not in it])
     if serial:
         named.add_serials(AUTHORITY, serial, serial)
     else:
-        named.add_id(AUTHORITY, b"a")
-    return "%s %s of a" % (CERT, coded(text))
+        named.add_id(AUTHORITY, text)
+    return "%s %s of a" % (CERT, coded(certificate(serial, text)))
 
 
 BESIDE = [a_key, a_key, a_sha1, a_certificate]
@@ -302,6 +315,16 @@ WRONG = [
     "serial: -5",
     "id:",
     "id: eve#1",
+    "id: a\tb",
+    "id: a\rid: b",
+    "id: \x1b",
+    "id: a\x7f",
+    "id: \0",
+    *("id: %s of bob" % it.decode() for it in [*FIELDS, *sorted(CERTIFICATES)]),
+    "id-hex: 00",
+    "id-hex: 6100",
+    "id-hex: 610062",
+    "%s %s" % (CERT, coded(certificate(0, b"a\0b"))),
     "id-hex: 656",
     "id-hex: 0x65",
     "ca:",
@@ -326,12 +349,16 @@ WRONG = [
 ALONE = ["serial: 5", "id: bob", "id-hex: 61"]
 
 
-def wrong_text(pool):
-    """The lines of a text with a wrong one, and the number of that one."""
+def wrong_text(pool, turn):
+    """The lines of a text with a wrong one, and its number. The wrong ones take turns."""
     lines, _ = some_text(pool)
     at = pool.source.randrange(len(lines) + 1)
-    if not any("ca" in it.lower() for it in lines[:at]) and pool.source.random() < 0.5:
-        lines.insert(at, pool.source.choice(ALONE))
-    else:
-        lines.insert(at, pool.source.choice(WRONG))
+    wrong = WRONG[turn % len(WRONG)]
+    if not any("ca" in it.lower() for it in lines[:at]) and pool.source.random() < 0.2:
+        wrong = pool.source.choice(ALONE)
+    elif wrong.startswith(("serial:", "id")):
+        # It is refused for itself, and not because no authority precedes it.
+        lines.insert(0, "ca: all")
+        at += 1
+    lines.insert(at, wrong)
     return lines, at + 1

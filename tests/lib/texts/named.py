@@ -4,15 +4,17 @@ that shares nothing with the program."""
 import base64
 import datetime
 import hashlib
+import re
 import struct
 import unicodedata
 
-from texts.keys import is_key, parts_of
-from wire import HIGHEST
+from texts.keys import FIELDS, is_key, parts_of
 
 MAGIC = b"SSHKRL\n\0"
 # The first second of the year 9999.
 YEAR_9999 = 253_370_764_800
+# The types of certificates.
+CERTIFICATES = {it.replace(b"@openssh.com", b"") + b"-cert-v01@openssh.com" for it in FIELDS}
 
 
 class Named:
@@ -89,7 +91,7 @@ class Named:
         )
         return (
             len(self.authorities()),
-            min(serials, HIGHEST),
+            serials,
             sum(map(len, self.ids.values())),
             len(self.keys),
             len(self.sha1s) + len(self.sha256s),
@@ -236,9 +238,14 @@ def of_serials(span):
     return "serial: %d" % least if least == most else "serial: %d-%d" % span
 
 
+def begins_as_key(text):
+    word, *rest = re.split(b"[ \t]", text)
+    return bool(rest) and (word in FIELDS or word in CERTIFICATES)
+
+
 def of_id(text):
     plain = all(0x20 <= it < 0x7F and it != 0x23 for it in text)
-    if plain and text and text == text.strip(b" "):
+    if plain and text and text == text.strip(b" ") and not begins_as_key(text):
         return "id: " + text.decode()
     return "id-hex: " + text.hex()
 
@@ -332,8 +339,12 @@ def object_of(fact):
         return {"hash": "%s:%s" % (kind, unpadded(value))}
     authority = {"ca": fingerprint(fact[1]) if fact[1] else "all"}
     if kind == "serial":
-        return {**authority, "serial": list(value)}
+        return {**authority, "serial": [str(it) for it in value]}
     return {**authority, **text_field("id", value)}
+
+
+def objects_of_facts(named):
+    return [object_of(it) for it in named.facts() if it[0] != "ca"]
 
 
 def objects_of(name, header, named):
@@ -342,14 +353,27 @@ def objects_of(name, header, named):
         version, seconds, comment = header
         first.update(version=str(version), generated=date(seconds))
         first.update(text_field("comment", comment))
-    return [first] + [object_of(it) for it in named.facts() if it[0] != "ca"]
+    return [first, *objects_of_facts(named)]
+
+
+def object_of_counts(counts):
+    """That of serial numbers is a string, since it may be above 2^53, and above 2^64 too."""
+    cas, serials, ids, keys, hashes = counts
+    return {"cas": cas, "serials": str(serials), "ids": ids, "keys": keys, "hashes": hashes}
 
 
 def last_object(lists):
     """The counts of all lists."""
-    totals = [min(sum(it), HIGHEST) for it in zip(*(named.counts() for named in lists))]
-    names = ["cas", "serials", "ids", "keys", "hashes"]
-    return {"status": "done", "lists": len(lists), **dict(zip(names, totals))}
+    totals = map(sum, zip(*(named.counts() for named in lists)))
+    return {"status": "done", "lists": len(lists), **object_of_counts(totals)}
+
+
+def objects_of_changes(old, new):
+    """Those of the lines that say what changed, and the counts of each side."""
+    sides = {"added": new.without(old), "removed": old.without(new)}
+    objects = [{"change": it, **each} for it in sides for each in objects_of_facts(sides[it])]
+    counts = {it: object_of_counts(sides[it].counts()) for it in sides}
+    return [*objects, {"status": "done", **counts}]
 
 
 # ---- the line of krl make

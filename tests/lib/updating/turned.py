@@ -1,5 +1,6 @@
 """A link to the list that is turned during an update, and a pipe that is swapped for a list."""
 
+import contextlib
 import fcntl
 import os
 import threading
@@ -131,12 +132,13 @@ def link_for_list(place, made):
 
 
 def fed(path):
-    """Gives the old list to whom reads the pipe, and then takes what is written to it."""
+    """Gives the old list to whom reads the pipe, and then takes what is written to it, unless a list
+    took its name."""
 
     def feed():
         with open(path, "wb") as pipe:
             pipe.write(OLD)
-        with open(path, "rb") as pipe:
+        with contextlib.suppress(FileNotFoundError), open(path, "rb") as pipe:
             pipe.read()
 
     threading.Thread(target=feed, daemon=True).start()

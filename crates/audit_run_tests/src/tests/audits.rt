@@ -60,6 +60,7 @@ pub fn check(
     };
     let order = Order {
         list: "revoked.krl",
+        canaries: None,
         shown: asked.options.shown(),
         every_file: asked.every,
         names_from: "names",
@@ -98,6 +99,6 @@ fn ended(rt: &impl Abort, alloc: Global, audited: &Audited<'_>) -> (u8, Vec<u8>)
             }
             (done.status, line)
         }
-        Audited::OtherAuthority | Audited::Refused(_) => (255, line),
+        Audited::Incomparable(_) | Audited::Refused(_) => (255, line),
     }
 }

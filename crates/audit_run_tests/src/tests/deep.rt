@@ -34,7 +34,23 @@ impl<'a> Tree for Well<'a> {
         } else {
             Kind::Directory
         };
-        Ok(Found { kind, owner: 0 })
+        Ok(Found {
+            kind,
+            owner: 0,
+            device: 0,
+        })
+    }
+
+    fn is_excluded(&self, _name: &[u8]) -> bool {
+        false
+    }
+
+    fn leads_to_sought(&self, _path: &str) -> bool {
+        false
+    }
+
+    fn is_elsewhere(&self, _path: &str) -> bool {
+        false
     }
 
     fn open(
@@ -45,6 +61,9 @@ impl<'a> Tree for Well<'a> {
         let identity = Identity {
             device: 0,
             number: path.len() as u64,
+            size: 0,
+            changed: 0,
+            nanoseconds: 0,
         };
         Ok(Ok(Opened {
             is_file: true,
@@ -93,6 +112,7 @@ fn audited_in(alloc: Global, depth: usize) -> (u8, u64) {
     };
     let order = Order {
         list: "none",
+        canaries: None,
         shown: LOUD.shown(),
         every_file: false,
         names_from: "",
@@ -116,6 +136,6 @@ fn audited_in(alloc: Global, depth: usize) -> (u8, u64) {
             Some(summary) => (done.status, summary.files.audited),
             None => (done.status, 0),
         },
-        Audited::OtherAuthority | Audited::Refused(_) => (255, 0),
+        Audited::Incomparable(_) | Audited::Refused(_) => (255, 0),
     }
 }

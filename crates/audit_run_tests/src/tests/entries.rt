@@ -27,11 +27,15 @@ const ITEMS: &[Item<'static>] = &[
     Item("home/sub/a.pub", Node::File(0, 8, OTHER)),
     Item(
         "links",
-        Node::Directory(b"to\0to.pub\0folder\0gone\0id_gone\0loop\0"),
+        Node::Directory(b"to\0to.pub\0folder\0dotted\0.ssh\0id_dir\0gone\0id_gone\0loop\0"),
     ),
     Item("links/to", Node::Link("x")),
     Item("links/to.pub", Node::Link("x")),
     Item("links/folder", Node::Link("home")),
+    Item("links/dotted", Node::Link("user/.ssh")),
+    Item("links/.ssh", Node::Link("home")),
+    Item("links/id_dir", Node::Link("home")),
+    Item("user/.ssh", Node::Directory(b"")),
     Item("links/gone", Node::Link("nowhere")),
     Item("links/id_gone", Node::Link("nowhere")),
     Item("links/loop", Node::Link("looped")),
@@ -83,6 +87,25 @@ const ITEMS: &[Item<'static>] = &[
     Item("etc/authorized_keys.d/below", Node::Directory(b"bob\0")),
     Item("etc/authorized_keys.d/below/bob", Node::File(0, 13, LISTED)),
     Item("etc/authorized_keys.d/pipe", Node::Special(LISTED)),
+    Item(
+        "null",
+        Node::Directory(b"authorized_keys\0id_null\0known_hosts\0null\0"),
+    ),
+    Item("null/authorized_keys", Node::Link("null/null")),
+    Item("null/id_null", Node::Link("null/null")),
+    Item("null/known_hosts", Node::Null),
+    Item("null/null", Node::Null),
+    Item(
+        "left",
+        Node::Directory(b"cache.pub\0mounted\0x.pub\0deep\0"),
+    ),
+    Item("left/cache.pub", Node::Directory(b"x.pub\0")),
+    Item("left/cache.pub/x.pub", Node::File(0, 30, LISTED)),
+    Item("left/mounted", Node::Directory(b"x.pub\0")),
+    Item("left/mounted/x.pub", Node::File(0, 31, LISTED)),
+    Item("left/x.pub", Node::File(0, 32, OTHER)),
+    Item("left/deep", Node::Directory(b"cache.pub\0")),
+    Item("left/deep/cache.pub", Node::File(0, 33, LISTED)),
     Item("keys", Node::Directory(b"id_none\0ssh_host_key\0")),
     Item("keys/id_none", Node::File(0, 14, LISTED)),
     Item("keys/ssh_host_key", Node::Unread(22, Refusal::TooLong)),
@@ -141,19 +164,21 @@ const CASES: &[Case<'static>] = &[
             b"home/sub/b.pub:1",
             REVOKED,
         ],
-        counts: b"4 files, 4 keys: 3 revoked in 3 files, 0 unread, 1 skipped",
+        counts: b"4 files, 4 keys: 3 revoked in 3 files, 0 unread, 1 skipped by its name",
         status: 1,
     },
     Case {
         paths: &["links"],
         text: &[
-            b"links/folder: unread: a link to a directory: name it
+            b"links/.ssh: unread: a link to a directory: name it
+links/dotted: unread: a link to a directory: name it
+links/id_dir: unread: a link to a directory: name it
 links/id_gone: unread: No such file or directory
 links/loop: unread: Too many levels of symbolic links
 links/to.pub:1",
             REVOKED,
         ],
-        counts: b"4 files, 1 key: 1 revoked in 1 file, 3 unread, 2 skipped",
+        counts: b"6 files, 1 key: 1 revoked in 1 file, 5 unread, 3 skipped by their names",
         status: 1,
     },
     Case {
@@ -169,7 +194,7 @@ links/to.pub:1",
 odd/known_hosts: unread: no regular file
 odd/left.pub: unread: No such file or directory\n",
         ],
-        counts: b"3 files, 0 keys: 0 revoked in 0 files, 3 unread, 1 skipped",
+        counts: b"3 files, 0 keys: 0 revoked in 0 files, 3 unread, 1 skipped by its name",
         status: 3,
     },
     Case {
@@ -217,7 +242,7 @@ shut: unread: Permission denied\n",
             b"every: unread: no file in this directory is read by its name
 nothing: unread: no file in this directory is read by its name\n",
         ],
-        counts: b"2 files, 0 keys: 0 revoked in 0 files, 2 unread, 2 skipped",
+        counts: b"2 files, 0 keys: 0 revoked in 0 files, 2 unread, 2 skipped by their names",
         status: 3,
     },
     Case {
@@ -227,13 +252,37 @@ nothing: unread: no file in this directory is read by its name\n",
             REVOKED,
             b"etc/authorized_keys.d/pipe: unread: no regular file\n",
         ],
-        counts: b"2 files, 1 key: 1 revoked in 1 file, 1 unread, 1 skipped",
+        counts: b"2 files, 1 key: 1 revoked in 1 file, 1 unread, 1 skipped by its name",
+        status: 1,
+    },
+    Case {
+        paths: &["null"],
+        text: &[],
+        counts: b"2 files, 0 keys: 0 revoked in 0 files, 0 unread, 2 skipped by their names",
+        status: 0,
+    },
+    Case {
+        paths: &["left"],
+        text: &[],
+        counts: b"1 file, 1 key: 0 revoked in 0 files, 0 unread, 2 excluded, \
+1 on other file systems",
+        status: 0,
+    },
+    Case {
+        paths: &["left/cache.pub", "left/mounted"],
+        text: &[
+            b"left/cache.pub/x.pub:1",
+            REVOKED,
+            b"left/mounted/x.pub:1",
+            REVOKED,
+        ],
+        counts: b"2 files, 2 keys: 2 revoked in 2 files, 0 unread",
         status: 1,
     },
     Case {
         paths: &["keys"],
         text: &[b"keys/ssh_host_key: unread: it has more than 16 MiB\n"],
-        counts: b"1 file, 0 keys: 0 revoked in 0 files, 1 unread, 1 skipped",
+        counts: b"1 file, 0 keys: 0 revoked in 0 files, 1 unread, 1 skipped by its name",
         status: 3,
     },
 ];
@@ -254,7 +303,7 @@ fn every_regular_file(rt: HostRuntime) {
     let case = Case {
         paths: &["every", "nothing"],
         text: &[b"every/key:1", REVOKED],
-        counts: b"1 file, 1 key: 1 revoked in 1 file, 0 unread, 1 skipped",
+        counts: b"1 file, 1 key: 1 revoked in 1 file, 0 unread, 1 skipped by its name",
         status: 1,
     };
     check(&rt, rt.alloc(), ITEMS, &all, &case);

@@ -4,6 +4,7 @@ use crate::tests::audits::LOUD;
 use crate::tests::shelf::{Item, Node, Paper, Shelf};
 use audit_run::{Audited, Given, Order, audit_run};
 use byte_streams::{FromRead, Lent, ToWrite};
+use krl_openssh::Incomparable;
 use ssh_wire::Bytes;
 use std::alloc::Global;
 use std::process::Abort;
@@ -15,11 +16,14 @@ const ITEMS: &[Item<'static>] = &[Item("a", Node::File(0, 1, GITHUB_LINE))];
 // Serial number 5 of a certificate authority that is no key.
 const NO_KEY: &[u8] = b"\x01\0\0\0\x17\0\0\0\x02ca\0\0\0\0\x20\0\0\0\x08\0\0\0\0\0\0\0\x05";
 
+// A key ID of all authorities, with a zero byte at its end.
+const ODD_ID: &[u8] = b"\x01\0\0\0\x13\0\0\0\0\0\0\0\0\x23\0\0\0\x06\0\0\0\x02a\0";
+
 // The end of an audit by a list with these bytes.
 #[derive(Clone, Copy, PartialEq, Eq)]
 enum End {
     Ended(u8),
-    Other,
+    Other(Incomparable),
     Refused,
 }
 
@@ -31,6 +35,7 @@ fn end_of(rt: &impl Abort, alloc: Global, list: Vec<u8>) -> End {
     };
     let order = Order {
         list: "revoked.krl",
+        canaries: None,
         shown: LOUD.shown(),
         every_file: false,
         names_from: "",
@@ -45,7 +50,7 @@ fn end_of(rt: &impl Abort, alloc: Global, list: Vec<u8>) -> End {
     };
     let end = match audit_run(alloc, &order, Bytes::from_vec(list), given, &mut out) {
         Audited::Ended { done, .. } => End::Ended(done.status),
-        Audited::OtherAuthority => End::Other,
+        Audited::Incomparable(why) => End::Other(why),
         Audited::Refused(_) => End::Refused,
     };
     drop(out);
@@ -59,7 +64,10 @@ fn ends_by_lists(rt: HostRuntime) -> Result<(), Fail> {
     assert!(rt; end_of(&rt, alloc, joined(alloc, &[GITHUB_LINE])?) == End::Ended(1));
     assert!(rt; end_of(&rt, alloc, joined(alloc, &[b"garbage\n"])?) == End::Refused);
     assert!(rt; end_of(&rt, alloc, list_of(alloc, FIVE)?) == End::Ended(3));
-    assert!(rt; end_of(&rt, alloc, list_of(alloc, NO_KEY)?) == End::Other);
+    let no_key = end_of(&rt, alloc, list_of(alloc, NO_KEY)?);
+    assert!(rt; no_key == End::Other(Incomparable::Authority));
+    let odd_id = end_of(&rt, alloc, list_of(alloc, ODD_ID)?);
+    assert!(rt; odd_id == End::Other(Incomparable::KeyId));
     assert!(rt; end_of(&rt, alloc, list_of(alloc, b"\x01\0")?) == End::Refused);
     Ok(())
 }

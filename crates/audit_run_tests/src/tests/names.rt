@@ -104,6 +104,7 @@ fn names_that_cannot_be_read_to_their_end(rt: HostRuntime) -> Result<(), Fail> {
     };
     let order = Order {
         list: "revoked.krl",
+        canaries: None,
         shown: LOUD.shown(),
         every_file: false,
         names_from: "names",
@@ -120,7 +121,7 @@ fn names_that_cannot_be_read_to_their_end(rt: HostRuntime) -> Result<(), Fail> {
     let audited = audit_run(rt.alloc(), &order, list, given, &mut out);
     let ended = match audited {
         Audited::Ended { done, summary } => Some((done, summary)),
-        Audited::OtherAuthority | Audited::Refused(_) => None,
+        Audited::Incomparable(_) | Audited::Refused(_) => None,
     };
     let (done, summary) = ended.expect(&rt, "the list is read");
     assert!(rt; done.status == 255);

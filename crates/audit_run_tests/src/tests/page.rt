@@ -30,6 +30,7 @@ fn is_clean<T: Tree, W: Screen>(
 {
     let order = Order {
         list: "revoked.krl",
+        canaries: None,
         shown: NOTHING,
         every_file: false,
         names_from: "",
@@ -40,7 +41,7 @@ fn is_clean<T: Tree, W: Screen>(
     let given = Given { tree, names, input };
     match audit_run(alloc, &order, list, given, out) {
         Audited::Ended { done, .. } => done.status == 0,
-        Audited::OtherAuthority | Audited::Refused(_) => false,
+        Audited::Incomparable(_) | Audited::Refused(_) => false,
     }
 }
 

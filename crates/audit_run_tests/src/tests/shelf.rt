@@ -23,6 +23,8 @@ pub enum Node<'a> {
     Closed(Refusal),
     /// A link to this path.
     Link(&'a str),
+    /// The null device.
+    Null,
     /// A pipe, a socket or a device, and the bytes that are read there.
     Special(&'a [u8]),
     /// A path that cannot be looked at.
@@ -34,6 +36,12 @@ pub enum Node<'a> {
     /// A regular file with this number that cannot be read.
     Unread(u64, Refusal),
 }
+
+/// The name that the command excludes.
+pub const EXCLUDED: &str = "cache.pub";
+
+/// The end of the paths of directories that are on another file system.
+pub const MOUNTED: &str = "/mounted";
 
 /// A path, and what is there.
 #[derive(Clone, Copy)]
@@ -82,10 +90,30 @@ impl<'a> Tree for Shelf<'a> {
             Node::File(..) | Node::Unopened(_) | Node::Swapped | Node::Unread(..) => Kind::File,
             Node::Directory(_) | Node::Broken(_) | Node::Closed(_) => Kind::Directory,
             Node::Link(_) => Kind::Link,
+            Node::Null => Kind::Null,
             Node::Special(_) => Kind::Other,
             Node::Hidden(refusal) => return Err(refusal),
         };
-        Ok(Found { kind, owner: 0 })
+        Ok(Found {
+            kind,
+            owner: 0,
+            device: 0,
+        })
+    }
+
+    fn is_excluded(&self, name: &[u8]) -> bool {
+        name == EXCLUDED.as_bytes()
+    }
+
+    fn leads_to_sought(&self, path: &str) -> bool {
+        match self.at(path) {
+            Node::Link(to) => to.ends_with("/.ssh"),
+            _ => false,
+        }
+    }
+
+    fn is_elsewhere(&self, path: &str) -> bool {
+        path.ends_with(MOUNTED)
     }
 
     fn open(
@@ -97,6 +125,7 @@ impl<'a> Tree for Shelf<'a> {
             Node::File(device, number, bytes) => (true, device, number, bytes),
             Node::Unread(number, _) => (true, 0, number, b"".as_slice()),
             Node::Special(bytes) => (false, 0, 0, bytes),
+            Node::Null => (false, 0, 0, b"".as_slice()),
             Node::Swapped => (false, 0, 0, b"".as_slice()),
             Node::Hidden(refusal) | Node::Unopened(refusal) => return Ok(Err(refusal)),
             Node::Directory(_) | Node::Broken(_) | Node::Closed(_) | Node::Link(_) => {
@@ -109,7 +138,13 @@ impl<'a> Tree for Shelf<'a> {
         }
         Ok(Ok(Opened {
             is_file,
-            identity: Identity { device, number },
+            identity: Identity {
+                device,
+                number,
+                size: bytes.len() as u64,
+                changed: 0,
+                nanoseconds: 0,
+            },
             file: FromRead::new(giver),
         }))
     }

@@ -1,6 +1,6 @@
 //! The caller of the page of `audit_tree`.
 
-use audit_tree::is_audited;
+use audit_tree::{is_audited, is_sought};
 
 /// How many of these files of a directory are audited, by their names and their bytes.
 fn count_audited(files: &[(&[u8], &[u8])]) -> usize {
@@ -30,4 +30,7 @@ fn some_files_are_audited(rt: HostRuntime) {
     ];
     assert!(rt; count_audited(&files) == 6);
     assert!(rt; is_audited(true, b"key", b""));
+    assert!(rt;
+        is_sought(b".ssh") && is_sought(b"x.pub") && is_sought(b"id_x") && !is_sought(b"x")
+    );
 }

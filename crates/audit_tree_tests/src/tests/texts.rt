@@ -60,17 +60,29 @@ const FOUR: FileCounts = FileCounts {
     audited: 4,
     same: 0,
     skipped: 0,
+    excluded: 0,
+    elsewhere: 0,
+};
+
+const TWO: FileCounts = FileCounts {
+    audited: 2,
+    same: 0,
+    skipped: 1,
+    excluded: 0,
+    elsewhere: 0,
 };
 
 const ONE: FileCounts = FileCounts {
     audited: 1,
     same: 3,
     skipped: 12,
+    excluded: 2,
+    elsewhere: 1,
 };
 
 #[test]
 fn last_lines(rt: HostRuntime) -> Result<(), Fail> {
-    let cases: [(Summary, &[u8]); 3] = [
+    let cases: [(Summary, &[u8]); 4] = [
         (
             summary(FOUR, 8, 3, LIST),
             b"krl audit: 4 files, 8 keys: 5 revoked in 3 files, 1 unread \
@@ -78,8 +90,14 @@ fn last_lines(rt: HostRuntime) -> Result<(), Fail> {
         ),
         (
             summary(ONE, 1, 1, LIST),
-            b"krl audit: 1 file, 1 key: 5 revoked in 1 file, 1 unread, 12 skipped, \
-3 audited before (list version 12, 2026-11-26T23:15:11Z)\n",
+            b"krl audit: 1 file, 1 key: 5 revoked in 1 file, 1 unread, \
+12 skipped by their names, \
+2 excluded, 1 on other file systems, 3 audited before (list version 12, 2026-11-26T23:15:11Z)\n",
+        ),
+        (
+            summary(TWO, 1, 1, LIST),
+            b"krl audit: 2 files, 1 key: 5 revoked in 1 file, 1 unread, 1 skipped by its name \
+(list version 12, 2026-11-26T23:15:11Z)\n",
         ),
         (
             summary(FOUR, 8, 3, None),

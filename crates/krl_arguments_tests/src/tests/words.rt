@@ -69,7 +69,28 @@ fn audits(rt: HostRuntime) -> Result<(), Fail> {
     assert_eq!(rt; audit.list, "k");
     assert!(rt; audit.every_file);
     assert!(rt; audit.names_from == Some("-") && audit.files.is_empty());
-    assert!(rt; !audit.all && !audit.quiet && !audit.json);
+    assert!(rt; !audit.all && !audit.quiet && !audit.json && !audit.one_file_system);
+    assert!(rt; audit.canary.is_empty() && audit.exclude.is_empty());
+    let words = [
+        "krl",
+        "audit",
+        "-xf",
+        "-",
+        "--canary",
+        "c",
+        "--exclude=.cache",
+        "--canary=d",
+        "--exclude",
+        "sys",
+        "a",
+    ];
+    let audit = audit_by(rt.alloc(), &words)?;
+    assert!(rt; audit.list == "-" && audit.one_file_system && !audit.quiet);
+    assert!(rt; audit.canary.as_slice() == ["c", "d"].as_slice());
+    assert!(rt; audit.exclude.as_slice() == [".cache", "sys"].as_slice());
+    let words = ["krl", "audit", "-f", "k", "-", "-"];
+    let audit = audit_by(rt.alloc(), &words)?;
+    assert!(rt; audit.files.as_slice() == ["-", "-"].as_slice());
     Ok(())
 }
 
@@ -100,16 +121,22 @@ fn checks(rt: HostRuntime) -> Result<(), Fail> {
     assert!(rt; check.allow_empty && check.json && !check.print_version);
     let check = check_by(rt.alloc(), &["krl", "check", "k", "--print-version"])?;
     assert!(rt; check.print_version && check.keep.is_empty() && check.max_age.is_none());
-    assert!(rt; !check.allow_empty && !check.json);
+    assert!(rt; !check.allow_empty && !check.json && check.max_cas.is_none());
+    let check = check_by(rt.alloc(), &["krl", "check", "-", "--max-cas", "0"])?;
+    assert!(rt; check.list == "-" && check.max_cas == Some(0));
+    for most in ["", "x", "-1", "9007199254740992"] {
+        let words = ["krl", "check", "k", "--max-cas", most];
+        assert!(rt; status_by(rt.alloc(), &words)? == 2, "{most}");
+    }
     Ok(())
 }
 
 #[test]
 fn shows(rt: HostRuntime) -> Result<(), Fail> {
     let show = show_by(rt.alloc(), &["krl", "show", "a", "--json", "b"])?;
-    assert!(rt; show.json && show.lists.as_slice() == ["a", "b"].as_slice());
-    let show = show_by(rt.alloc(), &["krl", "show", "--", "-a"])?;
-    assert!(rt; !show.json && show.lists.as_slice() == ["-a"].as_slice());
+    assert!(rt; show.json && show.lists.as_slice() == ["a", "b"].as_slice() && !show.no_name);
+    let show = show_by(rt.alloc(), &["krl", "show", "--no-name", "--", "-a"])?;
+    assert!(rt; !show.json && show.lists.as_slice() == ["-a"].as_slice() && show.no_name);
     Ok(())
 }
 
@@ -133,7 +160,11 @@ fn makes(rt: HostRuntime) -> Result<(), Fail> {
     assert!(rt; make.quiet && make.allow_empty && make.files.as_slice() == ["a", "-"].as_slice());
     let make = make_by(rt.alloc(), &["krl", "make", "-f", "k"])?;
     assert!(rt; make.version.is_none() && make.comment.is_none() && make.files.is_empty());
-    assert!(rt; !make.quiet && !make.allow_empty);
+    assert!(rt; !make.quiet && !make.allow_empty && !make.update && !make.replace);
+    let make = make_by(rt.alloc(), &["krl", "make", "-uf", "k"])?;
+    assert!(rt; make.update && !make.replace && !make.quiet);
+    let make = make_by(rt.alloc(), &["krl", "make", "--replace", "-f", "./-", "-"])?;
+    assert!(rt; make.replace && !make.update && make.list == "./-");
     for version in ["", "x", "-1", "18446744073709551616", "1 "] {
         let words = ["krl", "make", "-f", "k", "-z", version, "a"];
         assert!(rt; status_by(rt.alloc(), &words)? == 2, "{version}");
@@ -149,14 +180,14 @@ fn durations(rt: HostRuntime) -> Result<(), Fail> {
         ("24h", 86_400),
         ("7d", 604_800),
         ("007d", 604_800),
-        ("18446744073709551615s", 18_446_744_073_709_551_615),
+        ("9007199254740991s", 9_007_199_254_740_991),
     ];
     for (text, seconds) in rows {
         let words = ["krl", "check", "k", "--max-age", text];
         let check = check_by(rt.alloc(), &words)?;
         assert!(rt; check.max_age == Some(seconds), "{text}");
     }
-    let refused: [&str; 12] = [
+    let refused: [&str; 14] = [
         "",
         "h",
         "24",
@@ -167,6 +198,8 @@ fn durations(rt: HostRuntime) -> Result<(), Fail> {
         "1.5h",
         "1hh",
         "1h\u{e9}",
+        "9007199254740992s",
+        "18446744073709551615s",
         "18446744073709551616s",
         "9223372036854775808m",
     ];
@@ -189,7 +222,30 @@ fn comparisons(rt: HostRuntime) -> Result<(), Fail> {
 }
 
 // Words that are refused.
-const REFUSED: [&[&str]; 35] = [
+const REFUSED: [&[&str]; 58] = [
+    &["krl", "audit", "-f-", "-"],
+    &["krl", "audit", "-f-", "a", "-", "-"],
+    &["krl", "audit", "-f-", "--files0-from", "-"],
+    &["krl", "audit", "-f-", "--canary", "-", "a"],
+    &["krl", "audit", "-fk", "--files0-from=-", "-"],
+    &["krl", "audit", "-fk", "--canary=-", "-"],
+    &["krl", "audit", "-fk", "--canary=-", "--canary=-", "a"],
+    &["krl", "audit", "-fk", "-xx", "a"],
+    &["krl", "check", "-", "--newer-than", "-"],
+    &["krl", "check", "-", "--superset-of", "-"],
+    &["krl", "check", "-", "--keep", "-"],
+    &["krl", "check", "-", "--canary", "-"],
+    &["krl", "check", "k", "--keep", "-", "--canary", "-"],
+    &["krl", "check", "k", "--max-cas", "1", "--max-cas", "1"],
+    &["krl", "check", "k", "--print-version", "--max-cas", "1"],
+    &["krl", "show", "-", "a", "-"],
+    &["krl", "show", "--no-name", "--no-name", "a"],
+    &["krl", "diff", "-", "-"],
+    &["krl", "make", "-f", "k", "-", "-"],
+    &["krl", "make", "-f-", "a"],
+    &["krl", "make", "-f", "k", "-u", "--replace", "a"],
+    &["krl", "make", "-f", "k", "-uu", "a"],
+    &["krl", "make", "-f", "k", "--replace", "--replace", "a"],
     &["krl", "diff"],
     &["krl", "diff", "a"],
     &["krl", "diff", "a", "b", "c"],
@@ -286,7 +342,27 @@ fn versions(rt: HostRuntime) -> Result<(), Fail> {
 }
 
 // Words that are refused, and the beginning of what is said.
-const SAID: [(&[&str], &str); 6] = [
+const SAID: [(&[&str], &str); 11] = [
+    (
+        &["krl", "show", "-", "-"],
+        "error: standard input (-) can be read for one file only\n",
+    ),
+    (
+        &["krl", "make", "-f", "-", "-"],
+        "error: standard input (-) can be read for one file only\n",
+    ),
+    (
+        &["krl", "make", "-f", "-", "a"],
+        "error: -f takes a file, and - is standard input\n",
+    ),
+    (
+        &["krl", "make", "-f", "k", "-u", "--replace"],
+        "error: -u does not go with --replace\n",
+    ),
+    (
+        &["krl", "check", "k", "--max-cas", "many"],
+        "error: --max-cas takes a number below 2^53\n",
+    ),
     (
         &["krl", "audit", "-f", "k"],
         "error: a file, a directory or",

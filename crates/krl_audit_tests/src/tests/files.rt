@@ -1,9 +1,9 @@
 //! Whole files: line numbers, files without a key, private key files, and files that cannot be
 //! read.
 
-use crate::tests::keys::{ALICE, ALICE_PRINT, AUTHORITY_PRINT, BOB, BOB_PRINT};
-use crate::tests::made::{FINDINGS, alice_and_bob, nothing, said_of};
-use krl_audit::Refusal;
+use crate::tests::keys::{ALICE, ALICE_PRINT, AUTHORITY, AUTHORITY_PRINT, BOB, BOB_PRINT};
+use crate::tests::made::{ALL, FINDINGS, alice_and_bob, blob_of, nothing, said_by, said_of};
+use krl_audit::{Judge, Refusal};
 use test_fixtures::{CONTAINER, GITHUB, GITHUB_PRINT, joined, repeated};
 
 #[test]
@@ -32,6 +32,29 @@ pipe: unread: no regular file\n"
     let counts = found.counts;
     assert!(rt; counts.keys == 2 && counts.revoked == 2 && counts.unread == 3);
     assert!(rt; found.status == 1);
+}
+
+#[test]
+fn a_canary_is_no_finding_and_a_certificate_by_it_is_one(rt: HostRuntime) {
+    let mut list = nothing(rt.alloc());
+    for line in [ALICE, AUTHORITY] {
+        let blob = blob_of(&rt, rt.alloc(), line);
+        list.add_key(blob.as_slice()).expect(&rt, "there is memory");
+    }
+    let judge = Judge {
+        list: &list,
+        canaries: Some(&list),
+        shown: FINDINGS,
+    };
+    let text = format!(in rt.alloc(); "{ALICE}\n{AUTHORITY}\n{BOB}\n");
+    let text = text.expect(&rt, "there is memory");
+    let found = said_by(&rt, rt.alloc(), judge, &[("f", Ok(text.as_bytes()))]);
+    let wanted = format!(in rt.alloc();
+        "f:3: revoked: ssh-ed25519-cert-v01@openssh.com {BOB_PRINT} by the key of its CA\n"
+    );
+    let wanted = wanted.expect(&rt, "there is memory");
+    assert_eq!(rt; found.text.as_slice(), wanted.as_bytes());
+    assert!(rt; found.counts.keys == 3 && found.counts.revoked == 1 && found.status == 1);
 }
 
 // Files without a key, and what is printed for them.
@@ -157,4 +180,26 @@ fn many_lines(rt: HostRuntime) {
             b"f:40: unread: no key type stands there\nf: unread: and 1480 more lines are unread\n"
         )
     );
+}
+
+// The same for each kind of lines.
+#[test]
+fn lines_of_each_kind_are_counted(rt: HostRuntime) {
+    let list = alice_and_bob(&rt, rt.alloc());
+    let revoked = joined(rt.alloc(), &[ALICE.as_bytes(), b"\n"]).expect(&rt, "there is memory");
+    let fine = joined(rt.alloc(), &[AUTHORITY.as_bytes(), b"\n"]).expect(&rt, "there is memory");
+    let revoked = repeated(rt.alloc(), &revoked, 22).expect(&rt, "there is memory");
+    let fine = repeated(rt.alloc(), &fine, 21).expect(&rt, "there is memory");
+    let unread = repeated(rt.alloc(), b"x\n", 19).expect(&rt, "there is memory");
+    let text = joined(rt.alloc(), &[&revoked, &fine, &unread, b"x"]);
+    let text = text.expect(&rt, "there is memory");
+    let found = said_of(&rt, rt.alloc(), &list, ALL, &[("f", Ok(text.as_slice()))]);
+    let last = b"f:63: unread: no key type stands there
+f: revoked: and 2 more lines are revoked
+f: ok: and 1 more line is ok\n";
+    assert!(rt; found.text.ends_with(last.as_slice()));
+    let counts = found.counts;
+    assert!(rt; counts.keys == 43 && counts.revoked == 22 && counts.unread == 20);
+    let lines = found.text.iter().filter(|byte| **byte == b'\n').count();
+    assert!(rt; lines == 62);
 }

@@ -13,12 +13,11 @@ fn line_of(rt: &impl Abort, alloc: Global, before: &str, key: &str, after: &str)
 }
 
 // The text before a key, the text after it, and what is printed for Alice's key after its place.
-const LINES: [(&str, &str, &str); 15] = [
+const LINES: [(&str, &str, &str); 17] = [
     ("", "", ""),
     ("", " alice@laptop", ": alice@laptop"),
     ("", " a b\r", ": a b"),
     (" \t", "\ta\t \r", ": a"),
-    ("\u{feff}", " a", ": a"),
     ("command=\"a b\",no-pty ", " a", ": a"),
     ("cert-authority,principals=\"x y\" ", " a", ": a"),
     ("host,10.0.0.1 ", "", ""),
@@ -27,7 +26,22 @@ const LINES: [(&str, &str, &str); 15] = [
     ("@cert-authority *.example.net ", " a", ": a"),
     ("", " \u{1b}[31mred\u{7}", ": \\x1b[31mred\\x07"),
     ("", " caf\u{e9}", ": caf\u{e9}"),
-    ("", " \u{9b}31m\u{2028}", ": \\x9b31m\u{2028}"),
+    ("", " \u{9b}31m\u{2027}", ": \\x9b31m\u{2027}"),
+    (
+        "",
+        " \u{61c}\u{200e}\u{200f}\u{200d}",
+        ": \\xd8\\x9c\\xe2\\x80\\x8e\\xe2\\x80\\x8f\u{200d}",
+    ),
+    (
+        "",
+        " \u{2028}\u{202e}\u{202f}",
+        ": \\xe2\\x80\\xa8\\xe2\\x80\\xae\u{202f}",
+    ),
+    (
+        "",
+        " \u{2065}\u{2066}\u{2069}\u{206a}",
+        ": \u{2065}\\xe2\\x81\\xa6\\xe2\\x81\\xa9\u{206a}",
+    ),
     ("", " \u{7f}\u{80}\u{a0}\"\\", ": \\x7f\\x80\u{a0}\"\\"),
 ];
 

@@ -105,8 +105,22 @@ pub fn said_of(
     shown: Shown,
     files: &[(&str, Result<&[u8], Refusal>)],
 ) -> Said {
+    let judge = Judge {
+        list,
+        canaries: None,
+        shown,
+    };
+    said_by(rt, alloc, judge, files)
+}
+
+/// The text that an audit of these files by a judge prints, and its counts.
+pub fn said_by(
+    rt: &impl Abort,
+    alloc: Global,
+    judge: Judge<'_>,
+    files: &[(&str, Result<&[u8], Refusal>)],
+) -> Said {
     let mut taker = Taker::whole(alloc);
-    let judge = Judge { list, shown };
     let (counts, status) = audit_into(rt, alloc, judge, files, &mut ToWrite::new(&mut taker));
     Said {
         text: taker.taken,

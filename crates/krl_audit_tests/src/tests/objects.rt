@@ -128,18 +128,23 @@ fn each_kind_of_line_has_its_fields(rt: HostRuntime) {
     }
 }
 
-// DEL and the ends of U+0080 to U+009F, which a terminal may obey, and the characters beside them.
+// DEL, the ends of U+0080 to U+009F, and of the bidirectional controls and line separators, which a
+// terminal may obey, and the characters beside them.
 #[test]
 fn control_characters_are_escaped(rt: HostRuntime) {
     let list = alice_and_bob(&rt, rt.alloc());
-    let text = format!(in rt.alloc(); "{ALICE} ~\x7f\u{80}\u{9f}\u{a0}\u{c2}");
+    let marks = "\u{61b}\u{61c}\u{61d}\u{200d}\u{200e}\u{200f}\u{2010}\u{2027}";
+    let others = "\u{2028}\u{202e}\u{202f}\u{2065}\u{2066}\u{2069}\u{206a}\u{2580}";
+    let text = format!(in rt.alloc(); "{ALICE} ~\x7f\u{80}\u{9f}\u{a0}\u{c2}{marks}{others}");
     let text = text.expect(&rt, "there is memory");
     let content = Ok(text.as_bytes());
     let found = objects_of(&rt, rt.alloc(), &list, "a\x7f\u{9b}\u{a0}", content);
     let wanted = format!(in rt.alloc();
         "{{\"file\":\"a\\u007f\\u009b\u{a0}\",\"line\":1,\"status\":\"revoked\",\
 \"type\":\"ssh-ed25519\",\"fingerprint\":\"{ALICE_PRINT}\",\
-\"comment\":\"~\\u007f\\u0080\\u009f\u{a0}\u{c2}\",\"reasons\":[{{\"by\":\"key\"}}]}}\n"
+\"comment\":\"~\\u007f\\u0080\\u009f\u{a0}\u{c2}\u{61b}\\u061c\u{61d}\u{200d}\\u200e\\u200f\u{2010}\
+\u{2027}\\u2028\\u202e\u{202f}\u{2065}\\u2066\\u2069\u{206a}\u{2580}\",\
+\"reasons\":[{{\"by\":\"key\"}}]}}\n"
     );
     let wanted = wanted.expect(&rt, "there is memory");
     assert_eq!(rt; found.as_slice(), wanted.as_bytes());
@@ -294,6 +299,7 @@ fn say_last<W: Sink>(
     };
     let judge = Judge {
         list,
+        canaries: None,
         shown: OBJECTS,
     };
     let counts = Counts {
@@ -306,6 +312,8 @@ fn say_last<W: Sink>(
         audited: 4,
         same: 1,
         skipped: 12,
+        excluded: 3,
+        elsewhere: 2,
     };
     auditor.say_done(files, facts).expect(rt, "there is memory");
     assert!(rt; auditor.finish(None).status == 1);
@@ -331,7 +339,8 @@ fn the_last_object_has_the_counts_and_the_list(rt: HostRuntime) {
         &mut ToWrite::new(&mut taker),
     );
     let wanted = b"{\"status\":\"done\",\"files\":4,\"keys\":8,\"revoked\":5,\
-\"unread\":18446744073709551615,\"skipped\":12,\"same\":1,\"list\":{\"file\":\"revoked.krl\",\
+\"unread\":18446744073709551615,\"skipped\":12,\"excluded\":3,\"elsewhere\":2,\"same\":1,\
+\"list\":{\"file\":\"revoked.krl\",\
 \"version\":\"18446744073709551615\",\"generated\":\"2026-11-26T23:15:11Z\",\
 \"sha256\":\"abababababababababababababababababababababababababababababababab\"}}\n";
     assert_eq!(rt; taker.taken.as_slice(), wanted.as_slice());

@@ -27,7 +27,11 @@ fn audit_one<W: Sink>(
         fine: false,
         form: Form::Text,
     };
-    let judge = Judge { list, shown };
+    let judge = Judge {
+        list,
+        canaries: None,
+        shown,
+    };
     let mut auditor = Auditor {
         judge,
         run,

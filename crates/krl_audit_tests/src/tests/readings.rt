@@ -69,8 +69,9 @@ fn each_file_of_some_directories_is_read(rt: HostRuntime) {
     }
 }
 
-// The text before Alice's key and after it, the name of the file, and the word that is printed.
-const LINES: [(&str, &str, &str, &str); 7] = [
+// The text before Alice's key and after it, the name of the file, and the word that is printed. A
+// byte order mark at the start of a file belongs to the first word.
+const LINES: [(&str, &str, &str, &str); 13] = [
     ("@cert-authority \"x ", " y", "authorized_keys", "revoked"),
     ("@cert-authority \"x ", " y", "keys", "revoked"),
     ("command=\"a b\" ", " y", "keys", "revoked"),
@@ -78,6 +79,12 @@ const LINES: [(&str, &str, &str, &str); 7] = [
     ("host\" ", " y", "known_hosts", "revoked"),
     ("host\" ", " y", "keys", "revoked"),
     ("host\" ", " y", "authorized_keys", "unread"),
+    ("\u{feff}", " y", "known_hosts", "unread"),
+    ("\u{feff}", " y", "authorized_keys", "unread"),
+    ("\u{feff}", " y", "keys", "unread"),
+    ("\u{feff}#,* ", " y", "known_hosts", "revoked"),
+    ("\u{feff}#,* ", " y", "authorized_keys", "revoked"),
+    ("\u{feff}#,* ", " y", "keys", "revoked"),
 ];
 
 #[test]

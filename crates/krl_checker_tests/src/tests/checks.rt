@@ -6,6 +6,7 @@ use krl_checker::{Checker, Condition, Role, names_nobody};
 use krl_core::read_krl;
 use krl_entries::Revocations;
 use krl_openssh::first_difference;
+use plain_list::{DsaLine, DsaPart};
 use run_faults::{RunFault, cause_of};
 use run_output::Printer;
 use span_sets::Held;
@@ -74,8 +75,19 @@ fn said_into<W: Sink>(
     checker.finish(None).status
 }
 
+// Lines of a plain list with DSA.
+const DSA_KEY: DsaLine = DsaLine {
+    number: 3,
+    part: DsaPart::Key,
+};
+
+const DSA_AUTHORITY: DsaLine = DsaLine {
+    number: 40_000,
+    part: DsaPart::Authority,
+};
+
 // One condition, what is said, and the status.
-const CHECKS: [(Asked<'static>, &[u8], u8); 35] = [
+const CHECKS: [(Asked<'static>, &[u8], u8); 41] = [
     (Asked::OpenSsh(&HEADER), b"", 0),
     (Asked::That(Condition::Version(7, 7)), b"", 0),
     (Asked::That(Condition::Version(8, 7)), b"", 0),
@@ -97,6 +109,29 @@ const CHECKS: [(Asked<'static>, &[u8], u8); 35] = [
     (
         Asked::That(Condition::NoDate),
         b"age: r.krl: a plain list has no date\n",
+        1,
+    ),
+    (Asked::That(Condition::OpenSshLines(None)), b"", 0),
+    (
+        Asked::That(Condition::OpenSshLines(Some(DSA_KEY))),
+        b"openssh: r.krl: line 3 has a DSA key, which OpenSSH 10 does not read\n",
+        1,
+    ),
+    (
+        Asked::That(Condition::OpenSshLines(Some(DSA_AUTHORITY))),
+        b"openssh: r.krl: line 40000 has a certificate of a DSA CA, which OpenSSH 10 does not \
+read\n",
+        1,
+    ),
+    (Asked::That(Condition::Slow(4_000, 4_000)), b"", 0),
+    (
+        Asked::That(Condition::Slow(4_001, 4_000)),
+        b"slow: r.krl: 4001 CAs, and 4000 at most\n",
+        1,
+    ),
+    (
+        Asked::That(Condition::Slow(1, 0)),
+        b"slow: r.krl: 1 CA, and 0 at most\n",
         1,
     ),
     (Asked::That(Condition::Empty(false)), b"", 0),
@@ -225,7 +260,7 @@ canary: gone: 0 of 0 keys are revoked, 1 line is not read\n",
 ];
 
 // One condition, and its object.
-const OBJECTS: [(Asked<'static>, &[u8]); 14] = [
+const OBJECTS: [(Asked<'static>, &[u8]); 18] = [
     (
         Asked::OpenSsh(&HEADER),
         b"{\"condition\":\"openssh\",\"passed\":true,\"list\":\"r.krl\"}\n",
@@ -234,6 +269,25 @@ const OBJECTS: [(Asked<'static>, &[u8]); 14] = [
         Asked::OpenSsh(SERIAL_ZERO),
         b"{\"condition\":\"openssh\",\"passed\":false,\"list\":\"r.krl\",\
 \"why\":\"it names serial number 0\"}\n",
+    ),
+    (
+        Asked::That(Condition::OpenSshLines(None)),
+        b"{\"condition\":\"openssh\",\"passed\":true,\"list\":\"r.krl\"}\n",
+    ),
+    (
+        Asked::That(Condition::OpenSshLines(Some(DSA_KEY))),
+        b"{\"condition\":\"openssh\",\"passed\":false,\"list\":\"r.krl\",\
+\"why\":\"line 3 has a DSA key, which OpenSSH 10 does not read\"}\n",
+    ),
+    (
+        Asked::That(Condition::Slow(0, 4_000)),
+        b"{\"condition\":\"slow\",\"passed\":true,\"list\":\"r.krl\",\
+\"cas\":0,\"most\":4000}\n",
+    ),
+    (
+        Asked::That(Condition::Slow(12_945, 4_000)),
+        b"{\"condition\":\"slow\",\"passed\":false,\"list\":\"r.krl\",\
+\"cas\":12945,\"most\":4000}\n",
     ),
     (
         Asked::That(Condition::Empty(false)),

@@ -72,6 +72,7 @@ fn the_callers_of_the_pages(rt: HostRuntime) {
         newer_than: None,
         superset_of: None,
         max_age: None,
+        max_cas: None,
         keep: Vec::new(rt.alloc()),
         canary: Vec::new(rt.alloc()),
         allow_empty: false,

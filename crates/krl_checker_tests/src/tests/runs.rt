@@ -13,6 +13,7 @@ use run_faults::{Cause, FileFault, KeyCause};
 use run_output::Done;
 use ssh_wire::Bytes;
 use std::alloc::{AllocError, Global};
+use std::process::Abort;
 use test_fixtures::{GITHUB_LINE, OTHER_LINE, Taker};
 
 /// Lists that are named `l`, `o` and `b`, and the time of the clock. As files of keys there are the
@@ -66,37 +67,43 @@ pub const SEVEN: &[u8] = b"SSHKRL\n\0\0\0\0\x01\0\0\0\0\0\0\0\x07\0\0\0\0\0\0\0\
 \xe3\x2a\xaa\x79\x15\xce\xb9\xb4\x49\xd1\xba\x50\xea\x2a\x28\xbb\
 \x1a\x6e\x01\xf9\x0b\xda\x24\x5a\x2d\x1d\x87\x69\x7d\x18\xa2\x65";
 
-// The same with serial numbers 100 and 101 of all authorities.
-const MORE: &[u8] = b"SSHKRL\n\0\0\0\0\x01\0\0\0\0\0\0\0\x07\0\0\0\0\0\0\0\0\
+/// The same with serial numbers 100 and 101 of all authorities.
+pub const MORE: &[u8] = b"SSHKRL\n\0\0\0\0\x01\0\0\0\0\0\0\0\x07\0\0\0\0\0\0\0\0\
 \0\0\0\0\0\0\0\0\0\0\0\0\0\0\0\0\
 \x01\0\0\0\x1d\0\0\0\0\0\0\0\0\x21\0\0\0\x10\0\0\0\0\0\0\0\x64\0\0\0\0\0\0\0\x65\
 \x02\0\0\0\x37\0\0\0\x33\0\0\0\x0bssh-ed25519\0\0\0\x20\
 \xe3\x2a\xaa\x79\x15\xce\xb9\xb4\x49\xd1\xba\x50\xea\x2a\x28\xbb\
 \x1a\x6e\x01\xf9\x0b\xda\x24\x5a\x2d\x1d\x87\x69\x7d\x18\xa2\x65";
 
-// A list, the one that it must not be older than, the one whose names it must have, the time of the
-// clock, the largest age, and the files of keys that it must not revoke, and must revoke.
+// A plain list with a DSA key of small numbers.
+const DSA_LINE: &[u8] = b"# a key\nssh-dss AAAAB3NzaC1kc3MAAAABAwAAAAEDAAAAAQMAAAABAw==\n";
+
+/// A list, the one that it must not be older than, the one whose names it must have, the time of the
+/// clock, the largest age, the most authorities, and the files of keys that it must not revoke, and
+/// must revoke.
 #[derive(Clone, Copy)]
-struct Asked {
-    list: Result<&'static [u8], Cause>,
-    other: Option<Result<&'static [u8], Cause>>,
-    base: Option<Result<&'static [u8], Cause>>,
-    moment: Option<u64>,
-    max_age: Option<u64>,
-    keep: &'static [&'static str],
-    canary: &'static [&'static str],
-    allow_empty: bool,
-    json: bool,
-    print_version: bool,
+pub struct Asked {
+    pub list: Result<&'static [u8], Cause>,
+    pub other: Option<Result<&'static [u8], Cause>>,
+    pub base: Option<Result<&'static [u8], Cause>>,
+    pub moment: Option<u64>,
+    pub max_age: Option<u64>,
+    pub max_cas: Option<u64>,
+    pub keep: &'static [&'static str],
+    pub canary: &'static [&'static str],
+    pub allow_empty: bool,
+    pub json: bool,
+    pub print_version: bool,
 }
 
-// Nothing but that a list revokes somebody.
-const NOTHING: Asked = Asked {
+/// Nothing but that a list revokes somebody.
+pub const NOTHING: Asked = Asked {
     list: Ok(SEVEN),
     other: None,
     base: None,
     moment: None,
     max_age: None,
+    max_cas: None,
     keep: &[],
     canary: &[],
     allow_empty: false,
@@ -106,15 +113,15 @@ const NOTHING: Asked = Asked {
 
 const NO_FILE: Cause = Cause::File(FileFault::Open);
 
-// A check, the text that it prints, its status, and the name, the line and the cause of its fault.
-type Row = (
+/// A check, the text that it prints, its status, and the name, the line and the cause of its fault.
+pub type Row = (
     Asked,
     &'static [u8],
     u8,
     Option<(&'static str, Option<u64>, Cause)>,
 );
 
-const ROWS: [Row; 23] = [
+const ROWS: [Row; 20] = [
     (NOTHING, b"", 0, None),
     (
         Asked {
@@ -162,7 +169,38 @@ keep: key: 1 of 1 key is revoked, 0 lines are not read\n",
         1,
         None,
     ),
+    // A section for all authorities counts as one.
+    (
+        Asked {
+            list: Ok(MORE),
+            max_cas: Some(0),
+            ..NOTHING
+        },
+        b"slow: l: 1 CA, and 0 at most\n",
+        1,
+        None,
+    ),
+    (
+        Asked {
+            list: Ok(MORE),
+            max_cas: Some(1),
+            ..NOTHING
+        },
+        b"",
+        0,
+        None,
+    ),
     // Plain lists.
+    (
+        Asked {
+            list: Ok(DSA_LINE),
+            max_cas: Some(0),
+            ..NOTHING
+        },
+        b"openssh: l: line 2 has a DSA key, which OpenSSH 10 does not read\n",
+        1,
+        None,
+    ),
     (
         Asked {
             list: Ok(GITHUB_LINE),
@@ -301,90 +339,6 @@ canary: key: 0 of 1 key is revoked, 0 lines are not read\n",
         255,
         Some(("large", None, Cause::NoMemory)),
     ),
-    // As JSON each condition has an object, and a list that may revoke nobody has one fewer.
-    (
-        Asked {
-            json: true,
-            ..NOTHING
-        },
-        b"{\"condition\":\"openssh\",\"passed\":true,\"list\":\"l\"}
-{\"condition\":\"empty\",\"passed\":true,\"list\":\"l\"}
-{\"status\":\"done\",\"passed\":true}\n",
-        0,
-        None,
-    ),
-    (
-        Asked {
-            list: Ok(GITHUB_LINE),
-            other: Some(Ok(SEVEN)),
-            base: Some(Ok(SEVEN)),
-            moment: Some(NINE),
-            max_age: Some(60),
-            keep: &["none"],
-            canary: &["key"],
-            allow_empty: true,
-            json: true,
-            ..NOTHING
-        },
-        b"{\"condition\":\"openssh\",\"passed\":true,\"list\":\"l\"}
-{\"condition\":\"version\",\"passed\":false,\"list\":\"l\",\"why\":\"a plain list has no version\"}
-{\"condition\":\"age\",\"passed\":false,\"list\":\"l\",\"why\":\"a plain list has no date\"}
-{\"condition\":\"lost\",\"passed\":true,\"list\":\"l\",\"other\":\"b\",\"entries\":0}
-{\"file\":\"none\",\"status\":\"unread\",\"fault\":\"file 1 Open\",\
-\"why\":\"No such file or directory\"}
-{\"condition\":\"keep\",\"passed\":false,\"file\":\"none\",\"keys\":0,\"revoked\":0,\"unread\":1}
-{\"condition\":\"canary\",\"passed\":true,\"file\":\"key\",\"keys\":1,\"revoked\":1,\"unread\":0}
-{\"status\":\"done\",\"passed\":false}\n",
-        255,
-        None,
-    ),
-    (
-        Asked {
-            base: Some(Ok(MORE)),
-            json: true,
-            ..NOTHING
-        },
-        b"{\"condition\":\"openssh\",\"passed\":true,\"list\":\"l\"}
-{\"condition\":\"empty\",\"passed\":true,\"list\":\"l\"}
-{\"change\":\"removed\",\"ca\":\"all\",\"serial\":[100,101]}
-{\"condition\":\"lost\",\"passed\":false,\"list\":\"l\",\"other\":\"b\",\"entries\":1}
-{\"status\":\"done\",\"passed\":false}\n",
-        1,
-        None,
-    ),
-    // A check that is stopped has no last object.
-    (
-        Asked {
-            canary: &["large"],
-            json: true,
-            ..NOTHING
-        },
-        b"{\"condition\":\"openssh\",\"passed\":true,\"list\":\"l\"}
-{\"condition\":\"empty\",\"passed\":true,\"list\":\"l\"}\n",
-        255,
-        Some(("large", None, Cause::NoMemory)),
-    ),
-    // The version alone.
-    (
-        Asked {
-            list: Ok(SEVEN),
-            print_version: true,
-            ..NOTHING
-        },
-        b"7\n",
-        0,
-        None,
-    ),
-    (
-        Asked {
-            list: Ok(b"SSHKRL\n\0"),
-            print_version: true,
-            ..NOTHING
-        },
-        b"",
-        255,
-        Some(("l", None, Cause::Krl(KrlFault::EndsEarly))),
-    ),
 ];
 
 // Checks a list by these conditions.
@@ -407,6 +361,7 @@ fn checked<W: Sink>(
         newer_than: asked.other.is_some().then_some("o"),
         superset_of: asked.base.is_some().then_some("b"),
         max_age: asked.max_age,
+        max_cas: asked.max_cas,
         keep: Vec::from_slice(alloc, asked.keep)?,
         canary: Vec::from_slice(alloc, asked.canary)?,
         allow_empty: asked.allow_empty,
@@ -437,13 +392,18 @@ fn ended(alloc: Global, asked: &Asked) -> Option<(Done<'static>, Vec<u8>)> {
     Some((done, taker.taken))
 }
 
-#[test]
-fn each_row(rt: HostRuntime) {
-    for (asked, said, status, wanted) in &ROWS {
-        let (done, taken) = ended(rt.alloc(), asked).expect(&rt, "the check has an end");
+/// Each check of these rows ends as its row says.
+pub fn end_so(rt: &impl Abort, alloc: Global, rows: &[Row]) {
+    for (asked, said, status, wanted) in rows {
+        let (done, taken) = ended(alloc, asked).expect(rt, "the check has an end");
         assert!(rt; is_stopped(&done, wanted));
         assert!(rt; done.status == *status && taken.as_slice() == *said);
     }
+}
+
+#[test]
+fn each_row(rt: HostRuntime) {
+    end_so(&rt, rt.alloc(), &ROWS);
 }
 
 // A task for a list that can be read, why nothing is said about it, and the words for that.

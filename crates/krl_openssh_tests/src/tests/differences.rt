@@ -157,6 +157,22 @@ fn keys_that_openssh_refuses(rt: HostRuntime) {
     assert!(rt; differs(alloc, &of_ecdsa, Some(Difference::Point)));
 }
 
+// A DSA key is refused by its size before its kind, which OpenSSH 9.2 reads.
+#[test]
+fn dsa_authorities(rt: HostRuntime) {
+    let alloc = rt.alloc();
+    let long = repeated(alloc, b"\x01", 2_049).expect(&rt, "there is memory");
+    let serial = b"\0\0\0\0\0\0\0\x01";
+    let short = strings(alloc, &[b"ssh-dss", b"\x03", b"\x03", b"\x03", b"\x03"]);
+    let short = short.expect(&rt, "there is memory");
+    let long = strings(alloc, &[b"ssh-dss", b"\x03", b"\x03", b"\x03", &long]);
+    let long = long.expect(&rt, "there is memory");
+    let of_short = certificates(&rt, alloc, &short, 0x20, serial);
+    let of_long = certificates(&rt, alloc, &long, 0x20, serial);
+    assert!(rt; differs(alloc, &of_short, Some(Difference::Dsa)));
+    assert!(rt; differs(alloc, &of_long, Some(Difference::KeySize)));
+}
+
 // Comments.
 const COMMENTS: [(&[u8], Option<Difference>); 5] = [
     (b"", None),

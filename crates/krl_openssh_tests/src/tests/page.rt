@@ -2,7 +2,7 @@
 
 use byte_streams::FromRead;
 use krl_core::read_krl;
-use krl_openssh::{authorities_are_keys, first_difference};
+use krl_openssh::{Incomparable, first_difference, first_incomparable};
 use span_sets::Held;
 use std::alloc::Global;
 use std::process::Abort;
@@ -23,25 +23,39 @@ fn lists_are_read_alike(rt: HostRuntime) {
     assert!(rt; is_read_alike(rt.alloc(), &bytes) && !is_read_alike(rt.alloc(), b"x"));
 }
 
-/// Whether a list can be read, and asked by comparing bytes.
-fn can_be_asked(alloc: Global, list: &[u8]) -> bool {
-    let (read, _reader) = read_krl::<Held, _>(alloc, FromRead::new(list));
-    read.is_ok() && authorities_are_keys(list)
-}
-
-// Whether a list with one section, under this authority, can be queried.
-fn can_be_asked_under(rt: &impl Abort, alloc: Global, authority: &[u8]) -> bool {
-    let content = strings(alloc, &[authority, b""]).expect(rt, "there is memory");
+// Why a list with one section, under this authority and with these subsections, cannot be asked by
+// comparing bytes.
+fn why_not_asked(
+    rt: &impl Abort,
+    alloc: Global,
+    authority: &[u8],
+    subsections: &[u8],
+) -> Option<Incomparable> {
+    let front = strings(alloc, &[authority, b""]).expect(rt, "there is memory");
+    let content = joined(alloc, &[&front, subsections]).expect(rt, "there is memory");
     let section = strings(alloc, &[&content]).expect(rt, "there is memory");
     let list = joined(alloc, &[&HEADER, &[1], &section]).expect(rt, "there is memory");
-    can_be_asked(alloc, &list)
+    let (read, _reader) = read_krl::<Held, _>(alloc, FromRead::new(list.as_slice()));
+    assert!(rt; read.is_ok());
+    first_incomparable(&list)
 }
 
 #[test]
-fn authorities_are_looked_at(rt: HostRuntime) {
-    let key = strings(rt.alloc(), &[b"ssh-ed25519", &PUBLISHED]).expect(&rt, "there is memory");
-    let odd = strings(rt.alloc(), &[b"ssh-ed25519\0", &PUBLISHED]).expect(&rt, "there is memory");
-    assert!(rt; can_be_asked_under(&rt, rt.alloc(), &key));
-    assert!(rt; can_be_asked_under(&rt, rt.alloc(), b""));
-    assert!(rt; !can_be_asked_under(&rt, rt.alloc(), &odd));
+fn names_are_looked_at(rt: HostRuntime) {
+    let alloc = rt.alloc();
+    let key = strings(alloc, &[b"ssh-ed25519", &PUBLISHED]).expect(&rt, "there is memory");
+    let odd = strings(alloc, &[b"ssh-ed25519\0", &PUBLISHED]).expect(&rt, "there is memory");
+    let authority = Some(Incomparable::Authority);
+    assert!(rt; why_not_asked(&rt, alloc, b"", b"").is_none());
+    assert!(rt; why_not_asked(&rt, alloc, &key, b"").is_none());
+    assert!(rt; why_not_asked(&rt, alloc, &key, WHOLE_IDS).is_none());
+    assert!(rt; why_not_asked(&rt, alloc, &odd, b"") == authority);
+    assert!(rt; why_not_asked(&rt, alloc, &odd, ODD_ID) == authority);
+    assert!(rt; why_not_asked(&rt, alloc, &key, ODD_ID) == Some(Incomparable::KeyId));
 }
+
+// Serial numbers whose bytes are like those of a key ID with a zero byte, and key IDs.
+const WHOLE_IDS: &[u8] = b"\x20\0\0\0\x08\0\0\0\x01\0\0\0\x05\x23\0\0\0\x09\0\0\0\x01a\0\0\0\0";
+
+// The second key ID has a zero byte at its end.
+const ODD_ID: &[u8] = b"\x23\0\0\0\x0b\0\0\0\x01a\0\0\0\x02b\0";

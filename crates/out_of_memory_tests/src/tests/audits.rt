@@ -34,8 +34,8 @@ const OBJECTS: &[u8] = b"{\"file\":\"f\",\"line\":1,\"status\":\"unread\",\
 \"authority\":\"SHA256:SQfC+vTbLURn9cTkVxIS8fGQ3FKNAJWeB0o139+gV4M\"},\
 \"reasons\":[{\"by\":\"key\"},{\"by\":\"serial\",\"serial\":\"7\",\"authority\":\"all\"}]}
 {\"file\":\"g\",\"status\":\"same\"}
-{\"status\":\"done\",\"files\":1,\"keys\":2,\"revoked\":2,\"unread\":1,\"skipped\":2,\"same\":1,\
-\"list\":{\"file\":\"l\",\
+{\"status\":\"done\",\"files\":1,\"keys\":2,\"revoked\":2,\"unread\":1,\"skipped\":2,\
+\"excluded\":0,\"elsewhere\":0,\"same\":1,\"list\":{\"file\":\"l\",\
 \"version\":\"1\",\"generated\":\"1970-01-01T00:00:00Z\",\
 \"sha256\":\"0000000000000000000000000000000000000000000000000000000000000000\"}}
 ";
@@ -50,6 +50,8 @@ fn say_rest<W: Sink>(
         audited: 1,
         same: 1,
         skipped: 2,
+        excluded: 0,
+        elsewhere: 0,
     };
     auditor.say_done(files, facts)
 }
@@ -74,7 +76,11 @@ fn said_as_objects<W: Sink>(
         form: Form::Json,
     };
     let mut auditor = Auditor {
-        judge: Judge { list, shown },
+        judge: Judge {
+            list,
+            canaries: None,
+            shown,
+        },
         run,
         counts: Counts::NONE,
     };
@@ -138,7 +144,11 @@ fn audited<W: Sink>(
         form: Form::Text,
     };
     let mut auditor = Auditor {
-        judge: Judge { list, shown },
+        judge: Judge {
+            list,
+            canaries: None,
+            shown,
+        },
         run,
         counts: Counts::NONE,
     };

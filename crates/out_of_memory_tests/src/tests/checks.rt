@@ -37,6 +37,7 @@ keep: f: 1 of 1 key is revoked, 0 lines are not read
 const OBJECTS: &[u8] = b"{\"condition\":\"openssh\",\"passed\":false,\"list\":\"r.krl\",\
 \"why\":\"it has a signature\"}
 {\"condition\":\"empty\",\"passed\":true,\"list\":\"r.krl\"}
+{\"condition\":\"slow\",\"passed\":true,\"list\":\"r.krl\",\"cas\":0,\"most\":4000}
 {\"condition\":\"version\",\"passed\":false,\"list\":\"p\",\"why\":\"a plain list has no version\"}
 {\"change\":\"removed\",\"key\":\"SHA256:SQfC+vTbLURn9cTkVxIS8fGQ3FKNAJWeB0o139+gV4M\"}
 {\"condition\":\"lost\",\"passed\":false,\"list\":\"r.krl\",\"other\":\"p\",\"entries\":1}
@@ -99,6 +100,7 @@ fn runs_out<W: Sink>(alloc: Global, wanted: Wanted, out: &mut W) -> Result<bool,
         newer_than: Some("p"),
         superset_of: Some("p"),
         max_age: None,
+        max_cas: None,
         keep: Vec::from_slice(alloc, &["f", "g"])?,
         canary: Vec::new(alloc),
         allow_empty: false,

@@ -42,11 +42,11 @@ const TEXT: &[u8] = b"  ca: all\n+ serial: 5
 # SHA256:+DiY3wvvV6TuJJhbpZisF/zLDA0zPMSvHdkr4UvCOqU
 ";
 
-const OBJECTS: &[u8] = b"{\"change\":\"added\",\"ca\":\"all\",\"serial\":[5,5]}
+const OBJECTS: &[u8] = b"{\"change\":\"added\",\"ca\":\"all\",\"serial\":[\"5\",\"5\"]}
 {\"change\":\"removed\",\"key\":\"SHA256:+DiY3wvvV6TuJJhbpZisF/zLDA0zPMSvHdkr4UvCOqU\"}
 {\"status\":\"done\",\
-\"added\":{\"cas\":1,\"serials\":1,\"ids\":0,\"keys\":0,\"hashes\":0},\
-\"removed\":{\"cas\":0,\"serials\":0,\"ids\":0,\"keys\":1,\"hashes\":0}}
+\"added\":{\"cas\":1,\"serials\":\"1\",\"ids\":0,\"keys\":0,\"hashes\":0},\
+\"removed\":{\"cas\":0,\"serials\":\"0\",\"ids\":0,\"keys\":1,\"hashes\":0}}
 ";
 
 // Compares both lists.

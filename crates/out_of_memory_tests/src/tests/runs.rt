@@ -3,7 +3,7 @@
 use crate::tests::answered::{answered, ran_out};
 use crate::tests::buffer::Buffer;
 use crate::tests::parts::list_of;
-use byte_streams::{FromRead, ToWrite};
+use byte_streams::{FromRead, Lent, ToWrite};
 use key_text::{Hash, LineFault};
 use krl_make::{AuthorityOption, Wanted, make_run};
 use krl_runs::query_run;
@@ -193,9 +193,6 @@ fn a_listing_of_certificates(rt: HostRuntime) {
 
 // Makes a list from an old one and files, under all authorities.
 fn make(alloc: Global, old: &[u8], files: &[Named]) -> Result<Vec<u8>, Cause> {
-    let Ok(old) = Vec::from_slice(alloc, old) else {
-        return Err(Cause::NoMemory);
-    };
     let wanted = Wanted {
         name: "r.krl",
         update: true,
@@ -204,7 +201,7 @@ fn make(alloc: Global, old: &[u8], files: &[Named]) -> Result<Vec<u8>, Cause> {
         authority: &AuthorityOption::All,
         files,
     };
-    match make_run(alloc, &wanted, Some(Bytes::from_vec(old))) {
+    match make_run(alloc, &wanted, Some(Lent::new(old))) {
         Ok(made) => Ok(made.bytes),
         Err(fault) => Err(fault.cause),
     }

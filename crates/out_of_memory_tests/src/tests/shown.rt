@@ -37,7 +37,7 @@ const OBJECTS: &[u8] =
 {\"ca\":\"all\",\"id\":\"a#\"}
 {\"key\":\"SHA256:+DiY3wvvV6TuJJhbpZisF/zLDA0zPMSvHdkr4UvCOqU\"}
 {\"hash\":\"SHA256:+DiY3wvvV6TuJJhbpZisF/zLDA0zPMSvHdkr4UvCOqU\"}
-{\"status\":\"done\",\"lists\":1,\"cas\":1,\"serials\":0,\"ids\":1,\"keys\":1,\"hashes\":1}
+{\"status\":\"done\",\"lists\":1,\"cas\":1,\"serials\":\"0\",\"ids\":1,\"keys\":1,\"hashes\":1}
 ";
 
 // The list in memory, under any name.

@@ -32,6 +32,8 @@ const SUMMARY: Summary = Summary {
         audited: 1,
         same: 0,
         skipped: 2,
+        excluded: 0,
+        elsewhere: 0,
     },
     revoked_files: 0,
     counts: Counts::NONE,
@@ -59,8 +61,8 @@ fn a_last_line(rt: HostRuntime) {
     let mut text = Vec::new(rt.alloc());
     let pushed = push_summary(rt.alloc(), &SUMMARY, &mut text);
     if let Some(()) = answered(&rt, pushed, AllocError) {
-        let wanted = b"krl audit: 1 file, 0 keys: 0 revoked in 0 files, 0 unread, 2 skipped \
-(list version 12, 2026-11-26T23:15:11Z)\n";
+        let wanted = b"krl audit: 1 file, 0 keys: 0 revoked in 0 files, 0 unread, \
+2 skipped by their names (list version 12, 2026-11-26T23:15:11Z)\n";
         assert!(rt; text.as_slice() == wanted.as_slice());
     }
 }

@@ -1,9 +1,9 @@
 //! Making and updating lists.
 
 use crate::tests::runs::{CLOSED, File, LONG, all_named, holding, joined, named, repeated, same};
+use byte_streams::Lent;
 use krl_make::{AuthorityOption, Wanted, make_run};
 use run_faults::fault_text;
-use ssh_wire::Bytes;
 use std::alloc::Global;
 use std::process::Abort;
 use test_fixtures::{
@@ -21,10 +21,6 @@ fn made(
     files: &[File],
 ) -> Vec<u8> {
     let files = all_named(rt, alloc, files);
-    let old = match old {
-        Some(bytes) => Some(Bytes::from_vec(joined(rt, alloc, &[bytes]))),
-        None => None,
-    };
     let wanted = Wanted {
         name: "r.krl",
         update: old.is_some(),
@@ -32,6 +28,10 @@ fn made(
         date: 0,
         authority,
         files: files.as_slice(),
+    };
+    let old = match old {
+        Some(bytes) => Some(Lent::new(bytes)),
+        None => None,
     };
     let made = make_run(alloc, &wanted, old);
     match made {

@@ -4,7 +4,7 @@
 ghost use Rattle.std.specs.Prelude.{◌≡◌};
 
 use crate::tests::runs::holding;
-use byte_streams::{FromRead, ToWrite};
+use byte_streams::{FromRead, Lent, ToWrite};
 use key_text::Hash;
 use krl_core::Revocations;
 use krl_make::{AuthorityOption, Wanted, make_run};
@@ -48,7 +48,7 @@ fn key_lines<'a>(alloc: Global, file: &'a Named<'a>, text: &mut Vec<u8>) -> Done
 /// Puts a list under a name, once no other update holds the list that is there.
 fn put(rt: &HostRuntime, name: &str, text: &[u8]) -> Result<Put, Cause> {
     let mut place = ListPlace::new(rt, "ssh-keygen", name);
-    let _ = place.hold(rt.alloc(), false)?;
+    let _ = place.hold(false)?;
     let put = place.put(text);
     place.release();
     put
@@ -69,7 +69,7 @@ fn new_list<'a>(
         authority,
         files,
     };
-    Ok(make_run(alloc, &wanted, None)?.bytes)
+    Ok(make_run(alloc, &wanted, None::<Lent>)?.bytes)
 }
 
 /// Asks a list about the keys of files, as `-Q` does, and appends what is printed.
@@ -99,10 +99,6 @@ fn stop_without<L: Lines>(rt: &HostRuntime, program: &L, name: &str) -> u8
 struct Idle;
 
 impl Lines for Idle {
-    fn name(&self) -> &'static str {
-        "idle"
-    }
-
     fn fault_line(&self, rt: &HostRuntime, fault: &RunFault) -> Result<Vec<u8>, AllocError> {
         fault_text(rt.alloc(), b"idle", fault)
     }

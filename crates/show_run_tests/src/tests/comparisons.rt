@@ -92,8 +92,8 @@ fn comparisons_as_json(rt: HostRuntime) {
             "five",
             "five",
             "{\"status\":\"done\",\
-\"added\":{\"cas\":0,\"serials\":0,\"ids\":0,\"keys\":0,\"hashes\":0},\
-\"removed\":{\"cas\":0,\"serials\":0,\"ids\":0,\"keys\":0,\"hashes\":0}}\n",
+\"added\":{\"cas\":0,\"serials\":\"0\",\"ids\":0,\"keys\":0,\"hashes\":0},\
+\"removed\":{\"cas\":0,\"serials\":\"0\",\"ids\":0,\"keys\":0,\"hashes\":0}}\n",
             0,
         ),
     ];
@@ -117,15 +117,16 @@ fn comparisons_as_json(rt: HostRuntime) {
 }
 
 const OBJECTS: &str = "\
-{\"change\":\"added\",\"ca\":\"all\",\"serial\":[1,1]}
-{\"change\":\"added\",\"ca\":\"all\",\"serial\":[3,3]}
-{\"change\":\"added\",\"ca\":\"all\",\"serial\":[5,5]}
-{\"change\":\"added\",\"ca\":\"all\",\"serial\":[7,7]}
-{\"change\":\"removed\",\"ca\":\"SHA256:LXEWQrcmsEQBYnyp+6wy9chTD7GQPMTbAiWHF5IaSIE\",\"serial\":[7,7]}
+{\"change\":\"added\",\"ca\":\"all\",\"serial\":[\"1\",\"1\"]}
+{\"change\":\"added\",\"ca\":\"all\",\"serial\":[\"3\",\"3\"]}
+{\"change\":\"added\",\"ca\":\"all\",\"serial\":[\"5\",\"5\"]}
+{\"change\":\"added\",\"ca\":\"all\",\"serial\":[\"7\",\"7\"]}
+{\"change\":\"removed\",\"ca\":\"SHA256:LXEWQrcmsEQBYnyp+6wy9chTD7GQPMTbAiWHF5IaSIE\",\
+\"serial\":[\"7\",\"7\"]}
 {\"change\":\"removed\",\"ca\":\"SHA256:LXEWQrcmsEQBYnyp+6wy9chTD7GQPMTbAiWHF5IaSIE\",\"id\":\"a\"}
 {\"status\":\"done\",\
-\"added\":{\"cas\":1,\"serials\":4,\"ids\":0,\"keys\":0,\"hashes\":0},\
-\"removed\":{\"cas\":1,\"serials\":1,\"ids\":1,\"keys\":0,\"hashes\":0}}
+\"added\":{\"cas\":1,\"serials\":\"4\",\"ids\":0,\"keys\":0,\"hashes\":0},\
+\"removed\":{\"cas\":1,\"serials\":\"1\",\"ids\":1,\"keys\":0,\"hashes\":0}}
 ";
 
 // Nothing is printed where one of the lists is not read. The old one is read first.

@@ -49,12 +49,12 @@ const FACTS: [(Fact<'static>, &[u8], &[u8]); 9] = [
     (
         Fact::Serials(b"", Span { lo: 9, hi: 9 }),
         b"serial: 9\n",
-        b"{\"ca\":\"all\",\"serial\":[9,9]}\n",
+        b"{\"ca\":\"all\",\"serial\":[\"9\",\"9\"]}\n",
     ),
     (
         Fact::Serials(b"", Span { lo: 100, hi: 199 }),
         b"serial: 100-199\n",
-        b"{\"ca\":\"all\",\"serial\":[100,199]}\n",
+        b"{\"ca\":\"all\",\"serial\":[\"100\",\"199\"]}\n",
     ),
     (
         Fact::Serials(
@@ -65,7 +65,7 @@ const FACTS: [(Fact<'static>, &[u8], &[u8]); 9] = [
             },
         ),
         b"serial: 1-18446744073709551615\n",
-        b"{\"ca\":\"all\",\"serial\":[1,18446744073709551615]}\n",
+        b"{\"ca\":\"all\",\"serial\":[\"1\",\"18446744073709551615\"]}\n",
     ),
     (
         Fact::Id(b"", b"b\"b"),
@@ -114,13 +114,20 @@ fn a_key_with_its_fingerprint(rt: HostRuntime) {
     assert!(rt; made.is_ok() && line == wanted.expect(&rt, "there is memory"));
 }
 
-// A count stops at the largest number.
+// The serial numbers of two authorities that have all of them.
 #[test]
-fn the_largest_count(rt: HostRuntime) {
-    let most = 18_446_744_073_709_551_615;
+fn exact_counts(rt: HostRuntime) {
+    let all = Span {
+        lo: 1,
+        hi: 18_446_744_073_709_551_615,
+    };
     let mut counts = Counts::NONE;
-    counts.add(Fact::Serials(b"", Span { lo: 1, hi: most }));
-    assert!(rt; counts.serials == most);
-    counts.add(Fact::Serials(b"", Span { lo: 1, hi: 1 }));
-    assert!(rt; counts.serials == most && counts.keys == 0);
+    counts.add(Fact::Serials(b"a", all));
+    counts.add(Fact::Serials(b"b", all));
+    assert!(rt; counts.serials == 36_893_488_147_419_103_230 && counts.entries == 2);
+    let mut line = Vec::new(rt.alloc());
+    let made = Form::Json.write_last(rt.alloc(), counts, &mut line);
+    let wanted: &[u8] = b"{\"status\":\"done\",\"lists\":0,\"cas\":0,\
+\"serials\":\"36893488147419103230\",\"ids\":0,\"keys\":0,\"hashes\":0}\n";
+    assert!(rt; made.is_ok() && line.as_slice() == wanted);
 }

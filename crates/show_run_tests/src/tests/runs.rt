@@ -76,7 +76,7 @@ type Row = (
     Option<(&'static str, Cause)>,
 );
 
-const ROWS: [Row; 9] = [
+const ROWS: [Row; 11] = [
     (
         Form::Text,
         &["five"],
@@ -121,13 +121,32 @@ hash: SHA256:+DiY3wvvV6TuJJhbpZisF/zLDA0zPMSvHdkr4UvCOqU\n",
         b"{\"list\":\"said\",\"version\":\"7\",\"generated\":\"1970-01-01T00:00:00Z\",\
 \"comment\":\"a\\nb\"}
 {\"list\":\"odd\",\"version\":\"1\",\"generated\":\"1970-01-01T00:00:00Z\",\"comment\":\"\"}
-{\"ca\":\"all\",\"serial\":[1,1]}
-{\"ca\":\"all\",\"serial\":[3,3]}
-{\"ca\":\"all\",\"serial\":[5,5]}
-{\"ca\":\"all\",\"serial\":[7,7]}
+{\"ca\":\"all\",\"serial\":[\"1\",\"1\"]}
+{\"ca\":\"all\",\"serial\":[\"3\",\"3\"]}
+{\"ca\":\"all\",\"serial\":[\"5\",\"5\"]}
+{\"ca\":\"all\",\"serial\":[\"7\",\"7\"]}
 {\"list\":\"plain\"}
 {\"key\":\"SHA256:+DiY3wvvV6TuJJhbpZisF/zLDA0zPMSvHdkr4UvCOqU\"}
-{\"status\":\"done\",\"lists\":3,\"cas\":1,\"serials\":4,\"ids\":0,\"keys\":1,\"hashes\":0}\n",
+{\"status\":\"done\",\"lists\":3,\"cas\":1,\"serials\":\"4\",\"ids\":0,\"keys\":1,\"hashes\":0}\n",
+        0,
+        None,
+    ),
+    // Lists without their names.
+    (
+        Form::Unnamed,
+        &["said", "plain"],
+        b"# version 7, 1970-01-01T00:00:00Z, a\\x0ab
+key: ssh-ed25519 AAAAC3NzaC1lZDI1NTE5AAAAIOMqqnkVzrm0SdG6UOoqKLsabgH5C9okWi0dh2l9GKJl \
+# SHA256:+DiY3wvvV6TuJJhbpZisF/zLDA0zPMSvHdkr4UvCOqU\n",
+        0,
+        None,
+    ),
+    (
+        Form::JsonUnnamed,
+        &["said", "plain"],
+        b"{\"version\":\"7\",\"generated\":\"1970-01-01T00:00:00Z\",\"comment\":\"a\\nb\"}
+{\"key\":\"SHA256:+DiY3wvvV6TuJJhbpZisF/zLDA0zPMSvHdkr4UvCOqU\"}
+{\"status\":\"done\",\"lists\":2,\"cas\":0,\"serials\":\"0\",\"ids\":0,\"keys\":1,\"hashes\":0}\n",
         0,
         None,
     ),

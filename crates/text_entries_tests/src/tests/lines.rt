@@ -25,7 +25,7 @@ fn made(rt: &impl Abort, alloc: Global, text: &[u8]) -> Result<Vec<u8>, TextFaul
 }
 
 // The parts of a text, and the sections of the list that it names.
-const NAMED: [(&[&[u8]], &[&[u8]]); 23] = [
+const NAMED: [(&[&[u8]], &[&[u8]]); 28] = [
     (&[b""], &[]),
     (&[b"# a comment\n \t\r\n"], &[]),
     (&[b"ca: all"], &[]),
@@ -36,6 +36,12 @@ const NAMED: [(&[&[u8]], &[&[u8]]); 23] = [
     (&[b"ca: all\nid-hex: 61"], &[ID_A]),
     (&[b"ca: all\nid-hex:"], &[EMPTY_ID]),
     (&[b"ca: all\nid-hex: 6F0a"], &[ID_WITH_FEED]),
+    // The blanks around a key ID are none of its bytes, and a comment may have any.
+    (&[b"ca: all\nid:\ta\t\r\n"], &[ID_A]),
+    (&[b"ca: all\nid: a #\x00\x1b\r."], &[ID_A]),
+    // A key ID that begins as a key is given by its bytes.
+    (&[b"ca: all\nid-hex: 7373682d7273612041"], &[ID_AS_KEY]),
+    (&[b"ca: all\nid: ssh-rsa"], &[ID_OF_TYPE]),
     // Another line of a CA changes the CA, and adds none.
     (&[b"ca: ", OTHER_LINE, b" c\nca: all\nid: a"], &[ID_A]),
     (&[b"ca: ", OTHER_LINE, b"\nserial: 7"], &[SEVEN_OF_OTHER]),
@@ -55,6 +61,8 @@ const NAMED: [(&[&[u8]], &[&[u8]]); 23] = [
     (&[b" \t", GITHUB_LINE, b"\tserial 5 \r"], &[KEY_SECTION]),
     (&[b"ca: all\n", CERT_LINE], &[SEVEN_OF_OTHER]),
     (&[b"\t", CERT_LINE, b" ca: all"], &[SEVEN_OF_OTHER]),
+    // Its serial number names it, and not the zero byte that is its key ID.
+    (&[CERT_OF_ZERO], &[SEVEN_OF_OTHER]),
     (&[b"key-blob: AQ=="], &[KEY_OF_ONE]),
     (&[b"hash: ", GITHUB_PRINT], &[SHA256_SECTION]),
     (
@@ -67,12 +75,31 @@ const EMPTY_ID: &[u8] = b"\x01\0\0\0\x11\0\0\0\0\0\0\0\0\x23\0\0\0\x04\0\0\0\0";
 
 const ID_WITH_FEED: &[u8] = b"\x01\0\0\0\x13\0\0\0\0\0\0\0\0\x23\0\0\0\x06\0\0\0\x02o\n";
 
+const ID_AS_KEY: &[u8] = b"\x01\0\0\0\x1a\0\0\0\0\0\0\0\0\x23\0\0\0\x0d\0\0\0\x09ssh-rsa A";
+
+const ID_OF_TYPE: &[u8] = b"\x01\0\0\0\x18\0\0\0\0\0\0\0\0\x23\0\0\0\x0b\0\0\0\x07ssh-rsa";
+
 const ID_OF_X: &[u8] = b"\x01\0\0\0\x13\0\0\0\x01x\0\0\0\0\x23\0\0\0\x05\0\0\0\x01a";
 
 const SEVEN_OF_OTHER: &[u8] = b"\x01\0\0\0\x48\0\0\0\x33\0\0\0\x0bssh-ed25519\0\0\0\x20\
 \x11\x11\x11\x11\x11\x11\x11\x11\x11\x11\x11\x11\x11\x11\x11\x11\
 \x11\x11\x11\x11\x11\x11\x11\x11\x11\x11\x11\x11\x11\x11\x11\x11\
 \0\0\0\0\x20\0\0\0\x08\0\0\0\0\0\0\0\x07";
+
+// A certificate whose key ID is a zero byte, with serial number 7 and with 0.
+const CERT_OF_ZERO: &[u8] = b"ssh-ed25519-cert-v01@openssh.com \
+AAAAIHNzaC1lZDI1NTE5LWNlcnQtdjAxQG9wZW5zc2guY29tAAAAAAAAACDjKqp5Fc65tEnRulDqKii7Gm4B\
++QvaJFotHYdpfRiiZQAAAAAAAAAHAAAAAQAAAAEAAAAAAAAAAAAAAAAA//////////8AAAAAAAAAAAAAAAAA\
+AAAzAAAAC3NzaC1lZDI1NTE5AAAAIBERERERERERERERERERERERERERERERERERERERERERAAAAUwAAAAtz\
+c2gtZWQyNTUxOQAAAEAAAAAAAAAAAAAAAAAAAAAAAAAAAAAAAAAAAAAAAAAAAAAAAAAAAAAAAAAAAAAAAAAA\
+AAAAAAAAAAAAAAAAAAAA";
+
+const CERT_BY_ZERO: &[u8] = b"ssh-ed25519-cert-v01@openssh.com \
+AAAAIHNzaC1lZDI1NTE5LWNlcnQtdjAxQG9wZW5zc2guY29tAAAAAAAAACDjKqp5Fc65tEnRulDqKii7Gm4B\
++QvaJFotHYdpfRiiZQAAAAAAAAAAAAAAAQAAAAEAAAAAAAAAAAAAAAAA//////////8AAAAAAAAAAAAAAAAA\
+AAAzAAAAC3NzaC1lZDI1NTE5AAAAIBERERERERERERERERERERERERERERERERERERERERERAAAAUwAAAAtz\
+c2gtZWQyNTUxOQAAAEAAAAAAAAAAAAAAAAAAAAAAAAAAAAAAAAAAAAAAAAAAAAAAAAAAAAAAAAAAAAAAAAAA\
+AAAAAAAAAAAAAAAAAAAA";
 
 const KEY_OF_ONE: &[u8] = b"\x02\0\0\0\x05\0\0\0\x01\x01";
 
@@ -89,7 +116,7 @@ fn what_texts_name(rt: HostRuntime) {
 }
 
 // The parts of a text, its first line with a fault, and how that fault prints.
-const REFUSED: [(&[&[u8]], u64, &str); 28] = [
+const REFUSED: [(&[&[u8]], u64, &str); 42] = [
     (&[b"serial: 5"], 1, "text 1 Spec, spec 4 NoAuthority"),
     (&[b"id: a"], 1, "text 1 Spec, spec 4 NoAuthority"),
     (&[b"\nid-hex: xx"], 2, "text 1 Spec, spec 4 NoAuthority"),
@@ -103,6 +130,26 @@ const REFUSED: [(&[&[u8]], u64, &str); 28] = [
     (&[b"ca: all\nid: # a"], 2, "text 1 Spec, spec 5 EmptyId"),
     (&[b"ca: all\n\nid: eve#1"], 3, "text 6 CutId"),
     (&[b"ca: all\nid:#1"], 2, "text 6 CutId"),
+    // A control character is no part of a key ID, as is a line feed.
+    (&[b"ca: all\nid: a\rid: b"], 2, "text 8 ControlInId"),
+    (&[b"ca: all\nid: a\rb # c"], 2, "text 8 ControlInId"),
+    (&[b"ca: all\nid:\ra"], 2, "text 8 ControlInId"),
+    (&[b"ca: all\nid: a\tb"], 2, "text 8 ControlInId"),
+    (&[b"ca: all\nid: \0"], 2, "text 8 ControlInId"),
+    (&[b"ca: all\nid: a\x1fb"], 2, "text 8 ControlInId"),
+    (&[b"ca: all\nid: a\x7f"], 2, "text 8 ControlInId"),
+    (&[b"id: a\rb"], 1, "text 8 ControlInId"),
+    (&[b"ca: all\nid-hex: 00"], 2, "text 9 ZeroInId"),
+    (&[b"ca: all\nid-hex: 610062"], 2, "text 9 ZeroInId"),
+    (&[b"\n ", CERT_BY_ZERO], 2, "text 9 ZeroInId"),
+    (&[b"id-hex: 00"], 1, "text 1 Spec, spec 4 NoAuthority"),
+    // A key is no key ID.
+    (&[b"ca: all\nid: ", OTHER_LINE], 2, "text 10 KeyAsId"),
+    (
+        &[b"ca: all\nid: ", CERT_LINE, b" # a"],
+        2,
+        "text 10 KeyAsId",
+    ),
     (&[b"ca: all\nid-hex: 6"], 2, "text 5 Hex"),
     (&[b"ca: all\nid-hex: 6g"], 2, "text 5 Hex"),
     (&[b"ca: all x"], 1, "text 1 Spec, spec 6 Key, line 1 NoKey"),
@@ -222,7 +269,7 @@ fn nothing_between_a_word_and_its_key(rt: HostRuntime) {
     }
 }
 
-// What stands before a fault is held, and nothing after it.
+// Entries before a fault are held, and none after it.
 #[test]
 fn up_to_a_fault(rt: HostRuntime) {
     let mut held: Revocations<Held> = Revocations::new(rt.alloc());

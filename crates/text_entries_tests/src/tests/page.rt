@@ -5,15 +5,16 @@ ghost use Rattle.krl_entries.specs.Revocations.{Revocations as RevocationsOf};
 ghost use Rattle.list_text.specs.Text.{text_of};
 ghost use Rattle.text_laws.specs.ReadBack.{IsStored};
 
+use byte_streams::Lent;
 use krl_core::Revocations;
 use list_making::Maker;
 use span_sets::Held;
 use std::alloc::Global;
 use text_entries::{TextFault, read_text};
 use text_laws::laws::text_reads_back;
-use text_run::{Inputs, MakeFault, read_texts};
+use text_run::{Inputs, MakeFault, Over, read_texts};
 
-/// What a text names.
+/// The names of a text.
 fn named_by(alloc: Global, text: &[u8]) -> Result<Revocations<Held>, TextFault> {
     let mut held = Revocations::new(alloc);
     read_text(alloc, &mut held, text)?;
@@ -23,10 +24,10 @@ fn named_by(alloc: Global, text: &[u8]) -> Result<Revocations<Held>, TextFault> 
 /// The bytes of a list that names what the texts name, and follows no other.
 fn list_of<'a>(alloc: Global, inputs: &'a Inputs<'a>) -> Result<Vec<u8>, MakeFault<'a>> {
     let list = read_texts(alloc, inputs)?;
-    Ok(list.make(alloc, None)?.bytes)
+    Ok(list.make(alloc, None::<Lent>)?.bytes)
 }
 
-/// What the text of a list names: if it was printed from stored revocations, the same.
+/// The names of the text of a list: if it was printed from stored revocations, the same.
 fn restored(alloc: Global, text: &[u8]) -> Result<Revocations<Held>, TextFault>
     ensures { (r : RevocationsOf) → IsStored r → text.now ≡ text_of r
         → IfOk result (λ held. held ≡ r) }
@@ -46,9 +47,10 @@ fn the_callers_of_the_pages(rt: HostRuntime) {
     assert!(rt; held.is_ok_and(|held| held.authorities() == 1));
     let inputs = Inputs {
         name: "revoked.krl",
+        over: Over::Version,
         version: None,
         date: 0,
-        comment: "",
+        comment: None,
         allow_empty: false,
         texts: &[],
     };

@@ -1,12 +1,13 @@
 //! Lists that are made of texts, and the lines about them.
 
+use byte_streams::Lent;
 use list_making::Maker;
 use run_faults::{Cause, FileFault};
 use ssh_wire::Bytes;
 use std::alloc::Global;
 use std::process::Abort;
 use test_fixtures::{FIVE, GITHUB_LINE, HEADER, KEY_SECTION, joined};
-use text_run::{Inputs, MakeFault, Text, fault_line, made_line, read_texts};
+use text_run::{Inputs, MakeFault, Over, Text, fault_line, made_line, read_texts};
 
 // A text of these parts, by the name `t`; without parts it cannot be opened.
 fn text(rt: &impl Abort, alloc: Global, parts: Option<&[&[u8]]>) -> Text<'static> {
@@ -14,16 +15,21 @@ fn text(rt: &impl Abort, alloc: Global, parts: Option<&[&[u8]]>) -> Text<'static
         Some(parts) => Ok(Bytes::from_vec(joined(alloc, parts).expect(rt, "there is memory"))),
         None => Err(Cause::File(FileFault::Open)),
     };
-    Text { name: "t", content }
+    Text {
+        name: "t",
+        is_file: true,
+        content,
+    }
 }
 
 // The list `r.krl` that is made of these texts.
 fn inputs<'a>(texts: &'a [Text<'a>], allow_empty: bool) -> Inputs<'a> {
     Inputs {
         name: "r.krl",
+        over: Over::Version,
         version: None,
         date: 0,
-        comment: "",
+        comment: None,
         allow_empty,
         texts,
     }
@@ -43,7 +49,9 @@ fn of_two_texts(rt: HostRuntime) {
     ];
     let inputs = inputs(&texts, false);
     let list = read_texts(alloc, &inputs).expect(&rt, "the texts are right");
-    let made = list.make(alloc, None).expect(&rt, "there is memory");
+    let made = list
+        .make(alloc, None::<Lent>)
+        .expect(&rt, "there is memory");
     let bytes = joined(alloc, &[&HEADER, FIVE, KEY_SECTION]).expect(&rt, "there is memory");
     assert!(rt; made.bytes == bytes);
     let line = made_line(alloc, "r.krl", 1, &list.revocations).expect(&rt, "there is memory");
@@ -95,8 +103,50 @@ fn faults(rt: HostRuntime) {
     }
 }
 
+// A text, whether it is a regular file, and whether it is refused since it has no entry.
+const MUTE: [(&[u8], bool, bool); 11] = [
+    (b"", true, true),
+    (b" \t\r\n\n", true, true),
+    (b"# c", true, false),
+    (b"# c", false, true),
+    (b"ca: all", true, false),
+    (b" CA:all\n", true, false),
+    (b"ca-blob: eA==", true, false),
+    (b"ca: all # c\n", false, true),
+    (b"", false, true),
+    (b"ca: all\n\nserial: 5", false, false),
+    (b"\nkey-blob: eA== # ca: all", false, false),
+];
+
+// The line about the fault of a text beside one that has an entry, or nothing.
+fn said_beside(rt: &impl Abort, alloc: Global, bytes: &[u8], is_file: bool) -> Vec<u8> {
+    let mut one = text(rt, alloc, Some(&[bytes]));
+    one.is_file = is_file;
+    let texts = [text(rt, alloc, Some(&[b"key-blob: AQ=="])), one];
+    let inputs = inputs(&texts, false);
+    let fault = read_texts(alloc, &inputs).err();
+    if let Some(fault) = &fault {
+        return said(rt, alloc, fault);
+    }
+    Vec::new(alloc)
+}
+
+#[test]
+fn texts_without_an_entry(rt: HostRuntime) {
+    let alloc = rt.alloc();
+    for (i, (bytes, is_file, is_refused)) in MUTE.iter().enumerate() {
+        let line = said_beside(&rt, alloc, *bytes, *is_file);
+        let want: &[u8] = if *is_refused {
+            b"krl: t: it has no entry, which --allow-empty allows [make 2 NoEntry]\n"
+        } else {
+            b""
+        };
+        assert!(rt; line.as_slice() == want, "in row {i}");
+    }
+}
+
 // A text, its line with a misspelt word, that word as it is shown, and the word that was meant.
-const MISSPELT: [(&[u8], &[u8], &[u8], &[u8]); 22] = [
+const MISSPELT: [(&[u8], &[u8], &[u8], &[u8]); 28] = [
     (b"serials: 5", b"1", b"serials", b"serial"),
     (b"ca: all\n# c\nseria: 5", b"3", b"seria", b"serial"),
     (b"\tSERIALS: 5\r\n", b"1", b"SERIALS", b"serial"),
@@ -104,6 +154,13 @@ const MISSPELT: [(&[u8], &[u8], &[u8], &[u8]); 22] = [
     (b"ids: a", b"1", b"ids", b"id"),
     (b"ca_blob: eA==", b"1", b"ca_blob", b"ca-blob"),
     (b"sha255: x", b"1", b"sha255", b"sha256"),
+    // Two neighbouring letters are exchanged.
+    (b"serail: 5", b"1", b"serail", b"serial"),
+    (b"SEIRAL: 5", b"1", b"SEIRAL", b"serial"),
+    (b"kye: x", b"1", b"kye", b"key"),
+    (b"hsah: x", b"1", b"hsah", b"hash"),
+    (b"Ac: all", b"1", b"Ac", b"ca"),
+    (b"idh-ex: 61", b"1", b"idh-ex", b"id-hex"),
     // The first of two words.
     (b"ia: x", b"1", b"ia", b"id"),
     // No byte of a text is printed that a terminal obeys, and none ends the quotes.
@@ -127,11 +184,12 @@ const MISSPELT: [(&[u8], &[u8], &[u8], &[u8]); 22] = [
 ];
 
 // Lines with a word that is two letters off, and with one behind something.
-const UNKNOWN: [&[u8]; 9] = [
-    b"serail: 5",
+const UNKNOWN: [&[u8]; 10] = [
     b"Serals: 5",
-    b"kye: x",
-    b"hsah: x",
+    b"sreail: 5",
+    b"ahhs: x",
+    b"yek: x",
+    b"\xef\xbbca: all",
     b"seri#ls: 5",
     b"no-pty,ca ssh-ed25519 AQ==",
     b"=ca: all",
@@ -140,7 +198,55 @@ const UNKNOWN: [&[u8]; 9] = [
 ];
 
 // Lines that begin with a word of a text or with the type of a key, but have no key.
-const KEYLESS: [&[u8]; 4] = [b"ca: ids: 5", b"ca: key", b"key:", b"ssh-ed25519"];
+const KEYLESS: [&[u8]; 8] = [
+    b"ca: ids: 5",
+    b"ca: key",
+    b"key:",
+    b"ssh-ed25519",
+    b"key: alice.pub bob.pub",
+    b"key: alice",
+    b"SHA256:x of alice",
+    b"sha256:x",
+];
+
+// Lines whose fault says what they may be meant as: the text, its line, and what is said.
+const MEANT: [(&[u8], &[u8], &[u8]); 15] = [
+    (b"SHA256:AAAA", b"1", NO_HASH),
+    (b"# c\n\tSHA1:AAAA \r\n", b"2", NO_HASH),
+    (b"key: alice.pub", b"1", NO_FILE),
+    (b"ca: all\nkey: /etc/ssh/host", b"2", NO_FILE),
+    (b"CA: ~/ca # the CA", b"1", NO_FILE),
+    (b"sha1: ./alice", b"1", NO_FILE),
+    (b"sha256: ../alice.pub", b"1", NO_FILE),
+    (b"sha256:alice.pub", b"1", NO_FILE),
+    (b"\xef\xbb\xbfca: all", b"1", MARKED),
+    (b"\xef\xbb\xbf# users\nca: all", b"1", MARKED),
+    (b"\xef\xbb\xbf", b"1", MARKED),
+    (b"ca: all\nid: a\rid: b", b"2", CONTROL),
+    (b"ca: all\nid-hex: 00", b"2", ZERO),
+    (b"ca: all\nid: ssh-ed25519 AAAA alice", b"2", KEY),
+    (b"ca: all\n\xef\xbb\xbf ca: all", b"2", UNKNOWN_WORD),
+];
+
+const NO_HASH: &[u8] =
+    b"a fingerprint needs \"hash:\" before it [text 1 Spec, spec 6 Key, line 1 NoKey]";
+
+const NO_FILE: &[u8] =
+    b"the key itself stands here, not its file [text 1 Spec, spec 6 Key, line 1 NoKey]";
+
+const MARKED: &[u8] = b"the file begins with a byte order mark [text 7 UnknownWord]";
+
+const CONTROL: &[u8] = b"a key ID has a control character, such as a tab or a carriage return: \
+use id-hex: [text 8 ControlInId]";
+
+const ZERO: &[u8] = b"OpenSSH takes no key ID with a zero byte: use serial: [text 9 ZeroInId]";
+
+const KEY: &[u8] = b"a key stands where a key ID belongs: use key:, or id-hex: for a key ID that \
+begins so [text 10 KeyAsId]";
+
+const UNKNOWN_WORD: &[u8] = b"a line begins with ca:, ca-blob:, serial:, id:, id-hex:, key:, \
+key-blob:, sha1:, sha256: or hash:, or with the type of a key, and nothing may be before it, such \
+as options [text 7 UnknownWord]";
 
 // The line about the fault of one text.
 fn said_of(rt: &impl Abort, alloc: Global, bytes: &[u8]) -> Vec<u8> {
@@ -170,6 +276,16 @@ fn misspelt_words(rt: HostRuntime) {
     }
 }
 
+#[test]
+fn what_lines_may_be_meant_as(rt: HostRuntime) {
+    let alloc = rt.alloc();
+    for (i, (text, line, said)) in MEANT.iter().enumerate() {
+        let parts: [&[u8]; 5] = [b"krl: t: line ", line, b": ", said, b"\n"];
+        let wanted = joined(alloc, &parts).expect(&rt, "there is memory");
+        assert!(rt; said_of(&rt, alloc, text) == wanted, "in row {i}");
+    }
+}
+
 // The line about the one fault of each of these texts.
 fn all_say(rt: &impl Abort, alloc: Global, texts: &[&[u8]], line: &[u8]) {
     for (i, text) in texts.iter().enumerate() {
@@ -179,10 +295,9 @@ fn all_say(rt: &impl Abort, alloc: Global, texts: &[&[u8]], line: &[u8]) {
 
 #[test]
 fn unknown_words(rt: HostRuntime) {
-    let line = b"krl: t: line 1: a line begins with ca:, ca-blob:, serial:, id:, id-hex:, key:, \
-key-blob:, sha1:, sha256: or hash:, or with the type of a key, and nothing may be before it, such \
-as options [text 7 UnknownWord]\n";
-    all_say(&rt, rt.alloc(), &UNKNOWN, line);
+    let line = joined(rt.alloc(), &[b"krl: t: line 1: ", UNKNOWN_WORD, b"\n"]);
+    let line = line.expect(&rt, "there is memory");
+    all_say(&rt, rt.alloc(), &UNKNOWN, line.as_slice());
 }
 
 #[test]
@@ -197,7 +312,9 @@ fn an_empty_list(rt: HostRuntime) {
     let alloc = rt.alloc();
     let inputs = inputs(&[], true);
     let list = read_texts(alloc, &inputs).expect(&rt, "it may be empty");
-    let made = list.make(alloc, None).expect(&rt, "there is memory");
+    let made = list
+        .make(alloc, None::<Lent>)
+        .expect(&rt, "there is memory");
     assert!(rt; made.bytes.as_slice() == HEADER.as_slice());
     let line = made_line(alloc, "r.krl", 1, &list.revocations).expect(&rt, "there is memory");
     assert!(rt; line.as_slice() == b"krl make: r.krl: version 1: nothing\n".as_slice());

@@ -2,6 +2,7 @@
 use Rattle.std.proofs.Common.{◌≡◌, ◌∙◌, sym, true, false}
 use Rattle.std.proofs.lemmas.Result.{IfOk-weaker}
 use Rattle.plain_list.specs.Any.{begins_list}
+use Rattle.any_list.proofs.Fronts.{file_read}
 use Rattle.any_list.proofs.Lists.{lines_are_list, whole_is_list}
 use Rattle.any_list.proofs.list.read_list.Goals as goal
 
@@ -24,3 +25,11 @@ pub returns-else-begins_list-clause-fault : goal.returns-else-begins_list-clause
 returns-else-begins_list-clause-fault c =
     let is : begins_list c.args.bytes.now ≡ false = sym c.begins_list.ensures ∙ c.if-begins_list.false in
     rw is c.read_lines.ensures.fault
+
+pub returns-then-begins_list-clause-front : goal.returns-then-begins_list-clause-front
+returns-then-begins_list-clause-front c = λ file is.
+    file_read c.args.hashed c.args.name.now c.args.bytes.now file c.read_whole.result is (returns-then-begins_list-clause-found c) (returns-then-begins_list-clause-fault c)
+
+pub returns-else-begins_list-clause-front : goal.returns-else-begins_list-clause-front
+returns-else-begins_list-clause-front c = λ file is.
+    file_read c.args.hashed c.args.name.now c.args.bytes.now file c.read_lines.result is (returns-else-begins_list-clause-found c) (returns-else-begins_list-clause-fault c)

@@ -21,12 +21,13 @@ pub returns-in-Ok-2 : goal.returns-in-Ok-2
 returns-in-Ok-2 g c = λ fits.
     let is = sym c.is_directory.ensures ∙ c.if-is_directory.false in
     let kind = sym c.is_file.ensures ∙ c.if-is_file.false in
-    met_went c.audit.result _ _ _ _
-    (neither c.look-found.result fits c.utf8.path c.look-found.ensures is (rw c.in-Ok.is kind) (rw c.in-Ok.is refl)) c.audit.ensures
+    met_went c.audit_other.result _ _ _ _
+    (neither c.look-found.result fits c.utf8.path c.look-found.ensures is (rw c.in-Ok.is kind) (rw c.in-Ok-2.is refl))
+    c.audit_other.ensures
 
 pub returns-in-Err : goal.returns-in-Err
 returns-in-Err g c = λ fits.
     let is = sym c.is_directory.ensures ∙ c.if-is_directory.false in
-    met_went c.audit-in-Err.result _ _ _ _
+    met_went c.audit.result _ _ _ _
     (neither c.look-found.result fits c.utf8.path c.look-found.ensures is (rw c.in-Err.is refl) (rw c.in-Err.is refl))
-    c.audit-in-Err.ensures
+    c.audit.ensures

@@ -5,8 +5,7 @@ use Rattle.audit_run.proofs.names.may_be_directory.Goals as goal
 
 pub returns-in-Ok : goal.returns-in-Ok
 returns-in-Ok g c =
-    behind c.in-Ok.found c.look-in-Ok.result c.in-Ok.ensures (sym c.is_link.ensures ∙ c.if-is_link.true) c.look-in-Ok.ensures
-    c.may_be_behind.ensures
+    behind c.in-Ok.found c.in-Ok.ensures (sym c.is_link.ensures ∙ c.if-is_link.true) c.may_be_wanted.ensures
 
 pub returns-in-Ok-2 : goal.returns-in-Ok-2
 returns-in-Ok-2 g c =

@@ -3,6 +3,7 @@ use Rattle.std.proofs.Common.{[], ◌∷◌, None, refl, inl}
 use Rattle.std.proofs.lemmas.Result.{err_from_is_err_and}
 use Rattle.audit_run.specs.Visits.{Skipped, refused}
 use Rattle.audit_run.specs.Walk.{entered, not_entered}
+use Rattle.audit_run.specs.declared.files.Skip.TheVariants as skips
 use Rattle.audit_run.proofs.Auditing.{goes_nothing}
 use Rattle.audit_run.proofs.walk.enter.Goals as goal
 
@@ -26,7 +27,7 @@ returns-in-Ok g c =
     let opens = rw (c.in-Ok.is, c.as_str-2.ensures.value, c.every_in-every.ensures, c.as_str.ensures.value)
     at c.in_ok-names.ensures.names in
     record {
-      visits = Skipped c.in-Ok.listing.skipped ∷ [];
+      visits = Skipped skips.ByName c.in-Ok.listing.skipped ∷ [];
       is = entered c.in-Ok.listing.names.items c.in-Ok.listing.skipped opens refl
           (rw (c.reverse.ensures.items, c.every_in-every.ensures, c.as_str.ensures.value) refl);
       meets = rw c.in_ok-names.ensures.kept at c.skip.ensures;

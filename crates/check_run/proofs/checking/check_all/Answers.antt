@@ -2,9 +2,10 @@
 use Rattle.std.proofs.Common.{[], ◌∙◌, ap}
 use Rattle.std.proofs.lemmas.Result.{err_from_is_err_and}
 use Rattle.show_run.proofs.Telling.{told_none}
+use Rattle.krl_entries.specs.Revocations.{Means}
 use Rattle.krl_audit.specs.declared.judge.Form.{Form}
 use Rattle.krl_audit.specs.declared.judge.Judge.{Judge}
-use Rattle.check_run.proofs.Judging.{all_checked, files_stop, list_stops}
+use Rattle.check_run.proofs.Judging.{ListLaws, all_checked, files_stop, list_stops}
 use Rattle.check_run.proofs.checking.check_all.Goals as goal
 
 abbrev form_in : Judge → Form
@@ -16,7 +17,8 @@ returns-in_err-check_list-clause-all g c =
     let given = c.args.job.given.now in
     let held = c.args.checker.now.auditor.judge.list.now in
     let read = c.requires.read in
-    let law = c.nobody_is_named.ensures held read.entries (rw c.requires.judge read.means) in
+    let means : Means held read.entries = rw c.requires.judge read.means in
+    let law : ListLaws held read.entries = record { nobody = c.nobody_is_named.ensures held read.entries means; authorities = c.authorities_are_counted.ensures held read.entries means } in
     let list = rw c.requires.refused at c.in_err-check_list.ensures.checks in
     rw (p.1, p.2) (record {
       told = [];
@@ -33,7 +35,8 @@ returns-in_err-check_files-clause-all g c =
     let given = c.args.job.given.now in
     let held = c.args.checker.now.auditor.judge.list.now in
     let read = c.requires.read in
-    let law = c.nobody_is_named.ensures held read.entries (rw c.requires.judge read.means) in
+    let means : Means held read.entries = rw c.requires.judge read.means in
+    let law : ListLaws held read.entries = record { nobody = c.nobody_is_named.ensures held read.entries means; authorities = c.authorities_are_counted.ensures held read.entries means } in
     let list = rw c.requires.refused at c.in_ok-check_list.ensures.checks in
     let all = rw c.in_ok-check_list.ensures.judge at c.in_err-check_files.ensures.checks in
     let files = all.are read.entries (rw c.requires.judge read.means) in
@@ -56,7 +59,8 @@ returns-clause-all g c =
     let given = c.args.job.given.now in
     let held = c.args.checker.now.auditor.judge.list.now in
     let read = c.requires.read in
-    let law = c.nobody_is_named.ensures held read.entries (rw c.requires.judge read.means) in
+    let means : Means held read.entries = rw c.requires.judge read.means in
+    let law : ListLaws held read.entries = record { nobody = c.nobody_is_named.ensures held read.entries means; authorities = c.authorities_are_counted.ensures held read.entries means } in
     let list = rw c.requires.refused at c.in_ok-check_list.ensures.checks in
     let all = rw c.in_ok-check_list.ensures.judge at c.in_ok-check_files.ensures.checks in
     let files = all.are read.entries (rw c.requires.judge read.means) in

@@ -1,18 +1,14 @@
 -- The list that was found is the one of the words.
-use Rattle.std.proofs.Common.{◌∙◌, ℕ, List, Option, ap, ap₂}
-use Rattle.std.specs.Prelude.{option_and_then}
+use Rattle.std.proofs.Common.{◌∙◌, ap}
 use Rattle.clap.specs.Matches.{found_of}
 use Rattle.clap.specs.Walk.{rows_of}
-use Rattle.krl_arguments.specs.Task.{check_with, has_wrong_age, if_whole}
+use Rattle.krl_arguments.specs.Task.{check_of_list, if_checks}
 use Rattle.krl_arguments.proofs.tasks.check_in.Goals as goal
 
 pub returns-in_ok-check_with-in-Some : goal.returns-in_ok-check_with-in-Some
 returns-in_ok-check_with-in-Some c =
-    let f = found_of c.args.found.now in
-    c.if_whole.ensures ∙ ap₂ if_whole c.has_wrong_age.ensures c.in_ok-check_with-in-Some.ensures
-    ∙ ap (λ (o : Option (List ℕ)). option_and_then (λ list. if_whole (has_wrong_age (rows_of f)) (check_with (rows_of f) list)) o) c.in-Some.ensures
+    let rows = rows_of (found_of c.args.found.now) in
+    c.if_checks.ensures ∙ ap (if_checks rows) c.in_ok-check_with-in-Some.ensures ∙ ap (check_of_list rows) c.in-Some.ensures
 
 pub returns-in-None : goal.returns-in-None
-returns-in-None c =
-    let f = found_of c.args.found.now in
-    ap (λ (o : Option (List ℕ)). option_and_then (λ list. if_whole (has_wrong_age (rows_of f)) (check_with (rows_of f) list)) o) c.in-None.ensures
+returns-in-None c = ap (check_of_list (rows_of (found_of c.args.found.now))) c.in-None.ensures

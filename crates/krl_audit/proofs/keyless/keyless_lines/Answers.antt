@@ -13,5 +13,5 @@ returns-then-is_container c = private_is_not c.args.name.now c.args.text.now (sy
 pub returns : goal.returns
 returns c =
     let kind = c.of-fronts.result in
-    let is = plain_is c.args.name.now c.args.text.now c.without_mark-text.result.now _ kind _ (sym c.is_container.ensures ∙ c.if-is_container.false) (c.of-fronts.ensures ∙ ap fronts_of c.as_bytes.ensures.value) c.without_mark-text.ensures c.split_line.ensures.lines in
+    let is = plain_is c.args.name.now c.args.text.now _ kind _ (sym c.is_container.ensures ∙ c.if-is_container.false) (c.of-fronts.ensures ∙ ap fronts_of c.as_bytes.ensures.value) c.split_line.ensures.lines in
     IfOk-weaker c.keyless.result _ _ (λ count e. e ∙ is) (c.keyless.ensures (outcomes_of kind c.split_line.result.0.now) (read_all kind (lines_left c.split_line.result.1)) c.in_ok-first.ensures (ap (read_all kind) c.split_line.ensures.lines))

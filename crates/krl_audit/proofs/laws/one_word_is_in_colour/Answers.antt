@@ -1,5 +1,5 @@
 -- Nothing of a line is an escape sequence but its one word in a colour.
-use Rattle.krl_audit.proofs.Painted.{key_painted, unread_painted}
+use Rattle.krl_audit.proofs.Painted.{key_painted, more_painted, unread_painted}
 use Rattle.krl_audit.proofs.laws.one_word_is_in_colour.Goals as goal
 
 pub returns-clause-key : goal.returns-clause-key
@@ -7,3 +7,6 @@ returns-clause-key c = key_painted c.string_is_read_back.ensures
 
 pub returns-clause-unread : goal.returns-clause-unread
 returns-clause-unread c = unread_painted
+
+pub returns-clause-more : goal.returns-clause-more
+returns-clause-more c = more_painted

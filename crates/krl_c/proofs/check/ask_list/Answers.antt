@@ -18,13 +18,13 @@ returns-in-Ok-compared c =
 pub returns-in-Ok : goal.returns-in-Ok
 returns-in-Ok c =
     let fits : SFits w32 c.of_list.result = search rules in
-    list_refused c.args.list.now c.in-Err-compared.refusal _ (λ _. record { subject = c.in-Ok.asked; is = c.in-Ok.ensures.found }) c.in-Err-compared.ensures.refused (same c.of_list.result fits ∙ c.of_list.ensures)
+    list_refused c.args.list.now c.in-Err-compared.refusal _ (λ _. record { subject = c.in-Ok.asked; is = c.in-Ok.ensures.found.subject }) c.in-Err-compared.ensures.refused (same c.of_list.result fits ∙ c.of_list.ensures)
 
 pub returns-in-Ok-judge : goal.returns-in-Ok-judge
 returns-in-Ok-judge c =
-    let fits : SFits w32 c.of_subject.result = search rules in
+    let fits : SFits w32 c.of_blob.result = search rules in
     let list = c.in-Ok-judge.ensures.list in
-    answered list.0 list.1 (refused list.0 c.args.blob.now c.in-Err.fault _ c.in-Err.ensures.fault (same c.of_subject.result fits ∙ c.of_subject.ensures))
+    answered list.0 list.1 (refused list.0 c.args.blob.now c.in-Err.fault _ c.in-Err.ensures.fault (same c.of_blob.result fits ∙ c.of_blob.ensures))
 
 pub returns : goal.returns
 returns c =

@@ -1,14 +1,13 @@
--- A list that was read is accepted or refused by its authorities.
-use Rattle.krl_c.proofs.Common.{◌∙◌, false≢true, sym}
+-- A list that was read is accepted or refused by its names.
 use Rattle.krl_c.proofs.AnswerMeaning.{compared, not_compared}
 use Rattle.krl_c.proofs.check.judge.Goals as goal
 
-pub returns-then-authorities_are_keys-clause-list : goal.returns-then-authorities_are_keys-clause-list
-returns-then-authorities_are_keys-clause-list c =
+pub returns-in-None-clause-list : goal.returns-in-None-clause-list
+returns-in-None-clause-list c =
     let found = c.in-Ok.ensures.list in let is = found.1 in
-    (found.0, compared c.args.list.now found.0 is ((c.authorities_are_keys.ensures is.header is.sections is.spelled).0 c.if-authorities_are_keys.true))
+    (found.0, compared c.args.list.now found.0 is c.first_incomparable.result (c.first_incomparable.ensures is.header is.sections is.spelled) c.in-None.is)
 
-pub returns-else-authorities_are_keys-clause-refused : goal.returns-else-authorities_are_keys-clause-refused
-returns-else-authorities_are_keys-clause-refused c =
+pub returns-in-Some-clause-refused : goal.returns-in-Some-clause-refused
+returns-in-Some-clause-refused c =
     let found = c.in-Ok.ensures.list in let is = found.1 in
-    not_compared c.args.list.now found.0 is (λ keys. false≢true (sym c.if-authorities_are_keys.false ∙ (c.authorities_are_keys.ensures is.header is.sections is.spelled).1 keys))
+    not_compared c.args.list.now found.0 is c.first_incomparable.result c.in-Some.why (c.first_incomparable.ensures is.header is.sections is.spelled) c.in-Some.is

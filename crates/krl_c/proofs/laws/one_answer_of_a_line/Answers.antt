@@ -9,4 +9,4 @@ returns c = λ list text one other fits bytes.
     list_once list (c.one_list.ensures list fits)
     (λ entries. line_once text (line_at text) (λ word blob comment. c.line_read_where_spelled.ensures.read text word blob comment) (λ fault. (c.line_refused_by_first_fault.ensures text fault bytes).1) entries
     (λ word blob comment is.
-    blob_once blob (subject_of blob) (λ asked. (c.asked_where_spelled.ensures blob asked is.bytes).1) (λ fault. (c.not_asked_by_first_fault.ensures blob fault is.bytes).1) entries)) one other
+    blob_once blob (subject_of blob) (record { subject = λ asked. (c.asked_where_spelled.ensures blob asked is.bytes).1; fault = λ fault. (c.not_asked_by_first_fault.ensures blob fault is.bytes).1 }) entries)) one other

@@ -15,5 +15,5 @@ returns-in-Ok c = λ entries means.
 
 pub returns : goal.returns
 returns c = λ entries means.
-    let fits : SFits w32 c.of_subject.result = search rules in
-    refused entries c.args.blob.now c.in-Err.fault _ c.in-Err.ensures.fault (same c.of_subject.result fits ∙ c.of_subject.ensures)
+    let fits : SFits w32 c.of_blob.result = search rules in
+    refused entries c.args.blob.now c.in-Err.fault _ c.in-Err.ensures.fault (same c.of_blob.result fits ∙ c.of_blob.ensures)

@@ -17,19 +17,19 @@ returns-in_default-take_string-clause-judged c = λ section first rest spells pa
 pub returns-in-Certificates-clause-judged : goal.returns-in-Certificates-clause-judged
 returns-in-Certificates-clause-judged c = λ section first rest spells parts.
     let next = next_is section first rest c.rest-bytes.result.now c.new.result c.in-Some.size c.in-Some.next spells (c.rest-bytes.ensures ∙ parts) c.in-Some.ensures.within c.in-Some.ensures.passes c.new.ensures in
-    judged_certificates section first rest c.new.result c.in-Some-take_string.content.now c.take_string.new.left c.begins_with_key.result c.in-Some.next spells next (c.in-SectionLength.is ∙ ap (λ (kind : SectionKind). places.SectionLength kind) c.in-Certificates.is) c.in-Some-take_string.ensures.text c.begins_with_key.ensures
+    judged_certificates c.args.why section first rest c.new.result c.in-Some-take_string.content.now c.take_string.new.left c.content_is_fine.result c.in-Some.next spells next (c.in-SectionLength.is ∙ ap (λ (kind : SectionKind). places.SectionLength kind) c.in-Certificates.is) c.in-Some-take_string.ensures.text c.content_is_fine.ensures
 
 pub returns-in-Field-clause-judged : goal.returns-in-Field-clause-judged
 returns-in-Field-clause-judged c = λ section first rest spells parts.
     let next = next_is section first rest c.rest-bytes.result.now c.new.result c.in-Some.size c.in-Some.next spells (c.rest-bytes.ensures ∙ parts) c.in-Some.ensures.within c.in-Some.ensures.passes c.new.ensures in
-    judged_signature section first rest c.new.result c.in-Some-take_string.content.now c.take_string.new.left c.skips_string.new.left c.skips_string.result c.in-Some.next c.in-Field.field c.in-Field.room_before c.in-Field.room_after spells next c.in-Field.is c.in-Some-take_string.ensures.text c.skips_string.ensures.text
+    judged_signature c.args.why section first rest c.new.result c.in-Some-take_string.content.now c.take_string.new.left c.skips_string.new.left c.skips_string.result c.in-Some.next c.in-Field.field c.in-Field.room_before c.in-Field.room_after spells next c.in-Field.is c.in-Some-take_string.ensures.text c.skips_string.ensures.text
 
 pub returns-in-Keys-clause-judged : goal.returns-in-Keys-clause-judged
 returns-in-Keys-clause-judged c = λ section first rest spells parts.
     let next = next_is section first rest c.rest-bytes.result.now c.new.result c.in-Some.size c.in-Some.next spells (c.rest-bytes.ensures ∙ parts) c.in-Some.ensures.within c.in-Some.ensures.passes c.new.ensures in
-    judged_plain section first rest c.new.result c.in-Some-take_string.content.now c.take_string.new.left c.in-Some.next spells next (is_plain c.in-Some.next c.in-SectionLength.section c.in-SectionLength.is c.in-Keys.is) c.in-Some-take_string.ensures.text
+    judged_plain c.args.why section first rest c.new.result c.in-Some-take_string.content.now c.take_string.new.left c.in-Some.next spells next (is_plain c.in-Some.next c.in-SectionLength.section c.in-SectionLength.is c.in-Keys.is) c.in-Some-take_string.ensures.text
 
 pub returns-in-Content-clause-judged : goal.returns-in-Content-clause-judged
 returns-in-Content-clause-judged c = λ section first rest spells parts.
     let next = next_is section first rest c.rest-bytes.result.now c.new.result c.in-Some.size c.in-Some.next spells (c.rest-bytes.ensures ∙ parts) c.in-Some.ensures.within c.in-Some.ensures.passes c.new.ensures in
-    judged_never section first rest c.new.result c.take_string.new.left c.in-Some.next spells next (is_other c.in-Some.next c.in-Content.is)
+    judged_never c.args.why section first rest c.new.result c.take_string.new.left c.in-Some.next spells next (is_other c.in-Some.next c.in-Content.is)

@@ -1,18 +1,20 @@
--- What is held is what the texts name.
-use Rattle.std.proofs.Common.{false, refl}
-use Rattle.std.specs.Prelude.{IsTrue}
-use Rattle.text_run.proofs.MadeLists.{texts_empty, texts_held}
+-- What is held is what the texts name, or they are refused.
+use Rattle.text_run.proofs.MadeLists.{texts_held, texts_too_little}
+use Rattle.text_run.specs.Over.{faulty}
+use Rattle.std.proofs.lemmas.Result.{err_from_is_err_and}
 use Rattle.text_run.proofs.listed.read_texts.Goals as goal
 
-pub returns-then-is_refused-clause-refused : goal.returns-then-is_refused-clause-refused
-returns-then-is_refused-clause-refused c =
+pub returns-in_err-add_texts-clause-refused : goal.returns-in_err-add_texts-clause-refused
+returns-in_err-add_texts-clause-refused c =
+    let p = err_from_is_err_and c.from_residual.result c.from_residual.ensures.1 in
+    rw (p.1, p.2) (faulty c.in_err-add_texts.ensures)
+
+pub returns-in-Some-clause-refused : goal.returns-in-Some-clause-refused
+returns-in-Some-clause-refused c =
     let adds = rw c.new-revocations.ensures.nothing at c.in_ok-add_texts.ensures in
-    let none = rw c.new-revocations.ensures.nothing at c.new-revocations.ensures.means in
-    let refused = c.if-is_refused.ensures.0 refl in
-    texts_empty c.args.inputs.now _ _ adds none refused.1 refused.0 c.whole.ensures
+    texts_too_little c.args.inputs.now c.add_texts.new.revocations c.in-Some.fault adds c.in-Some.ensures
 
 pub returns-clause-read : goal.returns-clause-read
 returns-clause-read c =
     let adds = rw c.new-revocations.ensures.nothing at c.in_ok-add_texts.ensures in
-    let none = rw c.new-revocations.ensures.nothing at c.new-revocations.ensures.means in
-    texts_held c.args.inputs.now _ adds none (λ strict same. let never : IsTrue false = c.if-is_refused.ensures.1 (strict, same) in absurd cc)
+    texts_held c.args.inputs.now c.add_texts.new.revocations adds c.in-None.ensures

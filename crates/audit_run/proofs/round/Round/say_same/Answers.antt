@@ -1,6 +1,6 @@
--- The name was printed and counted, or the audit was stopped within it.
+-- The name was counted, and printed if it is one of the first, or the audit was stopped within it.
 use Rattle.std.proofs.Common.{refl, sym}
-use Rattle.audit_run.specs.Visits.{Same}
+use Rattle.audit_run.specs.Visits.{Same, is_told}
 use Rattle.audit_run.proofs.Auditing.{met, met_stopped, not_more, same_gave_since}
 use Rattle.audit_run.proofs.round.Round.say_same.Goals as goal
 
@@ -9,8 +9,8 @@ returns-in-Err g c =
     rw (sym c.self.view_is, c.stop_by.ensures) (record {
       audits = record {
         judge = c.in-Err.ensures.judge;
-        audits = λ entries means. met_stopped _ (Same c.args.key c.args.name.now) c.in-Err.fault _ _
-            c.in-Err.ensures.said (rw (sym c.self.view_is) at c.requires);
+        audits = λ reasons judges. met_stopped _ (Same (is_told c.self.inside.files c.args.key) c.args.key c.args.name.now) c.in-Err.fault _ _
+            (rw c.is_told-is_told.ensures at c.in-Err.ensures.said) (rw (sym c.self.view_is) at c.requires, refl);
       };
       since = tt;
     })
@@ -20,9 +20,9 @@ returns g c =
     rw (sym c.self.view_is, c.show.ensures) (record {
       audits = record {
         judge = c.in_default.ensures.judge;
-        audits = λ entries means. met _ (Same c.args.key c.args.name.now) tt _ _
-            c.in_default.ensures.said (rw (sym c.self.view_is) at c.requires) (rw (c.count_same.ensures, c.in_default.ensures.counts) refl)
+        audits = λ reasons judges. met _ (Same (is_told c.self.inside.files c.args.key) c.args.key c.args.name.now) tt _ _
+            (rw c.is_told-is_told.ensures at c.in_default.ensures.said) (rw (sym c.self.view_is) at c.requires, refl) (rw (c.in_ok-count_same.ensures, c.in_default.ensures.counts) refl)
             (λ silent. not_more c.self.inside.auditor.counts.revoked);
       };
-      since = same_gave_since _ _ c.args.key c.args.name.now refl refl;
+      since = same_gave_since _ _ (is_told c.self.inside.files c.args.key) c.args.key c.args.name.now refl refl;
     })

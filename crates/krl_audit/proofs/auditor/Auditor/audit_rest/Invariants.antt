@@ -9,16 +9,17 @@ use Rattle.krl_entries.specs.declared.reasons.Reasons.{Reasons}
 use Rattle.krl_audit.specs.Audit.{JudgesAs, Told}
 use Rattle.krl_audit.specs.Outcome.{placed_from, read_all}
 use Rattle.krl_audit.specs.declared.counts.Counts.{Counts}
+use Rattle.krl_audit.specs.declared.tally.Tally.{Tally}
 use Rattle.krl_audit.proofs.auditor.Auditor.audit_rest.Given as goal
 
-abbrev pub invariant-loop-unread : goal.invariant-loop-unread
-invariant-loop-unread g l = record {
-  told : (reasons : Subject → Reasons) → JudgesAs l.initial.self.judge reasons → (result : Result ℕ RunFault) (new : Printer) (after : Counts)
-      → Told reasons l.initial.self.judge.shown l.name l.unread (placed_from (l.number + 1) (read_all l.fronts (slice_split is_newline l.rest))) result l.self.run.printer new l.self.counts after
-      → Told reasons l.initial.self.judge.shown l.name l.initial.unread (placed_from (l.initial.number + 1) (read_all l.fronts (slice_split is_newline l.fn.text))) result l.initial.self.run.printer new l.initial.self.counts after;
+abbrev pub invariant-loop-tally : goal.invariant-loop-tally
+invariant-loop-tally g l = record {
+  told : (reasons : Subject → Reasons) → JudgesAs l.initial.self.judge reasons → (result : Result Tally RunFault) (new : Printer) (after : Counts)
+      → Told reasons l.initial.self.judge.shown l.name l.tally (placed_from (l.number + 1) (read_all l.fronts (slice_split is_newline l.rest))) result l.self.run.printer new l.self.counts after
+      → Told reasons l.initial.self.judge.shown l.name l.initial.tally (placed_from (l.initial.number + 1) (read_all l.fronts (slice_split is_newline l.fn.text))) result l.initial.self.run.printer new l.initial.self.counts after;
   judge : l.self.judge ≡ l.initial.self.judge;
   within : l.number + length l.rest ≤ l.initial.number + length l.fn.text;
 }
 
-abbrev pub decreases-loop-unread : goal.decreases-loop-unread
-decreases-loop-unread g l = length l.rest
+abbrev pub decreases-loop-tally : goal.decreases-loop-tally
+decreases-loop-tally g l = length l.rest

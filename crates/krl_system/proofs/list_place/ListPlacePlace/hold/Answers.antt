@@ -2,11 +2,8 @@
 use Rattle.std.proofs.Common.{inl}
 use Rattle.krl_system.proofs.list_place.ListPlacePlace.hold.Goals as goal
 
-pub returns-in_err-old-clause-kept : goal.returns-in_err-old-clause-kept
-returns-in_err-old-clause-kept c = record { still = inl (λ content held. tt); later = λ was. tt }
-
-pub returns-in_err-self-clause-kept : goal.returns-in_err-self-clause-kept
-returns-in_err-self-clause-kept c = record { still = inl (λ content held. tt); later = λ was. tt }
+pub returns-in_err-reader_of-clause-kept : goal.returns-in_err-reader_of-clause-kept
+returns-in_err-reader_of-clause-kept c = record { still = inl (λ content held. tt); later = λ was. tt }
 
 pub returns-in-Some-clause-kept : goal.returns-in-Some-clause-kept
 returns-in-Some-clause-kept c = record { still = inl (λ content held. tt); later = λ was. tt }
@@ -14,14 +11,11 @@ returns-in-Some-clause-kept c = record { still = inl (λ content held. tt); late
 pub returns-in_err-lock-clause-kept : goal.returns-in_err-lock-clause-kept
 returns-in_err-lock-clause-kept c = record { still = inl (λ content held. tt); later = λ was. tt }
 
-pub returns-in_err-old-2-clause-kept : goal.returns-in_err-old-2-clause-kept
-returns-in_err-old-2-clause-kept c = record { still = inl (λ content held. tt); later = λ was. tt }
+pub returns-then-is_read-clause-kept : goal.returns-then-is_read-clause-kept
+returns-then-is_read-clause-kept c = record { still = inl (λ content held. tt); later = λ was. tt }
 
-pub returns-then-not-is_read-clause-kept : goal.returns-then-not-is_read-clause-kept
-returns-then-not-is_read-clause-kept c = record { still = inl (λ content held. tt); later = λ was. tt }
+pub returns-else-is_read-clause-kept : goal.returns-else-is_read-clause-kept
+returns-else-is_read-clause-kept c = record { still = inl (λ content held. tt); later = λ was. tt }
 
 pub returns-clause-kept : goal.returns-clause-kept
 returns-clause-kept c = record { still = inl (λ content held. tt); later = λ was. tt }
-
-pub returns-in_err-follow-clause-kept : goal.returns-in_err-follow-clause-kept
-returns-in_err-follow-clause-kept c = record { still = inl (λ content held. tt); later = λ was. tt }

@@ -1,0 +1,140 @@
+//! The lines of a file that are only counted.
+
+ghost use Rattle.std.specs.Prelude.{◌≡◌, ◌∷◌, ◌++◌, [], OnOk};
+ghost use Rattle.json_lines.specs.Field.{fields_tokens, json_line};
+ghost use Rattle.krl_audit.specs.Colour.{word_text};
+ghost use Rattle.krl_audit.specs.More.{are_more, kind_mark, kind_word, more_fields, more_line};
+ghost use Rattle.krl_audit.specs.More.{more_object, more_said, more_words, why_more};
+
+use crate::colour::{Mark, unread_mark, verdict_mark};
+use crate::counts::LineKind;
+use crate::judge::Form;
+use crate::text::Location;
+use json_lines::{LineWriter, put_number, put_text, put_word};
+use line_pieces::{Printed, Words, put};
+use std::alloc::{AllocError, Global};
+
+/// The number of lines of a file that are not printed one by one, of one kind.
+#[derive(Clone, Copy)]
+pub(crate) struct More {
+    pub(crate) kind: LineKind,
+    pub(crate) lines: u64,
+}
+
+// The words about them.
+impl Printed for More {
+    ghost text = { λ more. more_words more.kind more.lines };
+
+    fn push_to(&self, out: &mut Vec<u8>) -> Result<(), AllocError> {
+        put!(out; b"and ", self.lines, Words(are_more(self.lines == 1)),
+            Words(kind_word(self.kind).as_bytes()))
+    }
+}
+
+/// Makes the line about them.
+pub(crate) fn write_more(
+    alloc: Global,
+    form: Form,
+    name: &str,
+    more: More,
+    line: &mut Vec<u8>,
+) -> Result<(), AllocError>
+    ensures { OnOk result (line.new.items ≡ more_said form name.now more.kind more.lines) }
+{
+    match form {
+        Form::Text => write_more_line(false, name, more, line),
+        Form::Colour => write_more_line(true, name, more, line),
+        Form::Json => write_more_object(alloc, name, more, line),
+    }
+}
+
+// Makes the line in words, in colour or not.
+fn write_more_line(
+    coloured: bool,
+    name: &str,
+    more: More,
+    line: &mut Vec<u8>,
+) -> Result<(), AllocError>
+    ensures { OnOk result (line.new.items
+        ≡ more_line coloured name.now more.kind more.lines) }
+{
+    line.clear();
+    put!(line; Location { name, number: 0 }, kind_mark(coloured, more.kind), more, b"\n")
+}
+
+// Makes the object.
+fn write_more_object(
+    alloc: Global,
+    name: &str,
+    more: More,
+    line: &mut Vec<u8>,
+) -> Result<(), AllocError>
+    ensures { OnOk result (line.new.items
+        ≡ json_line (more_object name.now more.kind more.lines)) }
+{
+    let mut out = LineWriter::object(alloc)?;
+    put_more(alloc, &mut out, name, more)?;
+    *line = out.end_object()?;
+    Ok(())
+}
+
+// Writes the fields of the object.
+fn put_more(alloc: Global, out: &mut LineWriter, name: &str, more: More) -> Result<(), AllocError>
+    ensures { OnOk result (out.new
+        ≡ out.old ++ fields_tokens (more_fields name.now more.kind more.lines)) }
+{
+    put_word(out, "file", name)?;
+    put_word(out, "status", kind_word(more.kind))?;
+    put_number(out, "count", more.lines)?;
+    put_why(alloc, out, more)?;
+    Ok(())
+}
+
+// Writes the words about lines that are not read.
+#[tactic(auto, unfolding(json_lines::specs::Field::fields_tokens))]
+fn put_why(alloc: Global, out: &mut LineWriter, more: More) -> Result<(), AllocError>
+    ensures { OnOk result (out.new ≡ out.old ++ fields_tokens (why_more more.kind more.lines)) }
+{
+    match more.kind {
+        LineKind::Unread => {
+            let mut words = Vec::new(alloc);
+            put!(&mut words; more)?;
+            put_text(alloc, out, "why", &words)
+        }
+        LineKind::Empty | LineKind::Distrusted | LineKind::Fine | LineKind::Revoked => Ok(()),
+    }
+}
+
+// The word of a kind. Lines of the other two kinds are not printed.
+fn kind_word(kind: LineKind) -> &'static str
+    ensures { result.now ≡ kind_word kind }
+{
+    match kind {
+        LineKind::Revoked => "revoked",
+        LineKind::Fine => "ok",
+        LineKind::Empty | LineKind::Distrusted | LineKind::Unread => "unread",
+    }
+}
+
+// The same between colons, in colour or not.
+fn kind_mark(coloured: bool, kind: LineKind) -> Mark
+    ensures { word_text result.coloured result.colour.now result.word.now
+        ≡ kind_mark coloured kind }
+{
+    match kind {
+        LineKind::Revoked => verdict_mark(coloured, true),
+        LineKind::Fine => verdict_mark(coloured, false),
+        LineKind::Empty | LineKind::Distrusted | LineKind::Unread => unread_mark(coloured),
+    }
+}
+
+// The words behind the number of lines.
+fn are_more(one: bool) -> &'static [u8]
+    ensures { result.now ≡ are_more one }
+{
+    if one {
+        b" more line is "
+    } else {
+        b" more lines are "
+    }
+}

@@ -1,0 +1,72 @@
+-- The form that a line with a fault may be meant in.
+use Rattle.std.specs.Prelude.{ℕ, ◌==◌, ◌&&◌, ◌||◌, not, nat_eq, Bool, if◌then◌else◌, List, [], ◌∷◌}
+use Rattle.std.specs.Prelude.{codes, false, is_some, Option, Some, None, option_map}
+use Rattle.std.specs.List.{ends_with, starts_with}
+use Rattle.key_text.specs.declared.line_fault.LineFault.TheVariants as lines
+use Rattle.keyed_lines.specs.declared.key_cause.KeyCause.TheVariants as keys
+use Rattle.krl_spec.specs.Blanks.{bare_line}
+use Rattle.run_faults.specs.declared.spec_cause.SpecCause.TheVariants as specs
+use Rattle.text_entries.specs.Misspelt.{misspelt_in, numbered_line}
+use Rattle.text_entries.specs.Values.{has_blank}
+use Rattle.text_entries.specs.Word.{Order, order_in}
+use Rattle.text_entries.specs.declared.hint.Hint.{Hint}
+use Rattle.text_entries.specs.declared.hint.Hint.TheVariants.{Misspelt, Fingerprint, KeyFile}
+use Rattle.text_entries.specs.declared.hint.Hint.TheVariants.{ByteOrderMark}
+use Rattle.text_entries.specs.declared.text_cause.TextCause.{TextCause}
+use Rattle.text_entries.specs.declared.text_cause.TextCause.TheVariants as causes
+
+-- ---- a line that begins neither with a word nor with a key
+
+-- the byte order mark of UTF-8
+abbrev pub mark : List ℕ
+mark = 239 ∷ 187 ∷ 191 ∷ []
+
+-- The first line may begin with a byte order mark, and otherwise its word may be misspelt.
+abbrev pub word_hint : (content : List ℕ) → (number : ℕ) → Option Hint
+word_hint content number =
+    if number == 1 && starts_with nat_eq content mark then Some ByteOrderMark
+    else option_map Misspelt (misspelt_in content)
+
+-- ---- a line that lacks its key
+
+-- one word that begins as a fingerprint
+abbrev pub is_print : List ℕ → Bool
+is_print text =
+    (starts_with nat_eq text (codes "SHA256:") || starts_with nat_eq text (codes "SHA1:"))
+    && not (has_blank text)
+
+-- one word that ends as the name of a key's file, or begins as a path
+abbrev pub is_file_name : List ℕ → Bool
+is_file_name text =
+    not (has_blank text)
+    && (ends_with nat_eq text (codes ".pub") || (starts_with nat_eq text (codes "/")
+    || (starts_with nat_eq text (codes "~") || starts_with nat_eq text (codes "."))))
+
+abbrev pub given_hint : (content : List ℕ) → Option Order → Option Hint
+given_hint content None = None
+given_hint content (Some order) =
+    if is_print content then Some Fingerprint
+    else if is_file_name order.given then Some KeyFile
+    else None
+
+-- A fingerprint without its word begins as `sha1:` and `sha256:` do, which need a key.
+abbrev pub key_hint : (content : List ℕ) → Option Hint
+key_hint content = given_hint content (order_in content)
+
+-- ---- any line
+
+abbrev pub line_hint : TextCause → ℕ → Option (List ℕ) → Option Hint
+line_hint cause number None = None
+line_hint causes.UnknownWord number (Some line) = word_hint (bare_line line) number
+line_hint (causes.Spec (specs.Key (keys.Line lines.NoKey))) number (Some line) =
+    key_hint (bare_line line)
+line_hint cause number (Some line) = None
+
+-- what the line of a text that has this fault may be meant as
+unfoldable pub hint_at : List ℕ → ℕ → TextCause → Option Hint
+hint_at text number cause = line_hint cause number (numbered_line text number)
+
+-- The line begins with a word of texts and a colon.
+abbrev pub has_word : (line : Option (List ℕ)) → Bool
+has_word None = false
+has_word (Some line) = is_some (order_in (bare_line line))
