@@ -1,15 +1,10 @@
 -- A field store that gains the entries of other revocations.
-use Rattle.krl_core.proofs.Common.{[], ◌++◌, ◌+◌, ◌<◌, ◌∙◌, ◌∷◌, ◌≡◌, Adds, All, ap, append-nil}
-use Rattle.krl_core.proofs.Common.{append_assoc, arith, drop, Entry, Err, FieldStore, Gains, inl}
-use Rattle.krl_core.proofs.Common.{inr, IsInScope, length, List, NamesSame, None, Ok, Option}
-use Rattle.krl_core.proofs.Common.{option_to_list, refl, Result, run_entries, Some, Span}
-use Rattle.krl_core.proofs.Common.{StoresEntries, subst, sym, take-append-drop, ℕ}
-use Rattle.serial_set.specs.BitRuns.{IsInterval}
-use Rattle.serial_set.specs.Iteration.{IsPiece, left, next_of, since}
-use Rattle.serial_set.specs.Span.{AreSerials, Covers, IsRuns, RunsFrom}
-use Rattle.serial_set.proofs.RunIteration.{iteration_continues, since_runs, since_to}
-use Rattle.std.proofs.Common.{max, OnErr}
-use Rattle.std.proofs.lemmas.List.Elements.{All-cons, All-head, All-nil, All-tail, All-take}
+use Rattle.krl_core.proofs.Common.{[], ◌++◌, ◌∙◌, ◌∷◌, ◌≡◌, Adds, All, ap, append-nil, append_assoc}
+use Rattle.krl_core.proofs.Common.{Entry, Err, FieldStore, Gains, IsInScope, List, NamesSame, None, Ok}
+use Rattle.krl_core.proofs.Common.{Option, option_to_list, refl, Result, run_entries, Span}
+use Rattle.krl_core.proofs.Common.{StoresEntries, subst, sym, ℕ}
+use Rattle.std.proofs.Common.{OnErr}
+use Rattle.std.proofs.lemmas.List.Elements.{All-head, All-tail}
 use Rattle.std.specs.Prelude.{◌≢◌}
 
 gains_none : (k : FieldStore) → Gains k [] k
@@ -88,27 +83,6 @@ next_holds P (y ∷ done) rest x all = next_holds P done rest x (All-tail P y (d
 
 pub gained_next : {X : Type 0} (P : X → Type 0) (entries : List X → List Entry) (all rest : List X) (x : X) (old now : FieldStore) → All P all → IsGained entries all (x ∷ rest) old now → P x
 gained_next P entries all rest x old now holds h = next_holds P h.done rest x (subst (All P) h.parts holds)
-
--- ---- the pieces of a set
-
-intervals : (a : ℕ) (spans : List Span) → RunsFrom a spans → ((s : ℕ) → Covers spans s → 0 < s) → All IsInterval spans
-intervals a [] runs above = All-nil IsInterval
-intervals a (x ∷ xs) runs above =
-    All-cons IsInterval x xs (above x.lo (inl (omega arith, runs.1)), runs.1) (intervals (x.hi + 2) xs runs.2 (λ s h. above s (inr h)))
-
-pub piece_intervals : (spans piece : List Span) (n : ℕ) → IsRuns spans → AreSerials spans → IsPiece spans n piece → All IsInterval piece
-piece_intervals spans piece n runs serials is =
-    subst (All IsInterval) (sym is.front) (All-take IsInterval (length piece) (since n spans)
-    (intervals (max 0 n) (since n spans) (since_runs 0 n spans runs) (λ s h. (serials s (since_to 0 n spans s runs h).0).0)))
-
--- what is left are the spans of a piece and those after it
-pub spans_left : (spans piece : List Span) (n : ℕ) (before next : Option ℕ) → IsRuns spans → AreSerials spans → before ≡ Some n → IsPiece spans n piece → next ≡ next_of piece
-    → left before spans ≡ piece ++ left next spans
-spans_left spans piece n before next runs serials at is then =
-    let k = length piece in
-    let rest : left next spans ≡ drop k (since n spans) = ap (λ (o : Option ℕ). left o spans) then ∙ iteration_continues spans piece n runs serials is in
-    ap (λ (o : Option ℕ). left o spans) at ∙ sym (take-append-drop k (since n spans)) ∙ ap (λ (xs : List Span). xs ++ drop k (since n spans)) (sym is.front)
-    ∙ ap (λ (xs : List Span). piece ++ xs) (sym rest)
 
 -- ---- an allocation that failed
 

@@ -27,3 +27,5 @@ pub mod AddedMeaning
 pub mod SkippedSerials
 pub mod SeparateSections
 pub mod Gathering
+pub mod SerialsLeft
+pub mod FactsLeft

@@ -13,3 +13,5 @@ pub mod Tested
 pub mod Reasons
 pub mod Canonical
 pub mod Gathered
+pub mod Facts
+pub mod Serials

@@ -1,8 +1,10 @@
 //! The contents of revocations, in order.
 ghost use Rattle.std.specs.Prelude.{◌≡◌, ◌↔◌, ◌<◌, IsTrue, length, Some, slice_get, sum_by};
+ghost use Rattle.krl_entries.specs.Facts.{facts_of};
 ghost use Rattle.krl_entries.specs.Revocations.{IsOrderly, held, nothing};
 
 use crate::entries_by_authority::EntriesByAuthority;
+use crate::facts::Facts;
 use crate::listed::{Authorities, Listed};
 use crate::revocations::Revocations;
 use crate::texts::Texts;
@@ -40,6 +42,19 @@ impl<S: Spans> Revocations<S> {
         ensures { result ≡ self.now.sections }
     {
         self.sections.iter()
+    }
+
+    /// An iterator over all stored entries: each authority with its serial numbers and its key IDs,
+    /// then keys, SHA-1 and SHA-256 hashes.
+    pub fn facts(&self) -> Facts<'_, S>
+        ensures { result ≡ facts_of self.now }
+    {
+        Facts::over(
+            self.iter_authorities(),
+            self.iter_keys(),
+            self.iter_sha1s(),
+            self.iter_sha256s(),
+        )
     }
 
     /// How many spans of serials all authorities have together. The call visits each authority.

@@ -1,9 +1,9 @@
 -- The names that most proofs of this crate cite, passed on from one place. Declares nothing.
-pub use Rattle.std.proofs.Common.{[], ◌*◌, ◌++◌, ◌+◌, ◌<◌, ◌==◌, ◌∙◌, ◌∷◌, ◌≡◌, ◌≢◌, ◌≤◌, add-one}
-pub use Rattle.std.proofs.Common.{ap, append_assoc, ap₂, arith, Bool, drop, drop-cons, Err, false}
-pub use Rattle.std.proofs.Common.{flat_map, get_or, IfOk, inl, inr, IsErr, length, List, map, None}
+pub use Rattle.std.proofs.Common.{[], ◌*◌, ◌++◌, ◌+◌, ◌<◌, ◌==◌, ◌∙◌, ◌∷◌, ◌≡◌, ◌≢◌, ◌≤◌}
+pub use Rattle.std.proofs.Common.{ap, append_assoc, ap₂, arith, Bool, Err, false}
+pub use Rattle.std.proofs.Common.{get_or, IfOk, inl, inr, length, List, map, None}
 pub use Rattle.std.proofs.Common.{Ok, Option, refl, Result, slice_index_or, Some, subst, sym, take}
-pub use Rattle.std.proofs.Common.{take-append-drop, true, ℕ}
+pub use Rattle.std.proofs.Common.{true, ℕ}
 pub use Rattle.run_faults.specs.Keys.{FileKey, GivesKey, IsRefused, keys_of, Named}
 pub use Rattle.run_faults.specs.RunFault.{ended_by, krl_cause, run_fault_of, RunFault}
 pub use Rattle.run_faults.specs.Sizes.{blob_room, file_size, files_size, key_room, keys_room}
@@ -16,20 +16,17 @@ pub use Rattle.run_output.specs.Run.{subject_item, unanswered_of}
 unfoldable pub use Rattle.run_output.specs.Run.{file_items, files_items}
 pub use Rattle.krl_format.specs.Entries.{entries_of}
 pub use Rattle.krl_format.specs.declared.header.Header.{Header}
-pub use Rattle.krl_queries.specs.Questions.{Asks, AsksMore, HasCert, names_size}
+pub use Rattle.krl_queries.specs.Questions.{Asks, AsksMore, names_size}
 pub use Rattle.krl_queries.specs.Questions.{serials_in, subject_size}
 pub use Rattle.krl_entries.specs.Reasons.{is_revoked, revokes}
-pub use Rattle.krl_entries.specs.Revocations.{IsOrderly, Means, nothing, Revocations, Section}
+pub use Rattle.krl_entries.specs.Revocations.{IsOrderly, Means, nothing, Revocations}
 pub use Rattle.krl_entries.specs.Revocations.{stored}
-pub use Rattle.krl_runs.specs.Contents.{all_said, authority_line, comment_line, comment_lines}
+pub use Rattle.krl_runs.specs.Contents.{all_said, comment_line, comment_lines}
 pub use Rattle.krl_runs.specs.Contents.{date_line, dump_text, fact_line, Known, known_lines}
-pub use Rattle.krl_runs.specs.Contents.{known_of, serials_line, version_line}
+pub use Rattle.krl_runs.specs.Contents.{known_of, version_line}
 unfoldable pub use Rattle.krl_runs.specs.Contents.{contents_lines, header_lines}
-unfoldable pub use Rattle.krl_runs.specs.Contents.{section_lines}
 pub use Rattle.krl_runs.specs.Query.{answer_of, AnswersAbout, ask, ask_by, asked, dumped}
 pub use Rattle.krl_runs.specs.Query.{HasEntries, IsHeld}
 unfoldable pub use Rattle.krl_runs.specs.Query.{asked_run_of, query_run_of}
-pub use Rattle.krl_types.specs.declared.item_kind.ItemKind.TheVariants.{Id, Key, Sha1, Sha256}
 pub use Rattle.krl_types.specs.Subject.{CertNames, Subject}
-pub use Rattle.serial_set.specs.Iteration.{IsPiece, left, next_of, since, steps}
 pub use Rattle.std.proofs.lemmas.Result.{err_from_is_err_and}

@@ -1,18 +1,11 @@
 -- The lines of a list's contents that are printed so far.
-use Rattle.krl_runs.proofs.Common.{[], ◌++◌, ◌+◌, ◌<◌, ◌==◌, ◌∙◌, ◌∷◌, ◌≡◌, add-one, all_said, ap}
-use Rattle.krl_runs.proofs.Common.{append_assoc, arith, authority_line, carries_more}
-use Rattle.krl_runs.proofs.Common.{carries_none, carries_then, comment_line, comment_lines}
-use Rattle.krl_runs.proofs.Common.{contents_lines, date_line, drop, drop-cons, Err, fact_line}
-use Rattle.krl_runs.proofs.Common.{false, flat_map, get_or, Header, header_lines, Id}
-use Rattle.krl_runs.proofs.Common.{IsPiece, Item, Key, Known, known_lines, left, length, List}
-use Rattle.krl_runs.proofs.Common.{map, next_of, Ok, Option, refl, Result, Revocations, RunFault}
-use Rattle.krl_runs.proofs.Common.{said_of, Section, section_lines, serials_line, Sha1, Sha256}
-use Rattle.krl_runs.proofs.Common.{Some, subst, sym, true, version_line, ℕ}
+use Rattle.krl_runs.proofs.Common.{[], ◌++◌, ◌==◌, ◌∙◌, ◌∷◌, ◌≡◌, all_said, ap, append_assoc, arith}
+use Rattle.krl_runs.proofs.Common.{carries_more, carries_none, carries_then, comment_line}
+use Rattle.krl_runs.proofs.Common.{comment_lines, contents_lines, date_line, Err, false, Header}
+use Rattle.krl_runs.proofs.Common.{header_lines, Item, Known, known_lines, length, List, Ok, refl}
+use Rattle.krl_runs.proofs.Common.{Result, RunFault, said_of, subst, sym, true, version_line, ℕ}
 use Rattle.std.proofs.lemmas.List.{map-append}
 use Rattle.std.proofs.lemmas.Bool.Decides.{nat_tests}
-use Rattle.serial_set.specs.declared.span.Span.{Span}
-use Rattle.serial_set.specs.Span.{IsRuns, AreSerials}
-use Rattle.krl_core.proofs.GainedEntries.{spans_left}
 use Rattle.run_output.specs.Carries.{Carries}
 use Rattle.run_output.specs.Printer.{Printer}
 
@@ -59,15 +52,6 @@ last_said {B} name all lines result old mid new is carries =
     let items : all_said name all ≡ all_said name is.done ++ all_said name lines = ap (all_said name) is.parts ∙ both_said name is.done lines in
     subst (λ (items : List Item). Carries {A = B} items result old new) (sym items) (carries_then (all_said name is.done) (all_said name lines) tt result old mid new is.carried carries)
 
--- the lines of some authorities, and of the keys and the hashes
-abbrev pub held_lines : List Section → Revocations → List (List ℕ)
-held_lines sections r =
-    flat_map section_lines sections ++ (map (fact_line Key) r.keys ++ (map (fact_line Sha1) r.sha1s ++ map (fact_line Sha256) r.sha256s))
-
-pub held_first : (name : List ℕ) (r : Revocations) (now : Printer) → IsSaid name (contents_lines r) (held_lines r.sections r) now now
-unfolding contents_lines
-held_first name r now = none_said name (contents_lines r) now
-
 -- the lines of a header are those of its version, its date and its comment
 pub header_started : (name : List ℕ) (header : Header) (now : Printer)
     → IsSaid name (header_lines header) (version_line header.version ∷ date_line header.date ∷ comment_lines header.comment) now now
@@ -82,29 +66,6 @@ no_comment (byte ∷ bytes) none = absurd (grind (arith, nat_tests))
 pub some_comment : (comment : List ℕ) → (length comment == 0) ≡ false → comment_lines comment ≡ comment_line comment ∷ []
 some_comment [] some = absurd cc
 some_comment (byte ∷ bytes) some = refl
-
--- the spans from a place on are the one there and the others
-pub spans_next : (spans : List Span) (i : ℕ) (d : Span) → i < length spans
-    → map serials_line (drop i spans) ≡ serials_line (get_or spans i d) ∷ map serials_line (drop (i + 1) spans)
-spans_next spans i d lt =
-    let parts : drop i spans ≡ get_or spans i d ∷ drop (i + 1) spans = rw add-one (drop-cons spans i d lt) in
-    ap (λ (xs : List Span). map serials_line xs) parts
-
--- or those of a piece and the others, where an iteration continues
-pub piece_next : (spans piece : List Span) (n : ℕ) (before next : Option ℕ) → IsRuns spans → AreSerials spans → before ≡ Some n → IsPiece spans n piece → next ≡ next_of piece
-    → map serials_line (left before spans) ≡ map serials_line piece ++ map serials_line (left next spans)
-piece_next spans piece n before next r fits b p e =
-    ap (λ (xs : List Span). map serials_line xs) (spans_left spans piece n before next r fits b p e) ∙ map-append serials_line piece (left next spans)
-
--- the lines of an authority and those of the others
-pub held_next : (section : Section) (rest : List Section) (r : Revocations) → held_lines (section ∷ rest) r ≡ section_lines section ++ held_lines rest r
-held_next section rest r =
-    append_assoc (section_lines section) (flat_map section_lines rest) (map (fact_line Key) r.keys ++ (map (fact_line Sha1) r.sha1s ++ map (fact_line Sha256) r.sha256s))
-
-pub section_started : (name : List ℕ) (section : Section) (now : Printer)
-    → IsSaid name (section_lines section) (authority_line section.authority ∷ (map serials_line section.spans ++ map (fact_line Id) section.ids)) now now
-unfolding section_lines
-section_started name section now = none_said name (section_lines section) now
 
 -- ---- the contents
 

@@ -1,7 +1,7 @@
 -- The printed contents of a list (ssh-keygen(1), options -Q and -l): a line for each fact.
 use Rattle.std.specs.Prelude.{ℕ, ◌==◌, if◌then◌else◌, List, [], ◌∷◌, ◌++◌, codes}
 use Rattle.std.specs.Prelude.{decimal, length, map}
-use Rattle.std.specs.List.{concat, flat_map}
+use Rattle.std.specs.List.{concat}
 use Rattle.base64.specs.Engines.{standard}
 use Rattle.base64.specs.GeneralPurpose.{encode_of}
 use Rattle.hex.specs.Hex.{encode_lower}
@@ -10,7 +10,8 @@ use Rattle.key_text.specs.declared.hash.Hash.TheVariants.{Sha256}
 use Rattle.key_text.specs.Fingerprints.{fingerprint_text, unpadded}
 use Rattle.ssh_cert.specs.Escape.{escaped}
 use Rattle.cert_listing.specs.Time.{instant_text}
-use Rattle.krl_entries.specs.Revocations.{Revocations, Section}
+use Rattle.krl_entries.specs.Facts.{AuthorityFact, Fact, ItemFact, SerialsFact, facts_of}
+use Rattle.krl_entries.specs.Revocations.{Revocations}
 use Rattle.krl_format.specs.declared.header.Header.{Header}
 use Rattle.krl_types.specs.declared.item_kind.ItemKind.{ItemKind}
 use Rattle.krl_types.specs.declared.item_kind.ItemKind.TheVariants as kinds
@@ -68,32 +69,28 @@ label_of kinds.Sha1 = codes "sha1: "
 label_of kinds.Sha256 = codes "hash: SHA256:"
 
 -- its bytes, as they are printed
-abbrev pub fact_text : ItemKind → List ℕ → List ℕ
-fact_text kinds.Id bytes = escaped bytes
-fact_text kinds.Key bytes = encode_of standard bytes
-fact_text kinds.Sha1 bytes = encode_lower bytes
-fact_text kinds.Sha256 bytes = unpadded bytes
+abbrev pub item_text : ItemKind → List ℕ → List ℕ
+item_text kinds.Id bytes = escaped bytes
+item_text kinds.Key bytes = encode_of standard bytes
+item_text kinds.Sha1 bytes = encode_lower bytes
+item_text kinds.Sha256 bytes = unpadded bytes
 
-unfoldable pub fact_line : ItemKind → List ℕ → List ℕ
-fact_line kind bytes = line (label_of kind) (fact_text kind bytes)
+unfoldable pub item_line : ItemKind → List ℕ → List ℕ
+item_line kind bytes = line (label_of kind) (item_text kind bytes)
 
 unfoldable pub header_lines : Header → List (List ℕ)
 header_lines header =
     version_line header.version ∷ date_line header.date ∷ comment_lines header.comment
 
--- an authority, its serials and its key IDs
-unfoldable pub section_lines : Section → List (List ℕ)
-section_lines section =
-    authority_line section.authority
-    ∷ (map serials_line section.spans ++ map (fact_line kinds.Id) section.ids)
+-- the line of a fact; the authority of serials and key IDs is in the line before them
+abbrev pub fact_line : Fact → List ℕ
+fact_line (AuthorityFact authority) = authority_line authority
+fact_line (SerialsFact authority span) = serials_line span
+fact_line (ItemFact kind authority bytes) = item_line kind bytes
 
 -- all authorities, keys and hashes
 unfoldable pub contents_lines : Revocations → List (List ℕ)
-contents_lines contents =
-    flat_map section_lines contents.sections
-    ++ (map (fact_line kinds.Key) contents.keys
-    ++ (map (fact_line kinds.Sha1) contents.sha1s
-    ++ map (fact_line kinds.Sha256) contents.sha256s))
+contents_lines contents = map fact_line (facts_of contents)
 
 abbrev pub known_lines : Known → List (List ℕ)
 known_lines known = header_lines known.header ++ contents_lines known.contents

@@ -1,15 +1,13 @@
 -- Serial numbers that some spans cover and others do not, one part after another.
-use Rattle.list_diff.proofs.Common.{[], ◌++◌, ◌+◌, ◌<◌, ◌∙◌, ◌∷◌, ◌≡◌, ◌↔◌, ◌⊎◌, All, ap, AreSerials}
-use Rattle.list_diff.proofs.Common.{arith, Covers, drop, get_or, inl, inr, IsRuns, length, List, LostBetween}
-use Rattle.list_diff.proofs.Common.{LostSerial, max, Option, Revocations, RunsFrom, SerialWith, Some, Span, subst, sym, ℕ}
+use Rattle.list_diff.proofs.Common.{[], ◌++◌, ◌+◌, ◌<◌, ◌∷◌, ◌≡◌, ◌↔◌, ◌⊎◌, AreSerials, Covers}
+use Rattle.list_diff.proofs.Common.{drop, get_or, inl, inr, IsRuns, length, List, LostBetween}
+use Rattle.list_diff.proofs.Common.{LostSerial, Option, Revocations, SerialWith, Some, Span, subst, sym, ℕ}
 use Rattle.list_diff.proofs.Gains.{Owes, owes_all}
 use Rattle.list_diff.proofs.Searches.{run_at}
+use Rattle.krl_entries.proofs.SerialsLeft.{spans_left}
 use Rattle.serial_set.proofs.RisingLists.{covers_append}
-use Rattle.serial_set.proofs.RunIteration.{iteration_continues, since_runs, since_same, since_to}
-use Rattle.serial_set.specs.BitRuns.{IsInterval}
-use Rattle.serial_set.specs.Iteration.{IsPiece, left, next_of, since}
-use Rattle.std.proofs.Common.{take-append-drop}
-use Rattle.std.proofs.lemmas.List.Elements.{All-cons, All-nil, All-take}
+use Rattle.serial_set.proofs.RunIteration.{since_same}
+use Rattle.serial_set.specs.Iteration.{IsPiece, left, next_of}
 
 -- the numbers of the first span, and of the others
 lost_span : (span : Span) (spans others : List Span) (s : ℕ) → LostSerial (span ∷ spans) others s ↔ (LostBetween span.lo span.hi others s ⊎ LostSerial spans others s)
@@ -28,27 +26,7 @@ lost_spans spans rest all others is s = (
   ],
 )
 
--- ---- the pieces of a set
-
-intervals : (a : ℕ) (spans : List Span) → RunsFrom a spans → ((s : ℕ) → Covers spans s → 0 < s) → All IsInterval spans
-intervals a [] runs above = All-nil IsInterval
-intervals a (x ∷ xs) runs above =
-    All-cons IsInterval x xs (above x.lo (inl (omega arith, runs.1)), runs.1) (intervals (x.hi + 2) xs runs.2 (λ s h. above s (inr h)))
-
-pub piece_intervals : (spans piece : List Span) (n : ℕ) → IsRuns spans → AreSerials spans → IsPiece spans n piece → All IsInterval piece
-piece_intervals spans piece n runs serials is =
-    subst (All IsInterval) (sym is.front) (All-take IsInterval (length piece) (since n spans)
-    (intervals (max 0 n) (since n spans) (since_runs 0 n spans runs) (λ s h. (serials s (since_to 0 n spans s runs h).0).0)))
-
--- what is left are the spans of a piece and those after it
-spans_left : (spans piece : List Span) (n : ℕ) (before next : Option ℕ) → IsRuns spans → AreSerials spans → before ≡ Some n → IsPiece spans n piece → next ≡ next_of piece
-    → left before spans ≡ piece ++ left next spans
-spans_left spans piece n before next runs serials at is then =
-    let k = length piece in
-    let rest : left next spans ≡ drop k (since n spans) = ap (λ (o : Option ℕ). left o spans) then ∙ iteration_continues spans piece n runs serials is in
-    ap (λ (o : Option ℕ). left o spans) at ∙ sym (take-append-drop k (since n spans)) ∙ ap (λ (xs : List Span). xs ++ drop k (since n spans)) (sym is.front)
-    ∙ ap (λ (xs : List Span). piece ++ xs) (sym rest)
-
+-- the numbers of a piece, and of those after it
 pub lost_piece : (spans piece others : List Span) (n : ℕ) (before next : Option ℕ) → IsRuns spans → AreSerials spans → before ≡ Some n → IsPiece spans n piece → next ≡ next_of piece → (s : ℕ)
     → LostSerial (left before spans) others s ↔ (LostSerial piece others s ⊎ LostSerial (left next spans) others s)
 lost_piece spans piece others n before next runs serials at is then s =

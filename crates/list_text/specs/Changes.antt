@@ -2,7 +2,8 @@
 use Rattle.std.specs.Prelude.{ℕ, List, ◌++◌, codes}
 use Rattle.list_text.specs.declared.side.Side.{Side}
 use Rattle.list_text.specs.declared.side.Side.TheVariants.{Added, Removed}
-use Rattle.list_text.specs.Facts.{Fact, AuthorityFact}
+use Rattle.krl_entries.specs.Facts.{AuthorityFact}
+use Rattle.list_text.specs.Facts.{Fact, HeldFact}
 use Rattle.list_text.specs.Text.{fact_line}
 
 -- the name of a side in JSON objects
@@ -17,7 +18,7 @@ side_mark Removed = codes "- "
 -- The mark before the line of a fact. An authority is not changed itself: its line says whose the
 -- serial numbers and key IDs below it are.
 abbrev pub mark_of : Side → Fact → List ℕ
-mark_of side (AuthorityFact authority) = codes "  "
+mark_of side (HeldFact (AuthorityFact authority)) = codes "  "
 mark_of side fact = side_mark side
 
 -- the line of a change

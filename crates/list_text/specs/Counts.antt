@@ -1,8 +1,9 @@
 -- How many facts were printed.
 use Rattle.std.specs.Prelude.{ℕ, ◌+◌, ◌-◌, ◌^◌, List, [], ◌∷◌, min}
 use Rattle.list_text.specs.declared.counts.Counts.{Counts}
-use Rattle.list_text.specs.Facts.{Fact, ListFact, AuthorityFact, SerialsFact, IdFact, KeyFact}
-use Rattle.list_text.specs.Facts.{Sha1Fact, Sha256Fact}
+use Rattle.list_text.specs.Facts.{Fact, ListFact, HeldFact}
+use Rattle.krl_entries.specs.Facts.{AuthorityFact, SerialsFact, ItemFact}
+use Rattle.krl_types.specs.declared.item_kind.ItemKind.TheVariants as kinds
 
 abbrev pub nothing_counted : Counts
 nothing_counted = record {
@@ -30,26 +31,27 @@ and_entry counts = record counts { entries = plus counts.entries 1 }
 -- the counts after one more fact; a span counts as its serial numbers
 abbrev pub counted : Counts → Fact → Counts
 counted counts (ListFact name header) = record counts { lists = plus counts.lists 1 }
-counted counts (AuthorityFact authority) =
+counted counts (HeldFact (AuthorityFact authority)) =
     record counts { authorities = plus counts.authorities 1 }
-counted counts (SerialsFact authority span) =
+counted counts (HeldFact (SerialsFact authority span)) =
     record (and_entry counts) {
       serials = plus_serials (plus_serials counts.serials (span.hi - span.lo)) 1;
     }
-counted counts (IdFact authority id) = record (and_entry counts) { ids = plus counts.ids 1 }
-counted counts (KeyFact blob) = record (and_entry counts) { keys = plus counts.keys 1 }
-counted counts (Sha1Fact hash) = record (and_entry counts) { hashes = plus counts.hashes 1 }
-counted counts (Sha256Fact hash) = record (and_entry counts) { hashes = plus counts.hashes 1 }
+counted counts (HeldFact (ItemFact kinds.Id authority id)) =
+    record (and_entry counts) { ids = plus counts.ids 1 }
+counted counts (HeldFact (ItemFact kinds.Key authority blob)) =
+    record (and_entry counts) { keys = plus counts.keys 1 }
+counted counts (HeldFact (ItemFact kinds.Sha1 authority hash)) =
+    record (and_entry counts) { hashes = plus counts.hashes 1 }
+counted counts (HeldFact (ItemFact kinds.Sha256 authority hash)) =
+    record (and_entry counts) { hashes = plus counts.hashes 1 }
 
 -- how many serial numbers a fact has, and how many all facts have
 abbrev pub serials_in : Fact → ℕ
 serials_in (ListFact name header) = 0
-serials_in (AuthorityFact authority) = 0
-serials_in (SerialsFact authority span) = span.hi - span.lo + 1
-serials_in (IdFact authority id) = 0
-serials_in (KeyFact blob) = 0
-serials_in (Sha1Fact hash) = 0
-serials_in (Sha256Fact hash) = 0
+serials_in (HeldFact (AuthorityFact authority)) = 0
+serials_in (HeldFact (SerialsFact authority span)) = span.hi - span.lo + 1
+serials_in (HeldFact (ItemFact kind authority bytes)) = 0
 
 abbrev pub serials_of : List Fact → ℕ
 serials_of [] = 0

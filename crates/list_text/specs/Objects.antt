@@ -13,8 +13,9 @@ use Rattle.list_text.specs.declared.counts.Counts.{Counts}
 use Rattle.list_text.specs.declared.side.Side.{Side}
 use Rattle.list_text.specs.declared.side.Side.TheVariants.{Added, Removed}
 use Rattle.list_text.specs.Changes.{side_word}
-use Rattle.list_text.specs.Facts.{Fact, ListFact, AuthorityFact, SerialsFact, IdFact, KeyFact}
-use Rattle.list_text.specs.Facts.{Sha1Fact, Sha256Fact}
+use Rattle.list_text.specs.Facts.{Fact, ListFact, HeldFact}
+use Rattle.krl_entries.specs.Facts.{AuthorityFact, SerialsFact, ItemFact}
+use Rattle.krl_types.specs.declared.item_kind.ItemKind.TheVariants as kinds
 use Rattle.list_text.specs.Text.{hash_text}
 
 -- all authorities, or one by the fingerprint of its bytes
@@ -45,14 +46,17 @@ header_fields (Some header) =
 -- the fields of the object of a fact
 abbrev pub fact_fields : Fact → List Field
 fact_fields (ListFact name header) = word_field (codes "list") name ∷ header_fields header
-fact_fields (AuthorityFact authority) = authority_field authority ∷ []
-fact_fields (SerialsFact authority span) = authority_field authority ∷ serials_field span ∷ []
-fact_fields (IdFact authority id) =
+fact_fields (HeldFact (AuthorityFact authority)) = authority_field authority ∷ []
+fact_fields (HeldFact (SerialsFact authority span)) =
+    authority_field authority ∷ serials_field span ∷ []
+fact_fields (HeldFact (ItemFact kinds.Id authority id)) =
     authority_field authority ∷ text_field (codes "id") id ∷ []
-fact_fields (KeyFact blob) =
+fact_fields (HeldFact (ItemFact kinds.Key authority blob)) =
     text_field (codes "key") (fingerprint_text Sha256 blob) ∷ []
-fact_fields (Sha1Fact hash) = hash_field (codes "SHA1:") hash ∷ []
-fact_fields (Sha256Fact hash) = hash_field (codes "SHA256:") hash ∷ []
+fact_fields (HeldFact (ItemFact kinds.Sha1 authority hash)) =
+    hash_field (codes "SHA1:") hash ∷ []
+fact_fields (HeldFact (ItemFact kinds.Sha256 authority hash)) =
+    hash_field (codes "SHA256:") hash ∷ []
 
 -- the side of a fact about a change
 abbrev pub side_fields : Option Side → List Field
@@ -61,19 +65,14 @@ side_fields (Some side) = word_field (codes "change") (side_word side) ∷ []
 
 -- The line of a fact. An authority has no line of its own: it is in those of its facts.
 unfoldable pub object_line : Option Side → Fact → List ℕ
-object_line side (AuthorityFact authority) = []
+object_line side (HeldFact (AuthorityFact authority)) = []
 object_line side fact = json_line (object_of (side_fields side ++ fact_fields fact))
 
 -- The line of a fact, without the name of a list. A plain list has nothing else to say.
 abbrev pub unnamed_object : Fact → List ℕ
 unnamed_object (ListFact name None) = []
 unnamed_object (ListFact name (Some header)) = json_line (object_of (header_fields (Some header)))
-unnamed_object (AuthorityFact authority) = object_line None (AuthorityFact authority)
-unnamed_object (SerialsFact authority span) = object_line None (SerialsFact authority span)
-unnamed_object (IdFact authority id) = object_line None (IdFact authority id)
-unnamed_object (KeyFact blob) = object_line None (KeyFact blob)
-unnamed_object (Sha1Fact hash) = object_line None (Sha1Fact hash)
-unnamed_object (Sha256Fact hash) = object_line None (Sha256Fact hash)
+unnamed_object (HeldFact fact) = object_line None (HeldFact fact)
 
 -- how many facts of each kind
 abbrev pub kind_fields : Counts → List Field

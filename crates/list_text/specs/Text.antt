@@ -18,8 +18,9 @@ use Rattle.krl_audit.specs.Visible.{visible}
 use Rattle.krl_entries.specs.Revocations.{Revocations}
 use Rattle.krl_format.specs.declared.header.Header.{Header}
 use Rattle.text_entries.specs.Values.{looks_like_key}
-use Rattle.list_text.specs.Facts.{Fact, ListFact, AuthorityFact, SerialsFact, IdFact, KeyFact}
-use Rattle.list_text.specs.Facts.{Sha1Fact, Sha256Fact, facts_of}
+use Rattle.list_text.specs.Facts.{Fact, ListFact, HeldFact, facts_of}
+use Rattle.krl_entries.specs.Facts.{AuthorityFact, SerialsFact, ItemFact}
+use Rattle.krl_types.specs.declared.item_kind.ItemKind.TheVariants as kinds
 
 -- ---- keys and certificate authorities
 
@@ -106,22 +107,17 @@ header_line None = []
 -- the line of a fact
 unfoldable pub fact_line : Fact → List ℕ
 fact_line (ListFact name header) = list_line name header
-fact_line (AuthorityFact authority) = authority_line authority
-fact_line (SerialsFact authority span) = serials_line span
-fact_line (IdFact authority id) = id_line id
-fact_line (KeyFact blob) = key_line blob
-fact_line (Sha1Fact hash) = hash_line (codes "SHA1:") hash
-fact_line (Sha256Fact hash) = hash_line (codes "SHA256:") hash
+fact_line (HeldFact (AuthorityFact authority)) = authority_line authority
+fact_line (HeldFact (SerialsFact authority span)) = serials_line span
+fact_line (HeldFact (ItemFact kinds.Id authority id)) = id_line id
+fact_line (HeldFact (ItemFact kinds.Key authority blob)) = key_line blob
+fact_line (HeldFact (ItemFact kinds.Sha1 authority hash)) = hash_line (codes "SHA1:") hash
+fact_line (HeldFact (ItemFact kinds.Sha256 authority hash)) = hash_line (codes "SHA256:") hash
 
 -- the same without the name of a list
 abbrev pub unnamed_line : Fact → List ℕ
 unnamed_line (ListFact name header) = header_line header
-unnamed_line (AuthorityFact authority) = fact_line (AuthorityFact authority)
-unnamed_line (SerialsFact authority span) = fact_line (SerialsFact authority span)
-unnamed_line (IdFact authority id) = fact_line (IdFact authority id)
-unnamed_line (KeyFact blob) = fact_line (KeyFact blob)
-unnamed_line (Sha1Fact hash) = fact_line (Sha1Fact hash)
-unnamed_line (Sha256Fact hash) = fact_line (Sha256Fact hash)
+unnamed_line (HeldFact fact) = fact_line (HeldFact fact)
 
 -- the text of what is held
 abbrev pub text_of : Revocations → List ℕ

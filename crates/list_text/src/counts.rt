@@ -5,6 +5,8 @@ ghost use Rattle.list_text.specs.Counts.{counted};
 ghost use Rattle.list_text.specs.Facts.{fact_of};
 
 use crate::fact::Fact;
+use krl_entries::Fact as HeldFact;
+use krl_types::ItemKind;
 
 /// How many facts were printed. Each number is at most 2^64-1, and that of serial numbers 2^128-1,
 /// which no list reaches.
@@ -48,17 +50,21 @@ impl Counts {
                 self.lists = self.lists.saturating_add(1);
                 return;
             }
-            Fact::Authority(_) => {
+            Fact::Held(HeldFact::Authority(_)) => {
                 self.authorities = self.authorities.saturating_add(1);
                 return;
             }
-            Fact::Serials(_, span) => {
+            Fact::Held(HeldFact::Serials(_, span)) => {
                 let between = u128::from(span.hi.saturating_sub(span.lo));
                 self.serials = self.serials.saturating_add(between).saturating_add(1);
             }
-            Fact::Id(..) => self.ids = self.ids.saturating_add(1),
-            Fact::Key(_) => self.keys = self.keys.saturating_add(1),
-            Fact::Sha1(_) | Fact::Sha256(_) => self.hashes = self.hashes.saturating_add(1),
+            Fact::Held(HeldFact::Item(ItemKind::Id, ..)) => self.ids = self.ids.saturating_add(1),
+            Fact::Held(HeldFact::Item(ItemKind::Key, ..)) => {
+                self.keys = self.keys.saturating_add(1);
+            }
+            Fact::Held(HeldFact::Item(ItemKind::Sha1 | ItemKind::Sha256, ..)) => {
+                self.hashes = self.hashes.saturating_add(1);
+            }
         }
         self.entries = self.entries.saturating_add(1);
     }

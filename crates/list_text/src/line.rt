@@ -16,7 +16,9 @@ use base64::engine::general_purpose::{STANDARD, STANDARD_NO_PAD};
 use cert_listing::time_text;
 use key_text::{Hash, fingerprint};
 use krl_audit::Visible;
+use krl_entries::Fact as HeldFact;
 use krl_format::Header;
+use krl_types::ItemKind;
 use line_pieces::{Printed, Words, pieces, put};
 use serial_set::Span;
 use ssh_key::read_key;
@@ -43,7 +45,7 @@ fn mark_of(side: Side, fact: Fact<'_>) -> &'static [u8]
     ensures { result.now ≡ mark_of side (fact_of fact.entry) }
 {
     match (side, fact) {
-        (_, Fact::Authority(_)) => b"  ",
+        (_, Fact::Held(HeldFact::Authority(_))) => b"  ",
         (Side::Added, _) => b"+ ",
         (Side::Removed, _) => b"- ",
     }
@@ -57,12 +59,18 @@ pub(crate) fn push_line(alloc: Global, fact: Fact<'_>, line: &mut Vec<u8>) -> Re
 {
     match fact {
         Fact::List(name, header) => push_list(alloc, name, header, line),
-        Fact::Authority(authority) => push_authority(alloc, authority, line),
-        Fact::Serials(_, span) => push_serials(span, line),
-        Fact::Id(_, id) => push_id(alloc, id, line),
-        Fact::Key(blob) => push_named(alloc, b"key", blob, line),
-        Fact::Sha1(hash) => push_hash(alloc, b"SHA1:", hash, line),
-        Fact::Sha256(hash) => push_hash(alloc, b"SHA256:", hash, line),
+        Fact::Held(HeldFact::Authority(authority)) => push_authority(alloc, authority, line),
+        Fact::Held(HeldFact::Serials(_, span)) => push_serials(span, line),
+        Fact::Held(HeldFact::Item(ItemKind::Id, _, id)) => push_id(alloc, id, line),
+        Fact::Held(HeldFact::Item(ItemKind::Key, _, blob)) => {
+            push_named(alloc, b"key", blob, line)
+        }
+        Fact::Held(HeldFact::Item(ItemKind::Sha1, _, hash)) => {
+            push_hash(alloc, b"SHA1:", hash, line)
+        }
+        Fact::Held(HeldFact::Item(ItemKind::Sha256, _, hash)) => {
+            push_hash(alloc, b"SHA256:", hash, line)
+        }
     }
 }
 
@@ -77,7 +85,7 @@ pub(crate) fn push_unnamed(
 {
     match fact {
         Fact::List(_, header) => push_header(alloc, header, line),
-        _ => push_line(alloc, fact, line),
+        Fact::Held(_) => push_line(alloc, fact, line),
     }
 }
 

@@ -18,7 +18,9 @@ use itoa::Buffer;
 use json::Token;
 use json_lines::{LineWriter, put_digits, put_number, put_text, put_word};
 use key_text::{Hash, fingerprint};
+use krl_entries::Fact as HeldFact;
 use krl_format::Header;
+use krl_types::ItemKind;
 use line_pieces::{Words, put};
 use serial_set::Span;
 use std::alloc::{AllocError, Global};
@@ -33,7 +35,7 @@ pub(crate) fn write_object(
 ) -> Result<(), AllocError>
     ensures { OnOk result (line.new.items ≡ object_line side (fact_of fact.entry)) }
 {
-    if let Fact::Authority(_) = fact {
+    if let Fact::Held(HeldFact::Authority(_)) = fact {
         line.clear();
         return Ok(());
     }
@@ -60,7 +62,7 @@ pub(crate) fn write_unnamed(
             *line = out.end_object()?;
             Ok(())
         }
-        _ => write_object(alloc, None, fact, line),
+        Fact::Held(_) => write_object(alloc, None, fact, line),
     }
 }
 
@@ -103,18 +105,24 @@ fn put_fact(alloc: Global, out: &mut LineWriter, fact: Fact<'_>) -> Result<(), A
             put_word(out, "list", name)?;
             put_header(alloc, out, header)
         }
-        Fact::Authority(authority) => put_authority(alloc, out, authority),
-        Fact::Serials(authority, span) => {
+        Fact::Held(HeldFact::Authority(authority)) => put_authority(alloc, out, authority),
+        Fact::Held(HeldFact::Serials(authority, span)) => {
             put_authority(alloc, out, authority)?;
             put_serials(out, span)
         }
-        Fact::Id(authority, id) => {
+        Fact::Held(HeldFact::Item(ItemKind::Id, authority, id)) => {
             put_authority(alloc, out, authority)?;
             put_text(alloc, out, "id", id)
         }
-        Fact::Key(blob) => put_text(alloc, out, "key", &fingerprint(alloc, Hash::Sha256, blob)?),
-        Fact::Sha1(hash) => put_hash(alloc, out, b"SHA1:", hash),
-        Fact::Sha256(hash) => put_hash(alloc, out, b"SHA256:", hash),
+        Fact::Held(HeldFact::Item(ItemKind::Key, _, blob)) => {
+            put_text(alloc, out, "key", &fingerprint(alloc, Hash::Sha256, blob)?)
+        }
+        Fact::Held(HeldFact::Item(ItemKind::Sha1, _, hash)) => {
+            put_hash(alloc, out, b"SHA1:", hash)
+        }
+        Fact::Held(HeldFact::Item(ItemKind::Sha256, _, hash)) => {
+            put_hash(alloc, out, b"SHA256:", hash)
+        }
     }
 }
 

@@ -5,18 +5,14 @@ pub use Rattle.std.proofs.Common.{None, Ok, Option, refl, Result, Some, subst, s
 pub use Rattle.std.proofs.lemmas.List.{drop_all, map-append, take_all, take_more}
 pub use Rattle.std.proofs.lemmas.Result.{err_from_is_err_and}
 pub use Rattle.std.specs.Prelude.{OnOk}
-pub use Rattle.serial_set.specs.declared.span.Span.{Span}
 pub use Rattle.run_faults.specs.RunFault.{RunFault}
 pub use Rattle.run_output.proofs.RunParts.{carries_more, carries_none, carries_then}
 pub use Rattle.run_output.specs.Carries.{Carries}
 pub use Rattle.run_output.specs.Printer.{Printer}
 pub use Rattle.run_output.specs.Run.{Item}
 pub use Rattle.list_text.specs.Counts.{counted, counted_all}
-pub use Rattle.list_text.specs.Facts.{AuthorityFact, Fact, fact_of, IdFact, KeyFact, ListFact}
-pub use Rattle.list_text.specs.Facts.{SerialsFact, Sha1Fact, Sha256Fact}
-unfoldable pub use Rattle.list_text.specs.Facts.{facts_of, section_facts}
+pub use Rattle.list_text.specs.Facts.{Fact, fact_of, facts_of, HeldFact, ListFact}
 pub use Rattle.list_text.specs.declared.counts.Counts.{Counts}
 pub use Rattle.list_text.specs.declared.form.Form.{Form}
 pub use Rattle.show_run.specs.Showing.{fact_item, fact_items, line_item, Shows}
-pub use Rattle.list_text.specs.Facts.{item_fact}
 unfoldable pub use Rattle.show_run.specs.Showing.{given_facts, lists_facts}

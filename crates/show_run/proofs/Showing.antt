@@ -2,20 +2,16 @@
 use Rattle.show_run.proofs.Common.{[], ◌++◌, ◌+◌, ◌<◌, ◌∙◌, ◌∷◌, ◌≡◌, add-one, ap, append_assoc}
 use Rattle.show_run.proofs.Common.{carries_more, carries_none, carries_then, Carries, counted}
 use Rattle.show_run.proofs.Common.{counted_all, Counts, drop, drop-cons, Err, Fact, fact_item}
-use Rattle.show_run.proofs.Common.{fact_items, Form, get_or, Item, length, List, map, map-append, Ok}
-use Rattle.show_run.proofs.Common.{OnOk, Option, Printer, refl, Result, RunFault, Shows, Some, Span}
+use Rattle.show_run.proofs.Common.{fact_items, Form, get_or, Item, length, List, map-append, Ok}
+use Rattle.show_run.proofs.Common.{OnOk, Option, Printer, refl, Result, RunFault, Shows}
 use Rattle.show_run.proofs.Common.{subst, sym, ℕ}
-use Rattle.show_run.proofs.Common.{drop_all, fact_of, flat_map, given_facts, IdFact, item_fact}
+use Rattle.show_run.proofs.Common.{drop_all, fact_of, flat_map, given_facts}
 use Rattle.show_run.proofs.Common.{ListFact, lists_facts, ◌≤◌}
 use Rattle.std.specs.Borrow.{Bor}
 use Rattle.std.specs.Prelude.{option_map}
 use Rattle.krl_format.specs.declared.header.Header.{Header}
 use Rattle.list_text.specs.declared.fact.Fact.TheVariants as facts
 use Rattle.show_run.specs.declared.lists.Given.{Given}
-use Rattle.krl_types.specs.declared.item_kind.ItemKind.TheVariants as kinds
-use Rattle.serial_set.specs.Iteration.{IsPiece, left, next_of}
-use Rattle.serial_set.specs.Span.{AreSerials, IsRuns}
-use Rattle.krl_core.proofs.GainedEntries.{spans_left}
 
 abbrev fine : Result (Unit {0}) RunFault
 fine = Ok tt
@@ -82,19 +78,6 @@ all_shown form all old new before after is =
 
 -- ---- what is left
 
--- the spans from a place on are the one there and the others
-pub spans_next : (fact : Span → Fact) (spans : List Span) (i : ℕ) (d : Span) → i < length spans
-    → map fact (drop i spans) ≡ fact (get_or spans i d) ∷ map fact (drop (i + 1) spans)
-spans_next fact spans i d lt =
-    let parts : drop i spans ≡ get_or spans i d ∷ drop (i + 1) spans = rw add-one (drop-cons spans i d lt) in
-    ap (λ (xs : List Span). map fact xs) parts
-
--- or those of a piece and the others, where an iteration continues
-pub piece_next : (fact : Span → Fact) (spans piece : List Span) (n : ℕ) (before next : Option ℕ) → IsRuns spans → AreSerials spans → before ≡ Some n → IsPiece spans n piece → next ≡ next_of piece
-    → map fact (left before spans) ≡ map fact piece ++ map fact (left next spans)
-piece_next fact spans piece n before next r fits b p e =
-    ap (λ (xs : List Span). map fact xs) (spans_left spans piece n before next r fits b p e) ∙ map-append fact piece (left next spans)
-
 -- the lists from a place on are the one there and the others
 pub lists_next : (lists : List Given) (i : ℕ) (given : Given) → given ≡ get_or lists i given → i < length lists
     → lists_facts (drop i lists) ≡ given_facts given ++ lists_facts (drop (i + 1) lists)
@@ -108,12 +91,6 @@ unfolding lists_facts
 lists_end lists i le = ap (λ (xs : List Given). flat_map given_facts xs) (drop_all i lists le)
 
 -- ---- facts, as the code has them
-
-pub ids_shown : (form : Form) (authority : Bor (List ℕ)) (is : List ℕ) (texts ids : List (List ℕ)) (result : Result (Unit {0}) RunFault) (old new : Printer) (before after : Counts) → authority.now ≡ is → texts ≡ ids
-    → Shows form (map (item_fact kinds.Id authority.now) texts) result old new before after → Shows form (map (IdFact is) ids) result old new before after
-ids_shown form authority is texts ids result old new before after same also shows =
-    subst (λ (a : List ℕ). Shows form (map (IdFact a) ids) result old new before after) same
-    (subst (λ (t : List (List ℕ)). Shows form (map (IdFact authority.now) t) result old new before after) also shows)
 
 pub list_shown : (form : Form) (name : Bor (List ℕ)) (header : Option (Bor Header)) (is : Option Header) (result : Result (Unit {0}) RunFault) (old new : Printer) (before after : Counts) → option_map (λ header. header.now) header ≡ is
     → Shows form (fact_of (facts.List name header) ∷ []) result old new before after → Shows form (ListFact name.now is ∷ []) result old new before after

@@ -3,8 +3,11 @@ use Rattle.std.proofs.Common.{◌≡◌, ℕ, ◌+◌, List, [], ◌∷◌, ◌+
 use Rattle.std.specs.List.{concat, flat_map, slice_split}
 use Rattle.std.proofs.lemmas.List.Splits.{slice_split_at}
 use Rattle.key_text.specs.Lines.{is_newline}
-use Rattle.krl_types.specs.Entry.{Entry, IdEntry, KeyEntry, RangeEntry, Sha1Entry, Sha256Entry}
-use Rattle.list_text.specs.Facts.{Fact, ListFact, AuthorityFact, SerialsFact, IdFact, KeyFact, Sha1Fact, Sha256Fact}
+use Rattle.krl_entries.specs.Facts.{AuthorityFact, ItemFact, SerialsFact}
+use Rattle.krl_types.specs.Entry.{Entry, RangeEntry}
+use Rattle.krl_types.specs.Item.{item_entry}
+use Rattle.krl_types.specs.declared.item_kind.ItemKind.TheVariants as kinds
+use Rattle.list_text.specs.Facts.{Fact, HeldFact, ListFact}
 use Rattle.list_text.specs.Text.{fact_line}
 use Rattle.text_entries.specs.Lines.{LineEntries, before_later, lines_from}
 use Rattle.text_laws.specs.FactLines.{FitsUnder, IsLineOf, fact_says}
@@ -21,28 +24,25 @@ use Rattle.text_laws.proofs.SerialLines.{serials_read}
 -- the entries that a fact names
 abbrev pub entries_of : Fact → List Entry
 entries_of (ListFact name header) = []
-entries_of (AuthorityFact authority) = []
-entries_of (SerialsFact authority span) = RangeEntry authority span.lo span.hi ∷ []
-entries_of (IdFact authority id) = IdEntry authority id ∷ []
-entries_of (KeyFact blob) = KeyEntry blob ∷ []
-entries_of (Sha1Fact hash) = Sha1Entry hash ∷ []
-entries_of (Sha256Fact hash) = Sha256Entry hash ∷ []
+entries_of (HeldFact (AuthorityFact authority)) = []
+entries_of (HeldFact (SerialsFact authority span)) = RangeEntry authority span.lo span.hi ∷ []
+entries_of (HeldFact (ItemFact kind authority bytes)) = item_entry kind authority bytes ∷ []
 
 -- the authority that is current after a fact
 abbrev pub after : Option (List ℕ) → Fact → Option (List ℕ)
-after current (AuthorityFact authority) = Some authority
+after current (HeldFact (AuthorityFact authority)) = Some authority
 after current fact = current
 
 pub fact_reads : (current : Option (List ℕ)) (fact : Fact) → FitsUnder current fact
     → Reads current (fact_line fact) (fact_says fact)
 unfolding fact_line
 fact_reads current (ListFact name header) fits = list_reads current name header fits
-fact_reads current (AuthorityFact authority) fits = authority_reads current authority fits
-fact_reads current (SerialsFact authority span) fits = rw fits.0 (serials_read authority span fits.1)
-fact_reads current (IdFact authority id) fits = rw fits.0 (id_reads authority id fits.1 fits.2)
-fact_reads current (KeyFact blob) fits = key_reads current blob fits
-fact_reads current (Sha1Fact hash) fits = sha1_reads current hash fits.0 fits.1
-fact_reads current (Sha256Fact hash) fits = sha256_reads current hash fits.0 fits.1
+fact_reads current (HeldFact (AuthorityFact authority)) fits = authority_reads current authority fits
+fact_reads current (HeldFact (SerialsFact authority span)) fits = rw fits.0 (serials_read authority span fits.1)
+fact_reads current (HeldFact (ItemFact kinds.Id authority id)) fits = rw fits.0 (id_reads authority id fits.1 fits.2)
+fact_reads current (HeldFact (ItemFact kinds.Key authority blob)) fits = key_reads current blob fits
+fact_reads current (HeldFact (ItemFact kinds.Sha1 authority hash)) fits = sha1_reads current hash fits.0 fits.1
+fact_reads current (HeldFact (ItemFact kinds.Sha256 authority hash)) fits = sha256_reads current hash fits.0 fits.1
 
 -- the text of a fact is one line
 pub fact_is_line : (current : Option (List ℕ)) (fact : Fact) → FitsUnder current fact
@@ -70,13 +70,11 @@ fact_first : (number : ℕ) (current : Option (List ℕ)) (fact : Fact) (later :
     → HasEntries (later (after current fact)) entries
     → HasEntries (before_later number current (Ok (fact_says fact)) later) (entries_of fact ++ entries)
 fact_first number current (ListFact name header) later entries has = has
-fact_first number current (AuthorityFact authority) later entries has = has
-fact_first number current (SerialsFact authority span) later entries has =
+fact_first number current (HeldFact (AuthorityFact authority)) later entries has = has
+fact_first number current (HeldFact (SerialsFact authority span)) later entries has =
     record { are = ap (λ (es : List Entry). RangeEntry authority span.lo span.hi ∷ es) has.are; faultless = has.faultless }
-fact_first number current (IdFact authority id) later entries has = record { are = ap (λ (es : List Entry). IdEntry authority id ∷ es) has.are; faultless = has.faultless }
-fact_first number current (KeyFact blob) later entries has = record { are = ap (λ (es : List Entry). KeyEntry blob ∷ es) has.are; faultless = has.faultless }
-fact_first number current (Sha1Fact hash) later entries has = record { are = ap (λ (es : List Entry). Sha1Entry hash ∷ es) has.are; faultless = has.faultless }
-fact_first number current (Sha256Fact hash) later entries has = record { are = ap (λ (es : List Entry). Sha256Entry hash ∷ es) has.are; faultless = has.faultless }
+fact_first number current (HeldFact (ItemFact kind authority bytes)) later entries has =
+    record { are = ap (λ (es : List Entry). item_entry kind authority bytes ∷ es) has.are; faultless = has.faultless }
 
 -- the lines of a text of one line and of what follows
 abbrev rest_of : Option (List ℕ) → ℕ → List ℕ → LineEntries

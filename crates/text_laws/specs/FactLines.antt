@@ -6,21 +6,20 @@ use Rattle.serial_set.specs.declared.span.Span.{Span}
 use Rattle.ssh_wire.specs.Wire.{IsBytes}
 use Rattle.key_text.specs.Lines.{is_newline}
 use Rattle.krl_format.specs.declared.header.Header.{Header}
-use Rattle.krl_types.specs.Entry.{IdEntry, KeyEntry, RangeEntry, Sha1Entry, Sha256Entry}
-use Rattle.list_text.specs.Facts.{Fact, ListFact, AuthorityFact, SerialsFact, IdFact, KeyFact}
-use Rattle.list_text.specs.Facts.{Sha1Fact, Sha256Fact}
+use Rattle.krl_entries.specs.Facts.{AuthorityFact, ItemFact, SerialsFact}
+use Rattle.krl_types.specs.Entry.{RangeEntry}
+use Rattle.krl_types.specs.Item.{item_entry}
+use Rattle.krl_types.specs.declared.item_kind.ItemKind.TheVariants as kinds
+use Rattle.list_text.specs.Facts.{Fact, HeldFact, ListFact}
 use Rattle.text_entries.specs.Says.{Blank, Current, Names, Saying, line_says}
 use Rattle.text_entries.specs.Values.{has_zero}
 
 -- what the line of a fact says
 abbrev pub fact_says : Fact → Saying
 fact_says (ListFact name header) = Blank
-fact_says (AuthorityFact authority) = Current authority
-fact_says (SerialsFact authority span) = Names (RangeEntry authority span.lo span.hi)
-fact_says (IdFact authority id) = Names (IdEntry authority id)
-fact_says (KeyFact blob) = Names (KeyEntry blob)
-fact_says (Sha1Fact hash) = Names (Sha1Entry hash)
-fact_says (Sha256Fact hash) = Names (Sha256Entry hash)
+fact_says (HeldFact (AuthorityFact authority)) = Current authority
+fact_says (HeldFact (SerialsFact authority span)) = Names (RangeEntry authority span.lo span.hi)
+fact_says (HeldFact (ItemFact kind authority bytes)) = Names (item_entry kind authority bytes)
 
 -- The numbers of a header are below 2^64.
 abbrev pub HasNumbers : Option Header → Type 0
@@ -42,13 +41,16 @@ HasNoZero id = has_zero id ≡ false
 -- one. No key ID has a zero byte.
 abbrev pub FitsUnder : Option (List ℕ) → Fact → Type 0
 FitsUnder current (ListFact name header) = HasNumbers header
-FitsUnder current (AuthorityFact authority) = IsBytes authority
-FitsUnder current (SerialsFact authority span) = (current ≡ Some authority) × AreSerials span
-FitsUnder current (IdFact authority id) =
+FitsUnder current (HeldFact (AuthorityFact authority)) = IsBytes authority
+FitsUnder current (HeldFact (SerialsFact authority span)) =
+    (current ≡ Some authority) × AreSerials span
+FitsUnder current (HeldFact (ItemFact kinds.Id authority id)) =
     (current ≡ Some authority) × IsBytes id × HasNoZero id
-FitsUnder current (KeyFact blob) = IsBytes blob
-FitsUnder current (Sha1Fact hash) = IsBytes hash × (length hash ≡ 20)
-FitsUnder current (Sha256Fact hash) = IsBytes hash × (length hash ≡ 32)
+FitsUnder current (HeldFact (ItemFact kinds.Key authority blob)) = IsBytes blob
+FitsUnder current (HeldFact (ItemFact kinds.Sha1 authority hash)) =
+    IsBytes hash × (length hash ≡ 20)
+FitsUnder current (HeldFact (ItemFact kinds.Sha256 authority hash)) =
+    IsBytes hash × (length hash ≡ 32)
 
 -- The text is one line with its line feed, and the line says this.
 pub record IsLineOf (current : Option (List ℕ)) (text : List ℕ) (saying : Saying) : Type 0 where

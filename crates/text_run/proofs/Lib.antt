@@ -1,5 +1,4 @@
 pub mod TextsAdded
-pub mod Counted
 pub mod MadeLists
 pub mod Contents
 pub mod Updated

@@ -1,5 +1,7 @@
 //! The lines of single facts.
 
+use krl_entries::Fact as Held;
+use krl_types::ItemKind;
 use list_text::{Counts, Fact, Form};
 use serial_set::Span;
 use test_fixtures::{GITHUB, GITHUB_LINE, GITHUB_PRINT, joined};
@@ -32,53 +34,58 @@ const IDS: [(&[u8], &[u8]); 17] = [
 fn key_ids(rt: HostRuntime) {
     let mut line = Vec::new(rt.alloc());
     for (i, (id, text)) in IDS.iter().enumerate() {
-        let made = Form::Text.write_fact(rt.alloc(), Fact::Id(b"", id), &mut line);
+        let fact = Fact::Held(Held::Item(ItemKind::Id, b"", id));
+        let made = Form::Text.write_fact(rt.alloc(), fact, &mut line);
         assert!(rt; made.is_ok() && line.as_slice() == *text, "in row {i}");
     }
 }
 
 // Facts, and their lines as text and as JSON.
 const FACTS: [(Fact<'static>, &[u8], &[u8]); 9] = [
-    (Fact::Authority(b""), b"ca: all\n", b""),
-    (Fact::Authority(b"ssh"), b"ca-blob: c3No\n", b""),
+    (Fact::Held(Held::Authority(b"")), b"ca: all\n", b""),
     (
-        Fact::Key(b"\0"),
+        Fact::Held(Held::Authority(b"ssh")),
+        b"ca-blob: c3No\n",
+        b"",
+    ),
+    (
+        Fact::Held(Held::Item(ItemKind::Key, b"", b"\0")),
         b"key-blob: AA==\n",
         b"{\"key\":\"SHA256:bjQLnP+zepicpUTmu3gKLHiQHT+zNzh2hRGjBhevoB0\"}\n",
     ),
     (
-        Fact::Serials(b"", Span { lo: 9, hi: 9 }),
+        Fact::Held(Held::Serials(b"", Span { lo: 9, hi: 9 })),
         b"serial: 9\n",
         b"{\"ca\":\"all\",\"serial\":[\"9\",\"9\"]}\n",
     ),
     (
-        Fact::Serials(b"", Span { lo: 100, hi: 199 }),
+        Fact::Held(Held::Serials(b"", Span { lo: 100, hi: 199 })),
         b"serial: 100-199\n",
         b"{\"ca\":\"all\",\"serial\":[\"100\",\"199\"]}\n",
     ),
     (
-        Fact::Serials(
+        Fact::Held(Held::Serials(
             b"",
             Span {
                 lo: 1,
                 hi: 18_446_744_073_709_551_615,
             },
-        ),
+        )),
         b"serial: 1-18446744073709551615\n",
         b"{\"ca\":\"all\",\"serial\":[\"1\",\"18446744073709551615\"]}\n",
     ),
     (
-        Fact::Id(b"", b"b\"b"),
+        Fact::Held(Held::Item(ItemKind::Id, b"", b"b\"b")),
         b"id: b\"b\n",
         b"{\"ca\":\"all\",\"id\":\"b\\\"b\"}\n",
     ),
     (
-        Fact::Sha1(&[0; 20]),
+        Fact::Held(Held::Item(ItemKind::Sha1, b"", &[0; 20])),
         b"hash: SHA1:AAAAAAAAAAAAAAAAAAAAAAAAAAA\n",
         b"{\"hash\":\"SHA1:AAAAAAAAAAAAAAAAAAAAAAAAAAA\"}\n",
     ),
     (
-        Fact::Sha256(&[0; 32]),
+        Fact::Held(Held::Item(ItemKind::Sha256, b"", &[0; 32])),
         b"hash: SHA256:AAAAAAAAAAAAAAAAAAAAAAAAAAAAAAAAAAAAAAAAAAA\n",
         b"{\"hash\":\"SHA256:AAAAAAAAAAAAAAAAAAAAAAAAAAAAAAAAAAAAAAAAAAA\"}\n",
     ),
@@ -102,13 +109,15 @@ fn facts(rt: HostRuntime) {
 #[test]
 fn a_key_with_its_fingerprint(rt: HostRuntime) {
     let mut line = Vec::new(rt.alloc());
-    let made = Form::Text.write_fact(rt.alloc(), Fact::Authority(GITHUB), &mut line);
+    let authority = Fact::Held(Held::Authority(GITHUB));
+    let made = Form::Text.write_fact(rt.alloc(), authority, &mut line);
     let wanted = joined(
         rt.alloc(),
         &[b"ca: ", GITHUB_LINE, b" # ", GITHUB_PRINT, b"\n"],
     );
     assert!(rt; made.is_ok() && line == wanted.expect(&rt, "there is memory"));
-    let made = Form::Json.write_fact(rt.alloc(), Fact::Id(GITHUB, b"\xff"), &mut line);
+    let id = Fact::Held(Held::Item(ItemKind::Id, GITHUB, b"\xff"));
+    let made = Form::Json.write_fact(rt.alloc(), id, &mut line);
     let parts: &[&[u8]] = &[b"{\"ca\":\"", GITHUB_PRINT, b"\",\"id_base64\":\"/w==\"}\n"];
     let wanted = joined(rt.alloc(), parts);
     assert!(rt; made.is_ok() && line == wanted.expect(&rt, "there is memory"));
@@ -122,8 +131,8 @@ fn exact_counts(rt: HostRuntime) {
         hi: 18_446_744_073_709_551_615,
     };
     let mut counts = Counts::NONE;
-    counts.add(Fact::Serials(b"a", all));
-    counts.add(Fact::Serials(b"b", all));
+    counts.add(Fact::Held(Held::Serials(b"a", all)));
+    counts.add(Fact::Held(Held::Serials(b"b", all)));
     assert!(rt; counts.serials == 36_893_488_147_419_103_230 && counts.entries == 2);
     let mut line = Vec::new(rt.alloc());
     let made = Form::Json.write_last(rt.alloc(), counts, &mut line);

@@ -1,12 +1,15 @@
 //! The callers of the pages of `list_text`, `show_run` and `diff_run`.
 
 ghost use Rattle.std.specs.Prelude.{◌≡◌, [], IfOk, false};
-ghost use Rattle.list_text.specs.Facts.{IdFact};
+ghost use Rattle.krl_entries.specs.Facts.{ItemFact};
+ghost use Rattle.list_text.specs.Facts.{HeldFact};
 ghost use Rattle.list_text.specs.Text.{fact_line};
 
 use crate::tests::runs::Shelf;
 use byte_streams::{Sink, ToWrite};
 use diff_run::{Comparison, diff_run};
+use krl_entries::Fact as Held;
+use krl_types::ItemKind;
 use list_text::{Fact, Form};
 use show_run::{Lists, show_run};
 use std::alloc::{AllocError, Global};
@@ -14,10 +17,12 @@ use test_fixtures::Taker;
 
 /// The line of a key ID in the text of a list.
 fn id_line(alloc: Global, id: &[u8]) -> Result<Vec<u8>, AllocError>
-    ensures { IfOk result (λ line. line.items ≡ fact_line (IdFact [] id.now)) }
+    ensures { IfOk result (λ line. line.items
+        ≡ fact_line (HeldFact (ItemFact ItemKind.Id [] id.now))) }
 {
     let mut line = Vec::new(alloc);
-    Form::Text.write_fact(alloc, Fact::Id(&[], id), &mut line)?;
+    let fact = Fact::Held(Held::Item(ItemKind::Id, &[], id));
+    Form::Text.write_fact(alloc, fact, &mut line)?;
     Ok(line)
 }
 

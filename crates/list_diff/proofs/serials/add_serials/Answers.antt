@@ -1,7 +1,8 @@
 -- The piece's lost numbers are added, and those of the later pieces are left.
 use Rattle.list_diff.proofs.Common.{ap, Gains, List, LostSerial, SerialWith, Span, spans_in, subst, sym, ◌∙◌}
 use Rattle.list_diff.proofs.Gains.{owes_less, owes_none, serial_none, serial_parts}
-use Rattle.list_diff.proofs.LostSerials.{lost_piece, none_lost, owes_start, piece_intervals}
+use Rattle.list_diff.proofs.LostSerials.{lost_piece, none_lost, owes_start}
+use Rattle.krl_entries.proofs.SerialsLeft.{piece_intervals}
 use Rattle.serial_set.proofs.RunIteration.{iteration_ends}
 use Rattle.serial_set.specs.Iteration.{IsPiece, left, next_of}
 use Rattle.list_diff.proofs.serials.add_serials.Goals as goal

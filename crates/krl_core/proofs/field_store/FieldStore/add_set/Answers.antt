@@ -2,8 +2,8 @@ use Rattle.krl_core.proofs.Common.{◌∙◌, Adds, ap, List, refl, run_entries,
 use Rattle.serial_set.specs.Iteration.{IsPiece, left, next_of}
 use Rattle.serial_set.proofs.RunIteration.{iteration_ends, since_same}
 use Rattle.krl_entries.proofs.Runs.{run_entries-append}
+use Rattle.krl_entries.proofs.SerialsLeft.{piece_intervals, spans_left}
 use Rattle.krl_core.proofs.GainedEntries.{gained_more, gained_none, gains_added, IsGained}
-use Rattle.krl_core.proofs.GainedEntries.{piece_intervals, spans_left}
 use Rattle.krl_core.proofs.field_store.FieldStore.add_set.Goals as goal
 
 pub loop-next-init : goal.loop-next-init
