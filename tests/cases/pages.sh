@@ -1,8 +1,8 @@
 # The pages of the crates: each library and each program has one, and the map links to it. A crate
 # of tests proves and runs the caller that a library's page shows, in the same words. The program
 # prints the output that its page shows. The crates have the names that THEOREMS.md and its pages
-# cite, and each lemma is cited. The map shows each crate above those that it uses. The page of the
-# tests has a line for each part.
+# cite, and each lemma is cited. The map shows each crate above those that it uses, and crates.txt
+# lists no crate that is not used. The page of the tests has a line for each part.
 
 # shown LANGUAGE PAGE: what the page shows in it.
 shown() {
@@ -46,6 +46,11 @@ judge 'the crates have the names that THEOREMS.md and its pages cite' \
 judge 'the files and names that the pages of the crates speak of are there' \
   "$(asks 0 python3 -B "$tests/lib/pages/modules.py" "$top")"
 judge 'each lemma is cited' "$(asks 0 python3 -B "$tests/lib/pages/uncited.py" "$top")"
+judge 'each crate uses those that crates.txt lists for it' \
+  "$(asks 0 python3 -B "$tests/lib/pages/unused.py" "$top")"
+sed 's/^krl_job:.*/& serial_set/' "$top/crates.txt" >more.txt
+judge 'a crate that is listed for nothing is found' "$(differs 'the crate' '  krl_job: serial_set' \
+  "$(asks 0 python3 -B "$tests/lib/pages/unused.py" "$top" more.txt)")"
 judge 'the page of the tests has a line for each part' \
   "$(asks 1 diff <(sed -n 's/^| `\([a-z0-9_]*\)` .*/\1/p' "$tests/README.md" | sort) \
     <(printf '%s\n' "${!parts[@]}" | sort))"
