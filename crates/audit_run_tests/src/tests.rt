@@ -1,4 +1,4 @@
-//! What no contract says: audits of trees in memory.
+//! What no contract says: audits of trees in memory, and names and texts as people read them.
 
 mod audits;
 mod deep;
@@ -7,3 +7,4 @@ mod lists;
 mod names;
 mod page;
 mod shelf;
+mod texts;

@@ -1,4 +1,4 @@
-//! The tests of `krl_openssh`, through its public items.
+//! The tests of `krl_openssh`, `openssh_keys` and `curve_points`, through their public items.
 #![tactic(auto)]
 
 #[cfg(test)]

@@ -1,4 +1,4 @@
-//! The tests of `krl_words`, through its public items.
+//! The tests of `krl_words` and `krl_arguments`, through their public items.
 #![tactic(auto)]
 
 #[cfg(test)]

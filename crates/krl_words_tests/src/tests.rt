@@ -1,4 +1,5 @@
-//! Command lines and the jobs that they give.
+//! Command lines, and the jobs and the tasks that they give.
 
+mod arguments;
 mod page;
 mod words;

@@ -1,12 +1,15 @@
-//! The callers of the page.
+//! The callers of the pages of `krl_openssh`, `openssh_keys` and `curve_points`.
 
 use byte_streams::FromRead;
+use curve_points::{Curve, is_on_curve};
 use krl_core::read_krl;
 use krl_openssh::{Incomparable, first_difference, first_incomparable};
+use openssh_keys::{Judgement, judge};
 use span_sets::Held;
+use ssh_key::read_key;
 use std::alloc::Global;
 use std::process::Abort;
-use test_fixtures::{FIVE, HEADER, PUBLISHED, joined, list_of, strings};
+use test_fixtures::{FIVE, GITHUB, HEADER, PUBLISHED, joined, list_of, strings};
 
 /// Whether OpenSSH reads a list too, and as the same names.
 fn is_read_alike(alloc: Global, list: &[u8]) -> bool {
@@ -59,3 +62,28 @@ const WHOLE_IDS: &[u8] = b"\x20\0\0\0\x08\0\0\0\x01\0\0\0\x05\x23\0\0\0\x09\0\0\
 
 // The second key ID has a zero byte at its end.
 const ODD_ID: &[u8] = b"\x23\0\0\0\x0b\0\0\0\x01a\0\0\0\x02b\0";
+
+/// Whether OpenSSH accepts a list of an authority with this blob.
+fn is_accepted(blob: &[u8]) -> bool {
+    match read_key(blob) {
+        Ok(key) => judge(&key) == Judgement::Accepted,
+        Err(_) => false,
+    }
+}
+
+/// Whether an uncompressed point is on P-256: 4, and two coordinates of 32 bytes.
+fn is_on_p256(point: &[u8]) -> bool {
+    match point {
+        [4, coordinates @ ..] if coordinates.len() == 64 => {
+            let (x, y) = coordinates.split_at(32);
+            is_on_curve(Curve::P256, x, y)
+        }
+        _ => false,
+    }
+}
+
+#[test]
+fn keys_and_points(rt: HostRuntime) {
+    assert!(rt; is_accepted(GITHUB) && !is_accepted(b"abc"));
+    assert!(rt; !is_on_p256(&[4; 65]) && !is_on_p256(&[]));
+}

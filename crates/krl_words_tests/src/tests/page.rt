@@ -1,10 +1,12 @@
-//! The callers of the pages of `krl_words`, `krl_job`, `option_table` and `program_version`.
+//! The callers of the pages of `krl_words`, `krl_arguments`, `krl_job`, `option_table` and
+//! `program_version`.
 
 ghost use Rattle.std.specs.Prelude.{◌≡◌, option_map};
 ghost use Rattle.krl_job.specs.Given.{given_by};
 ghost use Rattle.krl_job.specs.Job.{job_of};
 
 use clap::Command;
+use krl_arguments::{Task, task_of};
 use krl_job::{Given, Mode, job_of};
 use krl_words::command_of;
 use option_table::{Argument, CommandFault, Form, is_set, with_arguments};
@@ -100,4 +102,31 @@ fn options_have_a_mode(rt: HostRuntime) {
         is_divided: false,
     };
     assert!(rt; mode_given(given) == Some(Mode::Keys));
+}
+
+/// The list of the task that words ask for, the program's name before them. `krl show` may have
+/// several.
+fn list_of<'a>(
+    alloc: Global,
+    version: &'a str,
+    words: &'a [&'a str],
+) -> Result<Option<&'a str>, CommandFault> {
+    match task_of(alloc, version, words)? {
+        Task::Audit(audit) => Ok(Some(audit.list)),
+        Task::Check(check) => Ok(Some(check.list)),
+        Task::Show(_) => Ok(None),
+        Task::Make(make) => Ok(Some(make.list)),
+        Task::Diff(diff) => Ok(Some(diff.new)),
+    }
+}
+
+#[test]
+fn words_have_a_list(rt: HostRuntime) {
+    let words = ["krl", "audit", "-f", "r.krl", "/etc/ssh"];
+    let list = list_of(rt.alloc(), "1.2.3", &words).expect(&rt, "the words ask for an audit");
+    assert!(rt; list == Some("r.krl"));
+    let none = list_of(rt.alloc(), "1.2.3", &["krl", "audit", "-f"])
+        .err()
+        .expect(&rt, "the list is missing");
+    assert!(rt; none.status() == 2);
 }

@@ -1,4 +1,4 @@
-//! The words of the command line.
+//! The words of the command line of `krl-keygen`.
 
 use key_text::Hash;
 use krl_job::{AuthorityOption, Job, Mode};

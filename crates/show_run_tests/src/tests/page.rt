@@ -1,4 +1,4 @@
-//! The callers of the pages of `list_text`, `show_run` and `diff_run`.
+//! The callers of the pages of `list_diff`, `list_text`, `show_run` and `diff_run`.
 
 ghost use Rattle.std.specs.Prelude.{◌≡◌, [], IfOk, false};
 ghost use Rattle.krl_entries.specs.Facts.{ItemFact};
@@ -8,9 +8,11 @@ ghost use Rattle.list_text.specs.Text.{fact_line};
 use crate::tests::runs::Shelf;
 use byte_streams::{Sink, ToWrite};
 use diff_run::{Comparison, diff_run};
-use krl_entries::Fact as Held;
+use krl_entries::{Fact as Held, Revocations};
 use krl_types::ItemKind;
+use list_diff::difference;
 use list_text::{Fact, Form};
+use serial_set::Spans;
 use show_run::{Lists, show_run};
 use std::alloc::{AllocError, Global};
 use test_fixtures::Taker;
@@ -79,4 +81,23 @@ fn the_callers_of_the_pages(rt: HostRuntime) {
             &mut ToWrite::new(&mut said)
         )
     );
+}
+
+/// Whether new revocations name all that the old ones do.
+fn is_superset<S: Spans>(
+    alloc: Global,
+    old: &Revocations<S>,
+    new: &Revocations<S>,
+) -> Result<bool, AllocError> {
+    let lost = difference(alloc, new, old)?;
+    Ok(lost.is_nothing())
+}
+
+#[test]
+fn a_list_names_more_than_another(rt: HostRuntime) {
+    let old: Revocations<span_sets::Held> = Revocations::new(rt.alloc());
+    let mut new: Revocations<span_sets::Held> = Revocations::new(rt.alloc());
+    new.add_key(b"key").expect(&rt, "there is memory");
+    assert!(rt; is_superset(rt.alloc(), &old, &new) == Ok(true));
+    assert!(rt; is_superset(rt.alloc(), &new, &old) == Ok(false));
 }

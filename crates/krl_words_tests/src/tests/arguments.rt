@@ -1,4 +1,4 @@
-//! The words of the command line.
+//! The words of the command line of `krl`.
 
 use krl_arguments::{Audit, Check, Diff, Make, Show, Task, task_of};
 use option_table::CommandFault;

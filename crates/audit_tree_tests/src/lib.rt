@@ -1,5 +1,0 @@
-//! The tests of `audit_tree`, through what it makes public.
-#![tactic(auto)]
-
-#[cfg(test)]
-mod tests;

@@ -1,4 +1,0 @@
-//! Which words ask for which task.
-
-mod page;
-mod words;

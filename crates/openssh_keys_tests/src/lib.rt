@@ -1,5 +1,0 @@
-//! The tests of `openssh_keys` and `curve_points`, through their public items.
-#![tactic(auto)]
-
-#[cfg(test)]
-mod tests;
