@@ -1,4 +1,4 @@
-//! The tests of `serial_set`, through its public items.
+//! The tests of `serial_set`, `span_sets` and `span_vec`, through their public items.
 #![tactic(auto)]
 
 #[cfg(test)]

@@ -7,14 +7,14 @@ pub use Rattle.std.proofs.Common.{get_or-append-add, get_or-drop, get_or-set_oth
 pub use Rattle.std.proofs.Common.{get_or-take, IfSome, inl, inr, insert, is_ok, IsTrue, le-leb}
 pub use Rattle.std.proofs.Common.{length, length-append, length-drop, length-set, length-take}
 pub use Rattle.std.proofs.Common.{length-take-le, List, max, min, None, Ok, OnErr, OnOk, Option}
-pub use Rattle.std.proofs.Common.{option_to_list, pow_mono, pow_pos, refl, Result, rules, set, Some}
-pub use Rattle.std.proofs.Common.{sub-one, subst, suc, sym, take, take-append-drop, take-take}
-pub use Rattle.std.proofs.Common.{take_all, take_at, true, vec_capacity, vec_len, w64, zero, ℕ}
+pub use Rattle.std.proofs.Common.{option_to_list, pow_mono, pow_pos, refl, Result, set, Some}
+pub use Rattle.std.proofs.Common.{subst, suc, sym, take, take-append-drop, take-take}
+pub use Rattle.std.proofs.Common.{take_all, take_at, true, w64, zero, ℕ}
 pub use Rattle.serial_set.proofs.LeastLists.{runs_first, runs_least}
-pub use Rattle.serial_set.proofs.RisingLists.{names_append, names_at, names_from, names_left}
-pub use Rattle.serial_set.proofs.RisingLists.{names_right, runs_apart, runs_front, runs_join}
-pub use Rattle.serial_set.proofs.RisingLists.{runs_middle, runs_reach, RunsFrom-weaker, starts_rise}
-pub use Rattle.serial_set.proofs.RunIteration.{piece_first, runs_few, since_after, since_from}
+pub use Rattle.serial_set.proofs.RisingLists.{names_append, names_at, names_left}
+pub use Rattle.serial_set.proofs.RisingLists.{names_right, runs_front}
+pub use Rattle.serial_set.proofs.RisingLists.{runs_middle, runs_reach}
+pub use Rattle.serial_set.proofs.RunIteration.{runs_few, since_from}
 pub use Rattle.serial_set.proofs.RunIteration.{since_runs, since_same, since_to, iteration_ends, iteration_continues}
 pub use Rattle.serial_set.specs.Span.{AddsSpan, AreSerials, Covers, IsRuns, IsRunsOf, RunsFrom}
 pub use Rattle.serial_set.specs.Span.{SpanCovers}

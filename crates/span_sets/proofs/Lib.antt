@@ -1,5 +1,4 @@
 mod Common
-pub mod SpanLookup
 pub mod ListsOfLists
 pub mod BitMembers
 pub mod ChunkMembers
@@ -19,4 +18,3 @@ pub mod Parts
 pub mod ResultFacts
 pub mod Replacements
 pub mod TakenRuns
-pub mod MergedSpans

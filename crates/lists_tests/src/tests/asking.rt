@@ -3,7 +3,8 @@
 use crate::tests::said::{A, ALL, About, B, G, Said, held_of, revokes};
 use key_text::{sha1_of, sha256_of};
 use serial_set::Spans;
-use span_sets::{Held, SpanVec};
+use span_sets::Held;
+use span_vec::SpanVec;
 use std::alloc::Global;
 use std::process::Abort;
 

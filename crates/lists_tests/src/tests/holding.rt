@@ -3,7 +3,8 @@
 use crate::tests::said::{A, ALL, B, Said, held_of, hold};
 use krl_core::Revocations;
 use serial_set::Spans;
-use span_sets::{Held, SpanVec};
+use span_sets::Held;
+use span_vec::SpanVec;
 use std::alloc::Global;
 use std::process::Abort;
 

@@ -3,7 +3,8 @@
 use crate::tests::full::Full;
 use crate::tests::lists::{list_of, read_from, spans_from};
 use krl_core::{KrlFault, Revocations};
-use span_sets::{Held, SpanVec};
+use span_sets::Held;
+use span_vec::SpanVec;
 use std::alloc::Global;
 use std::process::Abort;
 use test_fixtures::{BITMAP, Giver, Then, joined};

@@ -5,7 +5,8 @@ ghost use Rattle.serial_set.specs.Near.{AreNear};
 
 use crate::tests::answered::ran_out;
 use serial_set::{Span, Spans};
-use span_sets::{SpanPages, SpanVec};
+use span_sets::SpanPages;
+use span_vec::SpanVec;
 use std::alloc::AllocError;
 use std::process::Abort;
 use std::test::Fail;

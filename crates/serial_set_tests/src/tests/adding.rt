@@ -1,7 +1,8 @@
 //! Adding intervals, one after another.
 use crate::tests::sets::{add, empty, has_just};
 use serial_set::{Span, Spans};
-use span_sets::{SpanPages, SpanVec};
+use span_sets::SpanPages;
+use span_vec::SpanVec;
 use std::alloc::Global;
 use std::process::Abort;
 

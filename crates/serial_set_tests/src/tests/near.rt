@@ -5,7 +5,8 @@ ghost use Rattle.serial_set.specs.BitRuns.{IsInterval};
 
 use crate::tests::sets::{add, empty, has_just};
 use serial_set::{Span, Spans, count_near};
-use span_sets::{SpanPages, SpanVec};
+use span_sets::SpanPages;
+use span_vec::SpanVec;
 use std::alloc::{AllocError, Global};
 use std::process::Abort;
 

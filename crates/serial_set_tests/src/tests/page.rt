@@ -4,6 +4,7 @@ ghost use Rattle.std.specs.Prelude.{◌↔◌, ◌<◌, ◌≤◌, IfOk, IsTrue}
 
 use serial_set::Spans;
 use span_sets::Held;
+use span_vec::SpanVec;
 use std::alloc::{AllocError, Global};
 
 /// Whether a serial is a member of a set once those from `lo` to `hi` are added to it.
@@ -27,6 +28,11 @@ fn is_within(alloc: Global, lo: u64, hi: u64, serial: u64) -> Result<bool, Alloc
     Ok(set.has(serial))
 }
 
+/// Whether a set and one in a sorted vector both have a serial, or neither has it.
+fn answer_alike<S: Spans>(set: &S, vector: &SpanVec, serial: u64) -> bool {
+    set.has(serial) == vector.has(serial)
+}
+
 #[test]
 fn a_set_is_asked(rt: HostRuntime) {
     for (serial, want) in [
@@ -48,4 +54,14 @@ fn an_interval_is_added(rt: HostRuntime) {
         let added = is_added(&mut set, lo, hi, serial).expect(&rt, "there is memory");
         assert!(rt; added == want, "after {lo}-{hi}");
     }
+}
+
+#[test]
+fn both_sets_are_asked(rt: HostRuntime) {
+    let mut set = Held::empty(rt.alloc()).expect(&rt, "there is memory");
+    let mut vector = SpanVec::empty(rt.alloc()).expect(&rt, "there is memory");
+    vector.add(7, 9).expect(&rt, "there is memory");
+    assert!(rt; answer_alike(&set, &vector, 6) && !answer_alike(&set, &vector, 7));
+    set.add(7, 9).expect(&rt, "there is memory");
+    assert!(rt; answer_alike(&set, &vector, 7));
 }

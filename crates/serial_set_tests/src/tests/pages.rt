@@ -3,7 +3,8 @@ ghost use Rattle.std.specs.Prelude.{◌≡◌, ◌+◌, ◌*◌, ◌^◌, ◌<�
 
 use crate::tests::sets::{add, empty, has_just, has_span};
 use serial_set::{Span, Spans};
-use span_sets::{SpanPages, SpanVec};
+use span_sets::SpanPages;
+use span_vec::SpanVec;
 use std::alloc::Global;
 use std::process::Abort;
 

@@ -3,7 +3,8 @@
 use crate::tests::held::{Said, are_equal, held_of};
 use list_diff::difference;
 use serial_set::Spans;
-use span_sets::{Held, SpanVec};
+use span_sets::Held;
+use span_vec::SpanVec;
 use std::alloc::Global;
 use std::process::Abort;
 

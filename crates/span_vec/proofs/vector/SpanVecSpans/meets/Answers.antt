@@ -1,6 +1,6 @@
 use Rattle.std.proofs.Common.{arith, subst, ◌<◌, ◌≤◌, length, take, drop, All, leb-false, leb-true}
-use Rattle.span_sets.proofs.SpanLookup.{meets_none, meets_past, meets_some}
-use Rattle.span_sets.proofs.span_vec.SpanVecSpans.meets.Goals as goal
+use Rattle.span_vec.proofs.SpanLookup.{meets_none, meets_past, meets_some}
+use Rattle.span_vec.proofs.vector.SpanVecSpans.meets.Goals as goal
 
 pub returns-then-at-len-clause-some : goal.returns-then-at-len-clause-some
 returns-then-at-len-clause-some c = λ t.

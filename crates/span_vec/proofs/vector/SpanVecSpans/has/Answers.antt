@@ -1,7 +1,7 @@
 use Rattle.std.proofs.Common.{arith, subst, ◌<◌, ◌≤◌, length, take, drop, All, leb-true, le-leb}
 use Rattle.std.proofs.Common.{ltb-true}
-use Rattle.span_sets.proofs.SpanLookup.{asked_at, asked_past}
-use Rattle.span_sets.proofs.span_vec.SpanVecSpans.has.Goals as goal
+use Rattle.span_vec.proofs.SpanLookup.{asked_at, asked_past}
+use Rattle.span_vec.proofs.vector.SpanVecSpans.has.Goals as goal
 
 pub returns-then-at-len : goal.returns-then-at-len
 returns-then-at-len c =

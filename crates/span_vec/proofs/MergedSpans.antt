@@ -1,12 +1,12 @@
 -- An interval that is added to a rising list: it is merged with the spans that it touches.
-use Rattle.span_sets.proofs.Common.{[], ◌++◌, ◌+◌, ◌-◌, ◌<◌, ◌∙◌, ◌∷◌, ◌≡◌, ◌≤◌, ◌⊎◌, add-zero}
-use Rattle.span_sets.proofs.Common.{AddsSpan, All, All-drop, All-head, All-nil, All-tail, All-take}
-use Rattle.span_sets.proofs.Common.{ap, arith, cases_lt, Covers, drop, drop-drop, get_or}
-use Rattle.span_sets.proofs.Common.{get_or-drop, get_or-take, get_or_default, inl, inr, IsRuns}
-use Rattle.span_sets.proofs.Common.{length, length-drop, length-take, List, max, min, names_append}
-use Rattle.span_sets.proofs.Common.{names_left, names_right, refl, runs_apart, runs_front}
-use Rattle.span_sets.proofs.Common.{runs_join, runs_middle, RunsFrom, RunsFrom-weaker, Span}
-use Rattle.span_sets.proofs.Common.{SpanCovers, sub-one, subst, sym, take, take-append-drop, ℕ}
+use Rattle.span_vec.proofs.Common.{[], ◌++◌, ◌+◌, ◌-◌, ◌<◌, ◌∙◌, ◌∷◌, ◌≡◌, ◌≤◌, ◌⊎◌, add-zero}
+use Rattle.span_vec.proofs.Common.{AddsSpan, All, All-drop, All-head, All-nil, All-tail, All-take}
+use Rattle.span_vec.proofs.Common.{ap, arith, cases_lt, Covers, drop, drop-drop, get_or}
+use Rattle.span_vec.proofs.Common.{get_or-drop, get_or-take, get_or_default, inl, inr, IsRuns}
+use Rattle.span_vec.proofs.Common.{length, length-drop, length-take, List, max, min, names_append}
+use Rattle.span_vec.proofs.Common.{names_left, names_right, refl, runs_apart, runs_front}
+use Rattle.span_vec.proofs.Common.{runs_join, runs_middle, RunsFrom, RunsFrom-weaker, Span}
+use Rattle.span_vec.proofs.Common.{SpanCovers, sub-one, subst, sym, take, take-append-drop, ℕ}
 use Rattle.std.proofs.lemmas.Slice.{between_is}
 
 -- where the last span of `m ∷ ms` ends

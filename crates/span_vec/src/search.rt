@@ -1,18 +1,9 @@
 //! Binary search for a number in an ascending list of spans.
-ghost use Rattle.std.specs.Prelude.{◌+◌, ◌<◌, ◌≤◌, length, take, drop, nat_le, ◌≡◌, ◌-◌};
+ghost use Rattle.std.specs.Prelude.{◌+◌, ◌<◌, ◌≤◌, length, take, drop, nat_lt, nat_le, ◌≡◌, ◌-◌};
 ghost use Rattle.std.specs.List.{All};
 ghost use Rattle.serial_set.specs.Span.{IsRuns};
 
-use crate::search::{HasEnd, count_ending_below};
 use serial_set::Span;
-
-impl HasEnd for Span {
-    ghost end = { λ span. span.hi };
-
-    fn end(&self) -> u64 {
-        self.hi
-    }
-}
 
 /// How many spans end before a number.
 pub fn count_ending_before(spans: &[Span], number: u64) -> usize
@@ -21,7 +12,11 @@ pub fn count_ending_before(spans: &[Span], number: u64) -> usize
     ensures before { All (λ t. t.hi < number) (take result spans.now) }
     ensures rest { All (λ t. number ≤ t.hi) (drop result spans.now) }
 {
-    count_ending_below(spans, number)
+    spans.partition_point(
+        |span: &Span| -> bool
+            ensures { result ≡ nat_lt span.now.hi number }
+        { span.hi < number },
+    )
 }
 
 /// How many spans begin at the number after `number`, or lower.

@@ -1,6 +1,6 @@
 use Rattle.std.proofs.Common.{arith, subst, sym, ◌+◌, ◌-◌, ◌<◌, ◌≤◌, take, drop, All}
-use Rattle.span_sets.proofs.MergedSpans.{added_joined, added_apart}
-use Rattle.span_sets.proofs.span_vec.add_to.Goals as goal
+use Rattle.span_vec.proofs.MergedSpans.{added_joined, added_apart}
+use Rattle.span_vec.proofs.vector.add_to.Goals as goal
 
 pub returns-then-first-end-clause-runs : goal.returns-then-first-end-clause-runs
 returns-then-first-end-clause-runs c =

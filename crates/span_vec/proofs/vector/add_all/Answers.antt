@@ -1,7 +1,7 @@
 use Rattle.std.proofs.Common.{inl, inr, arith}
-use Rattle.span_sets.proofs.NearSpans.{adds_next}
+use Rattle.span_vec.proofs.AddedInTurn.{adds_next}
 use Rattle.span_sets.proofs.ChunkQueries.{ok_or_err}
-use Rattle.span_sets.proofs.span_vec.add_all.Goals as goal
+use Rattle.span_vec.proofs.vector.add_all.Goals as goal
 
 pub loop-span-preserved : goal.loop-span-preserved
 loop-span-preserved c =

@@ -1,6 +1,6 @@
 use Rattle.std.proofs.Common.{length, ap, arith}
 use Rattle.span_sets.proofs.NearSpans.{adds_more}
-use Rattle.span_sets.proofs.span_vec.SpanVecSpans.add_near.Goals as goal
+use Rattle.span_vec.proofs.vector.SpanVecSpans.add_near.Goals as goal
 
 pub returns-clause-as_many_more : goal.returns-clause-as_many_more
 returns-clause-as_many_more c =

@@ -1,6 +1,6 @@
-use Rattle.span_sets.proofs.Common.{◌+◌, ◌≤◌, AreSerials, length, take, vec_capacity, vec_len}
+use Rattle.span_vec.proofs.Common.{◌+◌, ◌≤◌, AreSerials, length, take, vec_capacity, vec_len}
 use Rattle.serial_set.specs.Near.{AddsSpans}
-use Rattle.span_sets.proofs.span_vec.add_all.Given as goal
+use Rattle.span_vec.proofs.vector.add_all.Given as goal
 
 abbrev pub invariant-loop-span : goal.invariant-loop-span
 invariant-loop-span l = record {

@@ -4,10 +4,10 @@ ghost use Rattle.std.specs.Prelude.{OnOk, OnErr};
 ghost use Rattle.std.specs.Vec.{vec_len, vec_capacity};
 ghost use Rattle.serial_set.specs.BitRuns.{IsInterval};
 ghost use Rattle.serial_set.specs.Near.{AddsSpans};
-ghost use Rattle.span_sets.specs.OneWay.{RunsFrom-prop};
+ghost use Rattle.span_vec.specs.OneWay.{RunsFrom-prop};
 ghost use Rattle.serial_set.specs.Span.{AddsSpan, AreSerials, IsRuns};
 
-use crate::span_search::{count_beginning_by, count_ending_before};
+use crate::search::{count_beginning_by, count_ending_before};
 use serial_set::{Piece, Span, Spans};
 use std::alloc::{AllocError, Global};
 

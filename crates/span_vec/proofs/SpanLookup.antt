@@ -1,9 +1,9 @@
 -- Whether a rising list covers a number, decided by the first span that does not end before it.
-use Rattle.span_sets.proofs.Common.{[], ◌++◌, ◌+◌, ◌<◌, ◌∙◌, ◌∷◌, ◌≡◌, ◌≤◌, All, All-head, All-tail}
-use Rattle.span_sets.proofs.Common.{All-weaker, ap, arith, Covers, drop, drop_more, get_or, inl}
-use Rattle.span_sets.proofs.Common.{inr, IsRuns, length, List, max, names_append, names_from}
-use Rattle.span_sets.proofs.Common.{names_right, runs_middle, RunsFrom, Span, subst, sym, take}
-use Rattle.span_sets.proofs.Common.{take-append-drop, take_all, ℕ}
+use Rattle.span_vec.proofs.Common.{[], ◌++◌, ◌+◌, ◌<◌, ◌∙◌, ◌∷◌, ◌≡◌, ◌≤◌, All, All-head, All-tail}
+use Rattle.span_vec.proofs.Common.{All-weaker, ap, arith, Covers, drop, drop_more, get_or, inl}
+use Rattle.span_vec.proofs.Common.{inr, IsRuns, length, List, max, names_append, names_from}
+use Rattle.span_vec.proofs.Common.{names_right, runs_middle, RunsFrom, Span, subst, sym, take}
+use Rattle.span_vec.proofs.Common.{take-append-drop, take_all, ℕ}
 
 pub none_below : (xs : List Span) (s : ℕ) → All (λ t. t.hi < s) xs → Covers xs s → ⊥
 none_below [] s below n = n

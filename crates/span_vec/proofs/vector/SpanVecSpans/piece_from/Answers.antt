@@ -1,7 +1,8 @@
-use Rattle.span_sets.proofs.Common.{◌-◌, ◌<◌, ◌∙◌, ◌≡◌, All, ap, arith, drop, length, length-drop}
-use Rattle.span_sets.proofs.Common.{List, piece_first, since, since_after, Span, subst, take}
-use Rattle.span_sets.proofs.Common.{take_all, ℕ}
-use Rattle.span_sets.proofs.span_vec.SpanVecSpans.piece_from.Goals as goal
+use Rattle.span_vec.proofs.Common.{◌-◌, ◌<◌, ◌∙◌, ◌≡◌, All, ap, arith, drop, length, length-drop}
+use Rattle.span_vec.proofs.Common.{List, Span, subst, take, take_all, ℕ}
+use Rattle.serial_set.proofs.RunIteration.{piece_first, since_after}
+use Rattle.serial_set.specs.Iteration.{since}
+use Rattle.span_vec.proofs.vector.SpanVecSpans.piece_from.Goals as goal
 
 whole : (xs : List Span) (at : ℕ) → take (length xs - at) (drop at xs) ≡ drop at xs
 whole xs at = take_all _ _ (omega (arith, length-drop at xs))

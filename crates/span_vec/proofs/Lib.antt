@@ -1,0 +1,4 @@
+mod AddedInTurn
+mod Common
+mod MergedSpans
+mod SpanLookup
