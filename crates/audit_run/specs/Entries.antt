@@ -8,7 +8,7 @@ use Rattle.audit_tree.specs.Paths.{path_in}
 use Rattle.audit_tree.specs.declared.names.Selection.{Selection}
 use Rattle.audit_tree.specs.declared.names.Selection.TheVariants as selections
 use Rattle.krl_audit.specs.Front.{fronts_of, is_read_by_lines, reads_every}
-use Rattle.krl_audit.specs.Visible.{visible_bytes}
+use Rattle.line_pieces.specs.Visible.{visible_bytes}
 use Rattle.krl_audit.specs.declared.front.Fronts.{Fronts}
 use Rattle.krl_audit.specs.declared.front.Fronts.TheVariants as fronts
 use Rattle.krl_audit.specs.declared.why.Refusal.{Refusal}

@@ -4,7 +4,7 @@ use Rattle.std.specs.Prelude.{[], ◌∷◌, ◌++◌, codes, length, take}
 use Rattle.std.specs.Prelude.{Option, Some, None, IfSome, Result, Ok, Err}
 use Rattle.std.specs.Borrow.{Bor}
 use Rattle.std.specs.Str.{IsUtf8, bytes_eq}
-use Rattle.krl_audit.specs.Visible.{visible_bytes}
+use Rattle.line_pieces.specs.Visible.{visible_bytes}
 use Rattle.krl_audit.specs.declared.why.Refusal.{Refusal}
 use Rattle.krl_audit.specs.declared.why.Refusal.TheVariants as refusals
 use Rattle.audit_run.specs.Entries.{FailsAt, IsOpened, IsRead, IsRegular}

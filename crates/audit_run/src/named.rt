@@ -4,7 +4,7 @@ ghost use Rattle.std.specs.Prelude.{◌≡◌, ◌+◌, ◌∷◌, ◌++◌, [],
 ghost use Rattle.std.specs.Prelude.{OnOk};
 ghost use Rattle.std.specs.Prelude.{◌<◌, ◌≤◌, length, nat_lt, IfSome, Ok, Some};
 ghost use Rattle.std.specs.Result.{result_err};
-ghost use Rattle.krl_audit.specs.Visible.{visible_bytes};
+ghost use Rattle.line_pieces.specs.Visible.{visible_bytes};
 ghost use Rattle.audit_run.specs.Named.{AreNamed, Each, IsBroken, IsInput, IsNamed, IsOnList};
 ghost use Rattle.audit_run.specs.Named.{IsOnNames, IsWaiting, IsWaitingIf, input_after};
 ghost use Rattle.audit_run.specs.Named.{is_file, irregular_at, most_name, names_to, other_at};
@@ -21,7 +21,8 @@ use crate::stop::Stop;
 use crate::tree::Tree;
 use crate::walk::audit_directory;
 use byte_streams::Source;
-use krl_audit::{Refusal, visible_name};
+use krl_audit::Refusal;
+use line_pieces::visible_name;
 use std::alloc::AllocError;
 use std::str;
 

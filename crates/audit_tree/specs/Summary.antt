@@ -3,7 +3,7 @@ use Rattle.std.specs.Prelude.{ℕ, ◌==◌, Bool, true, false, List, [], ◌++�
 use Rattle.std.specs.Prelude.{if◌then◌else◌, Option, Some, None}
 use Rattle.cert_listing.specs.Time.{instant_text}
 use Rattle.krl_audit.specs.declared.done.Stated.{Stated}
-use Rattle.krl_audit.specs.Amount.{amount_text}
+use Rattle.line_pieces.specs.Amount.{amount_text}
 use Rattle.audit_tree.specs.declared.summary.Summary.{Summary}
 
 -- the version and the date of a list

@@ -1,10 +1,10 @@
 //! The paths of the entries of a directory.
 
 ghost use Rattle.std.specs.Prelude.{◌≡◌, IfOk, false, string_bytes};
-ghost use Rattle.krl_audit.specs.Visible.{visible_bytes};
+ghost use Rattle.line_pieces.specs.Visible.{visible_bytes};
 ghost use Rattle.audit_tree.specs.Paths.{path_in};
 
-use krl_audit::visible_name;
+use line_pieces::visible_name;
 use std::alloc::{AllocError, Global};
 
 /// The path of a name in a directory.

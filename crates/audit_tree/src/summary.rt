@@ -5,8 +5,8 @@ ghost use Rattle.audit_tree.specs.Summary.{findings_text, inputs_text, list_text
 ghost use Rattle.audit_tree.specs.Summary.{names_text, others_text, skipped_words, summary_text};
 
 use cert_listing::time_text;
-use krl_audit::{Amount, Counts, FileCounts, Stated};
-use line_pieces::{Printed, Words, put};
+use krl_audit::{Counts, FileCounts, Stated};
+use line_pieces::{Amount, Printed, Words, put};
 use std::alloc::{AllocError, Global};
 
 /// The counts of an audit, and the list that it queried.

@@ -8,7 +8,7 @@ use Rattle.run_faults.specs.declared.file_fault.FileFault.TheVariants as files
 use Rattle.run_faults.specs.RunFault.{RunFault, cause_text, line_part}
 use Rattle.audit_run.specs.declared.run.Audited.{Audited}
 use Rattle.audit_run.specs.declared.run.Audited.TheVariants as ends
-use Rattle.krl_audit.specs.Visible.{visible}
+use Rattle.line_pieces.specs.Visible.{visible}
 
 -- a line about a file, in words
 abbrev pub words_line : (name why : List ℕ) → List ℕ

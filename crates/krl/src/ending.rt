@@ -2,19 +2,19 @@
 
 ghost use Rattle.std.specs.Prelude.{◌≡◌, IfOk, false};
 ghost use Rattle.run_faults.specs.RunFault.{line_part};
-ghost use Rattle.krl_audit.specs.Causes.{cause_words};
+ghost use Rattle.run_faults.specs.Causes.{cause_words};
 ghost use Rattle.krl.specs.Ending.{audit_status, fault_line, is_looked_at, words_line};
 
 use crate::Krl;
 use crate::loading::{bytes_of, why_unopened};
 use audit_run::Audited;
 use audit_tree::{Summary, push_summary};
-use krl_audit::{Visible, cause_words, refusal_words};
+use krl_audit::refusal_words;
 use krl_core::KrlFault;
 use krl_openssh::Incomparable;
-use line_pieces::{Printed, Words, put};
+use line_pieces::{Printed, Visible, Words, put};
 use program_edge::{end, print_line, stop};
-use run_faults::{Cause, FileFault, KeyCause, RunFault};
+use run_faults::{Cause, FileFault, KeyCause, RunFault, cause_words};
 use run_output::FAILED;
 use std::alloc::{AllocError, Global};
 use std::fs;

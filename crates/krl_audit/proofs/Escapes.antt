@@ -17,7 +17,7 @@ use Rattle.ssh_cert.specs.Escape.{hex_digit, numbered}
 use Rattle.key_text.specs.Fingerprints.{fingerprint_text, unpadded}
 use Rattle.key_text.specs.declared.hash.Hash.TheVariants.{Sha256}
 use Rattle.krl_audit.specs.Colour.{HasNoEscape}
-use Rattle.krl_audit.specs.Visible.{is_bidi_or_line_end, visible, visible_byte, visible_bytes, visible_char}
+use Rattle.line_pieces.specs.Visible.{is_bidi_or_line_end, visible, visible_byte, visible_bytes, visible_char}
 
 abbrev is_escape : ℕ → Bool
 is_escape byte = byte == 27

@@ -10,4 +10,3 @@ pub mod Shallow
 pub mod EachReason
 pub mod Escapes
 pub mod Painted
-pub mod AsciiNames

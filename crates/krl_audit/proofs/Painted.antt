@@ -36,8 +36,9 @@ use Rattle.krl_entries.specs.declared.reasons.Reasons.{Reasons}
 use Rattle.krl_audit.specs.Colour.{HasNoEscape, IsCount, IsPainted, in_colour, painted, verdict_word, word_text}
 use Rattle.krl_audit.specs.More.{are_more, kind_mark, kind_word, more_line, more_words}
 use Rattle.krl_audit.specs.Text.{comment_words, key_line, key_words, location_text, of_authority, reason_parts, reason_words, reasons_text, type_of, unread_line}
-use Rattle.krl_audit.specs.Visible.{visible}
-use Rattle.krl_audit.specs.Why.{line_why, refusal_why, why_text}
+use Rattle.line_pieces.specs.Visible.{visible}
+use Rattle.krl_audit.specs.Why.{refusal_why, why_text}
+use Rattle.run_faults.specs.Causes.{line_words}
 use Rattle.krl_audit.specs.declared.counts.LineKind.{LineKind}
 use Rattle.krl_audit.specs.declared.counts.LineKind.TheVariants as line_kinds
 use Rattle.krl_audit.specs.declared.why.Refusal.{Refusal}
@@ -227,7 +228,7 @@ private_free privates.Trailing = refl
 private_free (privates.Wire fault) = free_append (codes "private 11 Wire, ") (fault_text fault) refl (wire_free fault)
 private_free privates.NoMemory = refl
 
-line_free : (fault : LineFault) → HasNoEscape (line_why fault)
+line_free : (fault : LineFault) → HasNoEscape (line_words fault)
 line_free lines.NoKey = refl
 line_free lines.Base64 = refl
 line_free lines.WordDiffers = refl

@@ -1,11 +1,8 @@
 pub mod Front
-pub mod Amount
 pub mod Why
-pub mod Causes
 pub mod Outcome
 pub mod Counts
 pub mod Tally
-pub mod Visible
 pub mod Text
 pub mod More
 pub mod Objects

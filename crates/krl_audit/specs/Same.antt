@@ -2,7 +2,7 @@
 use Rattle.std.specs.Prelude.{ℕ, false, List, [], ◌∷◌, ◌++◌, codes}
 use Rattle.json.specs.Json.{Json}
 use Rattle.json_lines.specs.Field.{Field, json_line, object_of, word_field}
-use Rattle.krl_audit.specs.Visible.{visible}
+use Rattle.line_pieces.specs.Visible.{visible}
 use Rattle.krl_audit.specs.declared.judge.Form.{Form}
 use Rattle.krl_audit.specs.declared.judge.Form.TheVariants as forms
 

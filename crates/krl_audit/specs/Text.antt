@@ -11,7 +11,7 @@ use Rattle.krl_entries.specs.declared.reasons.Reason.{Reason}
 use Rattle.krl_entries.specs.declared.reasons.Reason.TheVariants as reasons
 use Rattle.krl_entries.specs.declared.reasons.Reasons.{Reasons}
 use Rattle.krl_audit.specs.Colour.{unread_word, verdict_word}
-use Rattle.krl_audit.specs.Visible.{visible}
+use Rattle.line_pieces.specs.Visible.{visible}
 use Rattle.krl_audit.specs.Why.{why_text}
 use Rattle.krl_audit.specs.declared.why.Why.{Why}
 

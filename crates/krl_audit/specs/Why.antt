@@ -2,19 +2,12 @@
 use Rattle.std.specs.Prelude.{ℕ, List, ◌++◌, codes, decimal}
 use Rattle.ssh_cert.specs.SubjectFault.{subject_fault_text}
 use Rattle.key_text.specs.PrivateFault.{private_fault_text}
-use Rattle.key_text.specs.declared.line_fault.LineFault.{LineFault}
-use Rattle.key_text.specs.declared.line_fault.LineFault.TheVariants as lines
 use Rattle.keyed_lines.specs.declared.key_cause.KeyCause.TheVariants as keys
+use Rattle.run_faults.specs.Causes.{line_words}
 use Rattle.krl_audit.specs.declared.why.Refusal.{Refusal}
 use Rattle.krl_audit.specs.declared.why.Refusal.TheVariants as refusals
 use Rattle.krl_audit.specs.declared.why.Why.{Why}
 use Rattle.krl_audit.specs.declared.why.Why.TheVariants as whys
-
-abbrev pub line_why : LineFault → List ℕ
-line_why lines.NoKey = codes "no key type stands there"
-line_why lines.Base64 = codes "the key is not whole base64"
-line_why lines.WordDiffers = codes "the key is of another type"
-line_why lines.NoMemory = codes "out of memory"
 
 abbrev pub refusal_why : Refusal → List ℕ
 refusal_why refusals.Missing = codes "No such file or directory"
@@ -31,7 +24,7 @@ refusal_why refusals.Read = codes "it cannot be read to its end"
 refusal_why refusals.TooLong = codes "it has more than 16 MiB"
 
 abbrev pub why_text : Why → List ℕ
-why_text (whys.Key (keys.Line fault)) = line_why fault
+why_text (whys.Key (keys.Line fault)) = line_words fault
 why_text (whys.Key (keys.Subject fault)) =
     codes "the key is cut or misspelt: " ++ subject_fault_text fault
 why_text whys.ZeroInId = codes "its key ID has a zero byte"

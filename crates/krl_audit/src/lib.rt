@@ -2,9 +2,7 @@
 //! key is revoked, with the reasons, or if it cannot be read.
 #![tactic(auto)]
 
-mod amount;
 mod auditor;
-mod causes;
 mod colour;
 mod counts;
 mod done;
@@ -23,12 +21,9 @@ mod same;
 mod survey;
 mod tally;
 mod text;
-mod visible;
 mod why;
 
-pub use amount::Amount;
 pub use auditor::Auditor;
-pub use causes::cause_words;
 pub use counts::{Counts, LineKind};
 pub use done::{FileCounts, ListFacts, Stated};
 pub use fault_text::refusal_fault;
@@ -36,5 +31,4 @@ pub use front::{Fronts, is_read_by_lines, reads_every};
 pub use judge::{Form, Judge, Shown};
 pub use keyless::keyless_lines;
 pub use outcome::{Found, Outcome, Outcomes, read_outcomes};
-pub use visible::{Visible, visible_name};
 pub use why::{Refusal, Why, refusal_words};

@@ -5,11 +5,10 @@ ghost use Rattle.key_text.specs.Fingerprints.{fingerprint_text};
 ghost use Rattle.key_text.specs.declared.hash.Hash.TheVariants.{Sha256};
 ghost use Rattle.krl_audit.specs.Text.{reason_parts, reason_words};
 
-use crate::visible::Visible;
 use key_text::{Hash, fingerprint};
 use krl_entries::{Reason, Reasons};
 use krl_types::Subject;
-use line_pieces::{Printed, Words, pieces, put};
+use line_pieces::{Printed, Visible, Words, pieces, put};
 use std::alloc::{AllocError, Global};
 
 // The authority that a certificate has, by the fingerprint of its key.

@@ -8,10 +8,9 @@ ghost use Rattle.krl_audit.specs.Same.{same_fields, same_line, same_object, same
 
 use crate::auditor::{Auditor, say_made};
 use crate::judge::Form;
-use crate::visible::Visible;
 use byte_streams::Sink;
 use json_lines::{LineWriter, put_word};
-use line_pieces::put;
+use line_pieces::{Visible, put};
 use run_faults::{Cause, RunFault};
 use std::alloc::{AllocError, Global};
 

@@ -7,12 +7,11 @@ ghost use Rattle.krl_audit.specs.Text.{unread_line};
 use crate::colour::{unread_mark, verdict_mark};
 use crate::outcome::Found;
 use crate::reasons::{after_first, push_parts};
-use crate::visible::Visible;
 use crate::why::{Told, Why};
 use key_text::{Hash, fingerprint};
 use krl_entries::Reasons;
 use krl_types::Subject;
-use line_pieces::{Printed, Words, pieces, put};
+use line_pieces::{Printed, Visible, Words, pieces, put};
 use ssh_wire::Cursor;
 use std::alloc::{AllocError, Global};
 

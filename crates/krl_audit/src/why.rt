@@ -1,11 +1,11 @@
 //! Why a line or a file is not read.
 
 ghost use Rattle.std.specs.Prelude.{◌≡◌};
-ghost use Rattle.krl_audit.specs.Why.{line_why, refusal_why, why_text};
+ghost use Rattle.krl_audit.specs.Why.{refusal_why, why_text};
 
-use key_text::{LineFault, PrivateFault};
+use key_text::PrivateFault;
 use line_pieces::{Printed, Words, put};
-use run_faults::KeyCause;
+use run_faults::{KeyCause, line_words};
 use std::alloc::{AllocError, Global};
 
 /// Why a file is not read.
@@ -64,7 +64,7 @@ impl Printed for Told {
 
     fn push_to(&self, out: &mut Vec<u8>) -> Result<(), AllocError> {
         match self.why {
-            Why::Key(KeyCause::Line(fault)) => put!(out; Words(line_why(fault))),
+            Why::Key(KeyCause::Line(fault)) => put!(out; Words(line_words(fault))),
             Why::Key(KeyCause::Subject(fault)) => {
                 let said = fault.to_string(self.alloc)?;
                 put!(out; b"the key is cut or misspelt: ", Words(said.as_bytes()))
@@ -77,18 +77,6 @@ impl Printed for Told {
             Why::File(refusal) => put!(out; Words(refusal_words(refusal))),
             Why::NoKeys(lines) => put!(out; b"none of its ", lines, b" lines is a key"),
         }
-    }
-}
-
-// The words for a line without a key.
-pub(crate) fn line_why(fault: LineFault) -> &'static [u8]
-    ensures { result.now ≡ line_why fault }
-{
-    match fault {
-        LineFault::NoKey => b"no key type stands there",
-        LineFault::Base64 => b"the key is not whole base64",
-        LineFault::WordDiffers => b"the key is of another type",
-        LineFault::NoMemory => b"out of memory",
     }
 }
 

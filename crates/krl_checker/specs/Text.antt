@@ -2,8 +2,8 @@
 use Rattle.std.specs.Prelude.{ℕ, ◌-◌, ◌/◌, false, nat_lt, if◌then◌else◌, ◌==◌, List, [], ◌∷◌, ◌++◌}
 use Rattle.std.specs.Prelude.{codes, decimal, Option, Some, None}
 use Rattle.cert_listing.specs.Time.{instant_text}
-use Rattle.krl_audit.specs.Amount.{amount_text}
-use Rattle.krl_audit.specs.Visible.{visible}
+use Rattle.line_pieces.specs.Amount.{amount_text}
+use Rattle.line_pieces.specs.Visible.{visible}
 use Rattle.krl_audit.specs.declared.counts.Counts.{Counts}
 use Rattle.krl_openssh.specs.Difference.{difference_words}
 use Rattle.krl_openssh.specs.declared.difference.Difference.{Difference}

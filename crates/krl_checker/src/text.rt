@@ -8,9 +8,9 @@ ghost use Rattle.krl_checker.specs.Text.{no_date, no_version, span_text, subject
 
 use crate::condition::Condition;
 use cert_listing::time_text;
-use krl_audit::{Amount, Counts, Visible};
+use krl_audit::Counts;
 use krl_openssh::Difference;
-use line_pieces::{Printed, Words, put};
+use line_pieces::{Amount, Printed, Visible, Words, put};
 use plain_list::DsaLine;
 use std::alloc::{AllocError, Global};
 

@@ -1,0 +1,2 @@
+pub mod Amount
+pub mod Visible

@@ -14,7 +14,7 @@ use Rattle.ssh_key.specs.declared.fault.KeyFault.{KeyFault}
 use Rattle.key_text.specs.Fingerprints.{fingerprint_text, unpadded}
 use Rattle.key_text.specs.declared.hash.Hash.TheVariants.{Sha256}
 use Rattle.cert_listing.specs.Time.{instant_text}
-use Rattle.krl_audit.specs.Visible.{visible}
+use Rattle.line_pieces.specs.Visible.{visible}
 use Rattle.krl_entries.specs.Revocations.{Revocations}
 use Rattle.krl_format.specs.declared.header.Header.{Header}
 use Rattle.text_entries.specs.Values.{looks_like_key}

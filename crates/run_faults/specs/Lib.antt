@@ -1,5 +1,6 @@
 pub mod FileFault
 pub mod SpecCause
+pub mod Causes
 pub mod Named
 pub mod RunFault
 pub mod Keys

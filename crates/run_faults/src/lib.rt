@@ -2,6 +2,7 @@
 #![tactic(auto)]
 
 mod cause;
+mod causes;
 mod file_fault;
 mod file_keys;
 mod named;
@@ -9,6 +10,7 @@ mod run_fault;
 mod spec_cause;
 
 pub use cause::{Cause, cause_of};
+pub use causes::{cause_words, line_words};
 pub use file_fault::FileFault;
 pub use file_keys::{FileKey, FileKeys, keys_of};
 pub use keyed_lines::KeyCause;

@@ -10,7 +10,7 @@ use Rattle.std.proofs.lemmas.Str.{inside_one}
 use Rattle.cert_listing.specs.Time.{clock_text, date_digits, day_text, instant_text, month_at, two_digits, year_9999, year_at}
 use Rattle.key_text.specs.Blanks.{before_ending}
 use Rattle.key_text.specs.Lines.{is_newline}
-use Rattle.krl_audit.specs.Visible.{is_bidi_or_line_end, visible, visible_byte, visible_char}
+use Rattle.line_pieces.specs.Visible.{is_bidi_or_line_end, visible, visible_byte, visible_char}
 use Rattle.krl_format.specs.declared.header.Header.{Header}
 use Rattle.krl_spec.specs.Blanks.{after_endings, bare_line}
 use Rattle.list_text.specs.Text.{comment_part, list_line}

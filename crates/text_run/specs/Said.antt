@@ -1,8 +1,8 @@
 -- The line about a list that was made (krl(1), KRL MAKE).
 use Rattle.std.specs.Prelude.{ℕ, ◌==◌, false, nat_lt, List, [], ◌++◌, codes, decimal, drop, length}
 use Rattle.std.specs.Prelude.{if◌then◌else◌}
-use Rattle.krl_audit.specs.Amount.{amount_text}
-use Rattle.krl_audit.specs.Visible.{visible}
+use Rattle.line_pieces.specs.Amount.{amount_text}
+use Rattle.line_pieces.specs.Visible.{visible}
 use Rattle.list_text.specs.declared.counts.Counts.{Counts}
 
 -- a number of things after a comma, if there are any

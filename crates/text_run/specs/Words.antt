@@ -4,8 +4,8 @@ use Rattle.run_faults.specs.RunFault.{cause_text, line_part}
 use Rattle.run_faults.specs.declared.cause.Cause.TheVariants as runs
 use Rattle.run_faults.specs.declared.spec_cause.SpecCause.{SpecCause}
 use Rattle.run_faults.specs.declared.spec_cause.SpecCause.TheVariants as specs
-use Rattle.krl_audit.specs.Causes.{cause_words}
-use Rattle.krl_audit.specs.Visible.{visible}
+use Rattle.run_faults.specs.Causes.{cause_words}
+use Rattle.line_pieces.specs.Visible.{visible}
 use Rattle.text_entries.specs.Misspelt.{Misspelt}
 use Rattle.text_entries.specs.declared.hint.Hint.{Hint}
 use Rattle.text_entries.specs.declared.hint.Hint.TheVariants as hints

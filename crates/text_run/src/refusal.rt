@@ -6,9 +6,8 @@ ghost use Rattle.text_run.specs.Words.{fault_line, hint_words, make_words, meant
 ghost use Rattle.text_run.specs.Words.{text_words, why_words};
 
 use crate::make_fault::{MakeCause, MakeFault};
-use krl_audit::{Visible, cause_words};
-use line_pieces::{Printed, Words, put};
-use run_faults::{Cause, SpecCause};
+use line_pieces::{Printed, Visible, Words, put};
+use run_faults::{Cause, SpecCause, cause_words};
 use std::alloc::{AllocError, Global};
 use text_entries::{Hint, Misspelt, TextCause};
 

@@ -6,9 +6,8 @@ ghost use Rattle.text_run.specs.Said.{amounts, made_line, words};
 
 use crate::counting::count;
 use itoa::Buffer;
-use krl_audit::Visible;
 use krl_core::Revocations;
-use line_pieces::{Printed, Words, put};
+use line_pieces::{Printed, Visible, Words, put};
 use list_text::Counts;
 use span_sets::Held;
 use std::alloc::{AllocError, Global};

@@ -2,7 +2,7 @@
 
 use crate::tests::keys::{ALICE, ALICE_PRINT, AUTHORITY, AUTHORITY_PRINT, BOB, BOB_PRINT};
 use crate::tests::made::{ALL, FINDINGS, NOTHING, alice_and_bob, all_of_bob, nothing, said_of};
-use krl_audit::visible_name;
+use line_pieces::visible_name;
 use std::alloc::Global;
 use std::process::Abort;
 use test_fixtures::joined;

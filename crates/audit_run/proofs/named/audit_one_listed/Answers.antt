@@ -1,7 +1,7 @@
 -- The name is too long, no text, or that of what it leads to.
 use Rattle.std.proofs.Common.{◌∙◌, ap, false, length, refl, subst, sym, List, ℕ}
 use Rattle.std.proofs.lemmas.Bool.{ltb-false, ltb-true}
-use Rattle.krl_audit.specs.Visible.{visible_bytes}
+use Rattle.line_pieces.specs.Visible.{visible_bytes}
 use Rattle.krl_audit.specs.declared.why.Refusal.TheVariants.{LongName}
 use Rattle.audit_run.specs.Named.{IsOnList, before_name, long_name, no_text}
 use Rattle.audit_run.specs.Visits.{Went, refused}

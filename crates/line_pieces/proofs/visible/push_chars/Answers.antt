@@ -2,8 +2,8 @@
 use Rattle.std.proofs.Common.{flat_map, sym, ap, ◌∙◌, map-id, ◌++◌}
 use Rattle.std.proofs.lemmas.Iterator.{YieldsList-from_chars}
 use Rattle.std.proofs.lemmas.Iterator.Consumers.{YieldsList-end}
-use Rattle.krl_audit.specs.Visible.{visible_char}
-use Rattle.krl_audit.proofs.visible.push_chars.Goals as goal
+use Rattle.line_pieces.specs.Visible.{visible_char}
+use Rattle.line_pieces.proofs.visible.push_chars.Goals as goal
 
 pub returns : goal.returns
 returns c =

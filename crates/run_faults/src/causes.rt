@@ -1,20 +1,22 @@
 //! Why a run stops, in words for people.
 
 ghost use Rattle.std.specs.Prelude.{◌≡◌};
-ghost use Rattle.krl_audit.specs.Causes.{cause_words, file_words, krl_words};
+ghost use Rattle.run_faults.specs.Causes.{cause_words, file_words, krl_words, line_words};
 
-use crate::why::line_why;
+use crate::cause::Cause;
+use crate::file_fault::FileFault;
+use key_text::LineFault;
+use keyed_lines::KeyCause;
 use krl_types::KrlFault;
-use run_faults::{Cause, FileFault, KeyCause};
 
-/// Why a run stops at a file, in words. Where the file is not opened, `refusal_words` says more.
+/// Why a run stops at a file, in words. `krl` says more about a file that is not opened.
 pub fn cause_words(cause: Cause) -> &'static [u8]
     ensures { result.now ≡ cause_words cause }
 {
     match cause {
         Cause::File(fault) => file_words(fault),
         Cause::Krl(fault) => krl_words(fault),
-        Cause::Key(KeyCause::Line(fault)) => line_why(fault),
+        Cause::Key(KeyCause::Line(fault)) => line_words(fault),
         Cause::Key(KeyCause::Subject(_)) => b"the key is cut or misspelt",
         Cause::Private(_) => b"the private key file is cut or misspelt",
         Cause::Spec(_) => b"no line of a specification file",
@@ -60,5 +62,17 @@ fn krl_words(fault: KrlFault) -> &'static [u8]
         KrlFault::Read => b"it cannot be read to its end",
         KrlFault::NoMemory => b"out of memory",
         KrlFault::CriticalExtension => b"a critical extension, which this program does not know",
+    }
+}
+
+/// The words for a line without a key.
+pub fn line_words(fault: LineFault) -> &'static [u8]
+    ensures { result.now ≡ line_words fault }
+{
+    match fault {
+        LineFault::NoKey => b"no key type stands there",
+        LineFault::Base64 => b"the key is not whole base64",
+        LineFault::WordDiffers => b"the key is of another type",
+        LineFault::NoMemory => b"out of memory",
     }
 }

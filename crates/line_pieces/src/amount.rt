@@ -1,6 +1,8 @@
 //! Numbers of things, in words.
 
-use line_pieces::{Printed, Words, put};
+use crate::printed::Printed;
+use crate::words::Words;
+use crate::{pieces, put};
 use std::alloc::AllocError;
 
 /// A number, and the noun that it counts, in the singular.
@@ -8,7 +10,7 @@ use std::alloc::AllocError;
 pub struct Amount<'a>(pub u64, pub &'a [u8]);
 
 impl<'a> Printed for Amount<'a> {
-    ghost use Rattle.krl_audit.specs.Amount.{amount_text};
+    ghost use Rattle.line_pieces.specs.Amount.{amount_text};
 
     ghost text = { λ amount. amount_text amount.0 amount.1.now };
 

@@ -6,7 +6,7 @@ use Rattle.std.proofs.lemmas.List.{get_or_past}
 use Rattle.std.proofs.lemmas.Str.{IsAscii-append, IsUtf8-from_ascii, encode_ascii}
 use Rattle.std.proofs.lemmas.Str.Ascii.{IsAscii-cons, IsAscii-nil}
 use Rattle.ssh_cert.specs.Escape.{hex_digit, numbered}
-use Rattle.krl_audit.specs.Visible.{is_bidi_or_line_end, visible_byte, visible_bytes, visible_char}
+use Rattle.line_pieces.specs.Visible.{is_bidi_or_line_end, visible_byte, visible_bytes, visible_char}
 
 abbrev digits_below : ℕ → Bool
 digits_below zero = true

@@ -3,8 +3,8 @@ use Rattle.std.proofs.Common.{sym, inl, inr}
 use Rattle.std.proofs.lemmas.Bool.{cases_Bool}
 use Rattle.std.proofs.lemmas.Str.{IsUtf8-from_is_utf8, is_utf8-from_IsUtf8}
 use Rattle.std.specs.Str.{is_utf8}
-use Rattle.krl_audit.specs.Visible.{visible}
-use Rattle.krl_audit.proofs.visible.push_visible.Goals as goal
+use Rattle.line_pieces.specs.Visible.{visible}
+use Rattle.line_pieces.proofs.visible.push_visible.Goals as goal
 
 pub returns-in-Ok : goal.returns-in-Ok
 unfolding visible

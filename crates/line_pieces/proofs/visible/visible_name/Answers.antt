@@ -1,8 +1,8 @@
 -- The shown name is ASCII, so it is a string.
 use Rattle.std.proofs.Common.{◌++◌, IsUtf8, ap, false, subst, sym, ◌∙◌}
-use Rattle.krl_audit.specs.Visible.{visible_bytes}
-use Rattle.krl_audit.proofs.AsciiNames.{bytes_utf8}
-use Rattle.krl_audit.proofs.visible.visible_name.Goals as goal
+use Rattle.line_pieces.specs.Visible.{visible_bytes}
+use Rattle.line_pieces.proofs.AsciiNames.{bytes_utf8}
+use Rattle.line_pieces.proofs.visible.visible_name.Goals as goal
 
 -- src/visible.rt:33:8
 pub unwrap-requires : goal.unwrap-requires

@@ -4,10 +4,10 @@ ghost use Rattle.std.specs.Prelude.{◌≡◌, ◌++◌, ◌<◌, IfOk, OnOk, fa
 ghost use Rattle.std.specs.List.{flat_map};
 ghost use Rattle.std.specs.Str.{chars};
 ghost use Rattle.ssh_cert.specs.Escape.{numbered};
-ghost use Rattle.krl_audit.specs.Visible.{is_bidi_or_line_end, visible, visible_byte};
-ghost use Rattle.krl_audit.specs.Visible.{visible_bytes, visible_char};
+ghost use Rattle.line_pieces.specs.Visible.{is_bidi_or_line_end, visible, visible_byte};
+ghost use Rattle.line_pieces.specs.Visible.{visible_bytes, visible_char};
 
-use line_pieces::Printed;
+use crate::printed::Printed;
 use ssh_cert::push_numbered;
 use std::alloc::{AllocError, Global};
 use std::str;

@@ -1,5 +1,7 @@
 -- The words for why a run stops.
 use Rattle.std.specs.Prelude.{ℕ, List, codes}
+use Rattle.key_text.specs.declared.line_fault.LineFault.{LineFault}
+use Rattle.key_text.specs.declared.line_fault.LineFault.TheVariants as keyless
 use Rattle.krl_types.specs.declared.krl_fault.KrlFault.{KrlFault}
 use Rattle.krl_types.specs.declared.krl_fault.KrlFault.TheVariants as lists
 use Rattle.keyed_lines.specs.declared.key_cause.KeyCause.TheVariants as keys
@@ -7,7 +9,6 @@ use Rattle.run_faults.specs.declared.cause.Cause.{Cause}
 use Rattle.run_faults.specs.declared.cause.Cause.TheVariants as causes
 use Rattle.run_faults.specs.declared.file_fault.FileFault.{FileFault}
 use Rattle.run_faults.specs.declared.file_fault.FileFault.TheVariants as files
-use Rattle.krl_audit.specs.Why.{line_why}
 
 abbrev pub file_words : FileFault → List ℕ
 file_words files.Open = codes "it cannot be opened"
@@ -35,10 +36,16 @@ krl_words lists.Read = codes "it cannot be read to its end"
 krl_words lists.NoMemory = codes "out of memory"
 krl_words lists.CriticalExtension = codes "a critical extension, which this program does not know"
 
+abbrev pub line_words : LineFault → List ℕ
+line_words keyless.NoKey = codes "no key type stands there"
+line_words keyless.Base64 = codes "the key is not whole base64"
+line_words keyless.WordDiffers = codes "the key is of another type"
+line_words keyless.NoMemory = codes "out of memory"
+
 abbrev pub cause_words : Cause → List ℕ
 cause_words (causes.File fault) = file_words fault
 cause_words (causes.Krl fault) = krl_words fault
-cause_words (causes.Key (keys.Line fault)) = line_why fault
+cause_words (causes.Key (keys.Line fault)) = line_words fault
 cause_words (causes.Key (keys.Subject fault)) = codes "the key is cut or misspelt"
 cause_words (causes.Private fault) = codes "the private key file is cut or misspelt"
 cause_words (causes.Spec fault) = codes "no line of a specification file"
