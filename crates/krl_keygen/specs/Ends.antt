@@ -1,5 +1,8 @@
 -- How the program ends (ssh-keygen(1)).
 use Rattle.std.specs.Prelude.{◌≡◌, ◌⊎◌, ℕ, Bool, List, map, Option, Ok, Err}
+use Rattle.key_listing.specs.Listing.{list_run_of}
+use Rattle.key_listing.specs.declared.listing.ListMode.{ListMode}
+use Rattle.key_listing.specs.declared.listing.ListMode.TheVariants as lists
 use Rattle.krl_job.specs.Job.{asked_of, authority_of}
 use Rattle.krl_job.specs.declared.job.Job.{Job}
 use Rattle.krl_job.specs.declared.job.Mode.{Mode}
@@ -15,10 +18,7 @@ use Rattle.option_table.specs.declared.fault.CommandFault.{CommandFault}
 use Rattle.run_faults.specs.Keys.{Named}
 use Rattle.run_faults.specs.RunFault.{RunFault}
 use Rattle.run_output.specs.Done.{Ends}
-use Rattle.run_output.specs.Listing.{list_run_of}
 use Rattle.run_output.specs.Run.{Item}
-use Rattle.run_output.specs.declared.listing.ListMode.{ListMode}
-use Rattle.run_output.specs.declared.listing.ListMode.TheVariants as lists
 
 -- The status is that of a run that ended so, with a device of which nothing is known.
 pub record EndsWith (items : List Item) (status : ℕ) : Type 0 where

@@ -5,6 +5,7 @@ ghost use Rattle.std.specs.Prelude.{◌≡◌, ◌⊎◌};
 ghost use Rattle.krl_keygen.specs.Ends.{EndsMode, IsListed, IsMade, IsQueried};
 
 use byte_streams::{FromBuffer, ToWrite};
+use key_listing::{ListMode, list_run};
 use krl_job::{Job, Mode};
 use krl_make::Wanted;
 use krl_runs::query_run;
@@ -15,7 +16,6 @@ use option_table::CommandFault;
 use program_edge::{Lines, Program, end, refuse, run, stop};
 use program_version::VERSION;
 use run_faults::{RunFault, fault_text};
-use run_output::{ListMode, list_run};
 use std::alloc::AllocError;
 use std::process::ExitCode;
 

@@ -1,6 +1,5 @@
 -- The item of a line, by what reading the line and its blob gives.
 use Rattle.std.proofs.Common.{◌≡◌, ℕ, true, false, List, Option, None, Some, Result, Ok, Err, refl, sym, ap, subst, ◌∙◌, inl, inr}
-use Rattle.std.specs.Result.{result_ok}
 use Rattle.std.proofs.lemmas.Bool.{cases_Bool}
 use Rattle.std.proofs.lemmas.Option.{same_Some}
 use Rattle.ssh_wire.proofs.Steps.{ok_is}
@@ -11,10 +10,6 @@ use Rattle.key_text.specs.KeyFile.{has_key}
 use Rattle.key_text.specs.KeyLine.{IsKeyLine}
 use Rattle.key_text.specs.LineReading.{KeyLine, line_at}
 use Rattle.key_text.specs.declared.line_fault.LineFault.{LineFault}
-use Rattle.ssh_cert.specs.Cert.{Cert}
-use Rattle.ssh_cert.specs.declared.fault.CertFault.{CertFault}
-use Rattle.key_text.specs.declared.hash.Hash.{Hash}
-use Rattle.run_output.specs.Listing.{certificate_answer, listed_certificate}
 use Rattle.krl_types.specs.Subject.{Subject}
 use Rattle.ssh_cert.specs.SubjectReading.{IsSubject, subject_of}
 use Rattle.ssh_cert.specs.declared.subject_fault.SubjectFault.{SubjectFault}
@@ -87,9 +82,3 @@ spelled_line answer name number text reply from is_line is_asked reads =
     let plain = plain_is_key from.line.blob from.asked is_asked in
     let same : plain.0 ≡ from.key = ok_is plain.0 from.key (key_at from.asked.plain) (reads plain.0 plain.1) from.is_key in
     (from.line, from.asked, from.key, record { is_line = is_line; is_asked = is_asked; is_key = subst (λ (key : PublicKey). IsKey from.asked.plain key) same plain.1 }, from.is_reply)
-
--- each answer of a run over certificates lists a certificate
-pub certificate_answered : (hash : Hash) (moment : ℕ) (name : List ℕ) (number : ℕ) (reply : Answer) (read : Result Cert CertFault) → Some reply ≡ certificate_answer hash moment name (Some number) (result_ok read)
-    → (certificate : Cert) × (read ≡ Ok certificate) × (reply ≡ listed_certificate hash moment name number certificate)
-certificate_answered hash moment name number reply (Ok certificate) e = (certificate, refl, same_Some reply (listed_certificate hash moment name number certificate) e)
-certificate_answered hash moment name number reply (Err fault) e = absurd cc

@@ -4,4 +4,3 @@ pub mod Printer
 pub mod Carries
 pub mod Expected
 pub mod Done
-pub mod Listing

@@ -2,12 +2,10 @@
 
 ghost use Rattle.std.specs.Prelude.{◌≡◌, ℕ, [], true, false, List, Some, None};
 ghost use Rattle.ssh_wire.specs.Wire.{IsBytes};
-ghost use Rattle.ssh_cert.specs.Cert.{Cert, IsCertificate};
 ghost use Rattle.krl_types.specs.Subject.{Subject};
 ghost use Rattle.ssh_key.specs.Key.{IsKey, PublicKey};
 ghost use Rattle.key_text.specs.Container.{IsContainer, IsPrivateFault};
 ghost use Rattle.key_text.specs.ContainerReading.{private_at};
-ghost use Rattle.key_text.specs.declared.hash.Hash.{Hash};
 ghost use Rattle.key_text.specs.KeyFile.{has_key};
 ghost use Rattle.key_text.specs.KeyLine.{IsKeyLine};
 ghost use Rattle.key_text.specs.LineFaults.{IsFirstLineFault};
@@ -20,7 +18,6 @@ ghost use Rattle.run_output.specs.declared.answer.Answer.{Answer};
 ghost use Rattle.keyed_lines.specs.declared.key_cause.KeyCause.TheVariants as keys;
 ghost use Rattle.run_faults.specs.declared.cause.Cause.TheVariants.{Key, Private};
 ghost use Rattle.run_output.specs.Items.{SpellsKey};
-ghost use Rattle.run_output.specs.Listing.{certify, listed_certificate};
 ghost use Rattle.run_faults.specs.Keys.{run_fault_at};
 ghost use Rattle.run_output.specs.Run.{Answered, Answering, Stopped, container_item, item_of};
 ghost use Rattle.run_output.specs.Run.{said};
@@ -30,7 +27,7 @@ use key_text::laws::{
     line_read_where_spelled, line_refused_by_first_fault, private_read_where_spelled,
     private_refused_by_first_fault,
 };
-use ssh_cert::laws::{asked_where_spelled, not_asked_by_first_fault, read_where_spelled};
+use ssh_cert::laws::{asked_where_spelled, not_asked_by_first_fault};
 use ssh_key::laws::blob_read_back;
 
 /// A line without a key has no item. A line with a key is answered, or skipped by the run, exactly
@@ -83,23 +80,4 @@ pub fn containers_by_what_is_spelled()
     private_refused_by_first_fault();
     blob_read_back();
     asked_where_spelled();
-}
-
-/// In a run over certificates, the certificate of a line is listed after the file's name and the
-/// line's number, and nothing else is answered.
-pub fn certificates_by_what_is_spelled()
-    ensures listed { (hash : Hash) (moment : ℕ) (name : List ℕ) (number : ℕ)
-        (text word blob comment : List ℕ) (certificate : Cert)
-        → has_key text ≡ true → IsKeyLine text word blob comment → IsCertificate blob certificate
-        → item_of (certify hash moment) name number text
-        ≡ Some (Answered name (listed_certificate hash moment name number certificate)) }
-    ensures only { (hash : Hash) (moment : ℕ) (name : List ℕ) (number : ℕ) (text : List ℕ)
-        (other : List ℕ) (reply : Answer) → IsBytes text
-        → item_of (certify hash moment) name number text ≡ Some (Answered other reply)
-        → (line : KeyLine) × (certificate : Cert)
-        × IsKeyLine text line.word line.blob line.comment × IsCertificate line.blob certificate
-        × (reply ≡ listed_certificate hash moment name number certificate) }
-{
-    items_by_what_is_spelled();
-    read_where_spelled();
 }

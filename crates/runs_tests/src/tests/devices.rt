@@ -4,9 +4,9 @@ use crate::tests::runs::{
     CLOSED, File, ONE, Ran, Said, all_named, asked, joined, listed, named, says,
 };
 use byte_streams::FromRead;
+use key_listing::ListMode;
 use key_text::Hash;
 use run_faults::{FileFault, load};
-use run_output::ListMode;
 use ssh_wire::Bytes;
 use std::alloc::Global;
 use std::process::Abort;

@@ -1,8 +1,8 @@
 //! Listing the keys and the certificates of files.
 
 use crate::tests::runs::{CLOSED, File, LONG, Said, joined, listed, named, repeated, says};
+use key_listing::ListMode;
 use key_text::Hash;
-use run_output::ListMode;
 use std::alloc::Global;
 use std::process::Abort;
 use test_fixtures::{CERT_LINE, CONTAINER, GITHUB_LINE, OTHER_LINE, Taker};

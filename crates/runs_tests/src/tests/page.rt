@@ -1,10 +1,11 @@
-//! The callers of the pages of `krl_spec`, `run_faults`, `run_output`, `krl_system`, `krl_make`,
-//! `krl_runs`, `program_edge` and `list_making`.
+//! The callers of the pages of `krl_spec`, `run_faults`, `run_output`, `key_listing`, `krl_system`,
+//! `krl_make`, `krl_runs`, `program_edge` and `list_making`.
 
 ghost use Rattle.std.specs.Prelude.{◌≡◌};
 
 use crate::tests::runs::holding;
 use byte_streams::{FromRead, Lent, ToWrite};
+use key_listing::{ListMode, list_run};
 use key_text::Hash;
 use krl_core::Revocations;
 use krl_make::{AuthorityOption, Wanted, make_run};
@@ -15,7 +16,7 @@ use list_making::{Made, Place, Put, make_at};
 use option_table::CommandFault;
 use program_edge::{Lines, stop};
 use run_faults::{Cause, FileFault, Named, RunFault, fault_text, keys_of};
-use run_output::{Done, ListMode, list_run};
+use run_output::{Done, Printer};
 use span_sets::Held;
 use ssh_cert::subject;
 use std::alloc::{AllocError, Global};
@@ -43,6 +44,15 @@ fn first_of<'a>(alloc: Global, file: &'a Named<'a>) -> Result<Option<u64>, RunFa
 fn key_lines<'a>(alloc: Global, file: &'a Named<'a>, text: &mut Vec<u8>) -> Done<'a> {
     let mut out = ToWrite::new(text);
     list_run(alloc, ListMode::Keys, Hash::Sha256, file, 0, &mut out)
+}
+
+/// Prints a line about a file, and ends the run.
+fn say_once<'a>(alloc: Global, name: &'a str, line: &[u8], text: &mut Vec<u8>) -> Done<'a> {
+    let mut buffer = Vec::new(alloc);
+    let mut out = ToWrite::new(text);
+    let mut printer = Printer::new(&mut buffer, &mut out);
+    let stop = printer.say(name, line, false).err();
+    printer.finish(stop)
 }
 
 /// Puts a list under a name, once no other update holds the list that is there.
@@ -168,6 +178,14 @@ fn a_key_is_listed(rt: HostRuntime) {
     assert!(rt; done.status == 0 && done.fault.is_none());
     let want = b"256 SHA256:+DiY3wvvV6TuJJhbpZisF/zLDA0zPMSvHdkr4UvCOqU no comment (ED25519)\n";
     assert!(rt; text.as_slice() == want.as_slice());
+}
+
+#[test]
+fn a_line_is_said(rt: HostRuntime) {
+    let mut text = Vec::new(rt.alloc());
+    let done = say_once(rt.alloc(), "keys", b"no key\n", &mut text);
+    assert!(rt; done.status == 0 && done.fault.is_none());
+    assert!(rt; text.as_slice() == b"no key\n".as_slice());
 }
 
 #[test]

@@ -1,10 +1,11 @@
 //! Runs over files that the tests make, and their output.
 
 use byte_streams::{FromRead, ToWrite};
+use key_listing::{ListMode, list_run};
 use key_text::Hash;
 use krl_runs::query_run;
 use run_faults::{FileFault, Named, fault_text};
-use run_output::{Done, ListMode, list_run};
+use run_output::Done;
 use ssh_wire::Bytes;
 use std::alloc::Global;
 use std::process::Abort;

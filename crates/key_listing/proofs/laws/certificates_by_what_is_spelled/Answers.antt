@@ -7,10 +7,10 @@ use Rattle.ssh_cert.specs.SubjectReading.{certified, of_certificate}
 use Rattle.ssh_cert.specs.declared.fault.CertFault.{CertFault}
 use Rattle.key_text.specs.LineReading.{content}
 use Rattle.run_output.specs.Items.{SpellsKey}
-use Rattle.run_output.specs.Listing.{certificate_answer, certify}
+use Rattle.key_listing.specs.Listing.{certificate_answer, certify}
 use Rattle.run_output.specs.Run.{said}
-use Rattle.run_output.proofs.Items.{certificate_answered}
-use Rattle.run_output.proofs.laws.certificates_by_what_is_spelled.Goals as goal
+use Rattle.key_listing.proofs.ListedCertificates.{certificate_answered}
+use Rattle.key_listing.proofs.laws.certificates_by_what_is_spelled.Goals as goal
 
 pub returns-clause-listed : goal.returns-clause-listed
 returns-clause-listed c = λ hash moment name number text word blob comment certificate has is_line is.

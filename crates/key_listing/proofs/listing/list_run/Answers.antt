@@ -1,10 +1,10 @@
 -- The answers are written, and the end of the run reported.
 use Rattle.std.proofs.Common.{refl, rules}
 use Rattle.run_faults.specs.Keys.{keys_of}
-use Rattle.run_output.specs.Listing.{list_run_of}
+use Rattle.key_listing.specs.Listing.{list_run_of}
 use Rattle.run_output.proofs.RunEnds.{ends_known}
 use Rattle.run_output.proofs.AnswerableKeys.{all_expected}
-use Rattle.run_output.proofs.listing.list_run.Goals as goal
+use Rattle.key_listing.proofs.listing.list_run.Goals as goal
 
 pub returns : goal.returns
 unfolding list_run_of

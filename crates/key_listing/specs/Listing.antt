@@ -14,8 +14,8 @@ use Rattle.key_text.specs.LineReading.{KeyLine}
 use Rattle.ssh_cert.specs.Escape.{escaped}
 use Rattle.run_faults.specs.declared.file_fault.FileFault.TheVariants as files
 use Rattle.run_output.specs.declared.answer.Answer.{Answer}
-use Rattle.run_output.specs.declared.listing.ListMode.{ListMode}
-use Rattle.run_output.specs.declared.listing.ListMode.TheVariants.{Keys, Certs}
+use Rattle.key_listing.specs.declared.listing.ListMode.{ListMode}
+use Rattle.key_listing.specs.declared.listing.ListMode.TheVariants.{Keys, Certs}
 use Rattle.run_faults.specs.Keys.{Named}
 use Rattle.run_output.specs.Run.{Answering, Item, file_items}
 

@@ -4,21 +4,16 @@ ghost use Rattle.std.specs.Prelude.{◌≡◌, ◌++◌, IfOk, Some, false, ⊤}
 ghost use Rattle.ssh_cert.specs.AnyKey.{asked_of, certificate_in, plain_of};
 ghost use Rattle.ssh_key.specs.Kind.{short_name_of};
 ghost use Rattle.run_output.specs.Done.{Ends};
-ghost use Rattle.run_output.specs.Listing.{certificate_answer, certificate_mark, certificate_text};
-ghost use Rattle.run_output.specs.Listing.{comment_or_none, description, list_line};
-ghost use Rattle.run_output.specs.Listing.{list_run_of, listing};
+ghost use Rattle.key_listing.specs.Listing.{certificate_answer, certificate_mark, certificate_text};
+ghost use Rattle.key_listing.specs.Listing.{comment_or_none, description, list_line};
+ghost use Rattle.key_listing.specs.Listing.{list_run_of, listing};
 
-use crate::answer::Answer;
-use crate::answers::Answers;
-use crate::done::Done;
-use crate::iteration::print_file;
-use crate::printer::Printer;
-use crate::run::Run;
 use byte_streams::Sink;
 use cert_listing::list_cert;
 use key_text::{Hash, fingerprint};
 use line_pieces::{Escaped, Printed, Words, pieces, put};
 use run_faults::{FileFault, FileKey, Named};
+use run_output::{Answer, Answers, Done, Printer, Run, print_file};
 use ssh_cert::{AnyKey, Cert};
 use ssh_key::plain_blob;
 use ssh_wire::Bytes;
