@@ -9,8 +9,9 @@ use key_listing::{ListMode, list_run};
 use krl_job::{Job, Mode};
 use krl_make::Wanted;
 use krl_runs::query_run;
-use krl_system::{ListPlace, date, moment, open_authority, open_files, open_list, open_or_input};
+use krl_system::{date, moment, open_authority, open_files, open_list, open_or_input};
 use krl_words::command_of;
+use list_file::ListPlace;
 use list_making::make_at;
 use option_table::CommandFault;
 use program_edge::{Lines, Program, end, refuse, run, stop};
@@ -60,15 +61,15 @@ fn run_job(rt: &HostRuntime, job: &Job) -> u8
     ensures { EndsMode job.now.mode job.now result }
 {
     match job.mode {
-        Mode::Keys => list_file(rt, job, ListMode::Keys),
-        Mode::Certs => list_file(rt, job, ListMode::Certs),
+        Mode::Keys => list_keys(rt, job, ListMode::Keys),
+        Mode::Certs => list_keys(rt, job, ListMode::Certs),
         Mode::Make => make_list(rt, job),
         Mode::Query => ask_list(rt, job),
     }
 }
 
 // `-l` and `-L`: lists the keys of the file, or its certificates.
-fn list_file(rt: &HostRuntime, job: &Job, mode: ListMode) -> u8
+fn list_keys(rt: &HostRuntime, job: &Job, mode: ListMode) -> u8
     ensures { IsListed mode job.now result }
 {
     let file = open_or_input(rt, job.file);

@@ -6,31 +6,21 @@ ghost use Rattle.krl_system.specs.Files.{authority_name, name_of, now_of};
 
 use byte_streams::FromRead;
 use krl_job::AuthorityOption;
-use list_making::read_rest;
+use list_making::{buffered, read_rest};
 use run_faults::{Cause, FileFault, Named, RunFault, load};
 use ssh_wire::Bytes;
 use std::alloc::Global;
 use std::fs::{self, File};
 use std::io::{BufReader, Read};
 
-// How many bytes of a list are read ahead.
-const BUFFER: usize = 65_536;
 // One byte more than a list may have, so that a longer one has its first fault.
 const MOST: u64 = 67_108_865;
 
 /// The list with this name, with a buffer.
 pub fn open_list(rt: &HostRuntime, name: &str) -> Result<BufReader<File>, Cause> {
     match fs::open(rt, name) {
-        Ok(file) => buffered(rt, file),
+        Ok(file) => buffered(rt.alloc(), file),
         Err(_) => Err(Cause::File(FileFault::Open)),
-    }
-}
-
-// A list with a buffer, since it is read a field at a time.
-pub(crate) fn buffered(rt: &HostRuntime, file: File) -> Result<BufReader<File>, Cause> {
-    match BufReader::with_capacity(rt.alloc(), BUFFER, file) {
-        Ok(list) => Ok(list),
-        Err(_) => Err(Cause::NoMemory),
     }
 }
 

@@ -8,5 +8,5 @@ mod version;
 
 pub use making::{Made, Maker, make_at};
 pub use place::{Place, Put};
-pub use reading::read_rest;
+pub use reading::{buffered, read_rest};
 pub use version::next_version;

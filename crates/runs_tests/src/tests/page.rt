@@ -1,5 +1,5 @@
 //! The callers of the pages of `krl_spec`, `run_faults`, `run_output`, `key_listing`, `krl_system`,
-//! `krl_make`, `krl_runs`, `program_edge` and `list_making`.
+//! `list_file`, `krl_make`, `krl_runs`, `program_edge` and `list_making`.
 
 ghost use Rattle.std.specs.Prelude.{◌≡◌};
 
@@ -11,7 +11,8 @@ use krl_core::Revocations;
 use krl_make::{AuthorityOption, Wanted, make_run};
 use krl_runs::query_run;
 use krl_spec::{SpecFault, Under, read_spec};
-use krl_system::ListPlace;
+use krl_system::open_list;
+use list_file::ListPlace;
 use list_making::{Made, Place, Put, make_at};
 use option_table::CommandFault;
 use program_edge::{Lines, stop};
@@ -53,6 +54,11 @@ fn say_once<'a>(alloc: Global, name: &'a str, line: &[u8], text: &mut Vec<u8>) -
     let mut printer = Printer::new(&mut buffer, &mut out);
     let stop = printer.say(name, line, false).err();
     printer.finish(stop)
+}
+
+/// Whether the list with this name can be opened.
+fn is_there(rt: &HostRuntime, name: &str) -> bool {
+    open_list(rt, name).is_ok()
 }
 
 /// Puts a list under a name, once no other update holds the list that is there.
@@ -135,6 +141,12 @@ fn a_list_is_made_at_a_device(rt: HostRuntime) {
         files: &[],
     };
     assert!(rt; made_at(&rt, &wanted).is_ok_and(|made| made.bytes.len() == 44));
+}
+
+#[test]
+fn a_list_without_a_file_is_not_there(rt: HostRuntime) {
+    assert!(rt; is_there(&rt, "/dev/null"));
+    assert!(rt; !is_there(&rt, "none"));
 }
 
 #[test]

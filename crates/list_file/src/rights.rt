@@ -2,7 +2,7 @@
 
 ghost use Rattle.std.specs.Prelude.{◌≡◌, ◌≤◌, IsNone, IfSome, bit_and};
 ghost use Rattle.std.specs.Fs.{metadata_mode};
-ghost use Rattle.krl_system.specs.Rights.{is_writer, kept_mode, lock_mode, shared_rights};
+ghost use Rattle.list_file.specs.Rights.{is_writer, kept_mode, lock_mode, shared_rights};
 
 use std::fs::{File, Metadata, Permissions};
 use std::io;

@@ -2,14 +2,13 @@
 
 ghost use Rattle.std.specs.Prelude.{◌≡◌, ℕ, IfOk, None, Ok, Some, false, true};
 ghost use Rattle.std.specs.Option.{ForSome};
-ghost use Rattle.krl_system.specs.declared.locked_list.Locked.{Locked as LockedOf};
+ghost use Rattle.list_file.specs.declared.locked_list.Locked.{Locked as LockedOf};
 
-use crate::files::buffered;
 use crate::locked_list::{Locked, MadeOf, Target, lock_target, release, unopened};
 use crate::replacing::{Written, write_list};
 use crate::waiting::Waiting;
 use byte_streams::{Failed, FromBuffer, Source};
-use list_making::{Place, Put};
+use list_making::{Place, Put, buffered};
 use run_faults::{Cause, FileFault};
 use std::fs::{self, File};
 
@@ -231,6 +230,6 @@ impl<'a> Place for ListPlace<'a> {
 fn reader_of(rt: &HostRuntime, file: File) -> Result<OldReader, Cause>
     ensures { IfOk result (λ it. ⟦<OldReader as Source>⟧.has_failed it ≡ false) }
 {
-    let reader = FromBuffer::new(buffered(rt, file)?);
+    let reader = FromBuffer::new(buffered(rt.alloc(), file)?);
     Ok(OldReader { reader })
 }
