@@ -330,6 +330,14 @@ audits 'a name that is excluded and named' 1 '1 file, 1 key: 1 revoked in 1 file
 audits 'a directory of which all is excluded' 3 \
   '1 file, 0 keys: 0 revoked in 0 files, 1 unread, 1 excluded' \
   'without/a: unread: no file in this directory is read by its name' --exclude cache without/a
+for it in a/cache / . ''; do
+  said=$("$program" audit -f r.krl --exclude "$it" without 2>&1)
+  judge "no entry has the name '$it'" "$(
+    differs 'exit status' 2 $?
+    differs 'the first line' \
+      'error: --exclude takes the name of a file or a directory, not a path' "${said%%$'\n'*}"
+  )"
+done
 # Directories on other file systems. /dev/shm is one on most machines.
 if [ "$(stat -c %d /dev/shm 2>/dev/null || stat -c %d /dev)" != "$(stat -c %d /dev)" ] &&
   there=$(mktemp -d /dev/shm/krl-test.XXXXXX); then

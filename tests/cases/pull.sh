@@ -28,9 +28,9 @@ options=() keep=(user-ca.pub host.pub)
 
 # pull: krl-pull fetches what is at $url, with these options and files of keys.
 pull() {
-  # A shell without jobs ignores INT in what it runs in the background.
+  # A shell without jobs ignores INT in what it runs in the background, and under nohup HUP too.
   PATH=$PWD/tools:$PATH KRL_SIGNERS=signers CURL_CA_BUNDLE=cert.pem exec \
-    env --default-signal=INT "$units/krl-pull" "${options[@]}" "$url" "$room/revoked.krl" \
+    env --default-signal=INT,HUP "$units/krl-pull" "${options[@]}" "$url" "$room/revoked.krl" \
     "${keep[@]}" >output 2>&1
 }
 

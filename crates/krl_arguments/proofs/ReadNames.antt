@@ -5,7 +5,6 @@ use Rattle.std.proofs.lemmas.List.{append-nil, map-append, take_more}
 use Rattle.std.proofs.lemmas.Grind.{flat_map-append}
 use Rattle.clap.specs.Walk.{Row}
 use Rattle.option_table.specs.Value.{values_in}
-use Rattle.krl_arguments.specs.Inputs.{is_input}
 
 abbrev pub texts : List (Bor (List ℕ)) → List (List ℕ)
 texts names = map (λ name. name.now) names
@@ -13,12 +12,12 @@ texts names = map (λ name. name.now) names
 abbrev pub values_of : List Row → List (List ℕ) → List (List ℕ)
 values_of rows options = flat_map (λ option. values_in option rows) options
 
--- the names, as the program has them
-pub same_inputs : (names : List (Bor (List ℕ))) → length (filter (λ name. is_input name.now) names) ≡ length (filter is_input (texts names))
-same_inputs [] = refl
-same_inputs (name ∷ names) = by_test (is_input name.now) refl (same_inputs names)
+-- as many names pass a test as of those that the program has
+pub same_count : (test : List ℕ → Bool) (names : List (Bor (List ℕ))) → length (filter (λ name. test name.now) names) ≡ length (filter test (texts names))
+same_count test [] = refl
+same_count test (name ∷ names) = by_test (test name.now) refl (same_count test names)
   where
-    by_test : (is : Bool) → is_input name.now ≡ is → length (filter (λ one. is_input one.now) names) ≡ length (filter is_input (texts names)) → length (filter (λ one. is_input one.now) (name ∷ names)) ≡ length (filter is_input (texts (name ∷ names)))
+    by_test : (is : Bool) → test name.now ≡ is → length (filter (λ one. test one.now) names) ≡ length (filter test (texts names)) → length (filter (λ one. test one.now) (name ∷ names)) ≡ length (filter test (texts (name ∷ names)))
     by_test true is more = rw (is) (ap suc more)
     by_test false is more = rw (is) more
 

@@ -36,6 +36,8 @@ text_of_misuse misuses.TwoInputs =
     why_line (codes "standard input (-) can be read for one file only") ++ help_line
 text_of_misuse misuses.NothingToAudit =
     error_text (codes "a file, a directory or --files0-from is needed") audit_usage
+text_of_misuse misuses.ExcludesPath =
+    error_text (codes "--exclude takes the name of a file or a directory, not a path") audit_usage
 text_of_misuse misuses.WrongAge = error_text
     (codes "--max-age takes a number and one of s, m, h and d, as in 24h")
     (codes "check --max-age <duration> <krl>")

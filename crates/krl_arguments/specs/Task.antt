@@ -1,6 +1,8 @@
 -- The tasks that words ask for (krl(1), SYNOPSIS).
-use Rattle.std.specs.Prelude.{ℕ, ◌&&◌, Bool, not, List, codes, is_some, map, Option, Some, None}
-use Rattle.std.specs.Prelude.{Result, Ok, Err, option_and_then, option_map, if◌then◌else◌}
+use Rattle.std.specs.Prelude.{ℕ, ◌&&◌, ◌||◌, Bool, not, List, [], codes, filter, is_some, length}
+use Rattle.std.specs.Prelude.{map, nat_eq, nat_lt, Option, Some, None, Result, Ok, Err}
+use Rattle.std.specs.Prelude.{option_and_then, option_map, if◌then◌else◌}
+use Rattle.std.specs.List.{list_any}
 use Rattle.std.specs.Str.{bytes_eq}
 use Rattle.clap.specs.Simple.{subcommand_of}
 use Rattle.clap.specs.Walk.{Row, first_of, is_empty}
@@ -83,16 +85,31 @@ audit_with rows list = record {
   files = values_in (codes "files") rows;
 }
 
+abbrev pub slash : ℕ
+slash = 47
+
+-- no entry of a directory has this name
+abbrev pub is_no_name : List ℕ → Bool
+is_no_name name =
+    list_any (λ byte. nat_eq byte slash) name
+    || (bytes_eq name [] || (bytes_eq name (codes ".") || bytes_eq name (codes "..")))
+
 -- The audit, if a file, a directory or a file of names is given.
 abbrev pub if_any : Audit → Result Audit Misuse
 if_any audit =
     if not (is_some audit.names_from) && is_empty audit.files then Err misuses.NothingToAudit
     else Ok audit
 
+-- The same, unless something that is excluded is no name.
+abbrev pub if_names : Audit → Result Audit Misuse
+if_names audit =
+    if nat_lt 0 (length (filter is_no_name audit.exclude)) then Err misuses.ExcludesPath
+    else if_any audit
+
 -- the audit by this list
 abbrev pub audit_by_list : List Row → Option (List ℕ) → Result Audit Misuse
 audit_by_list rows None = Err misuses.Incomplete
-audit_by_list rows (Some list) = if_any (audit_with rows list)
+audit_by_list rows (Some list) = if_names (audit_with rows list)
 
 abbrev pub audit_of : List Row → Result Audit Misuse
 audit_of rows = audit_by_list rows (first_of (codes "list") rows)

@@ -12,6 +12,8 @@ pub enum Misuse {
     TwoInputs,
     /// `krl audit` without a file, a directory or a file of names.
     NothingToAudit,
+    /// A value of `--exclude` that no entry of a directory has as its name.
+    ExcludesPath,
     /// A value of `--max-age` that is no duration.
     WrongAge,
     /// A value of `--max-cas` that is no number.
@@ -35,6 +37,7 @@ impl Misuse {
             Misuse::Incomplete => INCOMPLETE,
             Misuse::TwoInputs => TWO_INPUTS,
             Misuse::NothingToAudit => NOTHING_TO_AUDIT,
+            Misuse::ExcludesPath => EXCLUDES_PATH,
             Misuse::WrongAge => WRONG_AGE,
             Misuse::WrongMost => WRONG_MOST,
             Misuse::VersionAlone => VERSION_ALONE,
@@ -56,6 +59,14 @@ For more information, try '--help'.
 ";
 
 const NOTHING_TO_AUDIT: &str = "error: a file, a directory or --files0-from is needed
+
+Usage: krl audit -f <krl> [-aqx] [--all] [--canary <file>] [--exclude <name>] [--json] \
+[--files0-from <file>] [file|directory]...
+
+For more information, try '--help'.
+";
+
+const EXCLUDES_PATH: &str = "error: --exclude takes the name of a file or a directory, not a path
 
 Usage: krl audit -f <krl> [-aqx] [--all] [--canary <file>] [--exclude <name>] [--json] \
 [--files0-from <file>] [file|directory]...

@@ -1,13 +1,14 @@
 //! The task of words that can be parsed.
 
-ghost use Rattle.std.specs.Prelude.{◌≡◌, IfOk};
+ghost use Rattle.std.specs.Prelude.{◌≡◌, filter, IfOk, length};
 ghost use Rattle.clap.specs.Matches.{found_of};
 ghost use Rattle.clap.specs.Simple.{subcommand_rows_of};
 ghost use Rattle.clap.specs.Walk.{rows_of};
 ghost use Rattle.krl_arguments.specs.Misuse.{result_map};
 ghost use Rattle.krl_arguments.specs.Task.{audit_by, audit_of, audit_with, check_by, check_of};
 ghost use Rattle.krl_arguments.specs.Task.{check_with, diff_by, diff_of, has_only_version, if_any};
-ghost use Rattle.krl_arguments.specs.Task.{if_checks, max_age_of, named_task, show_by, show_with};
+ghost use Rattle.krl_arguments.specs.Task.{if_checks, if_names, is_no_name, max_age_of, named_task};
+ghost use Rattle.krl_arguments.specs.Task.{show_by, show_with};
 ghost use Rattle.krl_arguments.specs.Task.{task_by, task_in};
 
 use crate::duration::duration_of;
@@ -73,7 +74,7 @@ fn audit_in<'a>(
         result_map audit_by audit ≡ audit_of (rows_of (found_of found.now))) }
 {
     match value_of(found, "list") {
-        Some(list) => Ok(if_any(audit_with(alloc, found, list)?)),
+        Some(list) => Ok(if_names(audit_with(alloc, found, list)?)),
         None => Ok(Err(Misuse::Incomplete)),
     }
 }
@@ -104,6 +105,17 @@ fn audit_with<'a>(
     })
 }
 
+// The audit, unless something that it excludes is no name.
+fn if_names(audit: Audit<'_>) -> Result<Audit<'_>, Misuse>
+    ensures { result_map audit_by result ≡ if_names (audit_by audit.entry) }
+{
+    if no_names_among(audit.exclude.as_slice()) > 0 {
+        Err(Misuse::ExcludesPath)
+    } else {
+        if_any(audit)
+    }
+}
+
 // The audit, if a file, a directory or a file of names is given.
 fn if_any(audit: Audit<'_>) -> Result<Audit<'_>, Misuse>
     ensures { result_map audit_by result ≡ if_any (audit_by audit.entry) }
@@ -113,6 +125,20 @@ fn if_any(audit: Audit<'_>) -> Result<Audit<'_>, Misuse>
     } else {
         Ok(audit)
     }
+}
+
+// How many of these are no name of an entry of a directory.
+fn no_names_among(names: &[&str]) -> usize
+    ensures { result ≡ length (filter (λ name. is_no_name name.now) names.now) }
+{
+    names.iter().filter(|name| is_no_name(**name)).count()
+}
+
+// Whether no entry of a directory has this name.
+fn is_no_name(name: &str) -> bool
+    ensures { result ≡ is_no_name name.now }
+{
+    name.as_bytes().contains(&b'/') || name == "" || name == "." || name == ".."
 }
 
 // The check of these matches.

@@ -91,6 +91,31 @@ fn audits(rt: HostRuntime) -> Result<(), Fail> {
     let words = ["krl", "audit", "-f", "k", "-", "-"];
     let audit = audit_by(rt.alloc(), &words)?;
     assert!(rt; audit.files.as_slice() == ["-", "-"].as_slice());
+    for excluded in ["", ".", "..", "/", "a/b", "a/"] {
+        let words = [
+            "krl",
+            "audit",
+            "-f",
+            "k",
+            "--exclude=a",
+            "--exclude",
+            excluded,
+            ".",
+        ];
+        assert!(rt; status_by(rt.alloc(), &words)? == 2, "{excluded}");
+    }
+    let words = [
+        "krl",
+        "audit",
+        "-f",
+        "k",
+        "--exclude=...",
+        "--exclude",
+        "..a",
+        "a/b",
+    ];
+    let audit = audit_by(rt.alloc(), &words)?;
+    assert!(rt; audit.exclude.as_slice() == ["...", "..a"].as_slice());
     Ok(())
 }
 

@@ -3,7 +3,7 @@ use Rattle.std.proofs.Common.{◌≡◌, ◌∙◌, ℕ, List, Bor, length, filt
 use Rattle.std.proofs.lemmas.List.{take_all}
 use Rattle.clap.specs.Matches.{found_of}
 use Rattle.clap.specs.Walk.{rows_of}
-use Rattle.krl_arguments.proofs.ReadNames.{more_names, same_inputs, texts, values_of}
+use Rattle.krl_arguments.proofs.ReadNames.{more_names, same_count, texts, values_of}
 use Rattle.krl_arguments.specs.Inputs.{is_input}
 use Rattle.krl_arguments.proofs.inputs.inputs_in.Goals as goal
 
@@ -20,5 +20,5 @@ returns c =
     let rows = rows_of (found_of c.args.found.now) in
     let all : texts c.loop-option.names.items ≡ values_of rows (texts c.args.options.now) =
     c.loop-option.invariant ∙ ap (λ (options : List (Bor (List ℕ))). values_of rows (texts options)) (take_all c.loop-option.option-index c.args.options.now c.loop-option-test.false) in
-    rw c.as_slice-2.ensures.value at c.inputs_among.ensures ∙ same_inputs c.loop-option.names.items
+    rw c.as_slice-2.ensures.value at c.inputs_among.ensures ∙ same_count is_input c.loop-option.names.items
     ∙ ap (λ (names : List (List ℕ)). length (filter is_input names)) all
