@@ -3,15 +3,20 @@
 ghost use Rattle.std.specs.Prelude.{◌≡◌, ◌↔◌, Contains, IsTrue, MatchOption};
 ghost use Rattle.sha1.specs.Sha1.{sha1};
 ghost use Rattle.sha2.specs.Sha256.{sha256};
+ghost use Rattle.krl_types.specs.Item.{IsItem};
 ghost use Rattle.krl_entries.specs.Changes.{empty_section};
-ghost use Rattle.krl_entries.specs.Revocations.{HoldsId, HoldsSerial, IsOrderly, IsUnder};
+ghost use Rattle.krl_entries.specs.Named.{item_name};
+ghost use Rattle.krl_entries.specs.Revocations.{HoldsId, HoldsName, HoldsSerial, IsOrderly};
+ghost use Rattle.krl_entries.specs.Revocations.{IsUnder};
 
 use crate::listed::Listed;
 use crate::revocations::Revocations;
 use crate::texts::has_text;
+use krl_types::ItemKind;
 use serial_set::Spans;
 use sha1::Sha1;
 use sha2::{Digest, Sha256};
+use ssh_wire::array_of;
 
 impl<S: Spans> Revocations<S> {
     /// Returns the revocations unchanged. They are in order.
@@ -79,6 +84,19 @@ impl<S: Spans> Revocations<S> {
         match self.sections.find(authority) {
             None => false,
             Some(section) => section.spans.has(serial),
+        }
+    }
+
+    /// Whether an item is held, a key ID under exactly this authority.
+    pub fn has_item(&self, authority: &[u8], kind: ItemKind, item: &[u8]) -> bool
+        requires { IsItem kind item.now }
+        ensures { IsTrue result ↔ HoldsName self.now (item_name kind authority.now item.now) }
+    {
+        match kind {
+            ItemKind::Id => self.has_id(authority, item),
+            ItemKind::Key => self.has_blob(item),
+            ItemKind::Sha1 => self.sha1s.contains(&array_of(item)),
+            ItemKind::Sha256 => self.sha256s.contains(&array_of(item)),
         }
     }
 }

@@ -130,6 +130,7 @@ impl<S: Spans> Revocations<S> {
         requires { IsOneAddition addition }
         ensures means { OnOk result (MeansMore self.old self.new
             (added_entries authority.now addition.entry)) }
+        ensures orderly { IsOrderly self.old }
         ensures refused { OnErr result (self.new ≡ self.old) }
         ensures held { HoldsMore addition.entry (held self.old) (held self.new) }
         ensures stored { StoresMore authority.now addition.entry self.old self.new }

@@ -4,7 +4,7 @@ use Rattle.krl_queries.proofs.Common.{KeyEntry, List, MeansMore, Name, OnErr, On
 use Rattle.krl_queries.proofs.Common.{Revocations, Sha1Entry, Sha256Entry, Some, SomeNames, ℕ}
 use Rattle.krl_queries.proofs.AddedFindings.{within_or_same}
 use Rattle.krl_queries.proofs.QuestionAnswers.{no_id, no_key, no_sha1, no_sha256}
-use Rattle.krl_queries.specs.Questions.{item_name}
+use Rattle.krl_entries.specs.Named.{item_name}
 use Rattle.krl_types.specs.Item.{item_entry}
 use Rattle.krl_types.specs.declared.item_kind.ItemKind.{ItemKind}
 use Rattle.krl_types.specs.declared.item_kind.ItemKind.TheVariants as kinds

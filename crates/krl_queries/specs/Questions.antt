@@ -5,9 +5,7 @@ use Rattle.serial_set.specs.declared.span.Span.{Span}
 use Rattle.krl_types.specs.Subject.{CertNames, Subject}
 use Rattle.krl_entries.specs.Revocations.{Revocations, Section, HoldsId, HoldsSerial}
 use Rattle.krl_entries.specs.Revocations.{held, stored}
-use Rattle.krl_types.specs.Naming.{IdOf, KeyOf, Name, SerialOf, Sha1Of, Sha256Of}
-use Rattle.krl_types.specs.declared.item_kind.ItemKind.{ItemKind}
-use Rattle.krl_types.specs.declared.item_kind.ItemKind.TheVariants as kinds
+use Rattle.krl_types.specs.Naming.{Name, SerialOf}
 use Rattle.krl_entries.specs.Reasons.{name_asked}
 use Rattle.krl_entries.specs.declared.reasons.Reason.{Reason}
 use Rattle.krl_entries.specs.Scope.{IsTopic, Scope}
@@ -20,13 +18,6 @@ pub record Asked : Type 0 where
 -- the names that are asked about
 abbrev pub asked_in : Asked → Scope
 asked_in asked = Some asked.topics
-
--- the name that an item is
-abbrev pub item_name : ItemKind → (authority item : List ℕ) → Name
-item_name kinds.Id authority id = IdOf authority id
-item_name kinds.Key authority blob = KeyOf blob
-item_name kinds.Sha1 authority hash = Sha1Of hash
-item_name kinds.Sha256 authority hash = Sha256Of hash
 
 -- every topic stays one
 abbrev pub AsksMore : (old new : Revocations) → Type 0

@@ -2,10 +2,11 @@
 
 ghost use Rattle.std.specs.Prelude.{◌≡◌, ◌↔◌, ◌+◌, ◌≤◌, ◌∷◌, [], ℕ, IfOk, IsTrue, OnOk, ⊤};
 ghost use Rattle.serial_set.specs.BitRuns.{IsInterval};
+ghost use Rattle.krl_entries.specs.Named.{item_name};
 ghost use Rattle.krl_entries.specs.Revocations.{IsStoredAtMost, held};
 ghost use Rattle.krl_types.specs.Entry.{RangeEntry};
 ghost use Rattle.krl_types.specs.Item.{IsItem};
-ghost use Rattle.krl_queries.specs.Questions.{asked_in, item_name};
+ghost use Rattle.krl_queries.specs.Questions.{asked_in};
 ghost use Rattle.krl_entries.specs.Scope.{HoldsOnlyTopics, IsTopic, MeansMoreInScope};
 
 use crate::key_hashes::asks_hash;

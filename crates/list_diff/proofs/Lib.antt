@@ -3,7 +3,6 @@ pub mod Gains
 pub mod Searches
 pub mod Gaps
 pub mod LostSerials
-pub mod LostTexts
 pub mod Differences
 pub mod Remainders
 pub mod Sizes

@@ -2,4 +2,3 @@ pub mod Without
 pub mod Lost
 pub mod Ahead
 pub mod Gap
-pub mod Others

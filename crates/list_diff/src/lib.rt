@@ -3,9 +3,9 @@
 
 mod ahead;
 mod gap;
+mod items;
 pub mod laws;
 mod serials;
-mod texts;
 mod window;
 mod without;
 

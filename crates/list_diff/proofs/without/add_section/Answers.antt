@@ -1,16 +1,21 @@
 -- Serial numbers, and then key IDs.
-use Rattle.list_diff.proofs.Common.{[], ◌∷◌, IdWith, LostId, LostName, LostNumber, on_ok_weaker, SerialWith}
-use Rattle.list_diff.proofs.Differences.{ids_gained, lost_parts, numbers_as}
-use Rattle.list_diff.proofs.Gains.{gains_then}
+use Rattle.list_diff.proofs.Common.{IdEntry, map, on_ok_weaker, refl, run_entries, spans_in}
+use Rattle.list_diff.proofs.Differences.{gains_joined, serials_lost}
 use Rattle.list_diff.proofs.without.add_section.Goals as goal
+
+pub add_items-requires : goal.add_items-requires
+add_items-requires g c = λ i item at. refl
 
 pub returns : goal.returns
 returns g c =
     let listed = c.args.listed in
-    let sections = c.args.old.now.sections in
+    let old = c.args.old.now in
+    let first = c.args.gone.now in
+    let mid = c.add_serials.new.gone in
+    let last = c.add_items.new.gone in
+    let set = c.spans.result.now in
+    let spans = g.S.Spans.spans set in
     let a = c.authority-authority in
-    let mid = c.add_numbers.new.gone in
-    let new = c.add_ids.new.gone in
-    let first = numbers_as c.args.gone.now mid a.result.now listed.authority (g.S.Spans.spans c.spans.result.now) listed.spans sections a.ensures c.spans.ensures c.in_ok-add_numbers.ensures in
-    on_ok_weaker c.add_ids.result (λ gains. gains_then c.args.gone.now mid new (SerialWith listed.authority (LostNumber listed.spans sections listed.authority)) (IdWith listed.authority (LostId listed.ids sections listed.authority)) (LostName (listed ∷ []) sections) first
-    (ids_gained mid new a.result.now listed.authority c.iter_ids.result listed.ids sections a.ensures c.iter_ids.ensures gains) (lost_parts listed sections)) c.add_ids.ensures
+    let serials = serials_lost old first mid a.result.now spans (spans_in g.S.Spans.spans c.spans_of-other.result) (g.met.S.Spans.law set).1 c.spans_of-other.ensures c.in_ok-add_serials.ensures in
+    on_ok_weaker c.add_items.result (gains_joined old first mid last (run_entries listed.authority listed.spans) (map (IdEntry listed.authority) listed.ids) (rw (c.spans.ensures, a.ensures) at serials))
+    (rw (c.iter_ids.ensures, a.ensures) at c.add_items.ensures)

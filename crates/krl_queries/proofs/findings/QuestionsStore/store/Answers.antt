@@ -3,7 +3,7 @@ use Rattle.krl_queries.proofs.Common.{MeansMoreInScope, on_ok_weaker, run_entrie
 use Rattle.krl_queries.proofs.Common.{subst, sym, take_all, ℕ}
 use Rattle.krl_queries.proofs.AddedFindings.{next_span, puts_more}
 use Rattle.krl_queries.proofs.AskedItems.{none_asked, within_asked}
-use Rattle.krl_queries.specs.Questions.{item_name}
+use Rattle.krl_entries.specs.Named.{item_name}
 use Rattle.krl_entries.proofs.AddedMeaning.{means_more_within, nothing_more_within}
 use Rattle.krl_entries.specs.Scope.{IsTopic}
 use Rattle.krl_types.specs.Item.{item_entry}
