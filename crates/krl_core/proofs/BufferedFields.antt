@@ -5,13 +5,13 @@ use Rattle.krl_core.proofs.Common.{concat}
 use Rattle.krl_core.proofs.Common.{concat-append, drop, Err, false, false≢true, FieldStore}
 use Rattle.krl_core.proofs.Common.{GrowsAtMost, HasRead, HasStored, InStep, is_err, IsBounded}
 use Rattle.krl_core.proofs.Common.{IsBytes, IsBytes-append, IsBytes-drop, IsBytes-nil, IsBytes-take}
-use Rattle.krl_core.proofs.Common.{Leaps, left_of, length, length-append, length-drop}
+use Rattle.krl_core.proofs.Common.{Advances, inr, left_of, length, length-append, length-drop}
 use Rattle.krl_core.proofs.Common.{length-take-le, List, names, nat_lt, Ok, on_ok_weaker, OnOk}
 use Rattle.krl_core.proofs.Common.{Passes, Place, Pull, ReadsBuffered, ReadsMore, ReadsSome}
 use Rattle.krl_core.proofs.Common.{ReadsWhole, refl, Result, start, state_after}
 use Rattle.krl_core.proofs.Common.{StoresAtMost, StoresEntries, StoresField, subst, suc, sym, take}
 use Rattle.krl_core.proofs.Common.{take-add, take_rest, Takes, true, Walk, working, zero, ℕ}
-use Rattle.krl_core.proofs.Common.{expected, limit, LooksFor, NeedsMemory, on_err_weaker, OnErr, ran_out, ReadsOneMore, Refused, RunsOut}
+use Rattle.krl_core.proofs.Common.{expected, limit, LooksFor, NeedsMemory, on_err_weaker, OnErr, ran_out, Follows, Refused, RunsOut}
 use Rattle.krl_format.proofs.LongestFronts.{nearer, weight}
 use Rattle.krl_core.proofs.StoredEntries.{grows_then, header_stored}
 use Rattle.krl_core.proofs.Steps.{bounded_more, consumes_some, looked, may_lack}
@@ -229,12 +229,21 @@ buffered_ran_out old new bytes bounded takes out text fields h =
     regroup a b c d e = simp append_assoc
 
 -- one field
-pub one_more : (old : Walk) (mid new : Pull) (place : Place) (stored : FieldStore) (field : List ℕ) → LooksFor old.place old.pull false mid → Takes mid field new → Passes old.place field place
-    → IsBytes field → StoresField old.place field place old.stored stored → ReadsOneMore old (working new place stored)
+pub one_more : (old : Walk) (mid new : Pull) (place : Place) (stored : FieldStore) (field : List ℕ) → IsBounded old.pull old.stored → LooksFor old.place old.pull false mid
+    → Takes mid field new → Passes old.place field place → IsBytes field → StoresField old.place field place old.stored stored → Follows old (working new place stored)
 unfolding buffered_field reads_buffered
-one_more old mid new place stored field looks takes passes bytes stores_field text fields h =
-    let crosses = buffered_field old.place place old.stored stored field passes stores_field bytes in
-    (field, (reads_buffered (working mid old.place old.stored) new place stored field takes crosses text fields (looked old mid looks text fields h)).1)
+one_more old mid new place stored field b looks takes passes bytes stores_field =
+    let crosses = buffered_field old.place place old.stored stored field passes stores_field bytes in record {
+      field = field;
+      passes = passes;
+      reads = λ text fields h.
+          (field, (reads_buffered (working mid old.place old.stored) new place stored field takes crosses text fields (looked old mid false looks text fields h)).1);
+      taken = omega (arith, takes.taken, looks.taken);
+      within = omega (arith, takes.within, takes.taken, looks.limit_is, b.limit_is);
+      scope_is = stores_field.scope_is;
+      faultless = refl;
+      works = takes.working;
+    }
 
 -- if a number of bytes in the reader's buffer were read
 pub bounded_count : (old : Walk) (new : Pull) (place : Place) (stored : FieldStore) (count : ℕ) (result : Result (Unit {0}) AllocError) → IsBounded old.pull old.stored
@@ -243,10 +252,12 @@ bounded_count old new place stored count result b some takes =
     bounded_more old old.pull new stored (take count (available old.pull)) b refl refl takes
     (subst (λ (n : ℕ). GrowsAtMost n old.stored stored) (sym (length-take-le count (available old.pull) some.within)) some.grows)
 
-pub leaps_buffered : (old : Walk) (new : Pull) (place : Place) (stored : FieldStore) (bytes : List ℕ) → IsBounded old.pull old.stored → Takes old.pull bytes new
-    → ReadsBuffered bytes old.place old.stored place stored → 0 < length bytes → Leaps old (working new place stored)
-leaps_buffered old new place stored bytes b takes crosses some = record {
-  taken = omega (arith, takes.taken);
+-- some bytes were read
+pub advances_buffered : (old : Walk) (new : Pull) (place : Place) (stored : FieldStore) (bytes : List ℕ) → IsBounded old.pull old.stored → Takes old.pull bytes new
+    → ReadsBuffered bytes old.place old.stored place stored → 0 < length bytes → Advances old (working new place stored)
+advances_buffered old new place stored bytes b takes crosses some = record {
+  leads = record { reads = reads_buffered old new place stored bytes takes crosses; faultless = refl; scope_is = crosses.scope_is };
+  progress = inr (omega (arith, takes.taken));
   within = omega (arith, takes.within, takes.taken, b.limit_is);
-  scope_is = crosses.scope_is;
+  works = takes.working;
 }

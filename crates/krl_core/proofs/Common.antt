@@ -3,8 +3,8 @@ pub use Rattle.krl_core.specs.FieldStore.{Adds, AddsEntries, ChangesOnlyEntries,
 pub use Rattle.krl_core.specs.FieldStore.{Skips, StoresAtMost, StoresBits, StoresEntries, StoresField, StoresNoMore, held_with_open, open_run}
 pub use Rattle.krl_core.specs.FieldStore.{stored_header, stored_header_after}
 pub use Rattle.krl_core.specs.Reading.{Advances, Ends, EndsAfter, Follows, HasRead, HoldsAll, HoldsInScope, IsBounded}
-pub use Rattle.krl_core.specs.Reading.{IsList, IsListAs, IsReached, IsWholeAs, IsWithinLimit, Leaps, LooksFor, Missed}
-pub use Rattle.krl_core.specs.Reading.{OfHeader, ReadsMore, ReadsOneMore, Refused, Walk, cut, working}
+pub use Rattle.krl_core.specs.Reading.{IsList, IsListAs, IsReached, IsWholeAs, IsWithinLimit, LeadsOn, LooksFor, Missed}
+pub use Rattle.krl_core.specs.Reading.{OfHeader, ReadsMore, ReadsOneMore, Refused, Stops, Walk, at_its_end, cut, working}
 pub use Rattle.std.proofs.Common.{All, Bool, Err, IfOk, IsSome, IsTrue, List, None}
 pub use Rattle.std.proofs.Common.{Ok, OnErr, OnOk, Option, Result, Some, [], ap, append-nil}
 pub use Rattle.std.proofs.Common.{append_assoc, arith, bytes_eq, cond, drop, drop-drop, eq-eqb, eqb}

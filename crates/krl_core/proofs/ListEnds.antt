@@ -1,47 +1,28 @@
--- The end of a list after it was found.
-use Rattle.krl_core.proofs.Common.{[], ◌++◌, ◌∙◌, ◌≡◌, ap, append-nil, concat, Ends, EndsAfter}
-use Rattle.krl_core.proofs.Common.{FieldStore, HasRead, IsReached, left_of, List, None, Place, Pull}
-use Rattle.krl_core.proofs.Common.{subst, sym, true, Walk, working, ℕ}
-use Rattle.krl_core.proofs.Steps.{at_end_none}
-
--- a walk that found the end of the list
-abbrev pub at_its_end : Pull → Place → FieldStore → Walk
-at_its_end pull place stored = record { pull = pull; place = place; stored = stored; ended = true; fault = None }
-
-has_read_ended : (pull : Pull) (place : Place) (stored : FieldStore) (text : List ℕ) (fields : List (List ℕ)) → HasRead text fields (working pull place stored)
-    → HasRead text fields (at_its_end pull place stored)
-has_read_ended pull place stored text fields h = record {
-  state = h.state;
-  leads = h.leads;
-  place_is = h.place_is;
-  authority_is = h.authority_is;
-  header_is = h.header_is;
-  stores = h.stores;
-  are_bytes = h.are_bytes;
-  rest = h.rest;
-  left_is = h.left_is;
-  parts = h.parts;
-  taken_is = h.taken_is;
-  works = h.works;
-  faultless = h.faultless;
-}
+-- The end of a list when it is found, and after that.
+use Rattle.krl_core.proofs.Common.{[], ◌≡◌, append-nil, at_its_end, concat, Ends, EndsAfter, HasRead}
+use Rattle.krl_core.proofs.Common.{IsReached, left_of, List, LooksFor, Pull, refl, subst, sym, true}
+use Rattle.krl_core.proofs.Common.{Walk, ℕ}
+use Rattle.krl_core.proofs.Steps.{looked}
+use Rattle.krl_core.proofs.WholeLists.{all_read}
 
 -- the end was found in this step
-pub ends_now : (old : Walk) (pull : Pull) (place : Place) (stored : FieldStore) → Ends old (working pull place stored) → Ends old (at_its_end pull place stored)
-ends_now old pull place stored h = record {
-  may_end = h.may_end;
-  at_end = h.at_end;
-  still = λ text fields read. let s = h.still text fields read in (has_read_ended pull place stored text fields s.0, s.1);
-  scope_is = h.scope_is;
-}
+pub ends_here : (old : Walk) (mid : Pull) → LooksFor old.place old.pull true mid → Ends old (at_its_end mid old.place old.stored)
+ends_here old mid looks =
+    let end = looks.at_end refl in record {
+      is = record { ended = refl; may_end = end.0; at_end = end.1; faultless = refl; works = looks.works };
+      still = λ text fields h.
+          let now = looked old mid true looks text fields h in
+          (now, all_read text (concat fields) now.rest (left_of mid) now.parts now.left_is end.1);
+      scope_is = refl;
+    }
 
 -- the end was found before
 pub ends_before : (walk : Walk) → IsReached walk → walk.ended ≡ true → EndsAfter walk walk
 ends_before walk h is = record {
-  may_end = (h.ends is).may_end;
+  is = h.ends is;
   whole = λ text fields read.
       let row = sym (append-nil fields) in
-      let none = at_end_none (left_of walk.pull) read.rest read.left_is (h.ends is).at_end in
-      let all : text ≡ concat fields = read.parts ∙ ap (λ rest. concat fields ++ rest) none ∙ append-nil (concat fields) in
+      let all = all_read text (concat fields) read.rest (left_of walk.pull) read.parts read.left_is (h.ends is).at_end in
       ([], subst (λ (r : List (List ℕ)). HasRead text r walk) row read, subst (λ (r : List (List ℕ)). text ≡ concat r) row all);
+  scope_is = refl;
 }

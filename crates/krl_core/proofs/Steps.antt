@@ -9,7 +9,7 @@ use Rattle.krl_core.proofs.Common.{length-append, limit, List, LooksFor, lt-ltb,
 use Rattle.krl_core.proofs.Common.{no_room, None, Option, Place, Pull, ran_out, refl}
 use Rattle.krl_core.proofs.Common.{Refused, refused, Refuses, Reported, Says, Some, start}
 use Rattle.krl_core.proofs.Common.{State, StoresAtMost}
-use Rattle.krl_core.proofs.Common.{subst, sym, take, take_all, Takes, too_long, true, Walk, working}
+use Rattle.krl_core.proofs.Common.{subst, sym, take, take_all, Takes, too_long, true, Walk}
 use Rattle.krl_core.proofs.Common.{ℕ}
 use Rattle.std.specs.Io.KnownBytes.{Consumes, IsAtEnd, Keeps}
 use Rattle.std.proofs.KnownBytes.{Keeps-refl}
@@ -232,8 +232,9 @@ refused_says old mid new field fault bounded looks takes room size (inr judged) 
 -- ---- one more field
 
 -- the end of the list was looked for
-pub looked : (old : Walk) (mid : Pull) → LooksFor old.place old.pull false mid → (text : List ℕ) (fields : List (List ℕ)) → HasRead text fields old → HasRead text fields (working mid old.place old.stored)
-looked old mid looks text fields h = record {
+pub looked : (old : Walk) (mid : Pull) (ended : Bool) → LooksFor old.place old.pull ended mid → (text : List ℕ) (fields : List (List ℕ)) → HasRead text fields old
+    → HasRead text fields (record { pull = mid; place = old.place; stored = old.stored; ended = ended; fault = None })
+looked old mid ended looks text fields h = record {
   state = h.state;
   leads = h.leads;
   place_is = h.place_is;

@@ -4,8 +4,8 @@ use Rattle.krl_core.proofs.Common.{append_assoc, arith, can_end, concat, ended, 
 use Rattle.krl_core.proofs.Common.{Entry, false, FieldStore, Follows, HasRead, Header, HoldsInScope}
 use Rattle.krl_core.proofs.Common.{InStep, IsBounded, IsBytes, IsFirstKrlFault, IsReached, IsWholeAs}
 use Rattle.krl_core.proofs.Common.{IsWithinLimit, le-ltb, left_of, length, limit, List, ltb}
-use Rattle.krl_core.proofs.Common.{NamesSame, None, OfHeader, open_run, Option, option_to_list}
-use Rattle.krl_core.proofs.Common.{Place, Pull, ReadsMore, refl, Revocations, run_entries}
+use Rattle.krl_core.proofs.Common.{LeadsOn, NamesSame, None, OfHeader, open_run, Option, option_to_list}
+use Rattle.krl_core.proofs.Common.{Place, Pull, refl, Revocations, run_entries, ◌∷◌}
 use Rattle.krl_core.proofs.Common.{same_within, Some, Span, subst, sym, take, take_all, true, Walk}
 use Rattle.krl_core.proofs.Common.{ℕ}
 use Rattle.std.specs.Io.KnownBytes.{IsAtEnd}
@@ -13,12 +13,6 @@ use Rattle.krl_format.specs.declared.place.Place.TheVariants.{SectionType}
 use Rattle.krl_format.proofs.LongestFronts.{weight, nearer}
 use Rattle.krl_format.proofs.Fronts.{first_fault_is}
 use Rattle.krl_entries.specs.Scope.{all as every_name}
-
--- some more fields were read, without a fault
-pub record LeadsOn (old new : Walk) : Type 0 where
-  pub reads : ReadsMore old new
-  pub faultless : new.fault ≡ None
-  pub scope_is : new.stored.scope ≡ old.stored.scope
 
 -- no field was read yet
 pub leads_on : (p : Walk) → p.fault ≡ None → LeadsOn p p
@@ -28,24 +22,33 @@ leads_on p faultless = record {
   scope_is = refl;
 }
 
-pub leads_further : (old mid new : Walk) → LeadsOn old mid → ReadsMore mid new → new.fault ≡ None → new.stored.scope ≡ mid.stored.scope → LeadsOn old new
-leads_further old mid new first then faultless scope = record {
+pub leads_further : (old mid new : Walk) → LeadsOn old mid → LeadsOn mid new → LeadsOn old new
+leads_further old mid new first then = record {
   reads = λ text fields h.
       let one = first.reads text fields h in
-      let two = then text (fields ++ one.0) one.1 in
+      let two = then.reads text (fields ++ one.0) one.1 in
       (one.0 ++ two.0, subst (λ (row : List (List ℕ)). HasRead text row new) (append_assoc fields one.0 two.0) two.1);
-  faultless = faultless;
-  scope_is = scope ∙ first.scope_is;
+  faultless = then.faultless;
+  scope_is = then.scope_is ∙ first.scope_is;
+}
+
+-- one more field was read
+pub leads_one : (old new : Walk) → Follows old new → LeadsOn old new
+leads_one old new h = record {
+  reads = λ text fields read. let one = h.reads text fields read in (one.0 ∷ [], one.1);
+  faultless = h.faultless;
+  scope_is = h.scope_is;
 }
 
 -- the fields that were read are all of the text
 pub ends_after : (old mid new : Walk) → LeadsOn old mid → Ends mid new → EndsAfter old new
 ends_after old mid new first ends = record {
-  may_end = ends.may_end;
+  is = ends.is;
   whole = λ text fields h.
       let one = first.reads text fields h in
       let still = ends.still text (fields ++ one.0) one.1 in
       (one.0, still.0, still.1);
+  scope_is = ends.scope_is ∙ first.scope_is;
 }
 
 -- each step brings the end nearer
@@ -61,7 +64,7 @@ none_open (SectionType signed) stored may step = step
 none_open _ stored may step = absurd (cc)
 
 -- the bytes that were read up to the end are all of the text
-all_read : (text front rest : List ℕ) (left : Option (List ℕ)) → text ≡ front ++ rest → left ≡ Some rest → IsAtEnd left → text ≡ front
+pub all_read : (text front rest : List ℕ) (left : Option (List ℕ)) → text ≡ front ++ rest → left ≡ Some rest → IsAtEnd left → text ≡ front
 all_read text front rest left parts is end = parts ∙ ap (λ (x : List ℕ). front ++ x) (subst IsAtEnd is end) ∙ append-nil front
 
 pub whole_list : (text : List ℕ) (fields : List (List ℕ)) (p : Walk) → IsReached p → p.ended ≡ true → HasRead text fields p

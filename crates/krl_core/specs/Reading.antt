@@ -1,6 +1,7 @@
 -- How far a walk has read a list, field by field.
 use Rattle.std.specs.Prelude.{◌≡◌, ℕ, ◌+◌, ◌*◌, ◌<◌, ◌≤◌, ◌⊎◌, ◌↔◌, Bool, true, false, List, []}
 use Rattle.std.specs.Prelude.{◌∷◌, ◌++◌, length, Option, Some, None, IsSome, Result, Ok, Err}
+use Rattle.std.specs.Prelude.{IfSome}
 use Rattle.std.specs.List.{concat}
 use Rattle.std.specs.Io.KnownBytes.{IsAtEnd, Keeps}
 use Rattle.ssh_wire.specs.Wire.{IsBytes}
@@ -37,6 +38,11 @@ abbrev pub working : Pull → Place → FieldStore → Walk
 working pull place stored =
     record { pull = pull; place = place; stored = stored; ended = false; fault = None }
 
+-- a walk that found the end of the list
+abbrev pub at_its_end : Pull → Place → FieldStore → Walk
+at_its_end pull place stored =
+    record { pull = pull; place = place; stored = stored; ended = true; fault = None }
+
 -- The walk has read exactly these fields of the text. They lead to its place, its field store
 -- stored what they name, and its reader has the rest of the text left.
 pub record HasRead (text : List ℕ) (fields : List (List ℕ)) (reading : Walk) : Type 0 where
@@ -69,14 +75,24 @@ ReadsOneMore old new =
 pub record Follows (old new : Walk) : Type 0 where
   pub field : List ℕ
   pub passes : Passes old.place field new.place
+  pub reads : ReadsOneMore old new
   pub taken : new.pull.taken ≡ old.pull.taken + length field
   pub within : new.pull.taken ≤ limit
   pub scope_is : new.stored.scope ≡ old.stored.scope
+  pub faultless : new.fault ≡ None
+  pub works : new.pull.failed ≡ false
 
--- The list is at its end: the end is expected, and no byte is left.
+-- The end of the list was found: it is expected, no byte is left, and there was no fault.
+pub record IsEnded (reading : Walk) : Type 0 where
+  pub ended : reading.ended ≡ true
+  pub may_end : can_end reading.place ≡ true
+  pub at_end : IsAtEnd (left_of reading.pull)
+  pub faultless : reading.fault ≡ None
+  pub works : reading.pull.failed ≡ false
+
+-- The fields that were read are the whole list.
 pub record Ends (old new : Walk) : Type 0 where
-  pub may_end : can_end new.place ≡ true
-  pub at_end : IsAtEnd (left_of new.pull)
+  pub is : IsEnded new
   pub still : (text : List ℕ) (fields : List (List ℕ)) → HasRead text fields old
       → HasRead text fields new × (text ≡ concat fields)
   pub scope_is : new.stored.scope ≡ old.stored.scope
@@ -91,6 +107,17 @@ abbrev pub Refused : KrlFault → Walk → Pull → Type 0
 Refused fault old new =
     (text : List ℕ) (fields : List (List ℕ)) → HasRead text fields old
     → Says fault text new.failed new.source
+
+-- The walk stopped at this fault, and keeps it.
+pub record Stops (fault : KrlFault) (old new : Walk) : Type 0 where
+  pub says : Refused fault old new.pull
+  pub failure : old.fault ≡ None → (fault ≡ Read ↔ new.pull.failed ≡ true)
+  pub stays : new.fault ≡ Some fault
+
+-- After the end was found, the reader is not asked again. A fault is returned from then on.
+pub record Repeats (old : Walk) (result : Result Bool KrlFault) (new : Walk) : Type 0 where
+  pub rests : old.ended ≡ true → (result ≡ Ok false) × (new ≡ old)
+  pub again : IfSome old.fault (λ fault. (result ≡ Err fault) × (new ≡ old))
 
 -- ---- the parts of a step
 
@@ -120,12 +147,6 @@ pub record IsBounded (pull : Pull) (stored : FieldStore) : Type 0 where
   pub all_is : stored.scope ≡ all
       → (held_with_open stored ≤ 4 * pull.taken) × StoresAtMost stored pull.taken
   pub scope_is : StoresInScope stored
-
--- The end of the list was found: it is expected, no byte is left, and there was no fault.
-pub record IsEnded (reading : Walk) : Type 0 where
-  pub may_end : can_end reading.place ≡ true
-  pub at_end : IsAtEnd (left_of reading.pull)
-  pub faultless : reading.fault ≡ None
 
 -- The walk is one that the code can reach.
 pub record IsReached (reading : Walk) : Type 0 where
@@ -209,19 +230,30 @@ ReadsMore old new =
     (text : List ℕ) (fields : List (List ℕ)) → HasRead text fields old
     → (more : List (List ℕ)) × HasRead text (fields ++ more) new
 
--- Some bytes were taken.
-pub record Leaps (old new : Walk) : Type 0 where
-  pub taken : old.pull.taken < new.pull.taken
-  pub within : new.pull.taken ≤ limit
+-- Some more fields were read, without a fault.
+pub record LeadsOn (old new : Walk) : Type 0 where
+  pub reads : ReadsMore old new
+  pub faultless : new.fault ≡ None
   pub scope_is : new.stored.scope ≡ old.stored.scope
 
--- One field or some bytes were taken.
-abbrev pub Advances : Walk → Walk → Type 0
-Advances old new = Follows old new ⊎ Leaps old new
+-- One field or some bytes were read.
+pub record Advances (old new : Walk) : Type 0 where
+  pub leads : LeadsOn old new
+  pub progress : Follows old new ⊎ (old.pull.taken < new.pull.taken)
+  pub within : new.pull.taken ≤ limit
+  pub works : new.pull.failed ≡ false
+
+-- Some more fields were read, and the next one would exceed this number of bytes.
+pub record ReadsUpTo (most : ℕ) (old new : Walk) : Type 0 where
+  pub leads : LeadsOn old new
+  pub full : most < new.pull.taken + (expected new.place).size
+  pub within : old.pull.taken ≤ most → new.pull.taken ≤ most
+  pub works : new.pull.failed ≡ false
 
 -- The walk has read to the end of the list.
 pub record EndsAfter (old new : Walk) : Type 0 where
-  pub may_end : can_end new.place ≡ true
+  pub is : IsEnded new
   pub whole : (text : List ℕ) (fields : List (List ℕ)) → HasRead text fields old
       → (more : List (List ℕ)) × HasRead text (fields ++ more) new
       × (text ≡ concat (fields ++ more))
+  pub scope_is : new.stored.scope ≡ old.stored.scope

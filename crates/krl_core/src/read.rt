@@ -1,19 +1,16 @@
 //! Reading a list to its end, or up to a number of bytes.
 
-ghost use Rattle.std.specs.Prelude.{◌≡◌, ◌+◌, ◌*◌, ◌<◌, ◌≤◌, ◌⊎◌, length, false, true, ℕ, List};
-ghost use Rattle.std.specs.Prelude.{None};
-ghost use Rattle.std.specs.Prelude.{Some, Ok, Err};
-ghost use Rattle.std.specs.Prelude.{IfErr, IfOk, IfSome, IsTrue, OnOk};
+ghost use Rattle.std.specs.Prelude.{◌≡◌, ◌*◌, ◌≤◌, ◌⊎◌, length, false, ℕ, List, None, Some};
+ghost use Rattle.std.specs.Prelude.{IfErr, IfOk, IsTrue};
 ghost use Rattle.ssh_wire.specs.Wire.{IsBytes};
 ghost use Rattle.krl_format.specs.declared.header.Header.{Header as HeaderOf};
 ghost use Rattle.krl_types.specs.declared.krl_fault.KrlFault.TheVariants.{NoMemory, Read};
 ghost use Rattle.krl_entries.specs.Revocations.{held, stored};
 ghost use Rattle.krl_format.specs.Front.{IsFirstKrlFault, limit};
 ghost use Rattle.krl_format.specs.Krl.{SpelledSection, Spells};
-ghost use Rattle.krl_format.specs.Place.{expected};
 ghost use Rattle.krl_core.specs.Reading.{EndsAfter, HasRead, HoldsInScope, IsBounded, IsList};
-ghost use Rattle.krl_core.specs.Reading.{IsListAs, IsWithinLimit, OfHeader, ReadsMore, Refused};
-ghost use Rattle.krl_core.specs.Reading.{ReportsFailure};
+ghost use Rattle.krl_core.specs.Reading.{IsListAs, IsWithinLimit, OfHeader, ReadsUpTo, Repeats};
+ghost use Rattle.krl_core.specs.Reading.{ReportsFailure, Stops};
 ghost use Rattle.krl_format.specs.Faults.{Says};
 
 use crate::reading::Walk;
@@ -92,21 +89,10 @@ impl<T: Store, R: Source + Drop> Walk<T, R> {
     /// Reads field by field. Returns false at the end of the list, and true if the next field would
     /// exceed `most` bytes.
     pub fn read_to(&mut self, most: u64) -> Result<bool, KrlFault>
-        ensures more { IfOk result (λ more. IsTrue more → ReadsMore self.old self.new) }
-        ensures full { IfOk result (λ more. IsTrue more
-            → most < self.new.pull.taken + (expected self.new.place).size) }
-        ensures within { IfOk result (λ more. IsTrue more
-            → self.old.pull.taken ≤ most → self.new.pull.taken ≤ most) }
+        ensures more { IfOk result (λ more. IsTrue more → ReadsUpTo most self.old self.new) }
         ensures ends { IfOk result (λ more. more ≡ false → EndsAfter self.old self.new) }
-        ensures ended { IfOk result (λ more. more ≡ false → self.new.ended ≡ true) }
-        ensures rests { self.old.ended ≡ true → (result ≡ Ok false) × (self.new ≡ self.old) }
-        ensures scope { OnOk result (self.new.stored.scope ≡ self.old.stored.scope) }
-        ensures fault { IfErr result (λ fault. Refused fault self.old self.new.pull) }
-        ensures failure { self.old.fault ≡ None → ReportsFailure result self.new.pull.failed }
-        ensures stays { IfErr result (λ fault. self.new.fault ≡ Some fault) }
-        ensures again { IfSome self.old.fault (λ fault.
-            (result ≡ Err fault) × (self.new ≡ self.old)) }
-        ensures working { OnOk result (self.new.fault ≡ None) }
+        ensures fault { IfErr result (λ fault. Stops fault self.old self.new) }
+        ensures repeats { Repeats self.old result self.new }
         ensures bounds { IsBounded self.new.pull self.new.stored }
     {
         if let Some(fault) = self.fault {

@@ -1,7 +1,7 @@
 //! Reading a list in one pass, field by field.
 
-ghost use Rattle.std.specs.Prelude.{◌≡◌, ◌+◌, ◌*◌, ◌<◌, ◌≤◌, ◌⊎◌, ℕ, false, true, None, Some, Ok};
-ghost use Rattle.std.specs.Prelude.{◌≢◌, Err, List, [], IfOk, IfErr, IfSome, IsTrue, OnOk, length};
+ghost use Rattle.std.specs.Prelude.{◌≡◌, ◌+◌, ◌*◌, ◌<◌, ◌≤◌, ◌⊎◌, ℕ, false, true, None, Some, Err};
+ghost use Rattle.std.specs.Prelude.{◌≢◌, List, [], IfOk, IfErr, IsTrue, OnOk, length};
 ghost use Rattle.ssh_wire.specs.Wire.{IsBytes};
 ghost use Rattle.byte_streams.specs.Pull.{Refuses, Takes};
 ghost use Rattle.ssh_wire.specs.declared.pull_fault.PullFault.TheVariants as pulls;
@@ -12,11 +12,9 @@ ghost use Rattle.krl_core.specs.FieldStore.{GrowsAtMost, InStep, StoresField, St
 ghost use Rattle.krl_core.specs.FieldStore.{held_with_open};
 ghost use Rattle.krl_format.specs.Place.{can_end, expected};
 ghost use Rattle.krl_core.specs.Reading.{Advances, Ends, Follows, HasRead, HoldsInScope, IsBounded};
-ghost use Rattle.krl_core.specs.Reading.{IsReached};
-ghost use Rattle.krl_core.specs.Reading.{ReadsMore};
-ghost use Rattle.krl_core.specs.Reading.{IsList, IsWhole, IsWholeAs, IsWithinLimit, LooksFor};
-ghost use Rattle.krl_core.specs.Reading.{Missed, OfHeader, ReadsOneMore, Refused};
-ghost use Rattle.krl_core.specs.Reading.{ReportsFailure, working};
+ghost use Rattle.krl_core.specs.Reading.{IsList, IsReached, IsWhole, IsWholeAs, IsWithinLimit};
+ghost use Rattle.krl_core.specs.Reading.{LooksFor, Missed, OfHeader, Refused, Repeats};
+ghost use Rattle.krl_core.specs.Reading.{ReportsFailure, Stops, at_its_end, working};
 ghost use Rattle.krl_format.specs.Faults.{Says};
 ghost use Rattle.krl_format.specs.Memory.{NeedsMemory};
 ghost use Rattle.krl_entries.specs.Scope.{all};
@@ -176,20 +174,10 @@ impl<T: Store, R: Source + Drop> Walk<T, R> {
     /// Returns false at the end of the list, and from then on. After a fault it returns that fault
     /// from then on.
     pub fn step(&mut self) -> Result<bool, KrlFault>
-        ensures more { IfOk result (λ more. IsTrue more → ReadsOneMore self.old self.new) }
-        ensures follows { IfOk result (λ more. IsTrue more → Follows self.old self.new) }
+        ensures more { IfOk result (λ more. IsTrue more → Follows self.old self.new) }
         ensures ends { IfOk result (λ more. more ≡ false → Ends self.old self.new) }
-        ensures ended { IfOk result (λ more. more ≡ false → self.new.ended ≡ true) }
-        // After the end was found, the reader is not asked again.
-        ensures rests { self.old.ended ≡ true → (result ≡ Ok false) × (self.new ≡ self.old) }
-        ensures fault { self.old.fault ≡ None
-            → IfErr result (λ fault. Refused fault self.old self.new.pull) }
-        ensures failure { self.old.fault ≡ None
-            → ReportsFailure result self.new.pull.failed }
-        ensures stays { IfErr result (λ fault. self.new.fault ≡ Some fault) }
-        ensures again { IfSome self.old.fault (λ fault.
-            (result ≡ Err fault) × (self.new ≡ self.old)) }
-        ensures working { OnOk result (self.new.fault ≡ None) }
+        ensures fault { IfErr result (λ fault. Stops fault self.old self.new) }
+        ensures repeats { Repeats self.old result self.new }
         ensures bounds { IsBounded self.new.pull self.new.stored }
     {
         if let Some(fault) = self.fault {
@@ -217,19 +205,10 @@ impl<T: Store, R: Source + Drop> Walk<T, R> {
 
     /// Does the same as `step`, but may read many fields that are in the reader's buffer.
     pub fn read_fields(&mut self) -> Result<bool, KrlFault>
-        ensures more { IfOk result (λ more. IsTrue more → ReadsMore self.old self.new) }
-        ensures advances { IfOk result (λ more. IsTrue more → Advances self.old self.new) }
+        ensures more { IfOk result (λ more. IsTrue more → Advances self.old self.new) }
         ensures ends { IfOk result (λ more. more ≡ false → Ends self.old self.new) }
-        ensures ended { IfOk result (λ more. more ≡ false → self.new.ended ≡ true) }
-        ensures rests { self.old.ended ≡ true → (result ≡ Ok false) × (self.new ≡ self.old) }
-        ensures fault { self.old.fault ≡ None
-            → IfErr result (λ fault. Refused fault self.old self.new.pull) }
-        ensures failure { self.old.fault ≡ None
-            → ReportsFailure result self.new.pull.failed }
-        ensures stays { IfErr result (λ fault. self.new.fault ≡ Some fault) }
-        ensures again { IfSome self.old.fault (λ fault.
-            (result ≡ Err fault) × (self.new ≡ self.old)) }
-        ensures working { OnOk result (self.new.fault ≡ None) }
+        ensures fault { IfErr result (λ fault. Stops fault self.old self.new) }
+        ensures repeats { Repeats self.old result self.new }
         ensures bounds { IsBounded self.new.pull self.new.stored }
     {
         if self.fault.is_some() || self.ended {
@@ -360,12 +339,10 @@ fn read_field<T: Store, R: Source + Drop>(
     large: &mut Vec<u8>,
 ) -> Result<bool, KrlFault>
     requires { IsReached (working pull.old place.old stored.old) }
-    ensures more { IfOk result (λ more. IsTrue more → ReadsOneMore
-        (working pull.old place.old stored.old) (working pull.new place.new stored.new)) }
-    ensures follows { IfOk result (λ more. IsTrue more → Follows
+    ensures more { IfOk result (λ more. IsTrue more → Follows
         (working pull.old place.old stored.old) (working pull.new place.new stored.new)) }
     ensures ends { IfOk result (λ more. more ≡ false → Ends
-        (working pull.old place.old stored.old) (working pull.new place.new stored.new)) }
+        (working pull.old place.old stored.old) (at_its_end pull.new place.new stored.new)) }
     ensures fault { IfErr result (λ fault. Refused fault
         (working pull.old place.old stored.old) pull.new) }
     ensures sound { OnOk result (IsReached (working pull.new place.new stored.new)) }

@@ -1,5 +1,6 @@
 use Rattle.krl_core.proofs.Common.{err_from_is_err_and, false≢true, working}
 use Rattle.krl_core.proofs.BufferedFields.{one_more}
+use Rattle.krl_core.proofs.ListEnds.{ends_here}
 use Rattle.krl_core.proofs.Steps.{end_refused, missed_says, refused_says, bounded_more}
 use Rattle.krl_core.proofs.reading.read_field.Goals as goal
 
@@ -27,10 +28,14 @@ returns-in_err-place-clause-bounds g c =
     bounded_more (working c.args.pull.now c.args.place.now c.args.stored.now) c.ends.new.pull c.take.new.pull c.judge_and_store.new.stored c.in_ok-field.field.now c.requires.bounded
     looks.taken looks.limit_is c.in_ok-field.ensures.ok c.judge_and_store.ensures.grows
 
+pub returns-then-branch-clause-ends : goal.returns-then-branch-clause-ends
+returns-then-branch-clause-ends g c =
+    (λ _. ends_here (working c.args.pull.now c.args.place.now c.args.stored.now) c.ends.new.pull (rw c.if-branch.true at c.in_ok-ends.ensures.ok))
+
 pub returns-clause-more : goal.returns-clause-more
 returns-clause-more g c =
     (λ _. one_more (working c.args.pull.now c.args.place.now c.args.stored.now) c.ends.new.pull c.take.new.pull c.in_ok-place.field-0 c.judge_and_store.new.stored c.in_ok-field.field.now
-    (rw c.if-branch.false at c.in_ok-ends.ensures.ok) c.in_ok-field.ensures.ok c.in_ok-place.ensures.passes c.in_ok-place.ensures.bytes c.in_ok-place.ensures.stores_field)
+    c.requires.bounded (rw c.if-branch.false at c.in_ok-ends.ensures.ok) c.in_ok-field.ensures.ok c.in_ok-place.ensures.passes c.in_ok-place.ensures.bytes c.in_ok-place.ensures.stores_field)
 
 pub returns-clause-bounds : goal.returns-clause-bounds
 returns-clause-bounds g c =

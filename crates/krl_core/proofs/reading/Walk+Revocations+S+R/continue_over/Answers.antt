@@ -36,6 +36,6 @@ invariant_of-result g c =
       in_step = λ none. subst (λ (b : BitRuns). InStep c.self.inside.place b) (sym (ap (λ k. k.bitmap) c.in-Ok.ensures.same)) (reached.in_step none);
       pull_faultless = reached.pull_faultless;
       works = reached.works;
-      ends = λ off. let e = reached.ends off in record { may_end = e.may_end; at_end = e.at_end; faultless = e.faultless };
+      ends = λ off. let e = reached.ends off in record { ended = off; may_end = e.may_end; at_end = e.at_end; faultless = e.faultless; works = e.works };
       bounded = bounded g c;
     }

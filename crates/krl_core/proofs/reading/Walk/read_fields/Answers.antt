@@ -1,7 +1,7 @@
-use Rattle.krl_core.proofs.Common.{◌∙◌, ◌≡◌, ap, arith, available, false, false≢true, inr, length}
+use Rattle.krl_core.proofs.Common.{◌∙◌, ◌≡◌, ap, arith, available, false, false≢true, length}
 use Rattle.krl_core.proofs.Common.{length-take-le, List, None, refl, sym, take, Walk, working, ℕ}
-use Rattle.krl_core.proofs.Progress.{advances_of, more_of, none_there}
-use Rattle.krl_core.proofs.BufferedFields.{bounded_count, buffered_ran_out, leaps_buffered, reads_buffered, some_err, some_ok}
+use Rattle.krl_core.proofs.Progress.{advances_of, none_there}
+use Rattle.krl_core.proofs.BufferedFields.{advances_buffered, bounded_count, buffered_ran_out, some_err, some_ok}
 use Rattle.krl_core.proofs.reading.Walk.read_fields.Goals as goal
 
 pub returns-then-count-eq0 : goal.returns-then-count-eq0
@@ -9,16 +9,10 @@ returns-then-count-eq0 g c =
     let same = c.read_buffered-count.ensures.none c.if-count-eq0.true in
     let e = rw (same.0, same.1) at c.step-then-count-eq0.ensures in
     rw (← c.self-2.view_is) (record {
-      more = more_of c.step-then-count-eq0.result _ c.step-then-count-eq0.new.self e.more;
-      advances = advances_of c.step-then-count-eq0.result _ c.step-then-count-eq0.new.self e.follows;
+      more = advances_of c.step-then-count-eq0.result _ c.step-then-count-eq0.new.self e.more;
       ends = e.ends;
-      ended = e.ended;
-      rests = e.rests;
       fault = e.fault;
-      failure = e.failure;
-      stays = e.stays;
-      again = e.again;
-      working = e.working;
+      repeats = e.repeats;
       bounds = e.bounds;
     })
 
@@ -42,16 +36,14 @@ returns-then-is_err g c =
     let t = c.consume.ensures in
     rw (← c.self-2.view_is, faultless, on) (record {
       more = tt;
-      advances = tt;
       ends = tt;
-      ended = tt;
-      rests = λ off. absurd (false≢true off);
-      fault = λ _. buffered_ran_out old c.consume.new.self _ c.self-2.invariant.bounded t
-          (some_err _ (sym c.is_err.ensures.value ∙ c.if-is_err.true) (rw c.buffer.ensures at c.read_buffered-count.ensures).ran_out);
-      failure = λ _. (λ e. absurd (cc), λ e. absurd (false≢true (sym t.working ∙ e)));
-      stays = refl;
-      again = tt;
-      working = tt;
+      fault = record {
+        says = buffered_ran_out old c.consume.new.self _ c.self-2.invariant.bounded t
+            (some_err _ (sym c.is_err.ensures.value ∙ c.if-is_err.true) (rw c.buffer.ensures at c.read_buffered-count.ensures).ran_out);
+        failure = λ _. (λ e. absurd (cc), λ e. absurd (false≢true (sym t.working ∙ e)));
+        stays = refl;
+      };
+      repeats = record { rests = λ off. absurd (false≢true off); again = tt };
       bounds = bounded_count old _ _ _ _ _ c.self-2.invariant.bounded (rw c.buffer.ensures at c.read_buffered-count.ensures) t;
     })
 
@@ -79,15 +71,9 @@ returns g c =
     let bytes : List ℕ = take c.read_buffered-count.result.0 (available c.self-2.inside.pull) in
     let long : length bytes ≡ c.read_buffered-count.result.0 = length-take-le c.read_buffered-count.result.0 (available c.self-2.inside.pull) done.within in
     rw (← c.self-2.view_is, faultless, on) (record {
-      more = λ _. reads_buffered old _ _ _ bytes t done.ok;
-      advances = λ _. inr (leaps_buffered old _ _ _ bytes c.self-2.invariant.bounded t done.ok (omega (arith, long, c.if-count-eq0.false)));
+      more = λ _. advances_buffered old _ _ _ bytes c.self-2.invariant.bounded t done.ok (omega (arith, long, c.if-count-eq0.false));
       ends = λ off. absurd (false≢true (sym off));
-      ended = λ off. absurd (false≢true (sym off));
-      rests = λ off. absurd (false≢true off);
-      fault = λ _. tt;
-      failure = λ _. t.working;
-      stays = tt;
-      again = tt;
-      working = refl;
+      fault = tt;
+      repeats = record { rests = λ off. absurd (false≢true off); again = tt };
       bounds = bounded_count old _ _ _ _ _ c.self-2.invariant.bounded done t;
     })

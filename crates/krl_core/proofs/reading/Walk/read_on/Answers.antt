@@ -1,4 +1,4 @@
-use Rattle.krl_core.proofs.Progress.{advance_nearer, advance_scope}
+use Rattle.krl_core.proofs.Progress.{advance_nearer}
 use Rattle.krl_core.proofs.Lists.{list_of_whole, same_holds_within}
 use Rattle.std.proofs.Common.{◌∙◌}
 use Rattle.krl_core.proofs.WholeLists.{ends_after, leads_further, leads_on, whole_unfaulted}
@@ -8,13 +8,11 @@ pub fields-init : goal.fields-init
 fields-init g c = leads_on c.args.self c.requires
 
 pub fields-smaller : goal.fields-smaller
-fields-smaller g c = advance_nearer c.fields.walk c.read_fields.new.self (c.in-Ok-true.ensures.advances c.in-Ok-true.field-0-test)
+fields-smaller g c = advance_nearer c.fields.walk c.read_fields.new.self (c.in-Ok-true.ensures.more c.in-Ok-true.field-0-test)
 
 pub fields-preserved : goal.fields-preserved
 fields-preserved g c =
-    let on = c.in-Ok-true.field-0-test in
-    let ok = c.in-Ok-true.ensures in
-    leads_further _ c.fields.walk c.read_fields.new.self c.fields.invariant (ok.more on) ok.working (advance_scope c.fields.walk c.read_fields.new.self (ok.advances on))
+    leads_further _ c.fields.walk c.read_fields.new.self c.fields.invariant (c.in-Ok-true.ensures.more c.in-Ok-true.field-0-test).leads
 
 pub returns-in-Ok-false-clause-found : goal.returns-in-Ok-false-clause-found
 returns-in-Ok-false-clause-found g c = λ text fields h.
@@ -36,4 +34,4 @@ returns-in-Ok-false-clause-no_fault g c = λ text fields h.
 pub returns-in-Err-clause-fault : goal.returns-in-Err-clause-fault
 returns-in-Err-clause-fault g c = λ text fields h.
     let one = c.fields.invariant.reads text fields h in
-    rw (c.into_reader.ensures.left, c.into_reader.ensures.failed) (c.in-Err.ensures.fault c.fields.invariant.faultless text _ one.1)
+    rw (c.into_reader.ensures.left, c.into_reader.ensures.failed) (c.in-Err.ensures.fault.says text _ one.1)

@@ -1,6 +1,5 @@
-use Rattle.krl_core.proofs.Common.{◌*◌, ◌+◌, ◌-◌, limit}
+use Rattle.krl_core.proofs.Common.{◌*◌, ◌+◌, ◌-◌, LeadsOn, limit}
 use Rattle.krl_format.proofs.LongestFronts.{weight}
-use Rattle.krl_core.proofs.WholeLists.{LeadsOn}
 use Rattle.krl_core.proofs.reading.Walk.read_on.Given as goal
 
 -- some more fields were read

@@ -1,6 +1,5 @@
-use Rattle.krl_core.proofs.Common.{◌*◌, ◌+◌, ◌-◌, ◌≡◌, ◌≤◌, false, IsBounded, limit}
+use Rattle.krl_core.proofs.Common.{◌*◌, ◌+◌, ◌-◌, ◌≡◌, ◌≤◌, false, IsBounded, LeadsOn, limit}
 use Rattle.krl_format.proofs.LongestFronts.{weight}
-use Rattle.krl_core.proofs.WholeLists.{LeadsOn}
 use Rattle.krl_core.proofs.reading.Walk.read_to.Given as goal
 
 -- some more fields were read, within the bytes that are allowed
