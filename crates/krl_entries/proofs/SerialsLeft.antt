@@ -1,6 +1,6 @@
 -- The runs that are left of a set, piece by piece.
 use Rattle.krl_entries.proofs.Common.{[], ◌++◌, ◌∙◌, ◌∷◌, ◌<◌, ◌≡◌, ◌≤◌, All, ap, AreSerials, arith, Covers}
-use Rattle.krl_entries.proofs.Common.{All-cons, ◌+◌, drop, inl, inr, IsRuns, length, List, None, Option, refl}
+use Rattle.krl_entries.proofs.Common.{All-cons, ◌+◌, drop, inl, inr, IsRuns, length, List, Option}
 use Rattle.krl_entries.proofs.Common.{Some, Span, subst, sym, take-append-drop, ℕ}
 use Rattle.std.proofs.Common.{max, slice_get}
 use Rattle.std.proofs.lemmas.List.{drop_all}

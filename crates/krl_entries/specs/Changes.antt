@@ -9,7 +9,8 @@ use Rattle.krl_types.specs.Item.{item_entry}
 use Rattle.krl_types.specs.declared.item_kind.ItemKind.TheVariants as kinds
 use Rattle.krl_entries.specs.declared.addition.Addition.{Addition}
 use Rattle.krl_entries.specs.declared.addition.Addition.TheVariants.{Serials, Item}
-use Rattle.krl_entries.specs.Revocations.{Revocations, Means, Section, section_with}
+use Rattle.krl_entries.specs.Revocations.{IsNamed, IsOrderly, Means, Revocations, Section}
+use Rattle.krl_entries.specs.Revocations.{section_with, stored}
 use Rattle.krl_types.specs.Entry.{Entry, RangeEntry}
 use Rattle.krl_entries.specs.Inserting.{Inserts}
 
@@ -93,3 +94,12 @@ HoldsMore (Item kind item) old new = new ≡ old
 -- If the old revocations mean some entries, the new ones mean them and these entries.
 abbrev pub MeansMore : (old new : Revocations) (more : List Entry) → Type 0
 MeansMore old new more = (entries : List Entry) → Means old entries → Means new (entries ++ more)
+
+-- Certificates of an authority are revoked, by an addition of this number of bytes. What was named
+-- stays named. The bytes of the authority count once, and keys and hashes do not change.
+pub record ChangesUnder (authority : List ℕ) (bytes : ℕ) (old new : Revocations) : Type 0 where
+  pub orderly : IsOrderly old
+  pub grows : stored new ≤ stored old + length authority + bytes
+  pub known : IsNamed old authority → stored new ≤ stored old + bytes
+  pub stays : (other : List ℕ) → IsNamed old other → IsNamed new other
+  pub keys : new.keys ≡ old.keys

@@ -2,8 +2,8 @@
 ghost use Rattle.std.specs.Prelude.{◌≡◌, ◌+◌, ◌<◌, ◌≤◌, ◌∷◌, [], ℕ, List, length, IfOk, OnOk};
 ghost use Rattle.std.specs.Prelude.{OnErr, Some};
 ghost use Rattle.krl_entries.specs.Addition.{IsOneAddition, StoresMore};
-ghost use Rattle.krl_entries.specs.Changes.{HoldsMore, IsOneChange, MeansMore, added_entries};
-ghost use Rattle.krl_entries.specs.Changes.{bytes_in};
+ghost use Rattle.krl_entries.specs.Changes.{ChangesUnder, HoldsMore, IsOneChange, MeansMore};
+ghost use Rattle.krl_entries.specs.Changes.{added_entries, bytes_in};
 ghost use Rattle.krl_entries.specs.Gathered.{HasPlace, TakesOut, whole};
 ghost use Rattle.krl_entries.specs.Revocations.{IsNamed, IsOrderly, Means, nothing, held, stored};
 ghost use Rattle.krl_types.specs.Entry.{RangeEntry, IdEntry, KeyEntry, Sha1Entry, Sha256Entry};
@@ -69,16 +69,10 @@ impl<S: Spans> Revocations<S> {
         requires ordered { lo ≤ hi }
         ensures means { OnOk result (MeansMore self.old self.new
             (RangeEntry authority.now lo hi ∷ [])) }
-        ensures orderly { IsOrderly self.old }
+        ensures named { OnOk result (IsNamed self.new authority.now) }
         ensures refused { OnErr result (self.new ≡ self.old) }
         ensures held { held self.new ≤ held self.old + 1 }
-        ensures stored { stored self.new
-            ≤ stored self.old + length authority.now }
-        ensures known { IsNamed self.old authority.now
-            → stored self.new ≤ stored self.old }
-        ensures named { OnOk result (IsNamed self.new authority.now) }
-        ensures stays { (other : List ℕ) → IsNamed self.old other → IsNamed self.new other }
-        ensures keys { self.new.keys ≡ self.old.keys }
+        ensures changes { ChangesUnder authority.now 0 self.old self.new }
     {
         self.add_under(authority, Addition::Serials(&[Span { lo, hi }]))
     }
@@ -88,16 +82,10 @@ impl<S: Spans> Revocations<S> {
     pub fn add_id(&mut self, authority: &[u8], id: &[u8]) -> Result<(), AllocError>
         ensures means { OnOk result (MeansMore self.old self.new
             (IdEntry authority.now id.now ∷ [])) }
-        ensures orderly { IsOrderly self.old }
+        ensures named { OnOk result (IsNamed self.new authority.now) }
         ensures refused { OnErr result (self.new ≡ self.old) }
         ensures held { held self.new ≡ held self.old }
-        ensures stored { stored self.new
-            ≤ stored self.old + length authority.now + length id.now }
-        ensures known { IsNamed self.old authority.now
-            → stored self.new ≤ stored self.old + length id.now }
-        ensures named { OnOk result (IsNamed self.new authority.now) }
-        ensures stays { (other : List ℕ) → IsNamed self.old other → IsNamed self.new other }
-        ensures keys { self.new.keys ≡ self.old.keys }
+        ensures changes { ChangesUnder authority.now (length id.now) self.old self.new }
     {
         self.add_under(authority, Addition::Item(ItemKind::Id, id))
     }
@@ -108,16 +96,10 @@ impl<S: Spans> Revocations<S> {
         requires { IsOneChange addition }
         ensures means { OnOk result (MeansMore self.old self.new
             (added_entries authority.now addition.entry)) }
-        ensures orderly { IsOrderly self.old }
+        ensures named { OnOk result (IsNamed self.new authority.now) }
         ensures refused { OnErr result (self.new ≡ self.old) }
         ensures held { HoldsMore addition.entry (held self.old) (held self.new) }
-        ensures stored { stored self.new
-            ≤ stored self.old + length authority.now + bytes_in addition.entry }
-        ensures known { IsNamed self.old authority.now
-            → stored self.new ≤ stored self.old + bytes_in addition.entry }
-        ensures named { OnOk result (IsNamed self.new authority.now) }
-        ensures stays { (other : List ℕ) → IsNamed self.old other → IsNamed self.new other }
-        ensures keys { self.new.keys ≡ self.old.keys }
+        ensures changes { ChangesUnder authority.now (bytes_in addition.entry) self.old self.new }
     {
         self.sections.add(authority, addition)?;
         Ok(())

@@ -11,17 +11,17 @@ use Rattle.krl_queries.proofs.questions.ask_under.Goals as goal
 
 id_serials : (g : Over) (c : In_ok-add_id g) → serials_in c.add_id.new.self.sections ≤ serials_in c.args.topics.now.sections
 id_serials g c =
-    serials_with_id c.args.topics.now c.add_id.new.self c.args.authority.now c.cert.inside.key_id.now c.add_id.ensures.orderly c.in_ok-add_id.ensures.means
+    serials_with_id c.args.topics.now c.add_id.new.self c.args.authority.now c.cert.inside.key_id.now c.add_id.ensures.changes.orderly c.in_ok-add_id.ensures.means
 
 id_held : (g : Over) (c : In_ok-add_id g) → HoldsId c.add_id.new.self.sections c.args.authority.now c.cert.inside.key_id.now
 id_held g c =
     let a = c.args.authority.now in
     let id = c.cert.inside.key_id.now in
-    now_held c.args.topics.now c.add_id.new.self (IdEntry a id) (IdOf a id) (refl, refl) c.add_id.ensures.orderly c.in_ok-add_id.ensures.means
+    now_held c.args.topics.now c.add_id.new.self (IdEntry a id) (IdOf a id) (refl, refl) c.add_id.ensures.changes.orderly c.in_ok-add_id.ensures.means
 
 id_more : (g : Over) (c : In_ok-add_id g) → AsksMore c.args.topics.now c.add_id.new.self
 id_more g c =
-    asks_entry c.args.topics.now c.add_id.new.self (IdEntry c.args.authority.now c.cert.inside.key_id.now) c.add_id.ensures.orderly c.in_ok-add_id.ensures.means
+    asks_entry c.args.topics.now c.add_id.new.self (IdEntry c.args.authority.now c.cert.inside.key_id.now) c.add_id.ensures.changes.orderly c.in_ok-add_id.ensures.means
 
 -- ---- no serial number
 
@@ -46,7 +46,7 @@ returns-clause-asked g c =
     let one = c.add_id.new.self in
     let new = c.add_serials.new.self in
     let id = id_held g (goal.at.returns-clause-asked g c).In_ok-add_id in
-    let orderly = c.add_serials.ensures.orderly in
+    let orderly = c.add_serials.ensures.changes.orderly in
     rw (← c.cert.view_is) (on_ok_weaker c.add_serials.result
     (λ means. (
       asks_entry one new (RangeEntry a s s) orderly means (IdOf a c.cert.inside.key_id.now) id,
@@ -58,10 +58,10 @@ returns-clause-more g c =
     let s = c.cert.inside.serial in
     let id = id_more g (goal.at.returns-clause-more g c).In_ok-add_id in
     on_ok_weaker c.add_serials.result
-    (λ means name h. asks_entry c.add_id.new.self c.add_serials.new.self (RangeEntry c.args.authority.now s s) c.add_serials.ensures.orderly means name (id name h)) c.add_serials.ensures.means
+    (λ means name h. asks_entry c.add_id.new.self c.add_serials.new.self (RangeEntry c.args.authority.now s s) c.add_serials.ensures.changes.orderly means name (id name h)) c.add_serials.ensures.means
 
 pub returns-clause-serials : goal.returns-clause-serials
 returns-clause-serials g c =
     let id = id_serials g (goal.at.returns-clause-serials g c).In_ok-add_id in
-    let serial = serials_with_any c.add_serials.result c.add_id.new.self c.add_serials.new.self c.args.authority.now c.cert.inside.serial c.add_serials.ensures.orderly c.add_serials.ensures.means c.add_serials.ensures.refused in
+    let serial = serials_with_any c.add_serials.result c.add_id.new.self c.add_serials.new.self c.args.authority.now c.cert.inside.serial c.add_serials.ensures.changes.orderly c.add_serials.ensures.means c.add_serials.ensures.refused in
     omega (arith, id, serial)

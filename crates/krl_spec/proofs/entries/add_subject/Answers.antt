@@ -16,7 +16,7 @@ returns-in-Some-clause-means g c =
 pub returns-in-Some-clause-grows : goal.returns-in-Some-clause-grows
 returns-in-Some-clause-grows g c = λ current size fits.
     let added = c.add_id.ensures in
-    under_grows current _ _ size _ _ _ (rw (← c.asked.view_is, c.in-Some.is, certificate_entry, ← c.names.view_is, c.if-names-eq0.true) at fits) added.known added.stored added.stays added.named added.refused
+    under_grows current _ _ size _ _ _ (rw (← c.asked.view_is, c.in-Some.is, certificate_entry, ← c.names.view_is, c.if-names-eq0.true) at fits) added.changes.known added.changes.grows added.changes.stays added.named added.refused
 
 pub returns-in-Some-2-clause-means : goal.returns-in-Some-2-clause-means
 returns-in-Some-2-clause-means g c =
@@ -29,4 +29,4 @@ returns-in-Some-2-clause-grows g c = λ current size fits.
     let names = c.names-in-Some-2.inside in
     let is : names_entry c.args.asked.now.plain c.args.asked.now.cert ≡ RangeEntry names.authority.now names.serial names.serial = search rules in
     let added = c.add_serials.ensures in
-    under_grows current _ 0 size _ _ _ (rw is at fits) (λ named. omega (arith, added.known named)) (omega (arith, added.stored)) added.stays added.named added.refused
+    under_grows current _ 0 size _ _ _ (rw is at fits) (λ named. omega (arith, added.changes.known named)) (omega (arith, added.changes.grows)) added.changes.stays added.named added.refused

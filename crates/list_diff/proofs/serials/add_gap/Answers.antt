@@ -11,7 +11,7 @@ returns-in-Some g c =
     let a = c.args.authority.now in
     let lo = c.args.lo in
     let last = c.in-Some.last in
-    rw c.in-Some.is (on_ok_weaker c.add_serials.result (λ means. gains_entry c.args.gone.now c.add_serials.new.self (RangeEntry a lo last) (SerialWith a (IsUpTo lo (Some last))) c.add_serials.ensures.orderly means (range_named a lo last c.requires.from_one)) c.add_serials.ensures.means)
+    rw c.in-Some.is (on_ok_weaker c.add_serials.result (λ means. gains_entry c.args.gone.now c.add_serials.new.self (RangeEntry a lo last) (SerialWith a (IsUpTo lo (Some last))) c.add_serials.ensures.changes.orderly means (range_named a lo last c.requires.from_one)) c.add_serials.ensures.means)
 
 pub returns-in-None : goal.returns-in-None
 returns-in-None g c = rw c.in-None.is (gains_none c.args.gone.now (SerialWith c.args.authority.now (IsUpTo c.args.lo None)) (serial_none c.args.authority.now (IsUpTo c.args.lo None) (λ s h. h)))

@@ -1,5 +1,5 @@
 use Rattle.krl_entries.proofs.Common.{◌+◌, ◌≤◌, arith, bytes_in, held, HoldsMore, IsNamed, length}
-use Rattle.krl_entries.proofs.Common.{Means, revocations_of, stored, subst, sym, texts_of}
+use Rattle.krl_entries.proofs.Common.{Means, revocations_of, rules, stored, subst, sym, texts_of}
 use Rattle.krl_entries.proofs.Additions.{adds_mean, adds_orderly}
 use Rattle.krl_entries.proofs.Amounts.{adds_held, adds_named, adds_stays, adds_stored, held_stays}
 use Rattle.krl_entries.proofs.Amounts.{named_stored}
@@ -26,22 +26,25 @@ pub returns-in_err-add-clause-held : goal.returns-in_err-add-clause-held
 returns-in_err-add-clause-held g c =
     rw (← c.self.view_is, c.in_err-add.ensures.refused) (held_stays c.args.addition _)
 
-pub returns-clause-stored : goal.returns-clause-stored
-returns-clause-stored g c =
+pub returns-clause-changes : goal.returns-clause-changes
+returns-clause-changes g c =
     let r = c.self.inside in
-    subst (λ x. stored (revocations_of c.add.new.self (texts_of r.keys.keys) r.sha1s.keys r.sha256s.keys) ≤ stored x + length c.args.authority.now + bytes_in c.args.addition) c.self.view_is
-    (omega (arith, adds_stored c.args.addition c.args.authority.now r.sections c.add.new.self c.in_ok-add.ensures.ok))
-
-pub returns-clause-known : goal.returns-clause-known
-returns-clause-known g c named =
-    let r = c.self.inside in
-    subst (λ x. stored (revocations_of c.add.new.self (texts_of r.keys.keys) r.sha1s.keys r.sha256s.keys) ≤ stored x + bytes_in c.args.addition) c.self.view_is
-    (omega (arith, named_stored c.args.addition c.args.authority.now r.sections c.add.new.self (subst (λ x. IsNamed x c.args.authority.now) (sym c.self.view_is) named) c.in_ok-add.ensures.ok))
+    let a = c.args.authority.now in
+    let more = bytes_in c.args.addition in
+    let new = revocations_of c.add.new.self (texts_of r.keys.keys) r.sha1s.keys r.sha256s.keys in
+    record {
+      orderly = search rules;
+      grows =
+          subst (λ x. stored new ≤ stored x + length a + more) c.self.view_is
+          (omega (arith, adds_stored c.args.addition a r.sections c.add.new.self c.in_ok-add.ensures.ok));
+      known = λ named.
+          subst (λ x. stored new ≤ stored x + more) c.self.view_is
+          (omega (arith, named_stored c.args.addition a r.sections c.add.new.self (subst (λ x. IsNamed x a) (sym c.self.view_is) named) c.in_ok-add.ensures.ok));
+      stays = λ other named.
+          adds_stays c.args.addition a other r.sections c.add.new.self c.in_ok-add.ensures.ok (subst (λ x. IsNamed x other) (sym c.self.view_is) named);
+      keys = search rules;
+    }
 
 pub returns-clause-named : goal.returns-clause-named
 returns-clause-named g c =
     adds_named c.args.addition c.args.authority.now c.self.inside.sections c.add.new.self c.in_ok-add.ensures.ok
-
-pub returns-clause-stays : goal.returns-clause-stays
-returns-clause-stays g c other named =
-    adds_stays c.args.addition c.args.authority.now other c.self.inside.sections c.add.new.self c.in_ok-add.ensures.ok (subst (λ x. IsNamed x other) (sym c.self.view_is) named)
