@@ -89,10 +89,10 @@ faults_are name bytes stop = faults_as name bytes stop (cases_lt most (length by
 
 -- ---- a file, by its front
 
-pub file_read : (hashed : Bool) (name bytes file : List ℕ) (result : Result ListOf RunFault) → bytes ≡ take most file → IfOk result (λ list. IsReadList hashed bytes list) → IfErr result (λ stop. IsListFault name bytes stop)
-    → IsFileRead hashed name file result
-file_read hashed name bytes file (Ok list) is read refused =
-    let front : IsReadList hashed (take most file) list = subst (λ (b : List ℕ). IsReadList hashed b list) is read in
-    subst (λ (b : List ℕ). IsReadList hashed b list) (whole_as file front.header front.entries (cases_lt most (length file)) front.named) front
-file_read hashed name bytes file (Err stop) is read refused =
+pub file_read : (name bytes file : List ℕ) (result : Result ListOf RunFault) → bytes ≡ take most file → IfOk result (λ list. IsReadList name bytes list) → IfErr result (λ stop. IsListFault name bytes stop)
+    → IsFileRead name file result
+file_read name bytes file (Ok list) is read refused =
+    let front : IsReadList name (take most file) list = subst (λ (b : List ℕ). IsReadList name b list) is read in
+    subst (λ (b : List ℕ). IsReadList name b list) (whole_as file list.header front.entries (cases_lt most (length file)) front.named) front
+file_read name bytes file (Err stop) is read refused =
     (faults_are name file stop).1 (subst (λ (b : List ℕ). IsListFault name b stop) is refused)

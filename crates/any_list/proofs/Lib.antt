@@ -1,2 +1,3 @@
-pub mod Lists
+pub mod Telling
+pub mod Forms
 pub mod Fronts

@@ -1,7 +1,7 @@
--- The facts about a list that was read from its bytes, and why a list is refused.
-use Rattle.std.specs.Prelude.{◌≡◌, ℕ, Bool, true, false, List, Option, Some, None, option_map}
+-- A list that was read from its bytes, and why a list is refused.
+use Rattle.std.specs.Prelude.{◌≡◌, ℕ, Bool, true, false, List, [], ◌∷◌, Option, Some, option_map}
 use Rattle.std.specs.Prelude.{Result, Ok, Err}
-use Rattle.sha2.specs.Sha256.{sha256}
+use Rattle.ssh_wire.specs.Wire.{IsBytes}
 use Rattle.krl_types.specs.Entry.{Entry}
 use Rattle.krl_types.specs.declared.krl_fault.KrlFault.{KrlFault}
 use Rattle.krl_types.specs.declared.krl_fault.KrlFault.TheVariants as krl_faults
@@ -15,8 +15,11 @@ use Rattle.plain_list.specs.declared.fault.PlainFault.{PlainFault}
 use Rattle.plain_list.specs.declared.fault.PlainFault.TheVariants as plain_faults
 use Rattle.run_faults.specs.Keys.{run_fault_at}
 use Rattle.run_faults.specs.RunFault.{RunFault, krl_cause, run_fault_of}
+use Rattle.run_faults.specs.declared.cause.Cause.{Cause}
 use Rattle.run_faults.specs.declared.cause.Cause.TheVariants as causes
 use Rattle.krl_audit.specs.declared.done.Stated.{Stated}
+use Rattle.any_list.specs.Told.{ListRead, Reading}
+use Rattle.any_list.specs.declared.given.Given.{Given}
 use Rattle.any_list.specs.declared.list.List.{List as ListOf}
 
 -- ---- a list that was read
@@ -25,30 +28,28 @@ use Rattle.any_list.specs.declared.list.List.{List as ListOf}
 abbrev pub stated_in : Header → Stated
 stated_in header = record { version = header.version; generated = header.date }
 
--- the SHA-256 of the bytes, if they are to be hashed
-abbrev pub sha256_if : Bool → List ℕ → Option (List ℕ)
-sha256_if true bytes = Some (sha256 bytes)
-sha256_if false bytes = None
+-- the version and the date of a list; a plain list has neither
+abbrev pub stated_by : Option Header → Option Stated
+stated_by header = option_map stated_in header
 
--- The stored entries mean exactly the entries of these bytes, and the rest of the list is of these
--- bytes too.
-pub record IsReadAs (Named : Option Header → List Entry → Type 0) (hashed : Bool)
-    (bytes : List ℕ) (list : ListOf) : Type 0 where
-  pub header : Option Header
+-- The list has this name, its header is that of its bytes, and what is held means exactly their
+-- entries.
+pub record IsReadAs (Named : Option Header → List Entry → Type 0) (name : List ℕ) (list : ListOf)
+    : Type 0 where
+  pub name_is : list.name.now ≡ name
   pub entries : List Entry
-  pub named : Named header entries
-  pub stated_is : list.stated ≡ option_map stated_in header
+  pub named : Named list.header entries
   pub means : Means list.revocations entries
-  pub sha256_is : list.sha256 ≡ sha256_if hashed bytes
 
-abbrev pub IsReadWhole : Bool → List ℕ → ListOf → Type 0
-IsReadWhole hashed bytes = IsReadAs (NamesWhole bytes) hashed bytes
+abbrev pub IsReadWhole : (name bytes : List ℕ) → ListOf → Type 0
+IsReadWhole name bytes list = IsReadAs (NamesWhole bytes) name list
 
-abbrev pub IsReadLines : Bool → List ℕ → ListOf → Type 0
-IsReadLines hashed bytes = IsReadAs (NamesLines bytes) hashed bytes
+abbrev pub IsReadLines : (name bytes : List ℕ) → ListOf → Type 0
+IsReadLines name bytes list = IsReadAs (NamesLines bytes) name list
 
-abbrev pub IsReadList : Bool → List ℕ → ListOf → Type 0
-IsReadList hashed bytes = IsReadAs (Names bytes) hashed bytes
+-- The list of this name is read from these bytes.
+abbrev pub IsReadList : (name bytes : List ℕ) → ListOf → Type 0
+IsReadList name bytes list = IsReadAs (Names bytes) name list
 
 -- ---- a list that is refused
 
@@ -80,7 +81,30 @@ IsFaultIf false name bytes stop = IsLinesFault name bytes stop
 abbrev pub IsListFault : (name bytes : List ℕ) → RunFault → Type 0
 IsListFault name bytes stop = IsFaultIf (begins_list bytes) name bytes stop
 
--- The list with these bytes was read, or is refused.
-abbrev pub IsFileRead : Bool → (name bytes : List ℕ) → Result ListOf RunFault → Type 0
-IsFileRead hashed name bytes (Ok list) = IsReadList hashed bytes list
-IsFileRead hashed name bytes (Err stop) = IsListFault name bytes stop
+-- The list of this name, with these bytes, was read or is refused.
+abbrev pub IsFileRead : (name bytes : List ℕ) → Result ListOf RunFault → Type 0
+IsFileRead name bytes (Ok list) = IsReadList name bytes list
+IsFileRead name bytes (Err stop) = IsListFault name bytes stop
+
+-- ---- a list by the name of its file
+
+-- The file of this name was read once, has these bytes, and the list is read from them.
+pub record IsGiven (told : List Reading) (name bytes : List ℕ) (list : ListOf) : Type 0 where
+  pub fits : IsBytes bytes
+  pub told_is : told ≡ ListRead name (Ok bytes) ∷ []
+  pub is : IsReadList name bytes list
+
+-- The list is read from the bytes beside it.
+abbrev pub IsRead : Given → Type 0
+IsRead given = IsReadList given.list.name.now given.bytes given.list
+
+-- The bytes were not read for this cause, or are refused as a list for this fault.
+abbrev pub IsRefusedAs : List ℕ → Result (List ℕ) Cause → RunFault → Type 0
+IsRefusedAs name (Ok bytes) stop = IsListFault name bytes stop
+IsRefusedAs name (Err cause) stop = stop ≡ run_fault_of name cause
+
+-- The file of this name was read once, and is refused for this.
+pub record IsRefused (told : List Reading) (name : List ℕ) (stop : RunFault) : Type 0 where
+  pub content : Result (List ℕ) Cause
+  pub told_is : told ≡ ListRead name content ∷ []
+  pub refused_as : IsRefusedAs name content stop

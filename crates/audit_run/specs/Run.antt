@@ -2,6 +2,7 @@
 use Rattle.std.specs.Prelude.{◌≡◌, ℕ, ◌<◌, Bool, true, false, List, [], ◌∷◌, ◌++◌, codes}
 use Rattle.std.specs.Prelude.{Option, Some, None, is_some, not, Result, Ok, Err}
 use Rattle.std.specs.Borrow.{Bor}
+use Rattle.sha2.specs.Sha256.{sha256}
 use Rattle.json_lines.specs.Field.{json_line}
 use Rattle.run_faults.specs.RunFault.{RunFault, output_run_fault, run_fault_of}
 use Rattle.run_faults.specs.declared.cause.Cause.TheVariants.{File, NoMemory}
@@ -16,7 +17,7 @@ use Rattle.krl_entries.specs.declared.reasons.Reasons.{Reasons}
 use Rattle.krl_audit.specs.Audit.{EndsAudit, JudgesAs, MeanCanaries, reasons_but}
 use Rattle.krl_audit.specs.Objects.{done_object}
 use Rattle.audit_tree.specs.declared.summary.Summary.{Summary}
-use Rattle.any_list.specs.List.{IsListFault, IsReadList}
+use Rattle.any_list.specs.List.{IsListFault, IsReadList, stated_by}
 use Rattle.any_list.specs.declared.list.List.{List as ReadList}
 use Rattle.run_output.specs.declared.done.Done.{Done}
 use Rattle.krl_audit.specs.declared.judge.Form.{Form}
@@ -201,11 +202,16 @@ hashed_if forms.Colour revoked = false
 abbrev pub is_hashed : Shown → Bool
 is_hashed shown = hashed_if shown.form shown.revoked
 
+-- the SHA-256 of the bytes, if they are to be hashed
+abbrev pub sha256_if : Bool → List ℕ → Option (List ℕ)
+sha256_if true bytes = Some (sha256 bytes)
+sha256_if false bytes = None
+
 -- Whether a list that was read from these bytes is a key revocation list with a certificate
 -- authority or a key ID that cannot be compared.
 pub data HasNames (list : ReadList) (bytes : List ℕ) (why : Option Incomparable) : Type 0 where
-  plain : list.stated ≡ None → why ≡ None → HasNames list bytes why
-  whole : is_some list.stated ≡ true
+  plain : list.header ≡ None → why ≡ None → HasNames list bytes why
+  whole : is_some list.header ≡ true
       → ((header : Header) (sections : List SpelledSection) → Spells bytes header sections
       → IsIncomparable sections why)
       → HasNames list bytes why
@@ -216,11 +222,11 @@ pub record AuditsRead (Knows : Fact → Type 0) (order : Order) (bytes : List �
     (summary : Option Summary) : Type 0 where
   pub list : ReadList
   pub queried : Queried
-  pub is_read : IsReadList (is_hashed order.shown) bytes list
+  pub is_read : IsReadList order.list.now bytes list
   pub fine : HasNames list bytes None
   pub revocations : queried.list.now ≡ list.revocations
-  pub stated : queried.stated ≡ list.stated
-  pub sha256 : queried.sha256 ≡ list.sha256
+  pub stated : queried.stated ≡ stated_by list.header
+  pub sha256 : queried.sha256 ≡ sha256_if (is_hashed order.shown) bytes
   pub ends : EndsAuditBy Knows order queried readers before after failed summary done.status
       done.fault
 
@@ -231,7 +237,7 @@ EndsAuditRun Knows order bytes readers before after failed (ends.Ended done summ
     AuditsRead Knows order bytes readers before after failed done summary
 EndsAuditRun Knows order bytes readers before after failed (ends.Incomparable why) =
     (list : ReadList)
-    × (IsReadList (is_hashed order.shown) bytes list × (HasNames list bytes (Some why)
+    × (IsReadList order.list.now bytes list × (HasNames list bytes (Some why)
     × ((after ≡ before) × (failed ≡ false))))
 EndsAuditRun Knows order bytes readers before after failed (ends.Refused stop) =
     IsListFault order.list.now bytes stop × ((after ≡ before) × (failed ≡ false))

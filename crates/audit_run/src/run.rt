@@ -4,8 +4,8 @@ ghost use Rattle.std.specs.Prelude.{◌≡◌, Option, Some, false, IfSome};
 ghost use Rattle.std.specs.Result.{result_err};
 ghost use Rattle.run_output.specs.Carries.{Carries};
 ghost use Rattle.audit_run.specs.Run.{AuditsAll, EndsAuditBy, EndsAuditRun, HasNames, IsGiven};
-ghost use Rattle.audit_run.specs.Run.{is_hashed, last_items, names_fault, readers_of, stop_fault};
-ghost use Rattle.audit_run.specs.Run.{summary_of, summary_unless};
+ghost use Rattle.audit_run.specs.Run.{is_hashed, last_items, names_fault, readers_of, sha256_if};
+ghost use Rattle.audit_run.specs.Run.{stop_fault, summary_of, summary_unless};
 ghost use Rattle.audit_run.specs.Visits.{Took};
 
 use crate::named::{audit_listed, audit_paths};
@@ -16,6 +16,7 @@ use crate::tree::Tree;
 use any_list::{List as ReadList, read_list};
 use audit_tree::Summary;
 use byte_streams::Source;
+use key_text::sha256_of;
 use krl_audit::{Auditor, Form, Judge, ListFacts, Shown, Stated};
 use krl_entries::Revocations;
 use krl_openssh::{Incomparable, first_incomparable};
@@ -83,30 +84,30 @@ pub fn audit_run<'a, T: Tree, N: Source + Drop, I: Source + Drop, W: Screen>(
         (readers_of N.left N.has_failed given.entry.names I.left I.has_failed given.entry.input)
         (W.Sink.taken out.old) (W.Sink.taken out.new) (W.Sink.has_failed out.new) result }
 {
-    let read = match read_list(alloc, order.list, list.as_slice(), is_hashed(order.shown)) {
+    let read = match read_list(alloc, order.list, list.as_slice()) {
         Ok(read) => read,
         Err(fault) => return Audited::Refused(fault),
     };
     if let Some(why) = why_incomparable(&read, list.as_slice()) {
         return Audited::Incomparable(why);
     }
-    drop(list);
     let queried = Queried {
         list: &read.revocations,
-        stated: read.stated,
-        sha256: read.sha256,
+        stated: read.stated(),
+        sha256: sha256_if(order.shown, list.as_slice()),
     };
+    drop(list);
     let Counted { done, summary } = audit_by(alloc, order, &queried, given, out);
     Audited::Ended { done, summary }
 }
 
-// Whether the last object is printed, which has the SHA-256 of the list.
-fn is_hashed(shown: Shown) -> bool
-    ensures { result ≡ is_hashed shown }
+// The SHA-256 of the list, if the last object is printed, which has it.
+fn sha256_if(shown: Shown, bytes: &[u8]) -> Option<[u8; 32]>
+    ensures { result ≡ sha256_if (is_hashed shown) bytes.now }
 {
-    match shown.form {
-        Form::Json => shown.revoked,
-        Form::Text | Form::Colour => false,
+    match (shown.form, shown.revoked) {
+        (Form::Json, true) => Some(sha256_of(bytes)),
+        (Form::Json, false) | (Form::Text | Form::Colour, _) => None,
     }
 }
 
@@ -115,7 +116,7 @@ fn is_hashed(shown: Shown) -> bool
 fn why_incomparable(list: &ReadList, bytes: &[u8]) -> Option<Incomparable>
     ensures { HasNames list.now bytes.now result }
 {
-    match list.stated {
+    match &list.header {
         Some(_) => first_incomparable(bytes),
         None => None,
     }

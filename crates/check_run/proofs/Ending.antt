@@ -12,9 +12,9 @@ use Rattle.run_output.specs.declared.done.Done.{Done}
 use Rattle.krl_arguments.specs.declared.task.Check.{Check}
 use Rattle.krl_format.specs.declared.header.Header.{Header}
 use Rattle.krl_checker.specs.Check.{EndsCheck, check_status}
-use Rattle.check_run.specs.Fact.{Fact}
+use Rattle.any_list.specs.Told.{Reading}
 use Rattle.check_run.specs.Files.{Named}
-use Rattle.check_run.specs.Lists.{stated_by}
+use Rattle.any_list.specs.List.{stated_by}
 use Rattle.check_run.specs.Run.{ChecksAll, EndsBeside, EndsChecked, EndsIf}
 use Rattle.check_run.specs.Version.{PrintsVersion}
 use Rattle.check_run.specs.declared.limits.Unanswered.{Unanswered}
@@ -58,7 +58,7 @@ all_reached : (result : Result (Unit {0}) RunFault) (later : List Named) → res
 all_reached (Ok done) later is all = all
 all_reached (Err stop) later is all = absurd (some_is stop is)
 
-pub ended : (told : List Fact) (name bytes : List ℕ) (task : Check) (limits : Limits) (result : Result (Unit {0}) RunFault) (old mid : Printer) (before taken : Option (List ℕ)) (refused unread failed : Bool) (status : ℕ) (fault : Option RunFault)
+pub ended : (told : List Reading) (name bytes : List ℕ) (task : Check) (limits : Limits) (result : Result (Unit {0}) RunFault) (old mid : Printer) (before taken : Option (List ℕ)) (refused unread failed : Bool) (status : ℕ) (fault : Option RunFault)
     → ChecksAll told name bytes task limits result old mid refused unread → HasSaid before [] old → EndsAny result mid refused unread taken failed status fault → EndsChecked told name bytes task limits before taken failed status fault
 ended told name bytes task limits result old mid before taken refused unread failed status fault all has ends =
     let kept : fault ≡ None → result_err result ≡ None = stop_is_kept all.items result old mid before taken refused unread failed status fault all.checks.carries has ends in
@@ -73,7 +73,7 @@ ended told name bytes task limits result old mid before taken refused unread fai
     }
 
 -- The final state of the printer's writer is that of the writer.
-pub ended_there : (told : List Fact) (name bytes : List ℕ) (task : Check) (limits : Limits) (before taken taken' : Option (List ℕ)) (failed failed' : Bool) (status : ℕ) (fault : Option RunFault)
+pub ended_there : (told : List Reading) (name bytes : List ℕ) (task : Check) (limits : Limits) (before taken taken' : Option (List ℕ)) (failed failed' : Bool) (status : ℕ) (fault : Option RunFault)
     → EndsChecked told name bytes task limits before taken failed status fault → taken' ≡ taken → failed' ≡ failed → EndsChecked told name bytes task limits before taken' failed' status fault
 ended_there told name bytes task limits before taken taken' failed failed' status fault ends is_taken is_failed = rw (is_taken, is_failed) ends
 
@@ -83,10 +83,10 @@ ends_there items before taken taken' failed failed' status fault ends is_taken i
 
 -- ---- the list is read
 
-pub ends_version : (only : Bool) (told : List Fact) (name bytes : List ℕ) (task : Check) (before after : Option (List ℕ)) (failed : Bool) (result : Result Done Unanswered) (header : Option Header)
+pub ends_version : (only : Bool) (told : List Reading) (name bytes : List ℕ) (task : Check) (before after : Option (List ℕ)) (failed : Bool) (result : Result Done Unanswered) (header : Option Header)
     → only ≡ true → told ≡ [] → PrintsVersion name (stated_by header) before after failed result → EndsIf only told name bytes header task before after failed result
 ends_version only told name bytes task before after failed result header is none prints = rw is (none, prints)
 
-pub ends_beside : (only : Bool) (told : List Fact) (name bytes : List ℕ) (task : Check) (before after : Option (List ℕ)) (failed : Bool) (result : Result Done Unanswered) (header : Option Header)
+pub ends_beside : (only : Bool) (told : List Reading) (name bytes : List ℕ) (task : Check) (before after : Option (List ℕ)) (failed : Bool) (result : Result Done Unanswered) (header : Option Header)
     → only ≡ false → EndsBeside told name bytes task before after failed result → EndsIf only told name bytes header task before after failed result
 ends_beside only told name bytes task before after failed result header is ends = rw is ends

@@ -15,9 +15,9 @@ use Rattle.krl_checker.specs.Authorities.{HasAuthorities}
 use Rattle.krl_checker.specs.Check.{NamesNobody, condition_items, end_items, names_nobody}
 use Rattle.krl_checker.specs.Condition.{fails}
 use Rattle.krl_checker.specs.declared.condition.Condition.{Condition}
-use Rattle.any_list.specs.List.{IsReadList}
-use Rattle.any_list.specs.declared.list.List.{List as ReadList}
-use Rattle.check_run.specs.Fact.{Fact}
+use Rattle.any_list.specs.List.{IsReadList, stated_by}
+use Rattle.any_list.specs.declared.list.List.{List as ListOf}
+use Rattle.any_list.specs.Told.{Reading}
 use Rattle.check_run.specs.Files.{AreRead, ChecksFiles, Named, Read, files_of, reads_fail, reads_items, some_unread}
 use Rattle.check_run.specs.Lists.{Checks, ChecksFormat, IsFormat, empty_fails, empty_items, limits_fail, limits_items, slow_of}
 use Rattle.check_run.specs.Run.{ChecksAll, ChecksList, IsChecked, Judged, form_of, list_fails, list_items}
@@ -102,19 +102,19 @@ ended form name result old new before after fails is kept carries =
     checks_of (end_items form name fails) false result old new before after (subst (λ (b : Bool). Carries (end_items form name b) result old new) is carries) (kept ∙ or_false before)
 
 -- what is known of the list and of the files
-judged : (told : List Fact) (form : Form) (name bytes : List ℕ) (list : ReadList) (held : Revocations) (task : Check) (limits : Limits) (first : Judged) (read : IsReadList false bytes list) (reads : List Read) (later : List Named)
-    → form ≡ form_of task → ListLaws held read.entries → IsFormat bytes first.format → first.nobody ≡ names_nobody held → first.authorities ≡ length held.sections → first.stated ≡ list.stated → first.limits ≡ limits → AreRead told (files_of task) reads later
+judged : (told : List Reading) (form : Form) (name bytes : List ℕ) (list : ListOf) (held : Revocations) (task : Check) (limits : Limits) (first : Judged) (read : IsReadList name bytes list) (reads : List Read) (later : List Named)
+    → form ≡ form_of task → ListLaws held read.entries → IsFormat bytes first.format → first.nobody ≡ names_nobody held → first.authorities ≡ length held.sections → first.stated ≡ stated_by list.header → first.limits ≡ limits → AreRead told (files_of task) reads later
     → IsChecked told name bytes task limits (list_items form name first task ++ (reads_items form (reasons_of read.entries) reads later ++ end_items form name (list_fails first task || reads_fail (reasons_of read.entries) reads)))
     (list_fails first task || reads_fail (reasons_of read.entries) reads) (some_unread reads) later
 judged told form name bytes list held task limits first read reads later is law format nobody authorities stated limited are = record {
-  header = read.header;
+  header = list.header;
   entries = read.entries;
   names = read.named;
   list = first;
   is_format = format;
   is_nobody = nobody_as first.nobody held read.entries nobody law.nobody;
   are_counted = authorities_as first.authorities held read.entries authorities law.authorities;
-  stated_is = stated ∙ read.stated_is;
+  stated_is = stated;
   limits_are = limited;
   reads = reads;
   are_read = are;
@@ -123,8 +123,8 @@ judged told form name bytes list held task limits first read reads later is law 
   unread_is = refl;
 }
 
-pub all_checked : (told : List Fact) (form : Form) (name bytes : List ℕ) (list : ReadList) (held : Revocations) (task : Check) (limits : Limits) (value files_value : Unit {0}) (result : Result (Unit {0}) RunFault) (p q r s : Printer) (b c d u w x : Bool)
-    → form ≡ form_of task → (read : IsReadList false bytes list) → ListLaws held read.entries → ChecksList form name bytes list.stated held task limits (Ok value) p q false b
+pub all_checked : (told : List Reading) (form : Form) (name bytes : List ℕ) (list : ListOf) (held : Revocations) (task : Check) (limits : Limits) (value files_value : Unit {0}) (result : Result (Unit {0}) RunFault) (p q r s : Printer) (b c d u w x : Bool)
+    → form ≡ form_of task → (read : IsReadList name bytes list) → ListLaws held read.entries → ChecksList form name bytes (stated_by list.header) held task limits (Ok value) p q false b
     → ChecksFiles told form (reasons_of read.entries) (files_of task) (Ok files_value) q r b c u w → u ≡ false → Carries (end_items form name c) result r s → d ≡ c → x ≡ w → ChecksAll told name bytes task limits result p s d x
 all_checked told form name bytes list held task limits value files_value result p q r s b c d u w x is read law first files working last kept same =
     let reasons = reasons_of read.entries in
@@ -144,8 +144,8 @@ all_checked told form name bytes list held task limits value files_value result 
       all = on_ok_all result files.later files.all;
     }
 
-pub files_stop : (told : List Fact) (form : Form) (name bytes : List ℕ) (list : ReadList) (held : Revocations) (task : Check) (limits : Limits) (value : Unit {0}) (stop : RunFault) (p q r : Printer) (b c d u w x : Bool)
-    → form ≡ form_of task → (read : IsReadList false bytes list) → ListLaws held read.entries → ChecksList form name bytes list.stated held task limits (Ok value) p q false b
+pub files_stop : (told : List Reading) (form : Form) (name bytes : List ℕ) (list : ListOf) (held : Revocations) (task : Check) (limits : Limits) (value : Unit {0}) (stop : RunFault) (p q r : Printer) (b c d u w x : Bool)
+    → form ≡ form_of task → (read : IsReadList name bytes list) → ListLaws held read.entries → ChecksList form name bytes (stated_by list.header) held task limits (Ok value) p q false b
     → ChecksFiles told form (reasons_of read.entries) (files_of task) (Err stop) q r b c u w → ChecksAll told name bytes task limits (Err stop) p r d x
 files_stop told form name bytes list held task limits value stop p q r b c d u w x is read law first files =
     let reasons = reasons_of read.entries in
@@ -164,8 +164,8 @@ files_stop told form name bytes list held task limits value stop p q r b c d u w
       all = tt;
     }
 
-pub list_stops : (form : Form) (name bytes : List ℕ) (list : ReadList) (held : Revocations) (task : Check) (limits : Limits) (stop : RunFault) (p q : Printer) (b c w : Bool)
-    → form ≡ form_of task → (read : IsReadList false bytes list) → ListLaws held read.entries → ChecksList form name bytes list.stated held task limits (Err stop) p q false b → ChecksAll [] name bytes task limits (Err stop) p q c w
+pub list_stops : (form : Form) (name bytes : List ℕ) (list : ListOf) (held : Revocations) (task : Check) (limits : Limits) (stop : RunFault) (p q : Printer) (b c w : Bool)
+    → form ≡ form_of task → (read : IsReadList name bytes list) → ListLaws held read.entries → ChecksList form name bytes (stated_by list.header) held task limits (Err stop) p q false b → ChecksAll [] name bytes task limits (Err stop) p q c w
 list_stops form name bytes list held task limits stop p q b c w is read law first =
     let reasons = reasons_of read.entries in
     let files = files_of task in

@@ -17,7 +17,7 @@ use Rattle.krl_audit.specs.declared.judge.Form.{Form}
 use Rattle.krl_audit.specs.declared.why.Refusal.{Refusal}
 use Rattle.krl_checker.specs.Check.{ChecksFile}
 use Rattle.krl_checker.specs.declared.role.Role.{Role}
-use Rattle.check_run.specs.Fact.{Fact, FileOf}
+use Rattle.any_list.specs.Told.{KeysRead, Reading}
 use Rattle.check_run.specs.Files.{AreRead, ChecksFiles, Named, Read, fact_read, is_unread, named, named_all, passed, read_fails, read_items, reads_fail, reads_items, some_unread}
 use Rattle.check_run.specs.Lists.{Checks}
 use Rattle.check_run.proofs.Steps.{checks_none, checks_then, on_ok, on_ok_or, or_assoc, or_false}
@@ -27,7 +27,7 @@ use Rattle.check_run.proofs.Steps.{checks_none, checks_then, on_ok, on_ok_or, or
 abbrev file_of : Read → Named
 file_of read = read.file
 
-read_then : (told next : List Fact) (files others : List Named) (reads more : List Read) (later : List Named) → AreRead told files reads [] → AreRead next others more later → AreRead (told ++ next) (files ++ others) (reads ++ more) later
+read_then : (told next : List Reading) (files others : List Named) (reads more : List Read) (later : List Named) → AreRead told files reads [] → AreRead next others more later → AreRead (told ++ next) (files ++ others) (reads ++ more) later
 read_then told next files others reads more later first second = record {
   files_are =
       let front : files ≡ map file_of reads = first.files_are ∙ append-nil (map file_of reads) in
@@ -36,7 +36,7 @@ read_then told next files others reads more later first second = record {
   told_are = rw (first.told_are, second.told_are) (sym (map-append fact_read reads more));
 }
 
-read_stops : (told : List Fact) (files others : List Named) (reads : List Read) (later : List Named) → AreRead told files reads later → AreRead told (files ++ others) reads (later ++ others)
+read_stops : (told : List Reading) (files others : List Named) (reads : List Read) (later : List Named) → AreRead told files reads later → AreRead told (files ++ others) reads (later ++ others)
 read_stops told files others reads later first = record {
   files_are = ap (λ (fs : List Named). fs ++ others) first.files_are ∙ append_assoc (map file_of reads) later others;
   told_are = first.told_are;
@@ -77,7 +77,7 @@ no_file form reasons now refused unread = record {
   all = refl;
 }
 
-pub files_then : (told next : List Fact) (form : Form) (reasons : Subject → Reasons) (files others : List Named) (value : Unit {0}) (result : Result (Unit {0}) RunFault) (old mid new : Printer) (a b c u v w : Bool)
+pub files_then : (told next : List Reading) (form : Form) (reasons : Subject → Reasons) (files others : List Named) (value : Unit {0}) (result : Result (Unit {0}) RunFault) (old mid new : Printer) (a b c u v w : Bool)
     → ChecksFiles told form reasons files (Ok value) old mid a b u v → ChecksFiles next form reasons others result mid new b c v w → ChecksFiles (told ++ next) form reasons (files ++ others) result old new a c u w
 files_then told next form reasons files others value result old mid new a b c u v w first second =
     let xs : List Item = reads_items form reasons first.reads [] in
@@ -96,7 +96,7 @@ files_then told next form reasons files others value result old mid new a b c u 
       all = second.all;
     }
 
-pub files_stop : (told : List Fact) (form : Form) (reasons : Subject → Reasons) (files others : List Named) (stop : RunFault) (old new : Printer) (a b c u v w : Bool)
+pub files_stop : (told : List Reading) (form : Form) (reasons : Subject → Reasons) (files others : List Named) (stop : RunFault) (old new : Printer) (a b c u v w : Bool)
     → ChecksFiles told form reasons files (Err stop) old new a b u v → ChecksFiles told form reasons (files ++ others) (Err stop) old new a c u w
 files_stop told form reasons files others stop old new a b c u v w first = record {
   reads = first.reads;
@@ -129,7 +129,7 @@ on_ok_all (Ok done) later is = is
 on_ok_all (Err stop) later is = tt
 
 pub file_checked : (form : Form) (reasons : Subject → Reasons) (role : Role) (name : List ℕ) (content : Result (List ℕ) Refusal) (result : Result (Unit {0}) RunFault) (old new : Printer) (a b u w : Bool)
-    → ChecksFile form role reasons name content result old new a b → w ≡ (u || is_err content) → ChecksFiles (FileOf name content ∷ []) form reasons (named role name ∷ []) result old new a b u w
+    → ChecksFile form role reasons name content result old new a b → w ≡ (u || is_err content) → ChecksFiles (KeysRead name content ∷ []) form reasons (named role name ∷ []) result old new a b u w
 file_checked form reasons role name content result old new a b u w checks unread =
     let read : Read = record { file = named role name; content = content } in
     record {

@@ -14,7 +14,7 @@ use Rattle.krl_checker.specs.Check.{counts_of, keys_items}
 use Rattle.krl_checker.specs.Role.{is_met}
 use Rattle.krl_checker.specs.declared.role.Role.{Role}
 use Rattle.krl_checker.specs.declared.role.Role.TheVariants.{Canary, Keep}
-use Rattle.check_run.specs.Fact.{Fact, FileOf}
+use Rattle.any_list.specs.Told.{KeysRead, Reading}
 use Rattle.check_run.specs.Lists.{Checks}
 
 -- a file that the user names, and what the list must do to its keys
@@ -37,12 +37,12 @@ pub record Read : Type 0 where
   pub file : Named
   pub content : Result (List ℕ) Refusal
 
-abbrev pub fact_read : Read → Fact
-fact_read read = FileOf read.file.name read.content
+abbrev pub fact_read : Read → Reading
+fact_read read = KeysRead read.file.name read.content
 
 -- The files up to some file were read, once each and in this order, and these are their contents.
 -- The later ones were not read.
-pub record AreRead (told : List Fact) (files : List Named) (reads : List Read)
+pub record AreRead (told : List Reading) (files : List Named) (reads : List Read)
     (later : List Named) : Type 0 where
   pub files_are : files ≡ map (λ (read : Read). read.file) reads ++ later
   pub told_are : told ≡ map fact_read reads
@@ -75,7 +75,7 @@ unfoldable pub some_unread : List Read → Bool
 some_unread reads = list_any is_unread reads
 
 -- The keys of the files were checked, or the check was stopped within them.
-pub record ChecksFiles (told : List Fact) (form : Form) (reasons : Subject → Reasons)
+pub record ChecksFiles (told : List Reading) (form : Form) (reasons : Subject → Reasons)
     (files : List Named) (result : Result (Unit {0}) RunFault)
     (old new : Printer) (before after : Bool) (unread_before unread_after : Bool) : Type 0 where
   pub reads : List Read

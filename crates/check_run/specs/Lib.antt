@@ -1,4 +1,4 @@
-pub mod Fact
+pub mod Host
 pub mod Losses
 pub mod Lists
 pub mod Limits

@@ -1,10 +1,9 @@
 -- The conditions for the list itself.
 use Rattle.std.specs.Borrow.{Bor}
 use Rattle.std.specs.Prelude.{◌≡◌, ℕ, ◌||◌, ◌&&◌, nat_lt, not, Bool, true, false, List, [], ◌∷◌}
-use Rattle.std.specs.Prelude.{◌++◌, Option, Some, None, Result, Ok, Err, OnOk, length, option_map}
+use Rattle.std.specs.Prelude.{◌++◌, Option, Some, None, Result, Ok, OnOk, length}
 use Rattle.std.specs.Prelude.{if◌then◌else◌}
-use Rattle.run_faults.specs.RunFault.{RunFault, run_fault_of}
-use Rattle.run_faults.specs.declared.cause.Cause.{Cause}
+use Rattle.run_faults.specs.RunFault.{RunFault}
 use Rattle.run_output.specs.Carries.{Carries}
 use Rattle.run_output.specs.Printer.{Printer}
 use Rattle.run_output.specs.Run.{Item, Passed}
@@ -25,57 +24,35 @@ use Rattle.plain_list.specs.Any.{Names, begins_list}
 use Rattle.plain_list.specs.Dsa.{IsFirstDsa}
 use Rattle.plain_list.specs.List.{lines_of}
 use Rattle.plain_list.specs.declared.dsa.DsaLine.{DsaLine}
-use Rattle.any_list.specs.List.{IsListFault, IsReadList, stated_in}
-use Rattle.check_run.specs.Fact.{Fact, ListOf}
+use Rattle.any_list.specs.List.{IsRefused, stated_by}
+use Rattle.any_list.specs.Told.{ListRead, Reading}
 use Rattle.check_run.specs.Losses.{losses_fail, losses_items}
 use Rattle.check_run.specs.declared.limits.AgeLimit.{AgeLimit}
 use Rattle.check_run.specs.declared.limits.Limits.{Limits}
-use Rattle.check_run.specs.declared.lists.Given.{Given}
 use Rattle.check_run.specs.declared.lists.Other.{Other}
 
 abbrev pub version_of : Option Stated → Option ℕ
 version_of (Some stated) = Some stated.version
 version_of None = None
 
--- ---- a list, by the content of its file
-
--- The bytes were not read for this cause, or are refused as a list for this fault.
-abbrev pub IsRefusedAs : List ℕ → Result (List ℕ) Cause → RunFault → Type 0
-IsRefusedAs name (Ok bytes) stop = IsListFault name bytes stop
-IsRefusedAs name (Err cause) stop = stop ≡ run_fault_of name cause
-
--- The file of this name was read once, and is refused as a list for this.
-pub record IsRefused (told : List Fact) (name : List ℕ) (stop : RunFault) : Type 0 where
-  pub content : Result (List ℕ) Cause
-  pub told_is : told ≡ ListOf name content ∷ []
-  pub refused_as : IsRefusedAs name content stop
-
--- The file of this name was read once, and the list is read from its bytes.
-pub record IsGiven (told : List Fact) (name : List ℕ) (given : Given) : Type 0 where
-  pub name_is : given.name.now ≡ name
-  pub told_is : told ≡ ListOf name (Ok given.bytes) ∷ []
-  pub read : IsReadList false given.bytes given.list
-
--- the version and the date of a list; a plain list has neither
-abbrev pub stated_by : Option Header → Option Stated
-stated_by header = option_map stated_in header
+-- ---- the list of `--newer-than`
 
 -- The file of this name was read once, and the other list has this name and this version.
-pub record IsOther (told : List Fact) (name : List ℕ) (other : Other) : Type 0 where
+pub record IsOther (told : List Reading) (name : List ℕ) (other : Other) : Type 0 where
   pub bytes : List ℕ
   pub header : Option Header
   pub entries : List Entry
-  pub told_is : told ≡ ListOf name (Ok bytes) ∷ []
+  pub told_is : told ≡ ListRead name (Ok bytes) ∷ []
   pub names : Names bytes header entries
   pub name_is : other.name.now ≡ name
   pub version_is : other.version ≡ version_of (stated_by header)
 
-abbrev pub IsOtherOf : List Fact → Option (Bor (List ℕ)) → Option Other → Type 0
+abbrev pub IsOtherOf : List Reading → Option (Bor (List ℕ)) → Option Other → Type 0
 IsOtherOf told None other = (told ≡ []) × (other ≡ None)
 IsOtherOf told (Some name) None = ⊥
 IsOtherOf told (Some name) (Some other) = IsOther told name.now other
 
-abbrev pub IsOtherRefused : List Fact → Option (Bor (List ℕ)) → RunFault → Type 0
+abbrev pub IsOtherRefused : List Reading → Option (Bor (List ℕ)) → RunFault → Type 0
 IsOtherRefused told None stop = ⊥
 IsOtherRefused told (Some name) stop = IsRefused told name.now stop
 

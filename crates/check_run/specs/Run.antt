@@ -20,13 +20,14 @@ use Rattle.krl_checker.specs.Condition.{fails}
 use Rattle.krl_checker.specs.declared.condition.Condition.{Condition}
 use Rattle.krl_checker.specs.declared.condition.Condition.TheVariants.{Slow}
 use Rattle.plain_list.specs.Any.{Names}
-use Rattle.check_run.specs.Fact.{Fact, ListOf}
+use Rattle.any_list.specs.List.{IsRefused, stated_by}
+use Rattle.any_list.specs.Told.{ListRead, Reading}
 use Rattle.check_run.specs.Files.{AreRead, Named, Read, files_of, reads_fail, reads_items}
 use Rattle.check_run.specs.Files.{some_unread}
 use Rattle.check_run.specs.Limits.{AreLimits, AreOthers, IsClockless, IsLostUnknown}
-use Rattle.check_run.specs.Lists.{Checks, IsFormat, IsOtherOf, IsOtherRefused, IsRefused}
+use Rattle.check_run.specs.Lists.{Checks, IsFormat, IsOtherOf, IsOtherRefused}
 use Rattle.check_run.specs.Lists.{empty_fails, empty_items, format_items, limits_fail}
-use Rattle.check_run.specs.Lists.{limits_items, most_cas, stated_by}
+use Rattle.check_run.specs.Lists.{limits_items, most_cas}
 use Rattle.check_run.specs.Version.{PrintsVersion}
 use Rattle.check_run.specs.declared.limits.Limits.{Limits}
 use Rattle.check_run.specs.declared.lists.Lost.{Lost}
@@ -65,7 +66,7 @@ list_fails list task =
 
 -- A check of this list, by its limits, prints these items. It says whether a condition fails and
 -- whether a file was not read, and these files were not reached.
-pub record IsChecked (told : List Fact) (name bytes : List ℕ) (task : Check)
+pub record IsChecked (told : List Reading) (name bytes : List ℕ) (task : Check)
     (limits : Limits) (items : List Item) (fails unread : Bool) (later : List Named) : Type 0
   where
     pub header : Option Header
@@ -89,7 +90,7 @@ pub record IsChecked (told : List Fact) (name bytes : List ℕ) (task : Check)
 -- ---- the end
 
 -- The check of the list came to an end. Unless a fault stopped it, it reached each file.
-pub record EndsChecked (told : List Fact) (name bytes : List ℕ) (task : Check)
+pub record EndsChecked (told : List Reading) (name bytes : List ℕ) (task : Check)
     (limits : Limits) (before after : Option (List ℕ)) (failed : Bool) (status : ℕ)
     (fault : Option RunFault) : Type 0 where
   pub items : List Item
@@ -116,28 +117,28 @@ pub record EndsRefused (Is : RunFault → Type 0) (before after : Option (List �
 -- end, with the files of keys. Or the list of `--newer-than` is refused; or that of `--superset-of`
 -- is, after the first one was read; or the clock cannot be read, after both were; and nothing was
 -- printed.
-pub data EndsBeside (told : List Fact) (name bytes : List ℕ) (task : Check)
+pub data EndsBeside (told : List Reading) (name bytes : List ℕ) (task : Check)
     (before after : Option (List ℕ)) (failed : Bool) (result : Result Done Unanswered) : Type 0
   where
-    beside : (limits : Limits) → (first files : List Fact) → told ≡ first ++ files
+    beside : (limits : Limits) → (first files : List Reading) → told ≡ first ++ files
         → AreLimits first bytes task limits → (done : Done) → result ≡ Ok done
         → EndsChecked files name bytes task limits before after failed done.status done.fault
         → EndsBeside told name bytes task before after failed result
     other_refused :
         EndsRefused (IsOtherRefused told task.newer_than) before after failed result
         → EndsBeside told name bytes task before after failed result
-    lost_unknown : (other : Option Other) → (first last : List Fact) → told ≡ first ++ last
+    lost_unknown : (other : Option Other) → (first last : List Reading) → told ≡ first ++ last
         → IsOtherOf first task.newer_than other
         → EndsRefused (IsLostUnknown last task.superset_of) before after failed result
         → EndsBeside told name bytes task before after failed result
-    clockless : (other : Option Other) → (lost : Option Lost) → (first last : List Fact)
+    clockless : (other : Option Other) → (lost : Option Lost) → (first last : List Reading)
         → told ≡ first ++ last → AreOthers first bytes task other lost
         → (why : Unanswered) → IsClockless last task.max_age why
         → result ≡ Err why → after ≡ before → failed ≡ false
         → EndsBeside told name bytes task before after failed result
 
 -- The version of a list that was read is printed, and nothing else is read; or the list is checked.
-abbrev pub EndsIf : (only_version : Bool) → List Fact → (name bytes : List ℕ) → Option Header
+abbrev pub EndsIf : (only_version : Bool) → List Reading → (name bytes : List ℕ) → Option Header
     → Check → (before after : Option (List ℕ)) → (failed : Bool) → Result Done Unanswered
     → Type 0
 EndsIf true told name bytes header task before after failed result =
@@ -147,10 +148,10 @@ EndsIf false told name bytes header task before after failed result =
 
 -- The list of the task was read first, and the task was done with it; or the list is refused, and
 -- nothing else was read.
-pub data EndsCheckRun (told : List Fact) (task : Check) (before after : Option (List ℕ))
+pub data EndsCheckRun (told : List Reading) (task : Check) (before after : Option (List ℕ))
     (failed : Bool) (result : Result Done Unanswered) : Type 0 where
-  read : (bytes : List ℕ) → (later : List Fact)
-      → told ≡ ListOf task.list.now (Ok bytes) ∷ later
+  read : (bytes : List ℕ) → (later : List Reading)
+      → told ≡ ListRead task.list.now (Ok bytes) ∷ later
       → (header : Option Header) → (entries : List Entry) → Names bytes header entries
       → EndsIf task.print_version later task.list.now bytes header task before after failed result
       → EndsCheckRun told task before after failed result
@@ -173,7 +174,7 @@ pub record ChecksList (form : Form) (name bytes : List ℕ) (stated : Option Sta
       after
 
 -- All conditions were checked, or the check was stopped within them.
-pub record ChecksAll (told : List Fact) (name bytes : List ℕ) (task : Check)
+pub record ChecksAll (told : List Reading) (name bytes : List ℕ) (task : Check)
     (limits : Limits) (result : Result (Unit {0}) RunFault) (old new : Printer)
     (refused unread : Bool) : Type 0 where
   pub items : List Item

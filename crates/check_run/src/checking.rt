@@ -1,15 +1,15 @@
 //! The check of a list that was read: one condition after the other, and the end.
 
 ghost use Rattle.std.specs.Prelude.{◌≡◌, false};
-ghost use Rattle.any_list.specs.List.{IsReadList};
+ghost use Rattle.any_list.specs.List.{IsRead, stated_by};
+ghost use Rattle.any_list.specs.Told.{Tells};
 ghost use Rattle.check_run.specs.Run.{ChecksAll, ChecksList, EndsChecked, form_of};
-ghost use Rattle.show_run.specs.Told.{Tells};
 
 use crate::conditions::{check_empty, check_format, check_limits, check_slow};
 use crate::files::check_files;
 use crate::host::Host;
 use crate::limits::Limits;
-use crate::lists::Given;
+use any_list::Given;
 use byte_streams::Sink;
 use krl_arguments::Check;
 use krl_audit::{Auditor, Form};
@@ -34,10 +34,11 @@ pub(crate) fn check_by<'a, H: Host, W: Sink>(
     host: &mut H,
     out: &mut W,
 ) -> Done<'a>
-    requires read { IsReadList false job.given.now.bytes job.given.now.list }
+    requires read { IsRead job.given.now }
     requires working { W.has_failed out.old ≡ false }
-    ensures { Tells (H.told host.old) (H.told host.new) (λ told. EndsChecked told
-        job.entry.given.now.name.now job.entry.given.now.bytes job.entry.task.now job.entry.limits
+    ensures { Tells (H.Lists.told host.old) (H.Lists.told host.new)
+        (λ told. EndsChecked told job.entry.given.now.list.name.now
+        job.entry.given.now.bytes job.entry.task.now job.entry.limits
         (W.taken out.old) (W.taken out.new) (W.has_failed out.new) result.status result.fault) }
 {
     let mut buffer = Vec::new(alloc);
@@ -70,13 +71,14 @@ fn check_all<'a, H: Host, W: Sink>(
     job: Job<'a, '_, '_>,
     host: &mut H,
 ) -> Result<(), RunFault<'a>>
-    requires read { IsReadList false job.given.now.bytes job.given.now.list }
+    requires read { IsRead job.given.now }
     requires judge { checker.old.auditor.judge.list.now ≡ job.given.now.list.revocations }
     requires form { checker.old.auditor.judge.shown.form ≡ form_of job.task.now }
     requires refused { checker.old.refused ≡ false }
     requires unread { checker.old.unread ≡ false }
-    ensures all { Tells (H.told host.old) (H.told host.new) (λ told. ChecksAll told
-        job.entry.given.now.name.now job.entry.given.now.bytes job.entry.task.now job.entry.limits
+    ensures all { Tells (H.Lists.told host.old) (H.Lists.told host.new)
+        (λ told. ChecksAll told job.entry.given.now.list.name.now
+        job.entry.given.now.bytes job.entry.task.now job.entry.limits
         result checker.old.auditor.run.printer checker.new.auditor.run.printer
         checker.new.refused checker.new.unread) }
     ensures writer { checker.new.auditor.run.printer.writer
@@ -86,7 +88,7 @@ fn check_all<'a, H: Host, W: Sink>(
     authorities_are_counted();
     check_list(checker, job)?;
     check_files(checker, host, job.task)?;
-    checker.say_end(job.given.name)
+    checker.say_end(job.given.list.name)
 }
 
 // Checks each condition for the list itself.
@@ -94,16 +96,17 @@ fn check_list<'a, W: Sink>(
     checker: &mut Checker<'_, '_, W>,
     job: Job<'a, '_, '_>,
 ) -> Result<(), RunFault<'a>>
-    requires { IsReadList false job.given.now.bytes job.given.now.list }
-    ensures checks { ChecksList checker.old.auditor.judge.shown.form job.entry.given.now.name.now
-        job.entry.given.now.bytes job.entry.given.now.list.stated checker.old.auditor.judge.list.now
+    requires { IsRead job.given.now }
+    ensures checks { ChecksList checker.old.auditor.judge.shown.form
+        job.entry.given.now.list.name.now job.entry.given.now.bytes
+        (stated_by job.entry.given.now.list.header) checker.old.auditor.judge.list.now
         job.entry.task.now job.entry.limits result checker.old.auditor.run.printer
         checker.new.auditor.run.printer checker.old.refused checker.new.refused }
     ensures unread { checker.new.unread ≡ checker.old.unread }
     ensures judge { checker.new.auditor.judge ≡ checker.old.auditor.judge }
 {
-    let name = job.given.name;
-    let stated = job.given.list.stated;
+    let name = job.given.list.name;
+    let stated = job.given.list.stated();
     check_format(checker, job.given)?;
     check_empty(checker, name, job.task.allow_empty)?;
     check_slow(checker, name, job.task.max_cas)?;

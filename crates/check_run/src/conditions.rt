@@ -7,10 +7,11 @@ ghost use Rattle.check_run.specs.Lists.{Checks, ChecksFormat, ChecksLines, ages_
 ghost use Rattle.check_run.specs.Lists.{empty_fails, empty_items, limits_fail, limits_items};
 ghost use Rattle.check_run.specs.Lists.{slow_of, version_of, versions_fail, versions_items};
 ghost use Rattle.check_run.specs.Losses.{lost_form, lost_items, losses_fail, losses_items};
-ghost use Rattle.any_list.specs.List.{IsReadList};
+ghost use Rattle.any_list.specs.List.{IsRead};
 
 use crate::limits::{AgeLimit, Limits};
-use crate::lists::{Given, Lost, Other, version_of};
+use crate::lists::{Lost, Other, version_of};
+use any_list::Given;
 use byte_streams::Sink;
 use krl_audit::{Form, Stated};
 use krl_checker::{Checker, Condition, names_nobody};
@@ -29,20 +30,21 @@ pub(crate) fn check_format<'a, W: Sink>(
     checker: &mut Checker<'_, '_, W>,
     given: &Given<'a>,
 ) -> Result<(), RunFault<'a>>
-    requires { IsReadList false given.now.bytes given.now.list }
-    ensures checks { ChecksFormat checker.old.auditor.judge.shown.form given.now.name.now
+    requires { IsRead given.now }
+    ensures checks { ChecksFormat checker.old.auditor.judge.shown.form given.now.list.name.now
         given.now.bytes result
         checker.old.auditor.run.printer checker.new.auditor.run.printer checker.old.refused
         checker.new.refused }
     ensures unread { checker.new.unread ≡ checker.old.unread }
     ensures judge { checker.new.auditor.judge ≡ checker.old.auditor.judge }
 {
-    match given.list.stated {
+    let name = given.list.name;
+    match &given.list.header {
         Some(_) => {
             let difference = first_difference(given.bytes.as_slice());
-            checker.check(given.name, Condition::OpenSsh(difference))
+            checker.check(name, Condition::OpenSsh(difference))
         }
-        None => check_lines(checker, given.name, given.bytes.as_slice()),
+        None => check_lines(checker, name, given.bytes.as_slice()),
     }
 }
 

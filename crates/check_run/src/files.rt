@@ -4,8 +4,8 @@ ghost use Rattle.std.specs.Prelude.{◌≡◌, ◌∷◌, [], List};
 ghost use Rattle.krl_entries.specs.Reasons.{reasons_of};
 ghost use Rattle.krl_entries.specs.Revocations.{Means};
 ghost use Rattle.krl_types.specs.Entry.{Entry};
+ghost use Rattle.any_list.specs.Told.{Tells};
 ghost use Rattle.check_run.specs.Files.{ChecksFiles, files_of, named, named_all};
-ghost use Rattle.show_run.specs.Told.{Tells};
 
 use crate::host::Host;
 use byte_streams::Sink;
@@ -19,8 +19,8 @@ pub(crate) fn check_files<'a, H: Host, W: Sink>(
     host: &mut H,
     task: &Check<'a>,
 ) -> Result<(), RunFault<'a>>
-    ensures checks { Tells (H.told host.old) (H.told host.new) (λ told. (entries : List Entry)
-        → Means checker.old.auditor.judge.list.now entries
+    ensures checks { Tells (H.Lists.told host.old) (H.Lists.told host.new)
+        (λ told. (entries : List Entry) → Means checker.old.auditor.judge.list.now entries
         → ChecksFiles told checker.old.auditor.judge.shown.form (reasons_of entries)
         (files_of task.now) result checker.old.auditor.run.printer
         checker.new.auditor.run.printer checker.old.refused checker.new.refused
@@ -38,8 +38,8 @@ fn check_each<'a, H: Host, W: Sink>(
     role: Role,
     names: &[&'a str],
 ) -> Result<(), RunFault<'a>>
-    ensures checks { Tells (H.told host.old) (H.told host.new) (λ told. (entries : List Entry)
-        → Means checker.old.auditor.judge.list.now entries
+    ensures checks { Tells (H.Lists.told host.old) (H.Lists.told host.new)
+        (λ told. (entries : List Entry) → Means checker.old.auditor.judge.list.now entries
         → ChecksFiles told checker.old.auditor.judge.shown.form (reasons_of entries)
         (named_all role names.now) result checker.old.auditor.run.printer
         checker.new.auditor.run.printer checker.old.refused checker.new.refused
@@ -60,8 +60,8 @@ fn check_file<'a, H: Host, W: Sink>(
     role: Role,
     name: &'a str,
 ) -> Result<(), RunFault<'a>>
-    ensures checks { Tells (H.told host.old) (H.told host.new) (λ told. (entries : List Entry)
-        → Means checker.old.auditor.judge.list.now entries
+    ensures checks { Tells (H.Lists.told host.old) (H.Lists.told host.new)
+        (λ told. (entries : List Entry) → Means checker.old.auditor.judge.list.now entries
         → ChecksFiles told checker.old.auditor.judge.shown.form (reasons_of entries)
         (named role name.now ∷ []) result checker.old.auditor.run.printer
         checker.new.auditor.run.printer checker.old.refused checker.new.refused
@@ -70,7 +70,7 @@ fn check_file<'a, H: Host, W: Sink>(
     ensures form { checker.new.auditor.judge.shown.form ≡ checker.old.auditor.judge.shown.form }
 {
     let mut text = Vec::new(checker.auditor.run.alloc);
-    match host.read(name, &mut text) {
+    match host.read_keys(name, &mut text) {
         Ok(Ok(())) => checker.check_keys(role, name, Ok(text.as_slice())),
         Ok(Err(refusal)) => checker.check_keys(role, name, Err(refusal)),
         Err(_) => Err(RunFault::whole(name, Cause::NoMemory)),

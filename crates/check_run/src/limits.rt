@@ -1,8 +1,8 @@
 //! The limits of a list: the version of another one, an age, and the names of another one.
 
 ghost use Rattle.std.specs.Prelude.{◌≡◌, IfErr, IfOk};
+ghost use Rattle.any_list.specs.Told.{Tells};
 ghost use Rattle.check_run.specs.Limits.{IsAgeLimit, IsClockless, unanswered_words};
-ghost use Rattle.show_run.specs.Told.{Tells};
 
 use crate::host::Host;
 use crate::lists::{Lost, Other};
@@ -51,9 +51,9 @@ pub(crate) fn age_limit<H: Host>(
     host: &mut H,
     max_age: Option<u64>,
 ) -> Result<Option<AgeLimit>, Unanswered>
-    ensures limit { IfOk result (λ limit. Tells (H.told host.old) (H.told host.new)
+    ensures limit { IfOk result (λ limit. Tells (H.Lists.told host.old) (H.Lists.told host.new)
         (λ told. IsAgeLimit told max_age limit)) }
-    ensures clock { IfErr result (λ why. Tells (H.told host.old) (H.told host.new)
+    ensures clock { IfErr result (λ why. Tells (H.Lists.told host.old) (H.Lists.told host.new)
         (λ told. IsClockless told max_age why)) }
 {
     let Some(max_age) = max_age else {

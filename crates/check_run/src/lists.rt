@@ -1,30 +1,19 @@
-//! The lists that a check reads.
+//! The other lists that a check reads.
 
 ghost use Rattle.std.specs.Prelude.{◌≡◌, IfErr, IfOk, List};
 ghost use Rattle.krl_entries.specs.Revocations.{Means};
 ghost use Rattle.krl_types.specs.Entry.{Entry};
-ghost use Rattle.check_run.specs.Lists.{IsGiven, IsOtherOf, IsOtherRefused, IsRefused};
-ghost use Rattle.check_run.specs.Lists.{version_of};
+ghost use Rattle.any_list.specs.Told.{Tells};
+ghost use Rattle.check_run.specs.Lists.{IsOtherOf, IsOtherRefused, version_of};
 ghost use Rattle.check_run.specs.Limits.{IsLostOf, IsLostUnknown};
-ghost use Rattle.show_run.specs.Told.{Tells};
 
-use crate::host::Host;
-use any_list::{List as ReadList, read_list};
+use any_list::{Lists, read_given};
 use krl_audit::Stated;
 use krl_entries::Revocations;
 use list_diff::difference;
 use run_faults::{Cause, RunFault};
 use span_sets::Held;
-use ssh_wire::Bytes;
 use std::alloc::Global;
-
-/// A list that was read: the name of its file, its bytes, and what they say.
-#[derive(Drop)]
-pub(crate) struct Given<'a> {
-    pub(crate) name: &'a str,
-    pub(crate) bytes: Bytes,
-    pub(crate) list: ReadList,
-}
 
 /// The other list: its name, and its version unless it is a plain list.
 #[derive(Clone, Copy)]
@@ -40,46 +29,25 @@ pub(crate) struct Lost<'a> {
     pub(crate) held: Revocations<Held>,
 }
 
-/// Reads a list, or says why it is refused.
-pub(crate) fn read_file<'a, H: Host>(
-    alloc: Global,
-    host: &mut H,
-    name: &'a str,
-) -> Result<Given<'a>, RunFault<'a>>
-    ensures found { IfOk result (λ given. Tells (H.told host.old) (H.told host.new)
-        (λ told. IsGiven told name.now given)) }
-    ensures fault { IfErr result (λ stop. Tells (H.told host.old) (H.told host.new)
-        (λ told. IsRefused told name.now stop)) }
-{
-    let bytes = match host.list(name) {
-        Ok(bytes) => bytes,
-        Err(cause) => return Err(RunFault::whole(name, cause)),
-    };
-    match read_list(alloc, name, bytes.as_slice(), false) {
-        Ok(list) => Ok(Given { name, bytes, list }),
-        Err(fault) => Err(fault),
-    }
-}
-
 /// Reads the list whose version the checked one must not be below, if there is one, or says why it
 /// is refused.
-pub(crate) fn read_other<'a, H: Host>(
+pub(crate) fn read_other<'a, L: Lists>(
     alloc: Global,
-    host: &mut H,
+    lists: &mut L,
     name: Option<&'a str>,
 ) -> Result<Option<Other<'a>>, RunFault<'a>>
-    ensures found { IfOk result (λ other. Tells (H.told host.old) (H.told host.new)
+    ensures found { IfOk result (λ other. Tells (L.told lists.old) (L.told lists.new)
         (λ told. IsOtherOf told name.entry other)) }
-    ensures fault { IfErr result (λ stop. Tells (H.told host.old) (H.told host.new)
+    ensures fault { IfErr result (λ stop. Tells (L.told lists.old) (L.told lists.new)
         (λ told. IsOtherRefused told name.entry stop)) }
 {
     let Some(name) = name else {
         return Ok(None);
     };
-    match read_file(alloc, host, name) {
+    match read_given(alloc, lists, name) {
         Ok(given) => Ok(Some(Other {
-            name: given.name,
-            version: version_of(given.list.stated),
+            name,
+            version: version_of(given.list.stated()),
         })),
         Err(fault) => Err(fault),
     }
@@ -87,26 +55,26 @@ pub(crate) fn read_other<'a, H: Host>(
 
 /// Reads the list whose names the checked one must have, if there is one, and finds those that it
 /// lacks, or says why the other list is refused.
-pub(crate) fn read_lost<'a, H: Host>(
+pub(crate) fn read_lost<'a, L: Lists>(
     alloc: Global,
-    host: &mut H,
+    lists: &mut L,
     name: Option<&'a str>,
     held: &Revocations<Held>,
 ) -> Result<Option<Lost<'a>>, RunFault<'a>>
-    ensures found { IfOk result (λ lost. Tells (H.told host.old) (H.told host.new)
+    ensures found { IfOk result (λ lost. Tells (L.told lists.old) (L.told lists.new)
         (λ told. (own : List Entry) → Means held.now own
         → IsLostOf told own name.entry lost)) }
-    ensures fault { IfErr result (λ stop. Tells (H.told host.old) (H.told host.new)
+    ensures fault { IfErr result (λ stop. Tells (L.told lists.old) (L.told lists.new)
         (λ told. IsLostUnknown told name.entry stop)) }
 {
     let Some(name) = name else {
         return Ok(None);
     };
-    let other = match read_file(alloc, host, name) {
-        Ok(other) => other,
+    let other = match read_given(alloc, lists, name) {
+        Ok(given) => given.list,
         Err(fault) => return Err(fault),
     };
-    match difference(alloc, held, &other.list.revocations) {
+    match difference(alloc, held, &other.revocations) {
         Ok(held) => Ok(Some(Lost { name, held })),
         Err(_) => Err(RunFault::whole(name, Cause::NoMemory)),
     }

@@ -1,15 +1,16 @@
 //! The whole check of a list.
 
 ghost use Rattle.std.specs.Prelude.{◌≡◌, Some, false};
-ghost use Rattle.any_list.specs.List.{IsReadList};
+ghost use Rattle.any_list.specs.List.{IsRead};
+ghost use Rattle.any_list.specs.Told.{Tells};
 ghost use Rattle.check_run.specs.Run.{EndsBeside, EndsCheckRun};
-ghost use Rattle.show_run.specs.Told.{Tells};
 
 use crate::checking::{Job, check_by};
 use crate::host::Host;
 use crate::limits::{Limits, Unanswered, age_limit};
-use crate::lists::{Given, read_file, read_lost, read_other};
+use crate::lists::{read_lost, read_other};
 use crate::version::print_version;
+use any_list::{Given, read_given};
 use byte_streams::Sink;
 use krl_arguments::Check;
 use run_faults::RunFault;
@@ -31,15 +32,16 @@ pub fn check_run<'a, H: Host, W: Sink>(
     out: &mut W,
 ) -> Result<Done<'a>, Unanswered>
     requires { W.has_failed out.old ≡ false }
-    ensures { Tells (H.told host.old) (H.told host.new) (λ told. EndsCheckRun told task.now
-        (W.taken out.old) (W.taken out.new) (W.has_failed out.new) result) }
+    ensures { Tells (H.Lists.told host.old) (H.Lists.told host.new)
+        (λ told. EndsCheckRun told task.now (W.taken out.old) (W.taken out.new)
+        (W.has_failed out.new) result) }
 {
-    let given = match read_file(alloc, host, task.list) {
+    let given = match read_given(alloc, host, task.list) {
         Ok(given) => given,
         Err(fault) => return Ok(refused(fault)),
     };
     if task.print_version {
-        print_version(alloc, &given, out)
+        print_version(alloc, &given.list, out)
     } else {
         check_beside(alloc, &given, task, host, out)
     }
@@ -64,11 +66,11 @@ fn check_beside<'a, 'g, H: Host, W: Sink>(
     host: &mut H,
     out: &mut W,
 ) -> Result<Done<'a>, Unanswered>
-    requires read { IsReadList false given.now.bytes given.now.list }
+    requires read { IsRead given.now }
     requires working { W.has_failed out.old ≡ false }
-    ensures { Tells (H.told host.old) (H.told host.new) (λ told. EndsBeside told
-        given.now.name.now given.now.bytes task.now (W.taken out.old) (W.taken out.new)
-        (W.has_failed out.new) result) }
+    ensures { Tells (H.Lists.told host.old) (H.Lists.told host.new)
+        (λ told. EndsBeside told given.now.list.name.now given.now.bytes task.now
+        (W.taken out.old) (W.taken out.new) (W.has_failed out.new) result) }
 {
     let other = match read_other(alloc, host, task.newer_than) {
         Ok(other) => other,

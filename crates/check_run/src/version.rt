@@ -1,13 +1,14 @@
 //! The version of a list, printed alone.
 
 ghost use Rattle.std.specs.Prelude.{◌≡◌, ◌∷◌, [], false};
+ghost use Rattle.any_list.specs.List.{stated_by};
 ghost use Rattle.run_output.specs.Carries.{Carries};
 ghost use Rattle.run_output.specs.Done.{Ends};
 ghost use Rattle.run_output.specs.Run.{said_of};
 ghost use Rattle.check_run.specs.Version.{PrintsVersion, version_text};
 
 use crate::limits::Unanswered;
-use crate::lists::Given;
+use any_list::List;
 use byte_streams::Sink;
 use line_pieces::put;
 use run_faults::RunFault;
@@ -17,15 +18,15 @@ use std::alloc::Global;
 /// Prints the version of a list that was read, if it has one.
 pub(crate) fn print_version<'a, W: Sink>(
     alloc: Global,
-    given: &Given<'a>,
+    list: &List<'a>,
     out: &mut W,
 ) -> Result<Done<'a>, Unanswered>
     requires { W.has_failed out.old ≡ false }
-    ensures { PrintsVersion given.now.name.now given.now.list.stated (W.taken out.old)
+    ensures { PrintsVersion list.now.name.now (stated_by list.now.header) (W.taken out.old)
         (W.taken out.new) (W.has_failed out.new) result }
 {
-    match given.list.stated {
-        Some(stated) => Ok(say_version(alloc, given.name, stated.version, out)),
+    match list.stated() {
+        Some(stated) => Ok(say_version(alloc, list.name, stated.version, out)),
         None => Err(Unanswered::Version),
     }
 }

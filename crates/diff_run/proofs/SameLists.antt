@@ -5,8 +5,8 @@ use Rattle.krl_types.specs.Entry.{Entry}
 use Rattle.krl_types.specs.Subject.{Subject}
 use Rattle.krl_entries.specs.Revoked.{Revoked}
 use Rattle.krl_entries.proofs.MoreNames.{revoked_by_same}
-use Rattle.show_run.specs.declared.lists.Given.{Given}
-use Rattle.show_run.specs.Told.{Reading}
+use Rattle.any_list.specs.declared.list.List.{List as ListOf}
+use Rattle.any_list.specs.Told.{Reading}
 use Rattle.diff_run.specs.Run.{EndsCompared, EndsDiffRun, compared, refused, status_of}
 use Rattle.diff_run.specs.SameLists.{RevokeSame}
 use Rattle.diff_run.specs.declared.run.Comparison.{Comparison}
@@ -16,7 +16,7 @@ same_by_status same (Some stop) is = absurd (omega (arith, is))
 same_by_status true None is = refl
 same_by_status false None is = absurd (omega (arith, is))
 
-pub revoked_alike : (json : Bool) (old new : Given) (olds news : List Entry) (before after : Option (List ℕ)) (failed : Bool) (status : ℕ) (fault : Option RunFault)
+pub revoked_alike : (json : Bool) (old new : ListOf) (olds news : List Entry) (before after : Option (List ℕ)) (failed : Bool) (status : ℕ) (fault : Option RunFault)
     → EndsCompared json old new olds news before after failed status fault → status ≡ 0 → (subject : Subject) → Revoked olds subject ↔ Revoked news subject
 revoked_alike json old new olds news before after failed status fault ends zero =
     revoked_by_same olds news (ends.same_is.0 (same_by_status ends.same fault (sym ends.status_is ∙ zero)))

@@ -4,9 +4,9 @@ use Rattle.run_faults.specs.RunFault.{RunFault, run_fault_of}
 use Rattle.run_faults.specs.declared.cause.Cause.TheVariants.{NoMemory}
 use Rattle.krl_entries.specs.Revocations.{Revocations, nothing}
 use Rattle.list_diff.specs.Without.{HoldsWithout}
-use Rattle.show_run.specs.Lists.{IsGiven, IsGivenBy, IsRefused}
-use Rattle.show_run.specs.Told.{Reading, reading}
-use Rattle.show_run.specs.declared.lists.Given.{Given}
+use Rattle.any_list.specs.List.{IsGiven, IsReadList, IsRefused}
+use Rattle.any_list.specs.Told.{ListRead, Reading}
+use Rattle.any_list.specs.declared.list.List.{List as ListOf}
 use Rattle.diff_run.specs.declared.changes.Changes.{Changes}
 
 -- exactly what only the new list names was added, and exactly what only the old one names removed
@@ -20,18 +20,18 @@ IsUnchanged changes = (changes.added ≡ nothing) × (changes.removed ≡ nothin
 
 -- The files of both names were read once each, the old one first, and the lists are read from these
 -- bytes.
-pub record AreRead (told : List Reading) (old new : List ℕ) (before after : Given) : Type 0 where
+pub record AreRead (told : List Reading) (old new : List ℕ) (before after : ListOf) : Type 0 where
   pub olds : List ℕ
   pub news : List ℕ
-  pub told_is : told ≡ reading old (Ok olds) ∷ (reading new (Ok news) ∷ [])
-  pub is_before : IsGivenBy old olds before
-  pub is_after : IsGivenBy new news after
+  pub told_is : told ≡ ListRead old (Ok olds) ∷ (ListRead new (Ok news) ∷ [])
+  pub is_before : IsReadList old olds before
+  pub is_after : IsReadList new news after
 
 -- Both lists were read, and these are their changes.
 pub record AreCompared (told : List Reading) (old new : List ℕ) (changes : Changes) : Type 0
   where
-    pub before : Given
-    pub after : Given
+    pub before : ListOf
+    pub after : ListOf
     pub read : AreRead told old new before after
     pub are : AreChanges before.revocations after.revocations changes
 
@@ -39,17 +39,18 @@ pub record AreCompared (told : List Reading) (old new : List ℕ) (changes : Cha
 -- one was read; or an allocation failed after both were.
 pub data IsUncompared (told : List Reading) (old new : List ℕ) (stop : RunFault) : Type 0 where
   old_refused : IsRefused told old stop → IsUncompared told old new stop
-  new_refused : (first last : List Reading) → told ≡ first ++ last → (before : Given)
-      → IsGiven first old before → IsRefused last new stop → IsUncompared told old new stop
-  ran_out : (before after : Given) → AreRead told old new before after
+  new_refused : (first last : List Reading) → told ≡ first ++ last → (olds : List ℕ)
+      → (before : ListOf) → IsGiven first old olds before → IsRefused last new stop
+      → IsUncompared told old new stop
+  ran_out : (before after : ListOf) → AreRead told old new before after
       → stop ≡ run_fault_of new NoMemory → IsUncompared told old new stop
 
 -- Two lists with these bytes have these changes.
 pub record HasChanges (old new : List ℕ) (changes : Changes) : Type 0 where
   pub name : List ℕ
-  pub before : Given
-  pub is_before : IsGivenBy name old before
+  pub before : ListOf
+  pub is_before : IsReadList name old before
   pub other : List ℕ
-  pub after : Given
-  pub is_after : IsGivenBy other new after
+  pub after : ListOf
+  pub is_after : IsReadList other new after
   pub are : AreChanges before.revocations after.revocations changes

@@ -4,8 +4,8 @@ use Rattle.run_faults.specs.RunFault.{RunFault}
 use Rattle.run_output.specs.Done.{EndsWith}
 use Rattle.krl_types.specs.Entry.{Entry}
 use Rattle.krl_types.specs.Naming.{NamesSame}
-use Rattle.show_run.specs.Told.{Reading}
-use Rattle.show_run.specs.declared.lists.Given.{Given}
+use Rattle.any_list.specs.Told.{Reading}
+use Rattle.any_list.specs.declared.list.List.{List as ListOf}
 use Rattle.diff_run.specs.Changes.{AreChanges, AreRead, IsUncompared, IsUnchanged}
 use Rattle.diff_run.specs.Printing.{change_items}
 use Rattle.diff_run.specs.declared.changes.Changes.{Changes}
@@ -27,7 +27,7 @@ pub record EndsPrinted (json : Bool) (changes : Changes) (before after : Option 
 
 -- Two lists that name these entries were compared: the lines of their changes were printed, or the
 -- run was stopped within them. The status is 0 exactly where the entries name the same.
-pub record EndsCompared (json : Bool) (old new : Given) (olds news : List Entry)
+pub record EndsCompared (json : Bool) (old new : ListOf) (olds news : List Entry)
     (before after : Option (List ℕ)) (failed : Bool) (status : ℕ) (fault : Option RunFault)
     : Type 0 where
   pub changes : Changes
@@ -42,7 +42,7 @@ pub record EndsCompared (json : Bool) (old new : Given) (olds news : List Entry)
 pub data EndsDiffRun (told : List Reading) (comparison : Comparison)
     (before after : Option (List ℕ)) (failed : Bool) (status : ℕ) (fault : Option RunFault)
     : Type 0 where
-  compared : (old new : Given)
+  compared : (old new : ListOf)
       → (read : AreRead told comparison.old.now comparison.new.now old new)
       → EndsCompared comparison.json old new read.is_before.entries read.is_after.entries before
       after failed status fault

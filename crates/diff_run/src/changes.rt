@@ -1,13 +1,13 @@
 //! What each of two lists names and the other does not.
 
 ghost use Rattle.std.specs.Prelude.{◌↔◌, IfErr, IfOk, IsTrue};
+ghost use Rattle.any_list.specs.Told.{Tells};
 ghost use Rattle.diff_run.specs.Changes.{AreChanges, AreCompared, IsUncompared, IsUnchanged};
-ghost use Rattle.show_run.specs.Told.{Tells};
 
+use any_list::{Lists, read_given};
 use krl_core::Revocations;
 use list_diff::difference;
 use run_faults::{Cause, RunFault};
-use show_run::{Lists, read_given};
 use span_sets::Held;
 use std::alloc::{AllocError, Global};
 
@@ -41,8 +41,9 @@ pub(crate) fn read_changes<'a, L: Lists>(
     ensures fault { IfErr result (λ stop. Tells (L.told lists.old) (L.told lists.new)
         (λ told. IsUncompared told old.now new.now stop)) }
 {
-    let before = read_given(alloc, lists, old)?;
-    let after = read_given(alloc, lists, new)?;
+    // The bytes of a list are not kept.
+    let before = read_given(alloc, lists, old)?.list;
+    let after = read_given(alloc, lists, new)?.list;
     match changes_of(alloc, &before.revocations, &after.revocations) {
         Ok(changes) => Ok(changes),
         Err(_) => Err(RunFault::whole(new, Cause::NoMemory)),

@@ -5,8 +5,8 @@ ghost use Rattle.run_faults.specs.RunFault.{RunFault as RunFaultOf};
 ghost use Rattle.krl_types.specs.Entry.{Entry};
 ghost use Rattle.krl_types.specs.Subject.{Subject};
 ghost use Rattle.krl_entries.specs.Revoked.{Revoked};
-ghost use Rattle.show_run.specs.Told.{Reading};
-ghost use Rattle.show_run.specs.declared.lists.Given.{Given as GivenOf};
+ghost use Rattle.any_list.specs.Told.{Reading};
+ghost use Rattle.any_list.specs.declared.list.List.{List as ListOf};
 ghost use Rattle.diff_run.specs.Changes.{HasChanges};
 ghost use Rattle.diff_run.specs.Run.{EndsCompared, EndsDiffRun};
 ghost use Rattle.diff_run.specs.SameLists.{RevokeSame};
@@ -22,7 +22,7 @@ pub fn bytes_decide_the_changes()
 /// Where the status of a comparison is 0, both lists revoke the same: no key and no certificate is
 /// judged otherwise by the one than by the other.
 pub fn no_change_revokes_the_same()
-    ensures compared { (json : Bool) (old new : GivenOf) (olds news : List Entry)
+    ensures compared { (json : Bool) (old new : ListOf) (olds news : List Entry)
         (before after : Option (List ℕ)) (failed : Bool) (status : ℕ)
         (fault : Option RunFaultOf)
         → EndsCompared json old new olds news before after failed status fault → status ≡ 0

@@ -1,16 +1,16 @@
 //! The whole run.
 
 ghost use Rattle.std.specs.Prelude.{◌≡◌, false};
+ghost use Rattle.any_list.specs.Told.{Tells};
 ghost use Rattle.diff_run.specs.Run.{EndsDiffRun, EndsPrinted, status_of};
-ghost use Rattle.show_run.specs.Told.{Tells};
 
 use crate::changes::{Changes, read_changes};
 use crate::printing::print_each;
+use any_list::Lists;
 use byte_streams::Sink;
 use list_diff::laws::same_without_difference;
 use run_faults::RunFault;
 use run_output::{Done, FAILED, Printer, Run};
-use show_run::Lists;
 use std::alloc::Global;
 
 /// Two lists that are compared, by the names of their files, and how their difference is printed.

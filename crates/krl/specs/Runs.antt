@@ -1,7 +1,7 @@
 -- The runs of the commands that print about lists. The files and the clock are those of the system,
 -- of which nothing is known: they told something.
 use Rattle.std.specs.Prelude.{◌≡◌, ℕ, Bool, true, false, List, Option, Result, Ok, Err}
-use Rattle.check_run.specs.Fact.{Fact}
+use Rattle.any_list.specs.Told.{Reading}
 use Rattle.check_run.specs.Run.{EndsCheckRun}
 use Rattle.check_run.specs.declared.limits.Unanswered.{Unanswered}
 use Rattle.diff_run.specs.Run.{EndsDiffRun}
@@ -15,7 +15,6 @@ use Rattle.list_text.specs.declared.form.Form.TheVariants.{Unnamed}
 use Rattle.run_faults.specs.RunFault.{RunFault}
 use Rattle.run_output.specs.declared.done.Done.{Done}
 use Rattle.show_run.specs.Run.{EndsShowRun}
-use Rattle.show_run.specs.Told.{Reading}
 
 -- the form in which lists are shown
 abbrev pub shown_form : (json no_name : Bool) → Form
@@ -55,7 +54,7 @@ checked_status (Err why) = 255
 
 -- The list of the task was checked so, with this status.
 pub record IsChecked (task : Check) (status : ℕ) : Type 0 where
-  pub told : List Fact
+  pub told : List Reading
   pub before : Option (List ℕ)
   pub after : Option (List ℕ)
   pub failed : Bool

@@ -40,7 +40,7 @@ pub fn canaries_of<'a>(
     if files.is_empty() {
         return Ok(None);
     }
-    let held = read_list(rt.alloc(), list, bytes, false)?;
+    let held = read_list(rt.alloc(), list, bytes)?;
     let mut text = Vec::new(rt.alloc());
     let mut keys = Vec::new(rt.alloc());
     for file in files {
@@ -53,12 +53,12 @@ pub fn canaries_of<'a>(
             return Err(Unmet::At(*file));
         }
         // A fault of its lines has the name of the file and their numbers there.
-        read_list(rt.alloc(), *file, text.as_slice(), false)?;
+        read_list(rt.alloc(), *file, text.as_slice())?;
         if add_lines(&mut keys, text.as_slice()).is_err() {
             return Err(out_of_memory(*file));
         }
     }
-    let read = read_list(rt.alloc(), "the canaries", keys.as_slice(), false)?;
+    let read = read_list(rt.alloc(), "the canaries", keys.as_slice())?;
     Ok(Some(read.revocations))
 }
 

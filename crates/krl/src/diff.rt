@@ -18,7 +18,7 @@ pub fn diff(rt: &HostRuntime, task: &Diff) -> u8
         new: task.new,
         json: task.json,
     };
-    let mut files = ListFiles::new(rt);
+    let mut files = ListFiles { rt };
     let mut out = ToWrite::new(rt.stdout());
     let done = diff_run(rt.alloc(), &mut files, comparison, &mut out);
     end(rt, &Krl, &done)

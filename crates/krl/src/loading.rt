@@ -6,13 +6,13 @@ ghost use Rattle.std.specs.Io.KnownBytes.{Consumes};
 ghost use Rattle.std.specs.IoError.{error_kind};
 ghost use Rattle.krl.specs.Loading.{IsRead};
 
+use any_list::Lists;
 use byte_streams::{FromRead, Source};
 use krl_audit::Refusal;
 use krl_core::LIMIT as LIST_LIMIT;
 use krl_system::read_list;
 use list_making::read_rest;
 use run_faults::{Cause, FileFault, LIMIT};
-use show_run::Lists;
 use ssh_wire::Bytes;
 use std::alloc::{AllocError, Global};
 use std::fs::{self, File};
@@ -126,14 +126,7 @@ pub fn bytes_of(rt: &HostRuntime, name: &str) -> Result<Bytes, Cause> {
 /// The lists of the system. Nothing is claimed about their bytes.
 #[derive(Drop)]
 pub struct ListFiles<'a> {
-    rt: &'a HostRuntime,
-}
-
-impl<'a> ListFiles<'a> {
-    /// All lists.
-    pub fn new(rt: &'a HostRuntime) -> Self {
-        ListFiles { rt }
-    }
+    pub rt: &'a HostRuntime,
 }
 
 impl<'a> Lists for ListFiles<'a> {

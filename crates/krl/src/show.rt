@@ -17,7 +17,7 @@ pub fn show(rt: &HostRuntime, task: &Show) -> u8
 {
     let form = form_of(task.json, task.no_name);
     let mut out = ToWrite::new(rt.stdout());
-    let mut files = ListFiles::new(rt);
+    let mut files = ListFiles { rt };
     let done = show_run(
         rt.alloc(),
         &mut files,

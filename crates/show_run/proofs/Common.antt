@@ -15,4 +15,4 @@ pub use Rattle.list_text.specs.Facts.{Fact, fact_of, facts_of, HeldFact, ListFac
 pub use Rattle.list_text.specs.declared.counts.Counts.{Counts}
 pub use Rattle.list_text.specs.declared.form.Form.{Form}
 pub use Rattle.show_run.specs.Showing.{fact_item, fact_items, line_item, Shows}
-unfoldable pub use Rattle.show_run.specs.Showing.{given_facts, lists_facts}
+unfoldable pub use Rattle.show_run.specs.Showing.{list_facts, lists_facts}

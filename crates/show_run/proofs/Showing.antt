@@ -5,13 +5,13 @@ use Rattle.show_run.proofs.Common.{counted_all, Counts, drop, drop-cons, Err, Fa
 use Rattle.show_run.proofs.Common.{fact_items, Form, get_or, Item, length, List, map-append, Ok}
 use Rattle.show_run.proofs.Common.{OnOk, Option, Printer, refl, Result, RunFault, Shows}
 use Rattle.show_run.proofs.Common.{subst, sym, ℕ}
-use Rattle.show_run.proofs.Common.{drop_all, fact_of, flat_map, given_facts}
+use Rattle.show_run.proofs.Common.{drop_all, fact_of, flat_map, list_facts}
 use Rattle.show_run.proofs.Common.{ListFact, lists_facts, ◌≤◌}
 use Rattle.std.specs.Borrow.{Bor}
 use Rattle.std.specs.Prelude.{option_map}
 use Rattle.krl_format.specs.declared.header.Header.{Header}
 use Rattle.list_text.specs.declared.fact.Fact.TheVariants as facts
-use Rattle.show_run.specs.declared.lists.Given.{Given}
+use Rattle.any_list.specs.declared.list.List.{List as ListOf}
 
 abbrev fine : Result (Unit {0}) RunFault
 fine = Ok tt
@@ -79,16 +79,16 @@ all_shown form all old new before after is =
 -- ---- what is left
 
 -- the lists from a place on are the one there and the others
-pub lists_next : (lists : List Given) (i : ℕ) (given : Given) → given ≡ get_or lists i given → i < length lists
-    → lists_facts (drop i lists) ≡ given_facts given ++ lists_facts (drop (i + 1) lists)
+pub lists_next : (lists : List ListOf) (i : ℕ) (list : ListOf) → list ≡ get_or lists i list → i < length lists
+    → lists_facts (drop i lists) ≡ list_facts list ++ lists_facts (drop (i + 1) lists)
 unfolding lists_facts
-lists_next lists i given is lt =
-    let parts : drop i lists ≡ get_or lists i given ∷ drop (i + 1) lists = rw add-one (drop-cons lists i given lt) in
-    ap (λ (xs : List Given). flat_map given_facts xs) (parts ∙ ap (λ (one : Given). one ∷ drop (i + 1) lists) (sym is))
+lists_next lists i list is lt =
+    let parts : drop i lists ≡ get_or lists i list ∷ drop (i + 1) lists = rw add-one (drop-cons lists i list lt) in
+    ap (λ (xs : List ListOf). flat_map list_facts xs) (parts ∙ ap (λ (one : ListOf). one ∷ drop (i + 1) lists) (sym is))
 
-pub lists_end : (lists : List Given) (i : ℕ) → length lists ≤ i → lists_facts (drop i lists) ≡ []
+pub lists_end : (lists : List ListOf) (i : ℕ) → length lists ≤ i → lists_facts (drop i lists) ≡ []
 unfolding lists_facts
-lists_end lists i le = ap (λ (xs : List Given). flat_map given_facts xs) (drop_all i lists le)
+lists_end lists i le = ap (λ (xs : List ListOf). flat_map list_facts xs) (drop_all i lists le)
 
 -- ---- facts, as the code has them
 

@@ -9,18 +9,18 @@ use Rattle.list_text.specs.Forms.{last_line}
 use Rattle.list_text.specs.declared.form.Form.{Form}
 use Rattle.show_run.specs.Lists.{AreGiven, StopsReading}
 use Rattle.show_run.specs.Showing.{fact_items, line_item, lists_facts}
-use Rattle.show_run.specs.Told.{Reading}
-use Rattle.show_run.specs.declared.lists.Given.{Given}
+use Rattle.any_list.specs.Told.{Reading}
+use Rattle.any_list.specs.declared.list.List.{List as ListOf}
 
 -- the lines of lists, and the last line
-unfoldable pub run_items : Form → List Given → List Item
+unfoldable pub run_items : Form → List ListOf → List Item
 run_items form lists =
     fact_items form (lists_facts lists)
     ++ line_item (last_line form (counted_all nothing_counted (lists_facts lists))) ∷ []
 
 -- The run printed the lines of these lists, or was stopped within them. The status is 0, or 255 if
 -- the run was stopped, since no line reports a revoked key.
-pub record EndsShown (form : Form) (lists : List Given) (before after : Option (List ℕ))
+pub record EndsShown (form : Form) (lists : List ListOf) (before after : Option (List ℕ))
     (failed : Bool) (status : ℕ) (fault : Option RunFault) : Type 0 where
   pub plain : (outcome_of (run_items form lists)).revoked ≡ false
   pub ends : Ends (run_items form lists) before after failed status fault
@@ -30,7 +30,7 @@ pub record EndsShown (form : Form) (lists : List Given) (before after : Option (
 pub data EndsShowRun (told : List Reading) (names : List (Bor (List ℕ))) (form : Form)
     (before after : Option (List ℕ)) (failed : Bool) (status : ℕ) (fault : Option RunFault)
     : Type 0 where
-  shown : (lists : List Given) → AreGiven told names lists
+  shown : (lists : List ListOf) → AreGiven told names lists
       → EndsShown form lists before after failed status fault
       → EndsShowRun told names form before after failed status fault
   refused : (stop : RunFault) → StopsReading told names stop → fault ≡ Some stop

@@ -10,7 +10,7 @@ use Rattle.list_text.specs.Facts.{Fact, ListFact, facts_of}
 use Rattle.list_text.specs.Forms.{form_line}
 use Rattle.list_text.specs.declared.counts.Counts.{Counts}
 use Rattle.list_text.specs.declared.form.Form.{Form}
-use Rattle.show_run.specs.declared.lists.Given.{Given}
+use Rattle.any_list.specs.declared.list.List.{List as ListOf}
 
 -- the item of a line; the name is that of its fault if there is no memory for it
 abbrev pub line_item : List ℕ → Item
@@ -30,8 +30,8 @@ pub record Shows (form : Form) (facts : List Fact) (result : Result (Unit {0}) R
   pub count : OnOk result (after ≡ counted_all before facts)
 
 -- a list: its name and header, and what it names
-unfoldable pub given_facts : Given → List Fact
-given_facts given = ListFact given.name.now given.header ∷ facts_of given.revocations
+unfoldable pub list_facts : ListOf → List Fact
+list_facts list = ListFact list.name.now list.header ∷ facts_of list.revocations
 
-unfoldable pub lists_facts : List Given → List Fact
-lists_facts lists = flat_map given_facts lists
+unfoldable pub lists_facts : List ListOf → List Fact
+lists_facts lists = flat_map list_facts lists

@@ -7,6 +7,5 @@ mod printing;
 mod run;
 mod walk;
 
-pub use lists::{Given, Lists, read_given};
 pub use run::show_run;
 pub use walk::show_held;

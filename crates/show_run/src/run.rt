@@ -1,13 +1,14 @@
 //! The whole run.
 
 ghost use Rattle.std.specs.Prelude.{◌≡◌, false};
+ghost use Rattle.any_list.specs.Told.{Tells};
 ghost use Rattle.run_output.specs.Carries.{Carries};
 ghost use Rattle.show_run.specs.Run.{EndsShowRun, EndsShown, run_items};
-ghost use Rattle.show_run.specs.Told.{Tells};
 
-use crate::lists::{Given, Lists, read_lists};
+use crate::lists::read_lists;
 use crate::printing::show_last;
 use crate::walk::show_lists;
+use any_list::{List, Lists};
 use byte_streams::Sink;
 use list_text::{Counts, Form};
 use run_faults::RunFault;
@@ -38,7 +39,7 @@ pub fn show_run<'a, L: Lists, W: Sink>(
 }
 
 // Shows lists that were read.
-fn show_all<'a, W: Sink>(alloc: Global, lists: &[Given<'_>], form: Form, out: &mut W) -> Done<'a>
+fn show_all<'a, W: Sink>(alloc: Global, lists: &[List<'_>], form: Form, out: &mut W) -> Done<'a>
     requires { W.has_failed out.old ≡ false }
     ensures { EndsShown form lists.now (W.taken out.old) (W.taken out.new) (W.has_failed out.new)
         result.status result.fault }
@@ -66,7 +67,7 @@ fn show_all<'a, W: Sink>(alloc: Global, lists: &[Given<'_>], form: Form, out: &m
 fn show_each<'a, W: Sink>(
     run: &mut Run<'_, W>,
     form: Form,
-    lists: &[Given<'_>],
+    lists: &[List<'_>],
 ) -> Result<(), RunFault<'a>>
     ensures { Carries (run_items form lists.now) result run.old.printer run.new.printer }
 {

@@ -1,10 +1,10 @@
 //! Showing everything that is held.
 
 ghost use Rattle.list_text.specs.Facts.{facts_of};
-ghost use Rattle.show_run.specs.Showing.{Shows, given_facts, lists_facts};
+ghost use Rattle.show_run.specs.Showing.{Shows, list_facts, lists_facts};
 
-use crate::lists::Given;
 use crate::printing::show_fact;
+use any_list::List;
 use byte_streams::Sink;
 use krl_core::Revocations;
 use list_text::{Counts, Fact, Form};
@@ -17,13 +17,13 @@ pub(crate) fn show_lists<'a, W: Sink>(
     run: &mut Run<'_, W>,
     counts: &mut Counts,
     form: Form,
-    lists: &[Given<'_>],
+    lists: &[List<'_>],
 ) -> Result<(), RunFault<'a>>
     ensures { Shows form (lists_facts lists.now) result run.old.printer
         run.new.printer counts.old counts.new }
 {
-    for given in lists {
-        show_list(run, counts, form, given)?;
+    for list in lists {
+        show_list(run, counts, form, list)?;
     }
     Ok(())
 }
@@ -33,13 +33,13 @@ fn show_list<'a, W: Sink>(
     run: &mut Run<'_, W>,
     counts: &mut Counts,
     form: Form,
-    given: &Given<'_>,
+    list: &List<'_>,
 ) -> Result<(), RunFault<'a>>
-    ensures { Shows form (given_facts given.now) result run.old.printer
+    ensures { Shows form (list_facts list.now) result run.old.printer
         run.new.printer counts.old counts.new }
 {
-    show_fact(run, counts, form, Fact::List(given.name, given.header()))?;
-    show_held(run, counts, form, &given.revocations)
+    show_fact(run, counts, form, Fact::List(list.name, list.header()))?;
+    show_held(run, counts, form, &list.revocations)
 }
 
 /// Shows what is held, and counts it: each authority, with its serial numbers and key IDs, and then

@@ -17,10 +17,10 @@ use Rattle.run_faults.specs.RunFault.{RunFault}
 use Rattle.run_output.specs.Done.{EndsWith}
 use Rattle.run_output.specs.Run.{Item, outcome_of, status_of}
 use Rattle.show_run.specs.Lists.{AreGiven}
-use Rattle.show_run.specs.Told.{Reading}
+use Rattle.any_list.specs.Told.{Reading}
 use Rattle.show_run.specs.Run.{EndsShowRun, EndsShown, refused, run_items, shown}
-use Rattle.show_run.specs.Showing.{fact_items, given_facts, line_item, lists_facts}
-use Rattle.show_run.specs.declared.lists.Given.{Given}
+use Rattle.show_run.specs.Showing.{fact_items, list_facts, line_item, lists_facts}
+use Rattle.any_list.specs.declared.list.List.{List as ListOf}
 use Rattle.text_run.specs.Making.{Makes, Wanted}
 use Rattle.text_laws.specs.MadeLists.{IsMergedOf, only_text}
 use Rattle.text_laws.specs.Printed.{AreMerged, HaveNoZeroIds, IsRead, shown_of}
@@ -35,15 +35,15 @@ facts_printed : (facts : List Fact) → (outcome_of (fact_items AsText facts ++ 
 facts_printed [] = refl
 facts_printed (fact ∷ facts) = ap (λ (text : List ℕ). fact_line fact ++ text) (facts_printed facts)
 
-given_about : (given : Given) → given_facts given ≡ facts_about (shown_of given)
-unfolding given_facts
+given_about : (given : ListOf) → list_facts given ≡ facts_about (shown_of given)
+unfolding list_facts
 given_about given = refl
 
-lists_about : (lists : List Given) → flat_map given_facts lists ≡ flat_map facts_about (map shown_of lists)
+lists_about : (lists : List ListOf) → flat_map list_facts lists ≡ flat_map facts_about (map shown_of lists)
 lists_about [] = refl
 lists_about (given ∷ lists) = rw (given_about given, lists_about lists) refl
 
-pub printed_items : (lists : List Given) → (outcome_of (run_items AsText lists)).text ≡ text_of_lists (map shown_of lists)
+pub printed_items : (lists : List ListOf) → (outcome_of (run_items AsText lists)).text ≡ text_of_lists (map shown_of lists)
 unfolding run_items lists_facts
 printed_items lists = facts_printed (lists_facts lists) ∙ ap (λ (facts : List Fact). concat (map fact_line facts)) (lists_about lists)
 
@@ -52,7 +52,7 @@ taken_whole : (run : List Item) (before after : Option (List ℕ)) (failed revok
 taken_whole run before after failed revoked None ends status = ends.taken
 taken_whole run before after failed revoked (Some stop) ends status = absurd (omega (arith, status))
 
-pub printed_whole : (lists : List Given) (before after : Option (List ℕ)) (failed : Bool) (fault : Option RunFault) → EndsShown AsText lists before after failed 0 fault
+pub printed_whole : (lists : List ListOf) (before after : Option (List ℕ)) (failed : Bool) (fault : Option RunFault) → EndsShown AsText lists before after failed 0 fault
     → Appends before after (text_of_lists (map shown_of lists))
 printed_whole lists before after failed fault ends =
     let run : List Item = run_items AsText lists in
@@ -64,31 +64,31 @@ allowed : (allow : Bool) → (allow ≢ false) → allow ≡ true
 allowed true is = refl
 allowed false is = absurd (is refl)
 
-lists_can_be_shown : IsReadAsSpelled → (lists : List Given) → All IsRead lists → All CanBeShown (map shown_of lists)
+lists_can_be_shown : IsReadAsSpelled → (lists : List ListOf) → All IsRead lists → All CanBeShown (map shown_of lists)
 lists_can_be_shown law [] read = All-nil CanBeShown
 lists_can_be_shown law (given ∷ lists) read =
     let is = All-head IsRead given lists read in
-    All-cons CanBeShown (shown_of given) (map shown_of lists) (can_be_shown law is.bytes (shown_of given) is.given_by.entries is.fits is.given_by.names is.given_by.means is.whole_ids)
+    All-cons CanBeShown (shown_of given) (map shown_of lists) (can_be_shown law is.bytes (shown_of given) is.given_by.entries is.fits is.given_by.named is.given_by.means is.whole_ids)
     (lists_can_be_shown law lists (All-tail IsRead given lists read))
 
-made_of_printed : (lists : List Given) (wanted : Wanted) (is_file : Bool) (text name bytes : List ℕ) (failed : Bool) (fault : Option RunFault) (contents : Revocations)
+made_of_printed : (lists : List ListOf) (wanted : Wanted) (is_file : Bool) (text name bytes : List ℕ) (failed : Bool) (fault : Option RunFault) (contents : Revocations)
     → EndsShown AsText lists (Some []) (Some text) failed 0 fault → Makes wanted nothing (only_text is_file name text) bytes contents
     → Makes wanted nothing (only_text is_file name (text_of_lists (map shown_of lists))) bytes contents
 made_of_printed lists wanted is_file text name bytes failed fault contents ends makes =
     let is : text ≡ text_of_lists (map shown_of lists) = printed_whole lists (Some []) (Some text) failed fault ends in
     subst (λ (t : List ℕ). Makes wanted nothing (only_text is_file name t) bytes contents) is makes
 
-pub printed_merged : IsReadAsSpelled → (lists : List Given) (wanted : Wanted) (is_file : Bool) (text name bytes : List ℕ) (failed : Bool) (fault : Option RunFault) (contents : Revocations) → All IsRead lists
+pub printed_merged : IsReadAsSpelled → (lists : List ListOf) (wanted : Wanted) (is_file : Bool) (text name bytes : List ℕ) (failed : Bool) (fault : Option RunFault) (contents : Revocations) → All IsRead lists
     → EndsShown AsText lists (Some []) (Some text) failed 0 fault → Makes wanted nothing (only_text is_file name text) bytes contents
     → IsMergedOf (map shown_of lists) wanted.header bytes
 printed_merged law lists wanted is_file text name bytes failed fault contents read ends makes =
     merged (map shown_of lists) wanted is_file name bytes contents (lists_can_be_shown law lists read) (made_of_printed lists wanted is_file text name bytes failed fault contents ends makes)
 
-pub printed_again : IsReadAsSpelled → (given : Given) (wanted : Wanted) (is_file : Bool) (text name bytes : List ℕ) (failed : Bool) (fault : Option RunFault) (contents : Revocations) → IsRead given
+pub printed_again : IsReadAsSpelled → (given : ListOf) (wanted : Wanted) (is_file : Bool) (text name bytes : List ℕ) (failed : Bool) (fault : Option RunFault) (contents : Revocations) → IsRead given
     → EndsShown AsText (given ∷ []) (Some []) (Some text) failed 0 fault → Makes wanted nothing (only_text is_file name text) bytes contents
     → IsKrlText wanted.header given.revocations bytes
 printed_again law given wanted is_file text name bytes failed fault contents is ends makes =
-    made_again (shown_of given) wanted is_file name bytes contents (can_be_shown law is.bytes (shown_of given) is.given_by.entries is.fits is.given_by.names is.given_by.means is.whole_ids)
+    made_again (shown_of given) wanted is_file name bytes contents (can_be_shown law is.bytes (shown_of given) is.given_by.entries is.fits is.given_by.named is.given_by.means is.whole_ids)
     (made_of_printed (given ∷ []) wanted is_file text name bytes failed fault contents ends makes)
 
 -- An empty text names nothing.
@@ -102,14 +102,14 @@ printed_none wanted is_file name bytes contents makes =
 
 -- ---- a whole run
 
-abbrev HasWholeIds : Given → Type 0
+abbrev HasWholeIds : ListOf → Type 0
 HasWholeIds given = HasNoZeroIds given.revocations
 
-given_read : (told : List Reading) (names : List (Bor (List ℕ))) (lists : List Given) → AreGiven told names lists → All HasWholeIds lists → All IsRead lists
+given_read : (told : List Reading) (names : List (Bor (List ℕ))) (lists : List ListOf) → AreGiven told names lists → All HasWholeIds lists → All IsRead lists
 given_read [] [] [] given whole = All-nil IsRead
 given_read (one ∷ told) (name ∷ names) (list ∷ lists) given whole =
     let is = given.0 in
-    All-cons IsRead list lists (record { name = name.now; bytes = is.bytes; fits = is.fits; given_by = is.is; whole_ids = All-head HasWholeIds list lists whole })
+    All-cons IsRead list lists (record { name = name.now; bytes = is.0; fits = is.1.fits; given_by = is.1.is; whole_ids = All-head HasWholeIds list lists whole })
     (given_read told names lists given.1 (All-tail HasWholeIds list lists whole))
 given_read told names lists given whole = absurd given
 

@@ -32,8 +32,8 @@ ghost use Rattle.list_text.specs.declared.form.Form.TheVariants.{Text as AsText}
 ghost use Rattle.run_faults.specs.RunFault.{RunFault as RunFaultOf};
 ghost use Rattle.run_output.specs.Run.{outcome_of};
 ghost use Rattle.show_run.specs.Run.{EndsShowRun, EndsShown, run_items};
-ghost use Rattle.show_run.specs.Told.{Reading};
-ghost use Rattle.show_run.specs.declared.lists.Given.{Given};
+ghost use Rattle.any_list.specs.Told.{Reading};
+ghost use Rattle.any_list.specs.declared.list.List.{List as ListOf};
 ghost use Rattle.text_laws.specs.MadeLists.{IsMergedOf, only_text, only_text_of};
 ghost use Rattle.text_laws.specs.Printed.{AreMerged, HaveNoZeroIds, IsRead, shown_of};
 ghost use Rattle.text_run.specs.Making.{Makes, Wanted as WantedOf};
@@ -125,9 +125,9 @@ pub fn shown_lists_are_made_again()
 /// The text that a run prints of lists is the texts of these lists, one after the other. All of it
 /// is printed if the status is 0.
 pub fn printed_text_is_text_of_lists()
-    ensures items { (lists : List Given)
+    ensures items { (lists : List ListOf)
         → (outcome_of (run_items AsText lists)).text ≡ text_of_lists (map shown_of lists) }
-    ensures taken { (lists : List Given) (before after : Option (List ℕ)) (failed : Bool)
+    ensures taken { (lists : List ListOf) (before after : Option (List ℕ)) (failed : Bool)
         (fault : Option RunFaultOf) → EndsShown AsText lists before after failed 0 fault
         → Appends before after (text_of_lists (map shown_of lists)) }
 {}
@@ -136,13 +136,13 @@ pub fn printed_text_is_text_of_lists()
 /// what was printed of one list, it has the wanted header and the same contents. No list is made of
 /// an empty text, unless the list may be empty.
 pub fn printed_lists_are_made_again()
-    ensures merged { (lists : List Given) (wanted : WantedOf) (is_file : Bool)
+    ensures merged { (lists : List ListOf) (wanted : WantedOf) (is_file : Bool)
         (text name bytes : List ℕ) (failed : Bool) (fault : Option RunFaultOf)
         (contents : Revocations) → All IsRead lists
         → EndsShown AsText lists (Some []) (Some text) failed 0 fault
         → Makes wanted nothing (only_text is_file name text) bytes contents
         → IsMergedOf (map shown_of lists) wanted.header bytes }
-    ensures same { (given : Given) (wanted : WantedOf) (is_file : Bool)
+    ensures same { (given : ListOf) (wanted : WantedOf) (is_file : Bool)
         (text name bytes : List ℕ) (failed : Bool) (fault : Option RunFaultOf)
         (contents : Revocations) → IsRead given
         → EndsShown AsText (given ∷ []) (Some []) (Some text) failed 0 fault

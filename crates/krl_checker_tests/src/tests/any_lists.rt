@@ -1,7 +1,7 @@
 //! Lists in either form.
 
 use any_list::read_list;
-use key_text::{LineFault, sha256_of};
+use key_text::LineFault;
 use krl_types::KrlFault;
 use run_faults::{Cause, KeyCause};
 use test_fixtures::{GITHUB_LINE, HEADER};
@@ -23,10 +23,8 @@ const LISTS: [(&[u8], Result<usize, (Option<u64>, Cause)>); 5] = [
 fn either_form(rt: HostRuntime) {
     let alloc = rt.alloc();
     for (i, (bytes, wanted)) in LISTS.iter().enumerate() {
-        let right = match (read_list(alloc, "l", bytes, true), wanted) {
-            (Ok(list), Ok(keys)) => {
-                list.revocations.keys() == *keys && list.sha256 == Some(sha256_of(bytes))
-            }
+        let right = match (read_list(alloc, "l", bytes), wanted) {
+            (Ok(list), Ok(keys)) => list.name == "l" && list.revocations.keys() == *keys,
             (Err(fault), Err((line, cause))) => {
                 fault.name == "l" && fault.line == *line && fault.cause == *cause
             }

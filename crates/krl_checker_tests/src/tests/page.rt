@@ -37,8 +37,8 @@ fn status_of<W: Sink>(
 
 /// The version of a list that these bytes are, if they are one that has a version.
 fn version_of(alloc: Global, bytes: &[u8]) -> Option<u64> {
-    match read_list(alloc, "revoked.krl", bytes, false) {
-        Ok(list) => Some(list.stated?.version),
+    match read_list(alloc, "revoked.krl", bytes) {
+        Ok(list) => Some(list.header?.version),
         Err(_) => None,
     }
 }
@@ -80,7 +80,6 @@ fn the_callers_of_the_pages(rt: HostRuntime) {
         print_version: false,
     };
     let mut shelf = Shelf {
-        alloc: rt.alloc(),
         list: Ok(SEVEN),
         other: Ok(SEVEN),
         base: Ok(SEVEN),

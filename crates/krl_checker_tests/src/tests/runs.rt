@@ -3,6 +3,7 @@
 ghost use Rattle.std.specs.Prelude.{◌≡◌, false};
 
 use crate::tests::checks::{NINE, SERIAL_ZERO};
+use any_list::Lists;
 use byte_streams::{Sink, ToWrite};
 use check_run::{Host, Unanswered, check_run};
 use key_text::LineFault;
@@ -20,31 +21,36 @@ use test_fixtures::{GITHUB_LINE, OTHER_LINE, Taker};
 /// published key in `key` and another one in `other`. There is no memory for `large`.
 #[derive(Drop)]
 pub struct Shelf {
-    pub alloc: Global,
     pub list: Result<&'static [u8], Cause>,
     pub other: Result<&'static [u8], Cause>,
     pub base: Result<&'static [u8], Cause>,
     pub moment: Option<u64>,
 }
 
-impl Host for Shelf {
+impl Lists for Shelf {
     ghost use Rattle.std.specs.Prelude.{None};
 
     ghost told = { λ _. None };
 
-    fn list(&mut self, name: &str) -> Result<Bytes, Cause> {
+    fn read(&mut self, alloc: Global, name: &str) -> Result<Bytes, Cause> {
         let bytes = match name {
             "l" => self.list?,
             "o" => self.other?,
             _ => self.base?,
         };
-        match Vec::from_slice(self.alloc, bytes) {
+        match Vec::from_slice(alloc, bytes) {
             Ok(bytes) => Ok(Bytes::from_vec(bytes)),
             Err(_) => Err(Cause::NoMemory),
         }
     }
+}
 
-    fn read(&mut self, name: &str, text: &mut Vec<u8>) -> Result<Result<(), Refusal>, AllocError> {
+impl Host for Shelf {
+    fn read_keys(
+        &mut self,
+        name: &str,
+        text: &mut Vec<u8>,
+    ) -> Result<Result<(), Refusal>, AllocError> {
         text.clear();
         match name {
             "key" => text.extend_from_slice(GITHUB_LINE)?,
@@ -350,7 +356,6 @@ fn checked<W: Sink>(
     requires { W.has_failed out.old ≡ false }
 {
     let mut shelf = Shelf {
-        alloc,
         list: asked.list,
         other: asked.other.unwrap_or(Err(NO_FILE)),
         base: asked.base.unwrap_or(Err(NO_FILE)),

@@ -4,6 +4,7 @@ ghost use Rattle.std.specs.Prelude.{◌≡◌, false};
 
 use crate::tests::answered::ran_out;
 use crate::tests::buffer::Buffer;
+use any_list::Lists;
 use byte_streams::{Sink, ToWrite};
 use check_run::{Host, check_run};
 use krl_arguments::Check;
@@ -52,24 +53,28 @@ const OBJECTS: &[u8] = b"{\"condition\":\"openssh\",\"passed\":false,\"list\":\"
 // The files: the list in `r.krl`, a plain list in `p`, the published key in `f`, and another one in
 // other files.
 #[derive(Drop)]
-struct Shelf {
-    alloc: Global,
-}
+struct Shelf;
 
-impl Host for Shelf {
+impl Lists for Shelf {
     ghost use Rattle.std.specs.Prelude.{None};
 
     ghost told = { λ _. None };
 
-    fn list(&mut self, name: &str) -> Result<Bytes, Cause> {
+    fn read(&mut self, alloc: Global, name: &str) -> Result<Bytes, Cause> {
         let bytes = if name == "r.krl" { SIGNED } else { OTHER_LINE };
-        match Vec::from_slice(self.alloc, bytes) {
+        match Vec::from_slice(alloc, bytes) {
             Ok(bytes) => Ok(Bytes::from_vec(bytes)),
             Err(_) => Err(Cause::NoMemory),
         }
     }
+}
 
-    fn read(&mut self, name: &str, text: &mut Vec<u8>) -> Result<Result<(), Refusal>, AllocError> {
+impl Host for Shelf {
+    fn read_keys(
+        &mut self,
+        name: &str,
+        text: &mut Vec<u8>,
+    ) -> Result<Result<(), Refusal>, AllocError> {
         let line = if name == "f" { GITHUB_LINE } else { OTHER_LINE };
         text.extend_from_slice(line)?;
         Ok(Ok(()))
@@ -107,7 +112,7 @@ fn runs_out<W: Sink>(alloc: Global, wanted: Wanted, out: &mut W) -> Result<bool,
         json: wanted == Wanted::Objects,
         print_version: wanted == Wanted::Version,
     };
-    match check_run(alloc, &task, &mut Shelf { alloc }, out) {
+    match check_run(alloc, &task, &mut Shelf, out) {
         Ok(
             Done {
                 fault: Some(stop),

@@ -4,10 +4,10 @@ ghost use Rattle.std.specs.Prelude.{◌≡◌, false};
 
 use crate::tests::answered::ran_out;
 use crate::tests::buffer::Buffer;
+use any_list::Lists;
 use byte_streams::{Sink, ToWrite};
 use diff_run::{Comparison, diff_run};
 use run_faults::{Cause, RunFault};
-use show_run::Lists;
 use ssh_wire::Bytes;
 use std::alloc::{AllocError, Global};
 use test_fixtures::{FIVE, GITHUB_LINE, list_of};

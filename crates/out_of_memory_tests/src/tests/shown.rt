@@ -4,10 +4,11 @@ ghost use Rattle.std.specs.Prelude.{◌≡◌, false};
 
 use crate::tests::answered::ran_out;
 use crate::tests::buffer::Buffer;
+use any_list::Lists;
 use byte_streams::{Sink, ToWrite};
 use list_text::Form;
 use run_faults::{Cause, RunFault};
-use show_run::{Lists, show_run};
+use show_run::show_run;
 use ssh_wire::Bytes;
 use std::alloc::Global;
 

@@ -43,11 +43,7 @@ fn key_ids(rt: HostRuntime) {
 // Facts, and their lines as text and as JSON.
 const FACTS: [(Fact<'static>, &[u8], &[u8]); 9] = [
     (Fact::Held(Held::Authority(b"")), b"ca: all\n", b""),
-    (
-        Fact::Held(Held::Authority(b"ssh")),
-        b"ca-blob: c3No\n",
-        b"",
-    ),
+    (Fact::Held(Held::Authority(b"ssh")), b"ca-blob: c3No\n", b""),
     (
         Fact::Held(Held::Item(ItemKind::Key, b"", b"\0")),
         b"key-blob: AA==\n",

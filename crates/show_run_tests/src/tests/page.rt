@@ -6,6 +6,7 @@ ghost use Rattle.list_text.specs.Facts.{HeldFact};
 ghost use Rattle.list_text.specs.Text.{fact_line};
 
 use crate::tests::runs::Shelf;
+use any_list::Lists;
 use byte_streams::{Sink, ToWrite};
 use diff_run::{Comparison, diff_run};
 use krl_entries::{Fact as Held, Revocations};
@@ -13,7 +14,7 @@ use krl_types::ItemKind;
 use list_diff::difference;
 use list_text::{Fact, Form};
 use serial_set::Spans;
-use show_run::{Lists, show_run};
+use show_run::show_run;
 use std::alloc::{AllocError, Global};
 use test_fixtures::Taker;
 

@@ -3,11 +3,12 @@
 
 ghost use Rattle.std.specs.Prelude.{◌≡◌};
 
+use any_list::Lists;
 use byte_streams::ToWrite;
 use diff_run::{Comparison, diff_run};
 use list_text::Form;
 use run_faults::Cause;
-use show_run::{Lists, show_run};
+use show_run::show_run;
 use ssh_wire::Bytes;
 use std::alloc::Global;
 use std::process::Abort;
@@ -48,10 +49,10 @@ impl<'a, R: Abort> Pipes<'a, R> {
 
 impl<'a, R: Abort> Lists for Pipes<'a, R> {
     ghost use Rattle.std.specs.Prelude.{Ok, Some, map};
-    ghost use Rattle.show_run.specs.Told.{reading};
+    ghost use Rattle.any_list.specs.Told.{ListRead};
 
     ghost told = { λ pipes. Some
-        (map (λ read. reading read.name (Ok read.bytes)) pipes.readings.items) };
+        (map (λ read. ListRead read.name (Ok read.bytes)) pipes.readings.items) };
 
     fn read(&mut self, alloc: Global, name: &str) -> Result<Bytes, Cause> {
         let bytes = self.left(name);

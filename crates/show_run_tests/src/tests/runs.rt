@@ -1,10 +1,11 @@
 //! Whole runs, over a few lists in memory.
 
+use any_list::Lists;
 use byte_streams::ToWrite;
 use krl_types::KrlFault;
 use list_text::Form;
 use run_faults::{Cause, FileFault};
-use show_run::{Lists, show_run};
+use show_run::show_run;
 use ssh_wire::Bytes;
 use std::alloc::Global;
 use test_fixtures::{BITMAP, FIVE, GITHUB_LINE, ID_A, KEY_SECTION, SHA256_SECTION, Taker, list_of};

@@ -1,6 +1,6 @@
 -- The list is read, or its first fault is reported: borrowed bytes do not fail.
-use Rattle.std.proofs.Common.{refl, Some}
-use Rattle.any_list.proofs.Lists.{named_whole, whole_refused}
+use Rattle.std.proofs.Common.{refl}
+use Rattle.any_list.proofs.Forms.{named_whole, whole_refused}
 use Rattle.krl_format.specs.Entries.{entries_of}
 use Rattle.any_list.proofs.list.read_whole.Goals as goal
 
@@ -10,12 +10,10 @@ returns-in-Ok-clause-found c =
     let read = rw c.in-Ok.is at c.read_krl-read.ensures in
     let list = read.found text c.new.ensures.bytes in
     record {
-      header = Some c.in-Ok.header;
+      name_is = refl;
       entries = entries_of list.sections;
       named = named_whole text _ _ list (read.no_fault text c.new.ensures.bytes);
-      stated_is = refl;
       means = list.holds.means;
-      sha256_is = c.sha256_if.ensures;
     }
 
 pub returns-in-Err-clause-fault : goal.returns-in-Err-clause-fault

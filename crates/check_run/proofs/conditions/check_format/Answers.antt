@@ -8,7 +8,7 @@ returns-in-Some-clause-checks g c =
     let given = c.args.given.now in
     record {
       format = _;
-      is = differs given.bytes given.list c.in-Some.field-0 _ c.requires c.in-Some.is (rw c.as_slice.ensures at c.first_difference-difference.ensures);
+      is = differs given.list.name.now given.bytes given.list c.in-Some.field-0.now _ c.requires c.in-Some.is (rw c.as_slice.ensures at c.first_difference-difference.ensures);
       checks = checks_of _ _ _ _ _ _ _ c.check.ensures.carries c.check.ensures.refused;
     }
 
@@ -18,6 +18,6 @@ returns-in-None-clause-checks g c =
     let lines = rw c.as_slice-in-None.ensures at c.check_lines.ensures.checks in
     record {
       format = _;
-      is = has_lines given.bytes given.list lines.line c.requires c.in-None.is lines.is_first;
+      is = has_lines given.list.name.now given.bytes given.list lines.line c.requires c.in-None.is lines.is_first;
       checks = lines.checks;
     }

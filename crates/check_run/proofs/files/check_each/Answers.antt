@@ -3,7 +3,7 @@ use Rattle.std.proofs.Common.{refl, ℕ, ◌∙◌, ◌+◌, ◌++◌, ◌∷◌
 use Rattle.std.specs.Borrow.{Bor}
 use Rattle.std.proofs.lemmas.List.{get_or_default, take_all}
 use Rattle.std.proofs.lemmas.Result.{err_from_is_err_and}
-use Rattle.show_run.proofs.Telling.{told_none, told_then}
+use Rattle.any_list.proofs.Telling.{told_none, told_then}
 use Rattle.krl_entries.specs.Reasons.{reasons_of}
 use Rattle.check_run.specs.Files.{named, named_all}
 use Rattle.check_run.proofs.KeyFiles.{files_stop, files_then, named_more, named_none, named_split, no_file}

@@ -1,6 +1,6 @@
 -- The content of the file is checked, or there is no memory for it.
 use Rattle.std.proofs.Common.{[], ◌∙◌}
-use Rattle.show_run.proofs.Telling.{told_none}
+use Rattle.any_list.proofs.Telling.{told_none}
 use Rattle.krl_entries.specs.Reasons.{reasons_of}
 use Rattle.check_run.proofs.KeyFiles.{file_checked, file_not_reached}
 use Rattle.check_run.proofs.files.check_file.Goals as goal

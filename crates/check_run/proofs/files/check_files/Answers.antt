@@ -1,6 +1,6 @@
 -- The files to be kept are checked, and then the canaries.
 use Rattle.std.proofs.lemmas.Result.{err_from_is_err_and}
-use Rattle.show_run.proofs.Telling.{told_then}
+use Rattle.any_list.proofs.Telling.{told_then}
 use Rattle.krl_entries.specs.Reasons.{reasons_of}
 use Rattle.krl_checker.specs.declared.role.Role.TheVariants.{Canary, Keep}
 use Rattle.check_run.specs.Files.{named_all}

@@ -1,9 +1,9 @@
 -- The other list is read and compared, or refused; or an allocation failed.
 use Rattle.std.proofs.Common.{refl}
-use Rattle.show_run.proofs.Telling.{tells_as}
+use Rattle.any_list.proofs.Telling.{tells_as}
+use Rattle.any_list.specs.List.{IsGiven, IsRefused}
 use Rattle.check_run.proofs.Losing.{all_lost}
 use Rattle.check_run.specs.Limits.{ran_out, unread}
-use Rattle.check_run.specs.Lists.{IsGiven, IsRefused}
 use Rattle.check_run.proofs.lists.read_lost.Goals as goal
 
 pub returns-in-Err-clause-fault : goal.returns-in-Err-clause-fault
@@ -12,18 +12,18 @@ returns-in-Err-clause-fault g c =
 
 pub returns-in-Ok-difference-clause-found : goal.returns-in-Ok-difference-clause-found
 returns-in-Ok-difference-clause-found g c =
-    let given = c.in-Ok.other in
-    rw c.in-Some.is (tells_as (λ told. IsGiven told c.in-Some.name.now given) _ _ _ (λ told is own means. record {
+    let given = c.in-Ok.given in
+    rw c.in-Some.is (tells_as (λ told. IsGiven told c.in-Some.name.now given.bytes given.list) _ _ _ (λ told is own means. record {
       bytes = given.bytes;
-      header = is.read.header;
-      entries = is.read.entries;
+      header = given.list.header;
+      entries = is.is.entries;
       told_is = is.told_is;
-      names = is.read.named;
+      names = is.is.named;
       name_is = refl;
-      are = all_lost c.args.held.now given.list.revocations _ own is.read.entries means is.read.means c.in-Ok-difference.ensures.holds;
+      are = all_lost c.args.held.now given.list.revocations _ own is.is.entries means is.is.means c.in-Ok-difference.ensures.holds;
     }) c.in-Ok.ensures.found)
 
 pub returns-clause-fault : goal.returns-clause-fault
 returns-clause-fault g c =
-    let given = c.in-Ok.other in
-    rw c.in-Some.is (tells_as (λ told. IsGiven told c.in-Some.name.now given) _ _ _ (λ told is. ran_out given is c.whole.ensures) c.in-Ok.ensures.found)
+    let given = c.in-Ok.given in
+    rw c.in-Some.is (tells_as (λ told. IsGiven told c.in-Some.name.now given.bytes given.list) _ _ _ (λ told is. ran_out given.bytes given.list is c.whole.ensures) c.in-Ok.ensures.found)

@@ -1,6 +1,6 @@
 -- The other lists are read, if there are any, or one is refused; and the clock is read.
 use Rattle.std.proofs.Common.{◌++◌, refl}
-use Rattle.show_run.proofs.Telling.{tells_as, told_then}
+use Rattle.any_list.proofs.Telling.{tells_as, told_then}
 use Rattle.check_run.specs.Lists.{IsOtherRefused}
 use Rattle.check_run.specs.Run.{beside, clockless, lost_unknown, other_refused}
 use Rattle.check_run.proofs.run.check_beside.Goals as goal
@@ -62,7 +62,7 @@ returns-in-Ok-age_limit g c =
               losts = losts.told;
               told_is = refl;
               is_other = others.are;
-              header = read.header;
+              header = c.args.given.now.list.header;
               entries = read.entries;
               names = read.named;
               is_lost = losts.are read.entries read.means;
@@ -88,7 +88,7 @@ returns g c =
             losts = losts.told;
             told_is = refl;
             is_other = others.are;
-            header = read.header;
+            header = c.args.given.now.list.header;
             entries = read.entries;
             names = read.named;
             is_lost = losts.are read.entries read.means;

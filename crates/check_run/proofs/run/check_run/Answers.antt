@@ -1,7 +1,7 @@
 -- The list is read, or refused.
 use Rattle.std.proofs.Common.{[], refl}
-use Rattle.show_run.proofs.Telling.{tells_as, told_then}
-use Rattle.check_run.specs.Lists.{IsGiven, IsRefused}
+use Rattle.any_list.proofs.Telling.{tells_as, told_then}
+use Rattle.any_list.specs.List.{IsGiven, IsRefused}
 use Rattle.check_run.specs.Run.{read, refused}
 use Rattle.check_run.proofs.Ending.{ends_beside, ends_version}
 use Rattle.check_run.proofs.run.check_run.Goals as goal
@@ -25,11 +25,11 @@ returns-then-task g c =
     let task = c.args.task.now in
     let given = c.in-Ok.given in
     let print = c.print_version.ensures in
-    tells_as (λ told. IsGiven told task.list.now given) _ _ _ (λ told is.
-    let prints = rw is.read.stated_is at (rw is.name_is at print) in
-    read given.bytes [] is.told_is is.read.header is.read.entries is.read.named
+    tells_as (λ told. IsGiven told task.list.now given.bytes given.list) _ _ _ (λ told is.
+    let prints = rw is.is.name_is at print in
+    read given.bytes [] is.told_is given.list.header is.is.entries is.is.named
     (ends_version task.print_version [] task.list.now given.bytes task (g.W.Sink.taken c.args.out.now) (g.W.Sink.taken c.print_version.new.out)
-    (g.W.Sink.has_failed c.print_version.new.out) c.print_version.result is.read.header c.if-task.true refl prints)) c.in-Ok.ensures.found
+    (g.W.Sink.has_failed c.print_version.new.out) c.print_version.result given.list.header c.if-task.true refl prints)) c.in-Ok.ensures.found
 
 pub returns : goal.returns
 returns g c =
@@ -37,12 +37,12 @@ returns g c =
     let given = c.in-Ok.given in
     let first = c.in-Ok.ensures.found in
     let is = first.are in
-    let beside = rw is.name_is at c.check_beside.ensures in
+    let beside = rw is.is.name_is at c.check_beside.ensures in
     record {
       told = _;
       after_is = told_then _ _ _ first.told beside.told first.after_is beside.after_is;
       are =
-          read given.bytes beside.told (rw is.told_is refl) is.read.header is.read.entries is.read.named
+          read given.bytes beside.told (rw is.told_is refl) given.list.header is.is.entries is.is.named
           (ends_beside task.print_version beside.told task.list.now given.bytes task (g.W.Sink.taken c.args.out.now) (g.W.Sink.taken c.check_beside.new.out)
-          (g.W.Sink.has_failed c.check_beside.new.out) c.check_beside.result is.read.header c.if-task.false beside.are);
+          (g.W.Sink.has_failed c.check_beside.new.out) c.check_beside.result given.list.header c.if-task.false beside.are);
     }

@@ -1,6 +1,6 @@
 -- Both lists are read and compared, or one is refused.
 use Rattle.std.proofs.Common.{refl}
-use Rattle.show_run.proofs.Telling.{tells_as}
+use Rattle.any_list.proofs.Telling.{tells_as}
 use Rattle.diff_run.specs.Changes.{AreCompared, IsUncompared}
 use Rattle.diff_run.specs.Run.{compared, refused}
 use Rattle.diff_run.proofs.run.diff_run.Goals as goal

@@ -2,8 +2,9 @@
 use Rattle.std.specs.Borrow.{Bor}
 use Rattle.show_run.proofs.Common.{[], err_from_is_err_and, get_or, List, take, ℕ}
 use Rattle.show_run.proofs.Reading.{given_more, stops_next}
-use Rattle.show_run.proofs.Telling.{tells_then, told_none}
-use Rattle.show_run.specs.Lists.{AreGiven, IsGiven, IsRefused, StopsReading, not_kept, refused}
+use Rattle.any_list.proofs.Telling.{tells_then, told_none}
+use Rattle.any_list.specs.List.{IsGiven, IsRefused}
+use Rattle.show_run.specs.Lists.{AreGiven, StopsReading, not_kept, refused}
 use Rattle.show_run.proofs.lists.read_lists.Goals as goal
 
 -- the name where there is no name
@@ -28,8 +29,8 @@ loop-name-preserved g c =
     let names = c.args.names.now in
     let i = c.loop-name.name-index in
     let given = c.in_ok-given.given in
-    tells_then (λ told. AreGiven told (take i names) c.loop-name.all.items) (λ told. IsGiven told (get_or names i nobody).now given) _ _ _ _
-    (λ told one are is. given_more told one names i nobody c.loop-name.all.items _ given c.loop-name-test.true c.in-Ok.ensures.items are is) c.loop-name.invariant c.in_ok-given.ensures.found
+    tells_then (λ told. AreGiven told (take i names) c.loop-name.all.items) (λ told. IsGiven told (get_or names i nobody).now given.bytes given.list) _ _ _ _
+    (λ told one are is. given_more told one names i nobody c.loop-name.all.items _ given.list given.bytes c.loop-name-test.true c.in-Ok.ensures.items are is) c.loop-name.invariant c.in_ok-given.ensures.found
 
 pub returns-in_default-clause-fault : goal.returns-in_default-clause-fault
 returns-in_default-clause-fault g c =
@@ -37,5 +38,5 @@ returns-in_default-clause-fault g c =
     let i = c.loop-name.name-index in
     let given = c.in_ok-given.given in
     let stop = c.whole.result in
-    tells_then (λ told. AreGiven told (take i names) c.loop-name.all.items) (λ told. IsGiven told (get_or names i nobody).now given) (λ told. StopsReading told names stop) _ _ _
-    (λ told last are is. stops_next told last names i nobody _ stop c.loop-name-test.true are (not_kept given is c.whole.ensures)) c.loop-name.invariant c.in_ok-given.ensures.found
+    tells_then (λ told. AreGiven told (take i names) c.loop-name.all.items) (λ told. IsGiven told (get_or names i nobody).now given.bytes given.list) (λ told. StopsReading told names stop) _ _ _
+    (λ told last are is. stops_next told last names i nobody _ stop c.loop-name-test.true are (not_kept given.bytes given.list is c.whole.ensures)) c.loop-name.invariant c.in_ok-given.ensures.found

@@ -1,7 +1,7 @@
 -- The lists so far were read.
 use Rattle.show_run.proofs.Common.{take}
 use Rattle.show_run.specs.Lists.{AreGiven}
-use Rattle.show_run.specs.Told.{Tells}
+use Rattle.any_list.specs.Told.{Tells}
 use Rattle.show_run.proofs.lists.read_lists.Given as goal
 
 abbrev pub invariant-loop-name : goal.invariant-loop-name

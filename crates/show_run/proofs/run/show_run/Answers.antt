@@ -1,6 +1,6 @@
 -- The lists are read and shown, or one is refused.
 use Rattle.std.proofs.Common.{refl}
-use Rattle.show_run.proofs.Telling.{tells_as}
+use Rattle.any_list.proofs.Telling.{tells_as}
 use Rattle.show_run.specs.Lists.{AreGiven, StopsReading}
 use Rattle.show_run.specs.Run.{refused, shown}
 use Rattle.show_run.proofs.run.show_run.Goals as goal

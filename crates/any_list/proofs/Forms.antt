@@ -1,5 +1,5 @@
 -- A list that was read, by how its bytes begin, and the fault of one that is not.
-use Rattle.std.proofs.Common.{◌≡◌, ℕ, Bool, true, false, List, Option, Some, None, refl, sym, ap, subst}
+use Rattle.std.proofs.Common.{◌≡◌, ℕ, Bool, false, List, Option, Some, None, refl, sym, ap, subst}
 use Rattle.krl_types.specs.declared.krl_fault.KrlFault.{KrlFault}
 use Rattle.krl_core.specs.Reading.{IsList}
 use Rattle.krl_entries.specs.Revocations.{Revocations}
@@ -9,24 +9,11 @@ use Rattle.krl_format.specs.Front.{IsFirstKrlFault}
 use Rattle.krl_format.specs.declared.header.Header.{Header}
 use Rattle.run_faults.specs.RunFault.{krl_cause, run_fault_of}
 use Rattle.plain_list.specs.Any.{NamesIf, NamesWhole, begins_list}
-use Rattle.any_list.specs.List.{IsReadAs, IsReadLines, IsReadList, IsReadWhole, IsWholeFault, whole_fault, whole_ran_out}
+use Rattle.any_list.specs.List.{IsReadAs, IsReadList, IsWholeFault, whole_fault, whole_ran_out}
 use Rattle.any_list.specs.declared.list.List.{List as ListOf}
 
-read_if : (begins : Bool) (hashed : Bool) (bytes : List ℕ) (list : ListOf) → begins_list bytes ≡ begins → IsReadAs (NamesIf begins bytes) hashed bytes list → IsReadList hashed bytes list
-read_if begins hashed bytes list is read = record {
-  header = read.header;
-  entries = read.entries;
-  named = subst (λ (b : Bool). NamesIf b bytes read.header read.entries) (sym is) read.named;
-  stated_is = read.stated_is;
-  means = read.means;
-  sha256_is = read.sha256_is;
-}
-
-pub whole_is_list : (hashed : Bool) (bytes : List ℕ) (list : ListOf) → begins_list bytes ≡ true → IsReadWhole hashed bytes list → IsReadList hashed bytes list
-whole_is_list = read_if true
-
-pub lines_are_list : (hashed : Bool) (bytes : List ℕ) (list : ListOf) → begins_list bytes ≡ false → IsReadLines hashed bytes list → IsReadList hashed bytes list
-lines_are_list = read_if false
+pub read_if : (begins : Bool) (name bytes : List ℕ) (list : ListOf) → begins_list bytes ≡ begins → IsReadAs (NamesIf begins bytes) name list → IsReadList name bytes list
+read_if begins name bytes list is read = subst (λ (b : Bool). IsReadAs (NamesIf b bytes) name list) (sym is) read
 
 pub named_whole : (bytes : List ℕ) (header : Header) (held : Revocations) (list : IsList bytes header held) → IsFirstKrlFault bytes None → NamesWhole bytes (Some header) (entries_of list.sections)
 named_whole bytes header held list none = record {

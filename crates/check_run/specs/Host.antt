@@ -1,0 +1,8 @@
+-- What a host has read.
+use Rattle.std.specs.Prelude.{ℕ, List, Result, Ok, Err}
+use Rattle.krl_audit.specs.declared.why.Refusal.{Refusal}
+
+-- what was read into a buffer
+abbrev pub content_read : Result (Unit {0}) Refusal → List ℕ → Result (List ℕ) Refusal
+content_read (Ok done) text = Ok text
+content_read (Err refusal) text = Err refusal
