@@ -26,6 +26,7 @@ use Rattle.krl_audit.specs.Outcome.{Empty, Found, Key, Outcome, Outcomes, Placed
 use Rattle.krl_audit.specs.Outcome.{Unread, place, placed_from, plain_lines, private_lines}
 use Rattle.krl_audit.specs.Tally.{all_tallied, most, none_yet, tallied, within}
 use Rattle.krl_audit.specs.Text.{key_line, unread_line}
+use Rattle.krl_audit.specs.declared.auditor.Auditor.{Auditor}
 use Rattle.krl_audit.specs.declared.counts.Counts.{Counts}
 use Rattle.krl_audit.specs.declared.counts.LineKind.{LineKind}
 use Rattle.krl_audit.specs.declared.counts.LineKind.TheVariants as kinds
@@ -249,6 +250,14 @@ pub record Told (reasons : Subject → Reasons) (shown : Shown) (name : List ℕ
   pub carries : Carries (lines_items reasons shown name tally lines) result old new
   pub counts : OnOk result (after ≡ all_counted before (kinds_of reasons lines))
   pub tally_is : IfOk result (λ now. now ≡ all_tallied tally (kinds_of reasons lines))
+
+-- The same for an auditor, by the reasons that its list gives.
+abbrev pub Tells : {W : Type 0} → Auditor W → List ℕ → Tally → List Placed
+    → Result Tally RunFault → Auditor W → Type 0
+Tells old name tally lines result new =
+    (reasons : Subject → Reasons) → JudgesAs old.judge reasons
+    → Told reasons old.judge.shown name tally lines result old.run.printer new.run.printer
+    old.counts new.counts
 
 -- The same for a file.
 pub record ToldFile (reasons : Subject → Reasons) (shown : Shown) (name : List ℕ)

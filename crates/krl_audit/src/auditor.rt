@@ -9,7 +9,7 @@ ghost use Rattle.run_output.specs.Run.{Item, said_of};
 ghost use Rattle.json_lines.specs.Field.{json_line};
 ghost use Rattle.krl_types.specs.Subject.{Subject as SubjectOf};
 ghost use Rattle.krl_entries.specs.declared.reasons.Reasons.{Reasons as ReasonsOf};
-ghost use Rattle.krl_audit.specs.Audit.{EndsAudit, JudgesAs, Told, ToldFile, SaysLine, content_of};
+ghost use Rattle.krl_audit.specs.Audit.{EndsAudit, JudgesAs, Tells, ToldFile, SaysLine, content_of};
 ghost use Rattle.krl_audit.specs.Audit.{file_lines, more_item, text_lines};
 ghost use Rattle.krl_audit.specs.Audit.{rest_items, said_if, whole};
 ghost use Rattle.krl_audit.specs.Objects.{done_object};
@@ -76,10 +76,8 @@ impl<'q, 'w, W: Sink> Auditor<'q, 'w, W> {
         name: &'a str,
         content: Result<&[u8], Refusal>,
     ) -> Result<Tally, RunFault<'a>>
-        ensures told { (reasons : SubjectOf → ReasonsOf) → JudgesAs self.old.judge reasons
-            → Told reasons self.old.judge.shown name.now none_yet
-            (file_lines name.now (content_of content.entry)) result self.old.run.printer
-            self.new.run.printer self.old.counts self.new.counts }
+        ensures told { Tells self.old name.now none_yet
+            (file_lines name.now (content_of content.entry)) result self.new }
         ensures judge { self.new.judge ≡ self.old.judge }
     {
         match content {
@@ -91,10 +89,8 @@ impl<'q, 'w, W: Sink> Auditor<'q, 'w, W> {
 
     // Audits a file that begins with no private key.
     fn audit_plain<'a>(&mut self, name: &'a str, text: &[u8]) -> Result<Tally, RunFault<'a>>
-        ensures told { (reasons : SubjectOf → ReasonsOf) → JudgesAs self.old.judge reasons
-            → Told reasons self.old.judge.shown name.now none_yet
-            (text_lines false name.now text.now) result self.old.run.printer
-            self.new.run.printer self.old.counts self.new.counts }
+        ensures told { Tells self.old name.now none_yet (text_lines false name.now text.now) result
+            self.new }
         ensures judge { self.new.judge ≡ self.old.judge }
     {
         let fronts = Fronts::of(name.as_bytes());
@@ -119,10 +115,8 @@ impl<'q, 'w, W: Sink> Auditor<'q, 'w, W> {
     ) -> Result<Tally, RunFault<'a>>
         requires { IfSome after (λ rest. length rest.now + 2 < 2 ^ 64) }
         ensures told { (given : OutcomesOf) → GivesOutcomes first.now given
-            → (reasons : SubjectOf → ReasonsOf) → JudgesAs self.old.judge reasons
-            → Told reasons self.old.judge.shown name.now none_yet
-            (placed_from 1 (given ∷ read_all fronts (lines_left after.entry))) result
-            self.old.run.printer self.new.run.printer self.old.counts self.new.counts }
+            → Tells self.old name.now none_yet
+            (placed_from 1 (given ∷ read_all fronts (lines_left after.entry))) result self.new }
         ensures judge { self.new.judge ≡ self.old.judge }
     {
         let tally = self.say_all(Location { name, number: 1 }, Tally::NONE, first)?;
@@ -141,11 +135,9 @@ impl<'q, 'w, W: Sink> Auditor<'q, 'w, W> {
         text: &[u8],
     ) -> Result<Tally, RunFault<'a>>
         requires { location.number + length text.now + 1 < 2 ^ 64 }
-        ensures told { (reasons : SubjectOf → ReasonsOf) → JudgesAs self.old.judge reasons
-            → Told reasons self.old.judge.shown location.entry.name.now tally
+        ensures told { Tells self.old location.entry.name.now tally
             (placed_from (location.entry.number + 1)
-            (read_all fronts (slice_split is_newline text.now))) result self.old.run.printer
-            self.new.run.printer self.old.counts self.new.counts }
+            (read_all fronts (slice_split is_newline text.now))) result self.new }
         ensures judge { self.new.judge ≡ self.old.judge }
     {
         let Location { name, mut number } = location;
@@ -170,10 +162,8 @@ impl<'q, 'w, W: Sink> Auditor<'q, 'w, W> {
         tally: Tally,
         line: &[u8],
     ) -> Result<Tally, RunFault<'a>>
-        ensures told { (reasons : SubjectOf → ReasonsOf) → JudgesAs self.old.judge reasons
-            → Told reasons self.old.judge.shown location.entry.name.now tally
-            (place_all location.entry.number (outcomes_of fronts line.now)) result
-            self.old.run.printer self.new.run.printer self.old.counts self.new.counts }
+        ensures told { Tells self.old location.entry.name.now tally
+            (place_all location.entry.number (outcomes_of fronts line.now)) result self.new }
         ensures judge { self.new.judge ≡ self.old.judge }
     {
         match read_outcomes(self.run.alloc, fronts, line) {
@@ -190,10 +180,8 @@ impl<'q, 'w, W: Sink> Auditor<'q, 'w, W> {
         read: &Outcomes<'_>,
     ) -> Result<Tally, RunFault<'a>>
         ensures told { (given : OutcomesOf) → GivesOutcomes read.now given
-            → (reasons : SubjectOf → ReasonsOf) → JudgesAs self.old.judge reasons
-            → Told reasons self.old.judge.shown location.entry.name.now tally
-            (place_all location.entry.number given) result self.old.run.printer
-            self.new.run.printer self.old.counts self.new.counts }
+            → Tells self.old location.entry.name.now tally
+            (place_all location.entry.number given) result self.new }
         ensures judge { self.new.judge ≡ self.old.judge }
     {
         let tally = self.say(location, tally, &read.first)?;
@@ -212,10 +200,8 @@ impl<'q, 'w, W: Sink> Auditor<'q, 'w, W> {
         outcome: &Outcome<'_>,
     ) -> Result<Tally, RunFault<'a>>
         ensures told { (given : OutcomeOf) → GivesOutcome outcome.now given
-            → (reasons : SubjectOf → ReasonsOf) → JudgesAs self.old.judge reasons
-            → Told reasons self.old.judge.shown location.entry.name.now tally
-            (place location.entry.number given ∷ []) result self.old.run.printer
-            self.new.run.printer self.old.counts self.new.counts }
+            → Tells self.old location.entry.name.now tally
+            (place location.entry.number given ∷ []) result self.new }
         ensures judge { self.new.judge ≡ self.old.judge }
     {
         let shown = tally.within(self.judge.shown);
@@ -255,9 +241,8 @@ impl<'q, 'w, W: Sink> Auditor<'q, 'w, W> {
 
     // Audits a private key file, and the lines that are read beside its key.
     fn audit_private<'a>(&mut self, name: &'a str, text: &[u8]) -> Result<Tally, RunFault<'a>>
-        ensures told { (reasons : SubjectOf → ReasonsOf) → JudgesAs self.old.judge reasons
-            → Told reasons self.old.judge.shown name.now none_yet (private_lines name.now text.now)
-            result self.old.run.printer self.new.run.printer self.old.counts self.new.counts }
+        ensures told { Tells self.old name.now none_yet (private_lines name.now text.now) result
+            self.new }
         ensures judge { self.new.judge ≡ self.old.judge }
     {
         let tally = self.say_private(name, text)?;
@@ -273,10 +258,8 @@ impl<'q, 'w, W: Sink> Auditor<'q, 'w, W> {
 
     // Audits the key of a private key file.
     fn say_private<'a>(&mut self, name: &'a str, text: &[u8]) -> Result<Tally, RunFault<'a>>
-        ensures told { (reasons : SubjectOf → ReasonsOf) → JudgesAs self.old.judge reasons
-            → Told reasons self.old.judge.shown name.now none_yet
-            (place 1 (private_outcome (opened_at text.now)) ∷ []) result self.old.run.printer
-            self.new.run.printer self.old.counts self.new.counts }
+        ensures told { Tells self.old name.now none_yet
+            (place 1 (private_outcome (opened_at text.now)) ∷ []) result self.new }
         ensures judge { self.new.judge ≡ self.old.judge }
     {
         let location = Location { name, number: 1 };
@@ -294,9 +277,7 @@ impl<'q, 'w, W: Sink> Auditor<'q, 'w, W> {
 
     // Prints that a file is not read, if it is to be printed, and counts it.
     fn say_whole<'a>(&mut self, name: &'a str, why: Why) -> Result<Tally, RunFault<'a>>
-        ensures told { (reasons : SubjectOf → ReasonsOf) → JudgesAs self.old.judge reasons
-            → Told reasons self.old.judge.shown name.now none_yet (whole why) result
-            self.old.run.printer self.new.run.printer self.old.counts self.new.counts }
+        ensures told { Tells self.old name.now none_yet (whole why) result self.new }
         ensures judge { self.new.judge ≡ self.old.judge }
     {
         self.say(
