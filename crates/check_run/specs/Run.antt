@@ -17,6 +17,7 @@ use Rattle.krl_checker.specs.Authorities.{HasAuthorities}
 use Rattle.krl_checker.specs.Check.{EndsCheck, NamesNobody, condition_items, end_items}
 use Rattle.krl_checker.specs.Check.{names_nobody}
 use Rattle.krl_checker.specs.Condition.{fails}
+use Rattle.krl_checker.specs.declared.checker.Checker.{Checker}
 use Rattle.krl_checker.specs.declared.condition.Condition.{Condition}
 use Rattle.krl_checker.specs.declared.condition.Condition.TheVariants.{Slow}
 use Rattle.plain_list.specs.Any.{Names}
@@ -159,6 +160,15 @@ pub data EndsCheckRun (told : List Reading) (task : Check) (before after : Optio
       → EndsCheckRun told task before after failed result
 
 -- ---- the parts of a run
+
+-- A condition for the list itself was checked, or the check was stopped. Nothing else changed.
+pub record ChecksBy {W : Type 0} (items : Form → List Item) (fails : Bool)
+    (result : Result (Unit {0}) RunFault) (old new : Checker W) : Type 0 where
+  pub checks
+      : Checks (items old.auditor.judge.shown.form) fails result
+      old.auditor.run.printer new.auditor.run.printer old.refused new.refused
+  pub unread : new.unread ≡ old.unread
+  pub judge : new.auditor.judge ≡ old.auditor.judge
 
 -- The conditions for the list itself were checked, or the check was stopped within them.
 pub record ChecksList (form : Form) (name bytes : List ℕ) (stated : Option Stated)

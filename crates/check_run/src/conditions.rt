@@ -3,11 +3,12 @@
 ghost use Rattle.std.specs.Prelude.{◌≡◌, false, true};
 ghost use Rattle.krl_checker.specs.Check.{condition_items, names_nobody};
 ghost use Rattle.krl_checker.specs.Condition.{fails};
-ghost use Rattle.check_run.specs.Lists.{Checks, ChecksFormat, ChecksLines, ages_fail, ages_items};
+ghost use Rattle.check_run.specs.Lists.{ChecksFormat, ChecksLines, ages_fail, ages_items};
 ghost use Rattle.check_run.specs.Lists.{empty_fails, empty_items, limits_fail, limits_items};
 ghost use Rattle.check_run.specs.Lists.{slow_of, version_of, versions_fail, versions_items};
 ghost use Rattle.check_run.specs.Losses.{lost_form, lost_items, losses_fail, losses_items};
 ghost use Rattle.any_list.specs.List.{IsRead};
+ghost use Rattle.check_run.specs.Run.{ChecksBy};
 
 use crate::limits::{AgeLimit, Limits};
 use crate::lists::{Lost, Other, version_of};
@@ -72,13 +73,9 @@ pub(crate) fn check_empty<'a, W: Sink>(
     name: &'a str,
     allow_empty: bool,
 ) -> Result<(), RunFault<'a>>
-    ensures checks { let nobody = names_nobody checker.old.auditor.judge.list.now in
-        Checks (empty_items checker.old.auditor.judge.shown.form name.now nobody allow_empty)
-        (empty_fails nobody allow_empty) result
-        checker.old.auditor.run.printer checker.new.auditor.run.printer checker.old.refused
-        checker.new.refused }
-    ensures unread { checker.new.unread ≡ checker.old.unread }
-    ensures judge { checker.new.auditor.judge ≡ checker.old.auditor.judge }
+    ensures { let nobody = names_nobody checker.old.auditor.judge.list.now in
+        ChecksBy (λ form. empty_items form name.now nobody allow_empty)
+        (empty_fails nobody allow_empty) result checker.old checker.new }
 {
     if allow_empty {
         return Ok(());
@@ -94,12 +91,9 @@ pub(crate) fn check_slow<'a, W: Sink>(
     name: &'a str,
     max_cas: Option<u64>,
 ) -> Result<(), RunFault<'a>>
-    ensures checks { let slow = slow_of checker.old.auditor.judge.list.now max_cas in
-        Checks (condition_items checker.old.auditor.judge.shown.form name.now slow) (fails slow)
-        result checker.old.auditor.run.printer checker.new.auditor.run.printer checker.old.refused
-        checker.new.refused }
-    ensures unread { checker.new.unread ≡ checker.old.unread }
-    ensures judge { checker.new.auditor.judge ≡ checker.old.auditor.judge }
+    ensures { let slow = slow_of checker.old.auditor.judge.list.now max_cas in
+        ChecksBy (λ form. condition_items form name.now slow) (fails slow) result checker.old
+        checker.new }
 {
     let authorities = checker.auditor.judge.list.authorities() as u64;
     let most = max_cas.unwrap_or(MOST_AUTHORITIES);
@@ -113,13 +107,8 @@ pub(crate) fn check_limits<'a, W: Sink>(
     stated: Option<Stated>,
     limits: Limits<'a, '_>,
 ) -> Result<(), RunFault<'a>>
-    ensures checks { Checks (limits_items checker.old.auditor.judge.shown.form name.now stated
-        limits.entry)
-        (limits_fail stated limits.entry) result
-        checker.old.auditor.run.printer checker.new.auditor.run.printer checker.old.refused
-        checker.new.refused }
-    ensures unread { checker.new.unread ≡ checker.old.unread }
-    ensures judge { checker.new.auditor.judge ≡ checker.old.auditor.judge }
+    ensures { ChecksBy (λ form. limits_items form name.now stated limits.entry)
+        (limits_fail stated limits.entry) result checker.old checker.new }
 {
     check_version(checker, name, version_of(stated), limits.other)?;
     check_age(checker, name, stated, limits.age)?;
@@ -133,13 +122,8 @@ fn check_version<'a, W: Sink>(
     version: Option<u64>,
     other: Option<Other<'a>>,
 ) -> Result<(), RunFault<'a>>
-    ensures checks { Checks (versions_items checker.old.auditor.judge.shown.form name.now version
-        other.entry)
-        (versions_fail version other.entry) result
-        checker.old.auditor.run.printer checker.new.auditor.run.printer checker.old.refused
-        checker.new.refused }
-    ensures unread { checker.new.unread ≡ checker.old.unread }
-    ensures judge { checker.new.auditor.judge ≡ checker.old.auditor.judge }
+    ensures { ChecksBy (λ form. versions_items form name.now version other.entry)
+        (versions_fail version other.entry) result checker.old checker.new }
 {
     let Some(other) = other else {
         return Ok(());
@@ -158,12 +142,8 @@ fn check_age<'a, W: Sink>(
     stated: Option<Stated>,
     limit: Option<AgeLimit>,
 ) -> Result<(), RunFault<'a>>
-    ensures checks { Checks (ages_items checker.old.auditor.judge.shown.form name.now stated limit)
-        (ages_fail stated limit) result
-        checker.old.auditor.run.printer checker.new.auditor.run.printer checker.old.refused
-        checker.new.refused }
-    ensures unread { checker.new.unread ≡ checker.old.unread }
-    ensures judge { checker.new.auditor.judge ≡ checker.old.auditor.judge }
+    ensures { ChecksBy (λ form. ages_items form name.now stated limit) (ages_fail stated limit)
+        result checker.old checker.new }
 {
     let Some(AgeLimit { now, max_age }) = limit else {
         return Ok(());
@@ -180,12 +160,8 @@ fn check_lost<'a, W: Sink>(
     name: &'a str,
     lost: &Option<Lost<'a>>,
 ) -> Result<(), RunFault<'a>>
-    ensures checks { Checks (losses_items checker.old.auditor.judge.shown.form name.now lost.now)
-        (losses_fail lost.now) result
-        checker.old.auditor.run.printer checker.new.auditor.run.printer checker.old.refused
-        checker.new.refused }
-    ensures unread { checker.new.unread ≡ checker.old.unread }
-    ensures judge { checker.new.auditor.judge ≡ checker.old.auditor.judge }
+    ensures { ChecksBy (λ form. losses_items form name.now lost.now) (losses_fail lost.now)
+        result checker.old checker.new }
 {
     let Some(lost) = lost else {
         return Ok(());
@@ -202,12 +178,8 @@ fn say_lost<'a, W: Sink>(
     name: &'a str,
     lost: &Lost<'a>,
 ) -> Result<(), RunFault<'a>>
-    ensures checks { Checks (lost_items checker.old.auditor.judge.shown.form name.now lost.now)
-        true result
-        checker.old.auditor.run.printer checker.new.auditor.run.printer checker.old.refused
-        checker.new.refused }
-    ensures unread { checker.new.unread ≡ checker.old.unread }
-    ensures judge { checker.new.auditor.judge ≡ checker.old.auditor.judge }
+    ensures { ChecksBy (λ form. lost_items form name.now lost.now) true result checker.old
+        checker.new }
 {
     let form = lost_form(checker.auditor.judge.shown.form);
     let mut counts = Counts::NONE;
