@@ -57,12 +57,14 @@ pub two_fields : (old one new : List Token) (a b : List Field) → one ≡ old +
 two_fields old one new a b first second =
     second ∙ ap (λ (ts : List Token). ts ++ fields_tokens b) first ∙ append_assoc old (fields_tokens a) (fields_tokens b) ∙ ap (λ (ts : List Token). old ++ ts) (sym (fields_append a b))
 
-pub three_fields : (old one two new : List Token) (a b c : List Field) → one ≡ old ++ fields_tokens a → two ≡ one ++ fields_tokens b → new ≡ two ++ fields_tokens c → new ≡ old ++ fields_tokens (a ++ (b ++ c))
-three_fields old one two new a b c first second third = two_fields old one new a (b ++ c) first (two_fields one two new b c second third)
+pub two_values : (old one new : List Token) (a b : List Json) → one ≡ old ++ values_tokens a → new ≡ one ++ values_tokens b → new ≡ old ++ values_tokens (a ++ b)
+two_values old one new a b first second =
+    second ∙ ap (λ (ts : List Token). ts ++ values_tokens b) first ∙ append_assoc old (values_tokens a) (values_tokens b) ∙ ap (λ (ts : List Token). old ++ ts) (sym (values_append a b))
 
-pub four_fields : (old one two three new : List Token) (a b c d : List Field) → one ≡ old ++ fields_tokens a → two ≡ one ++ fields_tokens b → three ≡ two ++ fields_tokens c → new ≡ three ++ fields_tokens d
-    → new ≡ old ++ fields_tokens (a ++ (b ++ (c ++ d)))
-four_fields old one two three new a b c d first second third fourth = two_fields old one new a (b ++ (c ++ d)) first (three_fields one two three new b c d second third fourth)
+pub named : (old start new : List Token) (name : List ℕ) (value : Json) → start ≡ old ++ key name ∷ [] → new ≡ start ++ values_tokens (value ∷ []) → new ≡ old ++ fields_tokens (field name value ∷ [])
+unfolding fields_tokens values_tokens
+named old start new name value first second =
+    second ∙ ap (λ (ts : List Token). ts ++ values_tokens (value ∷ [])) first ∙ append_assoc old (key name ∷ []) (values_tokens (value ∷ []))
 
 -- ---- values with brackets
 
@@ -77,30 +79,16 @@ object_value old one two new fields first second third =
     within old one two new (fields_tokens fields) (end_object ∷ []) begin_object first second third
     ∙ ap (λ (ts : List Token). old ++ ts) (sym (object_written fields) ∙ sym (append-nil (json_tokens (object_of fields))))
 
-with_name : (old start new : List Token) (name : List ℕ) (value : Json) → start ≡ old ++ key name ∷ [] → new ≡ start ++ json_tokens value → new ≡ old ++ fields_tokens (field name value ∷ [])
-unfolding fields_tokens
-with_name old start new name value first second =
-    second ∙ ap (λ (ts : List Token). ts ++ json_tokens value) first ∙ append_assoc old (key name ∷ []) (json_tokens value)
-    ∙ ap (λ (ts : List Token). old ++ (key name ∷ ts)) (sym (append-nil (json_tokens value)))
-
-pub object_field : (old start one two new : List Token) (name : List ℕ) (fields : List Field) → start ≡ old ++ key name ∷ [] → one ≡ start ++ begin_object ∷ [] → two ≡ one ++ fields_tokens fields → new ≡ two ++ end_object ∷ []
-    → new ≡ old ++ fields_tokens (field name (object_of fields) ∷ [])
-object_field old start one two new name fields key_is first second third =
-    with_name old start new name (object_of fields) key_is
-    (within start one two new (fields_tokens fields) (end_object ∷ []) begin_object first second third ∙ ap (λ (ts : List Token). start ++ ts) (sym (object_written fields)))
-
-pub array_field : (old start one two new : List Token) (name : List ℕ) (values : List Json) → start ≡ old ++ key name ∷ [] → one ≡ start ++ begin_array ∷ [] → two ≡ one ++ values_tokens values → new ≡ two ++ end_array ∷ []
-    → new ≡ old ++ fields_tokens (field name (array_of values) ∷ [])
-array_field old start one two new name values key_is first second third =
-    with_name old start new name (array_of values) key_is
-    (within start one two new (values_tokens values) (end_array ∷ []) begin_array first second third ∙ ap (λ (ts : List Token). start ++ ts) (sym (array_written values)))
+pub array_value : (old one two new : List Token) (values : List Json) → one ≡ old ++ begin_array ∷ [] → two ≡ one ++ values_tokens values → new ≡ two ++ end_array ∷ []
+    → new ≡ old ++ values_tokens (array_of values ∷ [])
+unfolding values_tokens
+array_value old one two new values first second third =
+    within old one two new (values_tokens values) (end_array ∷ []) begin_array first second third
+    ∙ ap (λ (ts : List Token). old ++ ts) (sym (array_written values) ∙ sym (append-nil (json_tokens (array_of values))))
 
 -- ---- lines
 
-pub line_of : (tokens : List Token) (value : Json) → tokens ≡ json_tokens value → escaped_controls (print tokens) ++ 10 ∷ [] ≡ json_line value
-unfolding json_text
-line_of tokens value is = ap (λ (ts : List Token). escaped_controls (print ts) ++ 10 ∷ []) is
-
-pub ended : (old new : List Token) (fields : List Field) → old ≡ begin_object ∷ fields_tokens fields → new ≡ old ++ end_object ∷ [] → escaped_controls (print new) ++ 10 ∷ [] ≡ json_line (object_of fields)
-ended old new fields begun written =
-    line_of new (object_of fields) (written ∙ ap (λ (ts : List Token). ts ++ end_object ∷ []) begun ∙ sym (object_written fields))
+pub written : (old new : List Token) (value : Json) → old ≡ [] → new ≡ old ++ values_tokens (value ∷ []) → escaped_controls (print new) ++ 10 ∷ [] ≡ json_line value
+unfolding json_text values_tokens
+written old new value nothing is =
+    ap (λ (ts : List Token). escaped_controls (print ts) ++ 10 ∷ []) (is ∙ ap (λ (ts : List Token). ts ++ values_tokens (value ∷ [])) nothing ∙ append-nil (json_tokens value))

@@ -1,75 +1,87 @@
-//! The fields of an object.
+//! Fields, one after the other.
 
-ghost use Rattle.std.specs.Prelude.{◌≡◌, ◌∷◌, ◌++◌, [], OnOk};
-ghost use Rattle.json_lines.specs.Field.{base64_field, digits_field, fields_tokens, number_field};
-ghost use Rattle.json_lines.specs.Field.{text_field, word_field};
+ghost use Rattle.std.specs.Prelude.{◌≡◌, ◌∷◌, ◌++◌, [], List, OnOk};
+ghost use Rattle.json_lines.specs.Field.{Field, fields_tokens};
 
 use crate::line_writer::LineWriter;
-use base64::engine::general_purpose::STANDARD;
-use itoa::Buffer;
-use json::Token;
+use crate::value::Value;
 use std::alloc::{AllocError, Global};
-use std::str::from_utf8;
 
-/// Writes a field with a text.
-#[tactic(auto, unfolding(crate::specs::Field::fields_tokens))]
-pub fn put_word(out: &mut LineWriter, name: &str, word: &str) -> Result<(), AllocError>
-    ensures { OnOk result (out.new ≡ out.old ++ fields_tokens (word_field name.now word.now ∷ [])) }
-{
-    out.token(Token::Key(name))?;
-    out.token(Token::String(word))
+/// Fields of an object, in their order.
+pub trait Fields {
+    ghost fields: { Self → List Field };
+
+    /// Writes the fields.
+    fn put_fields(&self, alloc: Global, out: &mut LineWriter) -> Result<(), AllocError>
+        ensures { OnOk result (out.new ≡ out.old ++ fields_tokens (fields self.now)) };
 }
 
-/// Writes a field with a number.
-#[tactic(auto, unfolding(crate::specs::Field::fields_tokens))]
-pub fn put_number(out: &mut LineWriter, name: &str, count: u64) -> Result<(), AllocError>
-    ensures { OnOk result (out.new
-        ≡ out.old ++ fields_tokens (number_field name.now count ∷ [])) }
-{
-    out.token(Token::Key(name))?;
-    out.number(count)
-}
+/// A field: its name and its value.
+#[derive(Drop)]
+pub struct Named<'a, V>(pub &'a str, pub V);
 
-/// Writes a field with the digits of a number as a text, because the number may be too large for a
-/// reader's numbers.
-pub fn put_digits(out: &mut LineWriter, name: &str, count: u64) -> Result<(), AllocError>
-    ensures { OnOk result (out.new
-        ≡ out.old ++ fields_tokens (digits_field name.now count ∷ [])) }
-{
-    let mut digits = Buffer::new();
-    put_word(out, name, digits.format(count))
-}
+impl<'a, V: Value> Fields for Named<'a, V> {
+    ghost fields = { λ one. V.field one.0.now one.1 ∷ [] };
 
-/// Writes a field with bytes: as text if they are UTF-8, otherwise in base64 (RFC 4648 section
-/// 4), with `_base64` after the name.
-#[tactic(auto, unfolding(crate::specs::Field::text_field))]
-pub fn put_text(
-    alloc: Global,
-    out: &mut LineWriter,
-    name: &str,
-    bytes: &[u8],
-) -> Result<(), AllocError>
-    ensures { OnOk result (out.new
-        ≡ out.old ++ fields_tokens (text_field name.now bytes.now ∷ [])) }
-{
-    match from_utf8(bytes) {
-        Ok(text) => put_word(out, name, text),
-        Err(_) => put_base64(alloc, out, name, bytes),
+    fn put_fields(&self, alloc: Global, out: &mut LineWriter) -> Result<(), AllocError> {
+        self.1.put_as(alloc, self.0, out)
     }
 }
 
-// Writes a field with bytes in base64.
-fn put_base64(
-    alloc: Global,
-    out: &mut LineWriter,
-    name: &str,
-    bytes: &[u8],
-) -> Result<(), AllocError>
-    ensures { OnOk result (out.new
-        ≡ out.old ++ fields_tokens (base64_field name.now bytes.now ∷ [])) }
-{
-    let mut full = String::from_str(alloc, name)?;
-    full.push_str("_base64")?;
-    let text = STANDARD.encode(alloc, bytes)?;
-    put_word(out, full.as_str(), text.as_str())
+/// Fields or values of an array, and those behind them.
+#[derive(Drop)]
+pub struct Then<A, B> {
+    pub first: A,
+    pub rest: B,
+}
+
+impl<A: Fields, B: Fields> Fields for Then<A, B> {
+    ghost fields = { λ joined. A.fields joined.first ++ B.fields joined.rest };
+
+    fn put_fields(&self, alloc: Global, out: &mut LineWriter) -> Result<(), AllocError> {
+        self.first.put_fields(alloc, out)?;
+        self.rest.put_fields(alloc, out)?;
+        Ok(())
+    }
+}
+
+/// The fields as one value: each a name and a value, or a value that has fields.
+#[macro_export]
+macro_rules! fields {
+    ($name:literal : $value:expr) => {
+        $crate::Named($name, $value)
+    };
+    ($fields:expr) => {
+        $fields
+    };
+    ($name:literal : $value:expr, $($rest:tt)+) => {
+        $crate::Then { first: $crate::Named($name, $value), rest: $crate::fields!($($rest)+) }
+    };
+    ($fields:expr, $($rest:tt)+) => {
+        $crate::Then { first: $fields, rest: $crate::fields!($($rest)+) }
+    };
+}
+
+/// Writes the fields.
+#[macro_export]
+macro_rules! put_fields {
+    ($alloc:expr, $out:expr; $($fields:tt)+) => {
+        $crate::Fields::put_fields(&$crate::fields!($($fields)+), $alloc, $out)
+    };
+}
+
+/// Writes an object with these fields, as a value of an array.
+#[macro_export]
+macro_rules! put_object {
+    ($alloc:expr, $out:expr; $($fields:tt)+) => {
+        $crate::Values::put_values(&$crate::Object($crate::fields!($($fields)+)), $alloc, $out)
+    };
+}
+
+/// Makes the line of an object with these fields.
+#[macro_export]
+macro_rules! object {
+    ($line:expr; $($fields:tt)+) => {
+        $crate::write_object($line, $crate::fields!($($fields)+))
+    };
 }

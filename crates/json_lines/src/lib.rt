@@ -6,6 +6,10 @@ mod escapes;
 mod fields;
 pub mod laws;
 mod line_writer;
+mod nested;
+mod value;
 
-pub use fields::{put_digits, put_number, put_text, put_word};
-pub use line_writer::LineWriter;
+pub use fields::{Fields, Named, Then};
+pub use line_writer::{LineWriter, write_object};
+pub use nested::{Array, Object, Values};
+pub use value::{Digits, Text, Value};

@@ -1,16 +1,19 @@
 //! A JSON text on a line of its own.
 
-ghost use Rattle.std.specs.Prelude.{◌≡◌, ◌∷◌, ◌++◌, [], IfOk, List, OnOk, decimal};
+ghost use Rattle.std.specs.Prelude.{◌≡◌, ◌∷◌, ◌++◌, [], IfOk, OnOk, decimal};
 ghost use Rattle.json.specs.Print.{IsPrintable, print};
 ghost use Rattle.json.specs.Reads.{token_of};
-ghost use Rattle.json.specs.Token.{begin_object, number};
+ghost use Rattle.json.specs.Token.{number};
 ghost use Rattle.json_lines.specs.Controls.{escaped_controls};
-ghost use Rattle.json_lines.specs.Field.{Field, fields_tokens, json_line, object_of};
+ghost use Rattle.json_lines.specs.Field.{json_line, object_of};
 
 use crate::escapes::without_controls;
+use crate::fields::Fields;
+use crate::nested::{Object, Values};
 use json::{Token, Writer};
 use std::alloc::{AllocError, Global};
 use std::marker::Model;
+use std::mem;
 
 /// A JSON text that is written token by token. Contracts state the tokens.
 #[derive(Drop)]
@@ -32,26 +35,18 @@ impl Model for LineWriter {
 }
 
 impl LineWriter {
-    // A text without tokens.
-    fn new(alloc: Global) -> LineWriter
+    // A text without tokens, over the bytes of a line.
+    fn over(mut line: Vec<u8>) -> LineWriter
         ensures { result ≡ [] }
     {
+        line.clear();
         LineWriter {
-            out: Writer::new(Vec::new(alloc)),
+            out: Writer::new(line),
         }
     }
 
-    /// The beginning of an object.
-    pub fn object(alloc: Global) -> Result<LineWriter, AllocError>
-        ensures { IfOk result (λ line. line ≡ begin_object ∷ []) }
-    {
-        let mut line = LineWriter::new(alloc);
-        line.token(Token::BeginObject)?;
-        Ok(line)
-    }
-
     /// Writes a token. The caller must follow the grammar.
-    pub fn token(&mut self, token: Token<'_>) -> Result<(), AllocError>
+    pub(crate) fn token(&mut self, token: Token<'_>) -> Result<(), AllocError>
         requires { IsPrintable (token_of token) }
         ensures { OnOk result (self.new ≡ self.old ++ token_of token.entry ∷ []) }
     {
@@ -59,20 +54,10 @@ impl LineWriter {
     }
 
     /// Writes a number.
-    pub fn number(&mut self, count: u64) -> Result<(), AllocError>
+    pub(crate) fn number(&mut self, count: u64) -> Result<(), AllocError>
         ensures { OnOk result (self.new ≡ self.old ++ number (decimal count) ∷ []) }
     {
         self.out.u64(count)
-    }
-
-    /// The line of the object that was begun, with a line feed at its end.
-    #[tactic(auto, unfolding(crate::specs::Field::json_text))]
-    pub fn end_object(mut self) -> Result<Vec<u8>, AllocError>
-        ensures { (fields : List Field) → self ≡ begin_object ∷ fields_tokens fields
-            → IfOk result (λ line. line.items ≡ json_line (object_of fields)) }
-    {
-        self.token(Token::EndObject)?;
-        self.into_line()
     }
 
     // The text, with escapes for control characters and a line feed at its end.
@@ -83,4 +68,15 @@ impl LineWriter {
         line.push(b'\n')?;
         Ok(line)
     }
+}
+
+/// Makes the line of an object with these fields, in place of what the line held.
+pub fn write_object<F: Fields + Drop>(line: &mut Vec<u8>, fields: F) -> Result<(), AllocError>
+    ensures { OnOk result (line.new.items ≡ json_line (object_of (F.fields fields))) }
+{
+    let alloc = *line.allocator();
+    let mut out = LineWriter::over(mem::replace(line, Vec::new(alloc)));
+    Object(fields).put_values(alloc, &mut out)?;
+    *line = out.into_line()?;
+    Ok(())
 }

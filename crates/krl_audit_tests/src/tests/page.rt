@@ -1,18 +1,18 @@
 //! The callers of the pages of `krl_audit` and `json_lines`.
 
-ghost use Rattle.std.specs.Prelude.{◌≡◌, ◌∷◌, [], IfOk, codes};
+ghost use Rattle.std.specs.Prelude.{◌≡◌, ◌∷◌, [], OnOk, codes};
 ghost use Rattle.json_lines.specs.Field.{json_line, number_field, object_of, text_field};
 
 use crate::tests::keys::ALICE;
 use crate::tests::made::alice_and_bob;
 use byte_streams::{Sink, ToWrite};
-use json_lines::{LineWriter, put_number, put_text};
+use json_lines::{Text, object};
 use krl_audit::{Auditor, Counts, Form, Judge, Shown};
 use krl_entries::Revocations;
 use run_faults::RunFault;
 use run_output::{Printer, Run};
 use span_sets::Held;
-use std::alloc::{AllocError, Global};
+use std::alloc::AllocError;
 use test_fixtures::Taker;
 
 /// Audits one file by a list, and names what it finds.
@@ -56,20 +56,18 @@ fn one_file_is_audited(rt: HostRuntime) {
     assert!(rt; counts.keys == 1 && counts.revoked == 1 && counts.unread == 0);
 }
 
-/// The line of an object with a name, which may be any bytes, and a count.
-fn count_line(alloc: Global, name: &[u8], count: u64) -> Result<Vec<u8>, AllocError>
-    ensures { IfOk result (λ line. line.items ≡ json_line (object_of
+/// Makes the line of an object with a name, which may be any bytes, and a count.
+fn count_line(line: &mut Vec<u8>, name: &[u8], count: u64) -> Result<(), AllocError>
+    ensures { OnOk result (line.new.items ≡ json_line (object_of
         (text_field (codes "name") name.now ∷ number_field (codes "count") count ∷ []))) }
 {
-    let mut out = LineWriter::object(alloc)?;
-    put_text(alloc, &mut out, "name", name)?;
-    put_number(&mut out, "count", count)?;
-    out.end_object()
+    object!(line; "name": Text(name), "count": count)
 }
 
 #[test]
 fn an_object_is_a_line(rt: HostRuntime) {
-    let line = count_line(rt.alloc(), b"a", 3).expect(&rt, "there is memory");
+    let mut line = Vec::new(rt.alloc());
+    count_line(&mut line, b"a", 3).expect(&rt, "there is memory");
     assert_eq!(rt;
         line.as_slice(),
         b"{\"name\":\"a\",\"count\":3}\n".as_slice()
