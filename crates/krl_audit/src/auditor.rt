@@ -318,7 +318,7 @@ impl<'q, 'w, W: Sink> Auditor<'q, 'w, W> {
             kind,
             lines: lines.saturating_sub(MOST),
         };
-        if said && write_more(self.run.alloc, shown.form, name, more, &mut self.run.line).is_err() {
+        if said && write_more(shown.form, name, more, &mut self.run.line).is_err() {
             return Err(RunFault::whole(name, Cause::NoMemory));
         }
         say_made(&mut self.run, name, said)
@@ -337,7 +337,7 @@ impl<'q, 'w, W: Sink> Auditor<'q, 'w, W> {
         ensures judge { self.new.judge ≡ self.old.judge }
         ensures counts { self.new.counts ≡ self.old.counts }
     {
-        let made = write_done(self.run.alloc, files, self.counts, list, &mut self.run.line);
+        let made = write_done(files, self.counts, list, &mut self.run.line);
         self.run.say_line(list.name, made)
     }
 

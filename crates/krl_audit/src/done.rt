@@ -1,15 +1,13 @@
 //! The last object of an audit.
 
-ghost use Rattle.std.specs.Prelude.{◌≡◌, ◌∷◌, ◌++◌, [], OnOk};
-ghost use Rattle.json_lines.specs.Field.{fields_tokens, json_line};
-ghost use Rattle.krl_audit.specs.Objects.{count_fields, done_object, line_count_fields};
-ghost use Rattle.krl_audit.specs.Objects.{list_field, name_count_fields, stated_fields};
-ghost use Rattle.krl_audit.specs.Objects.{version_fields};
+ghost use Rattle.std.specs.Prelude.{◌≡◌, OnOk};
+ghost use Rattle.json_lines.specs.Field.{json_line};
+ghost use Rattle.krl_audit.specs.Objects.{done_object, line_count_fields, list_facts};
+ghost use Rattle.krl_audit.specs.Objects.{stated_fields};
 
 use crate::counts::Counts;
 use cert_listing::time_text;
-use json::Token;
-use json_lines::{LineWriter, put_digits, put_number, put_text, put_word};
+use json_lines::{Digits, Fields, LineWriter, Object, Text, object, put_fields};
 use std::alloc::{AllocError, Global};
 
 /// The version of a key revocation list, and when it was made.
@@ -60,7 +58,6 @@ pub struct ListFacts<'a> {
 
 /// Makes the line of the last object.
 pub(crate) fn write_done(
-    alloc: Global,
     files: FileCounts,
     counts: Counts,
     list: &ListFacts<'_>,
@@ -68,80 +65,44 @@ pub(crate) fn write_done(
 ) -> Result<(), AllocError>
     ensures { OnOk result (line.new.items ≡ json_line (done_object files counts list.now)) }
 {
-    let mut out = LineWriter::object(alloc)?;
-    put_word(&mut out, "status", "done")?;
-    put_counts(&mut out, files, counts)?;
-    put_list_facts(alloc, &mut out, list)?;
-    *line = out.end_object()?;
-    Ok(())
+    object!(line; "status": "done", "files": files.audited, counts, "skipped": files.skipped,
+        "excluded": files.excluded, "elsewhere": files.elsewhere, "same": files.same,
+        "list": Object(*list))
 }
 
-// Writes the counts.
-fn put_counts(out: &mut LineWriter, files: FileCounts, counts: Counts) -> Result<(), AllocError>
-    ensures { OnOk result (out.new ≡ out.old ++ fields_tokens (count_fields files counts)) }
-{
-    put_number(out, "files", files.audited)?;
-    put_line_counts(out, counts)?;
-    put_name_counts(out, files)?;
-    Ok(())
-}
+// The counts of lines.
+impl Fields for Counts {
+    ghost fields = { line_count_fields };
 
-// Writes the counts of lines.
-fn put_line_counts(out: &mut LineWriter, counts: Counts) -> Result<(), AllocError>
-    ensures { OnOk result (out.new ≡ out.old ++ fields_tokens (line_count_fields counts)) }
-{
-    put_number(out, "keys", counts.keys)?;
-    put_number(out, "revoked", counts.revoked)?;
-    put_number(out, "unread", counts.unread)?;
-    Ok(())
-}
-
-// Writes the counts of the names that were not audited.
-fn put_name_counts(out: &mut LineWriter, files: FileCounts) -> Result<(), AllocError>
-    ensures { OnOk result (out.new ≡ out.old ++ fields_tokens (name_count_fields files)) }
-{
-    put_number(out, "skipped", files.skipped)?;
-    put_number(out, "excluded", files.excluded)?;
-    put_number(out, "elsewhere", files.elsewhere)?;
-    put_number(out, "same", files.same)?;
-    Ok(())
-}
-
-// Writes the facts about a list.
-fn put_list_facts(
-    alloc: Global,
-    out: &mut LineWriter,
-    list: &ListFacts<'_>,
-) -> Result<(), AllocError>
-    ensures { OnOk result (out.new ≡ out.old ++ fields_tokens (list_field list.now ∷ [])) }
-{
-    let sha256 = hex::encode(alloc, list.sha256)?;
-    out.token(Token::Key("list"))?;
-    out.token(Token::BeginObject)?;
-    put_word(out, "file", list.name)?;
-    put_stated(alloc, out, list.stated)?;
-    put_word(out, "sha256", sha256.as_str())?;
-    out.token(Token::EndObject)?;
-    Ok(())
-}
-
-// Writes the version and the date of a list, if it has them.
-#[tactic(auto, unfolding(json_lines::specs::Field::fields_tokens))]
-fn put_stated(alloc: Global, out: &mut LineWriter, stated: Option<Stated>) -> Result<(), AllocError>
-    ensures { OnOk result (out.new ≡ out.old ++ fields_tokens (stated_fields stated)) }
-{
-    match stated {
-        None => Ok(()),
-        Some(stated) => put_version(alloc, out, stated),
+    fn put_fields(&self, alloc: Global, out: &mut LineWriter) -> Result<(), AllocError> {
+        put_fields!(alloc, out; "keys": self.keys, "revoked": self.revoked, "unread": self.unread)
     }
 }
 
-// Writes the version and the date of a list.
-fn put_version(alloc: Global, out: &mut LineWriter, stated: Stated) -> Result<(), AllocError>
-    ensures { OnOk result (out.new ≡ out.old ++ fields_tokens (version_fields stated)) }
-{
-    let generated = time_text(alloc, stated.generated)?;
-    put_digits(out, "version", stated.version)?;
-    put_text(alloc, out, "generated", &generated)?;
-    Ok(())
+impl<'a> Fields for ListFacts<'a> {
+    ghost fields = { list_facts };
+
+    fn put_fields(&self, alloc: Global, out: &mut LineWriter) -> Result<(), AllocError> {
+        let sha256 = hex::encode(alloc, self.sha256)?;
+        put_fields!(alloc, out; "file": self.name, StatedIf(self.stated),
+            "sha256": sha256.as_str())
+    }
+}
+
+// The version and the date of a list, if it has them.
+#[derive(Drop)]
+struct StatedIf(Option<Stated>);
+
+impl Fields for StatedIf {
+    ghost fields = { λ stated. stated_fields stated.0 };
+
+    #[tactic(auto, unfolding(json_lines::specs::Field::fields_tokens))]
+    fn put_fields(&self, alloc: Global, out: &mut LineWriter) -> Result<(), AllocError> {
+        let Some(stated) = self.0 else {
+            return Ok(());
+        };
+        let generated = time_text(alloc, stated.generated)?;
+        put_fields!(alloc, out; "version": Digits(u128::from(stated.version)),
+            "generated": Text(&generated))
+    }
 }

@@ -1,16 +1,16 @@
 //! The lines of a file that are only counted.
 
-ghost use Rattle.std.specs.Prelude.{◌≡◌, ◌∷◌, ◌++◌, [], OnOk};
-ghost use Rattle.json_lines.specs.Field.{fields_tokens, json_line};
+ghost use Rattle.std.specs.Prelude.{◌≡◌, OnOk};
+ghost use Rattle.json_lines.specs.Field.{json_line};
 ghost use Rattle.krl_audit.specs.Colour.{word_text};
-ghost use Rattle.krl_audit.specs.More.{are_more, kind_mark, kind_word, more_fields, more_line};
+ghost use Rattle.krl_audit.specs.More.{are_more, kind_mark, kind_word, more_line};
 ghost use Rattle.krl_audit.specs.More.{more_object, more_said, more_words, why_more};
 
 use crate::colour::{Mark, unread_mark, verdict_mark};
 use crate::counts::LineKind;
 use crate::judge::Form;
 use crate::text::Location;
-use json_lines::{LineWriter, put_number, put_text, put_word};
+use json_lines::{Fields, LineWriter, Text, object, put_fields};
 use line_pieces::{Printed, Words, put};
 use std::alloc::{AllocError, Global};
 
@@ -33,7 +33,6 @@ impl Printed for More {
 
 /// Makes the line about them.
 pub(crate) fn write_more(
-    alloc: Global,
     form: Form,
     name: &str,
     more: More,
@@ -44,7 +43,7 @@ pub(crate) fn write_more(
     match form {
         Form::Text => write_more_line(false, name, more, line),
         Form::Colour => write_more_line(true, name, more, line),
-        Form::Json => write_more_object(alloc, name, more, line),
+        Form::Json => write_more_object(name, more, line),
     }
 }
 
@@ -63,45 +62,27 @@ fn write_more_line(
 }
 
 // Makes the object.
-fn write_more_object(
-    alloc: Global,
-    name: &str,
-    more: More,
-    line: &mut Vec<u8>,
-) -> Result<(), AllocError>
+fn write_more_object(name: &str, more: More, line: &mut Vec<u8>) -> Result<(), AllocError>
     ensures { OnOk result (line.new.items
         ≡ json_line (more_object name.now more.kind more.lines)) }
 {
-    let mut out = LineWriter::object(alloc)?;
-    put_more(alloc, &mut out, name, more)?;
-    *line = out.end_object()?;
-    Ok(())
+    object!(line; "file": name, "status": kind_word(more.kind), "count": more.lines, more)
 }
 
-// Writes the fields of the object.
-fn put_more(alloc: Global, out: &mut LineWriter, name: &str, more: More) -> Result<(), AllocError>
-    ensures { OnOk result (out.new
-        ≡ out.old ++ fields_tokens (more_fields name.now more.kind more.lines)) }
-{
-    put_word(out, "file", name)?;
-    put_word(out, "status", kind_word(more.kind))?;
-    put_number(out, "count", more.lines)?;
-    put_why(alloc, out, more)?;
-    Ok(())
-}
+// The words about lines that are not read.
+impl Fields for More {
+    ghost fields = { λ more. why_more more.kind more.lines };
 
-// Writes the words about lines that are not read.
-#[tactic(auto, unfolding(json_lines::specs::Field::fields_tokens))]
-fn put_why(alloc: Global, out: &mut LineWriter, more: More) -> Result<(), AllocError>
-    ensures { OnOk result (out.new ≡ out.old ++ fields_tokens (why_more more.kind more.lines)) }
-{
-    match more.kind {
-        LineKind::Unread => {
-            let mut words = Vec::new(alloc);
-            put!(&mut words; more)?;
-            put_text(alloc, out, "why", &words)
+    #[tactic(auto, unfolding(json_lines::specs::Field::fields_tokens))]
+    fn put_fields(&self, alloc: Global, out: &mut LineWriter) -> Result<(), AllocError> {
+        match self.kind {
+            LineKind::Unread => {
+                let mut words = Vec::new(alloc);
+                put!(&mut words; *self)?;
+                put_fields!(alloc, out; "why": Text(&words))
+            }
+            LineKind::Empty | LineKind::Distrusted | LineKind::Fine | LineKind::Revoked => Ok(()),
         }
-        LineKind::Empty | LineKind::Distrusted | LineKind::Fine | LineKind::Revoked => Ok(()),
     }
 }
 

@@ -25,7 +25,7 @@ pub(crate) fn say_key(
     match form {
         Form::Text => write_key(alloc, false, location, verdict, line),
         Form::Colour => write_key(alloc, true, location, verdict, line),
-        Form::Json => write_key_object(alloc, location, verdict, line),
+        Form::Json => write_key_object(location, verdict, line),
     }
 }
 
@@ -43,6 +43,6 @@ pub(crate) fn say_unread(
     match form {
         Form::Text => write_unread(alloc, false, location, why, line),
         Form::Colour => write_unread(alloc, true, location, why, line),
-        Form::Json => write_unread_object(alloc, location, why, line),
+        Form::Json => write_unread_object(location, why, line),
     }
 }

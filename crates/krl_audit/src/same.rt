@@ -1,18 +1,18 @@
 //! Names that lead to a file that was audited before.
 
-ghost use Rattle.std.specs.Prelude.{◌≡◌, ◌∷◌, ◌++◌, [], OnOk};
-ghost use Rattle.json_lines.specs.Field.{fields_tokens, json_line};
+ghost use Rattle.std.specs.Prelude.{◌≡◌, ◌∷◌, [], OnOk};
+ghost use Rattle.json_lines.specs.Field.{json_line};
 ghost use Rattle.run_output.specs.Carries.{Carries};
 ghost use Rattle.krl_audit.specs.Audit.{said_if};
-ghost use Rattle.krl_audit.specs.Same.{same_fields, same_line, same_object, same_said};
+ghost use Rattle.krl_audit.specs.Same.{same_line, same_object, same_said};
 
 use crate::auditor::{Auditor, say_made};
 use crate::judge::Form;
 use byte_streams::Sink;
-use json_lines::{LineWriter, put_word};
+use json_lines::object;
 use line_pieces::{Visible, put};
 use run_faults::{Cause, RunFault};
-use std::alloc::{AllocError, Global};
+use std::alloc::AllocError;
 
 impl<'q, 'w, W: Sink> Auditor<'q, 'w, W> {
     /// Prints, if revoked keys are printed, that a name leads to a file that was audited before. It
@@ -25,7 +25,7 @@ impl<'q, 'w, W: Sink> Auditor<'q, 'w, W> {
         ensures counts { self.new.counts ≡ self.old.counts }
     {
         let shown = self.judge.shown;
-        if write_same(self.run.alloc, shown.form, name, &mut self.run.line).is_err() {
+        if write_same(shown.form, name, &mut self.run.line).is_err() {
             return Err(RunFault::whole(name, Cause::NoMemory));
         }
         say_made(&mut self.run, name, shown.revoked)
@@ -33,12 +33,12 @@ impl<'q, 'w, W: Sink> Auditor<'q, 'w, W> {
 }
 
 // Makes the line of such a name.
-fn write_same(alloc: Global, form: Form, name: &str, line: &mut Vec<u8>) -> Result<(), AllocError>
+fn write_same(form: Form, name: &str, line: &mut Vec<u8>) -> Result<(), AllocError>
     ensures { OnOk result (line.new.items ≡ same_said form name.now) }
 {
     match form {
         Form::Text | Form::Colour => write_same_line(name, line),
-        Form::Json => write_same_object(alloc, name, line),
+        Form::Json => write_same_object(name, line),
     }
 }
 
@@ -51,21 +51,8 @@ fn write_same_line(name: &str, line: &mut Vec<u8>) -> Result<(), AllocError>
 }
 
 // Makes the object.
-fn write_same_object(alloc: Global, name: &str, line: &mut Vec<u8>) -> Result<(), AllocError>
+fn write_same_object(name: &str, line: &mut Vec<u8>) -> Result<(), AllocError>
     ensures { OnOk result (line.new.items ≡ json_line (same_object name.now)) }
 {
-    let mut out = LineWriter::object(alloc)?;
-    put_same(&mut out, name)?;
-    *line = out.end_object()?;
-    Ok(())
-}
-
-// Writes the fields of the object.
-#[tactic(auto, unfolding(json_lines::specs::Field::fields_tokens))]
-fn put_same(out: &mut LineWriter, name: &str) -> Result<(), AllocError>
-    ensures { OnOk result (out.new ≡ out.old ++ fields_tokens (same_fields name.now)) }
-{
-    put_word(out, "file", name)?;
-    put_word(out, "status", "same")?;
-    Ok(())
+    object!(line; "file": name, "status": "same")
 }

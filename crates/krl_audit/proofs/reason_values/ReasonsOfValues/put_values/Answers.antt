@@ -5,8 +5,8 @@ use Rattle.json_lines.proofs.Objects.{values_append}
 use Rattle.krl_entries.specs.Reasons.{every_reason, has_reason}
 use Rattle.krl_audit.specs.Objects.{reason_value}
 use Rattle.krl_audit.proofs.EachReason.{one_more, passed_over}
-use Rattle.krl_audit.proofs.reason_values.put_values.Goals as goal
-use Rattle.krl_audit.proofs.reason_values.put_values.Goals.{then-has+in_ok-put_reason, else-has}
+use Rattle.krl_audit.proofs.reason_values.ReasonsOfValues.put_values.Goals as goal
+use Rattle.krl_audit.proofs.reason_values.ReasonsOfValues.put_values.Goals.{then-has+in_ok-put_reason, else-has}
 
 pub loop-reason-init : goal.loop-reason-init
 unfolding values_tokens
@@ -19,10 +19,10 @@ loop-reason-preserved c =
     elim c.if-has.branch [
       | then-has+in_ok-put_reason w ↦
           w.out-is
-          ∙ one_more (has_reason c.args.reasons) (λ reason. reason_value reason c.args.subject.now.cert) values_tokens refl values_append
+          ∙ one_more (has_reason c.args.self.now.1) (λ reason. reason_value reason c.args.self.now.0.now.cert) values_tokens refl values_append
           _ _ _ every_reason loop.reason-index _ c.loop-reason-test.true loop.invariant w.if-has.ensures w.in_ok-put_reason.ensures
       | else-has w ↦
           w.out-is
-          ∙ passed_over (has_reason c.args.reasons) (λ reason. reason_value reason c.args.subject.now.cert) values_tokens refl values_append
+          ∙ passed_over (has_reason c.args.self.now.1) (λ reason. reason_value reason c.args.self.now.0.now.cert) values_tokens refl values_append
           _ _ every_reason loop.reason-index _ c.loop-reason-test.true loop.invariant w.if-has.ensures
     ]

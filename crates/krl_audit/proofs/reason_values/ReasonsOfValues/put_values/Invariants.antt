@@ -4,8 +4,8 @@ use Rattle.std.specs.List.{flat_map}
 use Rattle.json_lines.specs.Field.{values_tokens}
 use Rattle.krl_entries.specs.Reasons.{every_reason, has_reason}
 use Rattle.krl_audit.specs.Objects.{reason_value}
-use Rattle.krl_audit.proofs.reason_values.put_values.Given as goal
+use Rattle.krl_audit.proofs.reason_values.ReasonsOfValues.put_values.Given as goal
 
 abbrev pub invariant-loop-reason : goal.invariant-loop-reason
 invariant-loop-reason l =
-    l.out ≡ l.initial.out ++ values_tokens (flat_map (λ reason. if has_reason l.reasons reason then reason_value reason l.subject.cert else []) (take l.reason-index every_reason))
+    l.out ≡ l.initial.out ++ values_tokens (flat_map (λ reason. if has_reason l.self.1 reason then reason_value reason l.self.0.now.cert else []) (take l.reason-index every_reason))
