@@ -105,7 +105,7 @@ impl<'q, 'w, W: Sink> Checker<'q, 'w, W> {
             return Ok(());
         }
         let run = &mut self.auditor.run;
-        let made = write_end(run.alloc, self.refused, &mut run.line);
+        let made = write_end(self.refused, &mut run.line);
         run.say_line(name, made)
     }
 
@@ -209,7 +209,7 @@ fn write_condition(
     ensures { OnOk result (line.new.items ≡ condition_said form name.now condition.entry) }
 {
     if is_json(form) {
-        write_object(alloc, name, condition, line)
+        write_object(name, condition, line)
     } else {
         write_line(alloc, name, condition, line)
     }
