@@ -67,7 +67,7 @@ fn print_last<'a, W: Sink>(
     ensures { Carries (last_items json added removed) result run.old.printer run.new.printer }
 {
     if json {
-        let made = write_changes(run.alloc, added, removed, &mut run.line);
+        let made = write_changes(added, removed, &mut run.line);
         return run.say_line(MEMORY, made);
     }
     Ok(())

@@ -43,25 +43,20 @@ impl Form {
         line.clear();
         match self {
             Form::Text => push_line(alloc, fact, line),
-            Form::Json => write_object(alloc, None, fact, line),
+            Form::Json => write_object(None, fact, line),
             Form::Unnamed => push_unnamed(alloc, fact, line),
-            Form::JsonUnnamed => write_unnamed(alloc, fact, line),
+            Form::JsonUnnamed => write_unnamed(fact, line),
             Form::Change(side) => push_change(alloc, side, fact, line),
-            Form::JsonChange(side) => write_object(alloc, Some(side), fact, line),
+            Form::JsonChange(side) => write_object(Some(side), fact, line),
         }
     }
 
     /// Makes the line after all facts. It is empty but for lists as JSON.
-    pub fn write_last(
-        self,
-        alloc: Global,
-        counts: Counts,
-        line: &mut Vec<u8>,
-    ) -> Result<(), AllocError>
+    pub fn write_last(self, counts: Counts, line: &mut Vec<u8>) -> Result<(), AllocError>
         ensures { OnOk result (line.new.items ≡ last_line self counts) }
     {
         match self {
-            Form::Json | Form::JsonUnnamed => write_done(alloc, counts, line),
+            Form::Json | Form::JsonUnnamed => write_done(counts, line),
             Form::Text | Form::Unnamed | Form::Change(_) | Form::JsonChange(_) => {
                 line.clear();
                 Ok(())

@@ -40,6 +40,6 @@ pub(crate) fn show_last<'a, W: Sink>(
     ensures { Carries (line_item (last_line form counts) ∷ []) result run.old.printer
         run.new.printer }
 {
-    let made = form.write_last(run.alloc, counts, &mut run.line);
+    let made = form.write_last(counts, &mut run.line);
     run.say_line(MEMORY, made)
 }

@@ -131,7 +131,7 @@ fn exact_counts(rt: HostRuntime) {
     counts.add(Fact::Held(Held::Serials(b"b", all)));
     assert!(rt; counts.serials == 36_893_488_147_419_103_230 && counts.entries == 2);
     let mut line = Vec::new(rt.alloc());
-    let made = Form::Json.write_last(rt.alloc(), counts, &mut line);
+    let made = Form::Json.write_last(counts, &mut line);
     let wanted: &[u8] = b"{\"status\":\"done\",\"lists\":0,\"cas\":0,\
 \"serials\":\"36893488147419103230\",\"ids\":0,\"keys\":0,\"hashes\":0}\n";
     assert!(rt; made.is_ok() && line.as_slice() == wanted);
