@@ -21,11 +21,12 @@ use Rattle.audit_run.specs.Names.{is_directory}
 use Rattle.audit_run.specs.Entries.{unread}
 use Rattle.audit_run.specs.Fact.{Elsewhere, Excludes, Fact, Leads, OpenFile}
 use Rattle.audit_run.specs.Names.{AreWanted, IsWanted, MayBeDirectory, behind, dots, excluded_name, is_directory_kind, is_dots, is_link_kind, is_never}
-use Rattle.audit_run.specs.Names.{left_out, looked_at, names_after, no_name, not_looked_at, selected, taken}
+use Rattle.audit_run.specs.Names.{left_out, looked_at, no_name, not_looked_at, selected, taken}
 use Rattle.audit_run.specs.Names.{no_text as no_text_name, not_selected as not_selected_name}
 use Rattle.audit_run.specs.Reading.{front_of}
 use Rattle.audit_run.specs.Visits.{Audited, Visit, refused}
 use Rattle.audit_run.specs.Walk.{IsDirectory, IsEntered, IsEnteredBelow, IsOpen, Level, Turns, before, elsewhere, endless, entered, entered_below, every_in, not_entered, stopped, walked}
+use Rattle.audit_run.specs.ZeroEnded.{names_after}
 use Rattle.audit_run.specs.declared.kind.Found.{Found}
 use Rattle.audit_run.specs.declared.kind.Kind.{Kind}
 use Rattle.audit_run.specs.declared.kind.Kind.TheVariants as kinds

@@ -1,19 +1,20 @@
 -- The steps of an audit over names and paths that are given.
-use Rattle.std.proofs.Common.{◌≡◌, ◌≢◌, ℕ, ◌<◌, ◌+◌, Bool, true, false, List, [], ◌∷◌, ◌++◌, length, take, Option, Some, None}
-use Rattle.std.proofs.Common.{Result, Ok, Err, sym, ap, subst, inl, inr, ◌∙◌, append-nil, slice_index_or}
-use Rattle.std.specs.Io.KnownBytes.{Consumes, IsAtEnd}
+use Rattle.std.proofs.Common.{◌≡◌, ℕ, ◌<◌, ◌≤◌, ◌⊎◌, Bool, true, false, List, [], ◌∷◌, ◌++◌, length, take, drop, Option, Some, None, IfSome}
+use Rattle.std.proofs.Common.{Result, Ok, Err, arith, refl, sym, ap, subst, inl, inr, ◌∙◌, append-nil}
+use Rattle.std.proofs.KnownBytes.{Consumes-whole}
+use Rattle.std.proofs.lemmas.List.{length-take-le, take-append-drop, take-append-le, take_all}
+use Rattle.std.specs.Io.KnownBytes.{IsAtEnd}
 use Rattle.std.specs.Result.{result_err}
 use Rattle.std.specs.Prelude.{is_ok}
 use Rattle.audit_run.specs.Fact.{Fact}
-use Rattle.audit_run.specs.Named.{Each, IsOnList, IsOnNames, names_to, none, rest_after}
-use Rattle.audit_run.specs.Names.{names_after}
+use Rattle.audit_run.specs.Named.{Each, IsOnList, IsOnNames, before_name, names_of, names_to, none}
 use Rattle.audit_run.specs.Visits.{AuditsBy, Begun, Goes, Meets, State, Took, Visit, Went, is_whole}
+use Rattle.audit_run.specs.ZeroEnded.{Gives, Unread, most_bytes, names_after}
 use Rattle.audit_run.specs.declared.stop.Stop.{Stop}
 use Rattle.audit_run.specs.declared.stop.Stop.TheVariants as stops
 use Rattle.audit_run.proofs.Auditing.{by_then, nothing_begun, nothing_met}
-use Rattle.audit_run.proofs.Naming.{Listed, all_listed, cut_listed, ended_names, ended_rest, lost_listed, more_listed, more_names}
-use Rattle.audit_run.proofs.Naming.{more_rest, names_cut, names_none, none_listed, rest_none}
-use Rattle.audit_run.proofs.Rows.{each_one, each_then}
+use Rattle.audit_run.proofs.Rows.{each_cut, each_one, each_then}
+use Rattle.audit_run.proofs.ZeroEnded.{gives_last, gives_none, gives_then, of_front, too_many_came, whole_name}
 
 -- an allocation failed after this was audited
 pub by_then_out : (visits : List Visit) (old mid : State) → AuditsBy visits None old mid → AuditsBy visits (Some stops.NoMemory) old mid
@@ -21,145 +22,123 @@ by_then_out visits old mid first =
     subst (λ (v : List Visit). AuditsBy v (Some stops.NoMemory) old mid) (append-nil visits)
     (by_then visits [] (Some stops.NoMemory) old mid mid first (nothing_begun mid).audits)
 
--- ---- some bytes of a list of names
+-- ---- a name of a list of names
 
--- So many of these bytes were gone over: the names in them were audited, and this is kept of the next one.
-pub record Taken (Knows : Fact → Type 0) (every : Bool) (front bytes : List ℕ) (at : ℕ) (name : List ℕ) (old new : State) : Type 0 where
-  pub visits : List Visit
-  pub is : Each (IsOnList Knows every) true (names_after front (take at bytes)) visits
-  pub audits : AuditsBy visits None old new
-  pub name_is : name ≡ take 4097 (rest_after front (take at bytes))
+pub long_front : (name full : List ℕ) → name ≡ take 4097 full → 4096 < length full → take 4096 name ≡ take 4096 full
+long_front name full is long =
+    let most : 4097 ≤ length full = omega (arith, long) in
+    let size : length (take 4097 full) ≡ 4097 = length-take-le 4097 full most in
+    let fits : 4096 ≤ length (take 4097 full) = omega (arith, size) in
+    ap (λ (n : List ℕ). take 4096 n) is
+    ∙ sym (take-append-le 4096 (take 4097 full) (drop 4097 full) fits)
+    ∙ ap (λ (n : List ℕ). take 4096 n) (take-append-drop 4097 full)
 
-pub none_taken : (Knows : Fact → Type 0) (every : Bool) (front bytes name : List ℕ) (now : State) → name ≡ take 4097 front
-    → Taken Knows every front bytes 0 name now now
-none_taken Knows every front bytes name now held = record {
-  visits = [];
-  is = subst (λ (n : List (List ℕ)). Each (IsOnList Knows every) true n []) (sym (names_none front)) none;
-  audits = (nothing_met now).audits;
-  name_is = held ∙ ap (λ (f : List ℕ). take 4097 f) (sym (rest_none front));
-}
+empty : (name : List ℕ) → length name ≤ 0 → name ≡ []
+empty [] is = refl
+empty (byte ∷ name) is = absurd (omega (arith, is))
 
-pub name_taken : (Knows : Fact → Type 0) (every : Bool) (front bytes : List ℕ) (at : ℕ) (name later : List ℕ) (more : List Visit)
-    (old mid new : State) → at < length bytes → slice_index_or bytes at 0 ≡ 0 → Taken Knows every front bytes at name old mid
-    → IsOnList Knows every true (rest_after front (take at bytes)) more → AuditsBy more None mid new → later ≡ []
-    → Taken Knows every front bytes (at + 1) later old new
-name_taken Knows every front bytes at name later more old mid new lt ends was is audits cleared = record {
-  visits = was.visits ++ more;
-  is = subst (λ (n : List (List ℕ)). Each (IsOnList Knows every) true n (was.visits ++ more))
-      (sym (ended_names front bytes at lt ends))
-      (each_then (IsOnList Knows every) true (names_after front (take at bytes)) (rest_after front (take at bytes) ∷ []) was.visits
-      more was.is (each_one (IsOnList Knows every) true (rest_after front (take at bytes)) more is));
-  audits = by_then was.visits more None old mid new was.audits audits;
-  name_is = cleared ∙ ap (λ (f : List ℕ). take 4097 f) (sym (ended_rest front bytes at lt ends));
-}
+-- the last name, of which this front is kept
+pub some_front : (name last : List ℕ) → name ≡ take 4097 last → 0 < length name → names_to last ≡ last ∷ []
+some_front name [] is some =
+    let size : length name ≡ 0 = ap (λ (n : List ℕ). length n) (is ∙ take_all 4097 [] (omega arith)) in
+    absurd (omega (arith, size, some))
+some_front name (byte ∷ last) is some = refl
 
-pub byte_taken : (Knows : Fact → Type 0) (every : Bool) (front bytes : List ℕ) (at : ℕ) (name later : List ℕ) (old new : State)
-    → at < length bytes → slice_index_or bytes at 0 ≢ 0 → Taken Knows every front bytes at name old new
-    → later ≡ take 4097 (rest_after front (take at bytes) ++ slice_index_or bytes at 0 ∷ [])
-    → Taken Knows every front bytes (at + 1) later old new
-byte_taken Knows every front bytes at name later old new lt some was held = record {
-  visits = was.visits;
-  is = subst (λ (n : List (List ℕ)). Each (IsOnList Knows every) true n was.visits) (sym (more_names front bytes at lt some)) was.is;
-  audits = was.audits;
-  name_is = held ∙ ap (λ (f : List ℕ). take 4097 f) (sym (more_rest front bytes at lt some));
-}
-
-pub name_stopped : (Knows : Fact → Type 0) (every : Bool) (front bytes : List ℕ) (at : ℕ) (name : List ℕ) (more : List Visit)
-    (stop : Stop) (old mid new : State) → at < length bytes → slice_index_or bytes at 0 ≡ 0
-    → Taken Knows every front bytes at name old mid → IsOnList Knows every false (rest_after front (take at bytes)) more
-    → AuditsBy more (Some stop) mid new
-    → Went {A = Unit {0}} (λ whole. Each (IsOnList Knows every) whole (names_after front bytes)) (Err stop) old new
-name_stopped Knows every front bytes at name more stop old mid new lt ends was is audits =
-    let both = each_then (IsOnList Knows every) false (names_after front (take at bytes)) (rest_after front (take at bytes) ∷ [])
-    was.visits more was.is (each_one (IsOnList Knows every) false (rest_after front (take at bytes)) more is) in
-    let here : Each (IsOnList Knows every) false (names_after front (take (at + 1) bytes)) (was.visits ++ more) =
-    subst (λ (n : List (List ℕ)). Each (IsOnList Knows every) false n (was.visits ++ more)) (sym (ended_names front bytes at lt ends)) both in
-    record {
-      visits = was.visits ++ more;
-      is = names_cut Knows every false front bytes (at + 1) (was.visits ++ more) here;
-      audits = by_then was.visits more (Some stop) old mid new was.audits audits;
-    }
-
-pub bytes_out : (Knows : Fact → Type 0) (every : Bool) (front bytes : List ℕ) (at : ℕ) (name : List ℕ) (old new : State)
-    → Taken Knows every front bytes at name old new
-    → Went {A = Unit {0}} (λ whole. Each (IsOnList Knows every) whole (names_after front bytes)) (Err stops.NoMemory) old new
-bytes_out Knows every front bytes at name old new was = record {
-  visits = was.visits;
-  is = names_cut Knows every true front bytes at was.visits was.is;
-  audits = by_then_out was.visits old new was.audits;
-}
+pub no_front : (name last : List ℕ) → name ≡ take 4097 last → length name ≤ 0 → names_to last ≡ []
+no_front name last is none_there =
+    let fits : length name ≤ 4096 = omega (arith, none_there) in
+    let same = whole_name 4096 name last is fits in
+    ap (λ (n : List ℕ). names_to n) (sym same ∙ empty name none_there)
 
 -- ---- a reader of names
 
--- So much of the names of a reader was audited, and this is kept of the next one.
-pub record HasListed (Knows : Fact → Type 0) (every : Bool) (all left : Option (List ℕ)) (name : List ℕ) (old new : State) : Type 0 where
-  pub front : List ℕ
+-- These names of a reader were audited, up to where the audit stopped, and this front of another one came.
+pub record HasListed (Knows : Fact → Type 0) (every whole : Bool) (begun now : Unread) (front : List ℕ) (stop : Option Stop)
+    (old new : State) : Type 0 where
+  pub names : List (List ℕ)
   pub visits : List Visit
-  pub name_is : name ≡ take 4097 front
-  pub is : Listed Knows every all left front visits
-  pub audits : AuditsBy visits None old new
+  pub gives : Gives begun now names front
+  pub is : Each (IsOnList Knows every) whole names visits
+  pub audits : AuditsBy visits stop old new
 
-pub listing_begun : (Knows : Fact → Type 0) (every : Bool) (all : Option (List ℕ)) (name : List ℕ) (now : State) → name ≡ []
-    → HasListed Knows every all all name now now
-listing_begun Knows every all name now empty = record {
-  front = [];
-  visits = [];
-  name_is = empty;
-  is = none_listed Knows every all;
-  audits = (nothing_met now).audits;
-}
+pub none_listed : (Knows : Fact → Type 0) (every : Bool) (begun : Unread) (now : State)
+    → HasListed Knows every true begun begun [] None now now
+none_listed Knows every begun now =
+    record { names = []; visits = []; gives = gives_none begun; is = none; audits = (nothing_met now).audits }
 
-pub listed_more : (Knows : Fact → Type 0) (every : Bool) (all old new : Option (List ℕ)) (bytes name later : List ℕ)
-    (begun mid now : State) (was : HasListed Knows every all old name begun mid) → Consumes old new bytes
-    → Went {A = Unit {0}} (λ whole. Each (IsOnList Knows every) whole (names_after was.front bytes)) (Ok tt) mid now
-    → later ≡ take 4097 (rest_after was.front bytes) → HasListed Knows every all new later begun now
-listed_more Knows every all old new bytes name later begun mid now was comes went held = record {
-  front = rest_after was.front bytes;
-  visits = was.visits ++ went.visits;
-  name_is = held;
-  is = more_listed Knows every all old new bytes was.front was.visits went.visits was.is comes went.is;
-  audits = by_then was.visits went.visits None begun mid now was.audits went.audits;
-}
-
-pub listed_cut : (Knows : Fact → Type 0) (every : Bool) (all old new : Option (List ℕ)) (bytes name : List ℕ) (stop : Stop)
-    (begun mid now : State) (was : HasListed Knows every all old name begun mid) → Consumes old new bytes
-    → Went {A = Unit {0}} (λ whole. Each (IsOnList Knows every) whole (names_after was.front bytes)) (Err stop) mid now
-    → Went {A = Unit {0}} (λ whole. IsOnNames Knows every whole all) (Err stop) begun now
-listed_cut Knows every all old new bytes name stop begun mid now was comes went = record {
-  visits = was.visits ++ went.visits;
-  is = cut_listed Knows every all old new bytes was.front was.visits went.visits was.is comes went.is;
-  audits = by_then was.visits went.visits (Some stop) begun mid now was.audits went.audits;
-}
-
-pub listed_all : (Knows : Fact → Type 0) (every : Bool) (all old new : Option (List ℕ)) (name : List ℕ) (result : Result (Unit {0}) Stop)
-    (begun mid now : State) (was : HasListed Knows every all old name begun mid) → Consumes old new [] → IsAtEnd new
-    → Went {A = Unit {0}} (λ whole. Each (IsOnList Knows every) whole (names_to was.front)) result mid now
-    → Went {A = Unit {0}} (λ whole. IsOnNames Knows every whole all) result begun now
-listed_all Knows every all old new name result begun mid now was comes end went = record {
-  visits = was.visits ++ went.visits;
-  is = all_listed Knows every (is_ok result) all old new was.front was.visits went.visits was.is comes end went.is;
-  audits = by_then was.visits went.visits (result_err result) begun mid now was.audits went.audits;
-}
-
--- no more names could be read
-pub listed_lost : (Knows : Fact → Type 0) (every : Bool) (all old : Option (List ℕ)) (name : List ℕ) (begun now : State)
-    → HasListed Knows every all old name begun now
-    → Took (λ result. IsOnNames Knows every (is_whole result) all) (Ok false) begun now
-listed_lost Knows every all old name begun now was = record {
+-- an allocation failed
+pub out_listed : (Knows : Fact → Type 0) (every : Bool) (begun mid : Unread) (old now : State)
+    → HasListed Knows every true begun mid [] None old now → HasListed Knows every true begun mid [] (Some stops.NoMemory) old now
+out_listed Knows every begun mid old now was = record {
+  names = was.names;
   visits = was.visits;
-  is = lost_listed Knows every all old was.front was.visits was.is;
-  audits = was.audits;
+  gives = was.gives;
+  is = was.is;
+  audits = by_then_out was.visits old now was.audits;
 }
 
--- ---- all of it, or a part
+pub one_listed : (Knows : Fact → Type 0) (every whole : Bool) (begun mid now : Unread) (name : List ℕ) (stop : Option Stop)
+    (more : List Visit) (old then new : State) → HasListed Knows every true begun mid [] None old then → Gives mid now (name ∷ []) []
+    → IsOnList Knows every whole name more → AuditsBy more stop then new → HasListed Knows every whole begun now [] stop old new
+one_listed Knows every whole begun mid now name stop more old then new was gives is audits = record {
+  names = was.names ++ name ∷ [];
+  visits = was.visits ++ more;
+  gives = gives_then begun mid now was.names (name ∷ []) [] was.gives gives;
+  is = each_then (IsOnList Knows every) whole was.names (name ∷ []) was.visits more was.is
+      (each_one (IsOnList Knows every) whole name more is);
+  audits = by_then was.visits more stop old then new was.audits audits;
+}
 
-pub took_all : (Is : Bool → List Visit → Type 0) (value : Unit {0}) (old new : State) → Went Is (Ok value) old new
-    → Took (λ result. Is (is_whole result)) (Ok true) old new
-took_all Is value old new went = record { visits = went.visits; is = went.is; audits = went.audits }
+-- the audit ends before all names
+pub took_part : (Knows : Fact → Type 0) (every whole : Bool) (begun now : Unread) (front : List ℕ) (result : Result Bool Stop)
+    (old new : State) → is_whole result ≡ false → HasListed Knows every whole begun now front (result_err result) old new
+    → Took (λ result. IsOnNames Knows every (is_whole result) begun.left) result old new
+took_part Knows every whole begun now front result old new part was =
+    let Is = IsOnList Knows every in
+    let came = was.gives.came in
+    let here : Each Is false (names_after [] came) was.visits =
+    rw was.gives.names_are (subst (λ (n : List (List ℕ)). Each Is false n was.visits) (append-nil was.names)
+    (each_cut Is whole was.names [] was.visits (λ name. before_name refl refl) was.is)) in
+    let known : IsOnNames Knows every false begun.left was.visits =
+    of_front (λ bytes. (first rest : List ℕ) × ((bytes ≡ first ++ rest)
+    × (Each Is false (names_after [] first) was.visits ⊎ Each Is false (names_of bytes) was.visits)))
+    begun.left now.left came was.gives.comes.consumed (λ rest. (came, rest, (refl, inl here))) in
+    record { visits = was.visits; is = rw part known; audits = was.audits }
 
-pub took_part : (Is : Bool → List Visit → Type 0) (stop : Stop) (old new : State)
-    → Went {A = Unit {0}} Is (Err stop) old new → Took (λ result. Is (is_whole result)) (Err stop) old new
-took_part Is stop old new went = record { visits = went.visits; is = went.is; audits = went.audits }
+-- it comes to the last name, if no zero byte ends it
+on_all : (Knows : Fact → Type 0) (every whole : Bool) (begun now : Unread) (names : List (List ℕ)) (last : List ℕ) (visits : List Visit)
+    → Gives begun now names last → IsAtEnd now.left → Each (IsOnList Knows every) whole (names ++ names_to last) visits
+    → IsOnNames Knows every whole begun.left visits
+on_all Knows every true begun now names last visits gives end is =
+    let all : names_of gives.came ≡ names ++ names_to last = rw (gives.names_are, gives.front_is) refl in
+    Consumes-whole begun.left now.left gives.came (λ bytes. Each (IsOnList Knows every) true (names_of bytes) visits)
+    gives.comes.consumed end (rw all is)
+on_all Knows every false begun now names last visits gives end is =
+    let all : names_of gives.came ≡ names ++ names_to last = rw (gives.names_are, gives.front_is) refl in
+    Consumes-whole begun.left now.left gives.came (λ bytes. (first rest : List ℕ) × ((bytes ≡ first ++ rest)
+    × (Each (IsOnList Knows every) false (names_after [] first) visits ⊎ Each (IsOnList Knows every) false (names_of bytes) visits)))
+    gives.comes.consumed end (gives.came, [], (sym (append-nil gives.came), inr (rw all is)))
+
+pub took_all : (Knows : Fact → Type 0) (every : Bool) (begun mid now : Unread) (last : List ℕ) (more : List Visit)
+    (result : Result Bool Stop) (old then new : State) → HasListed Knows every true begun mid [] None old then → Gives mid now [] last
+    → IsAtEnd now.left → Each (IsOnList Knows every) (is_whole result) (names_to last) more → AuditsBy more (result_err result) then new
+    → Took (λ result. IsOnNames Knows every (is_whole result) begun.left) result old new
+took_all Knows every begun mid now last more result old then new was gives end is audits =
+    let all = gives_last begun mid now was.names last was.gives gives in
+    let both = each_then (IsOnList Knows every) (is_whole result) was.names (names_to last) was.visits more was.is is in
+    record {
+      visits = was.visits ++ more;
+      is = on_all Knows every (is_whole result) begun now was.names last (was.visits ++ more) all end both;
+      audits = by_then was.visits more (result_err result) old then new was.audits audits;
+    }
+
+-- as many bytes came as are read
+pub broken_listed : (Knows : Fact → Type 0) (every : Bool) (begun mid now : Unread) (front : List ℕ) (old then : State)
+    → HasListed Knows every true begun mid [] None old then → Gives mid now [] front → now.room ≡ 0 → begun.room ≡ most_bytes
+    → IfSome begun.left (λ bytes. most_bytes ≤ length bytes)
+broken_listed Knows every begun mid now front old then was gives none_left all =
+    let both = gives_last begun mid now was.names front was.gives gives in
+    too_many_came begun now was.names front both none_left all
 
 -- ---- what was met is audited
 

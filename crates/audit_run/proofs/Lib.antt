@@ -4,7 +4,7 @@ pub mod Entering
 pub mod Rows
 pub mod Contents
 pub mod Paths
-pub mod Naming
+pub mod ZeroEnded
 pub mod Turning
 pub mod Running
 pub mod Flushing

@@ -1,34 +1,21 @@
 -- The steps of a walk over directories.
-use Rattle.std.proofs.Common.{◌≡◌, ℕ, ◌+◌, ◌≤◌, Bool, true, false, List, [], ◌∷◌, ◌++◌, length, Option, None, Some}
-use Rattle.std.proofs.Common.{arith, IfSome, Ok, Err, refl, sym, ap, subst, ◌∙◌, append_assoc, append-nil, inl, inr, ◌⊎◌}
+use Rattle.std.proofs.Common.{◌≡◌, ℕ, ◌+◌, Bool, true, false, List, [], ◌∷◌, ◌++◌, length, Option, None, Some}
+use Rattle.std.proofs.Common.{arith, Err, refl, sym, ap, subst, ◌∙◌, append_assoc, append-nil, inl, inr}
 use Rattle.std.specs.Prelude.{is_some}
 use Rattle.std.proofs.lemmas.List.{map-append}
 use Rattle.std.specs.Global.{Vec}
 use Rattle.audit_tree.specs.Paths.{path_in}
 use Rattle.krl_audit.specs.declared.why.Refusal.TheVariants as refusals
 use Rattle.audit_run.specs.Entries.{IsEntry, IsKept, below, excluded, here, kept, no_text, not_selected}
-use Rattle.audit_run.specs.Fact.{Fact, Lists}
-use Rattle.audit_run.specs.Names.{most_bytes}
+use Rattle.audit_run.specs.Fact.{Fact}
 use Rattle.audit_run.specs.Visits.{AuditsBy, Begun, Meets, State, Visit}
-use Rattle.audit_run.specs.Walk.{IsClosed, IsDirectory, IsEntered, IsEnteredBelow, Level, MayTurn, Turn, Turns, goes, goes_down, leaves}
-use Rattle.audit_run.specs.Walk.{Walked, level_of, levels_of, none, too_many, turned, stopped}
+use Rattle.audit_run.specs.Walk.{IsDirectory, IsEntered, IsEnteredBelow, Level, MayTurn, Turn, Turns, goes, goes_down, leaves}
+use Rattle.audit_run.specs.Walk.{Walked, level_of, levels_of, none, turned, stopped}
 use Rattle.audit_run.specs.declared.walk.Entered.{Entered}
 use Rattle.audit_run.specs.declared.files.Since.{Since}
 use Rattle.audit_run.specs.declared.stop.Stop.{Stop}
 use Rattle.audit_run.specs.declared.stop.Stop.TheVariants as stops
 use Rattle.audit_run.proofs.Auditing.{meets_then, nothing_begun}
-
--- ---- names
-
-not_failed : (result failed : Bool) → result ≡ failed → result ≡ false → failed ≡ true → ⊥
-not_failed result true same is failed = absurd (cc)
-not_failed result false same is failed = absurd (cc)
-
-pub too_many_at : (Knows : Fact → Type 0) (path : List ℕ) (named failed result : Bool) (left : Option (List ℕ))
-    → Knows (Lists path named (Ok left)) → (failed ≡ true) ⊎ IfSome left (λ bytes. most_bytes ≤ length bytes)
-    → result ≡ failed → result ≡ false → IsClosed Knows path named refusals.TooLong
-too_many_at Knows path named failed result left lists (inl broke) same is = absurd (not_failed result failed same is broke)
-too_many_at Knows path named failed result left lists (inr many) same is = too_many left lists many refl
 
 -- ---- one step
 

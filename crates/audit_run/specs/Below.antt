@@ -9,12 +9,13 @@ use Rattle.audit_tree.specs.declared.names.Selection.{Selection}
 use Rattle.audit_tree.specs.declared.names.Selection.TheVariants as selections
 use Rattle.krl_audit.specs.declared.why.Refusal.{Refusal}
 use Rattle.audit_run.specs.Fact.{Elsewhere, Excludes, Fact, Leads, Lists, OpenFile, Opens}
-use Rattle.audit_run.specs.Names.{is_dots, names_after}
+use Rattle.audit_run.specs.Names.{is_dots}
 use Rattle.audit_run.specs.Reading.{front_of}
 use Rattle.audit_run.specs.Visits.{Audited, Same, Skipped, Visit}
 use Rattle.audit_run.specs.Walk.{every_in}
 use Rattle.audit_run.specs.declared.kind.Found.{Found}
 use Rattle.audit_run.specs.declared.kind.Kind.TheVariants as kinds
+use Rattle.audit_run.specs.ZeroEnded.{names_after}
 
 -- A tree that has one answer to each question.
 pub record IsSteady (Knows : Fact → Type 0) : Type 0 where

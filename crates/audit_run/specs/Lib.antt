@@ -1,5 +1,6 @@
 pub mod Fact
 pub mod Reading
+pub mod ZeroEnded
 pub mod Names
 pub mod Visits
 pub mod Entries

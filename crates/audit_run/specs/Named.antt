@@ -1,5 +1,5 @@
 -- The files and directories that are named.
-use Rattle.std.specs.Prelude.{◌≡◌, ℕ, ◌<◌, ◌≤◌, ◌==◌, ◌⊎◌, if◌then◌else◌, Bool, true, false, List}
+use Rattle.std.specs.Prelude.{◌≡◌, ℕ, ◌<◌, ◌≤◌, ◌⊎◌, if◌then◌else◌, Bool, true, false, List}
 use Rattle.std.specs.Prelude.{[], ◌∷◌, ◌++◌, codes, length, take}
 use Rattle.std.specs.Prelude.{Option, Some, None, IfSome, Result, Ok, Err}
 use Rattle.std.specs.Borrow.{Bor}
@@ -9,11 +9,11 @@ use Rattle.krl_audit.specs.declared.why.Refusal.{Refusal}
 use Rattle.krl_audit.specs.declared.why.Refusal.TheVariants as refusals
 use Rattle.audit_run.specs.Entries.{FailsAt, IsOpened, IsRead, IsRegular}
 use Rattle.audit_run.specs.Fact.{Fact, Leads, OpenFile, Opens}
-use Rattle.audit_run.specs.Names.{is_directory, is_file_kind, is_null_kind, most_bytes}
-use Rattle.audit_run.specs.Names.{names_after}
+use Rattle.audit_run.specs.Names.{is_directory, is_file_kind, is_null_kind}
 use Rattle.audit_run.specs.Reading.{InputFails}
 use Rattle.audit_run.specs.Visits.{Audited, Visit, refused}
 use Rattle.audit_run.specs.Walk.{IsDirectory}
+use Rattle.audit_run.specs.ZeroEnded.{most_bytes, names_after, rest_after}
 use Rattle.audit_run.specs.declared.kind.Found.{Found}
 use Rattle.audit_run.specs.declared.kind.Identity.{Identity}
 use Rattle.audit_run.specs.declared.kind.Kind.{Kind}
@@ -139,12 +139,6 @@ AreNamed Knows Failed every whole input paths visits =
 
 -- ---- names that a reader gives
 
--- the front of a name that these bytes leave unended
-unfoldable pub rest_after : (front bytes : List ℕ) → List ℕ
-rest_after front [] = front
-rest_after front (byte ∷ bytes) =
-    if byte == 0 then rest_after [] bytes else rest_after (front ++ byte ∷ []) bytes
-
 -- the last name, if it lacks its zero byte
 abbrev pub names_to : (last : List ℕ) → List (List ℕ)
 names_to [] = []
@@ -158,13 +152,12 @@ names_of bytes = names_after [] bytes ++ names_to (rest_after [] bytes)
 -- bytes, up to where the audit stopped.
 abbrev pub IsOnNames : (Fact → Type 0) → (every whole : Bool) → Option (List ℕ) → List Visit
     → Type 0
-IsOnNames Knows every whole None visits = Unit {0}
-IsOnNames Knows every true (Some bytes) visits =
-    Each (IsOnList Knows every) true (names_of bytes) visits
-IsOnNames Knows every false (Some bytes) visits =
-    (first rest : List ℕ) × ((bytes ≡ first ++ rest)
+IsOnNames Knows every true left visits =
+    IfSome left (λ bytes. Each (IsOnList Knows every) true (names_of bytes) visits)
+IsOnNames Knows every false left visits =
+    IfSome left (λ bytes. (first rest : List ℕ) × ((bytes ≡ first ++ rest)
     × (Each (IsOnList Knows every) false (names_after [] first) visits
-    ⊎ Each (IsOnList Knows every) false (names_of bytes) visits))
+    ⊎ Each (IsOnList Knows every) false (names_of bytes) visits)))
 
 -- why names cannot be read to their end: their reader failed, or has more bytes than are read
 abbrev pub IsBroken : (Failed : Type 0) → Option (List ℕ) → Type 0

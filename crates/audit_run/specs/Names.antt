@@ -1,9 +1,6 @@
 -- The names of a directory that an audit goes to.
-use Rattle.std.specs.Prelude.{◌≡◌, ℕ, ◌+◌, ◌-◌, ◌^◌, ◌≤◌, ◌==◌, ◌||◌, ◌⊎◌, if◌then◌else◌, Bool}
-use Rattle.std.specs.Prelude.{true, false}
-use Rattle.std.specs.Prelude.{List, [], ◌∷◌, ◌++◌, codes, IsPermutation, length, min, Option, Some}
-use Rattle.std.specs.Prelude.{None, IfSome}
-use Rattle.std.specs.Prelude.{Result, Ok, Err}
+use Rattle.std.specs.Prelude.{◌≡◌, ℕ, ◌+◌, ◌-◌, ◌^◌, ◌||◌, if◌then◌else◌, Bool, true, false}
+use Rattle.std.specs.Prelude.{List, [], ◌∷◌, codes, IsPermutation, min, Result, Ok, Err}
 use Rattle.std.specs.Cmp.Lexicographic.{slice_cmp}
 use Rattle.std.specs.Global.{Vec}
 use Rattle.std.specs.List.Sorted.{IsSorted}
@@ -16,6 +13,7 @@ use Rattle.audit_tree.specs.declared.names.Selection.TheVariants as selections
 use Rattle.krl_audit.specs.declared.why.Refusal.{Refusal}
 use Rattle.krl_audit.specs.declared.why.Refusal.TheVariants.{Missing}
 use Rattle.audit_run.specs.Fact.{Excludes, Fact, Leads, Sought}
+use Rattle.audit_run.specs.ZeroEnded.{names_after}
 use Rattle.audit_run.specs.declared.kind.Found.{Found}
 use Rattle.audit_run.specs.declared.kind.Kind.{Kind}
 use Rattle.audit_run.specs.declared.kind.Kind.TheVariants as kinds
@@ -117,12 +115,6 @@ pub data IsWanted (Knows : Fact → Type 0) (every : Bool) (path : List ℕ) (wa
 
 -- ---- all names
 
--- The names that these bytes hold, after the front of the first name. A zero byte ends each name.
-unfoldable pub names_after : (front bytes : List ℕ) → List (List ℕ)
-names_after front [] = []
-names_after front (byte ∷ bytes) =
-    if byte == 0 then front ∷ names_after [] bytes else names_after (front ++ byte ∷ []) bytes
-
 -- the directory itself and the one that it is in are not counted
 abbrev pub passed_over : List ℕ → ℕ
 passed_over name = if is_dots name then 0 else 1
@@ -144,6 +136,13 @@ pub data AreWanted (Knows : Fact → Type 0) (every : Bool) (path : List ℕ)
 abbrev pub capped : ℕ → ℕ
 capped count = min count (2 ^ 64 - 1)
 
+-- of these names, those that an audit goes to and how many it passes over were found
+pub record AreFound (Knows : Fact → Type 0) (every : Bool) (path : List ℕ) (names : List (List ℕ))
+    (found : Listing) : Type 0 where
+  pub count : ℕ
+  pub are_wanted : AreWanted Knows every path names found.names.items count
+  pub skipped_is : found.skipped ≡ capped count
+
 -- of the names that some bytes hold, those that an audit goes to, in order, and how many it skips
 pub record AreWantedInOrder (Knows : Fact → Type 0) (every : Bool) (path bytes : List ℕ)
     (names : List (Vec ℕ)) (skipped : ℕ) : Type 0 where
@@ -152,28 +151,4 @@ pub record AreWantedInOrder (Knows : Fact → Type 0) (every : Bool) (path bytes
   pub are_wanted : AreWanted Knows every path (names_after [] bytes) wanted count
   pub same : IsPermutation wanted names
   pub ordered : IsSorted (λ (x y : Vec ℕ). slice_cmp nat_cmp x.items y.items) names
-  pub skipped_is : capped skipped ≡ capped count
-
--- the most bytes of names that are read
-abbrev pub most_bytes : ℕ
-most_bytes = 2 ^ 64 - 1
-
--- The result of reading a directory by a reader that has these bytes left and failed or not: it
--- fails, or there are more bytes than are read, or all names that the bytes hold are known.
-abbrev pub IsListing : (Fact → Type 0) → (every : Bool) → List ℕ → Option (List ℕ)
-    → (failed : Bool) → Option Listing → Type 0
-IsListing Knows every path left failed (Some listing) = IfSome left (λ bytes.
-    AreWantedInOrder Knows every path bytes listing.names.items listing.skipped)
-IsListing Knows every path left failed None =
-    (failed ≡ true) ⊎ IfSome left (λ bytes. most_bytes ≤ length bytes)
-
--- Some of the names that an audit goes to are found, and some names passed over: those of the bytes
--- that are left complete them, as those of all bytes complete the ones that were found before.
-pub record Continues (Knows : Fact → Type 0) (every : Bool) (path front bytes : List ℕ)
-    (names : List (Vec ℕ)) (before : ℕ) (later left : List ℕ) (found : List (Vec ℕ)) (now : ℕ)
-    : Type 0 where
-  pub completed : (wanted : List (Vec ℕ)) (more : ℕ)
-      → AreWanted Knows every path (names_after later left) wanted more
-      → (all : List (Vec ℕ)) × (count : ℕ)
-      × ((found ++ wanted ≡ names ++ all) × (capped (now + more) ≡ capped (before + count))
-      × AreWanted Knows every path (names_after front bytes) all count)
+  pub skipped_is : skipped ≡ capped count

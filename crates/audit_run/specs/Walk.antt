@@ -12,8 +12,9 @@ use Rattle.krl_audit.specs.declared.why.Refusal.{Refusal}
 use Rattle.krl_audit.specs.declared.why.Refusal.TheVariants as refusals
 use Rattle.audit_run.specs.Entries.{IsEntry}
 use Rattle.audit_run.specs.Fact.{Breaks, Elsewhere, Fact, Lists}
-use Rattle.audit_run.specs.Names.{AreWantedInOrder, most_bytes}
+use Rattle.audit_run.specs.Names.{AreWantedInOrder}
 use Rattle.audit_run.specs.Visits.{Meets, Skipped, State, Visit, gives, passes, refused}
+use Rattle.audit_run.specs.ZeroEnded.{most_bytes}
 use Rattle.audit_run.specs.declared.files.Since.{Since}
 use Rattle.audit_run.specs.declared.files.Skip.TheVariants as skips
 use Rattle.audit_run.specs.declared.names.Listing.{Listing}

@@ -16,6 +16,7 @@ mod sending;
 mod stop;
 mod tree;
 mod walk;
+mod zero_ended;
 
 pub use kind::{Found, Identity, Kind, Opened};
 pub use options::{Options, Terminal};

@@ -1,33 +1,28 @@
 //! The files and directories that are named.
 
-ghost use Rattle.std.specs.Prelude.{◌≡◌, ◌+◌, ◌∷◌, ◌++◌, [], ℕ, List, true, false, is_ok, take};
-ghost use Rattle.std.specs.Prelude.{OnOk};
-ghost use Rattle.std.specs.Prelude.{◌<◌, ◌≤◌, length, nat_lt, IfSome, Ok, Some};
+ghost use Rattle.std.specs.Prelude.{◌≡◌, ◌+◌, ◌<◌, ◌≤◌, ℕ, List, false, length, nat_lt, take};
+ghost use Rattle.std.specs.Prelude.{IfSome, Ok, Some};
 ghost use Rattle.std.specs.Result.{result_err};
 ghost use Rattle.line_pieces.specs.Visible.{visible_bytes};
 ghost use Rattle.audit_run.specs.Named.{AreNamed, Each, IsBroken, IsInput, IsNamed, IsOnList};
 ghost use Rattle.audit_run.specs.Named.{IsOnNames, IsWaiting, IsWaitingIf, input_after};
 ghost use Rattle.audit_run.specs.Named.{is_file, irregular_at, most_name, names_to, other_at};
-ghost use Rattle.audit_run.specs.Named.{rest_after};
-ghost use Rattle.audit_run.specs.Names.{names_after};
 ghost use Rattle.audit_run.specs.Reading.{SomeFailed, left_in};
 ghost use Rattle.audit_run.specs.Visits.{Goes, Meets, Took, Went, is_whole, refused};
 
 use crate::entries::{audit_opened, audit_read, audit_regular, is_directory};
 use crate::kind::{Kind, Opened};
-use crate::reading::{Reading, content_of, read_input};
+use crate::reading::{Came, Reading, content_of, read_input};
 use crate::round::{Round, Screen};
 use crate::stop::Stop;
 use crate::tree::Tree;
 use crate::walk::audit_directory;
+use crate::zero_ended::ZeroEnded;
 use byte_streams::Source;
 use krl_audit::Refusal;
 use line_pieces::visible_name;
-use std::alloc::AllocError;
 use std::str;
 
-// How many bytes of names are read at a time.
-const BUFFER: usize = 8_192;
 // The most bytes of a name. Linux opens no path of more.
 const NAME_LIMIT: usize = 4_096;
 
@@ -141,56 +136,29 @@ fn audit_open<T: Tree, W: Screen>(
 
 /// Audits the files and directories whose names a reader gives, each ended by a zero byte. No pipe
 /// is waited for. Returns false if the names cannot be read to their end.
-pub(crate) fn audit_listed<T: Tree, N: Source, W: Screen>(
+pub(crate) fn audit_listed<T: Tree, N: Source + Drop, W: Screen>(
     tree: &T,
     round: &mut Round<'_, '_, W>,
     every: bool,
-    names: &mut N,
+    names: N,
 ) -> Result<bool, Stop>
-    requires { N.has_failed names.old ≡ false }
     ensures names { Took (λ result. IsOnNames (T.states tree.now) every (is_whole result)
-        (N.left names.old)) result round.old round.new }
-    ensures broken { result ≡ Ok false → IsBroken (SomeFailed N.has_failed) (N.left names.old) }
+        (N.left names)) result round.old round.new }
+    ensures broken { result ≡ Ok false → IsBroken (SomeFailed N.has_failed) (N.left names) }
 {
+    let mut reader = ZeroEnded::new(names);
     let mut name = Vec::new(round.auditor.run.alloc);
-    let mut batch = [0; BUFFER];
-    // A bound that no reader reaches, so that this ends whatever the system returns.
-    'batches: for _part in 0..u64::MAX {
-        let Ok(count) = names.read(&mut batch) else {
-            return Ok(false);
-        };
-        if count == 0 {
-            end_listed(tree, round, every, name.as_slice())?;
-            return Ok(true);
+    'names: loop {
+        match reader.next(NAME_LIMIT, &mut name)? {
+            Ok(()) => audit_one_listed(tree, round, every, name.as_slice())?,
+            Err(Came::All) => {
+                end_listed(tree, round, every, name.as_slice())?;
+                return Ok(true);
+            }
+            Err(Came::More) => return Ok(false),
+            Err(Came::Failed) => return Ok(false),
         }
-        take_listed(tree, round, every, &batch[..count], &mut name)?;
     }
-    Ok(false)
-}
-
-// Audits the names that end in these bytes, of which the first one may have begun before.
-fn take_listed<T: Tree, W: Screen>(
-    tree: &T,
-    round: &mut Round<'_, '_, W>,
-    every: bool,
-    bytes: &[u8],
-    name: &mut Vec<u8>,
-) -> Result<(), Stop>
-    ensures names { (front : List ℕ) → name.old.items ≡ take (most_name + 1) front
-        → Went (λ whole. Each (IsOnList (T.states tree.now) every) whole
-        (names_after front bytes.now)) result round.old round.new }
-    ensures name { (front : List ℕ) → name.old.items ≡ take (most_name + 1) front
-        → OnOk result (name.new.items ≡ take (most_name + 1) (rest_after front bytes.now)) }
-{
-    for byte in bytes {
-        if *byte != 0 {
-            keep_byte(name, *byte)?;
-            continue;
-        }
-        audit_one_listed(tree, round, every, name.as_slice())?;
-        name.clear();
-    }
-    Ok(())
 }
 
 // Audits the last name, if it lacks its zero byte.
@@ -297,15 +265,4 @@ fn refuse_name<W: Screen>(
 {
     let shown = visible_name(round.auditor.run.alloc, name)?;
     round.audit(None, shown.as_str(), Err(refusal))
-}
-
-// Keeps a byte of a name. A name that is too long keeps only its front, with one byte more.
-fn keep_byte(name: &mut Vec<u8>, byte: u8) -> Result<(), AllocError>
-    ensures { (front : List ℕ) → name.old.items ≡ take (most_name + 1) front
-        → OnOk result (name.new.items ≡ take (most_name + 1) (front ++ byte ∷ [])) }
-{
-    if !is_too_long(name.as_slice()) {
-        name.push(byte)?;
-    }
-    Ok(())
 }

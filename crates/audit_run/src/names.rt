@@ -1,23 +1,20 @@
 //! The names of a directory that an audit goes to.
 
-ghost use Rattle.std.specs.Prelude.{◌≡◌, ◌+◌, ◌∷◌, ◌++◌, [], false, ℕ, List, IfOk, OnOk};
-ghost use Rattle.audit_run.specs.Names.{Continues, IsListing, IsWanted, MayBeDirectory};
-ghost use Rattle.audit_run.specs.Names.{MayBeWanted, is_dots};
+ghost use Rattle.std.specs.Prelude.{◌≡◌, ◌+◌, ◌∷◌, ◌++◌, [], ℕ, List, IfOk, OnOk};
+ghost use Rattle.audit_run.specs.Names.{AreFound, IsWanted, MayBeDirectory, MayBeWanted};
+ghost use Rattle.audit_run.specs.Names.{capped, is_dots, is_never, may_be_behind, passed_over};
 ghost use Rattle.audit_run.specs.Walk.{IsNamesOf};
-ghost use Rattle.audit_run.specs.Names.{capped, is_never, may_be_behind, passed_over};
 
 use crate::entries::is_directory;
 use crate::kind::Found;
+use crate::reading::Came;
 use crate::round::{Round, Screen};
 use crate::tree::Tree;
+use crate::zero_ended::ZeroEnded;
 use audit_tree::{Selection, is_sought, path_in, selection_of, sort_names};
-use byte_streams::Source;
 use krl_audit::Refusal;
 use std::alloc::{AllocError, Global};
-use std::{mem, str};
-
-// How many bytes of names are read at a time.
-const BUFFER: usize = 8_192;
+use std::str;
 
 /// A directory, and whether each of its files is read.
 #[derive(Clone, Copy)]
@@ -26,17 +23,15 @@ pub(crate) struct Place<'p> {
     pub(crate) every: bool,
 }
 
-/// The names of a directory that an audit goes to, and how many others there are. A name may have
-/// begun.
+/// The names of a directory that an audit goes to, and how many others there are.
 #[derive(Drop)]
 pub(crate) struct Listing {
     pub(crate) names: Vec<Vec<u8>>,
     pub(crate) skipped: u64,
-    name: Vec<u8>,
 }
 
-/// The names that an audit goes to of a directory that is named or was found, or why they are not
-/// known.
+/// The names that an audit goes to of a directory that is named or was found, in their order, or
+/// why they are not known.
 pub(crate) fn names_in<T: Tree, W: Screen>(
     tree: &T,
     round: &mut Round<'_, '_, W>,
@@ -47,77 +42,32 @@ pub(crate) fn names_in<T: Tree, W: Screen>(
         place.entry.path.now named) }
     ensures kept { round.new ≡ round.old }
 {
+    let alloc = round.auditor.run.alloc;
     let entered = tree.enter(place.path, named)?;
-    let mut reader = match entered {
-        Ok(reader) => reader,
+    let names = match entered {
+        Ok(names) => names,
         Err(refusal) => return Ok(Err(refusal)),
     };
-    let listed = read_names(tree, round, place, &mut reader)?;
-    match listed {
-        Some(listing) => Ok(Ok(listing)),
-        None if reader.failed() => Ok(Err(tree.why_broken(place.path, named, &reader))),
-        None => Ok(Err(Refusal::TooLong)),
-    }
-}
-
-// Reads the names of a directory to their end, and keeps those that may be read, in their order.
-// Answers none if the reader fails or has no end.
-fn read_names<T: Tree, R: Source, W: Screen>(
-    tree: &T,
-    round: &mut Round<'_, '_, W>,
-    place: Place<'_>,
-    reader: &mut R,
-) -> Result<Option<Listing>, AllocError>
-    requires { R.has_failed reader.old ≡ false }
-    ensures listing { IfOk result (IsListing (T.states tree.now) place.entry.every
-        place.entry.path.now (R.left reader.old) (R.has_failed reader.new)) }
-    ensures kept { round.new ≡ round.old }
-{
-    let alloc = round.auditor.run.alloc;
+    let mut reader = ZeroEnded::new(names);
     let mut listing = Listing {
         names: Vec::new(alloc),
         skipped: 0,
-        name: Vec::new(alloc),
     };
-    let mut batch = [0; BUFFER];
-    // A bound that no directory reaches, so that this ends whatever the tree answers.
-    'batches: for _part in 0..u64::MAX {
-        let Ok(count) = reader.read(&mut batch) else {
-            return Ok(None);
-        };
-        if count == 0 {
-            sort_names(&mut listing.names);
-            return Ok(Some(listing));
+    'names: loop {
+        let mut name = Vec::new(alloc);
+        match reader.next(usize::MAX, &mut name)? {
+            Ok(()) => take_name(alloc, tree, place, name, &mut listing)?,
+            Err(Came::All) => {
+                sort_names(&mut listing.names);
+                return Ok(Ok(listing));
+            }
+            Err(Came::More) => return Ok(Err(Refusal::TooLong)),
+            Err(Came::Failed) => {
+                return Ok(Err(tree.why_broken(place.path, named, reader.source())));
+            }
         }
-        take_names(alloc, tree, place, &batch[..count], &mut listing)?;
         round.show();
     }
-    Ok(None)
-}
-
-// Appends the names that may be read from some bytes of a directory. A zero byte ends each name,
-// and the last one may continue in the bytes that follow.
-fn take_names<T: Tree>(
-    alloc: Global,
-    tree: &T,
-    place: Place<'_>,
-    bytes: &[u8],
-    listing: &mut Listing,
-) -> Result<(), AllocError>
-    ensures { OnOk result ((rest : List ℕ) → Continues (T.states tree.now) place.entry.every
-        place.entry.path.now listing.old.name.items (bytes.now ++ rest) listing.old.names.items
-        listing.old.skipped listing.new.name.items rest listing.new.names.items
-        listing.new.skipped) }
-{
-    for byte in bytes {
-        if *byte != 0 {
-            listing.name.push(*byte)?;
-            continue;
-        }
-        let ended = mem::replace(&mut listing.name, Vec::new(alloc));
-        take_name(alloc, tree, place, ended, listing)?;
-    }
-    Ok(())
 }
 
 // Keeps a name if it may be read, or counts it.
@@ -128,11 +78,9 @@ fn take_name<T: Tree>(
     name: Vec<u8>,
     listing: &mut Listing,
 ) -> Result<(), AllocError>
-    ensures names { OnOk result ((rest : List ℕ) → Continues (T.states tree.now)
-        place.entry.every place.entry.path.now name.items (0 ∷ rest)
-        listing.old.names.items listing.old.skipped [] rest listing.new.names.items
-        listing.new.skipped) }
-    ensures name { listing.new.name ≡ listing.old.name }
+    ensures { (names : List (List ℕ)) → AreFound (T.states tree.now) place.entry.every
+        place.entry.path.now names listing.old → OnOk result (AreFound (T.states tree.now)
+        place.entry.every place.entry.path.now (names ++ name.items ∷ []) listing.new) }
 {
     let wanted = is_wanted(alloc, tree, place, name.as_slice())?;
     if wanted {

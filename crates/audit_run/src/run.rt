@@ -247,8 +247,7 @@ fn audit_both<T: Tree, N: Source + Drop, I: Source + Drop, W: Screen>(
         (readers_of N.left N.has_failed (Some names) I.left I.has_failed input)
         order.now.paths.now) result round.old round.new }
 {
-    let mut names = names;
-    let is_whole = audit_listed(tree, round, order.every_file, &mut names)?;
+    let is_whole = audit_listed(tree, round, order.every_file, names)?;
     if is_whole {
         audit_paths(tree, round, order.every_file, order.paths, input)?;
         Ok(true)

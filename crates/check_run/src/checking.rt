@@ -88,7 +88,8 @@ fn check_all<'a, H: Host, W: Sink>(
     authorities_are_counted();
     check_list(checker, job)?;
     check_files(checker, host, job.task)?;
-    checker.say_end(job.given.list.name)
+    let given = job.given;
+    checker.say_end(given.list.name)
 }
 
 // Checks each condition for the list itself.
@@ -105,9 +106,10 @@ fn check_list<'a, W: Sink>(
     ensures unread { checker.new.unread ≡ checker.old.unread }
     ensures judge { checker.new.auditor.judge ≡ checker.old.auditor.judge }
 {
-    let name = job.given.list.name;
-    let stated = job.given.list.stated();
-    check_format(checker, job.given)?;
+    let given = job.given;
+    let name = given.list.name;
+    let stated = given.list.stated();
+    check_format(checker, given)?;
     check_empty(checker, name, job.task.allow_empty)?;
     check_slow(checker, name, job.task.max_cas)?;
     check_limits(checker, name, stated, job.limits)

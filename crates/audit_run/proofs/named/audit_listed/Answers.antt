@@ -1,73 +1,69 @@
--- The reader gave more bytes, or it is at its end.
-use Rattle.std.proofs.Common.{◌≡◌, ◌<◌, ◌≤◌, arith, inl, inr, length, refl, rules, take}
-use Rattle.std.proofs.lemmas.List.{length-take-le}
+-- The reader gave one more name, or it is at its end.
+use Rattle.std.proofs.Common.{[], ◌∙◌, ap, false, inl, inr, refl, true, None, Ok, Err}
 use Rattle.std.proofs.lemmas.Result.{err_from_is_err_and}
-use Rattle.audit_run.proofs.Inputs.{listed_all, listed_cut, listed_lost, listed_more, listing_begun, took_all, took_part}
-use Rattle.audit_run.proofs.Listing.{all_parts, no_part, one_part}
+use Rattle.audit_run.specs.ZeroEnded.{Unread}
+use Rattle.audit_run.proofs.Inputs.{broken_listed, none_listed, one_listed, out_listed, took_all, took_part}
+use Rattle.audit_run.proofs.ZeroEnded.{shorter}
 use Rattle.audit_run.proofs.named.audit_listed.Goals as goal
 
-pub batches-init : goal.batches-init
-batches-init g c = record {
-  listed = listing_begun _ _ _ _ _ c.new-name.ensures.items;
-  parts = no_part (g.N.Source.left c.args.names.now);
-  working = c.requires;
-  size = refl;
-}
+pub names-init : goal.names-init
+names-init g c = none_listed _ _ _ _
 
-pub returns-in_default-clause-names : goal.returns-in_default-clause-names
-returns-in_default-clause-names g c = listed_lost _ _ _ _ _ _ _ c.batches.invariant.listed
-
-pub returns-in_err-end_listed-clause-names : goal.returns-in_err-end_listed-clause-names
-returns-in_err-end_listed-clause-names g c =
+pub returns-in_err-next-clause-names : goal.returns-in_err-next-clause-names
+returns-in_err-next-clause-names g c =
     let p = err_from_is_err_and c.from_residual.result c.from_residual.ensures.1 in
-    let was = c.batches.invariant.listed in
-    let room : 0 < length c.read.new.into = search rules in
-    let none = rw c.if-count-eq0.true at c.in-Ok.ensures.bytes.0 in
-    let end = c.in-Ok.ensures.bytes.1 c.if-count-eq0.true room in
-    let went = rw c.as_slice.ensures.value at c.in_err-end_listed.ensures in
-    rw (p.1, p.2) (took_part _ _ _ _ (listed_all _ _ _ _ _ _ _ _ _ _ was none end (went was.front was.name_is)))
+    let out = out_listed _ _ _ _ _ _ c.names.invariant in
+    rw (p.1, p.2) (rw c.new-reader.ensures at (took_part _ _ true c.new-reader.result c.names.reader [] (Err _) _ _ refl out))
 
-pub returns-then-count-eq0-clause-names : goal.returns-then-count-eq0-clause-names
-returns-then-count-eq0-clause-names g c =
-    let was = c.batches.invariant.listed in
-    let room : 0 < length c.read.new.into = search rules in
-    let none = rw c.if-count-eq0.true at c.in-Ok.ensures.bytes.0 in
-    let end = c.in-Ok.ensures.bytes.1 c.if-count-eq0.true room in
-    let went = rw c.as_slice.ensures.value at c.in_ok-end_listed.ensures in
-    took_all _ _ _ _ (listed_all _ _ _ _ _ _ _ _ _ _ was none end (went was.front was.name_is))
+pub returns-in_err-audit_one_listed-in-Ok-clause-names : goal.returns-in_err-audit_one_listed-in-Ok-clause-names
+returns-in_err-audit_one_listed-in-Ok-clause-names g c =
+    let p = err_from_is_err_and c.from_residual-in_err-audit_one_listed-in-Ok.result c.from_residual-in_err-audit_one_listed-in-Ok.ensures.1 in
+    let next = rw c.in-Ok.is at c.in_ok-next.ensures in
+    let went = c.in_err-audit_one_listed-in-Ok.ensures next.0 (c.as_slice.ensures.value ∙ next.1.1) in
+    let cut = one_listed _ _ _ _ _ _ next.0 _ went.visits _ _ _ c.names.invariant next.1.0 went.is went.audits in
+    rw (p.1, p.2) (rw c.new-reader.ensures at (took_part _ _ _ c.new-reader.result c.next.new.self [] (Err _) _ _ refl cut))
 
-pub returns-in_err-take_listed-clause-names : goal.returns-in_err-take_listed-clause-names
-returns-in_err-take_listed-clause-names g c =
-    let p = err_from_is_err_and c.from_residual-in_err-take_listed.result c.from_residual-in_err-take_listed.ensures.1 in
-    let was = c.batches.invariant.listed in
-    rw (p.1, p.2) (took_part _ _ _ _ (listed_cut _ _ _ _ _ _ _ c.in_err-take_listed.field-0.0 _ _ _ was c.in-Ok.ensures.bytes.0
-    (c.in_err-take_listed.ensures.names was.front was.name_is)))
+pub names-preserved : goal.names-preserved
+names-preserved g c =
+    let next = rw c.in-Ok.is at c.in_ok-next.ensures in
+    let went = c.in_ok-audit_one_listed-in-Ok.ensures next.0 (c.as_slice.ensures.value ∙ next.1.1) in
+    one_listed _ _ true _ _ _ next.0 None went.visits _ _ _ c.names.invariant next.1.0 went.is went.audits
 
-pub batches-preserved : goal.batches-preserved
-batches-preserved g c =
-    let left = g.N.Source.left in
-    let was = c.batches.invariant.listed in
-    let came = take c.in-Ok.count c.read.new.into in
-    let room : c.in-Ok.count ≤ length c.read.new.into = search rules in
-    let size : length came ≡ c.in-Ok.count = length-take-le c.in-Ok.count c.read.new.into room in
-    let some : 0 < length came = omega (arith, size, c.if-count-eq0.false) in
-    record {
-      listed = listed_more _ _ _ _ _ _ _ _ _ _ _ was c.in-Ok.ensures.bytes.0
-          (c.in_ok-take_listed.ensures.names was.front was.name_is) (c.in_ok-take_listed.ensures.name was.front was.name_is);
-      parts = one_part (left c.args.names.now) (left c.batches.names) (left c.read.new.self) came c.batches._part
-          c.batches.invariant.parts c.in-Ok.ensures.bytes.0 some;
-      working = search rules;
-      size = search rules;
-    }
+pub names-smaller : goal.names-smaller
+names-smaller g c =
+    let next = rw c.in-Ok.is at c.in_ok-next.ensures in
+    shorter _ _ next.0 next.1.0
 
-pub returns-clause-names : goal.returns-clause-names
-returns-clause-names g c = listed_lost _ _ _ _ _ _ _ c.batches.invariant.listed
+pub returns-in_err-end_listed-in-Err-All-clause-names : goal.returns-in_err-end_listed-in-Err-All-clause-names
+returns-in_err-end_listed-in-Err-All-clause-names g c =
+    let p = err_from_is_err_and c.from_residual-in_err-end_listed-in-Err-All.result c.from_residual-in_err-end_listed-in-Err-All.ensures.1 in
+    let last = rw (c.in-Err-All.is, c.in-Err-All.field-0-is) at c.in_ok-next.ensures in
+    let went = c.in_err-end_listed-in-Err-All.ensures last.0 (c.as_slice-in-Err-All.ensures.value ∙ last.1.1.0) in
+    rw (p.1, p.2) (rw c.new-reader.ensures at (took_all _ _ c.new-reader.result _ _ last.0 went.visits (Err _) _ _ _
+    c.names.invariant last.1.0 last.1.1.1 went.is went.audits))
 
-pub returns-in_default-clause-broken : goal.returns-in_default-clause-broken
-returns-in_default-clause-broken g c = λ is. inl (c.read.new.self, search rules)
+pub returns-in-Err-All-clause-names : goal.returns-in-Err-All-clause-names
+returns-in-Err-All-clause-names g c =
+    let last = rw (c.in-Err-All.is, c.in-Err-All.field-0-is) at c.in_ok-next.ensures in
+    let went = c.in_ok-end_listed-in-Err-All.ensures last.0 (c.as_slice-in-Err-All.ensures.value ∙ last.1.1.0) in
+    rw c.new-reader.ensures at (took_all _ _ c.new-reader.result _ _ last.0 went.visits (Ok true) _ _ _
+    c.names.invariant last.1.0 last.1.1.1 went.is went.audits)
 
-pub returns-clause-broken : goal.returns-clause-broken
-returns-clause-broken g c = λ is.
-    let reached : 18446744073709551615 ≤ c.batches._part = c.batches-test.false in
-    inr (all_parts (g.N.Source.left c.args.names.now) (g.N.Source.left c.batches.names) _ c.batches._part c.batches.invariant.parts
-    reached)
+pub returns-in-Err-More-clause-names : goal.returns-in-Err-More-clause-names
+returns-in-Err-More-clause-names g c =
+    rw c.new-reader.ensures at (took_part _ _ true c.new-reader.result c.names.reader [] (Ok false) _ _ refl c.names.invariant)
+
+pub returns-in-Err-More-clause-broken : goal.returns-in-Err-More-clause-broken
+returns-in-Err-More-clause-broken g c = λ is.
+    let last = rw (c.in-Err-More.is, c.in-Err-More.field-0-is) at c.in_ok-next.ensures in
+    let all = ap (λ (u : Unread). u.room) c.new-reader.ensures in
+    inr (rw c.new-reader.ensures at (broken_listed _ _ c.new-reader.result _ _ last.0 _ _ c.names.invariant last.1.0 last.1.1.1 all))
+
+pub returns-in-Err-Failed-clause-names : goal.returns-in-Err-Failed-clause-names
+returns-in-Err-Failed-clause-names g c =
+    rw c.new-reader.ensures at (took_part _ _ true c.new-reader.result c.names.reader [] (Ok false) _ _ refl c.names.invariant)
+
+pub returns-in-Err-Failed-clause-broken : goal.returns-in-Err-Failed-clause-broken
+returns-in-Err-Failed-clause-broken g c = λ is.
+    let last = rw (c.in-Err-Failed.is, c.in-Err-Failed.field-0-is) at c.in_ok-next.ensures in
+    inl last.1.1.1.1

@@ -3,8 +3,7 @@ use Rattle.std.proofs.Common.{[], ◌∙◌, true, length, subst, sym, List, ℕ
 use Rattle.std.proofs.lemmas.Bool.{ltb-false, ltb-true}
 use Rattle.audit_run.specs.Named.{Each, IsOnList, none}
 use Rattle.audit_run.proofs.Auditing.{nothing_met}
-use Rattle.audit_run.proofs.Inputs.{met_went, went_as}
-use Rattle.audit_run.proofs.Naming.{no_front, some_front}
+use Rattle.audit_run.proofs.Inputs.{met_went, no_front, some_front, went_as}
 use Rattle.audit_run.proofs.Rows.{each_one}
 use Rattle.audit_run.proofs.named.end_listed.Goals as goal
 

@@ -25,5 +25,5 @@ pub returns-clause-checks : goal.returns-clause-checks
 returns-clause-checks g c =
     let empty = rw c.in_ok-check_format.ensures.judge at c.in_ok-check_empty.ensures.checks in
     let slow = rw (c.in_ok-check_empty.ensures.judge, c.in_ok-check_format.ensures.judge) at c.in_ok-check_slow.ensures.checks in
-    let limits = rw (c.in_ok-check_slow.ensures.judge, c.in_ok-check_empty.ensures.judge, c.in_ok-check_format.ensures.judge) at c.check_limits.ensures.checks in
+    let limits = rw (c.stated-stated.ensures, c.in_ok-check_slow.ensures.judge, c.in_ok-check_empty.ensures.judge, c.in_ok-check_format.ensures.judge) at c.check_limits.ensures.checks in
     list_checked _ _ _ _ _ _ _ _ _ _ _ _ _ _ _ _ _ _ _ _ _ c.in_ok-check_format.ensures.checks empty slow limits

@@ -8,7 +8,7 @@ returns-in-Some-clause-checks g c =
     let given = c.args.given.now in
     record {
       format = _;
-      is = differs given.list.name.now given.bytes given.list c.in-Some.field-0.now _ c.requires c.in-Some.is (rw c.as_slice.ensures at c.first_difference-difference.ensures);
+      is = differs given.list.name.now given.bytes given.list _ _ c.requires c.in-Some.is (rw c.as_slice.ensures at c.first_difference-difference.ensures);
       checks = checks_of _ _ _ _ _ _ _ c.check.ensures.carries c.check.ensures.refused;
     }
 
