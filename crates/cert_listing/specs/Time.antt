@@ -3,6 +3,7 @@ use Rattle.std.specs.Prelude.{◌≡◌, ℕ, zero, suc, ◌+◌, ◌-◌, ◌/�
 use Rattle.std.specs.Prelude.{if◌then◌else◌, pos, ◌*ℤ◌, List, [], ◌∷◌, ◌++◌, codes, decimal}
 use Rattle.jiff.specs.Words.{civil_nanos, days_in_month, days_in_year, iso_datetime_text}
 use Rattle.jiff.specs.Types.{DateTime}
+use Rattle.ssh_wire.specs.Ascii.{digit_zero}
 
 -- the first second of the year 9999, counted from 1970
 abbrev pub year_9999 : ℕ
@@ -26,7 +27,7 @@ month_at year (suc steps) month days =
 
 -- two digits
 abbrev pub two_digits : ℕ → List ℕ
-two_digits n = (48 + n / 10) ∷ (48 + n % 10) ∷ []
+two_digits n = (digit_zero + n / 10) ∷ (digit_zero + n % 10) ∷ []
 
 -- `1970-01-01`, given a year, a month, and how many days of the month have passed
 unfoldable pub date_digits : ℕ → ℕ × ℕ → List ℕ

@@ -5,6 +5,7 @@
 use Rattle.std.specs.Prelude.{◌≡◌, ℕ, ◌+◌, ◌/◌, ◌%◌, List, [], ◌∷◌, ◌++◌, Bool, false, ◌&&◌, ◌||◌}
 use Rattle.std.specs.Prelude.{◌==◌, get_or, if◌then◌else◌, nat_le, nat_lt}
 use Rattle.std.specs.Char.{digit_char}
+use Rattle.json.specs.Ascii.{backslash, lower_u}
 use Rattle.json_lines.specs.declared.escapes.Held.{Held}
 use Rattle.json_lines.specs.declared.escapes.Held.TheVariants as held
 
@@ -43,7 +44,7 @@ may_be_control byte = (byte == delete) || is_first byte
 -- the escape of a character below U+10000
 abbrev pub spelled : ℕ → List ℕ
 spelled code =
-    92 ∷ 117 ∷ digit_char (code / 4096) ∷ digit_char (code / 256 % 16)
+    backslash ∷ lower_u ∷ digit_char (code / 4096) ∷ digit_char (code / 256 % 16)
     ∷ digit_char (code / 16 % 16) ∷ digit_char (code % 16) ∷ []
 
 -- the bytes that are not yet written

@@ -1,6 +1,7 @@
 -- The value that a reader reads from the line of a value.
 use Rattle.std.specs.Prelude.{◌≡◌, ℕ, ◌<◌, ◌^◌, ◌==◌, [], ◌∷◌, Some, decimal}
 use Rattle.std.specs.List.{slice_split}
+use Rattle.json.specs.Ascii.{line_feed}
 use Rattle.json.specs.Json.{Json, array, boolean, document, null, number, object, string, Items}
 use Rattle.json.specs.Json.{item, no_items, Members, member, no_members}
 use Rattle.json_lines.specs.Field.{json_line, json_text}
@@ -25,5 +26,5 @@ abbrev mutual
 
 -- The text of a value has no line feed but the one at its end, and is read as exactly this value.
 pub record IsReadBack (value : Json) : Type 0 where
-  pub one_line : slice_split (λ byte. byte == 10) (json_line value) ≡ json_text value ∷ [] ∷ []
+  pub one_line : slice_split (λ byte. byte == line_feed) (json_line value) ≡ json_text value ∷ [] ∷ []
   pub read : document (json_text value) ≡ Some value

@@ -2,14 +2,15 @@
 use Rattle.std.specs.Prelude.{◌≡◌, ℕ, Bool, false, not, ◌-◌, ◌<◌, ◌==◌, ◌||◌, List, [], ◌∷◌, length}
 use Rattle.std.specs.Prelude.{take, drop}
 use Rattle.std.specs.List.{AllPass, prefix_len, suffix_len, take_while}
+use Rattle.ssh_wire.specs.Ascii.{carriage_return, space, tab}
 
 -- a space or a tab
 abbrev pub is_blank : ℕ → Bool
-is_blank byte = (byte == 32) || (byte == 9)
+is_blank byte = (byte == space) || (byte == tab)
 
 -- a blank or a carriage return
 abbrev pub is_ending : ℕ → Bool
-is_ending byte = is_blank byte || (byte == 13)
+is_ending byte = is_blank byte || (byte == carriage_return)
 
 -- without the blanks at its start
 unfoldable pub after_blanks : List ℕ → List ℕ

@@ -6,12 +6,13 @@ use Rattle.md5.specs.Md5.{md5}
 use Rattle.hex.specs.Hex.{encode_lower}
 use Rattle.base64.specs.Engines.{standard_no_pad}
 use Rattle.base64.specs.GeneralPurpose.{encode_of}
+use Rattle.ssh_wire.specs.Ascii.{colon}
 use Rattle.key_text.specs.declared.hash.Hash.{Hash}
 use Rattle.key_text.specs.declared.hash.Hash.TheVariants.{Md5, Sha256}
 
 -- a colon, and the two lower case digits of a byte
 unfoldable pub colon_pair : ℕ → List ℕ
-colon_pair byte = 58 ∷ encode_lower (byte ∷ [])
+colon_pair byte = colon ∷ encode_lower (byte ∷ [])
 
 -- base64 without padding
 unfoldable pub unpadded : List ℕ → List ℕ

@@ -3,16 +3,11 @@
 use Rattle.std.specs.Prelude.{◌≡◌, ◌≢◌, ℕ, false, ◌⊎◌, List, [], ◌∷◌, ◌++◌, Contains}
 use Rattle.base64.specs.Engines.{standard}
 use Rattle.base64.specs.GeneralPurpose.{encode_of}
+use Rattle.ssh_wire.specs.Ascii.{backslash, quote}
 use Rattle.ssh_wire.specs.Wire.{BeginsWith, IsBytes}
 use Rattle.key_text.specs.TypeName.{type_names}
 use Rattle.key_text.specs.Blanks.{AreBlanks, BeginsWithNoBlank, IsWord, first_word, is_blank}
 use Rattle.key_text.specs.Blanks.{trimmed}
-
-abbrev pub backslash : ℕ
-backslash = 92
-
-abbrev pub quote : ℕ
-quote = 34
 
 -- A backslash before a quote always belongs to a pair of the two, so it is not a byte of its own.
 abbrev pub IsNoPair : ℕ → List ℕ → Type 0

@@ -6,6 +6,7 @@ use Rattle.std.specs.Str.{bytes_eq}
 use Rattle.base64.specs.Engines.{standard}
 use Rattle.base64.specs.GeneralPurpose.{decode_of}
 use Rattle.base64.specs.declared.decode.DecodeError.{DecodeError}
+use Rattle.ssh_wire.specs.Ascii.{backslash, quote}
 use Rattle.ssh_wire.specs.Reading.{in_fault, string_at}
 use Rattle.ssh_wire.specs.declared.fault.WireFault.{WireFault}
 use Rattle.key_text.specs.declared.line.Line.{Line}
@@ -14,7 +15,6 @@ use Rattle.key_text.specs.declared.line_fault.LineFault.TheVariants.{NoKey, Base
 use Rattle.key_text.specs.declared.line_fault.LineFault.TheVariants.{NoMemory}
 use Rattle.key_text.specs.TypeName.{is_type_name}
 use Rattle.key_text.specs.Blanks.{is_blank, after_blanks, first_word, trimmed}
-use Rattle.key_text.specs.KeyLine.{backslash, quote}
 
 -- the contents of a line
 pub record KeyLine : Type 0 where

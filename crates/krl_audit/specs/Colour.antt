@@ -1,12 +1,13 @@
 -- Words in colour, as terminals show them (ECMA-48, SELECT GRAPHIC RENDITION).
 use Rattle.std.specs.Prelude.{◌≡◌, ℕ, ◌<◌, ◌^◌, ◌==◌, Bool, true, false, List, ◌∷◌, ◌++◌, codes}
 use Rattle.std.specs.List.{list_any}
+use Rattle.ssh_wire.specs.Ascii.{escape, left_bracket}
 use Rattle.krl_audit.specs.declared.why.Why.{Why}
 use Rattle.krl_audit.specs.declared.why.Why.TheVariants.{NoKeys}
 
 -- the escape sequence that begins a colour, or ends all colours
 abbrev pub rendition : List ℕ → List ℕ
-rendition colour = 27 ∷ 91 ∷ (colour ++ codes "m")
+rendition colour = escape ∷ left_bracket ∷ (colour ++ codes "m")
 
 abbrev pub in_colour : (colour word : List ℕ) → List ℕ
 in_colour colour word = rendition colour ++ (word ++ rendition (codes "0"))
@@ -31,7 +32,7 @@ unread_word coloured = word_text coloured (codes "33") (codes "unread")
 
 -- no byte begins an escape sequence
 abbrev pub HasNoEscape : List ℕ → Type 0
-HasNoEscape text = list_any (λ byte. byte == 27) text ≡ false
+HasNoEscape text = list_any (λ byte. byte == escape) text ≡ false
 
 -- A line in colour is a plain line with one word in a colour. The plain line has no escape
 -- sequence.

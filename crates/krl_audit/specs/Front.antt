@@ -3,6 +3,7 @@ use Rattle.std.specs.Prelude.{ℕ, ◌-◌, ◌==◌, ◌||◌, Bool, true, fals
 use Rattle.std.specs.Prelude.{length, nat_eq, take}
 use Rattle.std.specs.List.{ends_with, suffix_len}
 use Rattle.std.specs.Str.{bytes_eq}
+use Rattle.ssh_wire.specs.Ascii.{slash}
 use Rattle.key_text.specs.Blanks.{is_blank}
 use Rattle.krl_audit.specs.declared.front.Fronts.{Fronts}
 use Rattle.krl_audit.specs.declared.front.Fronts.TheVariants as fronts
@@ -21,10 +22,10 @@ front_before line part = before_blanks (take (length line - length part) line)
 -- ---- names of files
 
 abbrev pub is_slash : ℕ → Bool
-is_slash byte = byte == 47
+is_slash byte = byte == slash
 
 abbrev pub is_no_slash : ℕ → Bool
-is_no_slash byte = not (byte == 47)
+is_no_slash byte = not (byte == slash)
 
 -- up to its last slash
 unfoldable pub to_slash : List ℕ → List ℕ

@@ -3,13 +3,14 @@ use Rattle.std.specs.Prelude.{ℕ, Bool, ◌+◌, ◌==◌, nat_lt, if◌then◌
 use Rattle.std.specs.Prelude.{drop, codes, Option, None, option_map}
 use Rattle.std.specs.List.{before_first, find, position_or_len}
 use Rattle.std.specs.Str.{str_eq_ignore_ascii_case}
+use Rattle.ssh_wire.specs.Ascii.{colon}
 use Rattle.key_text.specs.Blanks.{after_blanks}
 use Rattle.krl_spec.specs.declared.directive.Directive.{Directive}
 use Rattle.krl_spec.specs.declared.directive.Directive.TheVariants.{Serial, Id, Key, Sha1, Sha256}
 use Rattle.krl_spec.specs.declared.directive.Directive.TheVariants.{Hash}
 
 abbrev pub is_colon : ℕ → Bool
-is_colon byte = byte == 58
+is_colon byte = byte == colon
 
 -- the name of a directive, in lower case
 abbrev pub name_of : Directive → List ℕ

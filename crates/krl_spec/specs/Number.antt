@@ -5,6 +5,7 @@ use Rattle.std.specs.Prelude.{◌∷◌, length, drop, Option, Some, None, Resul
 use Rattle.std.specs.Char.{is_digit}
 use Rattle.std.specs.List.{before_first, list_all, position_or_len}
 use Rattle.std.specs.Str.Parse.{digits_value}
+use Rattle.ssh_wire.specs.Ascii.{digit_zero, hyphen, lower_x, upper_x}
 use Rattle.key_text.specs.Blanks.{after_blanks}
 use Rattle.krl_spec.specs.Blanks.{before_blanks}
 use Rattle.krl_spec.specs.declared.number.Bounds.{Bounds}
@@ -18,13 +19,13 @@ pub record Spelling : Type 0 where
 
 -- the second byte is not `x`, or the first is not `0`
 abbrev pub plain_spelling : ℕ → List ℕ → Spelling
-plain_spelling first rest = record { base = if first == 48 then 8 else 10; digits = first ∷ rest }
+plain_spelling first rest = record { base = if first == digit_zero then 8 else 10; digits = first ∷ rest }
 
 abbrev pub spelling : List ℕ → Spelling
 spelling [] = record { base = 10; digits = [] }
 spelling (first ∷ []) = plain_spelling first []
 spelling (first ∷ second ∷ rest) =
-    if first == 48 && (second == 120 || second == 88) then record { base = 16; digits = rest }
+    if first == digit_zero && (second == lower_x || second == upper_x) then record { base = 16; digits = rest }
     else plain_spelling first (second ∷ rest)
 
 -- at least one digit, each of the base, and the number is below 2^64
@@ -47,7 +48,7 @@ both (Some lo) None = None
 both (Some lo) (Some hi) = Some (record { lo = lo; hi = hi })
 
 abbrev pub is_hyphen : ℕ → Bool
-is_hyphen byte = byte == 45
+is_hyphen byte = byte == hyphen
 
 -- a number, or two around a hyphen and blanks
 unfoldable pub bounds_of_text : List ℕ → Option Bounds

@@ -4,6 +4,7 @@ use Rattle.std.specs.Prelude.{codes, slice_index, ⊤}
 use Rattle.std.specs.List.{AllPass, prefix_len, suffix_len}
 use Rattle.std.specs.Str.{byte, str_to_ascii_lowercase}
 use Rattle.std.specs.Str.Parse.{IsNumeral, digits_value}
+use Rattle.ssh_wire.specs.Ascii.{number_sign}
 use Rattle.key_text.specs.Blanks.{BeginsWithNoBlank, is_blank, is_ending}
 use Rattle.krl_spec.specs.Blanks.{is_hash}
 use Rattle.krl_spec.specs.Directive.{name_of}
@@ -49,7 +50,7 @@ pub record IsOrder (text : List ℕ) (directive : Directive) (given : List ℕ) 
 -- nothing, or a `#` and what follows it
 abbrev pub IsRemark : List ℕ → Type 0
 IsRemark [] = ⊤
-IsRemark (byte ∷ bytes) = byte ≡ 35
+IsRemark (byte ∷ bytes) = byte ≡ number_sign
 
 -- The content of a line: it is before the first `#`, and neither of its ends is a blank or a
 -- carriage return.

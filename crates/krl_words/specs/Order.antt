@@ -7,6 +7,9 @@ use Rattle.option_table.specs.Argument.{letter_of}
 use Rattle.krl_words.specs.declared.order.Letters.{Letters}
 use Rattle.krl_words.specs.declared.order.Place.{Place}
 
+abbrev pub hyphen : ℕ
+hyphen = 45
+
 -- an option with a value: -f, -E, -s or -z
 abbrev pub takes_value : ℕ → Bool
 takes_value letter = letter == letter_of (codes "f")
@@ -46,8 +49,8 @@ abbrev pub other_met : Place → List ℕ → Place
 other_met place [] = file_met place
 other_met place (first ∷ []) = file_met place
 other_met place (first ∷ second ∷ rest) =
-    if first == 45 && second == 45 then record place { is_file = length rest == 0 }
-    else (if first == 45 then authority_met place (letters_met second rest) else file_met place)
+    if first == hyphen && second == hyphen then record place { is_file = length rest == 0 }
+    else (if first == hyphen then authority_met place (letters_met second rest) else file_met place)
 
 -- what precedes the word after this one
 abbrev pub word_met : Place → List ℕ → Place

@@ -5,6 +5,7 @@ use Rattle.std.specs.Prelude.{if◌then◌else◌}
 use Rattle.std.specs.Char.{encode_utf8, is_control}
 use Rattle.std.specs.List.{flat_map}
 use Rattle.std.specs.Str.{chars, is_utf8}
+use Rattle.ssh_wire.specs.Ascii.{backslash, quote}
 use Rattle.ssh_cert.specs.Escape.{numbered}
 
 -- U+061C, U+200E, U+200F, U+202A to U+202E, and U+2066 to U+2069, which change the order in which a
@@ -19,7 +20,8 @@ unfoldable pub visible_char : Bool → ℕ → List ℕ
 visible_char quoted code =
     if is_control code then numbered code
     else if is_bidi_or_line_end code then flat_map numbered (encode_utf8 code)
-    else if quoted && (code == 34 || code == 92) then 92 ∷ code ∷ [] else encode_utf8 code
+    else if quoted && (code == quote || code == backslash) then backslash ∷ code ∷ []
+    else encode_utf8 code
 
 -- a byte of a text that is not UTF-8
 unfoldable pub visible_byte : Bool → ℕ → List ℕ

@@ -6,6 +6,7 @@ use Rattle.std.specs.List.{concat, ends_with, list_all, starts_with}
 use Rattle.base64.specs.Engines.{standard}
 use Rattle.base64.specs.GeneralPurpose.{encode_of}
 use Rattle.hex.specs.Hex.{encode_lower}
+use Rattle.ssh_wire.specs.Ascii.{number_sign, space, tilde}
 use Rattle.serial_set.specs.declared.span.Span.{Span}
 use Rattle.ssh_key.specs.Key.{PublicKey}
 use Rattle.ssh_key.specs.KeyReading.{key_at}
@@ -54,7 +55,7 @@ serials_line span =
 
 -- ASCII without control characters and without `#`
 abbrev pub is_text_byte : ℕ → Bool
-is_text_byte byte = nat_le 32 byte && (nat_le byte 126 && not (byte == 35))
+is_text_byte byte = nat_le space byte && (nat_le byte tilde && not (byte == number_sign))
 
 abbrev pub has_blank_end : List ℕ → Bool
 has_blank_end id =

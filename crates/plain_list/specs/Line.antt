@@ -2,6 +2,7 @@
 use Rattle.std.specs.Prelude.{ℕ, ◌==◌, Bool, true, false, not, List, [], ◌∷◌, length, Option, Some}
 use Rattle.std.specs.Prelude.{None}
 use Rattle.std.specs.List.{take_while}
+use Rattle.ssh_wire.specs.Ascii.{number_sign}
 use Rattle.key_text.specs.Blanks.{after_blanks, trimmed}
 use Rattle.key_text.specs.LineReading.{key_part}
 
@@ -16,7 +17,7 @@ content_of line = after_blanks (before_zero line)
 -- The content is empty or a comment.
 abbrev pub is_remark : List ℕ → Bool
 is_remark [] = true
-is_remark (byte ∷ bytes) = byte == 35
+is_remark (byte ∷ bytes) = byte == number_sign
 
 -- the part of a line from its type name on is the whole line
 abbrev pub is_whole : List ℕ → Option (List ℕ) → Bool

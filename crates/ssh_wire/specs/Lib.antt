@@ -5,3 +5,4 @@ pub mod Put
 pub mod Laws
 pub mod Rows
 pub mod PullFault
+pub mod Ascii

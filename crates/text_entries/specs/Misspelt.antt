@@ -2,6 +2,7 @@
 use Rattle.std.specs.Prelude.{ℕ, ◌-◌, ◌==◌, ◌||◌, Bool, List, Option, option_map, slice_get}
 use Rattle.std.specs.List.{before_first, find, slice_split}
 use Rattle.std.specs.Str.{str_to_ascii_lowercase}
+use Rattle.ssh_wire.specs.Ascii.{colon, equals_sign}
 use Rattle.key_text.specs.Blanks.{is_blank}
 use Rattle.key_text.specs.Lines.{is_newline}
 use Rattle.text_entries.specs.OneOff.{is_one_off}
@@ -31,7 +32,7 @@ misspelt_word name = option_map (misspelt name) (meant name)
 
 -- a misspelt word ends before a colon, an equals sign or a blank
 abbrev pub is_word_end : ℕ → Bool
-is_word_end byte = byte == 58 || (byte == 61 || is_blank byte)
+is_word_end byte = byte == colon || (byte == equals_sign || is_blank byte)
 
 -- what a line's content begins with, up to the end of a word, if a word was meant
 unfoldable pub misspelt_in : List ℕ → Option Misspelt

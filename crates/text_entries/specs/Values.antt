@@ -8,6 +8,7 @@ use Rattle.base64.specs.GeneralPurpose.{decode_of}
 use Rattle.base64.specs.declared.decode.DecodeError.{DecodeError}
 use Rattle.hex.specs.Hex.{decode_of as hex_decode_of}
 use Rattle.hex.specs.declared.error.FromHexError.{FromHexError}
+use Rattle.ssh_wire.specs.Ascii.{delete, space}
 use Rattle.ssh_wire.specs.Reading.{◌>>=◌, in_fault}
 use Rattle.key_text.specs.Blanks.{first_word, is_blank}
 use Rattle.key_text.specs.TypeName.{is_type_name}
@@ -114,7 +115,7 @@ looks_like_key text = has_blank (take 64 text) && begins_with_key text
 
 -- the control characters of ASCII
 abbrev pub is_control : ℕ → Bool
-is_control byte = nat_lt byte 32 || byte == 127
+is_control byte = nat_lt byte space || byte == delete
 
 abbrev pub has_control : List ℕ → Bool
 has_control text = list_any is_control text
