@@ -419,7 +419,7 @@ mkdir linked && echo "$b" >linked/0.pub
 for it in {1..300}; do ln linked/0.pub linked/$it.pub; done
 audits 'three hundred links to a file' 0 \
   '1 file, 1 key: 0 revoked in 0 files, 0 unread, 300 audited before' '' -q linked
-# The names stand in the order of their bytes: the first one is read, and 20 others are printed.
+# The names are in the order of their bytes: the first one is read, and 20 others are printed.
 mkdir same && echo "$g" >same/10.pub
 for it in {11..40}; do ln same/10.pub same/$it.pub; done
 others=$(printf '\nsame/%s.pub: same: it was audited before' {11..30})

@@ -1,4 +1,4 @@
--- What is told one after the other.
+-- The readings of several steps, one after the other.
 use Rattle.std.proofs.Common.{◌≡◌, ◌∙◌, [], ◌++◌, append_assoc, append-nil, ap, List, None, Option, refl, Some, sym}
 use Rattle.any_list.specs.Told.{Reading, Tells, told_more}
 
@@ -13,7 +13,7 @@ more_twice (Some told) xs ys = ap Some (append_assoc told xs ys)
 pub told_then : (before mid after : Option (List Reading)) (xs ys : List Reading) → mid ≡ told_more before xs → after ≡ told_more mid ys → after ≡ told_more before (xs ++ ys)
 told_then before mid after xs ys first second = second ∙ (ap (λ (m : Option (List Reading)). told_more m ys) first ∙ more_twice before xs ys)
 
--- what one step tells, and then another
+-- the readings of one step, and then those of another
 pub tells_then : (Are More All : List Reading → Type 0) (before mid after : Option (List Reading)) → ((xs ys : List Reading) → Are xs → More ys → All (xs ++ ys))
     → Tells before mid Are → Tells mid after More → Tells before after All
 tells_then Are More All before mid after both first second = record {

@@ -1,4 +1,4 @@
--- What a run has read so far, in order.
+-- The files and moments that a run has read, in their order.
 use Rattle.std.specs.Prelude.{◌≡◌, ℕ, List, ◌++◌, Option, Some, None, Result}
 use Rattle.run_faults.specs.declared.cause.Cause.{Cause}
 use Rattle.krl_audit.specs.declared.why.Refusal.{Refusal}
@@ -11,12 +11,12 @@ pub data Reading : Type 0 where
   -- the present moment, in seconds since 1970, if the clock can be read
   ClockRead : Option ℕ → Reading
 
--- some more after all that was told, if that is known
+-- the readings so far, if they are known, and then more readings
 abbrev pub told_more : Option (List Reading) → List Reading → Option (List Reading)
 told_more None more = None
 told_more (Some told) more = Some (told ++ more)
 
--- Exactly this was told in between, in this order, and it is so.
+-- Exactly these readings were added, in this order, and `Are` is true of them.
 pub record Tells (before after : Option (List Reading)) (Are : List Reading → Type 0) : Type 0
   where
     pub told : List Reading

@@ -1,4 +1,4 @@
--- What was printed is sent.
+-- The printed output is sent.
 use Rattle.std.proofs.Common.{ℕ, List, [], Option, Result, Ok, Err, subst}
 use Rattle.std.proofs.lemmas.List.{append-nil}
 use Rattle.run_faults.specs.RunFault.{RunFault}

@@ -22,7 +22,7 @@ left_in left (Some reader) = Some (left reader)
 -- ---- its bytes
 
 -- Why reading ended, with this many bytes in the buffer, at a reader that has these bytes left and
--- failed or not: it has no more, it failed, or so many bytes were wanted.
+-- failed or not: it has no more, it failed, or the buffer has as many bytes as may be read.
 abbrev pub HasCome : (most : ℕ) → Option (List ℕ) → (failed : Bool) → ℕ → Came → Type 0
 HasCome most left failed size cames.All = (size < most) × IsAtEnd left × (failed ≡ false)
 HasCome most left failed size cames.More = (most ≤ size) × (failed ≡ false)

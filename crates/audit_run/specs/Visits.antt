@@ -160,7 +160,8 @@ all_tallied reasons tally (visit ∷ visits) =
 abbrev pub is_seen : Files → List ℕ → Bool
 is_seen files key = contains (slice_cmp nat_cmp) files.seen key
 
--- A file with a key is audited exactly if none with this key was. Its first other names are printed.
+-- A file with a key is audited exactly if none with this key was. Its first other names are
+-- printed.
 abbrev pub IsTimely : Tally → Visit → Type 0
 IsTimely tally (Audited None name content) = Unit {0}
 IsTimely tally (Audited (Some key) name content) = is_seen tally.files key ≡ false

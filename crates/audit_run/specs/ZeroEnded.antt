@@ -54,8 +54,8 @@ HasEnded Failed now cames.All = IsAtEnd now.left
 HasEnded Failed now cames.More = now.room ≡ 0
 HasEnded Failed now cames.Failed = (now.failed ≡ true) × Failed
 
--- A name came, or the front of one that no zero byte ends, after which no more bytes come. Of one
--- that is longer than most names its front is kept, with one byte more.
+-- A name came, or the front of one that no zero byte ends, after which no more bytes come. If it
+-- has more than `most` bytes, only the first `most + 1` are kept.
 abbrev pub IsNext : (Failed : Type 0) → (most : ℕ) → (old new : Unread) → (name : List ℕ)
     → Result (Unit {0}) Came → Type 0
 IsNext Failed most old new name (Ok done) =

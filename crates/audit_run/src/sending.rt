@@ -30,7 +30,7 @@ pub(crate) fn audit_and_send<'a, W: Sink>(
     }
 }
 
-/// Says that a name leads to a file that was audited before, if this is told.
+/// Prints that a name leads to a file that was audited before, if `is_told` is true.
 pub(crate) fn say_same_if<'a, W: Sink>(
     auditor: &mut Auditor<'_, '_, W>,
     name: &'a str,

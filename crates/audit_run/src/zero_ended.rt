@@ -63,9 +63,9 @@ impl<N: Source + Drop> ZeroEnded<N> {
         &self.reader
     }
 
-    /// Replaces a buffer by the next name. Of one with more than `most` bytes only the front is
-    /// kept, with one byte more. Returns why there is none, and then the buffer has the bytes that
-    /// no zero byte ends.
+    /// Replaces the content of a buffer by the next name. If the name has more than `most` bytes,
+    /// only the first `most + 1` are kept. Returns why there is no next name, and then the buffer
+    /// has the bytes that no zero byte ends.
     pub(crate) fn next(
         &mut self,
         most: usize,

@@ -15,10 +15,10 @@ ghost use Rattle.check_run.specs.Run.{EndsCheckRun, Judged, list_fails};
 ghost use Rattle.check_run.specs.Superset.{RevokesAll};
 ghost use Rattle.check_run.specs.declared.lists.Lost.{Lost as LostOf};
 
-/// A list that lacks no name of another one revokes all that the other one revokes. So does a list
-/// for which no condition fails, where one of the conditions is that it names all that the other
-/// one names. Where a run with `--superset-of` ends with status 0, the list is read and so is the
-/// other one, and the list revokes all that the other one revokes, unless only the version was
+/// A list that lacks no name of another one revokes all that the other one revokes. A list for
+/// which no condition fails does so too, where one of the conditions is that it names all that the
+/// other one names. Where a run with `--superset-of` ends with status 0, the list is read and so is
+/// the other one, and the list revokes all that the other one revokes, unless only the version was
 /// asked for.
 pub fn passed_revokes_all()
     ensures lost { (own others : List Entry) (lost : Revocations) → AreLost own others lost

@@ -26,5 +26,6 @@ abbrev mutual
 
 -- The text of a value has no line feed but the one at its end, and is read as exactly this value.
 pub record IsReadBack (value : Json) : Type 0 where
-  pub one_line : slice_split (λ byte. byte == line_feed) (json_line value) ≡ json_text value ∷ [] ∷ []
+  pub one_line : slice_split (λ byte. byte == line_feed) (json_line value)
+      ≡ json_text value ∷ [] ∷ []
   pub read : document (json_text value) ≡ Some value

@@ -70,7 +70,7 @@ impl LineWriter {
     }
 }
 
-/// Makes the line of an object with these fields, in place of what the line held.
+/// Replaces the content of `line` by the line of an object with these fields.
 pub fn write_object<F: Fields + Drop>(line: &mut Vec<u8>, fields: F) -> Result<(), AllocError>
     ensures { OnOk result (line.new.items ≡ json_line (object_of (F.fields fields))) }
 {

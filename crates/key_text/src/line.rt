@@ -7,8 +7,9 @@ ghost use Rattle.key_text.specs.Blanks.{first_word};
 ghost use Rattle.key_text.specs.KeyLine.{IsKeyLine};
 ghost use Rattle.key_text.specs.TypeName.{is_type_name};
 ghost use Rattle.key_text.specs.LineFaults.{IsReportedFault};
-ghost use Rattle.key_text.specs.LineReading.{ReportsFault, blob_at, content, content_at, content_of};
-ghost use Rattle.key_text.specs.LineReading.{decoded, has_word, host_part, key_part, line_at};
+ghost use Rattle.key_text.specs.LineReading.{ReportsFault, blob_at, content, content_at};
+ghost use Rattle.key_text.specs.LineReading.{content_of, decoded, has_word, host_part, key_part};
+ghost use Rattle.key_text.specs.LineReading.{line_at};
 
 use crate::line_fault::LineFault;
 use crate::type_name::is_type_name;

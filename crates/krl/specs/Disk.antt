@@ -1,5 +1,5 @@
--- The kind of file that a path leads to, by the mode of the file that is there (inode(7)), and whether it is the
--- null device.
+-- The kind of file that a path leads to, by the mode of the file that is there (inode(7)), and
+-- whether it is the null device.
 use Rattle.std.specs.Prelude.{◌==◌, Bool, if◌then◌else◌}
 use Rattle.std.specs.Fs.{file_type}
 use Rattle.std.specs.declared.fs.attrs.Metadata.{Metadata}

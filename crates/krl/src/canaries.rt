@@ -88,8 +88,8 @@ fn read_canary(
     }
 }
 
-// Whether a list revokes each key of a file, as `krl check --canary` asks. What that would print is
-// left out.
+// Whether a list revokes each key of a file, as `krl check --canary` asks. The lines that the
+// check prints are dropped.
 fn is_met<'a>(
     alloc: Global,
     list: &Revocations<Held>,

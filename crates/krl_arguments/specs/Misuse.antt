@@ -41,8 +41,9 @@ text_of_misuse misuses.ExcludesPath =
 text_of_misuse misuses.WrongAge = error_text
     (codes "--max-age takes a number and one of s, m, h and d, as in 24h")
     (codes "check --max-age <duration> <krl>")
-text_of_misuse misuses.WrongMost =
-    error_text (codes "--max-cas takes a number below 2^53") (codes "check --max-cas <number> <krl>")
+text_of_misuse misuses.WrongMost = error_text
+    (codes "--max-cas takes a number below 2^53")
+    (codes "check --max-cas <number> <krl>")
 text_of_misuse misuses.VersionAlone = error_text
     (codes "--print-version goes with no other option")
     (codes "check --print-version <krl>")

@@ -1,4 +1,4 @@
--- What entries mean for keys and canaries is what a list that was read answers.
+-- A list that was read answers queries for keys and canaries as its entries do.
 use Rattle.std.specs.Borrow.{Bor}
 use Rattle.std.proofs.Common.{◌≡◌, Bool, List, Option, Some, None, ap, ◌∙◌}
 use Rattle.krl_types.specs.Entry.{Entry}

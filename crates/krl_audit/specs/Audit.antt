@@ -211,7 +211,8 @@ reasons_unless false reasons = reasons
 abbrev pub reasons_beside : Option (Bor Revocations) → Revocations → Subject → Reasons
 reasons_beside None list asked = held_reasons list asked
 reasons_beside (Some canaries) list asked =
-    reasons_unless (has_reason (held_reasons canaries.now asked) reason_of_key) (held_reasons list asked)
+    reasons_unless (has_reason (held_reasons canaries.now asked) reason_of_key)
+    (held_reasons list asked)
 
 abbrev pub judged_reasons : Judge → Subject → Reasons
 judged_reasons judge asked = reasons_beside judge.canaries judge.list.now asked
@@ -226,7 +227,8 @@ JudgesAs judge reasons = (asked : Subject) → judged_reasons judge asked ≡ re
 abbrev pub reasons_but : Option (List Entry) → List Entry → Subject → Reasons
 reasons_but None entries = reasons_of entries
 reasons_but (Some canaries) entries =
-    λ asked. reasons_unless (has_reason (reasons_of canaries asked) reason_of_key) (reasons_of entries asked)
+    λ asked. reasons_unless (has_reason (reasons_of canaries asked) reason_of_key)
+    (reasons_of entries asked)
 
 -- These entries have the keys that are canaries.
 abbrev pub MeanCanaries : Option (Bor Revocations) → Option (List Entry) → Type 0

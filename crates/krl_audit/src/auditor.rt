@@ -53,9 +53,9 @@ pub struct Auditor<'q, 'w, W: Sink> {
 impl<'q, 'w, W: Sink> Auditor<'q, 'w, W> {
     /// Audits a file, given its bytes or why there are none: prints the findings of each of its
     /// lines after the earlier findings, and counts the lines. Each finding depends only on the
-    /// list's entries and the canaries, on the name and on the bytes. The first 20 lines with a revoked key are
-    /// printed one by one, and then how many more there are; so are the lines that are not read,
-    /// and those with a key that is not revoked.
+    /// list's entries and the canaries, on the name and on the bytes. The first 20 lines with a
+    /// revoked key are printed one by one, and then how many more there are; so are the lines that
+    /// are not read, and those with a key that is not revoked.
     pub fn audit_file<'a>(
         &mut self,
         name: &'a str,

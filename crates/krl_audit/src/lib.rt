@@ -30,6 +30,5 @@ pub use fault_text::refusal_fault;
 pub use front::{Fronts, is_read_by_lines, reads_every};
 pub use judge::{Form, Judge, Shown};
 pub use keyless::keyless_lines;
-pub use objects::Fingerprint;
 pub use outcome::{Found, Outcome, Outcomes, read_outcomes};
 pub use why::{Refusal, Why, refusal_words};

@@ -84,7 +84,7 @@ impl Fields for Why {
 
 /// The fingerprint of a key.
 #[derive(Drop)]
-pub struct Fingerprint<'a>(pub &'a [u8]);
+pub(crate) struct Fingerprint<'a>(pub(crate) &'a [u8]);
 
 impl<'a> Value for Fingerprint<'a> {
     ghost field = { λ name key. text_field name (fingerprint_text Sha256 key.0.now) };

@@ -42,7 +42,7 @@ fn kind_word(condition: Condition<'_>) -> &'static str
     }
 }
 
-// What was found.
+// The finding of a condition: the last fields of its object.
 #[derive(Drop)]
 struct Finding<'a>(Condition<'a>);
 

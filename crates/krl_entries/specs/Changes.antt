@@ -95,8 +95,8 @@ HoldsMore (Item kind item) old new = new ≡ old
 abbrev pub MeansMore : (old new : Revocations) (more : List Entry) → Type 0
 MeansMore old new more = (entries : List Entry) → Means old entries → Means new (entries ++ more)
 
--- Certificates of an authority are revoked, by an addition of this number of bytes. What was named
--- stays named. The bytes of the authority count once, and keys and hashes do not change.
+-- An addition of this number of bytes revokes certificates of an authority. Each authority that was
+-- named stays named. The bytes of the authority count once, and keys and hashes do not change.
 pub record ChangesUnder (authority : List ℕ) (bytes : ℕ) (old new : Revocations) : Type 0 where
   pub orderly : IsOrderly old
   pub grows : stored new ≤ stored old + length authority + bytes

@@ -9,7 +9,8 @@ use Rattle.krl_entries.specs.Revocations.{Revocations, Section}
 use Rattle.krl_entries.specs.declared.facts.Fact.{Fact as FactOf}
 use Rattle.krl_entries.specs.declared.facts.Fact.TheVariants as facts
 
--- A fact about stored entries. An authority is given by its bytes, and no bytes mean all authorities.
+-- A fact about stored entries. An authority is given by its bytes, and no bytes mean all
+-- authorities.
 pub data Fact : Type 0 where
   -- the authority of the serial numbers and key IDs that follow
   AuthorityFact : (authority : List ℕ) → Fact

@@ -10,7 +10,8 @@ use Rattle.krl_format.specs.declared.place.Place.TheVariants as places
 use Rattle.krl_format.specs.declared.place.field.Field.TheVariants as fields
 use Rattle.krl_types.specs.Entry.{Entry}
 use Rattle.krl_format.specs.Field.{empty_header}
-use Rattle.krl_format.specs.Place.{can_end, Expected, expected, names, authority_after, header_after}
+use Rattle.krl_format.specs.Place.{can_end, Expected, expected, names, authority_after}
+use Rattle.krl_format.specs.Place.{header_after}
 
 -- at most this many bytes of a list are read
 abbrev pub limit : ℕ

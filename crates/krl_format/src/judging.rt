@@ -2,8 +2,8 @@
 
 ghost use Rattle.std.specs.Prelude.{◌≡◌, ◌==◌, ◌-◌, ◌<◌, ◌≤◌};
 ghost use Rattle.krl_format.specs.Place.{base_of, within as within_of};
-ghost use Rattle.krl_format.specs.Place.{bits_judged as bits_judged_of, passes_end as passes_end_of};
-ghost use Rattle.krl_format.specs.Place.{next_bits as bits_after};
+ghost use Rattle.krl_format.specs.Place.{bits_judged as bits_judged_of, next_bits as bits_after};
+ghost use Rattle.krl_format.specs.Place.{passes_end as passes_end_of};
 ghost use Rattle.krl_format.specs.Section.{judge as judged_by, next_item as item_after};
 ghost use Rattle.krl_format.specs.Section.{next_serial as serial_after};
 ghost use Rattle.krl_format.specs.Section.{next_subsection as subsection_after};

@@ -65,7 +65,7 @@ EndsMode modes.Certs job status = IsListed lists.Certs job status
 EndsMode modes.Make job status = (status ≡ 255) ⊎ ((status ≡ 0) × IsMade job)
 EndsMode modes.Query job status = (status ≡ 255) ⊎ IsQueried job status
 
--- What the words ask for was done, or they were refused.
+-- The job of the words was done, or the words were refused.
 pub data EndsKeygen (words : List (List ℕ)) (status : ℕ) : Type 0 where
   done : (job : Job) → IsCommand words (Ok job) → EndsMode job.mode job status
       → EndsKeygen words status

@@ -19,13 +19,15 @@ pub record Spelling : Type 0 where
 
 -- the second byte is not `x`, or the first is not `0`
 abbrev pub plain_spelling : ℕ → List ℕ → Spelling
-plain_spelling first rest = record { base = if first == digit_zero then 8 else 10; digits = first ∷ rest }
+plain_spelling first rest =
+    record { base = if first == digit_zero then 8 else 10; digits = first ∷ rest }
 
 abbrev pub spelling : List ℕ → Spelling
 spelling [] = record { base = 10; digits = [] }
 spelling (first ∷ []) = plain_spelling first []
 spelling (first ∷ second ∷ rest) =
-    if first == digit_zero && (second == lower_x || second == upper_x) then record { base = 16; digits = rest }
+    if first == digit_zero && (second == lower_x || second == upper_x)
+    then record { base = 16; digits = rest }
     else plain_spelling first (second ∷ rest)
 
 -- at least one digit, each of the base, and the number is below 2^64

@@ -1,7 +1,7 @@
 //! Adding the entries that directives and subjects name (ssh-keygen(1), KEY REVOCATION LISTS).
 
-ghost use Rattle.std.specs.Prelude.{◌≡◌, ◌+◌, ◌≤◌, ℕ, List, [], ◌∷◌, MatchResult, None, OnErr, OnOk};
-ghost use Rattle.std.specs.Prelude.{Some};
+ghost use Rattle.std.specs.Prelude.{◌≡◌, ◌+◌, ◌≤◌, ℕ, List, [], ◌∷◌, MatchResult, None, OnErr};
+ghost use Rattle.std.specs.Prelude.{OnOk, Some};
 ghost use Rattle.krl_entries.specs.Changes.{MeansMore};
 ghost use Rattle.krl_entries.specs.Revocations.{held};
 ghost use Rattle.run_faults.specs.declared.spec_cause.SpecCause.TheVariants.{NoAuthority};

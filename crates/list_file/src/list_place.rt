@@ -60,7 +60,7 @@ pub struct ListPlace<'a> {
     stream: Option<File>,
     // Whether the old list is a pipe or a device, and the new one is put into such a one only.
     is_streamed: bool,
-    // What is under the name, while it is held.
+    // The file under the name, while it is held.
     locked: Option<Locked>,
 }
 
@@ -106,7 +106,7 @@ impl<'a> ListPlace<'a> {
         }
     }
 
-    // Holds what is under the name, unless it is held already. Returns whether it is held, and is
+    // Holds the file under the name, unless it is held already. Returns whether it is held, and is
     // open for reading if it is read.
     fn lock(&mut self, is_read: bool) -> Result<bool, Cause>
         ensures held { (locked : LockedOf) → self.old.locked ≡ Some locked → result ≡ Ok true }
@@ -156,7 +156,7 @@ impl<'a> ListPlace<'a> {
         }
     }
 
-    // What follows after a list was written. What is under the name stays held if a list of this
+    // The next step after a list was written. The file under the name stays held if a list of this
     // run replaced one that it does not follow, so that the next list follows that one.
     fn after(&mut self, written: Written) -> Put
         ensures all { (count : ℕ) → result ≡ Put.Whole count → written ≡ Written.Whole count }

@@ -118,7 +118,7 @@ fn ask_new(rt: &HostRuntime, name: &str, file: File, list: Option<&Metadata>) ->
 
 // Takes the lock with a file that exists already, of an update that is at work or was killed. Only
 // a file of someone who may write the list is opened: another user could make the call wait, by a
-// lease on the file. What was opened is looked at again, since it may be another file by then. A
+// lease on the file. The opened file is looked at again, since it may be another one by then. A
 // pipe that is opened to be read and written makes no call wait.
 fn ask_other(
     rt: &HostRuntime,

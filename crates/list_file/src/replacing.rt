@@ -21,7 +21,7 @@ const UNWRITTEN: Cause = Cause::Output { count: 0 };
 /// The result of writing a list.
 #[derive(Clone, Copy)]
 pub enum Written {
-    /// All of it is written under its name: so many bytes.
+    /// The whole list is written under its name: this number of bytes.
     Whole(u64),
     /// Its name leads to another file by now, or that file was changed. The list must be made anew.
     Elsewhere,
@@ -157,8 +157,8 @@ fn replace(rt: &HostRuntime, destination: Destination<'_>, text: &[u8]) -> Resul
     }
 }
 
-// Says how the new list of so many bytes got its name. The old list may have been written in place
-// right before that, by an update that ended well.
+// Says how the new list, which has `count` bytes, got its name. The old list may have been written
+// in place right before that, by an update that ended well.
 fn put_at(rt: &HostRuntime, destination: Destination<'_>, put: PutList, count: u64) -> Put
     ensures all { (other : ℕ) → result ≡ Put.Whole other → other ≡ count }
 {

@@ -1,4 +1,4 @@
--- What is under a name through several calls.
+-- The list under a name through several calls.
 use Rattle.std.proofs.Common.{◌≡◌, ℕ, ◌⊎◌, List, Option, inl, inr}
 use Rattle.run_faults.specs.declared.cause.Cause.{Cause}
 use Rattle.list_making.specs.Place.{IsCut, IsKept}

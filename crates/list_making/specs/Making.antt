@@ -21,8 +21,8 @@ pub data WhyUnput {P F : Type 0} (base : P → Old → Type 0) (reads : Bool)
   unheld : (cause : Cause) → fault ≡ fault_of cause
       → WhyUnput base reads Refuses fault_of new fault
 
--- What was under the name still is there, unless another program changed it, or the list was
--- written in place and the fault says how much of it.
+-- The list that was under the name still is there, unless another program changed it, or the new
+-- list was written in place and the fault says how much of it.
 abbrev pub IsUntouched : {P F : Type 0} → (holds : P → Option (List ℕ) → Type 0)
     → (overtaken : P → Type 0) → (fault_of : Cause → F) → (old new : P) → F → Type 0
 IsUntouched holds overtaken fault_of old new fault =

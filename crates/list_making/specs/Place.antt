@@ -1,4 +1,4 @@
--- What happens to the list under a name.
+-- How the list under a name changes.
 use Rattle.std.specs.Prelude.{ℕ, ◌<◌, ◌⊎◌, List, Option}
 use Rattle.run_faults.specs.declared.cause.Cause.{Cause}
 use Rattle.run_faults.specs.declared.cause.Cause.TheVariants.{Output}
@@ -7,8 +7,8 @@ use Rattle.run_faults.specs.declared.cause.Cause.TheVariants.{Output}
 abbrev pub Old : Type 0
 Old = Option (Option (List ℕ))
 
--- What may have been under the name still may be there, or another program changed it. A change by
--- another program is not forgotten.
+-- Each content that may have been under the name still may be there, or another program changed it.
+-- A change by another program is not forgotten.
 pub record IsKept {P : Type 0} (holds : P → Option (List ℕ) → Type 0) (overtaken : P → Type 0)
     (old new : P) : Type 0 where
   pub still : ((content : Option (List ℕ)) → holds old content → holds new content) ⊎ overtaken new

@@ -21,13 +21,13 @@ const TRIES: u32 = 10_000;
 pub struct Made<T: Drop> {
     /// Its bytes.
     pub bytes: Vec<u8>,
-    /// What its maker says about it.
+    /// The facts that its maker states about it.
     pub facts: T,
 }
 
-/// What makes the bytes of a list, perhaps over those of an old one.
+/// A maker of the bytes of a list, perhaps over those of an old one.
 pub trait Maker {
-    /// What it says about a list that it made.
+    /// The facts that it states about a list that it made.
     type Facts: Drop;
 
     /// Why it makes none.

@@ -11,7 +11,7 @@ use run_faults::Cause;
 /// How a list was put under its name.
 #[derive(Clone, Copy, PartialEq, Eq)]
 pub enum Put {
-    /// It is there, over what was read: so many bytes were written.
+    /// It is there, over the list that was read: this number of bytes was written.
     Whole(u64),
     /// Another program changed what is under the name meanwhile, so it must be made again.
     Again,

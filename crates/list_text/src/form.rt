@@ -29,8 +29,8 @@ pub enum Form {
 }
 
 impl Form {
-    /// Makes the line of a fact, with its line feed. It is empty for an authority as JSON, and for a
-    /// plain list without its name.
+    /// Makes the line of a fact, with its line feed. It is empty for an authority as JSON, and for
+    /// a plain list without its name.
     #[inline(always)]
     pub fn write_fact(
         self,

@@ -3,7 +3,8 @@
 ghost use Rattle.std.specs.Prelude.{◌≡◌, length};
 ghost use Rattle.curve_points.specs.Curves.{is_on, width};
 ghost use Rattle.curve_points.specs.Numbers.{big_endian};
-ghost use Rattle.openssh_keys.specs.Judgement.{are_valid, has_valid_point, is_valid_point, point_of};
+ghost use Rattle.openssh_keys.specs.Judgement.{are_valid, has_valid_point, is_valid_point};
+ghost use Rattle.openssh_keys.specs.Judgement.{point_of};
 
 use curve_points::laws::points_are_decided;
 use curve_points::{Curve, is_on_curve, is_usual};

@@ -4,7 +4,8 @@ use Rattle.std.specs.Prelude.{MatchOption}
 use Rattle.ssh_key.specs.Key.{IsKey, PublicKey, blob_of}
 use Rattle.ssh_key.specs.declared.fault.KeyFault.TheVariants as keys
 use Rattle.openssh_keys.specs.Judgement.{judgement_of}
-use Rattle.openssh_keys.specs.declared.judgement.Judgement.TheVariants.{Accepted, Long, Point, Short}
+use Rattle.openssh_keys.specs.declared.judgement.Judgement.TheVariants.{Accepted, Long, Point}
+use Rattle.openssh_keys.specs.declared.judgement.Judgement.TheVariants.{Short}
 use Rattle.key_text.specs.declared.line_fault.LineFault.TheVariants as lines
 use Rattle.krl_types.specs.Subject.{Subject}
 use Rattle.ssh_cert.specs.declared.subject_fault.SubjectFault.TheVariants as subjects

@@ -8,8 +8,8 @@ ghost use Rattle.ssh_cert.specs.declared.subject_fault.SubjectFault.{SubjectFaul
 ghost use Rattle.key_text.specs.ContainerReading.{private_at};
 ghost use Rattle.key_text.specs.LineReading.{line_at};
 ghost use Rattle.run_faults.specs.FileKeys.{HasRoom, IsNextLine, keys_left, line_room};
-ghost use Rattle.run_faults.specs.Keys.{GivesKey, GivesNext, key_of_container, keys_of, key_of_line};
-ghost use Rattle.run_faults.specs.Keys.{run_fault_in, text_keys};
+ghost use Rattle.run_faults.specs.Keys.{GivesKey, GivesNext, key_of_container, keys_of};
+ghost use Rattle.run_faults.specs.Keys.{key_of_line, run_fault_in, text_keys};
 ghost use Rattle.run_faults.specs.Sizes.{file_size, keys_room};
 
 use crate::cause::Cause;

@@ -1,5 +1,5 @@
--- The fact of a ghost field has at most one proof, as ghost fields require. The code cites this, and
--- it cannot cite proofs/.
+-- The fact of a ghost field has at most one proof, as ghost fields require. The code cites this,
+-- and it cannot cite proofs/.
 use Rattle.std.specs.Prelude.{ℕ, ◌+◌, List, [], ◌∷◌}
 use Rattle.std.specs.Coded.{Unit-prop, le_prop}
 use Rattle.serial_set.specs.declared.span.Span.{Span}

@@ -1,4 +1,4 @@
--- What lines say, and what was done.
+-- The meaning of lines, and the changes that they made.
 use Rattle.std.proofs.lemmas.Bool.{cases_Bool, false≢true}
 use Rattle.std.proofs.Common.{◌≡◌, ◌==◌, length, true, false, ℕ, List, [], ◌∷◌, Option, Some, None, Result, Ok, Err, refl, ap, arith, inl, inr, ◌+◌, ◌≤◌}
 use Rattle.ssh_wire.specs.Reading.{◌>>=◌, in_fault}

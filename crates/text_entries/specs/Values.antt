@@ -109,7 +109,8 @@ is_cut line =
     && not (nat_lt 0 (position_or_len is_hash line)
     && is_blank (slice_index line (position_or_len is_hash line - 1)))
 
--- It begins as a key line: with the type name of a key and a blank. No type name is as long as that.
+-- The text begins as a key line does: with the type name of a key and a blank. Each type name has
+-- fewer than 64 bytes.
 abbrev pub looks_like_key : List ℕ → Bool
 looks_like_key text = has_blank (take 64 text) && begins_with_key text
 

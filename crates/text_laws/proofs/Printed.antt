@@ -1,4 +1,4 @@
--- What a run prints of lists is the text of these lists, and a list that is made of it names what they name.
+-- A run over lists prints the text of these lists, and a list that is made of it names what they name.
 use Rattle.std.specs.Borrow.{Bor}
 use Rattle.std.specs.Prelude.{is_some}
 use Rattle.std.proofs.Common.{◌≡◌, ◌≢◌, ◌∙◌, arith, Result, ℕ, Bool, true, false, All, List, [], ◌∷◌, ◌++◌, map, Option, Some, None, refl, ap, subst}

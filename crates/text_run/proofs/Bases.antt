@@ -1,4 +1,4 @@
--- What the new list has of the old one.
+-- The part of the old list that the new one takes over.
 use Rattle.std.proofs.Common.{◌≡◌, ℕ, Bool, false, true, List, Option, None, Some, is_some, option_map, Result, Ok, Err, inl, inr, refl}
 use Rattle.std.specs.Prelude.{IfErr, IfOk}
 use Rattle.krl_core.specs.Reading.{IsList}

@@ -1,4 +1,4 @@
--- What the lines of a text say, apart from which entries.
+-- The content of a text: whether its lines name entries, but not which.
 use Rattle.std.proofs.Common.{◌≡◌, ◌≢◌, ◌⊎◌, ◌↔◌, ℕ, ◌+◌, Bool, true, false, ◌||◌, nat_lt, List, [], ◌∷◌, ◌++◌, length, Option, Some, None, option_map, Result, Ok, Err, refl, sym, ap, subst, ◌∙◌, cond, codes, if◌then◌else◌, inl, inr}
 use Rattle.std.specs.List.{before_first, find, list_any, position_or_len, slice_split}
 use Rattle.std.specs.Str.{str_eq_ignore_ascii_case, str_to_ascii_lowercase, bytes_eq}
@@ -97,7 +97,7 @@ entry_named : (read : Result Entry SpecCause) (saying : Saying) → entry_says r
 entry_named (Ok entry) saying is = (entry, cc is)
 entry_named (Err cause) saying is = absurd (cc is)
 
--- What a line says fits its content: where it says nothing, it may have a comment.
+-- The meaning of a line fits its content. A line that says nothing may have a comment.
 abbrev Fits : (line content : List ℕ) → Saying → Type 0
 Fits line content SaysNothing = content ≡ []
 Fits line content (Current authority) =

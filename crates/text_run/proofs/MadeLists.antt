@@ -1,4 +1,4 @@
--- What texts name is held, and made into a list over the old one.
+-- The entries that texts name are stored, and made into a list over the old one.
 use Rattle.std.proofs.Common.{◌≡◌, ◌≢◌, ℕ, Bool, ◌||◌, true, false, List, Option, None, Some, Result, Ok, Err, inl, inr, sym, ap, subst, unwrap_or}
 use Rattle.krl_entries.specs.Revocations.{Revocations, nothing}
 use Rattle.krl_types.specs.Entry.{Entry}

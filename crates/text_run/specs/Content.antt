@@ -31,7 +31,8 @@ unless_bare has_comment [] = if has_comment then Notes else Blank
 unless_bare has_comment (byte ∷ bytes) =
     if names_authority (byte ∷ bytes) then Notes else Entries
 
--- The kind of a line: nothing; a comment, or an authority; otherwise an entry, unless it has a fault.
+-- The kind of a line: nothing; a comment, or an authority; otherwise an entry, unless it has a
+-- fault.
 abbrev pub line_content : List ℕ → Content
 line_content line = unless_bare (list_any is_hash line) (bare_line line)
 

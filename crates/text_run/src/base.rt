@@ -25,8 +25,8 @@ pub(crate) struct Base {
     pub(crate) revocations: Revocations<Held>,
 }
 
-/// The part of the old list that the new one takes over, which is read to its end. An empty file is none where the
-/// version is given.
+/// The part of the old list that the new one takes over, which is read to its end. An empty file is
+/// none where the version is given.
 pub(crate) fn read_base<R: Source + Drop>(
     alloc: Global,
     inputs: &Inputs<'_>,

@@ -31,8 +31,8 @@ pub struct Facts {
     pub revocations: Revocations<Held>,
 }
 
-/// The outcome of making texts into a list: the version, and what is held of the old list and the texts, if the
-/// list names what the old one names.
+/// The outcome of making texts into a list: the version, and what is held of the old list and the
+/// texts, if the list names what the old one names.
 #[derive(Drop)]
 pub struct Merged {
     /// The version.
@@ -50,8 +50,8 @@ pub struct Listed<'a> {
     pub revocations: Revocations<Held>,
 }
 
-/// The revocations that texts name, or their first fault. A text without an entry is a fault too, and so is
-/// nothing, unless it is allowed.
+/// The revocations that texts name, or their first fault. A text without an entry is a fault too,
+/// and so is nothing, unless it is allowed.
 pub fn read_texts<'a>(alloc: Global, inputs: &'a Inputs<'a>) -> Result<Listed<'a>, MakeFault<'a>>
     ensures same { IfOk result (λ list. list.inputs.now ≡ inputs.now) }
     ensures read { IfOk result (λ list. IsHeld inputs.now list.revocations) }

@@ -84,9 +84,9 @@ pub const MORE: &[u8] = b"SSHKRL\n\0\0\0\0\x01\0\0\0\0\0\0\0\x07\0\0\0\0\0\0\0\0
 // A plain list with a DSA key of small numbers.
 const DSA_LINE: &[u8] = b"# a key\nssh-dss AAAAB3NzaC1kc3MAAAABAwAAAAEDAAAAAQMAAAABAw==\n";
 
-/// A list, the one that it must not be older than, the one whose names it must have, the time of the
-/// clock, the largest age, the most authorities, and the files of keys that it must not revoke, and
-/// must revoke.
+/// A list, the one that it must not be older than, the one whose names it must have, the time of
+/// the clock, the largest age, the most authorities, and the files of keys that it must not revoke,
+/// and must revoke.
 #[derive(Clone, Copy)]
 pub struct Asked {
     pub list: Result<&'static [u8], Cause>,

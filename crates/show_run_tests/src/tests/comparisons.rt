@@ -11,7 +11,7 @@ use test_fixtures::Taker;
 const ROWS: [(&str, &str, &str, u8); 12] = [
     ("hundreds", "hundred", "  ca: all\n- serial: 101\n", 1),
     ("hundred", "hundreds", "  ca: all\n+ serial: 101\n", 1),
-    // What counts is what is named, not how it is cut.
+    // Only the named entries count, not how they are cut.
     ("pieces", "hundreds", "", 0),
     ("five", "five", "", 0),
     // Numbers within others, and other ones.

@@ -29,7 +29,7 @@ const ROWS: [Row; 9] = [
         added: &[],
         removed: &[],
     },
-    // What counts is what is named, not how it is cut.
+    // Only the named entries count, not how they are cut.
     Row {
         old: &[Said::Serials(A, 100, 101)],
         new: &[Said::Serials(A, 100, 100)],

@@ -1,5 +1,5 @@
-//! Lists that come through pipes: each gives its bytes once, and is empty afterwards. What was read
-//! of them is known, so a run over them is one over exactly these bytes.
+//! Lists that come through pipes: each gives its bytes once, and is empty afterwards. The bytes
+//! that were read are known, so a run over the pipes is one over exactly these bytes.
 
 ghost use Rattle.std.specs.Prelude.{◌≡◌};
 
@@ -14,7 +14,7 @@ use std::alloc::Global;
 use std::process::Abort;
 use test_fixtures::{GITHUB_LINE, Taker};
 
-// What was read of a pipe: its name and the bytes.
+// A pipe that was read: its name and the bytes.
 #[derive(Drop)]
 struct Read {
     name: Bytes,

@@ -213,8 +213,8 @@ fn first_faults(rt: HostRuntime) {
     }
 }
 
-// What other files of keys may have before a key, or what a misspelt line of a text has. Taken for
-// options, it would revoke the key of a CA.
+// Words that other files of keys may have before a key, or that a misspelt line of a text has. If
+// they were taken for options, the key of a CA would be revoked.
 const BEFORE_A_KEY: [&[u8]; 24] = [
     b"ca ",
     b"ca : ",

@@ -1,4 +1,4 @@
--- What the words ask for is done, or they are refused.
+-- The job of the words is done, or the words are refused.
 use Rattle.krl_keygen.specs.Ends.{done, refused}
 use Rattle.krl_keygen.proofs.ToolProgram.run.Goals as goal
 

@@ -1,4 +1,4 @@
--- What was under the name still is there, unless another program changed it.
+-- The list that was under the name still is there, unless another program changed it.
 use Rattle.list_making.specs.Place.{IsKept}
 use Rattle.list_making.proofs.making.make_at.Given as goal
 

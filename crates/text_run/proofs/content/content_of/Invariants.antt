@@ -1,4 +1,4 @@
--- What the lines so far say, and those that are left, is what the text says.
+-- The content of the lines so far, and of those that are left, is the content of the text.
 use Rattle.std.proofs.Common.{◌≡◌, length}
 use Rattle.std.specs.List.{slice_split}
 use Rattle.key_text.specs.Lines.{is_newline}

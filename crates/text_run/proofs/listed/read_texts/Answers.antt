@@ -1,4 +1,4 @@
--- What is held is what the texts name, or they are refused.
+-- The stored entries are those that the texts name, or the texts are refused.
 use Rattle.text_run.proofs.MadeLists.{texts_held, texts_too_little}
 use Rattle.text_run.specs.Over.{faulty}
 use Rattle.std.proofs.lemmas.Result.{err_from_is_err_and}
