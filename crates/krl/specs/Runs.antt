@@ -4,8 +4,6 @@ use Rattle.std.specs.Prelude.{◌≡◌, ℕ, Bool, true, false, List, Option, R
 use Rattle.any_list.specs.Told.{Reading}
 use Rattle.check_run.specs.Run.{EndsCheckRun}
 use Rattle.check_run.specs.declared.limits.Unanswered.{Unanswered}
-use Rattle.diff_run.specs.Run.{EndsDiffRun}
-use Rattle.diff_run.specs.declared.run.Comparison.{Comparison}
 use Rattle.krl_arguments.specs.declared.task.Check.{Check}
 use Rattle.krl_arguments.specs.declared.task.Diff.{Diff}
 use Rattle.krl_arguments.specs.declared.task.Show.{Show}
@@ -14,7 +12,9 @@ use Rattle.list_text.specs.declared.form.Form.TheVariants.{Json, JsonUnnamed, Te
 use Rattle.list_text.specs.declared.form.Form.TheVariants.{Unnamed}
 use Rattle.run_faults.specs.RunFault.{RunFault}
 use Rattle.run_output.specs.declared.done.Done.{Done}
+use Rattle.show_run.specs.Comparison.{EndsDiffRun}
 use Rattle.show_run.specs.Run.{EndsShowRun}
+use Rattle.show_run.specs.declared.comparison.Comparison.{Comparison}
 
 -- the form in which lists are shown
 abbrev pub shown_form : (json no_name : Bool) → Form

@@ -5,9 +5,9 @@ ghost use Rattle.krl.specs.Runs.{IsCompared};
 use crate::Krl;
 use crate::loading::ListFiles;
 use byte_streams::ToWrite;
-use diff_run::{Comparison, diff_run};
 use krl_arguments::Diff;
 use program_edge::end;
+use show_run::{Comparison, diff_run};
 
 /// Compares the lists of the task. Returns the exit status.
 pub fn diff(rt: &HostRuntime, task: &Diff) -> u8

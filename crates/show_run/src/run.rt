@@ -1,4 +1,4 @@
-//! The whole run.
+//! The whole run that shows lists.
 
 ghost use Rattle.std.specs.Prelude.{◌≡◌, false};
 ghost use Rattle.any_list.specs.Told.{Tells};

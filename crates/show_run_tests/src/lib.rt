@@ -1,4 +1,4 @@
-//! The tests of `show_run`, `list_diff`, `list_text` and `diff_run`, through their public items.
+//! The tests of `show_run`, `list_diff` and `list_text`, through their public items.
 #![tactic(auto)]
 
 #[cfg(test)]

@@ -2,9 +2,9 @@
 
 use crate::tests::runs::Shelf;
 use byte_streams::ToWrite;
-use diff_run::{Comparison, diff_run};
 use krl_types::KrlFault;
 use run_faults::{Cause, FileFault};
+use show_run::{Comparison, diff_run};
 use test_fixtures::Taker;
 
 // The names of two lists, the text that is printed, and the status.

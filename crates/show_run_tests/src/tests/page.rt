@@ -1,4 +1,4 @@
-//! The callers of the pages of `list_diff`, `list_text`, `show_run` and `diff_run`.
+//! The callers of the pages of `list_diff`, `list_text` and `show_run`.
 
 ghost use Rattle.std.specs.Prelude.{◌≡◌, [], IfOk, false};
 ghost use Rattle.krl_entries.specs.Facts.{ItemFact};
@@ -8,13 +8,12 @@ ghost use Rattle.list_text.specs.Text.{fact_line};
 use crate::tests::runs::Shelf;
 use any_list::Lists;
 use byte_streams::{Sink, ToWrite};
-use diff_run::{Comparison, diff_run};
 use krl_entries::{Fact as Held, Revocations};
 use krl_types::ItemKind;
 use list_diff::difference;
 use list_text::{Fact, Form};
 use serial_set::Spans;
-use show_run::show_run;
+use show_run::{Comparison, diff_run, show_run};
 use std::alloc::{AllocError, Global};
 use test_fixtures::Taker;
 

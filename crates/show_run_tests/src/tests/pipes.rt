@@ -5,10 +5,9 @@ ghost use Rattle.std.specs.Prelude.{◌≡◌};
 
 use any_list::Lists;
 use byte_streams::ToWrite;
-use diff_run::{Comparison, diff_run};
 use list_text::Form;
 use run_faults::Cause;
-use show_run::show_run;
+use show_run::{Comparison, diff_run, show_run};
 use ssh_wire::Bytes;
 use std::alloc::Global;
 use std::process::Abort;

@@ -1,4 +1,0 @@
-pub mod Changes
-pub mod Printing
-pub mod Run
-pub mod SameLists

@@ -1,0 +1,74 @@
+//! The lines of changes.
+
+ghost use Rattle.std.specs.Prelude.{◌≡◌, IfOk};
+ghost use Rattle.run_output.specs.Carries.{Carries};
+ghost use Rattle.show_run.specs.ChangeLines.{change_items, last_items, side_counts, side_form};
+ghost use Rattle.show_run.specs.ChangeLines.{side_items};
+
+use crate::changes::Changes;
+use crate::walk::show_held;
+use byte_streams::Sink;
+use krl_core::Revocations;
+use list_text::{Counts, Form, Side, write_changes};
+use run_faults::RunFault;
+use run_output::Run;
+use span_sets::Held;
+
+// The name in the fault of a line for which there is no memory.
+const MEMORY: &str = "memory";
+
+/// Prints what was added, then what was removed, and as JSON a last line.
+pub(crate) fn print_each<'a, W: Sink>(
+    run: &mut Run<'_, W>,
+    json: bool,
+    changes: &Changes,
+) -> Result<(), RunFault<'a>>
+    ensures { Carries (change_items json changes.now) result run.old.printer run.new.printer }
+{
+    let added = print_side(run, json, Side::Added, &changes.added)?;
+    let removed = print_side(run, json, Side::Removed, &changes.removed)?;
+    print_last(run, json, added, removed)
+}
+
+// Prints what one of the lists names and the other does not, and counts it.
+fn print_side<'a, W: Sink>(
+    run: &mut Run<'_, W>,
+    json: bool,
+    side: Side,
+    held: &Revocations<Held>,
+) -> Result<Counts, RunFault<'a>>
+    ensures carries { Carries (side_items json side held.now) result run.old.printer
+        run.new.printer }
+    ensures counts { IfOk result (λ counts. counts ≡ side_counts held.now) }
+{
+    let mut counts = Counts::NONE;
+    show_held(run, &mut counts, side_form(json, side), held)?;
+    Ok(counts)
+}
+
+// The form in which the changes of a side are printed.
+fn side_form(json: bool, side: Side) -> Form
+    ensures { result ≡ side_form json side }
+{
+    if json {
+        Form::JsonChange(side)
+    } else {
+        Form::Change(side)
+    }
+}
+
+// Prints the last line, which only JSON has.
+fn print_last<'a, W: Sink>(
+    run: &mut Run<'_, W>,
+    json: bool,
+    added: Counts,
+    removed: Counts,
+) -> Result<(), RunFault<'a>>
+    ensures { Carries (last_items json added removed) result run.old.printer run.new.printer }
+{
+    if json {
+        let made = write_changes(added, removed, &mut run.line);
+        return run.say_line(MEMORY, made);
+    }
+    Ok(())
+}
