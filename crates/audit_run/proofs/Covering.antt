@@ -5,7 +5,7 @@ use Rattle.std.proofs.lemmas.List.Elements.{Contains-append_cases, Contains-appe
 use Rattle.std.proofs.lemmas.List.Elements.{Contains-push_cases}
 use Rattle.std.specs.Global.{Vec}
 use Rattle.std.specs.Prelude.{Contains}
-use Rattle.audit_tree.specs.Paths.{path_in}
+use Rattle.audit_run.specs.Paths.{path_in}
 use Rattle.audit_run.specs.Entries.{IsEntry}
 use Rattle.audit_run.specs.Fact.{Fact}
 use Rattle.audit_run.specs.Visits.{Visit}

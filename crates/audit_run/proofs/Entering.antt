@@ -1,9 +1,9 @@
 -- The kinds of files that a name of a directory leads to.
 use Rattle.std.proofs.Common.{◌≡◌, ℕ, Bool, false, List, Option, None, Result, Err, refl, subst, inl, inr}
 use Rattle.std.specs.Str.{IsUtf8}
-use Rattle.audit_tree.specs.Names.{selection_of}
-use Rattle.audit_tree.specs.Paths.{path_in}
-use Rattle.audit_tree.specs.declared.names.Selection.{Selection}
+use Rattle.audit_run.specs.Selection.{selection_of}
+use Rattle.audit_run.specs.Paths.{path_in}
+use Rattle.audit_run.specs.declared.selection.Selection.{Selection}
 use Rattle.krl_audit.specs.declared.why.Refusal.{Refusal}
 use Rattle.audit_run.specs.Entries.{IsKept, IsLooked, here, is_expected}
 use Rattle.audit_run.specs.Names.{is_directory}

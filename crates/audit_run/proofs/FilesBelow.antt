@@ -7,9 +7,9 @@ use Rattle.std.proofs.lemmas.List.Sorted.{Contains-permutation, IsPermutation-re
 use Rattle.std.specs.Global.{Vec}
 use Rattle.std.specs.Prelude.{Contains, IfSome, reverse}
 use Rattle.std.specs.Str.{IsUtf8}
-use Rattle.audit_tree.specs.Names.{is_sought, selection_of}
-use Rattle.audit_tree.specs.Paths.{path_in}
-use Rattle.audit_tree.specs.declared.names.Selection.{Selection}
+use Rattle.audit_run.specs.Selection.{is_sought, selection_of}
+use Rattle.audit_run.specs.Paths.{path_in}
+use Rattle.audit_run.specs.declared.selection.Selection.{Selection}
 use Rattle.key_text.specs.Armour.{begins_container}
 use Rattle.krl_audit.specs.declared.why.Refusal.{Refusal}
 use Rattle.krl_audit.specs.declared.why.Refusal.TheVariants as refusals

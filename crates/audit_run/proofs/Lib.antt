@@ -3,7 +3,7 @@ pub mod Listing
 pub mod Entering
 pub mod Rows
 pub mod Contents
-pub mod Paths
+pub mod NamedPaths
 pub mod ZeroEnded
 pub mod Turning
 pub mod Running

@@ -12,7 +12,7 @@ use Rattle.krl_types.specs.Subject.{Subject}
 use Rattle.krl_entries.specs.declared.reasons.Reasons.{Reasons}
 use Rattle.krl_audit.specs.Audit.{EndsAudit, JudgesAs, reasons_but}
 use Rattle.krl_audit.proofs.Canaries.{judges_as_meant}
-use Rattle.audit_tree.specs.declared.summary.Summary.{Summary}
+use Rattle.audit_run.specs.declared.summary.Summary.{Summary}
 use Rattle.krl_audit.specs.declared.counts.Counts.{Counts}
 use Rattle.krl_audit.specs.declared.judge.Judge.{Judge}
 use Rattle.krl_audit.specs.declared.judge.Shown.{Shown}

@@ -3,10 +3,10 @@ use Rattle.std.specs.Prelude.{◌≡◌, ℕ, Bool, true, false, List, [], Conta
 use Rattle.std.specs.Prelude.{Result, Ok, Err}
 use Rattle.std.specs.Str.{IsUtf8}
 use Rattle.key_text.specs.Armour.{begins_container}
-use Rattle.audit_tree.specs.Names.{selection_of}
-use Rattle.audit_tree.specs.Paths.{path_in}
-use Rattle.audit_tree.specs.declared.names.Selection.{Selection}
-use Rattle.audit_tree.specs.declared.names.Selection.TheVariants as selections
+use Rattle.audit_run.specs.Selection.{selection_of}
+use Rattle.audit_run.specs.Paths.{path_in}
+use Rattle.audit_run.specs.declared.selection.Selection.{Selection}
+use Rattle.audit_run.specs.declared.selection.Selection.TheVariants as selections
 use Rattle.krl_audit.specs.declared.why.Refusal.{Refusal}
 use Rattle.audit_run.specs.Fact.{Elsewhere, Excludes, Fact, Leads, Lists, OpenFile, Opens}
 use Rattle.audit_run.specs.Names.{is_dots}

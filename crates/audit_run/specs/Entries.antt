@@ -3,10 +3,10 @@ use Rattle.std.specs.Prelude.{◌≡◌, ℕ, Bool, true, false, List, [], ◌�
 use Rattle.std.specs.Prelude.{Option, Some, None, IfSome, Result, Ok, Err}
 use Rattle.std.specs.Str.{IsUtf8}
 use Rattle.key_text.specs.Armour.{begins_container}
-use Rattle.audit_tree.specs.Names.{selection_of}
-use Rattle.audit_tree.specs.Paths.{path_in}
-use Rattle.audit_tree.specs.declared.names.Selection.{Selection}
-use Rattle.audit_tree.specs.declared.names.Selection.TheVariants as selections
+use Rattle.audit_run.specs.Selection.{selection_of}
+use Rattle.audit_run.specs.Paths.{path_in}
+use Rattle.audit_run.specs.declared.selection.Selection.{Selection}
+use Rattle.audit_run.specs.declared.selection.Selection.TheVariants as selections
 use Rattle.krl_audit.specs.Front.{fronts_of, is_read_by_lines, reads_every}
 use Rattle.line_pieces.specs.Visible.{visible_bytes}
 use Rattle.krl_audit.specs.declared.front.Fronts.{Fronts}

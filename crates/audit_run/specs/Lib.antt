@@ -10,3 +10,7 @@ pub mod Named
 pub mod Run
 pub mod Options
 pub mod Order
+pub mod Selection
+pub mod Paths
+pub mod Progress
+pub mod Summary

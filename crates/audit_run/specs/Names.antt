@@ -6,10 +6,10 @@ use Rattle.std.specs.Global.{Vec}
 use Rattle.std.specs.List.Sorted.{IsSorted}
 use Rattle.std.specs.Ordering.{nat_cmp}
 use Rattle.std.specs.Str.{IsUtf8, bytes_eq}
-use Rattle.audit_tree.specs.Names.{is_sought, selection_of}
-use Rattle.audit_tree.specs.Paths.{path_in}
-use Rattle.audit_tree.specs.declared.names.Selection.{Selection}
-use Rattle.audit_tree.specs.declared.names.Selection.TheVariants as selections
+use Rattle.audit_run.specs.Selection.{is_sought, selection_of}
+use Rattle.audit_run.specs.Paths.{path_in}
+use Rattle.audit_run.specs.declared.selection.Selection.{Selection}
+use Rattle.audit_run.specs.declared.selection.Selection.TheVariants as selections
 use Rattle.krl_audit.specs.declared.why.Refusal.{Refusal}
 use Rattle.krl_audit.specs.declared.why.Refusal.TheVariants.{Missing}
 use Rattle.audit_run.specs.Fact.{Excludes, Fact, Leads, Sought}

@@ -16,7 +16,7 @@ use Rattle.krl_entries.specs.Revocations.{Means}
 use Rattle.krl_entries.specs.declared.reasons.Reasons.{Reasons}
 use Rattle.krl_audit.specs.Audit.{EndsAudit, JudgesAs, MeanCanaries, reasons_but}
 use Rattle.krl_audit.specs.Objects.{done_object}
-use Rattle.audit_tree.specs.declared.summary.Summary.{Summary}
+use Rattle.audit_run.specs.declared.summary.Summary.{Summary}
 use Rattle.any_list.specs.List.{IsListFault, IsReadList, stated_by}
 use Rattle.any_list.specs.declared.list.List.{List as ReadList}
 use Rattle.run_output.specs.declared.done.Done.{Done}

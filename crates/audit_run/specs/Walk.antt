@@ -6,7 +6,7 @@ use Rattle.std.specs.Prelude.{List, [], ◌∷◌, ◌++◌, length, map, revers
 use Rattle.std.specs.Prelude.{Result, Ok, Err}
 use Rattle.std.specs.Prelude.{string_bytes}
 use Rattle.std.specs.Global.{Vec}
-use Rattle.audit_tree.specs.Paths.{path_in}
+use Rattle.audit_run.specs.Paths.{path_in}
 use Rattle.krl_audit.specs.Front.{reads_every}
 use Rattle.krl_audit.specs.declared.why.Refusal.{Refusal}
 use Rattle.krl_audit.specs.declared.why.Refusal.TheVariants as refusals

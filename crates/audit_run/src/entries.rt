@@ -4,7 +4,7 @@ ghost use Rattle.std.specs.Prelude.{◌≡◌, ◌∷◌, [], IfOk, IfSome, None
 ghost use Rattle.std.specs.Prelude.{ℕ, List, Option, string_bytes};
 ghost use Rattle.std.specs.Io.KnownBytes.{Consumes};
 ghost use Rattle.std.specs.Result.{result_err};
-ghost use Rattle.audit_tree.specs.Paths.{path_in};
+ghost use Rattle.audit_run.specs.Paths.{path_in};
 ghost use Rattle.audit_run.specs.Entries.{IsEntry, IsFileBy, IsFound, IsKept, IsLink, IsBehind};
 ghost use Rattle.audit_run.specs.Entries.{IsLooked, empty_file};
 ghost use Rattle.audit_run.specs.Entries.{FailsAt, IsOpened, IsOpenedIf, IsPrivate, IsPrivateBy};
@@ -18,11 +18,12 @@ ghost use Rattle.audit_run.specs.Visits.{Goes, Meets, is_seen};
 use crate::files::{Key, Skip, key_of};
 use crate::kind::{Found, Kind, Opened};
 use crate::names::{Place, is_never};
+use crate::paths::{path_in, shown_path};
 use crate::reading::{Reading, content_of, is_private, read_file, read_front};
 use crate::round::{Round, Screen};
+use crate::selection::{Selection, selection_of};
 use crate::stop::Stop;
 use crate::tree::Tree;
-use audit_tree::{Selection, path_in, selection_of, shown_path};
 use krl_audit::{Refusal, reads_every};
 use std::str;
 

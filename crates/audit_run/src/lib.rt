@@ -1,4 +1,4 @@
-//! An audit of files and directories by a list, as one run.
+//! An audit of files and directories by a list, as one run, how far it is, and its last line.
 #![tactic(auto)]
 
 mod entries;
@@ -9,11 +9,16 @@ mod named;
 mod names;
 mod options;
 mod order;
+mod paths;
+mod progress;
 mod reading;
 mod round;
 mod run;
+mod selection;
 mod sending;
+mod sorting;
 mod stop;
+mod summary;
 mod tree;
 mod walk;
 mod zero_ended;
@@ -21,6 +26,11 @@ mod zero_ended;
 pub use kind::{Found, Identity, Kind, Opened};
 pub use options::{Options, Terminal};
 pub use order::Order;
+pub use paths::{path_in, shown_path};
+pub use progress::{push_progress, push_wipe};
 pub use round::Screen;
 pub use run::{Audited, Given, audit_run};
+pub use selection::{Selection, is_audited, is_sought, selection_of};
+pub use sorting::sort_names;
+pub use summary::{Summary, push_summary};
 pub use tree::Tree;

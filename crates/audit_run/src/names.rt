@@ -7,11 +7,13 @@ ghost use Rattle.audit_run.specs.Walk.{IsNamesOf};
 
 use crate::entries::is_directory;
 use crate::kind::Found;
+use crate::paths::path_in;
 use crate::reading::Came;
 use crate::round::{Round, Screen};
+use crate::selection::{Selection, is_sought, selection_of};
+use crate::sorting::sort_names;
 use crate::tree::Tree;
 use crate::zero_ended::ZeroEnded;
-use audit_tree::{Selection, is_sought, path_in, selection_of, sort_names};
 use krl_audit::Refusal;
 use std::alloc::{AllocError, Global};
 use std::str;

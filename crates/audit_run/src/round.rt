@@ -9,7 +9,7 @@ ghost use Rattle.audit_run.specs.Visits.{is_told, stop_for};
 use crate::files::{Files, Key, Since, Skip};
 use crate::sending::{audit_and_send, say_same_if};
 use crate::stop::Stop;
-use audit_tree::Summary;
+use crate::summary::Summary;
 use byte_streams::Sink;
 use krl_audit::{Auditor, Counts, Judge, Refusal, Shown, Stated};
 use run_faults::{Cause, RunFault};

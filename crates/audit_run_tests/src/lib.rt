@@ -1,4 +1,4 @@
-//! The tests of `audit_run` and `audit_tree`, through what they make public.
+//! The tests of `audit_run`, through what it makes public.
 #![tactic(auto)]
 
 #[cfg(test)]

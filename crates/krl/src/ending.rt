@@ -7,8 +7,7 @@ ghost use Rattle.krl.specs.Ending.{audit_status, fault_line, is_looked_at, words
 
 use crate::Krl;
 use crate::loading::{bytes_of, why_unopened};
-use audit_run::Audited;
-use audit_tree::{Summary, push_summary};
+use audit_run::{Audited, Summary, push_summary};
 use krl_audit::refusal_words;
 use krl_core::KrlFault;
 use krl_openssh::Incomparable;

@@ -2,8 +2,7 @@
 
 ghost use Rattle.std.specs.Prelude.{◌≡◌, false};
 
-use audit_run::{Screen as Shows, Terminal};
-use audit_tree::{Summary, push_progress, push_wipe};
+use audit_run::{Screen as Shows, Summary, Terminal, push_progress, push_wipe};
 use byte_streams::{Failed, Sink, ToWrite, send};
 use std::env::{self, VarError};
 use std::io::{IsTerminal, Stdout};

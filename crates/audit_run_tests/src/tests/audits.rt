@@ -1,8 +1,7 @@
 //! Audits of a tree in memory by a plain list of one key.
 
 use crate::tests::shelf::{Item, Paper, Shelf};
-use audit_run::{Audited, Given, Options, Order, audit_run};
-use audit_tree::push_summary;
+use audit_run::{Audited, Given, Options, Order, audit_run, push_summary};
 use byte_streams::{FromRead, ToWrite};
 use ssh_wire::Bytes;
 use std::alloc::Global;

@@ -1,10 +1,9 @@
-//! The callers of the pages of `audit_run`, with a tree in memory, and of `audit_tree`.
+//! The callers of the page of `audit_run`, with a tree in memory.
 
 ghost use Rattle.std.specs.Prelude.{◌≡◌, false};
 
 use crate::tests::shelf::{Item, Node, Paper, Shelf};
-use audit_run::{Audited, Given, Order, Screen, Tree, audit_run};
-use audit_tree::{is_audited, is_sought};
+use audit_run::{Audited, Given, Order, Screen, Tree, audit_run, is_audited, is_sought};
 use byte_streams::{Lent, ToWrite};
 use krl_audit::{Form, Shown};
 use ssh_wire::Bytes;
@@ -46,6 +45,17 @@ fn is_clean<T: Tree, W: Screen>(
     }
 }
 
+/// How many of these files of a directory are audited, by their names and their bytes.
+fn count_audited(files: &[(&[u8], &[u8])]) -> usize {
+    let mut count: usize = 0;
+    for (name, text) in files {
+        if is_audited(false, name, text) {
+            count = count.saturating_add(1);
+        }
+    }
+    count
+}
+
 #[test]
 fn a_tree_is_walked_to_its_end(rt: HostRuntime) {
     let items = [
@@ -74,17 +84,6 @@ fn audits_clean(rt: &HostRuntime, tree: &Shelf<'_>, path: &str) -> bool {
     };
     let list = Bytes::from_vec(Vec::new(rt.alloc()));
     is_clean(rt.alloc(), list, tree, &[path], &mut out)
-}
-
-/// How many of these files of a directory are audited, by their names and their bytes.
-fn count_audited(files: &[(&[u8], &[u8])]) -> usize {
-    let mut count: usize = 0;
-    for (name, text) in files {
-        if is_audited(false, name, text) {
-            count = count.saturating_add(1);
-        }
-    }
-    count
 }
 
 #[test]

@@ -3,8 +3,7 @@
 ghost use Rattle.std.specs.Prelude.{◌≡◌, false};
 ghost use Rattle.audit_run.specs.Fact.{Fact};
 
-use audit_run::{Found, Identity, Kind, Opened, Screen, Tree};
-use audit_tree::Summary;
+use audit_run::{Found, Identity, Kind, Opened, Screen, Summary, Tree};
 use byte_streams::{Failed, FromRead, Sink, ToWrite};
 use krl_audit::Refusal;
 use std::alloc::AllocError;

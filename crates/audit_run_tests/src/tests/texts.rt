@@ -1,8 +1,6 @@
 //! The order and the paths of names, how far an audit is, and its last line.
 
-use audit_tree::{
-    Summary, path_in, push_progress, push_summary, push_wipe, shown_path, sort_names,
-};
+use audit_run::{Summary, path_in, push_progress, push_summary, push_wipe, shown_path, sort_names};
 use krl_audit::{Counts, FileCounts, Stated};
 use std::test::Fail;
 

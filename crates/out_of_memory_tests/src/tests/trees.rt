@@ -1,7 +1,7 @@
 //! Paths of directories, names that are shown, how far an audit is, and its last line.
 
 use crate::tests::answered::answered;
-use audit_tree::{Summary, path_in, push_progress, push_summary, push_wipe, shown_path};
+use audit_run::{Summary, path_in, push_progress, push_summary, push_wipe, shown_path};
 use krl_audit::{Counts, FileCounts, Stated};
 use line_pieces::visible_name;
 use std::alloc::AllocError;

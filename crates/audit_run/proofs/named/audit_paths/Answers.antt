@@ -5,7 +5,7 @@ use Rattle.std.proofs.lemmas.List.{get_or_default, take_all}
 use Rattle.std.proofs.lemmas.Result.{err_from_is_err_and}
 use Rattle.audit_run.specs.Named.{input_after, none}
 use Rattle.audit_run.proofs.Auditing.{by_then, nothing_met}
-use Rattle.audit_run.proofs.Paths.{named_more, named_stops, past_more}
+use Rattle.audit_run.proofs.NamedPaths.{named_more, named_stops, past_more}
 use Rattle.audit_run.proofs.named.audit_paths.Goals as goal
 
 pub loop-path-init : goal.loop-path-init

@@ -3,7 +3,7 @@ use Rattle.std.proofs.Common.{◌≡◌, true, false, List, None, IfSome, take, 
 use Rattle.audit_run.specs.Named.{Each, IsNamed, NamedPath, with_input}
 use Rattle.audit_run.specs.Reading.{SomeFailed, left_in}
 use Rattle.audit_run.specs.Visits.{AuditsBy, Visit}
-use Rattle.audit_run.proofs.Paths.{input_past}
+use Rattle.audit_run.proofs.NamedPaths.{input_past}
 use Rattle.audit_run.proofs.named.audit_paths.Given as goal
 
 abbrev pub invariant-loop-path : goal.invariant-loop-path

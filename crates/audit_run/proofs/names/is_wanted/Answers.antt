@@ -1,6 +1,6 @@
 -- The name selects no file, so its path was looked at.
 use Rattle.std.proofs.Common.{◌∙◌, ap, sym}
-use Rattle.audit_tree.specs.Paths.{path_in}
+use Rattle.audit_run.specs.Paths.{path_in}
 use Rattle.audit_run.specs.Names.{not_selected}
 use Rattle.audit_run.proofs.names.is_wanted.Goals as goal
 

@@ -1,6 +1,6 @@
 -- At the end all blanks are appended.
 use Rattle.std.proofs.Common.{◌≡◌, ◌++◌, ◌∙◌, ap, arith, replicate}
-use Rattle.audit_tree.proofs.progress.push_blanks.Goals as goal
+use Rattle.audit_run.proofs.progress.push_blanks.Goals as goal
 
 pub returns : goal.returns
 returns c =

@@ -1,8 +1,8 @@
 //! Which files of a directory are read (krl(1), FILES THAT ARE READ).
 
 ghost use Rattle.std.specs.Prelude.{◌≡◌};
-ghost use Rattle.audit_tree.specs.Names.{is_audited, is_key_name, is_private_name, is_sought};
-ghost use Rattle.audit_tree.specs.Names.{selection_of};
+ghost use Rattle.audit_run.specs.Selection.{is_audited, is_key_name, is_private_name, is_sought};
+ghost use Rattle.audit_run.specs.Selection.{selection_of};
 
 use key_text::is_container;
 

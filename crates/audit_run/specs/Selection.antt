@@ -3,8 +3,8 @@ use Rattle.std.specs.Prelude.{ℕ, ◌||◌, Bool, true, false, List, codes, nat
 use Rattle.std.specs.List.{ends_with, starts_with}
 use Rattle.std.specs.Str.{bytes_eq}
 use Rattle.key_text.specs.Armour.{begins_container}
-use Rattle.audit_tree.specs.declared.names.Selection.{Selection}
-use Rattle.audit_tree.specs.declared.names.Selection.TheVariants as selections
+use Rattle.audit_run.specs.declared.selection.Selection.{Selection}
+use Rattle.audit_run.specs.declared.selection.Selection.TheVariants as selections
 
 -- the name of a file of public keys
 abbrev pub is_key_name : List ℕ → Bool

@@ -1,7 +1,7 @@
 -- The line of a terminal that says how far an audit is.
 use Rattle.std.specs.Prelude.{ℕ, List, [], ◌∷◌, ◌++◌, codes, decimal, replicate}
-use Rattle.audit_tree.specs.Summary.{inputs_text, unread_text}
-use Rattle.audit_tree.specs.declared.summary.Summary.{Summary}
+use Rattle.audit_run.specs.Summary.{inputs_text, unread_text}
+use Rattle.audit_run.specs.declared.summary.Summary.{Summary}
 
 -- from the start of the line, the counts so far
 abbrev pub progress_text : Summary → List ℕ

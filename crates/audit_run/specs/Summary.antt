@@ -4,7 +4,7 @@ use Rattle.std.specs.Prelude.{if◌then◌else◌, Option, Some, None}
 use Rattle.cert_listing.specs.Time.{instant_text}
 use Rattle.krl_audit.specs.declared.done.Stated.{Stated}
 use Rattle.line_pieces.specs.Amount.{amount_text}
-use Rattle.audit_tree.specs.declared.summary.Summary.{Summary}
+use Rattle.audit_run.specs.declared.summary.Summary.{Summary}
 
 -- the version and the date of a list
 abbrev pub stated_text : Stated → List ℕ

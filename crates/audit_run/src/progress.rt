@@ -2,7 +2,7 @@
 //! return leads back to its start, and blanks wipe it on a terminal that is as wide as the line.
 
 ghost use Rattle.std.specs.Prelude.{◌≡◌, ◌++◌, OnOk, replicate};
-ghost use Rattle.audit_tree.specs.Progress.{progress_text, wipe_text};
+ghost use Rattle.audit_run.specs.Progress.{progress_text, wipe_text};
 
 use crate::summary::{Summary, push_inputs};
 use line_pieces::put;

@@ -1,8 +1,8 @@
 //! The last line of an audit.
 
 ghost use Rattle.std.specs.Prelude.{◌≡◌, ◌++◌, OnOk};
-ghost use Rattle.audit_tree.specs.Summary.{findings_text, inputs_text, list_text};
-ghost use Rattle.audit_tree.specs.Summary.{names_text, others_text, skipped_words, summary_text};
+ghost use Rattle.audit_run.specs.Summary.{findings_text, inputs_text, list_text};
+ghost use Rattle.audit_run.specs.Summary.{names_text, others_text, skipped_words, summary_text};
 
 use cert_listing::time_text;
 use krl_audit::{Counts, FileCounts, Stated};

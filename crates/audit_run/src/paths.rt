@@ -2,7 +2,7 @@
 
 ghost use Rattle.std.specs.Prelude.{◌≡◌, IfOk, false, string_bytes};
 ghost use Rattle.line_pieces.specs.Visible.{visible_bytes};
-ghost use Rattle.audit_tree.specs.Paths.{path_in};
+ghost use Rattle.audit_run.specs.Paths.{path_in};
 
 use line_pieces::visible_name;
 use std::alloc::{AllocError, Global};

@@ -1,4 +1,0 @@
-pub mod Names
-pub mod Paths
-pub mod Progress
-pub mod Summary
