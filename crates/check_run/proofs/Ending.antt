@@ -11,7 +11,7 @@ use Rattle.run_output.proofs.RunParts.{carries_more}
 use Rattle.run_output.specs.declared.done.Done.{Done}
 use Rattle.krl_arguments.specs.declared.task.Check.{Check}
 use Rattle.krl_format.specs.declared.header.Header.{Header}
-use Rattle.krl_checker.specs.Check.{EndsCheck, check_status}
+use Rattle.list_conditions.specs.Check.{EndsCheck, check_status}
 use Rattle.any_list.specs.Told.{Reading}
 use Rattle.check_run.specs.Files.{Named}
 use Rattle.any_list.specs.List.{stated_by}

@@ -8,7 +8,7 @@ use Rattle.krl_openssh.specs.declared.difference.Difference.{Difference}
 use Rattle.plain_list.specs.Any.{NamesIf, begins_list}
 use Rattle.any_list.specs.List.{IsReadList}
 use Rattle.any_list.specs.declared.list.List.{List as ListOf}
-use Rattle.krl_checker.specs.declared.condition.Condition.TheVariants.{OpenSsh, OpenSshLines}
+use Rattle.list_conditions.specs.declared.condition.Condition.TheVariants.{OpenSsh, OpenSshLines}
 use Rattle.plain_list.specs.Dsa.{IsFirstDsa, line_dsa}
 use Rattle.plain_list.specs.List.{lines_of}
 use Rattle.plain_list.specs.declared.dsa.DsaLine.{DsaLine}

@@ -11,10 +11,10 @@ use Rattle.krl_entries.specs.Revocations.{Revocations}
 use Rattle.krl_audit.specs.declared.done.Stated.{Stated}
 use Rattle.krl_audit.specs.declared.judge.Form.{Form}
 use Rattle.krl_arguments.specs.declared.task.Check.{Check}
-use Rattle.krl_checker.specs.Authorities.{HasAuthorities}
-use Rattle.krl_checker.specs.Check.{NamesNobody, condition_items, end_items, names_nobody}
-use Rattle.krl_checker.specs.Condition.{fails}
-use Rattle.krl_checker.specs.declared.condition.Condition.{Condition}
+use Rattle.list_conditions.specs.Authorities.{HasAuthorities}
+use Rattle.list_conditions.specs.Check.{NamesNobody, condition_items, end_items, names_nobody}
+use Rattle.list_conditions.specs.Condition.{fails}
+use Rattle.list_conditions.specs.declared.condition.Condition.{Condition}
 use Rattle.any_list.specs.List.{IsReadList, stated_by}
 use Rattle.any_list.specs.declared.list.List.{List as ListOf}
 use Rattle.any_list.specs.Told.{Reading}

@@ -15,8 +15,8 @@ use Rattle.krl_types.specs.Subject.{Subject}
 use Rattle.krl_entries.specs.declared.reasons.Reasons.{Reasons}
 use Rattle.krl_audit.specs.declared.judge.Form.{Form}
 use Rattle.krl_audit.specs.declared.why.Refusal.{Refusal}
-use Rattle.krl_checker.specs.Check.{ChecksFile}
-use Rattle.krl_checker.specs.declared.role.Role.{Role}
+use Rattle.list_conditions.specs.Check.{ChecksFile}
+use Rattle.list_conditions.specs.declared.role.Role.{Role}
 use Rattle.any_list.specs.Told.{KeysRead, Reading}
 use Rattle.check_run.specs.Files.{AreRead, ChecksFiles, Named, Read, fact_read, is_unread, named, named_all, passed, read_fails, read_items, reads_fail, reads_items, some_unread}
 use Rattle.check_run.specs.Lists.{Checks}

@@ -4,8 +4,8 @@ use Rattle.run_faults.specs.RunFault.{RunFault}
 use Rattle.run_output.specs.Printer.{Printer}
 use Rattle.krl_types.specs.Entry.{Entry}
 use Rattle.krl_audit.specs.declared.judge.Form.{Form}
-use Rattle.krl_checker.specs.Check.{condition_items, names_nobody}
-use Rattle.krl_checker.specs.declared.condition.Condition.TheVariants.{NothingLost}
+use Rattle.list_conditions.specs.Check.{condition_items, names_nobody}
+use Rattle.list_conditions.specs.declared.condition.Condition.TheVariants.{NothingLost}
 use Rattle.krl_entries.specs.Revocations.{Means, Revocations}
 use Rattle.list_diff.specs.Without.{HoldsWithout}
 use Rattle.check_run.specs.Lists.{Checks}

@@ -7,7 +7,7 @@ use Rattle.run_faults.specs.RunFault.{RunFault}
 use Rattle.krl_arguments.specs.declared.task.Check.{Check}
 use Rattle.krl_types.specs.Entry.{Entry}
 use Rattle.krl_entries.specs.Reasons.{reasons_of}
-use Rattle.krl_checker.specs.Check.{check_status}
+use Rattle.list_conditions.specs.Check.{check_status}
 use Rattle.any_list.specs.Told.{ListRead, Reading}
 use Rattle.check_run.specs.Files.{reads_fail}
 use Rattle.check_run.specs.Limits.{AreLimits, IsLostOf}

@@ -12,10 +12,10 @@ use Rattle.krl_entries.specs.Tested.{some_names}
 use Rattle.krl_entries.proofs.MoreNames.{revoked_by_more}
 use Rattle.krl_entries.proofs.NameTests.{none_tested, some_tested}
 use Rattle.krl_entries.proofs.OwnEntries.{means_itself}
-use Rattle.krl_checker.specs.Check.{names_nobody}
-use Rattle.krl_checker.proofs.Nobody.{law}
-use Rattle.krl_checker.specs.Condition.{fails}
-use Rattle.krl_checker.specs.declared.condition.Condition.TheVariants.{Slow}
+use Rattle.list_conditions.specs.Check.{names_nobody}
+use Rattle.list_conditions.proofs.Nobody.{law}
+use Rattle.list_conditions.specs.Condition.{fails}
+use Rattle.list_conditions.specs.declared.condition.Condition.TheVariants.{Slow}
 use Rattle.check_run.specs.Lists.{ages_fail, empty_fails, limits_fail, most_cas, version_of, versions_fail}
 use Rattle.check_run.specs.Losses.{AreLost, losses_fail}
 use Rattle.check_run.specs.Run.{Judged, list_fails}

@@ -10,10 +10,10 @@ use Rattle.krl_entries.specs.declared.reasons.Reasons.{Reasons}
 use Rattle.krl_audit.specs.declared.judge.Form.{Form}
 use Rattle.krl_audit.specs.declared.why.Refusal.{Refusal}
 use Rattle.krl_arguments.specs.declared.task.Check.{Check}
-use Rattle.krl_checker.specs.Check.{counts_of, keys_items}
-use Rattle.krl_checker.specs.Role.{is_met}
-use Rattle.krl_checker.specs.declared.role.Role.{Role}
-use Rattle.krl_checker.specs.declared.role.Role.TheVariants.{Canary, Keep}
+use Rattle.list_conditions.specs.Check.{counts_of, keys_items}
+use Rattle.list_conditions.specs.Role.{is_met}
+use Rattle.list_conditions.specs.declared.role.Role.{Role}
+use Rattle.list_conditions.specs.declared.role.Role.TheVariants.{Canary, Keep}
 use Rattle.any_list.specs.Told.{KeysRead, Reading}
 use Rattle.check_run.specs.Lists.{Checks}
 

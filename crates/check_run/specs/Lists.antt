@@ -14,12 +14,12 @@ use Rattle.krl_audit.specs.declared.done.Stated.{Stated}
 use Rattle.krl_audit.specs.declared.judge.Form.{Form}
 use Rattle.krl_openssh.specs.Fields.{IsFirstDifference}
 use Rattle.krl_openssh.specs.declared.difference.Difference.{Difference}
-use Rattle.krl_checker.specs.Check.{condition_items}
-use Rattle.krl_checker.specs.Condition.{fails, is_fresh}
-use Rattle.krl_checker.specs.declared.condition.Condition.{Condition}
-use Rattle.krl_checker.specs.declared.condition.Condition.TheVariants.{Age, Empty, NoDate}
-use Rattle.krl_checker.specs.declared.condition.Condition.TheVariants.{NoVersion, OpenSsh}
-use Rattle.krl_checker.specs.declared.condition.Condition.TheVariants.{OpenSshLines, Slow, Version}
+use Rattle.list_conditions.specs.Check.{condition_items}
+use Rattle.list_conditions.specs.Condition.{fails, is_fresh}
+use Rattle.list_conditions.specs.declared.condition.Condition.{Condition}
+use Rattle.list_conditions.specs.declared.condition.Condition.TheVariants.{Age, Empty, NoDate}
+use Rattle.list_conditions.specs.declared.condition.Condition.TheVariants.{NoVersion, OpenSsh, Slow}
+use Rattle.list_conditions.specs.declared.condition.Condition.TheVariants.{OpenSshLines, Version}
 use Rattle.plain_list.specs.Any.{Names, begins_list}
 use Rattle.plain_list.specs.Dsa.{IsFirstDsa}
 use Rattle.plain_list.specs.List.{lines_of}

@@ -6,9 +6,9 @@ use Rattle.krl_types.specs.Entry.{Entry}
 use Rattle.krl_types.specs.Naming.{Name, SomeNames}
 use Rattle.krl_entries.specs.Revocations.{HoldsName, IsOrderly, Revocations}
 use Rattle.krl_audit.specs.declared.judge.Form.{Form}
-use Rattle.krl_checker.specs.Check.{condition_items, is_json, names_nobody}
-use Rattle.krl_checker.specs.declared.condition.Condition.TheVariants.{Lost as LostEntries}
-use Rattle.krl_checker.specs.declared.condition.Condition.TheVariants.{NothingLost}
+use Rattle.list_conditions.specs.Check.{condition_items, is_json, names_nobody}
+use Rattle.list_conditions.specs.declared.condition.Condition.TheVariants.{Lost as LostEntries}
+use Rattle.list_conditions.specs.declared.condition.Condition.TheVariants.{NothingLost}
 use Rattle.list_text.specs.Counts.{counted_all, nothing_counted}
 use Rattle.list_text.specs.Facts.{facts_of}
 use Rattle.list_text.specs.declared.form.Form.{Form as TextForm}

@@ -13,13 +13,13 @@ use Rattle.krl_entries.specs.Revocations.{Revocations}
 use Rattle.krl_audit.specs.declared.done.Stated.{Stated}
 use Rattle.krl_audit.specs.declared.judge.Form.{Form}
 use Rattle.krl_audit.specs.declared.judge.Form.TheVariants.{Json, Text}
-use Rattle.krl_checker.specs.Authorities.{HasAuthorities}
-use Rattle.krl_checker.specs.Check.{EndsCheck, NamesNobody, condition_items, end_items}
-use Rattle.krl_checker.specs.Check.{names_nobody}
-use Rattle.krl_checker.specs.Condition.{fails}
-use Rattle.krl_checker.specs.declared.checker.Checker.{Checker}
-use Rattle.krl_checker.specs.declared.condition.Condition.{Condition}
-use Rattle.krl_checker.specs.declared.condition.Condition.TheVariants.{Slow}
+use Rattle.list_conditions.specs.Authorities.{HasAuthorities}
+use Rattle.list_conditions.specs.Check.{EndsCheck, NamesNobody, condition_items, end_items}
+use Rattle.list_conditions.specs.Check.{names_nobody}
+use Rattle.list_conditions.specs.Condition.{fails}
+use Rattle.list_conditions.specs.declared.checker.Checker.{Checker}
+use Rattle.list_conditions.specs.declared.condition.Condition.{Condition}
+use Rattle.list_conditions.specs.declared.condition.Condition.TheVariants.{Slow}
 use Rattle.plain_list.specs.Any.{Names}
 use Rattle.any_list.specs.List.{IsRefused, stated_by}
 use Rattle.any_list.specs.Told.{ListRead, Reading}

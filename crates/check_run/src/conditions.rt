@@ -1,8 +1,8 @@
 //! The conditions for the list itself.
 
 ghost use Rattle.std.specs.Prelude.{◌≡◌, false, true};
-ghost use Rattle.krl_checker.specs.Check.{condition_items, names_nobody};
-ghost use Rattle.krl_checker.specs.Condition.{fails};
+ghost use Rattle.list_conditions.specs.Check.{condition_items, names_nobody};
+ghost use Rattle.list_conditions.specs.Condition.{fails};
 ghost use Rattle.check_run.specs.Lists.{ChecksFormat, ChecksLines, ages_fail, ages_items};
 ghost use Rattle.check_run.specs.Lists.{empty_fails, empty_items, limits_fail, limits_items};
 ghost use Rattle.check_run.specs.Lists.{slow_of, version_of, versions_fail, versions_items};
@@ -15,8 +15,8 @@ use crate::lists::{Lost, Other, version_of};
 use any_list::Given;
 use byte_streams::Sink;
 use krl_audit::{Form, Stated};
-use krl_checker::{Checker, Condition, names_nobody};
 use krl_openssh::first_difference;
+use list_conditions::{Checker, Condition, names_nobody};
 use list_text::{Counts, Form as TextForm, Side};
 use plain_list::first_dsa_line;
 use run_faults::{Cause, RunFault};

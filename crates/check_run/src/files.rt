@@ -10,7 +10,7 @@ ghost use Rattle.check_run.specs.Files.{ChecksFiles, files_of, named, named_all}
 use crate::host::Host;
 use byte_streams::Sink;
 use krl_arguments::Check;
-use krl_checker::{Checker, Role};
+use list_conditions::{Checker, Role};
 use run_faults::{Cause, RunFault};
 
 /// Checks the keys of the files that must not be revoked, and of those that must be.

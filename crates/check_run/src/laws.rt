@@ -8,7 +8,7 @@ ghost use Rattle.krl_types.specs.Entry.{Entry};
 ghost use Rattle.krl_types.specs.Subject.{Subject};
 ghost use Rattle.krl_entries.specs.Revocations.{Revocations};
 ghost use Rattle.krl_entries.specs.Revoked.{Revoked};
-ghost use Rattle.krl_checker.specs.Check.{names_nobody};
+ghost use Rattle.list_conditions.specs.Check.{names_nobody};
 ghost use Rattle.any_list.specs.Told.{Reading};
 ghost use Rattle.check_run.specs.Losses.{AreLost};
 ghost use Rattle.check_run.specs.Run.{EndsCheckRun, Judged, list_fails};

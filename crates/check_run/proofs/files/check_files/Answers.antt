@@ -2,7 +2,7 @@
 use Rattle.std.proofs.lemmas.Result.{err_from_is_err_and}
 use Rattle.any_list.proofs.Telling.{told_then}
 use Rattle.krl_entries.specs.Reasons.{reasons_of}
-use Rattle.krl_checker.specs.declared.role.Role.TheVariants.{Canary, Keep}
+use Rattle.list_conditions.specs.declared.role.Role.TheVariants.{Canary, Keep}
 use Rattle.check_run.specs.Files.{named_all}
 use Rattle.check_run.proofs.KeyFiles.{files_stop, files_then}
 use Rattle.check_run.proofs.files.check_files.Goals as goal

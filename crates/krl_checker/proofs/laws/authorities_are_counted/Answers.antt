@@ -1,6 +1,0 @@
--- Each authority that is held is named, and each that is named is held.
-use Rattle.krl_checker.proofs.CountedAuthorities.{law}
-use Rattle.krl_checker.proofs.laws.authorities_are_counted.Goals as goal
-
-pub returns : goal.returns
-returns c = law

@@ -1,6 +1,0 @@
--- The counts of lines determine the kinds of the lines.
-use Rattle.krl_checker.proofs.Counting.{law}
-use Rattle.krl_checker.proofs.laws.counts_are_met_by_lines.Goals as goal
-
-pub returns : goal.returns
-returns c = law

@@ -1,0 +1,90 @@
+-- Keys that their lines mark as revoked.
+use Rattle.std.proofs.Common.{◌≡◌, ℕ, ◌+◌, ◌<◌, ◌^◌, ◌∙◌, ap, arith, Bool, false, inl, inr, ◌⊎◌, length, List, None, Ok, Option, refl, Some, subst, suc, sym, true, [], ◌∷◌}
+use Rattle.std.specs.List.{AllByRecursion}
+use Rattle.key_text.specs.Armour.{begins_container}
+use Rattle.key_text.specs.declared.marker.Marker.TheVariants as markers
+use Rattle.krl_types.specs.Subject.{Subject}
+use Rattle.krl_entries.specs.declared.reasons.Reasons.{Reasons}
+use Rattle.krl_audit.specs.Audit.{file_kinds, file_lines, keyless, kind_of, kinds_of, or_whole, text_lines}
+use Rattle.krl_audit.specs.Counts.{all_counted}
+use Rattle.krl_audit.specs.Front.{fronts_of}
+use Rattle.krl_audit.specs.Keyless.{keyless_lines, keyless_unless}
+use Rattle.krl_audit.specs.Outcome.{Empty, Found, Key, Outcome, Outcomes, Placed, Unread, plain_lines}
+use Rattle.krl_audit.specs.declared.counts.LineKind.{LineKind}
+use Rattle.krl_audit.specs.declared.counts.LineKind.TheVariants as kinds
+use Rattle.list_conditions.specs.Check.{counts_of, none_counted, with_unread}
+use Rattle.list_conditions.specs.Role.{AreMarked, HasKey, IsMarked, IsMarkedKey, MayBe, SomeMarked, is_met}
+use Rattle.list_conditions.specs.declared.role.Role.TheVariants as roles
+use Rattle.list_conditions.proofs.Counting.{law}
+
+pub distrusted : (reasons : Subject → Reasons) (found : Found) → found.marker ≡ Some markers.Revoked → kind_of reasons (Key found) ≡ kinds.Distrusted
+distrusted reasons found is = rw is refl
+
+-- ---- the lines
+
+may_be : (reasons : Subject → Reasons) (outcome : Outcome) → IsMarked outcome → MayBe roles.Keep (kind_of reasons outcome)
+may_be reasons Empty marked = tt
+may_be reasons (Key found) marked = subst (λ (kind : LineKind). MayBe roles.Keep kind) (sym (distrusted reasons found marked)) tt
+may_be reasons (Unread why) marked = absurd marked
+
+all_may_be : (reasons : Subject → Reasons) (lines : List Placed) → AreMarked lines → AllByRecursion (MayBe roles.Keep) (kinds_of reasons lines)
+all_may_be reasons [] marked = tt
+all_may_be reasons (line ∷ lines) marked = (may_be reasons line.outcome marked.0, all_may_be reasons lines marked.1)
+
+-- a marked key is no canary
+no_canary : (reasons : Subject → Reasons) (outcome : Outcome) → IsMarkedKey outcome → MayBe roles.Canary (kind_of reasons outcome) → ⊥
+no_canary reasons Empty marked may = marked
+no_canary reasons (Key found) marked may = subst (λ (kind : LineKind). MayBe roles.Canary kind) (distrusted reasons found marked) may
+no_canary reasons (Unread why) marked may = marked
+
+no_canaries : (reasons : Subject → Reasons) (lines : List Placed) → SomeMarked lines → AllByRecursion (MayBe roles.Canary) (kinds_of reasons lines) → ⊥
+no_canaries reasons [] some all = some
+no_canaries reasons (line ∷ lines) (inl marked) all = no_canary reasons line.outcome marked all.0
+no_canaries reasons (line ∷ lines) (inr later) all = no_canaries reasons lines later all.1
+
+-- ---- a file
+
+-- A file with a line that is not reported as unread is not reported as a whole.
+abbrev IsByLines : List Placed → Type 0
+IsByLines lines = AreMarked lines ⊎ SomeMarked lines
+
+not_whole : (count : Option ℕ) (lines : List Outcomes) → IsByLines (or_whole count lines) → count ≡ None
+not_whole None lines is = refl
+not_whole (Some count) lines (inl marked) = absurd marked.0
+not_whole (Some count) lines (inr (inl marked)) = absurd marked
+not_whole (Some count) lines (inr (inr later)) = absurd later
+
+line_by_line : (container : Bool) (name text : List ℕ) → IsByLines (text_lines container name text) → keyless_unless container name text ≡ None
+line_by_line true name text is = refl
+line_by_line false name text is = not_whole (keyless (plain_lines (fronts_of name) text)) (plain_lines (fronts_of name) text) is
+
+counts_are : (reasons : Subject → Reasons) (name text : List ℕ) → IsByLines (file_lines name (Ok text)) → counts_of reasons name (Ok text) ≡ all_counted none_counted (kinds_of reasons (file_lines name (Ok text)))
+unfolding file_lines keyless_lines file_kinds
+counts_are reasons name text is =
+    ap (λ (count : Option ℕ). with_unread count (all_counted none_counted (file_kinds reasons name (Ok text)))) (line_by_line (begins_container text) name text is)
+
+not_true : (b : Bool) → (b ≡ true → ⊥) → b ≡ false
+not_true true never = absurd (never refl)
+not_true false never = refl
+
+as_many : (reasons : Subject → Reasons) (lines : List Placed) → length (kinds_of reasons lines) ≡ length lines
+as_many reasons [] = refl
+as_many reasons (line ∷ lines) = ap suc (as_many reasons lines)
+
+fit : (reasons : Subject → Reasons) (lines : List Placed) → length lines + 1 < 2 ^ 64 → length (kinds_of reasons lines) + 1 < 2 ^ 64
+fit reasons lines room = omega (arith, room, as_many reasons lines)
+
+pub keep : (reasons : Subject → Reasons) (name text : List ℕ) → length (file_lines name (Ok text)) + 1 < 2 ^ 64 → AreMarked (file_lines name (Ok text)) → HasKey (file_kinds reasons name (Ok text))
+    → is_met roles.Keep (counts_of reasons name (Ok text)) ≡ true
+unfolding file_kinds
+keep reasons name text room marked some =
+    let lines : List Placed = file_lines name (Ok text) in
+    let met : is_met roles.Keep (all_counted none_counted (kinds_of reasons lines)) ≡ true = (law roles.Keep (kinds_of reasons lines) (fit reasons lines room)).1 (all_may_be reasons lines marked, some) in
+    ap (is_met roles.Keep) (counts_are reasons name text (inl marked)) ∙ met
+
+pub canary : (reasons : Subject → Reasons) (name text : List ℕ) → length (file_lines name (Ok text)) + 1 < 2 ^ 64 → SomeMarked (file_lines name (Ok text)) → is_met roles.Canary (counts_of reasons name (Ok text)) ≡ false
+canary reasons name text room some =
+    let lines : List Placed = file_lines name (Ok text) in
+    let counts = all_counted none_counted (kinds_of reasons lines) in
+    let never : is_met roles.Canary counts ≡ true → ⊥ = λ met. no_canaries reasons lines some ((law roles.Canary (kinds_of reasons lines) (fit reasons lines room)).0 met).0 in
+    ap (is_met roles.Canary) (counts_are reasons name text (inr some)) ∙ not_true (is_met roles.Canary counts) never
