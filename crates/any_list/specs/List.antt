@@ -17,7 +17,7 @@ use Rattle.run_faults.specs.Keys.{run_fault_at}
 use Rattle.run_faults.specs.RunFault.{RunFault, krl_cause, run_fault_of}
 use Rattle.run_faults.specs.declared.cause.Cause.{Cause}
 use Rattle.run_faults.specs.declared.cause.Cause.TheVariants as causes
-use Rattle.krl_audit.specs.declared.done.Stated.{Stated}
+use Rattle.krl_format.specs.declared.header.Stated.{Stated}
 use Rattle.any_list.specs.Told.{ListRead, Reading}
 use Rattle.any_list.specs.declared.given.Given.{Given}
 use Rattle.any_list.specs.declared.list.List.{List as ListOf}

@@ -1,7 +1,7 @@
 -- The files and moments that a run has read, in their order.
 use Rattle.std.specs.Prelude.{◌≡◌, ℕ, List, ◌++◌, Option, Some, None, Result}
 use Rattle.run_faults.specs.declared.cause.Cause.{Cause}
-use Rattle.krl_audit.specs.declared.why.Refusal.{Refusal}
+use Rattle.audit_lines.specs.declared.why.Refusal.{Refusal}
 
 pub data Reading : Type 0 where
   -- the bytes of the file of a list, or why they are not read

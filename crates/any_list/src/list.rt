@@ -8,8 +8,8 @@ ghost use Rattle.any_list.specs.List.{IsReadList, IsReadWhole, IsWholeFault, pla
 ghost use Rattle.any_list.specs.List.{stated_by};
 
 use byte_streams::Lent;
-use krl_audit::Stated;
 use krl_core::{Header, KrlFault, Revocations, read_krl};
+use krl_format::Stated;
 use plain_list::{PlainFault, begins_list, read_plain};
 use run_faults::{Cause, RunFault, cause_of};
 use span_sets::Held;

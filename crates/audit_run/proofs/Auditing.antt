@@ -19,7 +19,7 @@ use Rattle.krl_audit.specs.Counts.{all_counted}
 use Rattle.krl_audit.specs.declared.counts.Counts.{Counts}
 use Rattle.krl_audit.specs.declared.judge.Judge.{Judge}
 use Rattle.krl_audit.specs.declared.judge.Shown.{Shown}
-use Rattle.krl_audit.specs.declared.why.Refusal.{Refusal}
+use Rattle.audit_lines.specs.declared.why.Refusal.{Refusal}
 use Rattle.audit_run.specs.Visits.{AreQuiet, AreTimely, Audited, Audits, AuditsBy, Begun, Goes, IsSince, IsStopped}
 use Rattle.audit_run.specs.Visits.{IsTallied, IsTimely, Meets, Same, Says, Skipped, State, Tally, Visit}
 use Rattle.audit_run.specs.Visits.{all_tallied, gives, gives_one, is_seen, passes, reveals, stop_for, tallied}

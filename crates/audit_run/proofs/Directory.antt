@@ -2,7 +2,7 @@
 use Rattle.std.proofs.Common.{◌≡◌, ℕ, ◌≤◌, Bool, true, false, List, [], ◌++◌, Option, None, Some}
 use Rattle.std.proofs.Common.{Result, Err, refl, sym, ap, subst, ◌∙◌, append-nil, inl, inr}
 use Rattle.std.specs.Result.{result_err}
-use Rattle.krl_audit.specs.declared.why.Refusal.TheVariants as refusals
+use Rattle.audit_lines.specs.declared.why.Refusal.TheVariants as refusals
 use Rattle.audit_run.specs.Fact.{Fact}
 use Rattle.audit_run.specs.Visits.{Begun, Goes, Meets, State, Visit, Went, gives, passes, refused}
 use Rattle.audit_run.specs.Walk.{entering, nothing, Walked, IsDirectory, IsEntered, Level, MayTurn, Turns, before, endless, most_turns, no_file, none, stopped, walked}

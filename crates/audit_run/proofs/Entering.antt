@@ -4,7 +4,7 @@ use Rattle.std.specs.Str.{IsUtf8}
 use Rattle.audit_run.specs.Selection.{selection_of}
 use Rattle.audit_run.specs.Paths.{path_in}
 use Rattle.audit_run.specs.declared.selection.Selection.{Selection}
-use Rattle.krl_audit.specs.declared.why.Refusal.{Refusal}
+use Rattle.audit_lines.specs.declared.why.Refusal.{Refusal}
 use Rattle.audit_run.specs.Entries.{IsKept, IsLooked, here, is_expected}
 use Rattle.audit_run.specs.Names.{is_directory}
 use Rattle.audit_run.specs.Fact.{Fact, Leads}

@@ -11,8 +11,8 @@ use Rattle.audit_run.specs.Selection.{is_sought, selection_of}
 use Rattle.audit_run.specs.Paths.{path_in}
 use Rattle.audit_run.specs.declared.selection.Selection.{Selection}
 use Rattle.key_text.specs.Armour.{begins_container}
-use Rattle.krl_audit.specs.declared.why.Refusal.{Refusal}
-use Rattle.krl_audit.specs.declared.why.Refusal.TheVariants as refusals
+use Rattle.audit_lines.specs.declared.why.Refusal.{Refusal}
+use Rattle.audit_lines.specs.declared.why.Refusal.TheVariants as refusals
 use Rattle.audit_run.specs.Below.{HasName, IsBelow, IsFileBelow, IsSelected, IsSteady, IsVisitOf, LeadsToFile, SomeUnread, SomeVisit}
 use Rattle.audit_run.specs.Below.{by_front, by_name, deeper, itself, linked, regular}
 use Rattle.audit_run.specs.Entries.{IsBehind, IsFileBy, IsFound, IsLooked, IsOpened, IsOpenedIf, IsPrivateBy, IsPrivateFile, IsPrivateIf}

@@ -11,7 +11,7 @@ use Rattle.krl_entries.specs.declared.reasons.Reasons.{Reasons}
 use Rattle.krl_audit.specs.Audit.{ToldFile}
 use Rattle.krl_audit.specs.declared.counts.Counts.{Counts}
 use Rattle.krl_audit.specs.declared.judge.Shown.{Shown}
-use Rattle.krl_audit.specs.declared.why.Refusal.{Refusal}
+use Rattle.audit_lines.specs.declared.why.Refusal.{Refusal}
 
 pub carried_and_sent : (items : List Item) (value : Unit {0}) (result : Result (Unit {0}) RunFault) (old mid new : Printer)
     → Carries {A = Unit {0}} items (Ok value) old mid → Carries {A = Unit {0}} [] result mid new → Carries {A = Unit {0}} items result old new

@@ -5,7 +5,7 @@ use Rattle.std.specs.Prelude.{is_some}
 use Rattle.std.proofs.lemmas.List.{map-append}
 use Rattle.std.specs.Global.{Vec}
 use Rattle.audit_run.specs.Paths.{path_in}
-use Rattle.krl_audit.specs.declared.why.Refusal.TheVariants as refusals
+use Rattle.audit_lines.specs.declared.why.Refusal.TheVariants as refusals
 use Rattle.audit_run.specs.Entries.{IsEntry, IsKept, below, excluded, here, kept, no_text, not_selected}
 use Rattle.audit_run.specs.Fact.{Fact}
 use Rattle.audit_run.specs.Visits.{AuditsBy, Begun, Meets, State, Visit}

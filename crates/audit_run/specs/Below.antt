@@ -7,7 +7,7 @@ use Rattle.audit_run.specs.Selection.{selection_of}
 use Rattle.audit_run.specs.Paths.{path_in}
 use Rattle.audit_run.specs.declared.selection.Selection.{Selection}
 use Rattle.audit_run.specs.declared.selection.Selection.TheVariants as selections
-use Rattle.krl_audit.specs.declared.why.Refusal.{Refusal}
+use Rattle.audit_lines.specs.declared.why.Refusal.{Refusal}
 use Rattle.audit_run.specs.Fact.{Elsewhere, Excludes, Fact, Leads, Lists, OpenFile, Opens}
 use Rattle.audit_run.specs.Names.{is_dots}
 use Rattle.audit_run.specs.Reading.{front_of}

@@ -7,12 +7,12 @@ use Rattle.audit_run.specs.Selection.{selection_of}
 use Rattle.audit_run.specs.Paths.{path_in}
 use Rattle.audit_run.specs.declared.selection.Selection.{Selection}
 use Rattle.audit_run.specs.declared.selection.Selection.TheVariants as selections
-use Rattle.krl_audit.specs.Front.{fronts_of, is_read_by_lines, reads_every}
+use Rattle.audit_lines.specs.Front.{fronts_of, is_read_by_lines, reads_every}
 use Rattle.line_pieces.specs.Visible.{visible_bytes}
-use Rattle.krl_audit.specs.declared.front.Fronts.{Fronts}
-use Rattle.krl_audit.specs.declared.front.Fronts.TheVariants as fronts
-use Rattle.krl_audit.specs.declared.why.Refusal.{Refusal}
-use Rattle.krl_audit.specs.declared.why.Refusal.TheVariants as refusals
+use Rattle.audit_lines.specs.declared.front.Fronts.{Fronts}
+use Rattle.audit_lines.specs.declared.front.Fronts.TheVariants as fronts
+use Rattle.audit_lines.specs.declared.why.Refusal.{Refusal}
+use Rattle.audit_lines.specs.declared.why.Refusal.TheVariants as refusals
 use Rattle.audit_run.specs.Fact.{Excludes, Fact, Fails, Leads, OpenFile, Opens}
 use Rattle.audit_run.specs.Names.{is_directory, is_directory_kind, is_link_kind, is_never}
 use Rattle.audit_run.specs.Reading.{IsContent, front_of}

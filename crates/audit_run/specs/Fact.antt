@@ -1,6 +1,6 @@
 -- The facts that a tree of files may state about a path.
 use Rattle.std.specs.Prelude.{ℕ, Bool, List, Option, Result}
-use Rattle.krl_audit.specs.declared.why.Refusal.{Refusal}
+use Rattle.audit_lines.specs.declared.why.Refusal.{Refusal}
 use Rattle.audit_run.specs.declared.kind.Found.{Found}
 use Rattle.audit_run.specs.declared.kind.Identity.{Identity}
 

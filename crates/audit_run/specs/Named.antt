@@ -5,8 +5,8 @@ use Rattle.std.specs.Prelude.{Option, Some, None, IfSome, Result, Ok, Err}
 use Rattle.std.specs.Borrow.{Bor}
 use Rattle.std.specs.Str.{IsUtf8, bytes_eq}
 use Rattle.line_pieces.specs.Visible.{visible_bytes}
-use Rattle.krl_audit.specs.declared.why.Refusal.{Refusal}
-use Rattle.krl_audit.specs.declared.why.Refusal.TheVariants as refusals
+use Rattle.audit_lines.specs.declared.why.Refusal.{Refusal}
+use Rattle.audit_lines.specs.declared.why.Refusal.TheVariants as refusals
 use Rattle.audit_run.specs.Entries.{FailsAt, IsOpened, IsRead, IsRegular}
 use Rattle.audit_run.specs.Fact.{Fact, Leads, OpenFile, Opens}
 use Rattle.audit_run.specs.Names.{is_directory, is_file_kind, is_null_kind}

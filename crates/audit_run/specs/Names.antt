@@ -10,8 +10,8 @@ use Rattle.audit_run.specs.Selection.{is_sought, selection_of}
 use Rattle.audit_run.specs.Paths.{path_in}
 use Rattle.audit_run.specs.declared.selection.Selection.{Selection}
 use Rattle.audit_run.specs.declared.selection.Selection.TheVariants as selections
-use Rattle.krl_audit.specs.declared.why.Refusal.{Refusal}
-use Rattle.krl_audit.specs.declared.why.Refusal.TheVariants.{Missing}
+use Rattle.audit_lines.specs.declared.why.Refusal.{Refusal}
+use Rattle.audit_lines.specs.declared.why.Refusal.TheVariants.{Missing}
 use Rattle.audit_run.specs.Fact.{Excludes, Fact, Leads, Sought}
 use Rattle.audit_run.specs.ZeroEnded.{names_after}
 use Rattle.audit_run.specs.declared.kind.Found.{Found}

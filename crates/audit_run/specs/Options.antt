@@ -1,7 +1,7 @@
 -- Which findings are printed, and how, by the options of the command.
 use Rattle.std.specs.Prelude.{◌&&◌, Bool, true, false, not}
-use Rattle.krl_audit.specs.declared.judge.Form.{Form}
-use Rattle.krl_audit.specs.declared.judge.Form.TheVariants as forms
+use Rattle.audit_text.specs.declared.form.Form.{Form}
+use Rattle.audit_text.specs.declared.form.Form.TheVariants as forms
 use Rattle.krl_audit.specs.declared.judge.Shown.{Shown}
 use Rattle.audit_run.specs.declared.options.Options.{Options}
 use Rattle.audit_run.specs.declared.options.Terminal.{Terminal}

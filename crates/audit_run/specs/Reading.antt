@@ -3,8 +3,8 @@ use Rattle.std.specs.Prelude.{◌≡◌, ℕ, ◌≤◌, ◌<◌, Bool, true, fa
 use Rattle.std.specs.Prelude.{Option, Some, None, IfSome, Result, Ok, Err}
 use Rattle.std.specs.Io.KnownBytes.{Consumes, IsAtEnd}
 use Rattle.run_faults.specs.Named.{file_limit}
-use Rattle.krl_audit.specs.declared.why.Refusal.{Refusal}
-use Rattle.krl_audit.specs.declared.why.Refusal.TheVariants as refusals
+use Rattle.audit_lines.specs.declared.why.Refusal.{Refusal}
+use Rattle.audit_lines.specs.declared.why.Refusal.TheVariants as refusals
 use Rattle.audit_run.specs.declared.reading.Came.{Came}
 use Rattle.audit_run.specs.declared.reading.Came.TheVariants as cames
 

@@ -15,13 +15,13 @@ use Rattle.krl_types.specs.Subject.{Subject}
 use Rattle.krl_entries.specs.Revocations.{Means}
 use Rattle.krl_entries.specs.declared.reasons.Reasons.{Reasons}
 use Rattle.krl_audit.specs.Audit.{EndsAudit, JudgesAs, MeanCanaries, reasons_but}
-use Rattle.krl_audit.specs.Objects.{done_object}
+use Rattle.krl_audit.specs.Done.{done_object}
 use Rattle.audit_run.specs.declared.summary.Summary.{Summary}
 use Rattle.any_list.specs.List.{IsListFault, IsReadList, stated_by}
 use Rattle.any_list.specs.declared.list.List.{List as ReadList}
 use Rattle.run_output.specs.declared.done.Done.{Done}
-use Rattle.krl_audit.specs.declared.judge.Form.{Form}
-use Rattle.krl_audit.specs.declared.judge.Form.TheVariants as forms
+use Rattle.audit_text.specs.declared.form.Form.{Form}
+use Rattle.audit_text.specs.declared.form.Form.TheVariants as forms
 use Rattle.krl_audit.specs.declared.judge.Shown.{Shown}
 use Rattle.krl_openssh.specs.Comparable.{IsIncomparable}
 use Rattle.krl_openssh.specs.declared.authorities.Incomparable.{Incomparable}

@@ -2,7 +2,7 @@
 use Rattle.std.specs.Prelude.{ℕ, ◌==◌, Bool, true, false, List, [], ◌++◌, codes, decimal}
 use Rattle.std.specs.Prelude.{if◌then◌else◌, Option, Some, None}
 use Rattle.cert_listing.specs.Time.{instant_text}
-use Rattle.krl_audit.specs.declared.done.Stated.{Stated}
+use Rattle.krl_format.specs.declared.header.Stated.{Stated}
 use Rattle.line_pieces.specs.Amount.{amount_text}
 use Rattle.audit_run.specs.declared.summary.Summary.{Summary}
 

@@ -18,12 +18,12 @@ use Rattle.krl_types.specs.Subject.{Subject}
 use Rattle.krl_entries.specs.declared.reasons.Reasons.{Reasons}
 use Rattle.krl_audit.specs.Audit.{JudgesAs, file_items, file_kinds, said_if}
 use Rattle.krl_audit.specs.Counts.{all_counted, one_more}
-use Rattle.krl_audit.specs.Same.{same_said}
+use Rattle.audit_text.specs.Same.{same_said}
 use Rattle.krl_audit.specs.declared.counts.Counts.{Counts}
 use Rattle.krl_audit.specs.declared.done.FileCounts.{FileCounts}
 use Rattle.krl_audit.specs.declared.judge.Judge.{Judge}
 use Rattle.krl_audit.specs.declared.judge.Shown.{Shown}
-use Rattle.krl_audit.specs.declared.why.Refusal.{Refusal}
+use Rattle.audit_lines.specs.declared.why.Refusal.{Refusal}
 use Rattle.audit_run.specs.declared.files.Files.{Files}
 use Rattle.audit_run.specs.declared.files.Since.{Since}
 use Rattle.audit_run.specs.declared.files.Skip.{Skip}

@@ -7,9 +7,9 @@ use Rattle.std.specs.Prelude.{Result, Ok, Err}
 use Rattle.std.specs.Prelude.{string_bytes}
 use Rattle.std.specs.Global.{Vec}
 use Rattle.audit_run.specs.Paths.{path_in}
-use Rattle.krl_audit.specs.Front.{reads_every}
-use Rattle.krl_audit.specs.declared.why.Refusal.{Refusal}
-use Rattle.krl_audit.specs.declared.why.Refusal.TheVariants as refusals
+use Rattle.audit_lines.specs.Front.{reads_every}
+use Rattle.audit_lines.specs.declared.why.Refusal.{Refusal}
+use Rattle.audit_lines.specs.declared.why.Refusal.TheVariants as refusals
 use Rattle.audit_run.specs.Entries.{IsEntry}
 use Rattle.audit_run.specs.Fact.{Breaks, Elsewhere, Fact, Lists}
 use Rattle.audit_run.specs.Names.{AreWantedInOrder}

@@ -24,7 +24,7 @@ use crate::round::{Round, Screen};
 use crate::selection::{Selection, selection_of};
 use crate::stop::Stop;
 use crate::tree::Tree;
-use krl_audit::{Refusal, reads_every};
+use audit_lines::{Refusal, reads_every};
 use std::str;
 
 /// A path in a directory: whether a file there is read by its name, and whether sshd or ssh reads a

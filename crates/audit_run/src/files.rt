@@ -6,7 +6,8 @@ ghost use Rattle.audit_run.specs.Visits.{with_audited, with_key, with_same, with
 ghost use Rattle.audit_run.specs.Entries.{key_of, way_of};
 
 use crate::kind::Identity;
-use krl_audit::{FileCounts, Fronts, is_read_by_lines};
+use audit_lines::{Fronts, is_read_by_lines};
+use krl_audit::FileCounts;
 use std::alloc::{AllocError, Global};
 use std::collections::BTreeSet;
 

@@ -18,8 +18,8 @@ use crate::stop::Stop;
 use crate::tree::Tree;
 use crate::walk::audit_directory;
 use crate::zero_ended::ZeroEnded;
+use audit_lines::Refusal;
 use byte_streams::Source;
-use krl_audit::Refusal;
 use line_pieces::visible_name;
 use std::str;
 

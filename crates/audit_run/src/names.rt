@@ -14,7 +14,7 @@ use crate::selection::{Selection, is_sought, selection_of};
 use crate::sorting::sort_names;
 use crate::tree::Tree;
 use crate::zero_ended::ZeroEnded;
-use krl_audit::Refusal;
+use audit_lines::Refusal;
 use std::alloc::{AllocError, Global};
 use std::str;
 

@@ -3,7 +3,8 @@
 ghost use Rattle.std.specs.Prelude.{◌≡◌};
 ghost use Rattle.audit_run.specs.Options.{form_by, has_colours, shown_by};
 
-use krl_audit::{Form, Shown};
+use audit_text::Form;
+use krl_audit::Shown;
 
 /// The options of the command that say which findings are printed, and how.
 #[derive(Clone, Copy)]

@@ -11,9 +11,9 @@ ghost use Rattle.audit_run.specs.Reading.{SomeFailed, front_of, read_as};
 
 use crate::kind::Identity;
 use crate::tree::Tree;
+use audit_lines::Refusal;
 use byte_streams::Source;
 use key_text::is_container;
-use krl_audit::Refusal;
 use run_faults::LIMIT;
 use std::alloc::AllocError;
 

@@ -8,8 +8,9 @@ ghost use Rattle.krl_audit.specs.Audit.{JudgesAs, ToldFile, content_of};
 ghost use Rattle.run_output.specs.Carries.{Carries};
 ghost use Rattle.audit_run.specs.Visits.{same_items};
 
+use audit_lines::Refusal;
 use byte_streams::Sink;
-use krl_audit::{Auditor, Refusal};
+use krl_audit::Auditor;
 use run_faults::RunFault;
 
 /// Audits a file, and sends its findings.

@@ -5,7 +5,8 @@ ghost use Rattle.audit_run.specs.Summary.{findings_text, inputs_text, list_text}
 ghost use Rattle.audit_run.specs.Summary.{names_text, others_text, skipped_words, summary_text};
 
 use cert_listing::time_text;
-use krl_audit::{Counts, FileCounts, Stated};
+use krl_audit::{Counts, FileCounts};
+use krl_format::Stated;
 use line_pieces::{Amount, Printed, Words, put};
 use std::alloc::{AllocError, Global};
 

@@ -5,8 +5,8 @@ ghost use Rattle.audit_run.specs.Fact.{Breaks, Elsewhere, Excludes, Fact, Fails,
 ghost use Rattle.audit_run.specs.Fact.{Opens, Sought, open_file};
 
 use crate::kind::{Found, Opened};
+use audit_lines::Refusal;
 use byte_streams::Source;
-use krl_audit::Refusal;
 use std::alloc::AllocError;
 
 /// Files and directories by their paths. The answers about a path may change from one call to the

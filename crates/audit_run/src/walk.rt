@@ -13,7 +13,7 @@ use crate::names::{Place, names_in};
 use crate::round::{Round, Screen};
 use crate::stop::Stop;
 use crate::tree::Tree;
-use krl_audit::{Refusal, reads_every};
+use audit_lines::{Refusal, reads_every};
 use std::alloc::AllocError;
 
 /// A directory that was entered, whether each of its files is read, and its names that are left, of

@@ -8,8 +8,8 @@ use Rattle.run_output.specs.Run.{Item}
 use Rattle.krl_types.specs.Entry.{Entry}
 use Rattle.krl_entries.specs.Reasons.{reasons_of}
 use Rattle.krl_entries.specs.Revocations.{Revocations}
-use Rattle.krl_audit.specs.declared.done.Stated.{Stated}
-use Rattle.krl_audit.specs.declared.judge.Form.{Form}
+use Rattle.krl_format.specs.declared.header.Stated.{Stated}
+use Rattle.audit_text.specs.declared.form.Form.{Form}
 use Rattle.krl_arguments.specs.declared.task.Check.{Check}
 use Rattle.list_conditions.specs.Authorities.{HasAuthorities}
 use Rattle.list_conditions.specs.Check.{NamesNobody, condition_items, end_items, names_nobody}

@@ -13,8 +13,8 @@ use Rattle.run_output.specs.Run.{Item, Passed}
 use Rattle.run_output.proofs.RunParts.{carries_more, carries_withheld}
 use Rattle.krl_types.specs.Subject.{Subject}
 use Rattle.krl_entries.specs.declared.reasons.Reasons.{Reasons}
-use Rattle.krl_audit.specs.declared.judge.Form.{Form}
-use Rattle.krl_audit.specs.declared.why.Refusal.{Refusal}
+use Rattle.audit_text.specs.declared.form.Form.{Form}
+use Rattle.audit_lines.specs.declared.why.Refusal.{Refusal}
 use Rattle.list_conditions.specs.Check.{ChecksFile}
 use Rattle.list_conditions.specs.declared.role.Role.{Role}
 use Rattle.any_list.specs.Told.{KeysRead, Reading}

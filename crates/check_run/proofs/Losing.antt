@@ -3,7 +3,7 @@ use Rattle.std.proofs.Common.{◌≡◌, ℕ, Bool, true, false, List, Result, S
 use Rattle.run_faults.specs.RunFault.{RunFault}
 use Rattle.run_output.specs.Printer.{Printer}
 use Rattle.krl_types.specs.Entry.{Entry}
-use Rattle.krl_audit.specs.declared.judge.Form.{Form}
+use Rattle.audit_text.specs.declared.form.Form.{Form}
 use Rattle.list_conditions.specs.Check.{condition_items, names_nobody}
 use Rattle.list_conditions.specs.declared.condition.Condition.TheVariants.{NothingLost}
 use Rattle.krl_entries.specs.Revocations.{Means, Revocations}

@@ -7,8 +7,8 @@ use Rattle.run_output.specs.Printer.{Printer}
 use Rattle.run_output.specs.Run.{Item, Passed}
 use Rattle.krl_types.specs.Subject.{Subject}
 use Rattle.krl_entries.specs.declared.reasons.Reasons.{Reasons}
-use Rattle.krl_audit.specs.declared.judge.Form.{Form}
-use Rattle.krl_audit.specs.declared.why.Refusal.{Refusal}
+use Rattle.audit_text.specs.declared.form.Form.{Form}
+use Rattle.audit_lines.specs.declared.why.Refusal.{Refusal}
 use Rattle.krl_arguments.specs.declared.task.Check.{Check}
 use Rattle.list_conditions.specs.Check.{counts_of, keys_items}
 use Rattle.list_conditions.specs.Role.{is_met}

@@ -1,6 +1,6 @@
 -- The content of a file of keys that a host has read.
 use Rattle.std.specs.Prelude.{ℕ, List, Result, Ok, Err}
-use Rattle.krl_audit.specs.declared.why.Refusal.{Refusal}
+use Rattle.audit_lines.specs.declared.why.Refusal.{Refusal}
 
 -- the bytes that were read into a buffer, or why the file was not read
 abbrev pub content_read : Result (Unit {0}) Refusal → List ℕ → Result (List ℕ) Refusal

@@ -10,8 +10,8 @@ use Rattle.run_output.specs.Run.{Item, Passed}
 use Rattle.krl_format.specs.declared.header.Header.{Header}
 use Rattle.krl_types.specs.Entry.{Entry}
 use Rattle.krl_entries.specs.Revocations.{Revocations}
-use Rattle.krl_audit.specs.declared.done.Stated.{Stated}
-use Rattle.krl_audit.specs.declared.judge.Form.{Form}
+use Rattle.krl_format.specs.declared.header.Stated.{Stated}
+use Rattle.audit_text.specs.declared.form.Form.{Form}
 use Rattle.krl_openssh.specs.Fields.{IsFirstDifference}
 use Rattle.krl_openssh.specs.declared.difference.Difference.{Difference}
 use Rattle.list_conditions.specs.Check.{condition_items}

@@ -5,7 +5,7 @@ use Rattle.run_output.specs.Run.{Item}
 use Rattle.krl_types.specs.Entry.{Entry}
 use Rattle.krl_types.specs.Naming.{Name, SomeNames}
 use Rattle.krl_entries.specs.Revocations.{HoldsName, IsOrderly, Revocations}
-use Rattle.krl_audit.specs.declared.judge.Form.{Form}
+use Rattle.audit_text.specs.declared.form.Form.{Form}
 use Rattle.list_conditions.specs.Check.{condition_items, is_json, names_nobody}
 use Rattle.list_conditions.specs.declared.condition.Condition.TheVariants.{Lost as LostEntries}
 use Rattle.list_conditions.specs.declared.condition.Condition.TheVariants.{NothingLost}

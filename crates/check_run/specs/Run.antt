@@ -10,9 +10,9 @@ use Rattle.krl_format.specs.declared.header.Header.{Header}
 use Rattle.krl_types.specs.Entry.{Entry}
 use Rattle.krl_entries.specs.Reasons.{reasons_of}
 use Rattle.krl_entries.specs.Revocations.{Revocations}
-use Rattle.krl_audit.specs.declared.done.Stated.{Stated}
-use Rattle.krl_audit.specs.declared.judge.Form.{Form}
-use Rattle.krl_audit.specs.declared.judge.Form.TheVariants.{Json, Text}
+use Rattle.krl_format.specs.declared.header.Stated.{Stated}
+use Rattle.audit_text.specs.declared.form.Form.{Form}
+use Rattle.audit_text.specs.declared.form.Form.TheVariants.{Json, Text}
 use Rattle.list_conditions.specs.Authorities.{HasAuthorities}
 use Rattle.list_conditions.specs.Check.{EndsCheck, NamesNobody, condition_items, end_items}
 use Rattle.list_conditions.specs.Check.{names_nobody}

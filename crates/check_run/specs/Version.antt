@@ -4,7 +4,7 @@ use Rattle.std.specs.Prelude.{Result, Ok, Err}
 use Rattle.run_output.specs.Done.{Ends}
 use Rattle.run_output.specs.Run.{said_of}
 use Rattle.run_output.specs.declared.done.Done.{Done}
-use Rattle.krl_audit.specs.declared.done.Stated.{Stated}
+use Rattle.krl_format.specs.declared.header.Stated.{Stated}
 use Rattle.check_run.specs.declared.limits.Unanswered.{Unanswered}
 use Rattle.check_run.specs.declared.limits.Unanswered.TheVariants as unanswered
 

@@ -5,7 +5,7 @@ ghost use Rattle.any_list.specs.Told.{ClockRead, KeysRead, told_more};
 ghost use Rattle.check_run.specs.Host.{content_read};
 
 use any_list::Lists;
-use krl_audit::Refusal;
+use audit_lines::Refusal;
 use std::alloc::AllocError;
 
 /// The lists and the files of keys by their names, and the clock.

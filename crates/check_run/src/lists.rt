@@ -8,8 +8,8 @@ ghost use Rattle.check_run.specs.Lists.{IsOtherOf, IsOtherRefused, version_of};
 ghost use Rattle.check_run.specs.Limits.{IsLostOf, IsLostUnknown};
 
 use any_list::{Lists, read_given};
-use krl_audit::Stated;
 use krl_entries::Revocations;
+use krl_format::Stated;
 use list_diff::difference;
 use run_faults::{Cause, RunFault};
 use span_sets::Held;

@@ -2,10 +2,10 @@
 use Rattle.std.specs.Prelude.{◌≡◌, ℕ, ◌≤◌, ◌<◌, Bool, true, false, List, Option, Result, Ok, Err}
 use Rattle.std.specs.Io.KnownBytes.{IsAtEnd}
 use Rattle.run_faults.specs.Named.{file_limit}
-use Rattle.krl_audit.specs.declared.why.Refusal.{Refusal}
-use Rattle.krl_audit.specs.declared.why.Refusal.TheVariants.{Missing, Denied, Irregular, Loop}
-use Rattle.krl_audit.specs.declared.why.Refusal.TheVariants.{DirectoryLink, NoFile, LongName}
-use Rattle.krl_audit.specs.declared.why.Refusal.TheVariants.{Slow, Kernel, Open, Read, TooLong}
+use Rattle.audit_lines.specs.declared.why.Refusal.{Refusal}
+use Rattle.audit_lines.specs.declared.why.Refusal.TheVariants.{Missing, Denied, Irregular, Loop}
+use Rattle.audit_lines.specs.declared.why.Refusal.TheVariants.{DirectoryLink, NoFile, LongName}
+use Rattle.audit_lines.specs.declared.why.Refusal.TheVariants.{Slow, Kernel, Open, Read, TooLong}
 
 -- This many bytes came from a reader that has these bytes left and failed or not: all that it had,
 -- or too many, or those before it failed.

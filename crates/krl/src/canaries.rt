@@ -4,8 +4,9 @@ ghost use Rattle.std.specs.Prelude.{◌≡◌, false};
 
 use crate::loading::{open, read};
 use any_list::read_list;
+use audit_lines::Refusal;
+use audit_text::Form;
 use byte_streams::{FromRead, Source, ToWrite};
-use krl_audit::{Form, Refusal};
 use krl_entries::Revocations;
 use list_conditions::{Checker, Role};
 use run_faults::{Cause, RunFault};

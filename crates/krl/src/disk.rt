@@ -5,10 +5,10 @@ ghost use Rattle.std.specs.Fs.{IsFile, file_type};
 ghost use Rattle.krl.specs.Disk.{kind_of};
 
 use crate::loading::{open, refusal_of};
+use audit_lines::Refusal;
 use audit_run::{Found, Identity, Kind, Opened, Tree, is_sought, path_in};
 use byte_streams::{Failed, FromRead, Source};
 use krl_arguments::Audit;
-use krl_audit::Refusal;
 use std::alloc::AllocError;
 use std::cell::Cell;
 use std::fs::{self, File, Files, Metadata};

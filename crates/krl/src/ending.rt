@@ -7,8 +7,8 @@ ghost use Rattle.krl.specs.Ending.{audit_status, fault_line, is_looked_at, words
 
 use crate::Krl;
 use crate::loading::{bytes_of, why_unopened};
+use audit_lines::refusal_words;
 use audit_run::{Audited, Summary, push_summary};
-use krl_audit::refusal_words;
 use krl_core::KrlFault;
 use krl_openssh::Incomparable;
 use line_pieces::{Printed, Visible, Words, put};

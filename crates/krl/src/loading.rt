@@ -7,8 +7,8 @@ ghost use Rattle.std.specs.IoError.{error_kind};
 ghost use Rattle.krl.specs.Loading.{IsRead};
 
 use any_list::Lists;
+use audit_lines::Refusal;
 use byte_streams::{FromRead, Source};
-use krl_audit::Refusal;
 use krl_core::LIMIT as LIST_LIMIT;
 use krl_system::read_list;
 use list_making::read_rest;

@@ -13,16 +13,18 @@ use Rattle.run_output.specs.Printer.{Printer}
 use Rattle.run_output.proofs.RunParts.{carries_more, carries_then}
 use Rattle.krl_types.specs.Subject.{Subject}
 use Rattle.krl_entries.specs.declared.reasons.Reasons.{Reasons}
-use Rattle.krl_audit.specs.Audit.{Told, ToldFile, file_items, file_kinds, file_lines, keyless, kinds_of, lines_items, or_whole, rest_items, text_lines, whole}
-use Rattle.krl_audit.specs.Front.{fronts_of, is_read_by_lines}
-use Rattle.krl_audit.specs.Outcome.{Outcomes, Placed, Unread, place, place_all, place_second, placed_beside, placed_from, plain_lines, private_lines, private_outcome, opened_at, outcomes_of, read_all}
+use Rattle.krl_audit.specs.Audit.{Told, ToldFile, file_items, file_kinds, file_lines, kinds_of, lines_items, or_whole, rest_items, text_lines, whole}
+use Rattle.audit_lines.specs.Keyless.{keyless}
+use Rattle.audit_lines.specs.Front.{fronts_of, is_read_by_lines}
+use Rattle.audit_lines.specs.Outcome.{Outcomes, Placed, Unread, place, place_all, place_second, placed_beside, placed_from, plain_lines, private_lines, private_outcome, opened_at, outcomes_of, read_all}
 use Rattle.krl_audit.specs.Tally.{all_tallied, none_yet}
 use Rattle.krl_audit.specs.declared.counts.Counts.{Counts}
-use Rattle.krl_audit.specs.declared.front.Fronts.{Fronts}
+use Rattle.audit_lines.specs.declared.front.Fronts.{Fronts}
 use Rattle.krl_audit.specs.declared.judge.Shown.{Shown}
 use Rattle.krl_audit.specs.declared.tally.Tally.{Tally}
-use Rattle.krl_audit.specs.declared.why.Refusal.{Refusal}
-use Rattle.krl_audit.specs.declared.why.Why.TheVariants as whys
+use Rattle.audit_lines.specs.declared.why.Refusal.{Refusal}
+use Rattle.audit_lines.specs.declared.why.Why.TheVariants as whys
+use Rattle.audit_lines.proofs.KeylessFiles.{split_lines}
 use Rattle.krl_audit.proofs.Telling.{told_memory, told_stop, told_then}
 
 -- ---- the end of a file
@@ -51,11 +53,6 @@ told_file_stop reasons shown name content stop old new before after other lines 
 }
 
 -- ---- a file that begins with no private key
-
--- the outcomes of a file whose text has these lines
-pub split_lines : (kind : Fronts) (text line : List ℕ) (after : List (List ℕ)) → slice_split is_newline text ≡ line ∷ after → plain_lines kind text ≡ outcomes_of kind line ∷ read_all kind after
-unfolding plain_lines
-split_lines kind text line after split = ap (read_all kind) split
 
 by_whole : (reasons : Subject → Reasons) (shown : Shown) (name text : List ℕ) (kind : Fronts) (lines : List Outcomes) (all : Option ℕ) (result : Result Tally RunFault) (old new : Printer) (before after : Counts)
     → kind ≡ fronts_of name → plain_lines kind text ≡ lines → keyless lines ≡ all → Told reasons shown name none_yet (or_whole all lines) result old new before after

@@ -4,11 +4,12 @@ use Rattle.krl_types.specs.Subject.{Subject}
 use Rattle.krl_entries.specs.Reasons.{any_reason}
 use Rattle.krl_entries.specs.declared.reasons.Reasons.{Reasons}
 use Rattle.ssh_cert.specs.declared.subject_fault.SubjectFault.{SubjectFault}
-use Rattle.krl_audit.specs.Audit.{IsMade, key_kind, key_said, kind_of, outcome_line, says}
-use Rattle.krl_audit.specs.Outcome.{Key, Outcome, found_as}
-use Rattle.krl_audit.specs.declared.counts.LineKind.{LineKind}
+use Rattle.krl_audit.specs.Audit.{IsMade, key_kind, kind_of, outcome_line, says}
+use Rattle.audit_text.specs.Said.{key_said}
+use Rattle.audit_lines.specs.Outcome.{Key, Outcome, found_as}
+use Rattle.audit_text.specs.declared.line_kind.LineKind.{LineKind}
 use Rattle.krl_audit.specs.declared.judge.Shown.{Shown}
-use Rattle.krl_audit.specs.declared.outcome.Found.{Found as KeyFound}
+use Rattle.audit_lines.specs.declared.outcome.Found.{Found as KeyFound}
 
 value_or : Subject → Result Subject SubjectFault → Subject
 value_or other (Ok subject) = subject

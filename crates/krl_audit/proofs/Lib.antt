@@ -1,12 +1,7 @@
 pub mod Canaries
 pub mod Judging
 pub mod Telling
-pub mod Surveying
 pub mod Files
-pub mod KeylessFiles
-pub mod Spelled
 pub mod Private
-pub mod Shallow
-pub mod EachReason
-pub mod Escapes
-pub mod Painted
+pub mod RevokedKeys
+pub mod LastObject

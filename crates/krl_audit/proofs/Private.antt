@@ -2,8 +2,8 @@
 use Rattle.std.proofs.Common.{◌≡◌, ℕ, false, List, [], None, Ok}
 use Rattle.ssh_cert.specs.SubjectReading.{subject_of}
 use Rattle.key_text.specs.ContainerReading.{Opened}
-use Rattle.krl_audit.specs.Outcome.{GivesOutcome, asked_outcome, opened_at, private_outcome}
-use Rattle.krl_audit.specs.declared.outcome.Outcome.{Outcome as Given}
+use Rattle.audit_lines.specs.Outcome.{GivesOutcome, asked_outcome, opened_at, private_outcome}
+use Rattle.audit_lines.specs.declared.outcome.Outcome.{Outcome as Given}
 
 pub private_gives : (outcome : Given) (text blob comment : List ℕ) (opened : Opened) → opened_at text ≡ Ok opened → opened.blob ≡ blob → opened.comment ≡ comment
     → GivesOutcome outcome (asked_outcome None false [] blob comment (subject_of blob)) → GivesOutcome outcome (private_outcome (opened_at text))

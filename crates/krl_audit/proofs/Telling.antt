@@ -11,10 +11,10 @@ use Rattle.run_output.specs.Run.{Item, name_of, said_of}
 use Rattle.run_output.proofs.RunParts.{carries_as, carries_more, carries_none, carries_then, carries_withheld}
 use Rattle.krl_audit.specs.Audit.{IsMade, SaysLine, Told, kind_of, kinds_of, line_item, lines_items, outcome_line, said_if, says}
 use Rattle.krl_audit.specs.Counts.{all_counted, counted}
-use Rattle.krl_audit.specs.Outcome.{Outcome, Placed, place}
+use Rattle.audit_lines.specs.Outcome.{Outcome, Placed, place}
 use Rattle.krl_audit.specs.Tally.{all_tallied, tallied, within}
 use Rattle.krl_audit.specs.declared.counts.Counts.{Counts}
-use Rattle.krl_audit.specs.declared.counts.LineKind.{LineKind}
+use Rattle.audit_text.specs.declared.line_kind.LineKind.{LineKind}
 use Rattle.krl_audit.specs.declared.judge.Shown.{Shown}
 use Rattle.krl_audit.specs.declared.tally.Tally.{Tally}
 

@@ -1,8 +1,7 @@
 -- Auditing files: the findings of their lines, and the counts.
 use Rattle.std.specs.Borrow.{Bor}
-use Rattle.std.specs.Prelude.{◌≡◌, ℕ, ◌+◌, ◌-◌, ◌&&◌, Bool, true, false, List, [], ◌∷◌, ◌++◌}
+use Rattle.std.specs.Prelude.{◌≡◌, ℕ, ◌-◌, ◌&&◌, Bool, true, false, List, [], ◌∷◌, ◌++◌}
 use Rattle.std.specs.Prelude.{IfOk, is_some, map, nat_lt, OnOk, Option, Some, None, Result, Ok, Err}
-use Rattle.std.specs.Prelude.{if◌then◌else◌}
 use Rattle.key_text.specs.declared.marker.Marker.{Marker}
 use Rattle.key_text.specs.declared.marker.Marker.TheVariants as markers
 use Rattle.krl_types.specs.Subject.{Subject}
@@ -18,26 +17,24 @@ use Rattle.run_output.specs.Printer.{Printer}
 use Rattle.run_output.specs.Run.{Item, Passed, said_of}
 use Rattle.key_text.specs.Armour.{begins_container}
 use Rattle.krl_audit.specs.Counts.{all_counted, audit_status}
-use Rattle.krl_audit.specs.Front.{fronts_of}
-use Rattle.json_lines.specs.Field.{json_line}
-use Rattle.krl_audit.specs.More.{more_said}
-use Rattle.krl_audit.specs.Objects.{key_object, unread_object}
-use Rattle.krl_audit.specs.Outcome.{Empty, Found, Key, Outcome, Outcomes, Placed}
-use Rattle.krl_audit.specs.Outcome.{Unread, place, placed_from, plain_lines, private_lines}
+use Rattle.audit_lines.specs.Front.{fronts_of}
+use Rattle.audit_text.specs.More.{more_said}
+use Rattle.audit_lines.specs.Keyless.{keyless}
+use Rattle.audit_text.specs.Said.{key_said, unread_said}
+use Rattle.audit_lines.specs.Outcome.{Empty, Key, Outcome, Outcomes, Placed}
+use Rattle.audit_lines.specs.Outcome.{Unread, place, placed_from, plain_lines, private_lines}
 use Rattle.krl_audit.specs.Tally.{all_tallied, most, none_yet, tallied, within}
-use Rattle.krl_audit.specs.Text.{key_line, unread_line}
 use Rattle.krl_audit.specs.declared.auditor.Auditor.{Auditor}
 use Rattle.krl_audit.specs.declared.counts.Counts.{Counts}
-use Rattle.krl_audit.specs.declared.counts.LineKind.{LineKind}
-use Rattle.krl_audit.specs.declared.counts.LineKind.TheVariants as kinds
-use Rattle.krl_audit.specs.declared.judge.Form.{Form}
-use Rattle.krl_audit.specs.declared.judge.Form.TheVariants as forms
+use Rattle.audit_text.specs.declared.line_kind.LineKind.{LineKind}
+use Rattle.audit_text.specs.declared.line_kind.LineKind.TheVariants as kinds
+use Rattle.audit_text.specs.declared.form.Form.{Form}
 use Rattle.krl_audit.specs.declared.judge.Judge.{Judge}
 use Rattle.krl_audit.specs.declared.judge.Shown.{Shown}
 use Rattle.krl_audit.specs.declared.tally.Tally.{Tally}
-use Rattle.krl_audit.specs.declared.why.Refusal.{Refusal}
-use Rattle.krl_audit.specs.declared.why.Why.{Why}
-use Rattle.krl_audit.specs.declared.why.Why.TheVariants as whys
+use Rattle.audit_lines.specs.declared.why.Refusal.{Refusal}
+use Rattle.audit_lines.specs.declared.why.Why.{Why}
+use Rattle.audit_lines.specs.declared.why.Why.TheVariants as whys
 
 -- ---- a line
 
@@ -65,20 +62,6 @@ says shown kinds.Fine = shown.fine
 says shown kinds.Revoked = shown.revoked
 says shown kinds.Unread = shown.unread
 
--- the line of a key, for people or as a JSON object
-abbrev pub key_said : Form → List ℕ → ℕ → Found → Reasons → List ℕ
-key_said forms.Text name number found all =
-    key_line false name number found.blob found.comment found.asked all
-key_said forms.Colour name number found all =
-    key_line true name number found.blob found.comment found.asked all
-key_said forms.Json name number found all = json_line (key_object name number found all)
-
--- the line for a line or file that is not read
-abbrev pub unread_said : Form → List ℕ → ℕ → Why → List ℕ
-unread_said forms.Text name number why = unread_line false name number why
-unread_said forms.Colour name number why = unread_line true name number why
-unread_said forms.Json name number why = json_line (unread_object name number why)
-
 -- the line that is printed for an outcome
 abbrev pub outcome_line : Form → (Subject → Reasons) → List ℕ → ℕ → Outcome → List ℕ
 outcome_line form reasons name number Empty = []
@@ -97,41 +80,6 @@ line_item reasons shown name number outcome =
     (outcome_line shown.form reasons name number outcome)
 
 -- ---- files
-
--- this number more
-abbrev pub more_unread : ℕ → Option ℕ → Option ℕ
-more_unread more None = None
-more_unread more (Some count) = Some (more + count)
-
-abbrev pub with_first : Outcome → Option ℕ → Option ℕ
-with_first Empty count = count
-with_first (Key found) count = None
-with_first (Unread why) count = more_unread 1 count
-
-abbrev pub with_second : Option Outcome → Option ℕ → Option ℕ
-with_second None count = count
-with_second (Some Empty) count = count
-with_second (Some (Key found)) count = None
-with_second (Some (Unread why)) count = count
-
--- the number of lines that are not read, or none if one has a key
-abbrev pub unread_alone : List Outcomes → Option ℕ
-unread_alone [] = Some 0
-unread_alone (line ∷ lines) = with_second line.second (with_first line.first (unread_alone lines))
-
--- the same if this number was counted before, or a key was found
-abbrev pub unread_with : Option ℕ → List Outcomes → Option ℕ
-unread_with None lines = None
-unread_with (Some count) lines = more_unread count (unread_alone lines)
-
-abbrev pub many : Option ℕ → Option ℕ
-many None = None
-many (Some count) = if nat_lt 1 count then Some count else None
-
--- A file without a key in which several lines are not read is treated as one unread file: the
--- number of these lines.
-unfoldable pub keyless : List Outcomes → Option ℕ
-keyless lines = many (unread_alone lines)
 
 -- the file as a whole, which has the number 0
 abbrev pub whole : Why → List Placed

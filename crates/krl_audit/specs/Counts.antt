@@ -2,8 +2,8 @@
 use Rattle.std.specs.Prelude.{ℕ, ◌+◌, ◌-◌, ◌^◌, Bool, true, false, List, [], ◌∷◌, min, nat_lt}
 use Rattle.std.specs.Prelude.{if◌then◌else◌}
 use Rattle.krl_audit.specs.declared.counts.Counts.{Counts}
-use Rattle.krl_audit.specs.declared.counts.LineKind.{LineKind}
-use Rattle.krl_audit.specs.declared.counts.LineKind.TheVariants as kinds
+use Rattle.audit_text.specs.declared.line_kind.LineKind.{LineKind}
+use Rattle.audit_text.specs.declared.line_kind.LineKind.TheVariants as kinds
 
 abbrev pub is_key : LineKind → Bool
 is_key kinds.Empty = false

@@ -1,12 +1,4 @@
-pub mod Front
-pub mod Why
-pub mod Outcome
 pub mod Counts
 pub mod Tally
-pub mod Text
-pub mod More
-pub mod Objects
+pub mod Done
 pub mod Audit
-pub mod Keyless
-pub mod Colour
-pub mod Same

@@ -1,7 +1,7 @@
 -- How many lines of a file there are of each kind, and which of them are printed.
 use Rattle.std.specs.Prelude.{ℕ, ◌&&◌, Bool, List, [], ◌∷◌, nat_lt}
 use Rattle.krl_audit.specs.Counts.{is_fine_kind, is_revoked_kind, is_unread_kind, one_more}
-use Rattle.krl_audit.specs.declared.counts.LineKind.{LineKind}
+use Rattle.audit_text.specs.declared.line_kind.LineKind.{LineKind}
 use Rattle.krl_audit.specs.declared.judge.Shown.{Shown}
 use Rattle.krl_audit.specs.declared.tally.Tally.{Tally}
 

@@ -12,25 +12,24 @@ ghost use Rattle.krl_entries.specs.declared.reasons.Reasons.{Reasons as ReasonsO
 ghost use Rattle.krl_audit.specs.Audit.{EndsAudit, JudgesAs, Tells, ToldFile, SaysLine, content_of};
 ghost use Rattle.krl_audit.specs.Audit.{file_lines, more_item, text_lines};
 ghost use Rattle.krl_audit.specs.Audit.{rest_items, said_if, whole};
-ghost use Rattle.krl_audit.specs.Objects.{done_object};
-ghost use Rattle.krl_audit.specs.declared.front.Fronts.{Fronts as FrontsOf};
-ghost use Rattle.krl_audit.specs.Outcome.{GivesOutcome, GivesOutcomes, Outcome as OutcomeOf};
-ghost use Rattle.krl_audit.specs.Outcome.{Outcomes as OutcomesOf, LeadsBehind, opened_at};
-ghost use Rattle.krl_audit.specs.Outcome.{outcomes_of, private_lines};
-ghost use Rattle.krl_audit.specs.Outcome.{place, place_all, placed_behind, placed_from};
-ghost use Rattle.krl_audit.specs.Outcome.{private_outcome, read_all};
+ghost use Rattle.krl_audit.specs.Done.{done_object};
+ghost use Rattle.audit_lines.specs.declared.front.Fronts.{Fronts as FrontsOf};
+ghost use Rattle.audit_lines.specs.Outcome.{GivesOutcome, GivesOutcomes, Outcome as OutcomeOf};
+ghost use Rattle.audit_lines.specs.Outcome.{Outcomes as OutcomesOf, LeadsBehind, opened_at};
+ghost use Rattle.audit_lines.specs.Outcome.{outcomes_of, private_lines};
+ghost use Rattle.audit_lines.specs.Outcome.{place, place_all, placed_behind, placed_from};
+ghost use Rattle.audit_lines.specs.Outcome.{private_outcome, read_all};
 ghost use Rattle.krl_audit.specs.Tally.{none_yet, within};
 
-use crate::counts::{Counts, LineKind};
+use crate::counts::Counts;
 use crate::done::{FileCounts, ListFacts, write_done};
-use crate::front::{Fronts, is_read_by_lines};
 use crate::judge::{Judge, Shown, says};
-use crate::more::{More, write_more};
-use crate::outcome::{Outcome, Outcomes, checked, open_private, read_outcomes};
-use crate::survey::keyless;
 use crate::tally::{MOST, Tally};
-use crate::text::Location;
-use crate::why::{Refusal, Why};
+use audit_lines::{
+    Fronts, Outcome, Outcomes, Refusal, Why, checked, is_read_by_lines, keyless, open_private,
+    read_outcomes,
+};
+use audit_text::{LineKind, Location, More, write_more};
 use byte_streams::Sink;
 use key_text::{Private, before_ending, is_container, split_line};
 use run_faults::{Cause, RunFault};

@@ -3,20 +3,7 @@
 ghost use Rattle.std.specs.Prelude.{◌≡◌};
 ghost use Rattle.krl_audit.specs.Counts.{audit_status, counted, is_key, one_more};
 
-/// The kind of a line.
-#[derive(Clone, Copy, PartialEq, Eq)]
-pub enum LineKind {
-    /// Empty, or a comment.
-    Empty,
-    /// A key that its line marks as revoked.
-    Distrusted,
-    /// A key that the list does not revoke.
-    Fine,
-    /// A key that the list revokes.
-    Revoked,
-    /// Not read.
-    Unread,
-}
+use audit_text::LineKind;
 
 /// The number of keys and of lines that are not read.
 #[derive(Clone, Copy)]

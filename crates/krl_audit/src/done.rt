@@ -2,22 +2,14 @@
 
 ghost use Rattle.std.specs.Prelude.{◌≡◌, OnOk};
 ghost use Rattle.json_lines.specs.Field.{json_line};
-ghost use Rattle.krl_audit.specs.Objects.{done_object, line_count_fields, list_facts};
-ghost use Rattle.krl_audit.specs.Objects.{stated_fields};
+ghost use Rattle.krl_audit.specs.Done.{done_object, line_count_fields, list_facts};
+ghost use Rattle.krl_audit.specs.Done.{stated_fields};
 
 use crate::counts::Counts;
 use cert_listing::time_text;
 use json_lines::{Digits, Fields, LineWriter, Object, Text, object, put_fields};
+use krl_format::Stated;
 use std::alloc::{AllocError, Global};
-
-/// The version of a key revocation list, and when it was made.
-#[derive(Clone, Copy)]
-pub struct Stated {
-    /// The version.
-    pub version: u64,
-    /// When the list was made, in seconds since 1970.
-    pub generated: u64,
-}
 
 /// The counts of files.
 #[derive(Clone, Copy)]

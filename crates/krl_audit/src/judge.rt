@@ -4,14 +4,11 @@ ghost use Rattle.std.specs.Prelude.{◌≡◌, IfOk};
 ghost use Rattle.krl_types.specs.Subject.{Subject as SubjectOf};
 ghost use Rattle.krl_entries.specs.declared.reasons.Reasons.{Reasons as ReasonsOf};
 ghost use Rattle.krl_audit.specs.Audit.{IsMade, JudgesAs, judged_reasons, key_kind, says};
-ghost use Rattle.krl_audit.specs.Outcome.{GivesOutcome, Outcome as OutcomeOf, Unread};
-ghost use Rattle.krl_audit.specs.declared.outcome.Outcome.TheVariants.{Key};
+ghost use Rattle.audit_lines.specs.Outcome.{GivesOutcome, Outcome as OutcomeOf, Unread};
+ghost use Rattle.audit_lines.specs.declared.outcome.Outcome.TheVariants.{Key};
 
-use crate::counts::LineKind;
-use crate::outcome::{Found, Outcome};
-use crate::said::{say_key, say_unread};
-use crate::text::{Location, Verdict};
-use crate::why::Why;
+use audit_lines::{Found, Outcome, Why};
+use audit_text::{Form, LineKind, Location, Verdict, say_key, say_unread};
 use key_text::Marker;
 use krl_entries::{Reason, Reasons, Revocations};
 use krl_types::Subject;
@@ -19,17 +16,6 @@ use run_faults::KeyCause;
 use span_sets::Held;
 use ssh_cert::read_any;
 use std::alloc::{AllocError, Global};
-
-/// The form in which findings are printed.
-#[derive(Clone, Copy)]
-pub enum Form {
-    /// For people.
-    Text,
-    /// For people at a terminal: the word for whether a key is revoked is in colour.
-    Colour,
-    /// A JSON object on each line.
-    Json,
-}
 
 /// Which findings are printed, and how.
 #[derive(Clone, Copy)]

@@ -3,32 +3,14 @@
 #![tactic(auto)]
 
 mod auditor;
-mod colour;
 mod counts;
 mod done;
-mod fault_text;
-mod front;
 mod judge;
-mod keyless;
 pub mod laws;
-mod more;
-mod objects;
-mod outcome;
-mod reason_values;
-mod reasons;
-mod said;
 mod same;
-mod survey;
 mod tally;
-mod text;
-mod why;
 
 pub use auditor::Auditor;
-pub use counts::{Counts, LineKind};
-pub use done::{FileCounts, ListFacts, Stated};
-pub use fault_text::refusal_fault;
-pub use front::{Fronts, is_read_by_lines, reads_every};
-pub use judge::{Form, Judge, Shown};
-pub use keyless::keyless_lines;
-pub use outcome::{Found, Outcome, Outcomes, read_outcomes};
-pub use why::{Refusal, Why, refusal_words};
+pub use counts::Counts;
+pub use done::{FileCounts, ListFacts};
+pub use judge::{Judge, Shown};

@@ -3,8 +3,9 @@
 ghost use Rattle.std.specs.Prelude.{◌≡◌};
 ghost use Rattle.krl_audit.specs.Tally.{is_few, tallied, within};
 
-use crate::counts::{LineKind, one_more};
+use crate::counts::one_more;
 use crate::judge::Shown;
+use audit_text::LineKind;
 
 /// The number of lines of a file that are printed one by one, of each kind.
 pub(crate) const MOST: u64 = 20;

@@ -1,4 +1,4 @@
-//! The tests of `krl_audit`, through its public items.
+//! The tests of `krl_audit`, `audit_lines` and `audit_text`, through their public items.
 #![tactic(auto)]
 
 #[cfg(test)]

@@ -22,3 +22,12 @@ pub struct Header {
     /// A comment, which may be empty and need not be text.
     pub comment: Bytes,
 }
+
+/// The version of a key revocation list, and when it was made.
+#[derive(Clone, Copy)]
+pub struct Stated {
+    /// The version.
+    pub version: u64,
+    /// When the list was made, in seconds since 1970.
+    pub generated: u64,
+}

@@ -8,7 +8,7 @@ pub mod laws;
 mod place;
 mod section;
 
-pub use header::{Header, LIMIT, MAGIC, MAGIC_NUMBER};
+pub use header::{Header, LIMIT, MAGIC, MAGIC_NUMBER, Stated};
 pub use judging::{next_bits, next_serial};
 pub use place::{Field, FieldPart, Place, Table};
 pub use section::{

@@ -9,9 +9,9 @@ use Rattle.krl_types.specs.Subject.{Subject}
 use Rattle.krl_entries.specs.declared.reasons.Reasons.{Reasons}
 use Rattle.krl_audit.specs.Audit.{ToldFile, file_items}
 use Rattle.krl_audit.specs.declared.counts.Counts.{Counts}
-use Rattle.krl_audit.specs.declared.judge.Form.{Form}
+use Rattle.audit_text.specs.declared.form.Form.{Form}
 use Rattle.krl_audit.specs.declared.judge.Shown.{Shown}
-use Rattle.krl_audit.specs.declared.why.Refusal.{Refusal}
+use Rattle.audit_lines.specs.declared.why.Refusal.{Refusal}
 use Rattle.list_conditions.specs.Check.{ChecksFile, counts_items, counts_of, lines_counted, none_counted}
 use Rattle.list_conditions.specs.Role.{is_met, shown_for}
 use Rattle.list_conditions.specs.declared.role.Role.{Role}

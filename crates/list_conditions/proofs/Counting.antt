@@ -6,8 +6,8 @@ use Rattle.std.proofs.lemmas.Bool.Decides.{eqb_tells}
 use Rattle.std.specs.List.{AllByRecursion}
 use Rattle.krl_audit.specs.Counts.{all_counted, counted, is_key, is_revoked_kind, is_unread_kind, one_more}
 use Rattle.krl_audit.specs.declared.counts.Counts.{Counts}
-use Rattle.krl_audit.specs.declared.counts.LineKind.{LineKind}
-use Rattle.krl_audit.specs.declared.counts.LineKind.TheVariants as kinds
+use Rattle.audit_text.specs.declared.line_kind.LineKind.{LineKind}
+use Rattle.audit_text.specs.declared.line_kind.LineKind.TheVariants as kinds
 use Rattle.list_conditions.specs.Check.{none_counted}
 use Rattle.list_conditions.specs.Role.{AreMet, HasKey, MayBe, are_right, is_met}
 use Rattle.list_conditions.specs.declared.role.Role.{Role}

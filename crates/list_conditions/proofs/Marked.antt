@@ -5,13 +5,14 @@ use Rattle.key_text.specs.Armour.{begins_container}
 use Rattle.key_text.specs.declared.marker.Marker.TheVariants as markers
 use Rattle.krl_types.specs.Subject.{Subject}
 use Rattle.krl_entries.specs.declared.reasons.Reasons.{Reasons}
-use Rattle.krl_audit.specs.Audit.{file_kinds, file_lines, keyless, kind_of, kinds_of, or_whole, text_lines}
+use Rattle.krl_audit.specs.Audit.{file_kinds, file_lines, kind_of, kinds_of, or_whole, text_lines}
+use Rattle.audit_lines.specs.Keyless.{keyless}
 use Rattle.krl_audit.specs.Counts.{all_counted}
-use Rattle.krl_audit.specs.Front.{fronts_of}
-use Rattle.krl_audit.specs.Keyless.{keyless_lines, keyless_unless}
-use Rattle.krl_audit.specs.Outcome.{Empty, Found, Key, Outcome, Outcomes, Placed, Unread, plain_lines}
-use Rattle.krl_audit.specs.declared.counts.LineKind.{LineKind}
-use Rattle.krl_audit.specs.declared.counts.LineKind.TheVariants as kinds
+use Rattle.audit_lines.specs.Front.{fronts_of}
+use Rattle.audit_lines.specs.Keyless.{keyless_lines, keyless_unless}
+use Rattle.audit_lines.specs.Outcome.{Empty, Found, Key, Outcome, Outcomes, Placed, Unread, plain_lines}
+use Rattle.audit_text.specs.declared.line_kind.LineKind.{LineKind}
+use Rattle.audit_text.specs.declared.line_kind.LineKind.TheVariants as kinds
 use Rattle.list_conditions.specs.Check.{counts_of, none_counted, with_unread}
 use Rattle.list_conditions.specs.Role.{AreMarked, HasKey, IsMarked, IsMarkedKey, MayBe, SomeMarked, is_met}
 use Rattle.list_conditions.specs.declared.role.Role.TheVariants as roles

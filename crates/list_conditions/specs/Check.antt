@@ -15,11 +15,11 @@ use Rattle.krl_entries.specs.Revocations.{Revocations}
 use Rattle.krl_entries.specs.declared.reasons.Reasons.{Reasons}
 use Rattle.krl_audit.specs.Audit.{file_items, file_kinds}
 use Rattle.krl_audit.specs.Counts.{all_counted}
-use Rattle.krl_audit.specs.Keyless.{keyless_lines}
+use Rattle.audit_lines.specs.Keyless.{keyless_lines}
 use Rattle.krl_audit.specs.declared.counts.Counts.{Counts}
-use Rattle.krl_audit.specs.declared.judge.Form.{Form}
-use Rattle.krl_audit.specs.declared.judge.Form.TheVariants as forms
-use Rattle.krl_audit.specs.declared.why.Refusal.{Refusal}
+use Rattle.audit_text.specs.declared.form.Form.{Form}
+use Rattle.audit_text.specs.declared.form.Form.TheVariants as forms
+use Rattle.audit_lines.specs.declared.why.Refusal.{Refusal}
 use Rattle.list_conditions.specs.Condition.{fails}
 use Rattle.list_conditions.specs.Object.{condition_object, end_object}
 use Rattle.list_conditions.specs.Role.{is_met, shown_for}

@@ -4,7 +4,7 @@ use Rattle.json.specs.Json.{Json, boolean}
 use Rattle.json_lines.specs.Field.{Field, digits_field, field, number_field, object_of}
 use Rattle.json_lines.specs.Field.{text_field, word_field}
 use Rattle.cert_listing.specs.Time.{instant_text}
-use Rattle.krl_audit.specs.Objects.{line_count_fields}
+use Rattle.krl_audit.specs.Done.{line_count_fields}
 use Rattle.krl_openssh.specs.Difference.{difference_words}
 use Rattle.krl_openssh.specs.declared.difference.Difference.{Difference}
 use Rattle.plain_list.specs.declared.dsa.DsaLine.{DsaLine}

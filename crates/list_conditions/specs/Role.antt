@@ -4,11 +4,11 @@ use Rattle.std.specs.Prelude.{◌∷◌, codes, ◌||◌, ◌⊎◌, IsTrue, Som
 use Rattle.std.specs.List.{AllByRecursion}
 use Rattle.key_text.specs.declared.marker.Marker.TheVariants as markers
 use Rattle.krl_audit.specs.Counts.{is_key}
-use Rattle.krl_audit.specs.Outcome.{Empty, Key, Outcome, Placed, Unread}
-use Rattle.krl_audit.specs.declared.counts.LineKind.{LineKind}
-use Rattle.krl_audit.specs.declared.counts.LineKind.TheVariants as kinds
+use Rattle.audit_lines.specs.Outcome.{Empty, Key, Outcome, Placed, Unread}
+use Rattle.audit_text.specs.declared.line_kind.LineKind.{LineKind}
+use Rattle.audit_text.specs.declared.line_kind.LineKind.TheVariants as kinds
 use Rattle.krl_audit.specs.declared.counts.Counts.{Counts}
-use Rattle.krl_audit.specs.declared.judge.Form.{Form}
+use Rattle.audit_text.specs.declared.form.Form.{Form}
 use Rattle.krl_audit.specs.declared.judge.Shown.{Shown}
 use Rattle.list_conditions.specs.declared.role.Role.{Role}
 use Rattle.list_conditions.specs.declared.role.Role.TheVariants as roles

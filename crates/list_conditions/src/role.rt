@@ -3,7 +3,8 @@
 ghost use Rattle.std.specs.Prelude.{◌≡◌};
 ghost use Rattle.list_conditions.specs.Role.{is_met, role_word, shown_for};
 
-use krl_audit::{Counts, Form, Shown};
+use audit_text::Form;
+use krl_audit::{Counts, Shown};
 
 /// The condition that a list must meet for the keys of a file.
 #[derive(Clone, Copy, PartialEq, Eq)]

@@ -5,9 +5,9 @@ ghost use Rattle.audit_run.specs.Fact.{Fact};
 
 use crate::tests::audits::LOUD;
 use crate::tests::shelf::Paper;
+use audit_lines::Refusal;
 use audit_run::{Audited, Found, Given, Identity, Kind, Opened, Order, Tree, audit_run};
 use byte_streams::{FromRead, ToWrite};
-use krl_audit::Refusal;
 use ssh_wire::Bytes;
 use std::alloc::{AllocError, Global};
 use test_fixtures::{GITHUB_LINE, Giver, Taker};

@@ -2,8 +2,8 @@
 
 use crate::tests::audits::{Asked, Case, LOUD, PLAIN, REVOKED, check};
 use crate::tests::shelf::{Item, Node};
+use audit_lines::Refusal;
 use audit_run::Options;
-use krl_audit::Refusal;
 
 // The line of the key of the list, and that of another one.
 const LISTED: &[u8] =

@@ -4,8 +4,9 @@ ghost use Rattle.std.specs.Prelude.{◌≡◌, false};
 
 use crate::tests::shelf::{Item, Node, Paper, Shelf};
 use audit_run::{Audited, Given, Order, Screen, Tree, audit_run, is_audited, is_sought};
+use audit_text::Form;
 use byte_streams::{Lent, ToWrite};
-use krl_audit::{Form, Shown};
+use krl_audit::Shown;
 use ssh_wire::Bytes;
 use std::alloc::Global;
 use test_fixtures::Taker;

@@ -3,9 +3,9 @@
 ghost use Rattle.std.specs.Prelude.{◌≡◌, false};
 ghost use Rattle.audit_run.specs.Fact.{Fact};
 
+use audit_lines::Refusal;
 use audit_run::{Found, Identity, Kind, Opened, Screen, Summary, Tree};
 use byte_streams::{Failed, FromRead, Sink, ToWrite};
-use krl_audit::Refusal;
 use std::alloc::AllocError;
 use test_fixtures::{Giver, Taker, Then};
 

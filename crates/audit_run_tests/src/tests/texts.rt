@@ -1,7 +1,8 @@
 //! The order and the paths of names, how far an audit is, and its last line.
 
 use audit_run::{Summary, path_in, push_progress, push_summary, push_wipe, shown_path, sort_names};
-use krl_audit::{Counts, FileCounts, Stated};
+use krl_audit::{Counts, FileCounts};
+use krl_format::Stated;
 use std::test::Fail;
 
 #[test]

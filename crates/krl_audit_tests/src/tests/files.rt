@@ -3,7 +3,8 @@
 
 use crate::tests::keys::{ALICE, ALICE_PRINT, AUTHORITY, AUTHORITY_PRINT, BOB, BOB_PRINT};
 use crate::tests::made::{ALL, FINDINGS, alice_and_bob, blob_of, nothing, said_by, said_of};
-use krl_audit::{Judge, Refusal};
+use audit_lines::Refusal;
+use krl_audit::Judge;
 use test_fixtures::{CONTAINER, GITHUB, GITHUB_PRINT, joined, repeated};
 
 #[test]

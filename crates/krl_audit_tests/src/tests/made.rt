@@ -1,9 +1,11 @@
 //! Lists of revocations, and what is printed for files.
 
 use crate::tests::keys::{ALICE, AUTHORITY, BOB};
+use audit_lines::Refusal;
+use audit_text::Form;
 use byte_streams::{Sink, ToWrite};
 use key_text::{read_line, sha1_of, sha256_of};
-use krl_audit::{Auditor, Counts, Form, Judge, Refusal, Shown};
+use krl_audit::{Auditor, Counts, Judge, Shown};
 use krl_entries::Revocations;
 use run_output::{Printer, Run};
 use span_sets::Held;

@@ -2,9 +2,11 @@
 
 use crate::tests::keys::{ALICE, ALICE_PRINT, AUTHORITY_PRINT, BOB, BOB_PRINT};
 use crate::tests::made::{Listed, OBJECTS, alice_and_bob, all_of_bob, blob_of, nothing, said_of};
+use audit_lines::Refusal;
 use byte_streams::{Sink, ToWrite};
 use key_text::{sha1_of, sha256_of};
-use krl_audit::{Auditor, Counts, FileCounts, Judge, ListFacts, Refusal, Stated};
+use krl_audit::{Auditor, Counts, FileCounts, Judge, ListFacts};
+use krl_format::Stated;
 use run_output::{Printer, Run};
 use std::alloc::Global;
 use std::process::Abort;

@@ -1,18 +1,20 @@
-//! The callers of the pages of `krl_audit` and `json_lines`.
+//! The callers of the pages of `krl_audit`, `audit_lines`, `audit_text` and `json_lines`.
 
 ghost use Rattle.std.specs.Prelude.{◌≡◌, ◌∷◌, [], OnOk, codes};
 ghost use Rattle.json_lines.specs.Field.{json_line, number_field, object_of, text_field};
 
 use crate::tests::keys::ALICE;
 use crate::tests::made::alice_and_bob;
+use audit_lines::{Fronts, Outcome, Refusal, Why, read_outcomes};
+use audit_text::{Form, Location, say_unread};
 use byte_streams::{Sink, ToWrite};
 use json_lines::{Text, object};
-use krl_audit::{Auditor, Counts, Form, Judge, Shown};
+use krl_audit::{Auditor, Counts, Judge, Shown};
 use krl_entries::Revocations;
 use run_faults::RunFault;
 use run_output::{Printer, Run};
 use span_sets::Held;
-use std::alloc::AllocError;
+use std::alloc::{AllocError, Global};
 use test_fixtures::Taker;
 
 /// Audits one file by a list, and names what it finds.
@@ -54,6 +56,45 @@ fn one_file_is_audited(rt: HostRuntime) {
     };
     let counts = audit_one(run, &list, ALICE.as_bytes()).expect(&rt, "there is memory");
     assert!(rt; counts.keys == 1 && counts.revoked == 1 && counts.unread == 0);
+}
+
+/// Returns true if a line of a file of authorized keys has a key.
+fn is_key_line(alloc: Global, line: &[u8]) -> Result<bool, AllocError> {
+    let read = read_outcomes(alloc, Fronts::Options, line)?;
+    match read.first {
+        Outcome::Key(_) => Ok(true),
+        Outcome::Empty | Outcome::Unread(_) => Ok(false),
+    }
+}
+
+#[test]
+fn a_line_has_a_key(rt: HostRuntime) {
+    let key = is_key_line(rt.alloc(), ALICE.as_bytes());
+    assert!(rt; key.expect(&rt, "there is memory"));
+    let comment = is_key_line(rt.alloc(), b"# a");
+    assert!(rt; !comment.expect(&rt, "there is memory"));
+}
+
+/// Makes the line about a file that the user may not read.
+fn denied_line(alloc: Global, name: &str, line: &mut Vec<u8>) -> Result<(), AllocError> {
+    let location = Location { name, number: 0 };
+    say_unread(
+        alloc,
+        Form::Text,
+        location,
+        Why::File(Refusal::Denied),
+        line,
+    )
+}
+
+#[test]
+fn a_refusal_is_a_line(rt: HostRuntime) {
+    let mut line = Vec::new(rt.alloc());
+    denied_line(rt.alloc(), "a", &mut line).expect(&rt, "there is memory");
+    assert_eq!(rt;
+        line.as_slice(),
+        b"a: unread: Permission denied\n".as_slice()
+    );
 }
 
 /// Makes the line of an object with a name, which may be any bytes, and a count.

@@ -3,7 +3,7 @@
 
 use crate::tests::keys::{ALICE, ALICE_PRINT, AUTHORITY, AUTHORITY_PRINT};
 use crate::tests::made::{ALL, alice_and_bob, said_of};
-use krl_audit::reads_every;
+use audit_lines::reads_every;
 
 // The name of a file, whether Alice's key is found in a line that has it between quotes, and
 // whether the key of the authority is found, which is behind them.

@@ -1,7 +1,8 @@
 //! Each condition both ways, and how a check ends.
 
+use audit_lines::Refusal;
+use audit_text::Form;
 use byte_streams::{FromRead, Sink, ToWrite};
-use krl_audit::{Form, Refusal};
 use krl_core::read_krl;
 use krl_entries::Revocations;
 use krl_openssh::first_difference;

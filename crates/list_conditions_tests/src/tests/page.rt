@@ -4,10 +4,10 @@ ghost use Rattle.std.specs.Prelude.{◌≡◌, false};
 
 use crate::tests::runs::{SEVEN, Shelf};
 use any_list::read_list;
+use audit_text::Form;
 use byte_streams::{FromRead, Sink, ToWrite};
 use check_run::{Host, check_run};
 use krl_arguments::Check;
-use krl_audit::Form;
 use krl_core::read_krl;
 use krl_entries::Revocations;
 use krl_openssh::first_difference;

@@ -4,11 +4,11 @@ ghost use Rattle.std.specs.Prelude.{◌≡◌, false};
 
 use crate::tests::checks::{NINE, SERIAL_ZERO};
 use any_list::Lists;
+use audit_lines::Refusal;
 use byte_streams::{Sink, ToWrite};
 use check_run::{Host, Unanswered, check_run};
 use key_text::LineFault;
 use krl_arguments::Check;
-use krl_audit::Refusal;
 use krl_types::KrlFault;
 use run_faults::{Cause, FileFault, KeyCause};
 use run_output::Done;

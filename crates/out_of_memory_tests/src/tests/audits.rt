@@ -2,12 +2,12 @@
 
 use crate::tests::answered::{answered, ran_out};
 use crate::tests::buffer::Buffer;
+use audit_lines::{Fronts, Outcome, read_outcomes};
+use audit_text::Form;
 use byte_streams::{Sink, ToWrite};
-use krl_audit::{
-    Auditor, Counts, FileCounts, Form, Fronts, Judge, ListFacts, Outcome, Shown, Stated,
-    read_outcomes,
-};
+use krl_audit::{Auditor, Counts, FileCounts, Judge, ListFacts, Shown};
 use krl_core::Revocations;
+use krl_format::Stated;
 use run_faults::{Cause, RunFault};
 use run_output::{Printer, Run};
 use span_sets::Held;

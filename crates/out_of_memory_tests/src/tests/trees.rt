@@ -2,7 +2,8 @@
 
 use crate::tests::answered::answered;
 use audit_run::{Summary, path_in, push_progress, push_summary, push_wipe, shown_path};
-use krl_audit::{Counts, FileCounts, Stated};
+use krl_audit::{Counts, FileCounts};
+use krl_format::Stated;
 use line_pieces::visible_name;
 use std::alloc::AllocError;
 

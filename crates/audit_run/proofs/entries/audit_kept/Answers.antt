@@ -3,7 +3,7 @@ use Rattle.std.proofs.Common.{[], None, ap, refl, sym, inl, ◌∙◌}
 use Rattle.std.specs.Prelude.{is_some}
 use Rattle.std.proofs.lemmas.Result.{err_from_is_err_and}
 use Rattle.audit_run.specs.Paths.{path_in}
-use Rattle.krl_audit.specs.declared.why.Refusal.TheVariants.{Open}
+use Rattle.audit_lines.specs.declared.why.Refusal.TheVariants.{Open}
 use Rattle.audit_run.specs.Entries.{IsLooked, IsKept, below, no_text, not_selected}
 use Rattle.audit_run.specs.Visits.{refused}
 use Rattle.audit_run.proofs.Auditing.{goes_nothing, nothing_met}

@@ -2,7 +2,7 @@
 use Rattle.std.proofs.Common.{◌∙◌, ap, false, length, refl, subst, sym, List, ℕ}
 use Rattle.std.proofs.lemmas.Bool.{ltb-false, ltb-true}
 use Rattle.line_pieces.specs.Visible.{visible_bytes}
-use Rattle.krl_audit.specs.declared.why.Refusal.TheVariants.{LongName}
+use Rattle.audit_lines.specs.declared.why.Refusal.TheVariants.{LongName}
 use Rattle.audit_run.specs.Named.{IsOnList, before_name, long_name, no_text}
 use Rattle.audit_run.specs.Visits.{Went, refused}
 use Rattle.audit_run.proofs.Inputs.{goes_went, long_front}

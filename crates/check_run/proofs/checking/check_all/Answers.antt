@@ -3,7 +3,7 @@ use Rattle.std.proofs.Common.{[], ◌∙◌, ap}
 use Rattle.std.proofs.lemmas.Result.{err_from_is_err_and}
 use Rattle.any_list.proofs.Telling.{told_none}
 use Rattle.krl_entries.specs.Revocations.{Means}
-use Rattle.krl_audit.specs.declared.judge.Form.{Form}
+use Rattle.audit_text.specs.declared.form.Form.{Form}
 use Rattle.krl_audit.specs.declared.judge.Judge.{Judge}
 use Rattle.check_run.proofs.Judging.{ListLaws, all_checked, files_stop, list_stops}
 use Rattle.check_run.proofs.checking.check_all.Goals as goal

@@ -2,8 +2,8 @@
 use Rattle.std.proofs.Common.{◌≡◌, ◌+◌, ◌≤◌, length}
 use Rattle.std.specs.List.{slice_split}
 use Rattle.key_text.specs.Lines.{is_newline}
-use Rattle.krl_audit.specs.Outcome.{placed_behind}
-use Rattle.krl_audit.specs.declared.front.Fronts.{Fronts}
+use Rattle.audit_lines.specs.Outcome.{placed_behind}
+use Rattle.audit_lines.specs.declared.front.Fronts.{Fronts}
 use Rattle.krl_audit.proofs.auditor.behind_private.Given as goal
 
 abbrev pub invariant-loop-rest_of_text : goal.invariant-loop-rest_of_text

@@ -1,5 +1,5 @@
 -- There is a reason exactly if the entries revoke the key.
-use Rattle.krl_audit.proofs.Spelled.{found_fine, found_revoked}
+use Rattle.krl_audit.proofs.RevokedKeys.{found_fine, found_revoked}
 use Rattle.krl_audit.proofs.laws.revoked_where_entries_revoke.Goals as goal
 
 pub returns-clause-revoked : goal.returns-clause-revoked

@@ -2,7 +2,7 @@
 use Rattle.std.proofs.Common.{[]}
 use Rattle.std.proofs.lemmas.Result.{err_from_is_err_and}
 use Rattle.key_text.specs.Lines.{lines_left}
-use Rattle.krl_audit.specs.Outcome.{place_all, placed_from, read_all}
+use Rattle.audit_lines.specs.Outcome.{place_all, placed_from, read_all}
 use Rattle.krl_audit.specs.Tally.{none_yet}
 use Rattle.krl_audit.proofs.Telling.{told_none, told_stop, told_then}
 use Rattle.krl_audit.proofs.auditor.Auditor.audit_from.Goals as goal

@@ -1,8 +1,8 @@
 -- The file has no key, or is audited line by line.
 use Rattle.std.proofs.Common.{ap, ◌∙◌}
 use Rattle.key_text.specs.Lines.{lines_left}
-use Rattle.krl_audit.specs.Front.{fronts_of}
-use Rattle.krl_audit.specs.Outcome.{outcomes_of, read_all}
+use Rattle.audit_lines.specs.Front.{fronts_of}
+use Rattle.audit_lines.specs.Outcome.{outcomes_of, read_all}
 use Rattle.krl_audit.proofs.Files.{told_lines, told_no_memory, told_whole}
 use Rattle.krl_audit.proofs.auditor.Auditor.audit_plain.Goals as goal
 

@@ -1,7 +1,7 @@
 -- The key is printed, and then the lines beside it, or the audit is stopped.
 use Rattle.std.proofs.Common.{true, false, sym, ap, ◌∙◌}
 use Rattle.std.proofs.lemmas.Result.{err_from_is_err_and}
-use Rattle.krl_audit.specs.Front.{fronts_of, is_read_by_lines}
+use Rattle.audit_lines.specs.Front.{fronts_of, is_read_by_lines}
 use Rattle.krl_audit.proofs.Files.{told_as, told_beside, told_private_stop}
 use Rattle.krl_audit.proofs.Telling.{told_none}
 use Rattle.krl_audit.proofs.auditor.Auditor.audit_private.Goals as goal

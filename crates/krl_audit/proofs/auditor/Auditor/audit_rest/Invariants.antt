@@ -7,7 +7,7 @@ use Rattle.run_output.specs.Printer.{Printer}
 use Rattle.krl_types.specs.Subject.{Subject}
 use Rattle.krl_entries.specs.declared.reasons.Reasons.{Reasons}
 use Rattle.krl_audit.specs.Audit.{JudgesAs, Told}
-use Rattle.krl_audit.specs.Outcome.{placed_from, read_all}
+use Rattle.audit_lines.specs.Outcome.{placed_from, read_all}
 use Rattle.krl_audit.specs.declared.counts.Counts.{Counts}
 use Rattle.krl_audit.specs.declared.tally.Tally.{Tally}
 use Rattle.krl_audit.proofs.auditor.Auditor.audit_rest.Given as goal

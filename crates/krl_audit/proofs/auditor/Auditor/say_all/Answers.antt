@@ -1,7 +1,7 @@
 -- The first outcome is printed, and then the second one, if there is one.
 use Rattle.std.proofs.Common.{[], ◌∷◌}
 use Rattle.std.proofs.lemmas.Result.{err_from_is_err_and}
-use Rattle.krl_audit.specs.Outcome.{place, place_second}
+use Rattle.audit_lines.specs.Outcome.{place, place_second}
 use Rattle.krl_audit.proofs.Telling.{told_stop, told_then}
 use Rattle.krl_audit.proofs.auditor.Auditor.say_all.Goals as goal
 

@@ -1,5 +1,5 @@
 -- The outcomes are those of the line, or an allocation failed.
-use Rattle.krl_audit.specs.Outcome.{outcomes_of}
+use Rattle.audit_lines.specs.Outcome.{outcomes_of}
 use Rattle.krl_audit.proofs.auditor.Auditor.say_line.Goals as goal
 
 pub returns-in-Ok-clause-told : goal.returns-in-Ok-clause-told

@@ -1,6 +1,6 @@
 -- The outcome is that of the public key, or why the file is not read.
 use Rattle.std.proofs.Common.{rules, ap}
-use Rattle.krl_audit.specs.Outcome.{opened_at, private_outcome}
+use Rattle.audit_lines.specs.Outcome.{opened_at, private_outcome}
 use Rattle.krl_audit.proofs.Private.{private_gives}
 use Rattle.krl_audit.proofs.auditor.Auditor.say_private.Goals as goal
 

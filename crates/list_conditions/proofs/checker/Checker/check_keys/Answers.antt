@@ -4,7 +4,7 @@ use Rattle.std.proofs.lemmas.Result.{err_from_is_err_and}
 use Rattle.run_output.specs.Carries.{Carries}
 use Rattle.krl_entries.specs.Reasons.{reasons_of}
 use Rattle.krl_entries.proofs.ReasonTests.{meant_reasons}
-use Rattle.krl_audit.specs.declared.judge.Form.{Form}
+use Rattle.audit_text.specs.declared.form.Form.{Form}
 use Rattle.krl_audit.specs.declared.judge.Judge.{Judge}
 use Rattle.list_conditions.proofs.Checking.{counted, stopped}
 use Rattle.list_conditions.proofs.checker.Checker.check_keys.Goals as goal

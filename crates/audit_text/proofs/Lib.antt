@@ -1,0 +1,4 @@
+pub mod Shallow
+pub mod EachReason
+pub mod Escapes
+pub mod Painted

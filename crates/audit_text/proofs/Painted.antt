@@ -1,0 +1,292 @@
+-- A line in colour is a plain line with one word in a colour.
+use Rattle.std.proofs.Common.{◌≡◌, ℕ, ◌==◌, ◌<◌, ◌^◌, Bool, true, false, List, [], ◌∷◌, ◌++◌, append_assoc, codes, decimal, if◌then◌else◌, length, nat_lt, Option, Some, None, refl, sym, ap, subst, ◌∙◌, arith}
+use Rattle.ssh_wire.specs.Laws.{ReadsJust}
+use Rattle.ssh_wire.specs.Reading.{string_at}
+use Rattle.ssh_wire.specs.Wire.{IsBytes, string}
+use Rattle.ssh_wire.specs.declared.fault.WireFault.{WireFault}
+use Rattle.ssh_wire.specs.declared.fault.WireFault.TheVariants as wires
+use Rattle.ssh_key.specs.KeyFault.{key_fault_text}
+use Rattle.ssh_key.specs.Kind.{certificate_name, type_name}
+use Rattle.ssh_key.specs.declared.fault.KeyFault.{KeyFault}
+use Rattle.ssh_key.specs.declared.fault.KeyFault.TheVariants as keys
+use Rattle.ssh_key.specs.declared.kind.Kind.{Kind}
+use Rattle.ssh_key.specs.declared.kind.Kind.TheVariants as kinds
+use Rattle.ssh_wire.specs.Fault.{fault_text}
+use Rattle.ssh_cert.specs.CertFault.{cert_fault_text}
+use Rattle.ssh_cert.specs.SubjectFault.{subject_fault_text}
+use Rattle.ssh_cert.specs.SubjectReading.{IsSubject, certified, plain_key}
+use Rattle.ssh_cert.proofs.Certs.{opening_spelled, serial_fits}
+use Rattle.ssh_cert.specs.declared.fault.CertFault.{CertFault}
+use Rattle.ssh_cert.specs.declared.fault.CertFault.TheVariants as certs
+use Rattle.ssh_cert.specs.declared.subject_fault.SubjectFault.{SubjectFault}
+use Rattle.ssh_cert.specs.declared.subject_fault.SubjectFault.TheVariants as subjects
+use Rattle.key_text.specs.Fingerprints.{fingerprint_text}
+use Rattle.key_text.specs.PrivateFault.{private_fault_text}
+use Rattle.key_text.specs.declared.hash.Hash.TheVariants.{Sha256}
+use Rattle.key_text.specs.declared.line_fault.LineFault.{LineFault}
+use Rattle.key_text.specs.declared.line_fault.LineFault.TheVariants as lines
+use Rattle.key_text.specs.declared.private_fault.PrivateFault.{PrivateFault}
+use Rattle.key_text.specs.declared.private_fault.PrivateFault.TheVariants as privates
+use Rattle.krl_types.specs.Subject.{CertNames, Subject}
+use Rattle.std.specs.List.{flat_map}
+use Rattle.krl_entries.specs.Reasons.{any_reason, every_reason, has_reason}
+use Rattle.krl_entries.specs.declared.reasons.Reason.{Reason}
+use Rattle.krl_entries.specs.declared.reasons.Reason.TheVariants as reasons
+use Rattle.krl_entries.specs.declared.reasons.Reasons.{Reasons}
+use Rattle.audit_text.specs.Colour.{HasNoEscape, IsCount, IsPainted, in_colour, painted, verdict_word, word_text}
+use Rattle.audit_text.specs.More.{are_more, kind_mark, kind_word, more_line, more_words}
+use Rattle.audit_text.specs.Text.{comment_words, key_line, key_words, location_text, of_authority, reason_parts, reason_words, reasons_text, type_of, unread_line}
+use Rattle.line_pieces.specs.Visible.{visible}
+use Rattle.audit_lines.specs.Why.{refusal_why, why_text}
+use Rattle.run_faults.specs.Causes.{line_words}
+use Rattle.audit_text.specs.declared.line_kind.LineKind.{LineKind}
+use Rattle.audit_text.specs.declared.line_kind.LineKind.TheVariants as line_kinds
+use Rattle.audit_lines.specs.declared.why.Refusal.{Refusal}
+use Rattle.audit_lines.specs.declared.why.Refusal.TheVariants as refusals
+use Rattle.audit_lines.specs.declared.why.Why.{Why}
+use Rattle.audit_lines.specs.declared.why.Why.TheVariants as whys
+use Rattle.keyed_lines.specs.declared.key_cause.KeyCause.TheVariants as key_causes
+use Rattle.audit_text.proofs.Escapes.{decimal_free, fingerprint_free, free_append, free_drop, visible_free}
+
+-- ---- one word in a colour
+
+moved : (location a word b tail : List ℕ) → location ++ ((a ++ (word ++ b)) ++ tail) ≡ (location ++ a) ++ (word ++ (b ++ tail))
+moved location a word b tail =
+    ap (λ (t : List ℕ). location ++ t) (append_assoc a (word ++ b) tail ∙ ap (λ (t : List ℕ). a ++ t) (append_assoc word b tail))
+    ∙ sym (append_assoc location a (word ++ (b ++ tail)))
+
+one_word : (location tail colour word : List ℕ) → HasNoEscape location → HasNoEscape word → HasNoEscape tail
+    → IsPainted (location ++ (word_text false colour word ++ tail)) (location ++ (word_text true colour word ++ tail))
+unfolding painted
+one_word location tail colour word before free after = record {
+  front = location ++ codes ": ";
+  colour = colour;
+  word = word;
+  rest = codes ": " ++ tail;
+  plain_is = moved location (codes ": ") word (codes ": ") tail;
+  coloured_is = moved location (codes ": ") (in_colour colour word) (codes ": ") tail;
+  no_escape = free_append location ((codes ": " ++ (word ++ codes ": ")) ++ tail) before
+      (free_append (codes ": " ++ (word ++ codes ": ")) tail (free_append (codes ": ") (word ++ codes ": ") refl (free_append word (codes ": ") free refl)) after);
+}
+
+verdict_painted : (location tail : List ℕ) (revoked : Bool) → HasNoEscape location → HasNoEscape tail
+    → IsPainted (location ++ (verdict_word false revoked ++ tail)) (location ++ (verdict_word true revoked ++ tail))
+verdict_painted location tail true before after = one_word location tail (codes "31") (codes "revoked") before refl after
+verdict_painted location tail false before after = one_word location tail (codes "32") (codes "ok") before refl after
+
+-- ---- the location, and the comment
+
+number_free : (number : ℕ) (some : Bool) → number < 2 ^ 64 → HasNoEscape (if some then codes ":" ++ decimal number else [])
+number_free number true small = free_append (codes ":") (decimal number) refl (decimal_free number small)
+number_free number false small = refl
+
+place_free : (name : List ℕ) (number : ℕ) → number < 2 ^ 64 → HasNoEscape (location_text name number)
+place_free name number small =
+    free_append (visible false name) (if nat_lt 0 number then codes ":" ++ decimal number else []) (visible_free false name) (number_free number (nat_lt 0 number) small)
+
+comment_free : (comment : List ℕ) → HasNoEscape (comment_words comment)
+comment_free [] = refl
+comment_free (byte ∷ bytes) = free_append (codes ": ") (visible false (byte ∷ bytes)) refl (visible_free false (byte ∷ bytes))
+
+-- ---- reasons
+
+three_free : (a b c : List ℕ) → HasNoEscape a → HasNoEscape b → HasNoEscape c → HasNoEscape (a ++ (b ++ c))
+three_free a b c first second third = free_append a (b ++ c) first (free_append b c second third)
+
+authority_free : (authority : List ℕ) → HasNoEscape (of_authority authority)
+authority_free authority = free_append (codes " of CA ") (fingerprint_text Sha256 authority) refl (fingerprint_free authority)
+
+-- the serial number of a certificate has eight bytes
+abbrev IsSmall : Option CertNames → Type 0
+IsSmall None = Unit {0}
+IsSmall (Some cert) = cert.serial < 2 ^ 64
+
+reason_free : (reason : Reason) (cert : Option CertNames) → IsSmall cert → HasNoEscape (reason_words reason cert)
+reason_free reasons.Key cert small = refl
+reason_free reasons.KeySha1 cert small = refl
+reason_free reasons.KeySha256 cert small = refl
+reason_free reason None small = none reason
+  where
+    none : (reason : Reason) → HasNoEscape (reason_words reason None)
+    none reasons.Key = refl
+    none reasons.KeySha1 = refl
+    none reasons.KeySha256 = refl
+    none other = refl
+reason_free reasons.Authority (Some cert) small = refl
+reason_free reasons.AuthoritySha1 (Some cert) small = refl
+reason_free reasons.AuthoritySha256 (Some cert) small = refl
+reason_free reasons.Serial (Some cert) small =
+    three_free (codes ", by serial ") (decimal cert.serial) (of_authority cert.authority) refl (decimal_free cert.serial small) (authority_free cert.authority)
+reason_free reasons.SerialOfAll (Some cert) small =
+    three_free (codes ", by serial ") (decimal cert.serial) (codes " of all CAs") refl (decimal_free cert.serial small) refl
+reason_free reasons.KeyId (Some cert) small =
+    three_free (codes ", by key ID \"") (visible true cert.key_id) (codes "\"" ++ of_authority cert.authority) refl (visible_free true cert.key_id)
+    (free_append (codes "\"") (of_authority cert.authority) refl (authority_free cert.authority))
+reason_free reasons.KeyIdOfAll (Some cert) small =
+    three_free (codes ", by key ID \"") (visible true cert.key_id) (codes "\" of all CAs") refl (visible_free true cert.key_id) refl
+
+if_free : (said : Bool) (words : List ℕ) → HasNoEscape words → HasNoEscape (if said then words else [])
+if_free true words free = free
+if_free false words free = refl
+
+parts_free : (asked : Subject) (all : Reasons) → IsSmall asked.cert → (few : List Reason) → HasNoEscape (flat_map (λ reason. if has_reason all reason then reason_words reason asked.cert else []) few)
+parts_free asked all small [] = refl
+parts_free asked all small (reason ∷ few) =
+    free_append (if has_reason all reason then reason_words reason asked.cert else []) (flat_map (λ reason. if has_reason all reason then reason_words reason asked.cert else []) few)
+    (if_free (has_reason all reason) (reason_words reason asked.cert) (reason_free reason asked.cert small)) (parts_free asked all small few)
+
+reasons_free : (asked : Subject) (all : Reasons) → IsSmall asked.cert → HasNoEscape (reasons_text asked all)
+reasons_free asked all small = free_drop (reason_parts asked all) (parts_free asked all small every_reason)
+
+-- ---- the type of a key
+
+abbrev IsFreeName : List ℕ → Type 0
+IsFreeName name = HasNoEscape name × (length name < 2 ^ 32)
+
+names_free : (kind : Kind) → IsFreeName (type_name kind) × IsFreeName (certificate_name kind)
+names_free kinds.Rsa = ((refl, omega arith), (refl, omega arith))
+names_free kinds.Dsa = ((refl, omega arith), (refl, omega arith))
+names_free kinds.Ecdsa256 = ((refl, omega arith), (refl, omega arith))
+names_free kinds.Ecdsa384 = ((refl, omega arith), (refl, omega arith))
+names_free kinds.Ecdsa521 = ((refl, omega arith), (refl, omega arith))
+names_free kinds.Ed25519 = ((refl, omega arith), (refl, omega arith))
+names_free kinds.EcdsaSk = ((refl, omega arith), (refl, omega arith))
+names_free kinds.Ed25519Sk = ((refl, omega arith), (refl, omega arith))
+
+small_serial : (blob : List ℕ) (asked : Subject) → IsSubject blob asked → IsSmall asked.cert
+small_serial blob asked (plain_key key is same) = subst (λ (s : Subject). IsSmall s.cert) (sym same) tt
+small_serial blob asked (certified certificate is same) = subst (λ (s : Subject). IsSmall s.cert) (sym same) (serial_fits blob certificate is)
+
+module _ (reads : ReadsJust string_at string (λ (text : List ℕ). length text < 2 ^ 32)) where
+  named_free : (blob name rest : List ℕ) → IsBytes blob → blob ≡ string name ++ rest → IsFreeName name → HasNoEscape (type_of blob)
+  unfolding type_of
+  named_free blob name rest bytes is free = rw ((reads blob name rest bytes).1 (is, free.1)) free.0
+
+  type_free : (blob : List ℕ) (asked : Subject) → IsBytes blob → IsSubject blob asked → HasNoEscape (type_of blob)
+  type_free blob asked bytes (plain_key key is same) = named_free blob (type_name key.kind) key.fields bytes is.spelled (names_free key.kind).0
+  type_free blob asked bytes (certified certificate is same) =
+      let name : List ℕ = certificate_name certificate.key.kind in
+      named_free blob name (string certificate.nonce ++ is.fields) bytes (opening_spelled blob name certificate.nonce is.fields is.opening) (names_free certificate.key.kind).1
+
+  key_tail_free : (blob comment : List ℕ) (asked : Subject) (all : Reasons) → HasNoEscape (type_of blob) → IsSmall asked.cert
+      → HasNoEscape (key_words blob asked ++ (reasons_text asked all ++ (comment_words comment ++ 10 ∷ [])))
+  key_tail_free blob comment asked all typed small =
+      three_free (key_words blob asked) (reasons_text asked all) (comment_words comment ++ 10 ∷ [])
+      (three_free (type_of blob) (codes " ") (fingerprint_text Sha256 asked.plain) typed refl (fingerprint_free asked.plain)) (reasons_free asked all small)
+      (free_append (comment_words comment) (10 ∷ []) (comment_free comment) refl)
+
+  pub key_painted : (name blob comment : List ℕ) (number : ℕ) (asked : Subject) (all : Reasons) → number < 2 ^ 64 → IsBytes blob → IsSubject blob asked
+      → IsPainted (key_line false name number blob comment asked all) (key_line true name number blob comment asked all)
+  key_painted name blob comment number asked all small bytes is =
+      verdict_painted (location_text name number) (key_words blob asked ++ (reasons_text asked all ++ (comment_words comment ++ 10 ∷ []))) (any_reason all)
+      (place_free name number small) (key_tail_free blob comment asked all (type_free blob asked bytes is) (small_serial blob asked is))
+
+-- ---- why a line or a file is not read
+
+wire_free : (fault : WireFault) → HasNoEscape (fault_text fault)
+wire_free wires.Short = refl
+wire_free wires.Negative = refl
+wire_free wires.NotShortest = refl
+
+key_fault_free : (fault : KeyFault) → HasNoEscape (key_fault_text fault)
+key_fault_free (keys.Wire fault) = free_append (codes "key 1 Wire, ") (fault_text fault) refl (wire_free fault)
+key_fault_free keys.UnknownType = refl
+key_fault_free keys.Curve = refl
+key_fault_free keys.Point = refl
+key_fault_free keys.Length = refl
+key_fault_free keys.Number = refl
+key_fault_free keys.Trailing = refl
+key_fault_free keys.TooLong = refl
+
+cert_fault_free : (fault : CertFault) → HasNoEscape (cert_fault_text fault)
+cert_fault_free certs.Wire = refl
+cert_fault_free certs.UnknownType = refl
+cert_fault_free (certs.Key fault) = free_append (codes "cert 3 Key, ") (key_fault_text fault) refl (key_fault_free fault)
+cert_fault_free certs.CertType = refl
+cert_fault_free certs.Options = refl
+cert_fault_free certs.Principals = refl
+cert_fault_free (certs.Authority fault) = free_append (codes "cert 7 Authority, ") (key_fault_text fault) refl (key_fault_free fault)
+cert_fault_free certs.Signature = refl
+cert_fault_free certs.Trailing = refl
+
+subject_free : (fault : SubjectFault) → HasNoEscape (subject_fault_text fault)
+subject_free (subjects.Key fault) = free_append (codes "subject 1 Key, ") (key_fault_text fault) refl (key_fault_free fault)
+subject_free (subjects.Cert fault) = free_append (codes "subject 2 Cert, ") (cert_fault_text fault) refl (cert_fault_free fault)
+subject_free subjects.NoMemory = refl
+
+private_free : (fault : PrivateFault) → HasNoEscape (private_fault_text fault)
+private_free privates.Armour = refl
+private_free privates.Base64 = refl
+private_free privates.Magic = refl
+private_free privates.Encrypted = refl
+private_free privates.KeyCount = refl
+private_free privates.Check = refl
+private_free (privates.Key fault) = free_append (codes "private 7 Key, ") (key_fault_text fault) refl (key_fault_free fault)
+private_free privates.PublicDiffers = refl
+private_free privates.Padding = refl
+private_free privates.Trailing = refl
+private_free (privates.Wire fault) = free_append (codes "private 11 Wire, ") (fault_text fault) refl (wire_free fault)
+private_free privates.NoMemory = refl
+
+line_free : (fault : LineFault) → HasNoEscape (line_words fault)
+line_free lines.NoKey = refl
+line_free lines.Base64 = refl
+line_free lines.WordDiffers = refl
+line_free lines.NoMemory = refl
+
+refusal_free : (refusal : Refusal) → HasNoEscape (refusal_why refusal)
+refusal_free refusals.Missing = refl
+refusal_free refusals.Denied = refl
+refusal_free refusals.Irregular = refl
+refusal_free refusals.Loop = refl
+refusal_free refusals.DirectoryLink = refl
+refusal_free refusals.NoFile = refl
+refusal_free refusals.LongName = refl
+refusal_free refusals.Slow = refl
+refusal_free refusals.Kernel = refl
+refusal_free refusals.Open = refl
+refusal_free refusals.Read = refl
+refusal_free refusals.TooLong = refl
+
+why_free : (why : Why) → IsCount why → HasNoEscape (why_text why)
+why_free (whys.Key (key_causes.Line fault)) small = line_free fault
+why_free (whys.Key (key_causes.Subject fault)) small = free_append (codes "the key is cut or misspelt: ") (subject_fault_text fault) refl (subject_free fault)
+why_free whys.ZeroInId small = refl
+why_free (whys.Private fault) small = free_append (codes "the private key file is cut or misspelt: ") (private_fault_text fault) refl (private_free fault)
+why_free (whys.File refusal) small = refusal_free refusal
+why_free (whys.NoKeys lines) small = three_free (codes "none of its ") (decimal lines) (codes " lines is a key") refl (decimal_free lines small) refl
+
+pub unread_painted : (name : List ℕ) (number : ℕ) (why : Why) → number < 2 ^ 64 → IsCount why → IsPainted (unread_line false name number why) (unread_line true name number why)
+unread_painted name number why small few =
+    one_word (location_text name number) (why_text why ++ 10 ∷ []) (codes "33") (codes "unread") (place_free name number small) refl
+    (free_append (why_text why) (10 ∷ []) (why_free why few) refl)
+
+-- ---- lines that are only counted
+
+are_more_free : (one : Bool) → HasNoEscape (are_more one)
+are_more_free true = refl
+are_more_free false = refl
+
+kind_free : (kind : LineKind) → HasNoEscape (kind_word kind)
+kind_free line_kinds.Empty = refl
+kind_free line_kinds.Distrusted = refl
+kind_free line_kinds.Fine = refl
+kind_free line_kinds.Revoked = refl
+kind_free line_kinds.Unread = refl
+
+more_words_free : (kind : LineKind) (lines : ℕ) → lines < 2 ^ 64 → HasNoEscape (more_words kind lines)
+more_words_free kind lines few =
+    free_append (codes "and ") (decimal lines ++ (are_more (lines == 1) ++ kind_word kind)) refl
+    (three_free (decimal lines) (are_more (lines == 1)) (kind_word kind) (decimal_free lines few) (are_more_free (lines == 1)) (kind_free kind))
+
+kind_painted : (location tail : List ℕ) (kind : LineKind) → HasNoEscape location → HasNoEscape tail
+    → IsPainted (location ++ (kind_mark false kind ++ tail)) (location ++ (kind_mark true kind ++ tail))
+kind_painted location tail line_kinds.Empty before after = one_word location tail (codes "33") (codes "unread") before refl after
+kind_painted location tail line_kinds.Distrusted before after = one_word location tail (codes "33") (codes "unread") before refl after
+kind_painted location tail line_kinds.Fine before after = one_word location tail (codes "32") (codes "ok") before refl after
+kind_painted location tail line_kinds.Revoked before after = one_word location tail (codes "31") (codes "revoked") before refl after
+kind_painted location tail line_kinds.Unread before after = one_word location tail (codes "33") (codes "unread") before refl after
+
+pub more_painted : (name : List ℕ) (kind : LineKind) (lines : ℕ) → lines < 2 ^ 64 → IsPainted (more_line false name kind lines) (more_line true name kind lines)
+more_painted name kind lines few =
+    kind_painted (location_text name 0) (more_words kind lines ++ 10 ∷ []) kind (place_free name 0 (omega arith)) (free_append (more_words kind lines) (10 ∷ []) (more_words_free kind lines few) refl)

@@ -1,0 +1,145 @@
+-- The objects of findings are nested three deep, and their numbers are counts.
+use Rattle.std.proofs.Common.{ℕ, ◌<◌, ◌^◌, ◌≤◌, Bool, true, false, List, [], ◌∷◌, ◌++◌, Option, None, Some, codes, nat_lt, if◌then◌else◌, arith}
+use Rattle.key_text.specs.Fingerprints.{fingerprint_text}
+use Rattle.key_text.specs.Marker.{marker_word}
+use Rattle.key_text.specs.declared.hash.Hash.TheVariants.{Sha256}
+use Rattle.key_text.specs.declared.marker.Marker.{Marker}
+use Rattle.krl_types.specs.Subject.{CertNames, Subject}
+use Rattle.std.specs.List.{flat_map}
+use Rattle.krl_entries.specs.Reasons.{any_reason, every_reason, has_reason}
+use Rattle.krl_entries.specs.declared.reasons.Reason.{Reason}
+use Rattle.krl_entries.specs.declared.reasons.Reason.TheVariants as reasons
+use Rattle.krl_entries.specs.declared.reasons.Reasons.{Reasons}
+use Rattle.json.specs.Json.{Json, max_depth}
+use Rattle.json.specs.Tree.{depth}
+use Rattle.json_lines.specs.Field.{Field, number_field, text_field, word_field}
+use Rattle.json_lines.proofs.Shallow.{FieldsFit, Fits, ValuesFit, array_fits, deeper, digits_fit, fields_fit, number_fits, object_fits, text_fits, values_fit, word_fits}
+use Rattle.audit_text.specs.More.{kind_word, more_fields, more_object, more_words, why_more}
+use Rattle.audit_text.specs.Objects.{by_value, cert_field, cert_fields, cert_names, front_fields, front_word, id_field, id_value, key_fields, key_object, line_fields, list_fields, location_fields, marker_fields}
+use Rattle.audit_text.specs.Objects.{of_value, reason_value, reason_values, reasons_field, serial_field, serial_value, status_word, unread_object}
+use Rattle.audit_lines.specs.FaultText.{why_fault, why_fields}
+use Rattle.audit_lines.specs.Outcome.{Found}
+use Rattle.audit_text.specs.Same.{same_fields, same_object}
+use Rattle.audit_text.specs.Text.{type_of}
+use Rattle.audit_lines.specs.Why.{why_text}
+use Rattle.audit_text.specs.declared.line_kind.LineKind.{LineKind}
+use Rattle.audit_text.specs.declared.line_kind.LineKind.TheVariants as kinds
+use Rattle.audit_lines.specs.declared.why.Why.{Why}
+
+-- ---- reasons
+
+by_fits : (by : List ℕ) → Fits 1 (by_value by [])
+by_fits by = object_fits 0 (word_field (codes "by") by ∷ []) (word_fits 0 (codes "by") by, tt)
+
+of_fits : (of : List ℕ) → Fits 1 (of_value of)
+of_fits of = object_fits 0 (word_field (codes "by") (codes "authority") ∷ word_field (codes "of") of ∷ []) (word_fits 0 (codes "by") (codes "authority"), (word_fits 0 (codes "of") of, tt))
+
+name_fits : (by : List ℕ) (name : Field) (authority : List ℕ) → Fits 0 name.value → Fits 1 (by_value by (name ∷ text_field (codes "authority") authority ∷ []))
+name_fits by name authority fit = object_fits 0 (word_field (codes "by") by ∷ name ∷ text_field (codes "authority") authority ∷ []) (word_fits 0 (codes "by") by, (fit, (text_fits 0 (codes "authority") authority, tt)))
+
+serial_fits : (serial : ℕ) (authority : List ℕ) → Fits 1 (serial_value serial authority)
+serial_fits serial authority = name_fits (codes "serial") (serial_field serial) authority (digits_fit 0 (codes "serial") serial)
+
+id_fits : (id authority : List ℕ) → Fits 1 (id_value id authority)
+id_fits id authority = name_fits (codes "id") (id_field id) authority (text_fits 0 (codes "id") id)
+
+reason_fits : (reason : Reason) (cert : Option CertNames) → ValuesFit 1 (reason_value reason cert)
+reason_fits reasons.Key cert = (by_fits (codes "key"), tt)
+reason_fits reasons.KeySha1 cert = (by_fits (codes "sha1"), tt)
+reason_fits reasons.KeySha256 cert = (by_fits (codes "sha256"), tt)
+reason_fits reason None = none reason
+  where
+    none : (reason : Reason) → ValuesFit 1 (reason_value reason None)
+    none reasons.Key = (by_fits (codes "key"), tt)
+    none reasons.KeySha1 = (by_fits (codes "sha1"), tt)
+    none reasons.KeySha256 = (by_fits (codes "sha256"), tt)
+    none other = tt
+reason_fits reasons.Authority (Some cert) = (of_fits (codes "key"), tt)
+reason_fits reasons.AuthoritySha1 (Some cert) = (of_fits (codes "sha1"), tt)
+reason_fits reasons.AuthoritySha256 (Some cert) = (of_fits (codes "sha256"), tt)
+reason_fits reasons.Serial (Some cert) = (serial_fits cert.serial (fingerprint_text Sha256 cert.authority), tt)
+reason_fits reasons.SerialOfAll (Some cert) = (serial_fits cert.serial (codes "all"), tt)
+reason_fits reasons.KeyId (Some cert) = (id_fits cert.key_id (fingerprint_text Sha256 cert.authority), tt)
+reason_fits reasons.KeyIdOfAll (Some cert) = (id_fits cert.key_id (codes "all"), tt)
+
+if_fits : (said : Bool) (values : List Json) → ValuesFit 1 values → ValuesFit 1 (if said then values else [])
+if_fits true values fit = fit
+if_fits false values fit = tt
+
+few_fit : (asked : Subject) (all : Reasons) (few : List Reason) → ValuesFit 1 (flat_map (λ reason. if has_reason all reason then reason_value reason asked.cert else []) few)
+few_fit asked all [] = tt
+few_fit asked all (reason ∷ few) =
+    values_fit 1 (if has_reason all reason then reason_value reason asked.cert else []) (flat_map (λ reason. if has_reason all reason then reason_value reason asked.cert else []) few)
+    (if_fits (has_reason all reason) (reason_value reason asked.cert) (reason_fits reason asked.cert)) (few_fit asked all few)
+
+reasons_fit : (asked : Subject) (all : Reasons) → Fits 2 (reasons_field asked all).value
+reasons_fit asked all = array_fits 1 (reason_values asked all) (few_fit asked all every_reason)
+
+-- ---- fields
+
+line_fits : (number : ℕ) (test : Bool) → number < 2 ^ 64 → FieldsFit 2 (if test then number_field (codes "line") number ∷ [] else [])
+line_fits number true small = (number_fits 2 (codes "line") number small, tt)
+line_fits number false small = tt
+
+place_fits : (name : List ℕ) (number : ℕ) → number < 2 ^ 64 → FieldsFit 2 (location_fields name number)
+place_fits name number small = (word_fits 2 (codes "file") name, line_fits number (nat_lt 0 number) small)
+
+key_fits : (blob comment : List ℕ) (asked : Subject) (all : Reasons) → FieldsFit 2 (key_fields blob comment asked all)
+key_fits blob comment asked all =
+    (word_fits 2 (codes "status") (status_word (any_reason all)), (text_fits 2 (codes "type") (type_of blob), (text_fits 2 (codes "fingerprint") (fingerprint_text Sha256 asked.plain), (text_fits 2 (codes "comment") comment, tt))))
+
+marker_fits : (marker : Option Marker) → FieldsFit 2 (marker_fields marker)
+marker_fits None = tt
+marker_fits (Some marker) = (word_fits 2 (codes "marker") (marker_word marker), tt)
+
+front_fits : (hosts : Bool) (front : List ℕ) → FieldsFit 2 (front_fields hosts front)
+front_fits hosts [] = tt
+front_fits hosts (byte ∷ bytes) = (text_fits 2 (front_word hosts) (byte ∷ bytes), tt)
+
+names_fit : (cert : CertNames) → FieldsFit 0 (cert_names cert)
+names_fit cert = (digits_fit 0 (codes "serial") cert.serial, (text_fits 0 (codes "id") cert.key_id, (text_fits 0 (codes "authority") (fingerprint_text Sha256 cert.authority), tt)))
+
+cert_fits : (cert : Option CertNames) → FieldsFit 2 (cert_fields cert)
+cert_fits None = tt
+cert_fits (Some cert) = (deeper 1 2 (cert_field cert).value (omega arith) (object_fits 0 (cert_names cert) (names_fit cert)), tt)
+
+list_fits : (asked : Subject) (all : Reasons) → FieldsFit 2 (list_fields asked all)
+list_fits asked all = fields_fit 2 (cert_fields asked.cert) (reasons_field asked all ∷ []) (cert_fits asked.cert) (reasons_fit asked all, tt)
+
+-- ---- objects
+
+pub key_object_fits : (name : List ℕ) (number : ℕ) (found : Found) (all : Reasons) → number < 2 ^ 64 → Fits 3 (key_object name number found all)
+key_object_fits name number found all small =
+    let location = location_fields name number in
+    let key = key_fields found.blob found.comment found.asked all in
+    let line = line_fields found.marker found.hosts found.front in
+    let list = list_fields found.asked all in
+    let line_fit = fields_fit 2 (marker_fields found.marker) (front_fields found.hosts found.front) (marker_fits found.marker) (front_fits found.hosts found.front) in
+    object_fits 2 (location ++ (key ++ (line ++ list)))
+    (fields_fit 2 location (key ++ (line ++ list)) (place_fits name number small)
+    (fields_fit 2 key (line ++ list) (key_fits found.blob found.comment found.asked all) (fields_fit 2 line list line_fit (list_fits found.asked all))))
+
+pub unread_object_fits : (name : List ℕ) (number : ℕ) (why : Why) → number < 2 ^ 64 → Fits 3 (unread_object name number why)
+unread_object_fits name number why small =
+    object_fits 2 (location_fields name number ++ why_fields why) (fields_fit 2 (location_fields name number) (why_fields why) (place_fits name number small)
+    (word_fits 2 (codes "status") (codes "unread"), (word_fits 2 (codes "fault") (why_fault why), (text_fits 2 (codes "why") (why_text why), tt))))
+
+why_more_fits : (kind : LineKind) (lines : ℕ) → FieldsFit 2 (why_more kind lines)
+why_more_fits kinds.Empty lines = tt
+why_more_fits kinds.Distrusted lines = tt
+why_more_fits kinds.Fine lines = tt
+why_more_fits kinds.Revoked lines = tt
+why_more_fits kinds.Unread lines = (text_fits 2 (codes "why") (more_words kinds.Unread lines), tt)
+
+pub more_object_fits : (name : List ℕ) (kind : LineKind) (lines : ℕ) → lines < 2 ^ 64 → Fits 3 (more_object name kind lines)
+more_object_fits name kind lines few =
+    object_fits 2 (more_fields name kind lines)
+    (word_fits 2 (codes "file") name, (word_fits 2 (codes "status") (kind_word kind), (number_fits 2 (codes "count") lines few, why_more_fits kind lines)))
+
+pub same_object_fits : (name : List ℕ) → Fits 3 (same_object name)
+same_object_fits name =
+    object_fits 2 (same_fields name) (word_fits 2 (codes "file") name, (word_fits 2 (codes "status") (codes "same"), tt))
+
+pub shallow : (value : Json) → Fits 3 value → depth value ≤ max_depth
+shallow value fit =
+    let three = fit.1 in omega arith

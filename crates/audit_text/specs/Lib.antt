@@ -1,0 +1,6 @@
+pub mod Text
+pub mod More
+pub mod Objects
+pub mod Said
+pub mod Colour
+pub mod Same

@@ -1,0 +1,134 @@
+-- Findings as JSON objects.
+use Rattle.std.specs.Prelude.{ℕ, Bool, true, false, List, [], ◌∷◌, ◌++◌, codes, flat_map}
+use Rattle.std.specs.Prelude.{nat_lt, Option, Some, None, if◌then◌else◌}
+use Rattle.json.specs.Json.{Json}
+use Rattle.json_lines.specs.Field.{Field, array_of, digits_field, field, number_field, object_of}
+use Rattle.json_lines.specs.Field.{text_field, word_field}
+use Rattle.key_text.specs.Fingerprints.{fingerprint_text}
+use Rattle.key_text.specs.Marker.{marker_word}
+use Rattle.key_text.specs.declared.hash.Hash.TheVariants.{Sha256}
+use Rattle.key_text.specs.declared.marker.Marker.{Marker}
+use Rattle.krl_types.specs.Subject.{CertNames, Subject}
+use Rattle.krl_entries.specs.Reasons.{any_reason, every_reason, has_reason}
+use Rattle.krl_entries.specs.declared.reasons.Reason.{Reason}
+use Rattle.krl_entries.specs.declared.reasons.Reason.TheVariants as reasons
+use Rattle.krl_entries.specs.declared.reasons.Reasons.{Reasons}
+use Rattle.audit_lines.specs.Outcome.{Found}
+use Rattle.audit_text.specs.Text.{type_of}
+use Rattle.audit_lines.specs.FaultText.{why_fields}
+use Rattle.audit_lines.specs.declared.why.Why.{Why}
+
+-- the name of a file, and the number of a line of it; 0 represents the whole file
+abbrev pub location_fields : List ℕ → ℕ → List Field
+location_fields name number =
+    word_field (codes "file") name
+    ∷ (if nat_lt 0 number then number_field (codes "line") number ∷ [] else [])
+
+-- ---- reasons
+
+abbrev pub serial_field : ℕ → Field
+serial_field serial = digits_field (codes "serial") serial
+
+abbrev pub id_field : List ℕ → Field
+id_field id = text_field (codes "id") id
+
+abbrev pub by_value : List ℕ → List Field → Json
+by_value by fields = object_of (word_field (codes "by") by ∷ fields)
+
+-- a name of the authority's key
+abbrev pub of_value : List ℕ → Json
+of_value of = by_value (codes "authority") (word_field (codes "of") of ∷ [])
+
+-- a serial number or a key ID, under the authority of this fingerprint or under all
+abbrev pub serial_value : ℕ → List ℕ → Json
+serial_value serial authority =
+    by_value (codes "serial") (serial_field serial ∷ text_field (codes "authority") authority ∷ [])
+
+abbrev pub id_value : List ℕ → List ℕ → Json
+id_value id authority =
+    by_value (codes "id") (id_field id ∷ text_field (codes "authority") authority ∷ [])
+
+-- A plain key has no reason that is about a certificate.
+abbrev pub reason_value : Reason → Option CertNames → List Json
+reason_value reasons.Key _ = by_value (codes "key") [] ∷ []
+reason_value reasons.KeySha1 _ = by_value (codes "sha1") [] ∷ []
+reason_value reasons.KeySha256 _ = by_value (codes "sha256") [] ∷ []
+reason_value _ None = []
+reason_value reasons.Authority (Some cert) = of_value (codes "key") ∷ []
+reason_value reasons.AuthoritySha1 (Some cert) = of_value (codes "sha1") ∷ []
+reason_value reasons.AuthoritySha256 (Some cert) = of_value (codes "sha256") ∷ []
+reason_value reasons.Serial (Some cert) =
+    serial_value cert.serial (fingerprint_text Sha256 cert.authority) ∷ []
+reason_value reasons.SerialOfAll (Some cert) = serial_value cert.serial (codes "all") ∷ []
+reason_value reasons.KeyId (Some cert) =
+    id_value cert.key_id (fingerprint_text Sha256 cert.authority) ∷ []
+reason_value reasons.KeyIdOfAll (Some cert) = id_value cert.key_id (codes "all") ∷ []
+
+-- all reasons, in the order in which people read them
+abbrev pub reason_values : Subject → Reasons → List Json
+reason_values asked found =
+    flat_map (λ reason. if has_reason found reason then reason_value reason asked.cert else [])
+    every_reason
+
+-- ---- keys
+
+abbrev pub status_word : Bool → List ℕ
+status_word true = codes "revoked"
+status_word false = codes "ok"
+
+-- the type of a key, the fingerprint of its plain key, and its comment
+abbrev pub key_fields : (blob comment : List ℕ) → Subject → Reasons → List Field
+key_fields blob comment asked all =
+    word_field (codes "status") (status_word (any_reason all))
+    ∷ text_field (codes "type") (type_of blob)
+    ∷ text_field (codes "fingerprint") (fingerprint_text Sha256 asked.plain)
+    ∷ text_field (codes "comment") comment ∷ []
+
+abbrev pub marker_fields : Option Marker → List Field
+marker_fields None = []
+marker_fields (Some marker) = word_field (codes "marker") (marker_word marker) ∷ []
+
+abbrev pub front_word : Bool → List ℕ
+front_word true = codes "hosts"
+front_word false = codes "options"
+
+abbrev pub front_fields : Bool → List ℕ → List Field
+front_fields hosts [] = []
+front_fields hosts (byte ∷ bytes) = text_field (front_word hosts) (byte ∷ bytes) ∷ []
+
+-- the rest of the line
+abbrev pub line_fields : Option Marker → Bool → List ℕ → List Field
+line_fields marker hosts front = marker_fields marker ++ front_fields hosts front
+
+abbrev pub cert_names : CertNames → List Field
+cert_names cert =
+    serial_field cert.serial ∷ id_field cert.key_id
+    ∷ text_field (codes "authority") (fingerprint_text Sha256 cert.authority) ∷ []
+
+abbrev pub cert_field : CertNames → Field
+cert_field cert = field (codes "certificate") (object_of (cert_names cert))
+
+abbrev pub cert_fields : Option CertNames → List Field
+cert_fields None = []
+cert_fields (Some cert) = cert_field cert ∷ []
+
+abbrev pub reasons_field : Subject → Reasons → Field
+reasons_field asked all = field (codes "reasons") (array_of (reason_values asked all))
+
+-- the certificate, and why it or its key is revoked
+abbrev pub list_fields : Subject → Reasons → List Field
+list_fields asked all =
+    cert_fields asked.cert ++ reasons_field asked all ∷ []
+
+-- the object of a key, revoked or not
+abbrev pub key_object : List ℕ → ℕ → Found → Reasons → Json
+key_object name number found all =
+    object_of (location_fields name number
+    ++ (key_fields found.blob found.comment found.asked all
+    ++ (line_fields found.marker found.hosts found.front ++ list_fields found.asked all)))
+
+-- ---- lines and files that are not read
+
+-- the object of a line or file that is not read: it has no text of the line itself
+abbrev pub unread_object : List ℕ → ℕ → Why → Json
+unread_object name number why = object_of (location_fields name number ++ why_fields why)

@@ -1,0 +1,86 @@
+-- The lines of findings.
+use Rattle.std.specs.Prelude.{ℕ, Bool, true, false, List, [], ◌∷◌, ◌++◌, codes, decimal, drop}
+use Rattle.std.specs.Prelude.{flat_map, nat_lt, Option, Some, None, Result, Ok, Err, if◌then◌else◌}
+use Rattle.ssh_wire.specs.Reading.{string_at}
+use Rattle.ssh_wire.specs.declared.fault.WireFault.{WireFault}
+use Rattle.key_text.specs.Fingerprints.{fingerprint_text}
+use Rattle.key_text.specs.declared.hash.Hash.TheVariants.{Sha256}
+use Rattle.krl_types.specs.Subject.{CertNames, Subject}
+use Rattle.krl_entries.specs.Reasons.{any_reason, every_reason, has_reason}
+use Rattle.krl_entries.specs.declared.reasons.Reason.{Reason}
+use Rattle.krl_entries.specs.declared.reasons.Reason.TheVariants as reasons
+use Rattle.krl_entries.specs.declared.reasons.Reasons.{Reasons}
+use Rattle.audit_text.specs.Colour.{unread_word, verdict_word}
+use Rattle.line_pieces.specs.Visible.{visible}
+use Rattle.audit_lines.specs.Why.{why_text}
+use Rattle.audit_lines.specs.declared.why.Why.{Why}
+
+-- the name of a file, and the number of a line of it; 0 represents the whole file
+abbrev pub location_text : List ℕ → ℕ → List ℕ
+location_text name number =
+    visible false name ++ (if nat_lt 0 number then codes ":" ++ decimal number else [])
+
+-- ---- reasons
+
+abbrev pub of_authority : List ℕ → List ℕ
+of_authority authority = codes " of CA " ++ fingerprint_text Sha256 authority
+
+-- the words for a reason, after a comma; a plain key has none that is about a certificate
+abbrev pub reason_words : Reason → Option CertNames → List ℕ
+reason_words reasons.Key _ = codes ", by its key"
+reason_words reasons.KeySha1 _ = codes ", by its SHA-1"
+reason_words reasons.KeySha256 _ = codes ", by its SHA-256"
+reason_words _ None = []
+reason_words reasons.Authority (Some cert) = codes ", by the key of its CA"
+reason_words reasons.AuthoritySha1 (Some cert) = codes ", by the SHA-1 of its CA"
+reason_words reasons.AuthoritySha256 (Some cert) = codes ", by the SHA-256 of its CA"
+reason_words reasons.Serial (Some cert) =
+    codes ", by serial " ++ (decimal cert.serial ++ of_authority cert.authority)
+reason_words reasons.SerialOfAll (Some cert) =
+    codes ", by serial " ++ (decimal cert.serial ++ codes " of all CAs")
+reason_words reasons.KeyId (Some cert) =
+    codes ", by key ID \"" ++ (visible true cert.key_id
+    ++ (codes "\"" ++ of_authority cert.authority))
+reason_words reasons.KeyIdOfAll (Some cert) =
+    codes ", by key ID \"" ++ (visible true cert.key_id ++ codes "\" of all CAs")
+
+-- each reason after a comma
+abbrev pub reason_parts : Subject → Reasons → List ℕ
+reason_parts asked all =
+    flat_map (λ reason. if has_reason all reason then reason_words reason asked.cert else [])
+    every_reason
+
+-- the reasons, with no comma before the first one
+abbrev pub reasons_text : Subject → Reasons → List ℕ
+reasons_text asked all = drop 1 (reason_parts asked all)
+
+-- ---- lines
+
+abbrev pub name_in : Result (List ℕ × List ℕ) WireFault → List ℕ
+name_in (Ok (name, rest)) = name
+name_in (Err fault) = []
+
+-- the name of the type of a key
+unfoldable pub type_of : List ℕ → List ℕ
+type_of blob = name_in (string_at blob)
+
+-- the type of a key, and the fingerprint of its plain key
+abbrev pub key_words : List ℕ → Subject → List ℕ
+key_words blob asked = type_of blob ++ (codes " " ++ fingerprint_text Sha256 asked.plain)
+
+abbrev pub comment_words : List ℕ → List ℕ
+comment_words [] = []
+comment_words (byte ∷ bytes) = codes ": " ++ visible false (byte ∷ bytes)
+
+-- the line of a key, revoked or not, in colour or not
+abbrev pub key_line : Bool → List ℕ → ℕ → (blob comment : List ℕ) → Subject → Reasons → List ℕ
+key_line coloured name number blob comment asked all =
+    location_text name number
+    ++ (verdict_word coloured (any_reason all)
+    ++ (key_words blob asked
+    ++ (reasons_text asked all ++ (comment_words comment ++ 10 ∷ []))))
+
+-- the line for a line or file that is not read, in colour or not
+abbrev pub unread_line : Bool → List ℕ → ℕ → Why → List ℕ
+unread_line coloured name number why =
+    location_text name number ++ (unread_word coloured ++ (why_text why ++ 10 ∷ []))

@@ -1,0 +1,12 @@
+//! The form in which findings are printed.
+
+/// The form in which findings are printed.
+#[derive(Clone, Copy)]
+pub enum Form {
+    /// For people.
+    Text,
+    /// For people at a terminal: the word for whether a key is revoked is in colour.
+    Colour,
+    /// A JSON object on each line.
+    Json,
+}

@@ -1,0 +1,22 @@
+//! How the findings about lines of files of keys are printed: as text, in colour, or as JSON
+//! objects.
+#![tactic(auto)]
+
+mod colour;
+mod form;
+pub mod laws;
+mod line_kind;
+mod more;
+mod objects;
+mod reason_values;
+mod reasons;
+mod said;
+mod same;
+mod text;
+
+pub use form::Form;
+pub use line_kind::LineKind;
+pub use more::{More, write_more};
+pub use said::{say_key, say_unread};
+pub use same::write_same;
+pub use text::{Location, Verdict};

@@ -1,0 +1,69 @@
+//! The reasons why a key is revoked, as JSON objects.
+
+ghost use Rattle.std.specs.Prelude.{◌≡◌, ◌++◌, OnOk};
+ghost use Rattle.json_lines.specs.Field.{values_tokens};
+ghost use Rattle.audit_text.specs.Objects.{reason_value, reason_values};
+
+use crate::objects::Fingerprint;
+use json_lines::{Digits, LineWriter, Text, Values, put_object};
+use krl_entries::{Reason, Reasons};
+use krl_types::Subject;
+use std::alloc::{AllocError, Global};
+
+/// All reasons.
+#[derive(Drop)]
+pub(crate) struct ReasonsOf<'a>(pub(crate) &'a Subject<'a>, pub(crate) Reasons);
+
+impl<'a> Values for ReasonsOf<'a> {
+    ghost values = { λ all. reason_values all.0.now all.1 };
+
+    fn put_values(&self, alloc: Global, out: &mut LineWriter) -> Result<(), AllocError> {
+        for reason in &Reason::ALL {
+            if self.1.has(*reason) {
+                put_reason(alloc, *reason, self.0, out)?;
+            }
+        }
+        Ok(())
+    }
+}
+
+// Writes a reason. A plain key has none that is about a certificate.
+#[tactic(auto, unfolding(json_lines::specs::Field::values_tokens))]
+fn put_reason(
+    alloc: Global,
+    reason: Reason,
+    subject: &Subject<'_>,
+    out: &mut LineWriter,
+) -> Result<(), AllocError>
+    ensures { OnOk result (out.new
+        ≡ out.old ++ values_tokens (reason_value reason subject.now.cert)) }
+{
+    match (reason, &subject.cert) {
+        (Reason::Key, _) => put_object!(alloc, out; "by": "key"),
+        (Reason::KeySha1, _) => put_object!(alloc, out; "by": "sha1"),
+        (Reason::KeySha256, _) => put_object!(alloc, out; "by": "sha256"),
+        (_, None) => Ok(()),
+        (Reason::Authority, Some(_)) => { put_object!(alloc, out; "by": "authority", "of": "key") }
+        (Reason::AuthoritySha1, Some(_)) => {
+            put_object!(alloc, out; "by": "authority", "of": "sha1")
+        }
+        (Reason::AuthoritySha256, Some(_)) => {
+            put_object!(alloc, out; "by": "authority", "of": "sha256")
+        }
+        (Reason::Serial, Some(cert)) => {
+            put_object!(alloc, out; "by": "serial", "serial": Digits(u128::from(cert.serial)),
+                "authority": Fingerprint(cert.authority))
+        }
+        (Reason::SerialOfAll, Some(cert)) => {
+            put_object!(alloc, out; "by": "serial", "serial": Digits(u128::from(cert.serial)),
+                "authority": Text(b"all"))
+        }
+        (Reason::KeyId, Some(cert)) => {
+            put_object!(alloc, out; "by": "id", "id": Text(cert.key_id),
+                "authority": Fingerprint(cert.authority))
+        }
+        (Reason::KeyIdOfAll, Some(cert)) => {
+            put_object!(alloc, out; "by": "id", "id": Text(cert.key_id), "authority": Text(b"all"))
+        }
+    }
+}

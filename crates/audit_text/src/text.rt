@@ -1,0 +1,112 @@
+//! The lines of findings.
+
+ghost use Rattle.std.specs.Prelude.{◌≡◌, OnOk};
+ghost use Rattle.audit_text.specs.Text.{comment_words, key_line, location_text, type_of};
+ghost use Rattle.audit_text.specs.Text.{unread_line};
+
+use crate::colour::{unread_mark, verdict_mark};
+use crate::reasons::{after_first, push_parts};
+use audit_lines::{Found, Told, Why};
+use key_text::{Hash, fingerprint};
+use krl_entries::Reasons;
+use krl_types::Subject;
+use line_pieces::{Printed, Visible, Words, pieces, put};
+use ssh_wire::Cursor;
+use std::alloc::{AllocError, Global};
+
+/// The location of a line: the name of its file, and its number from 1 on; 0 represents the whole
+/// file.
+#[derive(Clone, Copy)]
+pub struct Location<'a> {
+    /// The name of the file.
+    pub name: &'a str,
+    /// The number of the line, or 0.
+    pub number: u64,
+}
+
+/// The facts about a key: its bytes, the query for it, and the answer.
+#[derive(Clone, Copy)]
+pub struct Verdict<'a> {
+    /// The key of a line, with its bytes.
+    pub found: &'a Found<'a>,
+    /// The query for the key.
+    pub subject: &'a Subject<'a>,
+    /// The reasons why the key is revoked.
+    pub reasons: Reasons,
+}
+
+impl<'a> Printed for Location<'a> {
+    ghost text = { λ location. location_text location.name.now location.number };
+
+    fn push_to(&self, out: &mut Vec<u8>) -> Result<(), AllocError> {
+        put!(out; Visible(self.name.as_bytes(), false))?;
+        if self.number > 0 {
+            put!(out; b":", self.number)?;
+        }
+        Ok(())
+    }
+}
+
+// A comment, if there is one.
+#[derive(Clone, Copy)]
+struct Comment<'a>(&'a [u8]);
+
+impl<'a> Printed for Comment<'a> {
+    ghost text = { λ comment. comment_words comment.0.now };
+
+    fn push_to(&self, out: &mut Vec<u8>) -> Result<(), AllocError> {
+        if self.0.is_empty() {
+            return Ok(());
+        }
+        put!(out; b": ", Visible(self.0, false))
+    }
+}
+
+/// Makes the line for a line or file that is not read, with its line feed, in colour or not.
+pub(crate) fn write_unread(
+    alloc: Global,
+    coloured: bool,
+    location: Location<'_>,
+    why: Why,
+    line: &mut Vec<u8>,
+) -> Result<(), AllocError>
+    ensures { OnOk result (line.new.items
+        ≡ unread_line coloured location.entry.name.now location.entry.number why) }
+{
+    line.clear();
+    put!(line; location, unread_mark(coloured), Told { alloc, why }, b"\n")
+}
+
+/// Makes the line of a key, with its line feed, in colour or not.
+pub(crate) fn write_key(
+    alloc: Global,
+    coloured: bool,
+    location: Location<'_>,
+    verdict: &Verdict<'_>,
+    line: &mut Vec<u8>,
+) -> Result<(), AllocError>
+    ensures { OnOk result (line.new.items ≡ key_line coloured location.entry.name.now
+        location.entry.number verdict.now.found.now.blob verdict.now.found.now.comment.now
+        verdict.now.subject.now verdict.now.reasons) }
+{
+    let subject = verdict.subject;
+    let print = fingerprint(alloc, Hash::Sha256, subject.plain.as_slice())?;
+    let mut parts = Vec::new(alloc);
+    push_parts(alloc, &mut parts, subject, verdict.reasons)?;
+    let key_type = type_of(verdict.found.blob.as_slice());
+    line.clear();
+    put!(line; location, verdict_mark(coloured, verdict.reasons.any()),
+        pieces!(Words(key_type), b" ", Words(&print)), Words(after_first(&parts)),
+        Comment(verdict.found.comment), b"\n")
+}
+
+/// The name of the type of a key, which is its first string.
+#[tactic(auto, unfolding(crate::specs::Text::type_of))]
+pub(crate) fn type_of(blob: &[u8]) -> &[u8]
+    ensures { result.now ≡ type_of blob.now }
+{
+    match Cursor::new(blob).string() {
+        Ok(name) => name,
+        Err(_) => &[],
+    }
+}
