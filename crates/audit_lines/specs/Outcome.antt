@@ -26,7 +26,7 @@ use Rattle.audit_lines.specs.Front.{front_before, fronts_of, is_read_by_lines}
 use Rattle.audit_lines.specs.declared.front.Fronts.{Fronts}
 use Rattle.audit_lines.specs.declared.front.Fronts.TheVariants as fronts
 use Rattle.audit_lines.specs.declared.outcome.Found.{Found as KeyFound}
-use Rattle.audit_lines.specs.declared.outcome.Outcome.{Outcome as Given}
+use Rattle.audit_lines.specs.declared.outcome.Outcome.{Outcome as OutcomeOf}
 use Rattle.audit_lines.specs.declared.outcome.Outcome.TheVariants as given
 use Rattle.audit_lines.specs.declared.outcome.Outcomes.{Outcomes as Read}
 use Rattle.audit_lines.specs.declared.why.Why.{Why}
@@ -263,14 +263,14 @@ found_as found asked =
     }
 
 -- The outcome is this one.
-abbrev pub GivesOutcome : Given → Outcome → Type 0
+abbrev pub GivesOutcome : OutcomeOf → Outcome → Type 0
 GivesOutcome given.Empty outcome = outcome ≡ Empty
 GivesOutcome (given.Key found) outcome =
     (asked : Subject) × ((subject_of found.blob ≡ Ok asked)
     × (outcome ≡ Key (found_as found asked)))
 GivesOutcome (given.Unread why) outcome = outcome ≡ Unread why
 
-abbrev pub GivesSecond : Option Given → Option Outcome → Type 0
+abbrev pub GivesSecond : Option OutcomeOf → Option Outcome → Type 0
 GivesSecond None second = second ≡ None
 GivesSecond (Some read) second =
     (other : Outcome) × ((GivesOutcome read other) × (second ≡ Some other))

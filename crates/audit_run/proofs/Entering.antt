@@ -10,7 +10,7 @@ use Rattle.audit_run.specs.Names.{is_directory}
 use Rattle.audit_run.specs.Fact.{Fact, Leads}
 use Rattle.audit_run.specs.Names.{is_never}
 use Rattle.audit_run.specs.Visits.{Begun, Visit}
-use Rattle.audit_run.specs.declared.kind.Found.{Found}
+use Rattle.audit_run.specs.declared.file_kind.Found.{Found}
 use Rattle.audit_run.specs.declared.stop.Stop.{Stop}
 
 -- it leads to no directory

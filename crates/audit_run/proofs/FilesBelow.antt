@@ -27,9 +27,9 @@ use Rattle.audit_run.specs.Reading.{front_of}
 use Rattle.audit_run.specs.Visits.{Audited, Visit, refused}
 use Rattle.audit_run.specs.Walk.{IsDirectory, IsEntered, IsEnteredBelow, IsOpen, Level, Turns, before, elsewhere, endless, entered, entered_below, every_in, not_entered, stopped, walked}
 use Rattle.audit_run.specs.ZeroEnded.{names_after}
-use Rattle.audit_run.specs.declared.kind.Found.{Found}
-use Rattle.audit_run.specs.declared.kind.Kind.{Kind}
-use Rattle.audit_run.specs.declared.kind.Kind.TheVariants as kinds
+use Rattle.audit_run.specs.declared.file_kind.FileKind.{FileKind}
+use Rattle.audit_run.specs.declared.file_kind.FileKind.TheVariants as kinds
+use Rattle.audit_run.specs.declared.file_kind.Found.{Found}
 use Rattle.audit_run.proofs.Covering.{IsGoneTo, IsPartOf, IsWalked, gone, gone_down, not_in_nothing, one_of_one, walk_covers}
 
 -- ---- lists
@@ -113,12 +113,12 @@ file_visit Knows path _ file visits steady (by_front held bytes opens known begi
     private_visit Knows path held bytes leads.opened visits (steady.opens path (Some file) leads.opened (Ok held) leads.opens opens) known
     begins leads.leads
 
-found_visit : (Knows : Fact → Type 0) (path : List ℕ) (selection : Selection) (expected : Bool) (kind : Kind) (file : Found)
+found_visit : (Knows : Fact → Type 0) (path : List ℕ) (selection : Selection) (expected : Bool) (kind : FileKind) (file : Found)
     (visits : List Visit) → IsSteady Knows → kind ≡ kinds.File → IsSelected Knows path file selection
     → IsFound kind Knows path selection expected file visits → SomeVisit path visits
 found_visit Knows path selection expected kind file visits steady is selects leads =
     let so : IsFileBy selection Knows path file visits =
-    subst (λ (k : Kind). IsFound k Knows path selection expected file visits) is leads in
+    subst (λ (k : FileKind). IsFound k Knows path selection expected file visits) is leads in
     file_visit Knows path selection file visits steady selects so
 
 behind_visit : (Knows : Fact → Type 0) (path : List ℕ) (selection : Selection) (expected : Bool) (looked : Result Found Refusal)
@@ -150,8 +150,8 @@ looked_visit Knows path selection expected looked file visits steady looks (link
 
 -- ---- a name that is wanted is gone to
 
-directory_link : (kind : Kind) → kind ≡ kinds.Directory → is_link_kind kind ≡ true → ⊥
-directory_link kind is link = let so : is_link_kind kinds.Directory ≡ true = subst (λ (k : Kind). is_link_kind k ≡ true) is link in cc
+directory_link : (kind : FileKind) → kind ≡ kinds.Directory → is_link_kind kind ≡ true → ⊥
+directory_link kind is link = let so : is_link_kind kinds.Directory ≡ true = subst (λ (k : FileKind). is_link_kind k ≡ true) is link in cc
 
 may_not : (Knows : Fact → Type 0) (sought : Bool) (path : List ℕ) (found : Found) → IsSteady Knows → Knows (Leads path false (Ok found))
     → found.kind ≡ kinds.Directory → MayBeDirectory Knows sought path false → ⊥
@@ -160,7 +160,7 @@ may_not Knows sought path found steady leads kind (looked_at found_too looked li
     let same : Ok found_too ≡ Ok found = steady.leads path false (Ok found_too) (Ok found) looked leads in
     let it : found_too ≡ found = cc in
     let directory : is_directory_kind found_too.kind ≡ true =
-    ap (λ (f : Found). is_directory_kind f.kind) it ∙ ap (λ (k : Kind). is_directory_kind k) kind in
+    ap (λ (f : Found). is_directory_kind f.kind) it ∙ ap (λ (k : FileKind). is_directory_kind k) kind in
     cc
 may_not Knows sought path found steady leads kind (behind found_too looked link_is may) =
     let same : Ok found_too ≡ Ok found = steady.leads path false (Ok found_too) (Ok found) looked leads in
@@ -277,7 +277,7 @@ kept_down Knows every path name found visits steady leads kind text (below found
 kept_down Knows every path name found visits steady leads kind text (here found_too utf8 never looked dir down is) =
     let it = steady.leads (path_in path name) false found_too (Ok found) looked leads in
     let so : is_directory (Ok found) ≡ false = subst (λ (o : Result Found Refusal). is_directory o ≡ false) it dir in
-    not_both (is_directory_kind found.kind) (ap (λ (k : Kind). is_directory_kind k) kind) so
+    not_both (is_directory_kind found.kind) (ap (λ (k : FileKind). is_directory_kind k) kind) so
 
 -- where it leads to a directory this was entered
 went_down : (Knows : Fact → Type 0) (every : Bool) (had : List Level) (all : List Visit) (level : Level) (name : Vec ℕ) (found : Found)
@@ -328,10 +328,10 @@ leads_here : (Knows : Fact → Type 0) (path : List ℕ) (file : Found) (looked 
     → Knows (Leads path false looked) → LeadsToFile Knows path file → file.kind ≡ kinds.File → is_directory looked ≡ false
 leads_here Knows path file looked steady looks (regular found) kind =
     ap (λ (l : Result Found Refusal). is_directory l) (steady.leads path false looked (Ok file) looks found)
-    ∙ ap (λ (k : Kind). is_directory_kind k) kind
+    ∙ ap (λ (k : FileKind). is_directory_kind k) kind
 leads_here Knows path file looked steady looks (linked link found kind_is followed) kind =
     ap (λ (l : Result Found Refusal). is_directory l) (steady.leads path false looked (Ok link) looks found)
-    ∙ ap (λ (k : Kind). is_directory_kind k) kind_is
+    ∙ ap (λ (k : FileKind). is_directory_kind k) kind_is
 
 visit_of_more : (path : List ℕ) (some all : List Visit) → IsPartOf some all → SomeVisit path some → SomeVisit path all
 visit_of_more path some all part visit = (visit.0, (part visit.0 visit.1.0, visit.1.1))

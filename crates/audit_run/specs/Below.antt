@@ -13,8 +13,8 @@ use Rattle.audit_run.specs.Names.{is_dots}
 use Rattle.audit_run.specs.Reading.{front_of}
 use Rattle.audit_run.specs.Visits.{Audited, Same, Skipped, Visit}
 use Rattle.audit_run.specs.Walk.{every_in}
-use Rattle.audit_run.specs.declared.kind.Found.{Found}
-use Rattle.audit_run.specs.declared.kind.Kind.TheVariants as kinds
+use Rattle.audit_run.specs.declared.file_kind.FileKind.TheVariants as kinds
+use Rattle.audit_run.specs.declared.file_kind.Found.{Found}
 use Rattle.audit_run.specs.ZeroEnded.{names_after}
 
 -- A tree that has one answer to each question.

@@ -17,11 +17,11 @@ use Rattle.audit_run.specs.Fact.{Excludes, Fact, Fails, Leads, OpenFile, Opens}
 use Rattle.audit_run.specs.Names.{is_directory, is_directory_kind, is_link_kind, is_never}
 use Rattle.audit_run.specs.Reading.{IsContent, front_of}
 use Rattle.audit_run.specs.Visits.{Audited, Same, Skipped, Visit, refused}
+use Rattle.audit_run.specs.declared.file_kind.FileKind.{FileKind}
+use Rattle.audit_run.specs.declared.file_kind.FileKind.TheVariants as kinds
+use Rattle.audit_run.specs.declared.file_kind.Found.{Found}
+use Rattle.audit_run.specs.declared.file_kind.Identity.{Identity}
 use Rattle.audit_run.specs.declared.files.Skip.TheVariants as skips
-use Rattle.audit_run.specs.declared.kind.Found.{Found}
-use Rattle.audit_run.specs.declared.kind.Identity.{Identity}
-use Rattle.audit_run.specs.declared.kind.Kind.{Kind}
-use Rattle.audit_run.specs.declared.kind.Kind.TheVariants as kinds
 
 -- ---- the key of a file
 
@@ -141,7 +141,7 @@ empty_file selections.IfPrivate path = Skipped skips.ByName 1 ∷ []
 empty_file selections.Never path = Skipped skips.ByName 1 ∷ []
 
 -- A file that was found, or to which a link leads that was found. It is no directory.
-abbrev pub IsFound : Kind → (Fact → Type 0) → (path : List ℕ) → Selection → (expected : Bool)
+abbrev pub IsFound : FileKind → (Fact → Type 0) → (path : List ℕ) → Selection → (expected : Bool)
     → Found → List Visit → Type 0
 IsFound kinds.File Knows path selection expected found visits =
     IsFileBy selection Knows path found visits

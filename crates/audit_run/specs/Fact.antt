@@ -1,8 +1,8 @@
 -- The facts that a tree of files may state about a path.
 use Rattle.std.specs.Prelude.{ℕ, Bool, List, Option, Result}
 use Rattle.audit_lines.specs.declared.why.Refusal.{Refusal}
-use Rattle.audit_run.specs.declared.kind.Found.{Found}
-use Rattle.audit_run.specs.declared.kind.Identity.{Identity}
+use Rattle.audit_run.specs.declared.file_kind.Found.{Found}
+use Rattle.audit_run.specs.declared.file_kind.Identity.{Identity}
 
 -- An open file: whether it is a regular one, which one it is, and its bytes, as far as its reader
 -- knows them.

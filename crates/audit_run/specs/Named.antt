@@ -14,9 +14,9 @@ use Rattle.audit_run.specs.Reading.{InputFails}
 use Rattle.audit_run.specs.Visits.{Audited, Visit, refused}
 use Rattle.audit_run.specs.Walk.{IsDirectory}
 use Rattle.audit_run.specs.ZeroEnded.{most_bytes, names_after, rest_after}
-use Rattle.audit_run.specs.declared.kind.Found.{Found}
-use Rattle.audit_run.specs.declared.kind.Identity.{Identity}
-use Rattle.audit_run.specs.declared.kind.Kind.{Kind}
+use Rattle.audit_run.specs.declared.file_kind.FileKind.{FileKind}
+use Rattle.audit_run.specs.declared.file_kind.Found.{Found}
+use Rattle.audit_run.specs.declared.file_kind.Identity.{Identity}
 
 -- ---- one name
 
@@ -80,7 +80,7 @@ abbrev pub most_name : ℕ
 most_name = 4096
 
 -- Only directories and regular files are read. The null device is an empty file.
-abbrev pub other_at : Kind → List ℕ → List Visit
+abbrev pub other_at : FileKind → List ℕ → List Visit
 other_at kind path =
     if is_null_kind kind then Audited None path (Ok []) ∷ [] else refused path refusals.Irregular
 

@@ -14,35 +14,35 @@ use Rattle.audit_lines.specs.declared.why.Refusal.{Refusal}
 use Rattle.audit_lines.specs.declared.why.Refusal.TheVariants.{Missing}
 use Rattle.audit_run.specs.Fact.{Excludes, Fact, Leads, Sought}
 use Rattle.audit_run.specs.ZeroEnded.{names_after}
-use Rattle.audit_run.specs.declared.kind.Found.{Found}
-use Rattle.audit_run.specs.declared.kind.Kind.{Kind}
-use Rattle.audit_run.specs.declared.kind.Kind.TheVariants as kinds
+use Rattle.audit_run.specs.declared.file_kind.FileKind.{FileKind}
+use Rattle.audit_run.specs.declared.file_kind.FileKind.TheVariants as kinds
+use Rattle.audit_run.specs.declared.file_kind.Found.{Found}
 use Rattle.audit_run.specs.declared.names.Listing.{Listing}
 
 -- ---- what a path leads to
 
-abbrev pub is_directory_kind : Kind → Bool
+abbrev pub is_directory_kind : FileKind → Bool
 is_directory_kind kinds.Directory = true
 is_directory_kind kinds.File = false
 is_directory_kind kinds.Link = false
 is_directory_kind kinds.Null = false
 is_directory_kind kinds.Other = false
 
-abbrev pub is_link_kind : Kind → Bool
+abbrev pub is_link_kind : FileKind → Bool
 is_link_kind kinds.Directory = false
 is_link_kind kinds.File = false
 is_link_kind kinds.Link = true
 is_link_kind kinds.Null = false
 is_link_kind kinds.Other = false
 
-abbrev pub is_file_kind : Kind → Bool
+abbrev pub is_file_kind : FileKind → Bool
 is_file_kind kinds.Directory = false
 is_file_kind kinds.File = true
 is_file_kind kinds.Link = false
 is_file_kind kinds.Null = false
 is_file_kind kinds.Other = false
 
-abbrev pub is_null_kind : Kind → Bool
+abbrev pub is_null_kind : FileKind → Bool
 is_null_kind kinds.Directory = false
 is_null_kind kinds.File = false
 is_null_kind kinds.Link = false

@@ -1,7 +1,7 @@
 -- Which findings are printed, and how, by the options of the command.
 use Rattle.std.specs.Prelude.{◌&&◌, Bool, true, false, not}
-use Rattle.audit_text.specs.declared.form.Form.{Form}
-use Rattle.audit_text.specs.declared.form.Form.TheVariants as forms
+use Rattle.audit_text.specs.declared.format.Format.{Format}
+use Rattle.audit_text.specs.declared.format.Format.TheVariants as formats
 use Rattle.krl_audit.specs.declared.judge.Shown.{Shown}
 use Rattle.audit_run.specs.declared.options.Options.{Options}
 use Rattle.audit_run.specs.declared.options.Terminal.{Terminal}
@@ -11,10 +11,10 @@ abbrev pub has_colours : Terminal → Bool
 has_colours terminal = terminal.is_terminal && (not terminal.no_colour && not terminal.is_dumb)
 
 -- No object is in colour, since programs read them.
-abbrev pub form_by : (json colours : Bool) → Form
-form_by true colours = forms.Json
-form_by false true = forms.Colour
-form_by false false = forms.Text
+abbrev pub form_by : (json colours : Bool) → Format
+form_by true colours = formats.Json
+form_by false true = formats.Colour
+form_by false false = formats.Text
 
 -- Nothing is printed with -q, and keys that are not revoked are printed only with -a.
 abbrev pub shown_by : Options → Shown
@@ -22,5 +22,5 @@ shown_by options = record {
   revoked = not options.quiet;
   unread = not options.quiet;
   fine = options.all && not options.quiet;
-  form = form_by options.json options.colours;
+  format = form_by options.json options.colours;
 }

@@ -20,8 +20,8 @@ use Rattle.audit_run.specs.declared.summary.Summary.{Summary}
 use Rattle.any_list.specs.List.{IsListFault, IsReadList, stated_by}
 use Rattle.any_list.specs.declared.list.List.{List as ReadList}
 use Rattle.run_output.specs.declared.done.Done.{Done}
-use Rattle.audit_text.specs.declared.form.Form.{Form}
-use Rattle.audit_text.specs.declared.form.Form.TheVariants as forms
+use Rattle.audit_text.specs.declared.format.Format.{Format}
+use Rattle.audit_text.specs.declared.format.Format.TheVariants as formats
 use Rattle.krl_audit.specs.declared.judge.Shown.{Shown}
 use Rattle.krl_openssh.specs.Comparable.{IsIncomparable}
 use Rattle.krl_openssh.specs.declared.authorities.Incomparable.{Incomparable}
@@ -194,13 +194,13 @@ pub record EndsAuditBy (Knows : Fact → Type 0) (order : Order) (queried : Quer
 -- ---- the bytes of the list
 
 -- whether the last object is printed, which has the SHA-256 of the list
-abbrev pub hashed_if : Form → Bool → Bool
-hashed_if forms.Json revoked = revoked
-hashed_if forms.Text revoked = false
-hashed_if forms.Colour revoked = false
+abbrev pub hashed_if : Format → Bool → Bool
+hashed_if formats.Json revoked = revoked
+hashed_if formats.Text revoked = false
+hashed_if formats.Colour revoked = false
 
 abbrev pub is_hashed : Shown → Bool
-is_hashed shown = hashed_if shown.form shown.revoked
+is_hashed shown = hashed_if shown.format shown.revoked
 
 -- the SHA-256 of the bytes, if they are to be hashed
 abbrev pub sha256_if : Bool → List ℕ → Option (List ℕ)

@@ -46,7 +46,7 @@ refused name refusal = Audited None name (Err refusal) ∷ []
 -- ---- what is printed
 
 abbrev pub same_items : Shown → (told : Bool) → List ℕ → List Item
-same_items shown true name = said_if shown.revoked name (same_said shown.form name) ∷ []
+same_items shown true name = said_if shown.revoked name (same_said shown.format name) ∷ []
 same_items shown false name = []
 
 abbrev pub visit_items : (Subject → Reasons) → Shown → Visit → List Item

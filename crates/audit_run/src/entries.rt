@@ -15,9 +15,9 @@ ghost use Rattle.audit_run.specs.Entries.{key_of};
 ghost use Rattle.audit_run.specs.Reading.{IsBegun};
 ghost use Rattle.audit_run.specs.Visits.{Goes, Meets, is_seen};
 
+use crate::file_kind::{FileKind, Found, Opened};
 use crate::files::{Key, Skip, key_of};
-use crate::kind::{Found, Kind, Opened};
-use crate::names::{Place, is_never};
+use crate::names::{Directory, is_never};
 use crate::paths::{path_in, shown_path};
 use crate::reading::{Reading, content_of, is_private, read_file, read_front};
 use crate::round::{Round, Screen};
@@ -41,7 +41,7 @@ pub(crate) struct Entry<'p> {
 pub(crate) fn audit_entry<T: Tree, W: Screen>(
     tree: &T,
     round: &mut Round<'_, '_, W>,
-    place: Place<'_>,
+    place: Directory<'_>,
     name: &[u8],
 ) -> Result<Option<String>, Stop>
     ensures entry { Goes result (λ below. IsEntry (T.states tree.now) place.entry.every
@@ -60,7 +60,7 @@ pub(crate) fn audit_entry<T: Tree, W: Screen>(
 fn audit_kept<T: Tree, W: Screen>(
     tree: &T,
     round: &mut Round<'_, '_, W>,
-    place: Place<'_>,
+    place: Directory<'_>,
     name: &[u8],
 ) -> Result<Option<String>, Stop>
     ensures entry { Goes result (λ below. IsKept (T.states tree.now) place.entry.every
@@ -173,9 +173,9 @@ fn audit_found<T: Tree, W: Screen>(
         entry.entry.selection entry.entry.expected found) round.old round.new }
 {
     match found.kind {
-        Kind::File => audit_file(tree, round, entry, found),
-        Kind::Null => audit_null(round, entry),
-        Kind::Directory | Kind::Link | Kind::Other => {
+        FileKind::File => audit_file(tree, round, entry, found),
+        FileKind::Null => audit_null(round, entry),
+        FileKind::Directory | FileKind::Link | FileKind::Other => {
             refuse_irregular(round, entry.path, entry.expected)
         }
     }

@@ -5,7 +5,7 @@ ghost use Rattle.audit_run.specs.Visits.{free_from, is_seen, is_told, names_of, 
 ghost use Rattle.audit_run.specs.Visits.{with_audited, with_key, with_same, with_skipped};
 ghost use Rattle.audit_run.specs.Entries.{key_of, way_of};
 
-use crate::kind::Identity;
+use crate::file_kind::Identity;
 use audit_lines::{Fronts, is_read_by_lines};
 use krl_audit::FileCounts;
 use std::alloc::{AllocError, Global};

@@ -2,8 +2,8 @@
 #![tactic(auto)]
 
 mod entries;
+mod file_kind;
 mod files;
-mod kind;
 pub mod laws;
 mod named;
 mod names;
@@ -23,13 +23,13 @@ mod tree;
 mod walk;
 mod zero_ended;
 
-pub use kind::{Found, Identity, Kind, Opened};
+pub use file_kind::{FileKind, Found, Identity, Opened};
 pub use options::{Options, Terminal};
 pub use order::Order;
 pub use paths::{path_in, shown_path};
 pub use progress::{push_progress, push_wipe};
 pub use round::Screen;
-pub use run::{Audited, Given, audit_run};
+pub use run::{Audited, Sources, audit_run};
 pub use selection::{Selection, is_audited, is_sought, selection_of};
 pub use sorting::sort_names;
 pub use summary::{Summary, push_summary};

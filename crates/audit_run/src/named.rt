@@ -11,7 +11,7 @@ ghost use Rattle.audit_run.specs.Reading.{SomeFailed, left_in};
 ghost use Rattle.audit_run.specs.Visits.{Goes, Meets, Took, Went, is_whole, refused};
 
 use crate::entries::{audit_opened, audit_read, audit_regular, is_directory};
-use crate::kind::{Kind, Opened};
+use crate::file_kind::{FileKind, Opened};
 use crate::reading::{Came, Reading, content_of, read_input};
 use crate::round::{Round, Screen};
 use crate::stop::Stop;
@@ -222,7 +222,11 @@ fn audit_text<T: Tree, W: Screen>(
 }
 
 // Audits the null device as an empty file, or says that this is no regular file.
-fn audit_other<W: Screen>(round: &mut Round<'_, '_, W>, path: &str, kind: Kind) -> Result<(), Stop>
+fn audit_other<W: Screen>(
+    round: &mut Round<'_, '_, W>,
+    path: &str,
+    kind: FileKind,
+) -> Result<(), Stop>
     ensures { Meets (other_at kind path.now) (result_err result) round.old round.new }
 {
     if kind.is_null() {

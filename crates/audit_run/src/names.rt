@@ -6,7 +6,7 @@ ghost use Rattle.audit_run.specs.Names.{capped, is_dots, is_never, may_be_behind
 ghost use Rattle.audit_run.specs.Walk.{IsNamesOf};
 
 use crate::entries::is_directory;
-use crate::kind::Found;
+use crate::file_kind::Found;
 use crate::paths::path_in;
 use crate::reading::Came;
 use crate::round::{Round, Screen};
@@ -20,7 +20,7 @@ use std::str;
 
 /// A directory, and whether each of its files is read.
 #[derive(Clone, Copy)]
-pub(crate) struct Place<'p> {
+pub(crate) struct Directory<'p> {
     pub(crate) path: &'p str,
     pub(crate) every: bool,
 }
@@ -37,7 +37,7 @@ pub(crate) struct Listing {
 pub(crate) fn names_in<T: Tree, W: Screen>(
     tree: &T,
     round: &mut Round<'_, '_, W>,
-    place: Place<'_>,
+    place: Directory<'_>,
     named: bool,
 ) -> Result<Result<Listing, Refusal>, AllocError>
     ensures names { IfOk result (IsNamesOf (T.states tree.now) place.entry.every
@@ -76,7 +76,7 @@ pub(crate) fn names_in<T: Tree, W: Screen>(
 fn take_name<T: Tree>(
     alloc: Global,
     tree: &T,
-    place: Place<'_>,
+    place: Directory<'_>,
     name: Vec<u8>,
     listing: &mut Listing,
 ) -> Result<(), AllocError>
@@ -109,7 +109,7 @@ fn with_passed(skipped: u64, name: &[u8]) -> u64
 fn is_wanted<T: Tree>(
     alloc: Global,
     tree: &T,
-    place: Place<'_>,
+    place: Directory<'_>,
     name: &[u8],
 ) -> Result<bool, AllocError>
     ensures { IfOk result (λ wanted. IsWanted (T.states tree.now) place.entry.every

@@ -3,7 +3,7 @@
 ghost use Rattle.std.specs.Prelude.{◌≡◌};
 ghost use Rattle.audit_run.specs.Options.{form_by, has_colours, shown_by};
 
-use audit_text::Form;
+use audit_text::Format;
 use krl_audit::Shown;
 
 /// The options of the command that say which findings are printed, and how.
@@ -49,18 +49,18 @@ impl Options {
             revoked: !self.quiet,
             unread: !self.quiet,
             fine: self.all && !self.quiet,
-            form: form_by(self.json, self.colours),
+            format: form_by(self.json, self.colours),
         }
     }
 }
 
-// The form of the findings. No object is in colour, since programs read them.
-fn form_by(json: bool, colours: bool) -> Form
+// The format of the findings. No object is in colour, since programs read them.
+fn form_by(json: bool, colours: bool) -> Format
     ensures { result ≡ form_by json colours }
 {
     match (json, colours) {
-        (true, _) => Form::Json,
-        (false, true) => Form::Colour,
-        (false, false) => Form::Text,
+        (true, _) => Format::Json,
+        (false, true) => Format::Colour,
+        (false, false) => Format::Text,
     }
 }

@@ -9,7 +9,7 @@ ghost use Rattle.audit_run.specs.Entries.{FailsAt};
 ghost use Rattle.audit_run.specs.Reading.{ComesBehind, HasCome, InputFails, IsBegun, IsContent};
 ghost use Rattle.audit_run.specs.Reading.{SomeFailed, front_of, read_as};
 
-use crate::kind::Identity;
+use crate::file_kind::Identity;
 use crate::tree::Tree;
 use audit_lines::Refusal;
 use byte_streams::Source;

@@ -15,7 +15,7 @@ use crate::stop::Stop;
 use crate::summary::Summary;
 use crate::tree::Tree;
 use any_list::{List as ReadList, read_list};
-use audit_text::Form;
+use audit_text::Format;
 use byte_streams::Source;
 use key_text::sha256_of;
 use krl_audit::{Auditor, Judge, ListFacts, Shown};
@@ -41,7 +41,7 @@ struct Queried<'q> {
 
 /// Where files are found, a reader of names of files, if there is one, and standard input.
 #[derive(Drop)]
-pub struct Given<'t, T: Tree, N: Source + Drop, I: Source + Drop> {
+pub struct Sources<'t, T: Tree, N: Source + Drop, I: Source + Drop> {
     pub tree: &'t T,
     pub names: Option<N>,
     pub input: I,
@@ -76,7 +76,7 @@ pub fn audit_run<'a, T: Tree, N: Source + Drop, I: Source + Drop, W: Screen>(
     alloc: Global,
     order: &Order<'a>,
     list: Bytes,
-    given: Given<'_, T, N, I>,
+    given: Sources<'_, T, N, I>,
     out: &mut W,
 ) -> Audited<'a>
     requires working { W.Sink.has_failed out.old ≡ false }
@@ -107,9 +107,9 @@ pub fn audit_run<'a, T: Tree, N: Source + Drop, I: Source + Drop, W: Screen>(
 fn sha256_if(shown: Shown, bytes: &[u8]) -> Option<[u8; 32]>
     ensures { result ≡ sha256_if (is_hashed shown) bytes.now }
 {
-    match (shown.form, shown.revoked) {
-        (Form::Json, true) => Some(sha256_of(bytes)),
-        (Form::Json, false) | (Form::Text | Form::Colour, _) => None,
+    match (shown.format, shown.revoked) {
+        (Format::Json, true) => Some(sha256_of(bytes)),
+        (Format::Json, false) | (Format::Text | Format::Colour, _) => None,
     }
 }
 
@@ -129,7 +129,7 @@ fn audit_by<'a, T: Tree, N: Source + Drop, I: Source + Drop, W: Screen>(
     alloc: Global,
     order: &Order<'a>,
     queried: &Queried<'_>,
-    given: Given<'_, T, N, I>,
+    given: Sources<'_, T, N, I>,
     out: &mut W,
 ) -> Counted<'a>
     requires working { W.Sink.has_failed out.old ≡ false }
@@ -197,7 +197,7 @@ fn audit_all<'a, T: Tree, N: Source + Drop, I: Source + Drop, W: Screen>(
     round: &mut Round<'_, '_, W>,
     order: &Order<'a>,
     queried: &Queried<'_>,
-    given: Given<'_, T, N, I>,
+    given: Sources<'_, T, N, I>,
 ) -> Option<RunFault<'a>>
     requires names { IfSome given.names (λ names. N.has_failed names ≡ false) }
     requires input { I.has_failed given.input ≡ false }
@@ -218,7 +218,7 @@ fn audit_all<'a, T: Tree, N: Source + Drop, I: Source + Drop, W: Screen>(
 fn audit_given<T: Tree, N: Source + Drop, I: Source + Drop, W: Screen>(
     round: &mut Round<'_, '_, W>,
     order: &Order<'_>,
-    given: Given<'_, T, N, I>,
+    given: Sources<'_, T, N, I>,
 ) -> Result<bool, Stop>
     requires names { IfSome given.names (λ names. N.has_failed names ≡ false) }
     requires input { I.has_failed given.input ≡ false }
@@ -226,7 +226,7 @@ fn audit_given<T: Tree, N: Source + Drop, I: Source + Drop, W: Screen>(
         (readers_of N.left N.has_failed given.entry.names I.left I.has_failed given.entry.input)
         order.now.paths.now) result round.old round.new }
 {
-    let Given { tree, names, input } = given;
+    let Sources { tree, names, input } = given;
     let Some(names) = names else {
         audit_paths(tree, round, order.every_file, order.paths, input)?;
         return Ok(true);

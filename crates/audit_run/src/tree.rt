@@ -4,7 +4,7 @@ ghost use Rattle.std.specs.Prelude.{◌≡◌, true, false, IfErr, IfOk, Err, Ok
 ghost use Rattle.audit_run.specs.Fact.{Breaks, Elsewhere, Excludes, Fact, Fails, Leads, Lists};
 ghost use Rattle.audit_run.specs.Fact.{Opens, Sought, open_file};
 
-use crate::kind::{Found, Opened};
+use crate::file_kind::{Found, Opened};
 use audit_lines::Refusal;
 use byte_streams::Source;
 use std::alloc::AllocError;

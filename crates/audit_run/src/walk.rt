@@ -9,7 +9,7 @@ ghost use Rattle.audit_run.specs.Walk.{is_settled, level_of, levels_of, no_file}
 
 use crate::entries::audit_entry;
 use crate::files::{Since, Skip};
-use crate::names::{Place, names_in};
+use crate::names::{Directory, names_in};
 use crate::round::{Round, Screen};
 use crate::stop::Stop;
 use crate::tree::Tree;
@@ -85,7 +85,7 @@ fn take_turn<T: Tree, W: Screen>(
     let Some(name) = last.names.pop() else {
         return Ok(());
     };
-    let place = Place {
+    let place = Directory {
         path: last.path.as_str(),
         every: last.every,
     };
@@ -129,7 +129,7 @@ fn enter<T: Tree, W: Screen>(
         (string_bytes path) visits (level_in level)) round.old round.new }
 {
     let every = every_in(every, path.as_str());
-    let place = Place {
+    let place = Directory {
         path: path.as_str(),
         every,
     };

@@ -7,8 +7,8 @@ use Rattle.audit_text.specs.Colour.{unread_word, verdict_word}
 use Rattle.audit_text.specs.Text.{location_text}
 use Rattle.audit_text.specs.declared.line_kind.LineKind.{LineKind}
 use Rattle.audit_text.specs.declared.line_kind.LineKind.TheVariants as kinds
-use Rattle.audit_text.specs.declared.form.Form.{Form}
-use Rattle.audit_text.specs.declared.form.Form.TheVariants as forms
+use Rattle.audit_text.specs.declared.format.Format.{Format}
+use Rattle.audit_text.specs.declared.format.Format.TheVariants as formats
 
 -- the word of a kind; lines of the other two kinds are not printed
 abbrev pub kind_word : LineKind → List ℕ
@@ -51,7 +51,7 @@ abbrev pub more_object : List ℕ → LineKind → ℕ → Json
 more_object name kind lines = object_of (more_fields name kind lines)
 
 -- the line for people, or the JSON object
-abbrev pub more_said : Form → List ℕ → LineKind → ℕ → List ℕ
-more_said forms.Text name kind lines = more_line false name kind lines
-more_said forms.Colour name kind lines = more_line true name kind lines
-more_said forms.Json name kind lines = json_line (more_object name kind lines)
+abbrev pub more_said : Format → List ℕ → LineKind → ℕ → List ℕ
+more_said formats.Text name kind lines = more_line false name kind lines
+more_said formats.Colour name kind lines = more_line true name kind lines
+more_said formats.Json name kind lines = json_line (more_object name kind lines)

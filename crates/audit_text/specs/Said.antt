@@ -5,20 +5,20 @@ use Rattle.krl_entries.specs.declared.reasons.Reasons.{Reasons}
 use Rattle.audit_text.specs.Objects.{key_object, unread_object}
 use Rattle.audit_lines.specs.Outcome.{Found}
 use Rattle.audit_text.specs.Text.{key_line, unread_line}
-use Rattle.audit_text.specs.declared.form.Form.{Form}
-use Rattle.audit_text.specs.declared.form.Form.TheVariants as forms
+use Rattle.audit_text.specs.declared.format.Format.{Format}
+use Rattle.audit_text.specs.declared.format.Format.TheVariants as formats
 use Rattle.audit_lines.specs.declared.why.Why.{Why}
 
 -- the line of a key, for people or as a JSON object
-abbrev pub key_said : Form → List ℕ → ℕ → Found → Reasons → List ℕ
-key_said forms.Text name number found all =
+abbrev pub key_said : Format → List ℕ → ℕ → Found → Reasons → List ℕ
+key_said formats.Text name number found all =
     key_line false name number found.blob found.comment found.asked all
-key_said forms.Colour name number found all =
+key_said formats.Colour name number found all =
     key_line true name number found.blob found.comment found.asked all
-key_said forms.Json name number found all = json_line (key_object name number found all)
+key_said formats.Json name number found all = json_line (key_object name number found all)
 
 -- the line for a line or file that is not read
-abbrev pub unread_said : Form → List ℕ → ℕ → Why → List ℕ
-unread_said forms.Text name number why = unread_line false name number why
-unread_said forms.Colour name number why = unread_line true name number why
-unread_said forms.Json name number why = json_line (unread_object name number why)
+abbrev pub unread_said : Format → List ℕ → ℕ → Why → List ℕ
+unread_said formats.Text name number why = unread_line false name number why
+unread_said formats.Colour name number why = unread_line true name number why
+unread_said formats.Json name number why = json_line (unread_object name number why)

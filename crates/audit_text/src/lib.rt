@@ -3,7 +3,7 @@
 #![tactic(auto)]
 
 mod colour;
-mod form;
+mod format;
 pub mod laws;
 mod line_kind;
 mod more;
@@ -14,7 +14,7 @@ mod said;
 mod same;
 mod text;
 
-pub use form::Form;
+pub use format::Format;
 pub use line_kind::LineKind;
 pub use more::{More, write_more};
 pub use said::{say_key, say_unread};

@@ -7,7 +7,7 @@ ghost use Rattle.audit_text.specs.More.{are_more, kind_mark, kind_word, more_lin
 ghost use Rattle.audit_text.specs.More.{more_object, more_said, more_words, why_more};
 
 use crate::colour::{Mark, unread_mark, verdict_mark};
-use crate::form::Form;
+use crate::format::Format;
 use crate::line_kind::LineKind;
 use crate::text::Location;
 use json_lines::{Fields, LineWriter, Text, object, put_fields};
@@ -34,13 +34,18 @@ impl Printed for More {
 }
 
 /// Makes the line about them.
-pub fn write_more(form: Form, name: &str, more: More, line: &mut Vec<u8>) -> Result<(), AllocError>
+pub fn write_more(
+    form: Format,
+    name: &str,
+    more: More,
+    line: &mut Vec<u8>,
+) -> Result<(), AllocError>
     ensures { OnOk result (line.new.items ≡ more_said form name.now more.kind more.lines) }
 {
     match form {
-        Form::Text => write_more_line(false, name, more, line),
-        Form::Colour => write_more_line(true, name, more, line),
-        Form::Json => write_more_object(name, more, line),
+        Format::Text => write_more_line(false, name, more, line),
+        Format::Colour => write_more_line(true, name, more, line),
+        Format::Json => write_more_object(name, more, line),
     }
 }
 

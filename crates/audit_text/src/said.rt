@@ -4,7 +4,7 @@ ghost use Rattle.std.specs.Prelude.{◌≡◌, OnOk};
 ghost use Rattle.audit_text.specs.Said.{key_said, unread_said};
 ghost use Rattle.audit_lines.specs.Outcome.{found_as};
 
-use crate::form::Form;
+use crate::format::Format;
 use crate::objects::{write_key_object, write_unread_object};
 use crate::text::{Location, Verdict, write_key, write_unread};
 use audit_lines::Why;
@@ -13,7 +13,7 @@ use std::alloc::{AllocError, Global};
 /// Makes the line of a key.
 pub fn say_key(
     alloc: Global,
-    form: Form,
+    form: Format,
     location: Location<'_>,
     verdict: &Verdict<'_>,
     line: &mut Vec<u8>,
@@ -23,16 +23,16 @@ pub fn say_key(
         (found_as verdict.now.found.now verdict.now.subject.now) verdict.now.reasons) }
 {
     match form {
-        Form::Text => write_key(alloc, false, location, verdict, line),
-        Form::Colour => write_key(alloc, true, location, verdict, line),
-        Form::Json => write_key_object(location, verdict, line),
+        Format::Text => write_key(alloc, false, location, verdict, line),
+        Format::Colour => write_key(alloc, true, location, verdict, line),
+        Format::Json => write_key_object(location, verdict, line),
     }
 }
 
 /// Makes the line for a line or file that is not read.
 pub fn say_unread(
     alloc: Global,
-    form: Form,
+    form: Format,
     location: Location<'_>,
     why: Why,
     line: &mut Vec<u8>,
@@ -41,8 +41,8 @@ pub fn say_unread(
         ≡ unread_said form location.entry.name.now location.entry.number why) }
 {
     match form {
-        Form::Text => write_unread(alloc, false, location, why, line),
-        Form::Colour => write_unread(alloc, true, location, why, line),
-        Form::Json => write_unread_object(location, why, line),
+        Format::Text => write_unread(alloc, false, location, why, line),
+        Format::Colour => write_unread(alloc, true, location, why, line),
+        Format::Json => write_unread_object(location, why, line),
     }
 }

@@ -4,18 +4,18 @@ ghost use Rattle.std.specs.Prelude.{◌≡◌, OnOk};
 ghost use Rattle.json_lines.specs.Field.{json_line};
 ghost use Rattle.audit_text.specs.Same.{same_line, same_object, same_said};
 
-use crate::form::Form;
+use crate::format::Format;
 use json_lines::object;
 use line_pieces::{Visible, put};
 use std::alloc::AllocError;
 
 /// Makes the line of a name that leads to a file that was audited before.
-pub fn write_same(form: Form, name: &str, line: &mut Vec<u8>) -> Result<(), AllocError>
+pub fn write_same(form: Format, name: &str, line: &mut Vec<u8>) -> Result<(), AllocError>
     ensures { OnOk result (line.new.items ≡ same_said form name.now) }
 {
     match form {
-        Form::Text | Form::Colour => write_same_line(name, line),
-        Form::Json => write_same_object(name, line),
+        Format::Text | Format::Colour => write_same_line(name, line),
+        Format::Json => write_same_object(name, line),
     }
 }
 

@@ -13,7 +13,7 @@ use Rattle.run_output.specs.Run.{Item, Passed}
 use Rattle.run_output.proofs.RunParts.{carries_more, carries_withheld}
 use Rattle.krl_types.specs.Subject.{Subject}
 use Rattle.krl_entries.specs.declared.reasons.Reasons.{Reasons}
-use Rattle.audit_text.specs.declared.form.Form.{Form}
+use Rattle.audit_text.specs.declared.format.Format.{Format}
 use Rattle.audit_lines.specs.declared.why.Refusal.{Refusal}
 use Rattle.list_conditions.specs.Check.{ChecksFile}
 use Rattle.list_conditions.specs.declared.role.Role.{Role}
@@ -42,7 +42,7 @@ read_stops told files others reads later first = record {
   told_are = first.told_are;
 }
 
-items_then : (form : Form) (reasons : Subject → Reasons) (reads more : List Read) (later : List Named) → reads_items form reasons (reads ++ more) later ≡ reads_items form reasons reads [] ++ reads_items form reasons more later
+items_then : (form : Format) (reasons : Subject → Reasons) (reads more : List Read) (later : List Named) → reads_items form reasons (reads ++ more) later ≡ reads_items form reasons reads [] ++ reads_items form reasons more later
 unfolding reads_items
 items_then form reasons reads more later =
     let front : List Item = flat_map (read_items form reasons) reads in
@@ -50,7 +50,7 @@ items_then form reasons reads more later =
     ap (λ (xs : List Item). xs ++ map passed later) (flat_map-append (read_items form reasons) reads more)
     ∙ (append_assoc front back (map passed later) ∙ ap (λ (xs : List Item). xs ++ (back ++ map passed later)) (sym (append-nil front)))
 
-items_stop : (form : Form) (reasons : Subject → Reasons) (reads : List Read) (later others : List Named) → reads_items form reasons reads (later ++ others) ≡ reads_items form reasons reads later ++ map passed others
+items_stop : (form : Format) (reasons : Subject → Reasons) (reads : List Read) (later others : List Named) → reads_items form reasons reads (later ++ others) ≡ reads_items form reasons reads later ++ map passed others
 unfolding reads_items
 items_stop form reasons reads later others =
     let front : List Item = flat_map (read_items form reasons) reads in
@@ -66,7 +66,7 @@ unread_then reads more = sym (list_any-append is_unread reads more)
 
 -- ---- checks of rows of files
 
-pub no_file : (form : Form) (reasons : Subject → Reasons) (now : Printer) (refused unread : Bool) → ChecksFiles [] form reasons [] (Ok tt) now now refused refused unread unread
+pub no_file : (form : Format) (reasons : Subject → Reasons) (now : Printer) (refused unread : Bool) → ChecksFiles [] form reasons [] (Ok tt) now now refused refused unread unread
 unfolding reads_items reads_fail some_unread
 no_file form reasons now refused unread = record {
   reads = [];
@@ -77,7 +77,7 @@ no_file form reasons now refused unread = record {
   all = refl;
 }
 
-pub files_then : (told next : List Reading) (form : Form) (reasons : Subject → Reasons) (files others : List Named) (value : Unit {0}) (result : Result (Unit {0}) RunFault) (old mid new : Printer) (a b c u v w : Bool)
+pub files_then : (told next : List Reading) (form : Format) (reasons : Subject → Reasons) (files others : List Named) (value : Unit {0}) (result : Result (Unit {0}) RunFault) (old mid new : Printer) (a b c u v w : Bool)
     → ChecksFiles told form reasons files (Ok value) old mid a b u v → ChecksFiles next form reasons others result mid new b c v w → ChecksFiles (told ++ next) form reasons (files ++ others) result old new a c u w
 files_then told next form reasons files others value result old mid new a b c u v w first second =
     let xs : List Item = reads_items form reasons first.reads [] in
@@ -96,7 +96,7 @@ files_then told next form reasons files others value result old mid new a b c u 
       all = second.all;
     }
 
-pub files_stop : (told : List Reading) (form : Form) (reasons : Subject → Reasons) (files others : List Named) (stop : RunFault) (old new : Printer) (a b c u v w : Bool)
+pub files_stop : (told : List Reading) (form : Format) (reasons : Subject → Reasons) (files others : List Named) (stop : RunFault) (old new : Printer) (a b c u v w : Bool)
     → ChecksFiles told form reasons files (Err stop) old new a b u v → ChecksFiles told form reasons (files ++ others) (Err stop) old new a c u w
 files_stop told form reasons files others stop old new a b c u v w first = record {
   reads = first.reads;
@@ -112,7 +112,7 @@ files_stop told form reasons files others stop old new a b c u v w first = recor
 
 -- ---- one file
 
-one_items : (form : Form) (reasons : Subject → Reasons) (read : Read) → reads_items form reasons (read ∷ []) [] ≡ read_items form reasons read
+one_items : (form : Format) (reasons : Subject → Reasons) (read : Read) → reads_items form reasons (read ∷ []) [] ≡ read_items form reasons read
 unfolding reads_items
 one_items form reasons read = append-nil (flat_map (read_items form reasons) (read ∷ [])) ∙ append-nil (read_items form reasons read)
 
@@ -128,7 +128,7 @@ on_ok_all : (result : Result (Unit {0}) RunFault) (later : List Named) → later
 on_ok_all (Ok done) later is = is
 on_ok_all (Err stop) later is = tt
 
-pub file_checked : (form : Form) (reasons : Subject → Reasons) (role : Role) (name : List ℕ) (content : Result (List ℕ) Refusal) (result : Result (Unit {0}) RunFault) (old new : Printer) (a b u w : Bool)
+pub file_checked : (form : Format) (reasons : Subject → Reasons) (role : Role) (name : List ℕ) (content : Result (List ℕ) Refusal) (result : Result (Unit {0}) RunFault) (old new : Printer) (a b u w : Bool)
     → ChecksFile form role reasons name content result old new a b → w ≡ (u || is_err content) → ChecksFiles (KeysRead name content ∷ []) form reasons (named role name ∷ []) result old new a b u w
 file_checked form reasons role name content result old new a b u w checks unread =
     let read : Read = record { file = named role name; content = content } in
@@ -145,7 +145,7 @@ file_checked form reasons role name content result old new a b u w checks unread
     }
 
 -- An allocation for the content of a file failed.
-pub file_not_reached : (form : Form) (reasons : Subject → Reasons) (role : Role) (name : List ℕ) (now : Printer) (a b u w : Bool)
+pub file_not_reached : (form : Format) (reasons : Subject → Reasons) (role : Role) (name : List ℕ) (now : Printer) (a b u w : Bool)
     → ChecksFiles [] form reasons (named role name ∷ []) (Err (run_fault_of name NoMemory)) now now a b u w
 unfolding reads_items
 file_not_reached form reasons role name now a b u w = record {

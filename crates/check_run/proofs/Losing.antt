@@ -3,7 +3,7 @@ use Rattle.std.proofs.Common.{◌≡◌, ℕ, Bool, true, false, List, Result, S
 use Rattle.run_faults.specs.RunFault.{RunFault}
 use Rattle.run_output.specs.Printer.{Printer}
 use Rattle.krl_types.specs.Entry.{Entry}
-use Rattle.audit_text.specs.declared.form.Form.{Form}
+use Rattle.audit_text.specs.declared.format.Format.{Format}
 use Rattle.list_conditions.specs.Check.{condition_items, names_nobody}
 use Rattle.list_conditions.specs.declared.condition.Condition.TheVariants.{NothingLost}
 use Rattle.krl_entries.specs.Revocations.{Means, Revocations}
@@ -22,10 +22,10 @@ all_lost held other lost own others m n is = record {
 }
 
 -- whether something is lost decides what is said
-pub nothing_lost : (form : Form) (name : List ℕ) (lost : Lost) (result : Result (Unit {0}) RunFault) (old new : Printer) (before after : Bool) → names_nobody lost.held ≡ true
+pub nothing_lost : (form : Format) (name : List ℕ) (lost : Lost) (result : Result (Unit {0}) RunFault) (old new : Printer) (before after : Bool) → names_nobody lost.held ≡ true
     → Checks (condition_items form name (NothingLost lost.name)) false result old new before after → Checks (losses_items form name (Some lost)) (losses_fail (Some lost)) result old new before after
 nothing_lost form name lost result old new before after is checks = rw is checks
 
-pub some_lost : (form : Form) (name : List ℕ) (lost : Lost) (result : Result (Unit {0}) RunFault) (old new : Printer) (before after : Bool) → names_nobody lost.held ≡ false
+pub some_lost : (form : Format) (name : List ℕ) (lost : Lost) (result : Result (Unit {0}) RunFault) (old new : Printer) (before after : Bool) → names_nobody lost.held ≡ false
     → Checks (lost_items form name lost) true result old new before after → Checks (losses_items form name (Some lost)) (losses_fail (Some lost)) result old new before after
 some_lost form name lost result old new before after is checks = rw is checks

@@ -7,7 +7,7 @@ use Rattle.run_output.specs.Printer.{Printer}
 use Rattle.run_output.specs.Run.{Item, Passed}
 use Rattle.krl_types.specs.Subject.{Subject}
 use Rattle.krl_entries.specs.declared.reasons.Reasons.{Reasons}
-use Rattle.audit_text.specs.declared.form.Form.{Form}
+use Rattle.audit_text.specs.declared.format.Format.{Format}
 use Rattle.audit_lines.specs.declared.why.Refusal.{Refusal}
 use Rattle.krl_arguments.specs.declared.task.Check.{Check}
 use Rattle.list_conditions.specs.Check.{counts_of, keys_items}
@@ -49,7 +49,7 @@ pub record AreRead (told : List Reading) (files : List Named) (reads : List Read
 
 -- ---- what is printed, and what fails
 
-abbrev pub read_items : Form → (Subject → Reasons) → Read → List Item
+abbrev pub read_items : Format → (Subject → Reasons) → Read → List Item
 read_items form reasons read =
     keys_items form read.file.role reasons read.file.name read.content
 
@@ -64,7 +64,7 @@ is_unread read = is_err read.content
 abbrev pub passed : Named → Item
 passed file = Passed file.name
 
-unfoldable pub reads_items : Form → (Subject → Reasons) → List Read → (later : List Named)
+unfoldable pub reads_items : Format → (Subject → Reasons) → List Read → (later : List Named)
     → List Item
 reads_items form reasons reads later = flat_map (read_items form reasons) reads ++ map passed later
 
@@ -75,7 +75,7 @@ unfoldable pub some_unread : List Read → Bool
 some_unread reads = list_any is_unread reads
 
 -- The keys of the files were checked, or the check was stopped within them.
-pub record ChecksFiles (told : List Reading) (form : Form) (reasons : Subject → Reasons)
+pub record ChecksFiles (told : List Reading) (form : Format) (reasons : Subject → Reasons)
     (files : List Named) (result : Result (Unit {0}) RunFault)
     (old new : Printer) (before after : Bool) (unread_before unread_after : Bool) : Type 0 where
   pub reads : List Read

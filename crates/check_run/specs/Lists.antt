@@ -11,7 +11,7 @@ use Rattle.krl_format.specs.declared.header.Header.{Header}
 use Rattle.krl_types.specs.Entry.{Entry}
 use Rattle.krl_entries.specs.Revocations.{Revocations}
 use Rattle.krl_format.specs.declared.header.Stated.{Stated}
-use Rattle.audit_text.specs.declared.form.Form.{Form}
+use Rattle.audit_text.specs.declared.format.Format.{Format}
 use Rattle.krl_openssh.specs.Fields.{IsFirstDifference}
 use Rattle.krl_openssh.specs.declared.difference.Difference.{Difference}
 use Rattle.list_conditions.specs.Check.{condition_items}
@@ -79,13 +79,13 @@ abbrev pub IsFormat : List ℕ → Condition → Type 0
 IsFormat bytes condition = IsFormatIf (begins_list bytes) bytes condition
 
 -- There may be no memory to read the lines of a plain list again.
-abbrev pub format_items : Form → List ℕ → Condition → List Item
+abbrev pub format_items : Format → List ℕ → Condition → List Item
 format_items form name (OpenSshLines line) =
     Passed name ∷ condition_items form name (OpenSshLines line)
 format_items form name condition = condition_items form name condition
 
 -- The lines of a plain list were checked.
-pub record ChecksLines (form : Form) (name bytes : List ℕ) (result : Result (Unit {0}) RunFault)
+pub record ChecksLines (form : Format) (name bytes : List ℕ) (result : Result (Unit {0}) RunFault)
     (old new : Printer) (before after : Bool) : Type 0 where
   pub line : Option DsaLine
   pub is_first : IsFirstDsa (lines_of bytes) line
@@ -93,7 +93,7 @@ pub record ChecksLines (form : Form) (name bytes : List ℕ) (result : Result (U
       result old new before after
 
 -- The format of a list was checked.
-pub record ChecksFormat (form : Form) (name bytes : List ℕ) (result : Result (Unit {0}) RunFault)
+pub record ChecksFormat (form : Format) (name bytes : List ℕ) (result : Result (Unit {0}) RunFault)
     (old new : Printer) (before after : Bool) : Type 0 where
   pub format : Condition
   pub is : IsFormat bytes format
@@ -104,7 +104,7 @@ pub record ChecksFormat (form : Form) (name bytes : List ℕ) (result : Result (
 abbrev pub empty_fails : (nobody allow_empty : Bool) → Bool
 empty_fails nobody allow_empty = not allow_empty && nobody
 
-abbrev pub empty_items : Form → List ℕ → (nobody allow_empty : Bool) → List Item
+abbrev pub empty_items : Format → List ℕ → (nobody allow_empty : Bool) → List Item
 empty_items form name nobody allow_empty =
     if allow_empty then [] else condition_items form name (Empty nobody)
 
@@ -120,13 +120,13 @@ slow_of held max_cas = Slow (length held.sections) (most_cas max_cas)
 -- ---- the version
 
 -- a plain list has no version
-abbrev pub items_beside : Form → List ℕ → Option ℕ → (other : List ℕ) → Option ℕ → List Item
+abbrev pub items_beside : Format → List ℕ → Option ℕ → (other : List ℕ) → Option ℕ → List Item
 items_beside form name (Some version) other (Some least) =
     condition_items form name (Version version least)
 items_beside form name (Some version) other None = condition_items form other NoVersion
 items_beside form name None other least = condition_items form name NoVersion
 
-abbrev pub versions_items : Form → List ℕ → Option ℕ → Option Other → List Item
+abbrev pub versions_items : Format → List ℕ → Option ℕ → Option Other → List Item
 versions_items form name version None = []
 versions_items form name version (Some other) =
     items_beside form name version other.name.now other.version
@@ -143,12 +143,12 @@ versions_fail version (Some other) = fails_beside version other.version
 -- ---- the age
 
 -- a plain list has no date
-abbrev pub limited_items : Form → List ℕ → Option Stated → AgeLimit → List Item
+abbrev pub limited_items : Format → List ℕ → Option Stated → AgeLimit → List Item
 limited_items form name (Some stated) limit =
     condition_items form name (Age stated.generated limit.now limit.max_age)
 limited_items form name None limit = condition_items form name NoDate
 
-abbrev pub ages_items : Form → List ℕ → Option Stated → Option AgeLimit → List Item
+abbrev pub ages_items : Format → List ℕ → Option Stated → Option AgeLimit → List Item
 ages_items form name stated None = []
 ages_items form name stated (Some limit) = limited_items form name stated limit
 
@@ -162,7 +162,7 @@ ages_fail stated (Some limit) = limit_fails stated limit
 
 -- ---- all that is limited
 
-abbrev pub limits_items : Form → List ℕ → Option Stated → Limits → List Item
+abbrev pub limits_items : Format → List ℕ → Option Stated → Limits → List Item
 limits_items form name stated limits =
     versions_items form name (version_of stated) limits.other
     ++ (ages_items form name stated limits.age ++ losses_items form name limits.lost.now)

@@ -5,7 +5,7 @@ use Rattle.run_output.specs.Run.{Item}
 use Rattle.krl_types.specs.Entry.{Entry}
 use Rattle.krl_types.specs.Naming.{Name, SomeNames}
 use Rattle.krl_entries.specs.Revocations.{HoldsName, IsOrderly, Revocations}
-use Rattle.audit_text.specs.declared.form.Form.{Form}
+use Rattle.audit_text.specs.declared.format.Format.{Format}
 use Rattle.list_conditions.specs.Check.{condition_items, is_json, names_nobody}
 use Rattle.list_conditions.specs.declared.condition.Condition.TheVariants.{Lost as LostEntries}
 use Rattle.list_conditions.specs.declared.condition.Condition.TheVariants.{NothingLost}
@@ -24,16 +24,16 @@ pub record AreLost (own others : List Entry) (lost : Revocations) : Type 0 where
       → HoldsName lost name ↔ (SomeNames others name × (SomeNames own name → ⊥))
 
 -- the lines of what is lost, and how many entries they are
-abbrev pub lost_form : Form → TextForm
+abbrev pub lost_form : Format → TextForm
 lost_form form = if is_json form then JsonChange Removed else Change Removed
 
-abbrev pub lost_items : Form → List ℕ → Lost → List Item
+abbrev pub lost_items : Format → List ℕ → Lost → List Item
 lost_items form name lost =
     fact_items (lost_form form) (facts_of lost.held)
     ++ condition_items form name
     (LostEntries lost.name (counted_all nothing_counted (facts_of lost.held)).entries)
 
-abbrev pub losses_items : Form → List ℕ → Option Lost → List Item
+abbrev pub losses_items : Format → List ℕ → Option Lost → List Item
 losses_items form name None = []
 losses_items form name (Some lost) =
     if names_nobody lost.held then condition_items form name (NothingLost lost.name)

@@ -11,8 +11,8 @@ use Rattle.krl_types.specs.Entry.{Entry}
 use Rattle.krl_entries.specs.Reasons.{reasons_of}
 use Rattle.krl_entries.specs.Revocations.{Revocations}
 use Rattle.krl_format.specs.declared.header.Stated.{Stated}
-use Rattle.audit_text.specs.declared.form.Form.{Form}
-use Rattle.audit_text.specs.declared.form.Form.TheVariants.{Json, Text}
+use Rattle.audit_text.specs.declared.format.Format.{Format}
+use Rattle.audit_text.specs.declared.format.Format.TheVariants.{Json, Text}
 use Rattle.list_conditions.specs.Authorities.{HasAuthorities}
 use Rattle.list_conditions.specs.Check.{EndsCheck, NamesNobody, condition_items, end_items}
 use Rattle.list_conditions.specs.Check.{names_nobody}
@@ -48,10 +48,10 @@ pub record Judged : Type 0 where
   pub limits : Limits
 
 -- the form in which a task wants what is printed
-abbrev pub form_of : Check → Form
+abbrev pub form_of : Check → Format
 form_of task = if task.json then Json else Text
 
-abbrev pub list_items : Form → List ℕ → Judged → Check → List Item
+abbrev pub list_items : Format → List ℕ → Judged → Check → List Item
 list_items form name list task =
     format_items form name list.format
     ++ (empty_items form name list.nobody task.allow_empty
@@ -162,16 +162,16 @@ pub data EndsCheckRun (told : List Reading) (task : Check) (before after : Optio
 -- ---- the parts of a run
 
 -- A condition for the list itself was checked, or the check was stopped. Nothing else changed.
-pub record ChecksBy {W : Type 0} (items : Form → List Item) (fails : Bool)
+pub record ChecksBy {W : Type 0} (items : Format → List Item) (fails : Bool)
     (result : Result (Unit {0}) RunFault) (old new : Checker W) : Type 0 where
   pub checks
-      : Checks (items old.auditor.judge.shown.form) fails result
+      : Checks (items old.auditor.judge.shown.format) fails result
       old.auditor.run.printer new.auditor.run.printer old.refused new.refused
   pub unread : new.unread ≡ old.unread
   pub judge : new.auditor.judge ≡ old.auditor.judge
 
 -- The conditions for the list itself were checked, or the check was stopped within them.
-pub record ChecksList (form : Form) (name bytes : List ℕ) (stated : Option Stated)
+pub record ChecksList (form : Format) (name bytes : List ℕ) (stated : Option Stated)
     (held : Revocations) (task : Check) (limits : Limits) (result : Result (Unit {0}) RunFault)
     (old new : Printer) (before after : Bool) : Type 0 where
   pub list : Judged

@@ -10,7 +10,7 @@ use crate::files::check_files;
 use crate::host::Host;
 use crate::limits::Limits;
 use any_list::Given;
-use audit_text::Form;
+use audit_text::Format;
 use byte_streams::Sink;
 use krl_arguments::Check;
 use krl_audit::Auditor;
@@ -60,10 +60,14 @@ pub(crate) fn check_by<'a, H: Host, W: Sink>(
 }
 
 // The form in which a task wants what is printed.
-fn form_of(task: &Check) -> Form
+fn form_of(task: &Check) -> Format
     ensures { result ≡ form_of task.now }
 {
-    if task.json { Form::Json } else { Form::Text }
+    if task.json {
+        Format::Json
+    } else {
+        Format::Text
+    }
 }
 
 // Checks each condition.
@@ -74,7 +78,7 @@ fn check_all<'a, H: Host, W: Sink>(
 ) -> Result<(), RunFault<'a>>
     requires read { IsRead job.given.now }
     requires judge { checker.old.auditor.judge.list.now ≡ job.given.now.list.revocations }
-    requires form { checker.old.auditor.judge.shown.form ≡ form_of job.task.now }
+    requires form { checker.old.auditor.judge.shown.format ≡ form_of job.task.now }
     requires refused { checker.old.refused ≡ false }
     requires unread { checker.old.unread ≡ false }
     ensures all { Tells (H.Lists.told host.old) (H.Lists.told host.new)
@@ -99,7 +103,7 @@ fn check_list<'a, W: Sink>(
     job: Job<'a, '_, '_>,
 ) -> Result<(), RunFault<'a>>
     requires { IsRead job.given.now }
-    ensures checks { ChecksList checker.old.auditor.judge.shown.form
+    ensures checks { ChecksList checker.old.auditor.judge.shown.format
         job.entry.given.now.list.name.now job.entry.given.now.bytes
         (stated_by job.entry.given.now.list.header) checker.old.auditor.judge.list.now
         job.entry.task.now job.entry.limits result checker.old.auditor.run.printer

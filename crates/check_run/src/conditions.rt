@@ -13,7 +13,7 @@ ghost use Rattle.check_run.specs.Run.{ChecksBy};
 use crate::limits::{AgeLimit, Limits};
 use crate::lists::{Lost, Other, version_of};
 use any_list::Given;
-use audit_text::Form;
+use audit_text::Format;
 use byte_streams::Sink;
 use krl_format::Stated;
 use krl_openssh::first_difference;
@@ -33,7 +33,7 @@ pub(crate) fn check_format<'a, W: Sink>(
     given: &Given<'a>,
 ) -> Result<(), RunFault<'a>>
     requires { IsRead given.now }
-    ensures checks { ChecksFormat checker.old.auditor.judge.shown.form given.now.list.name.now
+    ensures checks { ChecksFormat checker.old.auditor.judge.shown.format given.now.list.name.now
         given.now.bytes result
         checker.old.auditor.run.printer checker.new.auditor.run.printer checker.old.refused
         checker.new.refused }
@@ -56,7 +56,7 @@ fn check_lines<'a, W: Sink>(
     name: &'a str,
     bytes: &[u8],
 ) -> Result<(), RunFault<'a>>
-    ensures checks { ChecksLines checker.old.auditor.judge.shown.form name.now bytes.now result
+    ensures checks { ChecksLines checker.old.auditor.judge.shown.format name.now bytes.now result
         checker.old.auditor.run.printer checker.new.auditor.run.printer checker.old.refused
         checker.new.refused }
     ensures unread { checker.new.unread ≡ checker.old.unread }
@@ -182,18 +182,18 @@ fn say_lost<'a, W: Sink>(
     ensures { ChecksBy (λ form. lost_items form name.now lost.now) true result checker.old
         checker.new }
 {
-    let form = lost_form(checker.auditor.judge.shown.form);
+    let form = lost_form(checker.auditor.judge.shown.format);
     let mut counts = Counts::NONE;
     show_held(&mut checker.auditor.run, &mut counts, form, &lost.held)?;
     checker.check(name, Condition::Lost(lost.name, counts.entries))
 }
 
 // The form of the lines of what is lost.
-fn lost_form(form: Form) -> TextForm
+fn lost_form(form: Format) -> TextForm
     ensures { result ≡ lost_form form }
 {
     match form {
-        Form::Text | Form::Colour => TextForm::Change(Side::Removed),
-        Form::Json => TextForm::JsonChange(Side::Removed),
+        Format::Text | Format::Colour => TextForm::Change(Side::Removed),
+        Format::Json => TextForm::JsonChange(Side::Removed),
     }
 }

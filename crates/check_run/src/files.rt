@@ -21,11 +21,11 @@ pub(crate) fn check_files<'a, H: Host, W: Sink>(
 ) -> Result<(), RunFault<'a>>
     ensures checks { Tells (H.Lists.told host.old) (H.Lists.told host.new)
         (λ told. (entries : List Entry) → Means checker.old.auditor.judge.list.now entries
-        → ChecksFiles told checker.old.auditor.judge.shown.form (reasons_of entries)
+        → ChecksFiles told checker.old.auditor.judge.shown.format (reasons_of entries)
         (files_of task.now) result checker.old.auditor.run.printer
         checker.new.auditor.run.printer checker.old.refused checker.new.refused
         checker.old.unread checker.new.unread) }
-    ensures form { checker.new.auditor.judge.shown.form ≡ checker.old.auditor.judge.shown.form }
+    ensures form { checker.new.auditor.judge.shown.format ≡ checker.old.auditor.judge.shown.format }
 {
     check_each(checker, host, Role::Keep, task.keep.as_slice())?;
     check_each(checker, host, Role::Canary, task.canary.as_slice())
@@ -40,12 +40,12 @@ fn check_each<'a, H: Host, W: Sink>(
 ) -> Result<(), RunFault<'a>>
     ensures checks { Tells (H.Lists.told host.old) (H.Lists.told host.new)
         (λ told. (entries : List Entry) → Means checker.old.auditor.judge.list.now entries
-        → ChecksFiles told checker.old.auditor.judge.shown.form (reasons_of entries)
+        → ChecksFiles told checker.old.auditor.judge.shown.format (reasons_of entries)
         (named_all role names.now) result checker.old.auditor.run.printer
         checker.new.auditor.run.printer checker.old.refused checker.new.refused
         checker.old.unread checker.new.unread) }
     ensures list { checker.new.auditor.judge.list ≡ checker.old.auditor.judge.list }
-    ensures form { checker.new.auditor.judge.shown.form ≡ checker.old.auditor.judge.shown.form }
+    ensures form { checker.new.auditor.judge.shown.format ≡ checker.old.auditor.judge.shown.format }
 {
     for name in names {
         check_file(checker, host, role, *name)?;
@@ -62,12 +62,12 @@ fn check_file<'a, H: Host, W: Sink>(
 ) -> Result<(), RunFault<'a>>
     ensures checks { Tells (H.Lists.told host.old) (H.Lists.told host.new)
         (λ told. (entries : List Entry) → Means checker.old.auditor.judge.list.now entries
-        → ChecksFiles told checker.old.auditor.judge.shown.form (reasons_of entries)
+        → ChecksFiles told checker.old.auditor.judge.shown.format (reasons_of entries)
         (named role name.now ∷ []) result checker.old.auditor.run.printer
         checker.new.auditor.run.printer checker.old.refused checker.new.refused
         checker.old.unread checker.new.unread) }
     ensures list { checker.new.auditor.judge.list ≡ checker.old.auditor.judge.list }
-    ensures form { checker.new.auditor.judge.shown.form ≡ checker.old.auditor.judge.shown.form }
+    ensures form { checker.new.auditor.judge.shown.format ≡ checker.old.auditor.judge.shown.format }
 {
     let mut text = Vec::new(checker.auditor.run.alloc);
     match host.read_keys(name, &mut text) {

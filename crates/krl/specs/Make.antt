@@ -3,7 +3,7 @@ use Rattle.std.specs.Prelude.{◌≡◌, ℕ, Bool, true, false, List, map}
 use Rattle.std.specs.Borrow.{Bor}
 use Rattle.krl_arguments.specs.declared.task.Make.{Make}
 use Rattle.krl_entries.specs.Revocations.{Revocations}
-use Rattle.list_making.specs.Place.{Old}
+use Rattle.list_making.specs.Target.{Old}
 use Rattle.text_run.specs.Making.{Text}
 use Rattle.text_run.specs.Over.{MakesOver}
 use Rattle.text_run.specs.declared.inputs.Inputs.{Inputs}

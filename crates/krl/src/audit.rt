@@ -11,7 +11,7 @@ use crate::disk::Disk;
 use crate::ending::{end_audit, fail_in_words};
 use crate::loading::bytes_of;
 use crate::screen::{Screen, terminal};
-use audit_run::{Given, Order, audit_run};
+use audit_run::{Order, Sources, audit_run};
 use byte_streams::{FromRead, Source};
 use krl_arguments::Audit;
 use krl_entries::Revocations;
@@ -94,7 +94,7 @@ fn audit_by<'a, N: Source + Drop, I: Source + Drop>(
     let Asked { list, canaries } = asked;
     let order = Order::of(task, canaries, terminal(rt));
     let tree = &Disk::new(rt, task);
-    let given = Given { tree, names, input };
+    let given = Sources { tree, names, input };
     let mut screen = Screen::new(rt);
     let audited = audit_run(rt.alloc(), &order, list, given, &mut screen);
     screen.wipe();

@@ -5,7 +5,7 @@ ghost use Rattle.std.specs.Prelude.{◌≡◌, false};
 use crate::loading::{open, read};
 use any_list::read_list;
 use audit_lines::Refusal;
-use audit_text::Form;
+use audit_text::Format;
 use byte_streams::{FromRead, Source, ToWrite};
 use krl_entries::Revocations;
 use list_conditions::{Checker, Role};
@@ -101,7 +101,7 @@ fn is_met<'a>(
     let mut out = ToWrite::new(&mut lines);
     let mut buffer = Vec::new(alloc);
     let printer = Printer::new(&mut buffer, &mut out);
-    let mut checker = Checker::new(alloc, list, Form::Text, printer);
+    let mut checker = Checker::new(alloc, list, Format::Text, printer);
     checker.check_keys(Role::Canary, name, content)?;
     Ok(!checker.refused)
 }

@@ -6,7 +6,7 @@ ghost use Rattle.krl.specs.Disk.{kind_of};
 
 use crate::loading::{open, refusal_of};
 use audit_lines::Refusal;
-use audit_run::{Found, Identity, Kind, Opened, Tree, is_sought, path_in};
+use audit_run::{FileKind, Found, Identity, Opened, Tree, is_sought, path_in};
 use byte_streams::{Failed, FromRead, Source};
 use krl_arguments::Audit;
 use std::alloc::AllocError;
@@ -170,11 +170,11 @@ impl<'a> Disk<'a> {
     // Why a directory that was found cannot be entered: for a link, what it leads to.
     fn why_closed(&self, path: &str, refusal: Refusal) -> Refusal {
         match self.look(path, false) {
-            Ok(found) if found.kind == Kind::Link => {}
+            Ok(found) if found.kind == FileKind::Link => {}
             _ => return refusal,
         }
         match self.look(path, true) {
-            Ok(found) if found.kind == Kind::Directory => Refusal::DirectoryLink,
+            Ok(found) if found.kind == FileKind::Directory => Refusal::DirectoryLink,
             Ok(_) => refusal,
             Err(other) => other,
         }
@@ -344,18 +344,18 @@ fn is_null(found: &Metadata) -> bool {
 }
 
 // The file that was found at a path, which may be the null device.
-fn kind_of(found: &Metadata, is_null: bool) -> Kind
+fn kind_of(found: &Metadata, is_null: bool) -> FileKind
     ensures { result ≡ kind_of is_null found.now }
 {
     if found.is_dir() {
-        Kind::Directory
+        FileKind::Directory
     } else if found.is_file() {
-        Kind::File
+        FileKind::File
     } else if found.is_symlink() {
-        Kind::Link
+        FileKind::Link
     } else if is_null {
-        Kind::Null
+        FileKind::Null
     } else {
-        Kind::Other
+        FileKind::Other
     }
 }

@@ -9,7 +9,7 @@ use crate::ending::fail_to_make;
 use crate::loading::text_of;
 use krl_arguments::Make;
 use krl_system::date;
-use list_file::ListPlace;
+use list_file::ListTarget;
 use program_edge::print_line;
 use run_faults::Cause;
 use text_run::{Facts, Inputs, MakeCause, MakeFault, Over, Text, made_line, text_run};
@@ -27,7 +27,7 @@ pub fn make<'a>(rt: &'a HostRuntime, task: &Make<'a>) -> u8
         Err(cause) => return fail_to_make(rt, &fault_of(task.list, cause)),
     };
     let inputs = inputs_of(&*task, date, texts.as_slice());
-    let mut place = ListPlace::new(rt, crate::NAME, task.list);
+    let mut place = ListTarget::new(rt, crate::NAME, task.list);
     let made = text_run(rt.alloc(), &inputs, &mut place);
     place.release();
     match made {

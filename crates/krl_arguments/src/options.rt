@@ -6,7 +6,7 @@ ghost use Rattle.clap.specs.declared.builder.command.Command.TheViews.{out-Comma
 ghost use Rattle.krl_arguments.specs.Options.{program, subcommand_by};
 
 use clap::Command;
-use option_table::{Argument, Form, with_arguments};
+use option_table::{Argument, Syntax, with_arguments};
 use std::alloc::{AllocError, Global};
 
 /// The program's own name, whatever name it is called by.
@@ -23,52 +23,52 @@ pub struct Subcommand {
 const AUDIT: [Argument; 10] = [
     Argument {
         id: "list",
-        form: Form::Needed('f', "krl"),
+        syntax: Syntax::Needed('f', "krl"),
         help: "The revocation list; - is standard input",
     },
     Argument {
         id: "fine",
-        form: Form::Letter('a'),
+        syntax: Syntax::Letter('a'),
         help: "Name the keys that are not revoked as well",
     },
     Argument {
         id: "quiet",
-        form: Form::Letter('q'),
+        syntax: Syntax::Letter('q'),
         help: "Print nothing on standard output, and end after the first file with a revoked key",
     },
     Argument {
         id: "one-file-system",
-        form: Form::Letter('x'),
+        syntax: Syntax::Letter('x'),
         help: "Stay on the file system of each directory that is named",
     },
     Argument {
         id: "all",
-        form: Form::Long,
+        syntax: Syntax::Long,
         help: "Read every regular file of a directory, whatever its name",
     },
     Argument {
         id: "canary",
-        form: Form::LongValues("file"),
+        syntax: Syntax::LongValues("file"),
         help: "Audit nothing unless the list revokes each key of this file",
     },
     Argument {
         id: "exclude",
-        form: Form::LongValues("name"),
+        syntax: Syntax::LongValues("name"),
         help: "Skip files and directories of this name in a directory",
     },
     Argument {
         id: "json",
-        form: Form::Long,
+        syntax: Syntax::Long,
         help: "Print one JSON object on a line for each finding",
     },
     Argument {
         id: "files0-from",
-        form: Form::LongValue("file"),
+        syntax: Syntax::LongValue("file"),
         help: "Read names of files, each ended by a zero byte; - is standard input",
     },
     Argument {
         id: "files",
-        form: Form::Words("file|directory"),
+        syntax: Syntax::Words("file|directory"),
         help: "What is audited; - is standard input",
     },
 ];
@@ -76,52 +76,52 @@ const AUDIT: [Argument; 10] = [
 const CHECK: [Argument; 10] = [
     Argument {
         id: "list",
-        form: Form::Word("krl"),
+        syntax: Syntax::Word("krl"),
         help: "The revocation list; - is standard input",
     },
     Argument {
         id: "newer-than",
-        form: Form::LongValue("krl"),
+        syntax: Syntax::LongValue("krl"),
         help: "Refuse a version below that of this list",
     },
     Argument {
         id: "superset-of",
-        form: Form::LongValue("krl"),
+        syntax: Syntax::LongValue("krl"),
         help: "Refuse a list that does not name all that this list names",
     },
     Argument {
         id: "max-age",
-        form: Form::LongValue("duration"),
+        syntax: Syntax::LongValue("duration"),
         help: "Refuse a list that was made longer ago than this, as 90m, 24h or 7d",
     },
     Argument {
         id: "max-cas",
-        form: Form::LongValue("number"),
+        syntax: Syntax::LongValue("number"),
         help: "Refuse a list with more CAs than this, instead of more than 4,000",
     },
     Argument {
         id: "keep",
-        form: Form::LongValues("file"),
+        syntax: Syntax::LongValues("file"),
         help: "Refuse a list that revokes a key of this file",
     },
     Argument {
         id: "canary",
-        form: Form::LongValues("file"),
+        syntax: Syntax::LongValues("file"),
         help: "Refuse a list that does not revoke each key of this file",
     },
     Argument {
         id: "allow-empty",
-        form: Form::Long,
+        syntax: Syntax::Long,
         help: "Take a list that revokes nobody",
     },
     Argument {
         id: "json",
-        form: Form::Long,
+        syntax: Syntax::Long,
         help: "Print each condition as a JSON object, also those that hold",
     },
     Argument {
         id: "print-version",
-        form: Form::Long,
+        syntax: Syntax::Long,
         help: "Print the version of the list alone",
     },
 ];
@@ -129,17 +129,17 @@ const CHECK: [Argument; 10] = [
 const SHOW: [Argument; 3] = [
     Argument {
         id: "json",
-        form: Form::Long,
+        syntax: Syntax::Long,
         help: "Print one JSON object on a line for each entry",
     },
     Argument {
         id: "no-name",
-        form: Form::Long,
+        syntax: Syntax::Long,
         help: "Leave out the name of each list",
     },
     Argument {
         id: "lists",
-        form: Form::SomeWords("krl"),
+        syntax: Syntax::SomeWords("krl"),
         help: "The revocation lists; - is standard input",
     },
 ];
@@ -147,42 +147,42 @@ const SHOW: [Argument; 3] = [
 const MAKE: [Argument; 8] = [
     Argument {
         id: "list",
-        form: Form::Needed('f', "krl"),
+        syntax: Syntax::Needed('f', "krl"),
         help: "The revocation list that is made",
     },
     Argument {
         id: "version",
-        form: Form::LetterValue('z', "number"),
+        syntax: Syntax::LetterValue('z', "number"),
         help: "Its version; otherwise one above that of the list it replaces, or 1",
     },
     Argument {
         id: "comment",
-        form: Form::LongValue("text"),
+        syntax: Syntax::LongValue("text"),
         help: "Its comment",
     },
     Argument {
         id: "quiet",
-        form: Form::Letter('q'),
+        syntax: Syntax::Letter('q'),
         help: "Do not say what was made",
     },
     Argument {
         id: "update",
-        form: Form::Letter('u'),
+        syntax: Syntax::Letter('u'),
         help: "Keep what the list that is there names, and its comment",
     },
     Argument {
         id: "replace",
-        form: Form::Long,
+        syntax: Syntax::Long,
         help: "Do not read the list that is replaced",
     },
     Argument {
         id: "allow-empty",
-        form: Form::Long,
+        syntax: Syntax::Long,
         help: "Make a list that revokes nobody",
     },
     Argument {
         id: "files",
-        form: Form::Words("file"),
+        syntax: Syntax::Words("file"),
         help: "The texts that it is made of; - is standard input",
     },
 ];
@@ -190,17 +190,17 @@ const MAKE: [Argument; 8] = [
 const DIFF: [Argument; 3] = [
     Argument {
         id: "json",
-        form: Form::Long,
+        syntax: Syntax::Long,
         help: "Print one JSON object on a line for each entry",
     },
     Argument {
         id: "old",
-        form: Form::Word("old"),
+        syntax: Syntax::Word("old"),
         help: "The old revocation list; - is standard input",
     },
     Argument {
         id: "new",
-        form: Form::Word("new"),
+        syntax: Syntax::Word("new"),
         help: "The new revocation list; - is standard input",
     },
 ];

@@ -21,7 +21,7 @@ ok_same one other read first second = ap (value_or one) (sym first ∙ second)
 
 pub key_made : (reasons held : Subject → Reasons) (shown : Shown) (name : List ℕ) (number : ℕ) (found : KeyFound) (asked subject : Subject) (all : Reasons) (given : Outcome) (any : Bool) (kind : LineKind) (said : Bool) (line : List ℕ)
     → ((other : Subject) → held other ≡ reasons other) → all ≡ held subject → subject ≡ asked → given ≡ Key (found_as found asked)
-    → any ≡ any_reason all → kind ≡ key_kind found.marker any → said ≡ says shown kind → (said ≡ true → line ≡ key_said shown.form name number (found_as found subject) all)
+    → any ≡ any_reason all → kind ≡ key_kind found.marker any → said ≡ says shown kind → (said ≡ true → line ≡ key_said shown.format name number (found_as found subject) all)
     → IsMade reasons shown name number given kind said line
 key_made reasons held shown name number found asked subject all given any kind said line judges tested same given_is any_is kind_is said_is line_is =
     let all_is : all ≡ reasons asked = tested ∙ ap held same ∙ judges asked in
@@ -29,6 +29,6 @@ key_made reasons held shown name number found asked subject all given any kind s
       kind_is = kind_is ∙ ap (key_kind found.marker) (any_is ∙ ap any_reason all_is) ∙ sym (ap (kind_of reasons) given_is);
       said_is = said_is;
       text_is = λ told.
-          line_is told ∙ ap (λ (s : Subject). key_said shown.form name number (found_as found s) all) same ∙ ap (λ (r : Reasons). key_said shown.form name number (found_as found asked) r) all_is
-          ∙ sym (ap (outcome_line shown.form reasons name number) given_is);
+          line_is told ∙ ap (λ (s : Subject). key_said shown.format name number (found_as found s) all) same ∙ ap (λ (r : Reasons). key_said shown.format name number (found_as found asked) r) all_is
+          ∙ sym (ap (outcome_line shown.format reasons name number) given_is);
     }

@@ -21,10 +21,10 @@ use Rattle.krl_audit.specs.declared.tally.Tally.{Tally}
 -- ---- the item of a line
 
 item_by : (reasons : Subject → Reasons) (shown : Shown) (name : List ℕ) (number : ℕ) (outcome : Outcome) (kind : LineKind) (said : Bool) (text : List ℕ) → IsMade reasons shown name number outcome kind said text
-    → line_item reasons shown name number outcome ≡ said_if said name (outcome_line shown.form reasons name number outcome)
+    → line_item reasons shown name number outcome ≡ said_if said name (outcome_line shown.format reasons name number outcome)
 item_by reasons shown name number outcome kind said text made =
-    ap (λ (k : LineKind). said_if (says shown k) name (outcome_line shown.form reasons name number outcome)) (sym made.kind_is)
-    ∙ ap (λ (b : Bool). said_if b name (outcome_line shown.form reasons name number outcome)) (sym made.said_is)
+    ap (λ (k : LineKind). said_if (says shown k) name (outcome_line shown.format reasons name number outcome)) (sym made.kind_is)
+    ∙ ap (λ (b : Bool). said_if b name (outcome_line shown.format reasons name number outcome)) (sym made.said_is)
 
 -- the item of a line that was made
 item_is : (reasons : Subject → Reasons) (shown : Shown) (name : List ℕ) (number : ℕ) (outcome : Outcome) (kind : LineKind) (said : Bool) (text : List ℕ) → IsMade reasons shown name number outcome kind said text
@@ -37,7 +37,7 @@ named true name text = refl
 named false name text = refl
 
 line_named : (reasons : Subject → Reasons) (shown : Shown) (name : List ℕ) (number : ℕ) (outcome : Outcome) → name_of (line_item reasons shown name number outcome) ≡ name
-line_named reasons shown name number outcome = named (says shown (kind_of reasons outcome)) name (outcome_line shown.form reasons name number outcome)
+line_named reasons shown name number outcome = named (says shown (kind_of reasons outcome)) name (outcome_line shown.format reasons name number outcome)
 
 -- ---- one line that was judged
 

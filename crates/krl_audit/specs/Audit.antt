@@ -28,7 +28,7 @@ use Rattle.krl_audit.specs.declared.auditor.Auditor.{Auditor}
 use Rattle.krl_audit.specs.declared.counts.Counts.{Counts}
 use Rattle.audit_text.specs.declared.line_kind.LineKind.{LineKind}
 use Rattle.audit_text.specs.declared.line_kind.LineKind.TheVariants as kinds
-use Rattle.audit_text.specs.declared.form.Form.{Form}
+use Rattle.audit_text.specs.declared.format.Format.{Format}
 use Rattle.krl_audit.specs.declared.judge.Judge.{Judge}
 use Rattle.krl_audit.specs.declared.judge.Shown.{Shown}
 use Rattle.krl_audit.specs.declared.tally.Tally.{Tally}
@@ -63,7 +63,7 @@ says shown kinds.Revoked = shown.revoked
 says shown kinds.Unread = shown.unread
 
 -- the line that is printed for an outcome
-abbrev pub outcome_line : Form → (Subject → Reasons) → List ℕ → ℕ → Outcome → List ℕ
+abbrev pub outcome_line : Format → (Subject → Reasons) → List ℕ → ℕ → Outcome → List ℕ
 outcome_line form reasons name number Empty = []
 outcome_line form reasons name number (Key found) =
     key_said form name number found (reasons found.asked)
@@ -77,7 +77,7 @@ said_if false name text = Passed name
 abbrev pub line_item : (Subject → Reasons) → Shown → List ℕ → ℕ → Outcome → Item
 line_item reasons shown name number outcome =
     said_if (says shown (kind_of reasons outcome)) name
-    (outcome_line shown.form reasons name number outcome)
+    (outcome_line shown.format reasons name number outcome)
 
 -- ---- files
 
@@ -113,7 +113,7 @@ lines_items reasons shown name tally (line ∷ lines) =
 abbrev pub more_item : Shown → List ℕ → LineKind → ℕ → Item
 more_item shown name kind lines =
     said_if (says shown kind && nat_lt most lines) name
-    (more_said shown.form name kind (lines - most))
+    (more_said shown.format name kind (lines - most))
 
 -- the last items of a file
 abbrev pub rest_items : Shown → List ℕ → Tally → List Item
@@ -143,7 +143,7 @@ pub record IsMade (reasons : Subject → Reasons) (shown : Shown) (name : List �
     (outcome : Outcome) (kind : LineKind) (said : Bool) (text : List ℕ) : Type 0 where
   pub kind_is : kind ≡ kind_of reasons outcome
   pub said_is : said ≡ says shown kind
-  pub text_is : said ≡ true → text ≡ outcome_line shown.form reasons name number outcome
+  pub text_is : said ≡ true → text ≡ outcome_line shown.format reasons name number outcome
 
 -- the bytes of a file, or why there are none
 abbrev pub content_of : Result (Bor (List ℕ)) Refusal → Result (List ℕ) Refusal

@@ -33,5 +33,5 @@ within tally shown = record {
   revoked = shown.revoked && is_few tally.revoked;
   unread = shown.unread && is_few tally.unread;
   fine = shown.fine && is_few tally.fine;
-  form = shown.form;
+  format = shown.format;
 }

@@ -317,7 +317,7 @@ impl<'q, 'w, W: Sink> Auditor<'q, 'w, W> {
             kind,
             lines: lines.saturating_sub(MOST),
         };
-        if said && write_more(shown.form, name, more, &mut self.run.line).is_err() {
+        if said && write_more(shown.format, name, more, &mut self.run.line).is_err() {
             return Err(RunFault::whole(name, Cause::NoMemory));
         }
         say_made(&mut self.run, name, said)

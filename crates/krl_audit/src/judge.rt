@@ -8,7 +8,7 @@ ghost use Rattle.audit_lines.specs.Outcome.{GivesOutcome, Outcome as OutcomeOf, 
 ghost use Rattle.audit_lines.specs.declared.outcome.Outcome.TheVariants.{Key};
 
 use audit_lines::{Found, Outcome, Why};
-use audit_text::{Form, LineKind, Location, Verdict, say_key, say_unread};
+use audit_text::{Format, LineKind, Location, Verdict, say_key, say_unread};
 use key_text::Marker;
 use krl_entries::{Reason, Reasons, Revocations};
 use krl_types::Subject;
@@ -26,8 +26,8 @@ pub struct Shown {
     pub unread: bool,
     /// Print keys that are not revoked.
     pub fine: bool,
-    /// The form in which they are printed.
-    pub form: Form,
+    /// The format in which they are printed.
+    pub format: Format,
 }
 
 /// The list for the queries, and which findings are printed.
@@ -43,7 +43,7 @@ pub struct Judge<'q> {
 
 /// The kind of a line, and whether it is printed: then its text was made.
 #[derive(Clone, Copy)]
-pub(crate) struct Made {
+pub(crate) struct JudgedLine {
     pub(crate) kind: LineKind,
     pub(crate) said: bool,
 }
@@ -56,14 +56,14 @@ impl<'q> Judge<'q> {
         location: Location<'_>,
         outcome: &Outcome<'_>,
         line: &mut Vec<u8>,
-    ) -> Result<Made, AllocError>
+    ) -> Result<JudgedLine, AllocError>
         ensures { (reasons : SubjectOf → ReasonsOf) → JudgesAs self.now reasons
             → (given : OutcomeOf) → GivesOutcome outcome.now given
             → IfOk result (λ made. IsMade reasons self.now.shown location.entry.name.now
             location.entry.number given made.kind made.said line.new.items) }
     {
         match outcome {
-            Outcome::Empty => Ok(Made {
+            Outcome::Empty => Ok(JudgedLine {
                 kind: LineKind::Empty,
                 said: false,
             }),
@@ -79,16 +79,16 @@ impl<'q> Judge<'q> {
         location: Location<'_>,
         why: Why,
         line: &mut Vec<u8>,
-    ) -> Result<Made, AllocError>
+    ) -> Result<JudgedLine, AllocError>
         ensures { (reasons : SubjectOf → ReasonsOf) → IfOk result (λ made. IsMade reasons
             self.now.shown location.entry.name.now location.entry.number (Unread why) made.kind
             made.said line.new.items) }
     {
         let said = self.shown.unread;
         if said {
-            say_unread(alloc, self.shown.form, location, why, line)?;
+            say_unread(alloc, self.shown.format, location, why, line)?;
         }
-        Ok(Made {
+        Ok(JudgedLine {
             kind: LineKind::Unread,
             said,
         })
@@ -101,7 +101,7 @@ impl<'q> Judge<'q> {
         location: Location<'_>,
         found: &Found<'_>,
         line: &mut Vec<u8>,
-    ) -> Result<Made, AllocError>
+    ) -> Result<JudgedLine, AllocError>
         ensures { (reasons : SubjectOf → ReasonsOf) → JudgesAs self.now reasons
             → (given : OutcomeOf) → GivesOutcome (Key found.now) given
             → IfOk result (λ made. IsMade reasons self.now.shown location.entry.name.now
@@ -126,9 +126,9 @@ impl<'q> Judge<'q> {
                 subject: &subject,
                 reasons,
             };
-            say_key(alloc, self.shown.form, location, &verdict, line)?;
+            say_key(alloc, self.shown.format, location, &verdict, line)?;
         }
-        Ok(Made { kind, said })
+        Ok(JudgedLine { kind, said })
     }
 
     // Why the list revokes a key, unless it is a canary.

@@ -15,13 +15,13 @@ impl<'q, 'w, W: Sink> Auditor<'q, 'w, W> {
     /// is no finding: nothing is counted, and the status stays unchanged.
     pub fn say_same<'a>(&mut self, name: &'a str) -> Result<(), RunFault<'a>>
         ensures said { Carries (said_if self.old.judge.shown.revoked name.now
-            (same_said self.old.judge.shown.form name.now) ∷ []) result self.old.run.printer
+            (same_said self.old.judge.shown.format name.now) ∷ []) result self.old.run.printer
             self.new.run.printer }
         ensures judge { self.new.judge ≡ self.old.judge }
         ensures counts { self.new.counts ≡ self.old.counts }
     {
         let shown = self.judge.shown;
-        if write_same(shown.form, name, &mut self.run.line).is_err() {
+        if write_same(shown.format, name, &mut self.run.line).is_err() {
             return Err(RunFault::whole(name, Cause::NoMemory));
         }
         say_made(&mut self.run, name, shown.revoked)

@@ -45,7 +45,7 @@ impl Tally {
             revoked: shown.revoked && is_few(self.revoked),
             unread: shown.unread && is_few(self.unread),
             fine: shown.fine && is_few(self.fine),
-            form: shown.form,
+            format: shown.format,
         }
     }
 }

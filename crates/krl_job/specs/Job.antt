@@ -14,7 +14,7 @@ use Rattle.krl_job.specs.declared.job.AuthorityOption.TheVariants.{NotGiven, All
 use Rattle.krl_job.specs.declared.job.Job.{Job}
 use Rattle.krl_job.specs.declared.job.Mode.{Mode}
 use Rattle.krl_job.specs.declared.job.Mode.TheVariants.{Keys, Certs, Make, Query}
-use Rattle.krl_job.specs.Given.{Given}
+use Rattle.krl_job.specs.CommandLine.{CommandLine}
 
 -- ---- a job
 
@@ -90,11 +90,11 @@ mode_by list false false true = Some Query
 mode_by list certificates make query = None
 
 -- an option that belongs to -k alone
-abbrev pub is_for_making : Given → Bool
+abbrev pub is_for_making : CommandLine → Bool
 is_for_making given = given.update || (is_some given.authority || is_some given.version)
 
 -- The options go with the mode. A file between two uses of -s belongs to neither authority.
-abbrev pub fits : Mode → Given → Bool
+abbrev pub fits : Mode → CommandLine → Bool
 fits Keys given = not (is_for_making given) && length given.files == 0
 fits Certs given = not (is_for_making given) && length given.files == 0
 fits Make given = not (is_some given.hash) && not given.is_divided
@@ -104,15 +104,15 @@ abbrev pub is_query : Mode → Bool
 is_query Query = true
 is_query mode = false
 
-abbrev pub where_fit : Given → Mode → Option Mode
+abbrev pub where_fit : CommandLine → Mode → Option Mode
 where_fit given mode = if fits mode given then Some mode else None
 
 -- the mode, if the options go together
-abbrev pub mode_of : Given → Option Mode
+abbrev pub mode_of : CommandLine → Option Mode
 mode_of given = option_and_then (where_fit given)
     (mode_by given.list given.certificates given.make given.query)
 
-abbrev pub job_with : Given → Option Mode → Option (List ℕ) → Option Hash → Option (Option ℕ)
+abbrev pub job_with : CommandLine → Option Mode → Option (List ℕ) → Option Hash → Option (Option ℕ)
     → Option Asked
 job_with given (Some mode) (Some file) (Some hash) (Some version) = Some (record {
   mode = mode;
@@ -128,6 +128,6 @@ job_with given mode file hash version = None
 
 -- The job of a command line: none if the options do not go together, -f is missing, a file is named
 -- between two uses of -s, or the value of -E or -z is not valid.
-unfoldable pub job_of : Given → Option Asked
+unfoldable pub job_of : CommandLine → Option Asked
 job_of given =
     job_with given (mode_of given) given.file (hash_named given.hash) (version_named given.version)

@@ -3,12 +3,12 @@
 ghost use Rattle.std.specs.Prelude.{◌≡◌, option_map};
 ghost use Rattle.std.specs.Char.{is_ascii_digit};
 ghost use Rattle.std.specs.List.{list_all};
-ghost use Rattle.krl_job.specs.Given.{given_by};
+ghost use Rattle.krl_job.specs.CommandLine.{given_by};
 ghost use Rattle.krl_job.specs.Job.{asked_of, authority_named, authority_of, fits, hash_called};
 ghost use Rattle.krl_job.specs.Job.{hash_named, is_for_making, job_of, mode_of, number_of};
 ghost use Rattle.krl_job.specs.Job.{version_named};
 
-use crate::given::Given;
+use crate::command_line::CommandLine;
 use key_text::Hash;
 
 // The maximum number of digits of a number.
@@ -63,7 +63,7 @@ pub struct Job<'a> {
 /// The job of a command line: none if the options do not go together, `-f` is missing, a file is
 /// named between two uses of `-s`, or the value of `-E` or `-z` is not valid.
 #[tactic(auto, unfolding(crate::specs::Job::job_of))]
-pub fn job_of<'a>(given: Given<'a>) -> Option<Job<'a>>
+pub fn job_of<'a>(given: CommandLine<'a>) -> Option<Job<'a>>
     ensures { option_map asked_of result ≡ job_of (given_by given.entry) }
 {
     let mode = mode_of(&given)?;
@@ -83,7 +83,7 @@ pub fn job_of<'a>(given: Given<'a>) -> Option<Job<'a>>
 }
 
 // The mode, if the options go together.
-fn mode_of(given: &Given) -> Option<Mode>
+fn mode_of(given: &CommandLine) -> Option<Mode>
     ensures { result ≡ mode_of (given_by given.now) }
 {
     let mode = match (given.list, given.certificates, given.make, given.query) {
@@ -97,7 +97,7 @@ fn mode_of(given: &Given) -> Option<Mode>
 }
 
 // Whether the other options go with the mode.
-fn fits(mode: Mode, given: &Given) -> bool
+fn fits(mode: Mode, given: &CommandLine) -> bool
     ensures { result ≡ fits mode (given_by given.now) }
 {
     match mode {
@@ -108,7 +108,7 @@ fn fits(mode: Mode, given: &Given) -> bool
 }
 
 // Whether there is an option that is only for making lists.
-fn is_for_making(given: &Given) -> bool
+fn is_for_making(given: &CommandLine) -> bool
     ensures { result ≡ is_for_making (given_by given.now) }
 {
     given.update || given.authority.is_some() || given.version.is_some()

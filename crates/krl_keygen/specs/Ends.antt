@@ -12,7 +12,7 @@ use Rattle.krl_make.specs.declared.run.Wanted.{Wanted}
 use Rattle.krl_runs.specs.Query.{IsRun}
 use Rattle.krl_system.specs.Files.{authority_name, name_of, now_of}
 use Rattle.krl_words.specs.Command.{IsCommand}
-use Rattle.list_making.specs.Place.{Old}
+use Rattle.list_making.specs.Target.{Old}
 use Rattle.option_table.specs.Fault.{command_fault_status}
 use Rattle.option_table.specs.declared.fault.CommandFault.{CommandFault}
 use Rattle.run_faults.specs.Keys.{Named}

@@ -11,7 +11,7 @@ use krl_make::Wanted;
 use krl_runs::query_run;
 use krl_system::{date, moment, open_authority, open_files, open_list, open_or_input};
 use krl_words::command_of;
-use list_file::ListPlace;
+use list_file::ListTarget;
 use list_making::make_at;
 use option_table::CommandFault;
 use program_edge::{Lines, Program, end, refuse, run, stop};
@@ -109,7 +109,7 @@ fn ask_list(rt: &HostRuntime, job: &Job) -> u8
 fn make_list(rt: &HostRuntime, job: &Job) -> u8
     ensures { (result ≡ 255) ⊎ ((result ≡ 0) × IsMade job.now) }
 {
-    let mut place = ListPlace::new(rt, NAME, job.file);
+    let mut place = ListTarget::new(rt, NAME, job.file);
     if job.update
         && let Err(cause) = place.open_old()
     {

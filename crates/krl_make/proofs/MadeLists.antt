@@ -24,7 +24,7 @@ use Rattle.krl_core.specs.Reading.{IsList}
 use Rattle.krl_format.specs.declared.header.Header.{Header}
 use Rattle.krl_types.specs.declared.krl_fault.KrlFault.{KrlFault}
 use Rattle.krl_make.specs.declared.base.Base.{Base}
-use Rattle.krl_make.specs.Making.{Added, HasNumbers, IsCurrentName, IsCurrentFile, authority_file, lines, new_list, old_list, IsOldList, HoldsMore, IsRunFault, Made, Makes, NamesSame, Returns, WritesList, WritesMade, WritesMore, after_old, base_of, cause_run_fault, file_entries, file_key, file_run_fault, files_entries, first_blob, first_key_of, header_of, made_of, make_run_of, named_blob, key_blob, text_entries, then_entries, paid}
+use Rattle.krl_make.specs.Making.{Added, HasNumbers, IsCurrentName, IsCurrentFile, authority_file, lines, new_list, old_list, IsOldList, HoldsMore, IsRunFault, Parts, Makes, NamesSame, Returns, WritesList, WritesMade, WritesMore, after_old, base_of, cause_run_fault, file_entries, file_key, file_run_fault, files_entries, first_blob, first_key_of, header_of, parts_of, make_run_of, named_blob, key_blob, text_entries, then_entries, paid}
 use Rattle.list_making.specs.Version.{version_of}
 use Rattle.run_faults.specs.RunFault.{krl_cause}
 use Rattle.run_faults.specs.declared.cause.Cause.TheVariants as causes
@@ -228,7 +228,7 @@ names_same header contents text written within numbers entries means =
       same = λ asked. Iff.trans (Iff.symm (revokes_meant contents (entries_of w.sections) w.means asked)) (revokes_meant contents entries means asked);
     }
 
-pub made_written : {X : Type 0} (view : X → List ℕ) (name : List ℕ) (made : Made) (contents : Revocations) (result : Result X RunFault)
+pub made_written : {X : Type 0} (view : X → List ℕ) (name : List ℕ) (made : Parts) (contents : Revocations) (result : Result X RunFault)
     → HoldsMore made.old contents made.entries → WritesList view name made.header contents result → WritesMade view name made result
 made_written view name made contents (Ok text) adds (written, within, names) =
     record {
@@ -245,7 +245,7 @@ made_written view name made contents (Err stop) adds (inr (reported, long)) =
 -- ---- the run
 
 -- the current file or list of the run, given what was read
-abbrev IsCurrent : List ℕ → Base → AuthorityOption Named → Option ℕ → List Named → Result Made RunFault → List ℕ → Type 0
+abbrev IsCurrent : List ℕ → Base → AuthorityOption Named → Option ℕ → List Named → Result Parts RunFault → List ℕ → Type 0
 IsCurrent name base authority given files read = IsCurrentName name (Ok base) authority given files read
 
 -- The fault of the old list stops the run.
@@ -284,7 +284,7 @@ files_stop name given authority moment base files version signer stop is signed 
     stops
 
 -- If reading succeeds, the list is made, or its text stops the run.
-made_read : {X : Type 0} (view : X → List ℕ) (name : List ℕ) (given : Option ℕ) (authority : AuthorityOption Named) (base : Base) (files : List Named) (read : Result Made RunFault) (made : Made) (result : Result X RunFault)
+made_read : {X : Type 0} (view : X → List ℕ) (name : List ℕ) (given : Option ℕ) (authority : AuthorityOption Named) (base : Base) (files : List Named) (read : Result Parts RunFault) (made : Parts) (result : Result X RunFault)
     → read ≡ Ok made → WritesMade view name made result → Makes view name (Ok base) authority given files read result
 made_read view name given authority base files read made (Ok text) whole is = (made, (whole, is))
 made_read view name given authority base files read made (Err stop) whole (inl ran_out) =
@@ -299,24 +299,24 @@ pub list_written : {X : Type 0} (view : X → List ℕ) (name : List ℕ) (given
     → Makes view name (Ok base) authority given files (after_old name authority given moment files base) result
 list_written view name given authority moment base files version signer result is signed (inl (entries, (read, written))) =
     let whole = after_old name authority given moment files base in
-    made_read view name given authority base files whole (made_of (header_of version moment base) base.revocations entries) result (rw (is, signed, read) refl) written
+    made_read view name given authority base files whole (parts_of (header_of version moment base) base.revocations entries) result (rw (is, signed, read) refl) written
 list_written view name given authority moment base files version signer result is signed (inr (stop, (stopped, stops))) =
     rw stopped (inl (files_stop name given authority moment base files version signer stop is signed stops))
 
 -- ---- the revocations in it
 
 -- the old revocations of the new list are those of the old list
-pub old_of : (version : Result ℕ RunFault) (signer : Result (Option (List ℕ)) RunFault) (entries : Option (List ℕ) → Result (List Entry) RunFault) (header : ℕ → Header) (old : Revocations) (made : Made)
-    → (version >>= (λ v. signer >>= (λ s. entries s >>= (λ e. Ok (made_of (header v) old e))))) ≡ Ok made → made.old ≡ old
+pub old_of : (version : Result ℕ RunFault) (signer : Result (Option (List ℕ)) RunFault) (entries : Option (List ℕ) → Result (List Entry) RunFault) (header : ℕ → Header) (old : Revocations) (made : Parts)
+    → (version >>= (λ v. signer >>= (λ s. entries s >>= (λ e. Ok (parts_of (header v) old e))))) ≡ Ok made → made.old ≡ old
 old_of (Err fault) signer entries header old made is = absurd (cc)
 old_of (Ok v) (Err fault) entries header old made is = absurd (cc)
 old_of (Ok v) (Ok s) entries header old made is = by (entries s) is
   where
-    by : (read : Result (List Entry) RunFault) → (read >>= (λ e. Ok (made_of (header v) old e))) ≡ Ok made → made.old ≡ old
+    by : (read : Result (List Entry) RunFault) → (read >>= (λ e. Ok (parts_of (header v) old e))) ≡ Ok made → made.old ≡ old
     by (Err fault) same = absurd (cc)
     by (Ok e) same = cc
 
-pub held_paid : (name text : List ℕ) (base : Base) (authority : AuthorityOption Named) (version : Option ℕ) (files : List Named) (moment : ℕ) (made : Made) (contents : Revocations)
+pub held_paid : (name text : List ℕ) (base : Base) (authority : AuthorityOption Named) (version : Option ℕ) (files : List Named) (moment : ℕ) (made : Parts) (contents : Revocations)
     → IsOldList text base → make_run_of name (Ok base) authority version files moment ≡ Ok made → HoldsMore made.old contents made.entries
     → held contents ≤ paid (length text) (length made.entries)
 unfolding make_run_of

@@ -14,7 +14,7 @@ use Rattle.krl_make.specs.Over.{IsReadOver, IsUnread, Refuses, RunsOver}
 use Rattle.krl_make.specs.declared.base.Base.{Base}
 use Rattle.krl_make.specs.declared.run.Wanted.{Wanted}
 use Rattle.krl_make.proofs.MadeLists.{base_refused, old_of, old_read}
-use Rattle.list_making.specs.Place.{Old}
+use Rattle.list_making.specs.Target.{Old}
 use Rattle.list_making.specs.Version.{version_of}
 use Rattle.run_faults.specs.RunFault.{run_fault_of}
 use Rattle.run_faults.specs.declared.cause.Cause.TheVariants as causes

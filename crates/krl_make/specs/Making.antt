@@ -125,13 +125,13 @@ abbrev pub paid : (bytes lines : ℕ) → ℕ
 paid bytes lines = 4 * bytes + lines
 
 -- the parts of a list: its header, the revocations of the old list, and the entries of the lines
-pub record Made : Type 0 where
+pub record Parts : Type 0 where
   pub header : Header
   pub old : Revocations
   pub entries : List Entry
 
-abbrev pub made_of : Header → Revocations → List Entry → Made
-made_of header old entries = record { header = header; old = old; entries = entries }
+abbrev pub parts_of : Header → Revocations → List Entry → Parts
+parts_of header old entries = record { header = header; old = old; entries = entries }
 
 -- the header of the list that is made
 abbrev pub header_of : ℕ → ℕ → Base → Header
@@ -145,16 +145,16 @@ HasNumbers header = (header.version < 2 ^ 64) × (header.date < 2 ^ 64)
 -- The parts of a list with this name, given the old list. The run is stopped by the first of these
 -- faults: the largest version, that of the authority's file, those of the files and lines in order.
 abbrev pub after_old : List ℕ → AuthorityOption Named → Option ℕ → ℕ → List Named → Base
-    → Result Made RunFault
+    → Result Parts RunFault
 after_old name authority given moment files base = do
   version ← ok_or (version_of 0 given base.version) (run_fault_of name causes.VersionFull)
   signer ← named_blob authority
   entries ← files_entries signer files
-  Ok (made_of (header_of version moment base) base.revocations entries)
+  Ok (parts_of (header_of version moment base) base.revocations entries)
 
 -- The same, given the result of reading the old list, whose fault is the first.
 unfoldable pub make_run_of : List ℕ → Result Base KrlFault → AuthorityOption Named → Option ℕ
-    → List Named → ℕ → Result Made RunFault
+    → List Named → ℕ → Result Parts RunFault
 make_run_of name outcome authority version files moment = do
   base ← in_fault (list_run_fault name) outcome
   after_old name authority version moment files base
@@ -182,7 +182,7 @@ pub record IsCurrentFile (authority : Option (List ℕ)) (files : List Named) (a
 -- authority's file, then the files in order, and the list again while it is written.
 pub data IsCurrentName (name : List ℕ) (outcome : Result Base KrlFault)
     (authority : AuthorityOption Named) (given : Option ℕ) (files : List Named)
-    (read : Result Made RunFault) (at : List ℕ)
+    (read : Result Parts RunFault) (at : List ℕ)
     : Type 0 where
   old_list : outcome ≡ Err faults.NoMemory → name ≡ at
       → IsCurrentName name outcome authority given files read at
@@ -192,7 +192,7 @@ pub data IsCurrentName (name : List ℕ) (outcome : Result Base KrlFault)
   lines : (base : Base) (version : ℕ) (signer : Option (List ℕ)) → outcome ≡ Ok base
       → version_of 0 given base.version ≡ Some version → named_blob authority ≡ Ok signer
       → IsCurrentFile signer files at → IsCurrentName name outcome authority given files read at
-  new_list : (made : Made) → read ≡ Ok made → name ≡ at
+  new_list : (made : Parts) → read ≡ Ok made → name ≡ at
       → IsCurrentName name outcome authority given files read at
 
 -- The fault that stopped a run is the one that reading gives, or an allocation failed, and the
@@ -230,7 +230,7 @@ pub record NamesSame (header : Header) (text : List ℕ) (entries : List Entry) 
 
 -- The text is the list that is written from the old revocations and the lines. It revokes exactly
 -- what any entries with the meaning of the old list and those of the lines revoke.
-pub record IsMade (made : Made) (text : List ℕ) : Type 0 where
+pub record IsMade (made : Parts) (text : List ℕ) : Type 0 where
   pub contents : Revocations
   pub adds : HoldsMore made.old contents made.entries
   pub written : IsKrlText made.header contents text
@@ -239,25 +239,25 @@ pub record IsMade (made : Made) (text : List ℕ) : Type 0 where
       → NamesSame made.header text (olds ++ made.entries)
 
 -- The list that would be written is longer than a list that can be read.
-pub record IsTooLong (made : Made) : Type 0 where
+pub record IsTooLong (made : Parts) : Type 0 where
   pub contents : Revocations
   pub adds : HoldsMore made.old contents made.entries
   pub long : (text : List ℕ) → IsKrlText made.header contents text → limit < length text
 
 -- the text of a list was too long
-pub record StopsAtText (name : List ℕ) (read : Result Made RunFault) (stop : RunFault)
+pub record StopsAtText (name : List ℕ) (read : Result Parts RunFault) (stop : RunFault)
     : Type 0 where
-  pub made : Made
+  pub made : Parts
   pub read_as : read ≡ Ok made
   pub long : IsTooLong made
   pub stop_is : stop ≡ run_fault_of name causes.TextTooLong
 
 -- The run returns the list, or the fault that stopped it.
 abbrev pub Makes : {X : Type 0} → (X → List ℕ) → List ℕ → Result Base KrlFault
-    → AuthorityOption Named → Option ℕ → List Named → Result Made RunFault → Result X RunFault
+    → AuthorityOption Named → Option ℕ → List Named → Result Parts RunFault → Result X RunFault
     → Type 0
 Makes view name outcome authority given files read (Ok text) =
-    (made : Made) × ((read ≡ Ok made) × IsMade made (view text))
+    (made : Parts) × ((read ≡ Ok made) × IsMade made (view text))
 Makes view name outcome authority given files read (Err stop) =
     IsRunFault (ended_by stop.cause)
     (IsCurrentName name outcome authority given files read) read stop
@@ -277,7 +277,7 @@ WritesList view name header contents (Err stop) =
     × ((text : List ℕ) → IsKrlText header contents text → limit < length text))
 
 -- The list is made. Otherwise its text is too long, or an allocation failed.
-abbrev pub WritesMade : {X : Type 0} → (X → List ℕ) → List ℕ → Made → Result X RunFault → Type 0
+abbrev pub WritesMade : {X : Type 0} → (X → List ℕ) → List ℕ → Parts → Result X RunFault → Type 0
 WritesMade view name made (Ok text) = IsMade made (view text)
 WritesMade view name made (Err stop) =
     (stop ≡ run_fault_of name causes.NoMemory)
@@ -288,7 +288,7 @@ abbrev pub WritesMore : {X : Type 0} → (X → List ℕ) → List ℕ → Heade
     → (List ℕ → Type 0) → Result (List Entry) RunFault → Result X RunFault → Type 0
 WritesMore view name header old IsCurrent read result =
     ((entries : List Entry) × ((read ≡ Ok entries)
-    × WritesMade view name (made_of header old entries) result))
+    × WritesMade view name (parts_of header old entries) result))
     ⊎ ((stop : RunFault)
     × ((result ≡ Err stop) × IsRunFault (ended_by stop.cause) IsCurrent read stop))
 

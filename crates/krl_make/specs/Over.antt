@@ -7,7 +7,7 @@ use Rattle.krl_types.specs.declared.krl_fault.KrlFault.{KrlFault}
 use Rattle.krl_make.specs.Making.{IsOldList, Makes, make_run_of, new_base}
 use Rattle.krl_make.specs.declared.base.Base.{Base}
 use Rattle.krl_make.specs.declared.run.Wanted.{Wanted}
-use Rattle.list_making.specs.Place.{Old}
+use Rattle.list_making.specs.Target.{Old}
 use Rattle.run_faults.specs.RunFault.{RunFault, krl_cause, run_fault_of}
 use Rattle.run_faults.specs.declared.cause.Cause.TheVariants.{File}
 use Rattle.run_faults.specs.declared.file_fault.FileFault.TheVariants.{Open}

@@ -11,7 +11,7 @@ ghost use Rattle.krl_make.specs.FirstKey.{IsFirstKey, IsFirstKeyFault};
 ghost use Rattle.krl_format.specs.Entries.{entries_of};
 ghost use Rattle.krl_format.specs.Krl.{SpelledSection, Spells};
 ghost use Rattle.krl_format.specs.declared.header.Header.{Header};
-ghost use Rattle.krl_make.specs.Making.{HoldsMore, IsOldList, Made, NamesSame, first_key_of};
+ghost use Rattle.krl_make.specs.Making.{HoldsMore, IsOldList, NamesSame, Parts, first_key_of};
 ghost use Rattle.krl_make.specs.Making.{make_run_of, paid};
 ghost use Rattle.krl_make.specs.Over.{RunsOver};
 ghost use Rattle.krl_make.specs.declared.run.Wanted.{Wanted};
@@ -41,7 +41,7 @@ pub fn first_key_where_spelled()
 /// old list, and one for each line that gave an entry.
 pub fn held_is_paid()
     ensures { (name text : List ℕ) (base : Base) (authority : AuthorityOption Named)
-        (version : Option ℕ) (files : List Named) (moment : ℕ) (made : Made)
+        (version : Option ℕ) (files : List Named) (moment : ℕ) (made : Parts)
         (contents : Revocations) → IsOldList text base
         → make_run_of name (Ok base) authority version files moment ≡ Ok made
         → HoldsMore made.old contents made.entries

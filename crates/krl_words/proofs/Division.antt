@@ -11,7 +11,7 @@ use Rattle.clap.specs.Simple.{Shape}
 use Rattle.clap.specs.Walk.{Held, Row, Rule, Text, Waiting, Walk, arg_by_index, arg_by_long, first_of, has_row, idle, nothing_held, walk, walk_from, walked}
 use Rattle.option_table.specs.Value.{values_in}
 use Rattle.krl_words.specs.Order.{word_met}
-use Rattle.krl_words.specs.declared.order.Place.{Place}
+use Rattle.krl_words.specs.declared.order.Context.{Context}
 use Rattle.krl_words.proofs.HeldRows.{holds}
 use Rattle.krl_words.proofs.Bundles.{LetterIs, or_else_parts, settle_waits}
 use Rattle.krl_words.proofs.Words.{IsFiles, Reads, Waits, place_at, step, walk_at}
@@ -32,7 +32,7 @@ values_none id rows is = ap (λ (o : Option Row). unwrap_or (option_map (λ r. r
 
 -- ---- words one after the other
 
-both_reads : (c : List Rule) (place : Place) (walk_then : Walk) (a f d : Bool) (h : Held) (at next : Place) (w later : Walk) (one : Reads c place walk_then a f d h)
+both_reads : (c : List Rule) (place : Context) (walk_then : Walk) (a f d : Bool) (h : Held) (at next : Context) (w later : Walk) (one : Reads c place walk_then a f d h)
     → at ≡ next → w ≡ later → Reads c at w one.has_authority one.has_file one.is_divided one.held → Reads c next later a f d h
 both_reads c place walk_then a f d h at next w later one at_is w_is two = record {
   is_value = two.is_value;
@@ -76,7 +76,7 @@ module _ (s : Shape) (letters : (x : ℕ) → LetterIs s.rules x)
       let one = step s letters longs files files_first files_are v a f d h waiting word texts.0 ended.0 skips waits_is parts.0 in
       let later = read_all words one.is_value one.has_authority one.has_file one.is_divided one.held one.waiting texts.1 ended.1 one.skip one.waits (subst (λ (w : Walk). walk_fault s [] w words ≡ []) one.walk_is parts.1) in
       both_reads s.rules (word_met (place_at v a f d) word) (walked s.rules [] (walk_at h waiting) word) a f d h _ _ _ _ one
-      (ap (λ (p : Place). fold word_met p words) (sym one.place_is)) (ap (λ (w : Walk). fold (walked s.rules []) w words) (sym one.walk_is)) later
+      (ap (λ (p : Context). fold word_met p words) (sym one.place_is)) (ap (λ (w : Walk). fold (walked s.rules []) w words) (sym one.walk_is)) later
 
   -- the parts of a fault that is none
   level_parts : (words : List Text) (again : Bool) (below : Kinds) → level_fault s [] nothing_held words again below ≡ []

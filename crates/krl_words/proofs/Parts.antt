@@ -9,7 +9,7 @@ use Rattle.option_table.specs.Value.{values_in}
 use Rattle.krl_words.specs.Options.{program}
 use Rattle.krl_words.specs.Order.{authority_met, file_met, is_divided, letters_met, other_met, word_met}
 use Rattle.krl_words.specs.Parts.{AreTaken, NameAuthority, NameFile}
-use Rattle.krl_words.specs.declared.order.Place.{Place}
+use Rattle.krl_words.specs.declared.order.Context.{Context}
 use Rattle.krl_words.proofs.HeldRows.{holds}
 use Rattle.krl_words.proofs.Division.{Part, first_none, part_of, values_none}
 use Rattle.krl_words.proofs.Program.{files, files_are, files_first, letters, longs, no_authority, no_files, top}
@@ -17,7 +17,7 @@ use Rattle.krl_words.proofs.Words.{place_at}
 
 -- ---- what is found stays found
 
-other_keeps : (p : Place) (word : List ℕ) → p.is_divided ≡ true → (other_met p word).is_divided ≡ true
+other_keeps : (p : Context) (word : List ℕ) → p.is_divided ≡ true → (other_met p word).is_divided ≡ true
 other_keeps p [] is = is
 other_keeps p (first ∷ []) is = is
 other_keeps p (first ∷ second ∷ rest) is = by (first == 45 && second == 45) (first == 45)
@@ -27,7 +27,7 @@ other_keeps p (first ∷ second ∷ rest) is = by (first == 45 && second == 45) 
     by false true = or_left p.is_divided _ is
     by false false = is
 
-word_keeps : (p : Place) (word : List ℕ) → p.is_divided ≡ true → (word_met p word).is_divided ≡ true
+word_keeps : (p : Context) (word : List ℕ) → p.is_divided ≡ true → (word_met p word).is_divided ≡ true
 word_keeps p word is = by p.is_value p.is_file
   where
     by : (value ended : Bool) → (cond value (record p { is_value = false }) (cond ended (file_met p) (other_met p word))).is_divided ≡ true
@@ -35,7 +35,7 @@ word_keeps p word is = by p.is_value p.is_file
     by false true = is
     by false false = other_keeps p word is
 
-words_keep : (words : List (List ℕ)) (p : Place) → p.is_divided ≡ true → (fold word_met p words).is_divided ≡ true
+words_keep : (words : List (List ℕ)) (p : Context) → p.is_divided ≡ true → (fold word_met p words).is_divided ≡ true
 words_keep [] p is = is
 words_keep (word ∷ words) p is = words_keep words (word_met p word) (word_keeps p word is)
 
@@ -66,12 +66,12 @@ divided name front between back rest ahead beside behind =
     let also : two.has_file ≡ true = not_false two.has_file (λ none. beside.some (file_missing name between two.held two.held_is (mid.1 none))) in
     let three = taken_part name back two.has_authority two.has_file two.is_divided behind.taken in
     let found : three.is_divided ≡ true = not_false three.is_divided (λ none. behind.some (authority_missing name back three.held three.held_is (three.back mid.0 also none))) in
-    let first : Place = place_at false false false false in
+    let first : Context = place_at false false false false in
     let whole : fold word_met first (front ++ (between ++ (back ++ rest))) ≡ fold word_met (place_at false three.has_authority three.has_file three.is_divided) rest =
     fold-append word_met first front (between ++ (back ++ rest))
-    ∙ ap (λ (p : Place). fold word_met p (between ++ (back ++ rest))) one.place_is
+    ∙ ap (λ (p : Context). fold word_met p (between ++ (back ++ rest))) one.place_is
     ∙ fold-append word_met (place_at false one.has_authority one.has_file one.is_divided) between (back ++ rest)
-    ∙ ap (λ (p : Place). fold word_met p (back ++ rest)) two.place_is
+    ∙ ap (λ (p : Context). fold word_met p (back ++ rest)) two.place_is
     ∙ fold-append word_met (place_at false two.has_authority two.has_file two.is_divided) back rest
-    ∙ ap (λ (p : Place). fold word_met p rest) three.place_is in
-    ap (λ (p : Place). p.is_divided) whole ∙ words_keep rest (place_at false three.has_authority three.has_file three.is_divided) found
+    ∙ ap (λ (p : Context). fold word_met p rest) three.place_is in
+    ap (λ (p : Context). p.is_divided) whole ∙ words_keep rest (place_at false three.has_authority three.has_file three.is_divided) found

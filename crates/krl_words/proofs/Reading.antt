@@ -15,7 +15,7 @@ use Rattle.option_table.specs.declared.fault.CommandFault.TheVariants.{Usage, Wo
 use Rattle.krl_job.specs.declared.job.Job.{Job}
 use Rattle.krl_words.specs.Command.{AsksFor, IsCommand}
 use Rattle.krl_job.specs.Job.{job_of}
-use Rattle.krl_job.specs.Given.{Given}
+use Rattle.krl_job.specs.CommandLine.{CommandLine}
 use Rattle.krl_words.specs.Options.{given_in, given_of, program}
 use Rattle.krl_words.specs.Order.{is_divided}
 
@@ -40,7 +40,7 @@ pub fails_by : (app : App) (words : List (List ℕ)) (e : Error) → app ≡ pro
 fails_by app words e same kinds = (rw same at kinds) program_is_free
 
 -- the job of words that can be parsed
-pub asked_for : (words : List (List ℕ)) (given : Given) (result : Result Job CommandFault) → fault_of program words ≡ [] → given ≡ given_in words → AsksFor given result → IsCommand words result
+pub asked_for : (words : List (List ℕ)) (given : CommandLine) (result : Result Job CommandFault) → fault_of program words ≡ [] → given ≡ given_in words → AsksFor given result → IsCommand words result
 asked_for words given (Ok job) free same asks = (free, ap job_of (sym same) ∙ asks)
 asked_for words given (Err Usage) free same asks = (free, ap job_of (sym same) ∙ asks)
 asked_for words given (Err (Words help text)) free same asks = absurd asks

@@ -12,13 +12,13 @@ use Rattle.clap.specs.Lexer.{long_of, long_of_rest, name_and_value, short_of, sh
 use Rattle.clap.specs.Simple.{Shape}
 use Rattle.clap.specs.Walk.{Held, Outcome, Rule, Step, Text, Waiting, Walk, after_flag, after_step, arg_by_index, arg_by_long, bundle_met, has_row, long_or_other, next, word_met as clap_met, idle, is_multiple, is_pending, option, plain, plain_word, positional, positional_held, pushed, settled, subcommand_met, takes_several, to_positional, value, walked}
 use Rattle.krl_words.specs.Order.{authority_met, file_met, is_authority, letter_met, letters_met, other_met, word_met}
+use Rattle.krl_words.specs.declared.order.Context.{Context}
 use Rattle.krl_words.specs.declared.order.Letters.{Letters}
-use Rattle.krl_words.specs.declared.order.Place.{Place}
 use Rattle.krl_words.proofs.HeldRows.{holds, is_pending_for, settled_none}
 use Rattle.krl_words.proofs.Bundles.{BundleEnds, EndsOption, IsValued, LetterIs, bundle as bundle_ends, bundle_settles, no_letters, or_else_parts, settle_waits}
 
 -- what the order of the words has read, before `--`
-abbrev pub place_at : (is_value has_authority has_file is_divided : Bool) → Place
+abbrev pub place_at : (is_value has_authority has_file is_divided : Bool) → Context
 place_at v a f d = record { is_value = v; is_file = false; has_authority = a; has_file = f; is_divided = d }
 
 -- a walk over words without `--`
@@ -33,7 +33,7 @@ Waits c false h waiting = (waiting ≡ idle) ⊎ (waiting ≡ positional)
 -- The order of the words and the walk over the same words, after what was held before them. Both know whether an option
 -- waits for its value. As long as the order has met no use of -s, the walk holds none. The same is so for a file, if a
 -- use of -s precedes it, and for a use of -s, if such a file does.
-pub record Reads (c : List Rule) (place : Place) (walk : Walk) (a f d : Bool) (h : Held) : Type 0 where
+pub record Reads (c : List Rule) (place : Context) (walk : Walk) (a f d : Bool) (h : Held) : Type 0 where
   pub is_value : Bool
   pub has_authority : Bool
   pub has_file : Bool
@@ -68,10 +68,10 @@ is_no_end word differs = by (bytes_eq word (codes "--")) refl
 -- ---- the kinds of words, beside `--`
 
 data WordIs (word : List ℕ) : Type 0 where
-  plain_is : long_of word ≡ None → short_of word ≡ None → ((p : Place) → other_met p word ≡ file_met p) → WordIs word
+  plain_is : long_of word ≡ None → short_of word ≡ None → ((p : Context) → other_met p word ≡ file_met p) → WordIs word
   long_is : (p : Text × Maybe Text) → long_of word ≡ Some p → WordIs word
   short_is : (x : ℕ) (rest : List ℕ) → word ≡ 45 ∷ x ∷ rest → long_of word ≡ None → short_of word ≡ Some (x ∷ rest)
-      → ((p : Place) → other_met p word ≡ authority_met p (letters_met x rest)) → WordIs word
+      → ((p : Context) → other_met p word ≡ authority_met p (letters_met x rest)) → WordIs word
 
 word_is : (word : List ℕ) → (word ≡ codes "--" → ⊥) → WordIs word
 word_is [] differs = plain_is refl refl (λ p. refl)
@@ -163,7 +163,7 @@ module _ (s : Shape) (letters : (x : ℕ) → LetterIs s.rules x)
   to_files : (h : Held) (waiting : Waiting) (word : Text) → to_positional s.rules (arg_by_index s.rules 1) word (walk_at h waiting) h ≡ walk_at (positional_held s.rules files word h) positional
   to_files h waiting word = rw (files_first, files_are.many, files_are.ends) refl
 
-  file_reads : (a f d : Bool) (h : Held) (waiting : Waiting) (word : Text) (place : Place) (walk : Walk) → h.skip ≡ 0 → place ≡ place_at false a a d → walk ≡ to_positional s.rules (arg_by_index s.rules 1) word (walk_at h waiting) h → Reads s.rules place walk a f d h
+  file_reads : (a f d : Bool) (h : Held) (waiting : Waiting) (word : Text) (place : Context) (walk : Walk) → h.skip ≡ 0 → place ≡ place_at false a a d → walk ≡ to_positional s.rules (arg_by_index s.rules 1) word (walk_at h waiting) h → Reads s.rules place walk a f d h
   file_reads a f d h waiting word place walk skips at is = record {
     is_value = false;
     has_authority = a;
@@ -182,7 +182,7 @@ module _ (s : Shape) (letters : (x : ℕ) → LetterIs s.rules x)
 
   -- ---- letters
 
-  letters_read : (a f d : Bool) (h : Held) (waiting : Waiting) (word : Text) (l : Letters) (result : Held × Outcome) (place : Place) (walk : Walk) → BundleEnds s.rules s.args_override_self l h result
+  letters_read : (a f d : Bool) (h : Held) (waiting : Waiting) (word : Text) (l : Letters) (result : Held × Outcome) (place : Context) (walk : Walk) → BundleEnds s.rules s.args_override_self l h result
       → place ≡ authority_met (place_at false a f d) l → walk ≡ after_step s.rules word (walk_at h waiting) (after_flag s.rules waiting word result.0 result.1).0 (after_flag s.rules waiting word result.0 result.1).1
       → Reads s.rules place walk a f d h
   letters_read a f d h waiting word l result place walk ends at is = by l.option l.has_value refl refl ends.ends
@@ -241,7 +241,7 @@ module _ (s : Shape) (letters : (x : ℕ) → LetterIs s.rules x)
   walked_is h waiting word result met = ap (λ (r : Held × Step). after_step s.rules word (walk_at h waiting) r.0 r.1) met
 
   plain_step : (v a f d : Bool) (h : Held) (waiting : Waiting) (word : Text) → (word ≡ codes "--" → ⊥) → h.skip ≡ 0 → Waits s.rules v h waiting
-      → long_of word ≡ None → short_of word ≡ None → ((p : Place) → other_met p word ≡ file_met p) → Reads s.rules (word_met (place_at v a f d) word) (walked s.rules [] (walk_at h waiting) word) a f d h
+      → long_of word ≡ None → short_of word ≡ None → ((p : Context) → other_met p word ≡ file_met p) → Reads s.rules (word_met (place_at v a f d) word) (walked s.rules [] (walk_at h waiting) word) a f d h
   plain_step true a f d h waiting word differs skips (rule, valued, waiting_is, pending) no_long no_short other =
       let met : clap_met s.rules [] false waiting 1 word h ≡ (pushed rule.id word h, next idle) =
       met_is h waiting word differs ∙ rw (no_long, no_short, waiting_is) (plain_value rule h word valued pending) in
@@ -251,7 +251,7 @@ module _ (s : Shape) (letters : (x : ℕ) → LetterIs s.rules x)
       file_reads a f d h waiting word (word_met (place_at false a f d) word) (walked s.rules [] (walk_at h waiting) word) skips (other (place_at false a f d)) (walked_is h waiting word (h, value) met)
 
   letter_step : (v a f d : Bool) (h : Held) (waiting : Waiting) (word : Text) → IsUtf8 word → (word ≡ codes "--" → ⊥) → h.skip ≡ 0 → Waits s.rules v h waiting → turn_fault s [] (walk_at h waiting) word ≡ []
-      → (x : ℕ) (rest : List ℕ) → word ≡ 45 ∷ x ∷ rest → long_of word ≡ None → short_of word ≡ Some (x ∷ rest) → ((p : Place) → other_met p word ≡ authority_met p (letters_met x rest))
+      → (x : ℕ) (rest : List ℕ) → word ≡ 45 ∷ x ∷ rest → long_of word ≡ None → short_of word ≡ Some (x ∷ rest) → ((p : Context) → other_met p word ≡ authority_met p (letters_met x rest))
       → Reads s.rules (word_met (place_at v a f d) word) (walked s.rules [] (walk_at h waiting) word) a f d h
   letter_step v a f d h waiting word utf8 differs skips waits_is free x rest is no_long short other =
       let h0 : Held = record h { skip = 0 } in

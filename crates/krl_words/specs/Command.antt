@@ -6,11 +6,11 @@ use Rattle.option_table.specs.declared.fault.CommandFault.{CommandFault}
 use Rattle.option_table.specs.declared.fault.CommandFault.TheVariants.{Usage, Words, NoMemory}
 use Rattle.krl_job.specs.declared.job.Job.{Job}
 use Rattle.krl_job.specs.Job.{asked_of, job_of}
-use Rattle.krl_job.specs.Given.{Given}
+use Rattle.krl_job.specs.CommandLine.{CommandLine}
 use Rattle.krl_words.specs.Options.{given_in, program}
 
 -- The job that parsed words ask for, by their values.
-abbrev pub AsksFor : Given → Result Job CommandFault → Type 0
+abbrev pub AsksFor : CommandLine → Result Job CommandFault → Type 0
 AsksFor given (Ok job) = job_of given ≡ Some (asked_of job)
 AsksFor given (Err Usage) = job_of given ≡ None
 AsksFor given (Err (Words help text)) = ⊥

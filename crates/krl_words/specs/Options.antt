@@ -2,7 +2,7 @@
 use Rattle.std.specs.Prelude.{ℕ, Bool, true, List, [], ◌∷◌, codes}
 use Rattle.clap.specs.Simple.{App, matches_of, new_shape}
 use Rattle.clap.specs.Walk.{Row, Rule, first_of}
-use Rattle.krl_job.specs.Given.{Given}
+use Rattle.krl_job.specs.CommandLine.{CommandLine}
 use Rattle.option_table.specs.Argument.{letter_of, letter_rule, letter_value_rule, version_rule}
 use Rattle.option_table.specs.Argument.{with_rules, words_rule}
 use Rattle.option_table.specs.Value.{is_set, values_in}
@@ -39,7 +39,7 @@ bare = record {
 abbrev pub program : App
 program = with_rules bare rules
 
-abbrev pub given_of : Bool → List Row → Given
+abbrev pub given_of : Bool → List Row → CommandLine
 given_of divided rows = record {
   list = is_set (codes "list") rows;
   certificates = is_set (codes "certificates") rows;
@@ -55,5 +55,5 @@ given_of divided rows = record {
 }
 
 -- the values in these words, the program's name before them
-unfoldable pub given_in : List (List ℕ) → Given
+unfoldable pub given_in : List (List ℕ) → CommandLine
 given_in words = given_of (is_divided words) (matches_of program words)

@@ -4,8 +4,8 @@ use Rattle.std.specs.Prelude.{ℕ, ◌==◌, ◌&&◌, ◌||◌, not, Bool, true
 use Rattle.std.specs.Prelude.{None, Some, codes, is_some, length, fold, if◌then◌else◌}
 use Rattle.std.specs.Option.{option_map_or}
 use Rattle.option_table.specs.Argument.{letter_of}
+use Rattle.krl_words.specs.declared.order.Context.{Context}
 use Rattle.krl_words.specs.declared.order.Letters.{Letters}
-use Rattle.krl_words.specs.declared.order.Place.{Place}
 
 abbrev pub hyphen : ℕ
 hyphen = 45
@@ -34,18 +34,18 @@ is_authority letters =
     option_map_or (λ letter. letter == letter_of (codes "s")) letters.option false
 
 -- a word with these options: another -s divides the files if one precedes it that follows a -s
-abbrev pub authority_met : Place → Letters → Place
+abbrev pub authority_met : Context → Letters → Context
 authority_met place letters = record place {
   is_value = is_some letters.option && not letters.has_value;
   has_authority = place.has_authority || is_authority letters;
   is_divided = place.is_divided || (is_authority letters && place.has_file);
 }
 
-abbrev pub file_met : Place → Place
+abbrev pub file_met : Context → Context
 file_met place = record place { has_file = place.has_authority }
 
 -- a word that is neither a value nor after `--`
-abbrev pub other_met : Place → List ℕ → Place
+abbrev pub other_met : Context → List ℕ → Context
 other_met place [] = file_met place
 other_met place (first ∷ []) = file_met place
 other_met place (first ∷ second ∷ rest) =
@@ -53,13 +53,13 @@ other_met place (first ∷ second ∷ rest) =
     else (if first == hyphen then authority_met place (letters_met second rest) else file_met place)
 
 -- what precedes the word after this one
-abbrev pub word_met : Place → List ℕ → Place
+abbrev pub word_met : Context → List ℕ → Context
 word_met place word =
     if place.is_value then record place { is_value = false }
     else (if place.is_file then file_met place else other_met place word)
 
 -- the program's name is skipped as a value is
-abbrev pub start : Place
+abbrev pub start : Context
 start = record {
   is_value = true;
   is_file = false;

@@ -3,11 +3,11 @@
 ghost use Rattle.std.specs.Prelude.{◌≡◌, IfOk};
 ghost use Rattle.clap.specs.Matches.{found_of};
 ghost use Rattle.clap.specs.Walk.{rows_of};
-ghost use Rattle.krl_job.specs.Given.{given_by};
+ghost use Rattle.krl_job.specs.CommandLine.{given_by};
 ghost use Rattle.krl_words.specs.Options.{given_of};
 
 use clap::ArgMatches;
-use krl_job::Given;
+use krl_job::CommandLine;
 use option_table::{is_set, value_of, values_of};
 use std::alloc::{AllocError, Global};
 
@@ -16,12 +16,12 @@ pub fn given_in<'a>(
     alloc: Global,
     matches: &ArgMatches<'a>,
     is_divided: bool,
-) -> Result<Given<'a>, AllocError>
+) -> Result<CommandLine<'a>, AllocError>
     ensures { IfOk result (λ given.
         given_by given ≡ given_of is_divided (rows_of (found_of matches.now))) }
 {
     let files = values_of(alloc, matches, "files")?;
-    Ok(Given {
+    Ok(CommandLine {
         list: is_set(matches, "list"),
         certificates: is_set(matches, "certificates"),
         make: is_set(matches, "make"),

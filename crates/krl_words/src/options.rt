@@ -5,7 +5,7 @@ ghost use Rattle.clap.specs.Simple.{app_of};
 ghost use Rattle.krl_words.specs.Options.{program};
 
 use clap::Command;
-use option_table::{Argument, Form, with_arguments};
+use option_table::{Argument, Syntax, with_arguments};
 use std::alloc::{AllocError, Global};
 
 /// The program's own name, whatever name it is called by.
@@ -15,57 +15,57 @@ pub const NAME: &str = "krl-keygen";
 pub const ARGUMENTS: [Argument; 11] = [
     Argument {
         id: "list",
-        form: Form::Letter('l'),
+        syntax: Syntax::Letter('l'),
         help: "List keys; with -Q print what the list holds",
     },
     Argument {
         id: "certificates",
-        form: Form::Letter('L'),
+        syntax: Syntax::Letter('L'),
         help: "List certificates",
     },
     Argument {
         id: "make",
-        form: Form::Letter('k'),
+        syntax: Syntax::Letter('k'),
         help: "Make a key revocation list",
     },
     Argument {
         id: "query",
-        form: Form::Letter('Q'),
+        syntax: Syntax::Letter('Q'),
         help: "Ask a key revocation list about keys",
     },
     Argument {
         id: "file",
-        form: Form::LetterValue('f', "file"),
+        syntax: Syntax::LetterValue('f', "file"),
         help: "The key file, or the revocation list",
     },
     Argument {
         id: "hash",
-        form: Form::LetterValue('E', "hash"),
+        syntax: Syntax::LetterValue('E', "hash"),
         help: "The hash of fingerprints: md5 or sha256",
     },
     Argument {
         id: "update",
-        form: Form::Letter('u'),
+        syntax: Syntax::Letter('u'),
         help: "Add to the list that there is",
     },
     Argument {
         id: "authority",
-        form: Form::LetterValue('s', "ca_public"),
+        syntax: Syntax::LetterValue('s', "ca_public"),
         help: "The authority's key file, or none for all",
     },
     Argument {
         id: "version",
-        form: Form::LetterValue('z', "version"),
+        syntax: Syntax::LetterValue('z', "version"),
         help: "The list's version",
     },
     Argument {
         id: "files",
-        form: Form::Words("file"),
+        syntax: Syntax::Words("file"),
         help: "Key files, or with -k specification files",
     },
     Argument {
         id: "program_version",
-        form: Form::Version("version"),
+        syntax: Syntax::Version("version"),
         help: "Print the program's name and version",
     },
 ];

@@ -8,7 +8,7 @@ use std::convert::AsStr;
 
 /// The facts about a word that the words before it decide.
 #[derive(Clone, Copy)]
-pub struct Place {
+pub struct Context {
     /// An option whose value the word is.
     pub is_value: bool,
     /// The word `--`, so that the word is a file.
@@ -36,7 +36,7 @@ pub fn is_divided<S: AsStr>(words: &[S]) -> bool
     ensures { result ≡ is_divided (map S.text words.now) }
 {
     // The program's name is no file.
-    let mut place = Place {
+    let mut place = Context {
         is_value: true,
         is_file: false,
         has_authority: false,
@@ -49,12 +49,12 @@ pub fn is_divided<S: AsStr>(words: &[S]) -> bool
     place.is_divided
 }
 
-// The place of the word after this one.
-fn after_word(place: Place, word: &[u8]) -> Place
+// The context of the word after this one.
+fn after_word(place: Context, word: &[u8]) -> Context
     ensures { result ≡ word_met place word.now }
 {
     if place.is_value {
-        return Place {
+        return Context {
             is_value: false,
             ..place
         };
@@ -63,7 +63,7 @@ fn after_word(place: Place, word: &[u8]) -> Place
         return after_file(place);
     }
     match word {
-        [b'-', b'-', rest @ ..] => Place {
+        [b'-', b'-', rest @ ..] => Context {
             is_file: rest.is_empty(),
             ..place
         },
@@ -72,22 +72,22 @@ fn after_word(place: Place, word: &[u8]) -> Place
     }
 }
 
-// The place of the word after a file.
-fn after_file(place: Place) -> Place
+// The context of the word after a file.
+fn after_file(place: Context) -> Context
     ensures { result ≡ file_met place }
 {
-    Place {
+    Context {
         has_file: place.has_authority,
         ..place
     }
 }
 
-// The place of the word after one with these options.
-fn after_letters(place: Place, letters: Letters) -> Place
+// The context of the word after one with these options.
+fn after_letters(place: Context, letters: Letters) -> Context
     ensures { result ≡ authority_met place letters }
 {
     let is_authority = letters.option == Some(b's');
-    Place {
+    Context {
         is_value: letters.option.is_some() && !letters.has_value,
         has_authority: place.has_authority || is_authority,
         is_divided: place.is_divided || is_authority && place.has_file,

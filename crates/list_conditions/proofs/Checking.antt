@@ -9,7 +9,7 @@ use Rattle.krl_types.specs.Subject.{Subject}
 use Rattle.krl_entries.specs.declared.reasons.Reasons.{Reasons}
 use Rattle.krl_audit.specs.Audit.{ToldFile, file_items}
 use Rattle.krl_audit.specs.declared.counts.Counts.{Counts}
-use Rattle.audit_text.specs.declared.form.Form.{Form}
+use Rattle.audit_text.specs.declared.format.Format.{Format}
 use Rattle.krl_audit.specs.declared.judge.Shown.{Shown}
 use Rattle.audit_lines.specs.declared.why.Refusal.{Refusal}
 use Rattle.list_conditions.specs.Check.{ChecksFile, counts_items, counts_of, lines_counted, none_counted}
@@ -17,7 +17,7 @@ use Rattle.list_conditions.specs.Role.{is_met, shown_for}
 use Rattle.list_conditions.specs.declared.role.Role.{Role}
 
 -- the audit was stopped
-pub stopped : (form : Form) (role : Role) (shown : Shown) (reasons : Subject → Reasons) (name : List ℕ) (content : Result (List ℕ) Refusal) (stop : RunFault) (old new : Printer) (before after : Bool) (one two : Counts)
+pub stopped : (form : Format) (role : Role) (shown : Shown) (reasons : Subject → Reasons) (name : List ℕ) (content : Result (List ℕ) Refusal) (stop : RunFault) (old new : Printer) (before after : Bool) (one two : Counts)
     → shown ≡ shown_for role form → ToldFile reasons shown name content (Err stop) old new one two → ChecksFile form role reasons name content (Err stop) old new before after
 stopped form role shown reasons name content stop old new before after one two shown_is told =
     let right : ToldFile reasons (shown_for role form) name content (Err stop) old new one two = subst (λ (s : Shown). ToldFile reasons s name content (Err stop) old new one two) shown_is told in
@@ -31,7 +31,7 @@ on_ok (Ok value) one two other is right = right ∙ is
 on_ok (Err stop) one two other is right = tt
 
 -- all was counted
-pub counted : (form : Form) (role : Role) (shown : Shown) (reasons : Subject → Reasons) (name : List ℕ) (content : Result (List ℕ) Refusal) (value : Unit {0}) (result : Result (Unit {0}) RunFault) (old mid new : Printer) (before after : Bool) (counts : Counts)
+pub counted : (form : Format) (role : Role) (shown : Shown) (reasons : Subject → Reasons) (name : List ℕ) (content : Result (List ℕ) Refusal) (value : Unit {0}) (result : Result (Unit {0}) RunFault) (old mid new : Printer) (before after : Bool) (counts : Counts)
     → shown ≡ shown_for role form → ToldFile reasons shown name content (Ok value) old mid none_counted counts → Carries (counts_items form role name (lines_counted name content counts)) result mid new
     → OnOk result (after ≡ (before || not (is_met role (lines_counted name content counts)))) → ChecksFile form role reasons name content result old new before after
 counted form role shown reasons name content value result old mid new before after counts shown_is told carries refused =

@@ -17,8 +17,8 @@ use Rattle.krl_audit.specs.Audit.{file_items, file_kinds}
 use Rattle.krl_audit.specs.Counts.{all_counted}
 use Rattle.audit_lines.specs.Keyless.{keyless_lines}
 use Rattle.krl_audit.specs.declared.counts.Counts.{Counts}
-use Rattle.audit_text.specs.declared.form.Form.{Form}
-use Rattle.audit_text.specs.declared.form.Form.TheVariants as forms
+use Rattle.audit_text.specs.declared.format.Format.{Format}
+use Rattle.audit_text.specs.declared.format.Format.TheVariants as formats
 use Rattle.audit_lines.specs.declared.why.Refusal.{Refusal}
 use Rattle.list_conditions.specs.Condition.{fails}
 use Rattle.list_conditions.specs.Object.{condition_object, end_object}
@@ -33,24 +33,24 @@ abbrev pub said_where : Bool → List ℕ → List ℕ → List Item
 said_where true name text = said_of name text ∷ []
 said_where false name text = []
 
-abbrev pub is_json : Form → Bool
-is_json forms.Text = false
-is_json forms.Colour = false
-is_json forms.Json = true
+abbrev pub is_json : Format → Bool
+is_json formats.Text = false
+is_json formats.Colour = false
+is_json formats.Json = true
 
 -- the line of a condition, for people or as a JSON object
-abbrev pub condition_said : Form → List ℕ → Condition → List ℕ
+abbrev pub condition_said : Format → List ℕ → Condition → List ℕ
 condition_said form name condition =
     if is_json form then json_line (condition_object name condition)
     else condition_line name condition
 
 -- A condition that holds has a line only as JSON.
-abbrev pub condition_items : Form → List ℕ → Condition → List Item
+abbrev pub condition_items : Format → List ℕ → Condition → List Item
 condition_items form name condition =
     said_where (is_json form || fails condition) name (condition_said form name condition)
 
 -- the last line, which only JSON has
-abbrev pub end_items : Form → List ℕ → (refused : Bool) → List Item
+abbrev pub end_items : Format → List ℕ → (refused : Bool) → List Item
 end_items form name refused = said_where (is_json form) name (json_line (end_object refused))
 
 -- ---- lists that revoke nobody
@@ -88,19 +88,19 @@ counts_of reasons name content =
     lines_counted name content (all_counted none_counted (file_kinds reasons name content))
 
 -- There may be no memory to count the lines of the file again.
-abbrev pub counts_items : Form → Role → List ℕ → Counts → List Item
+abbrev pub counts_items : Format → Role → List ℕ → Counts → List Item
 counts_items form role name counts =
     Passed name ∷ condition_items form name (Keys role counts)
 
 -- the keys that do not meet the condition, and then the file
-abbrev pub keys_items : Form → Role → (Subject → Reasons) → List ℕ → Result (List ℕ) Refusal
+abbrev pub keys_items : Format → Role → (Subject → Reasons) → List ℕ → Result (List ℕ) Refusal
     → List Item
 keys_items form role reasons name content =
     file_items reasons (shown_for role form) name content
     ++ counts_items form role name (counts_of reasons name content)
 
 -- The keys of a file were checked, after the earlier checks; or the check was stopped.
-pub record ChecksFile (form : Form) (role : Role) (reasons : Subject → Reasons) (name : List ℕ)
+pub record ChecksFile (form : Format) (role : Role) (reasons : Subject → Reasons) (name : List ℕ)
     (content : Result (List ℕ) Refusal) (result : Result (Unit {0}) RunFault) (old new : Printer)
     (before after : Bool) : Type 0 where
   pub carries : Carries (keys_items form role reasons name content) result old new

@@ -8,7 +8,7 @@ use Rattle.audit_lines.specs.Outcome.{Empty, Key, Outcome, Placed, Unread}
 use Rattle.audit_text.specs.declared.line_kind.LineKind.{LineKind}
 use Rattle.audit_text.specs.declared.line_kind.LineKind.TheVariants as kinds
 use Rattle.krl_audit.specs.declared.counts.Counts.{Counts}
-use Rattle.audit_text.specs.declared.form.Form.{Form}
+use Rattle.audit_text.specs.declared.format.Format.{Format}
 use Rattle.krl_audit.specs.declared.judge.Shown.{Shown}
 use Rattle.list_conditions.specs.declared.role.Role.{Role}
 use Rattle.list_conditions.specs.declared.role.Role.TheVariants as roles
@@ -24,9 +24,9 @@ is_met role counts =
     if (counts.keys == 0) || nat_lt 0 counts.unread then false else are_right role counts
 
 -- the keys that do not meet the condition are printed, and the lines that are not read
-abbrev pub shown_for : Role → Form → Shown
-shown_for roles.Keep form = record { revoked = true; unread = true; fine = false; form = form }
-shown_for roles.Canary form = record { revoked = false; unread = true; fine = true; form = form }
+abbrev pub shown_for : Role → Format → Shown
+shown_for roles.Keep form = record { revoked = true; unread = true; fine = false; format = form }
+shown_for roles.Canary form = record { revoked = false; unread = true; fine = true; format = form }
 
 abbrev pub role_word : Role → List ℕ
 role_word roles.Keep = codes "keep"

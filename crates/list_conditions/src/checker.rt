@@ -18,7 +18,7 @@ use crate::object::{write_end, write_object};
 use crate::role::Role;
 use crate::text::write_line;
 use audit_lines::{Refusal, keyless_lines};
-use audit_text::Form;
+use audit_text::Format;
 use byte_streams::Sink;
 use krl_audit::{Auditor, Counts, Judge};
 use krl_entries::Revocations;
@@ -45,11 +45,11 @@ impl<'q, 'w, W: Sink> Checker<'q, 'w, W> {
     pub fn new(
         alloc: Global,
         list: &'q Revocations<Held>,
-        form: Form,
+        form: Format,
         printer: Printer<'w, W>,
     ) -> Self
         ensures list { result.auditor.judge.list ≡ list.entry }
-        ensures form { result.auditor.judge.shown.form ≡ form }
+        ensures form { result.auditor.judge.shown.format ≡ form }
         ensures printer { result.auditor.run.printer ≡ printer.entry }
         ensures refused { result.refused ≡ false }
         ensures unread { result.unread ≡ false }
@@ -78,13 +78,13 @@ impl<'q, 'w, W: Sink> Checker<'q, 'w, W> {
     /// Checks a condition about the list or the file of this name, and prints its line if it fails
     /// or each condition has one.
     pub fn check<'a>(&mut self, name: &'a str, condition: Condition<'_>) -> Result<(), RunFault<'a>>
-        ensures carries { Carries (condition_items self.old.auditor.judge.shown.form name.now
+        ensures carries { Carries (condition_items self.old.auditor.judge.shown.format name.now
             condition.entry) result self.old.auditor.run.printer self.new.auditor.run.printer }
         ensures refused { self.new.refused ≡ (self.old.refused || fails condition.entry) }
         ensures unread { self.new.unread ≡ self.old.unread }
         ensures judge { self.new.auditor.judge ≡ self.old.auditor.judge }
     {
-        let form = self.auditor.judge.shown.form;
+        let form = self.auditor.judge.shown.format;
         let fails = condition.fails();
         self.refused |= fails;
         if !is_json(form) && !fails {
@@ -97,13 +97,13 @@ impl<'q, 'w, W: Sink> Checker<'q, 'w, W> {
 
     /// Prints the last line, if the form has one: whether all conditions held.
     pub fn say_end<'a>(&mut self, name: &'a str) -> Result<(), RunFault<'a>>
-        ensures carries { Carries (end_items self.old.auditor.judge.shown.form name.now
+        ensures carries { Carries (end_items self.old.auditor.judge.shown.format name.now
             self.old.refused) result self.old.auditor.run.printer self.new.auditor.run.printer }
         ensures refused { self.new.refused ≡ self.old.refused }
         ensures unread { self.new.unread ≡ self.old.unread }
         ensures judge { self.new.auditor.judge ≡ self.old.auditor.judge }
     {
-        if !is_json(self.auditor.judge.shown.form) {
+        if !is_json(self.auditor.judge.shown.format) {
             return Ok(());
         }
         let run = &mut self.auditor.run;
@@ -121,16 +121,16 @@ impl<'q, 'w, W: Sink> Checker<'q, 'w, W> {
         content: Result<&[u8], Refusal>,
     ) -> Result<(), RunFault<'a>>
         ensures checks { (entries : List Entry) → Means self.old.auditor.judge.list.now entries
-            → ChecksFile self.old.auditor.judge.shown.form role (reasons_of entries) name.now
+            → ChecksFile self.old.auditor.judge.shown.format role (reasons_of entries) name.now
             (content_of content.entry) result self.old.auditor.run.printer
             self.new.auditor.run.printer self.old.refused self.new.refused }
         ensures unread { self.new.unread ≡ (self.old.unread || is_err content.entry) }
         ensures list { self.new.auditor.judge.list ≡ self.old.auditor.judge.list }
-        ensures form { self.new.auditor.judge.shown.form ≡ self.old.auditor.judge.shown.form }
+        ensures form { self.new.auditor.judge.shown.format ≡ self.old.auditor.judge.shown.format }
     {
         self.unread |= content.is_err();
         self.auditor.judge.canaries = None;
-        self.auditor.judge.shown = role.shown(self.auditor.judge.shown.form);
+        self.auditor.judge.shown = role.shown(self.auditor.judge.shown.format);
         self.auditor.counts = Counts::NONE;
         self.auditor.audit_file(name, content)?;
         self.check_counts(role, name, content)
@@ -143,7 +143,7 @@ impl<'q, 'w, W: Sink> Checker<'q, 'w, W> {
         name: &'a str,
         content: Result<&[u8], Refusal>,
     ) -> Result<(), RunFault<'a>>
-        ensures carries { Carries (counts_items self.old.auditor.judge.shown.form role name.now
+        ensures carries { Carries (counts_items self.old.auditor.judge.shown.format role name.now
             (lines_counted name.now (content_of content.entry) self.old.auditor.counts)) result
             self.old.auditor.run.printer self.new.auditor.run.printer }
         ensures refused { OnOk result (self.new.refused ≡ (self.old.refused || not (is_met role
@@ -203,7 +203,7 @@ fn lines_counted(
 // Makes the line of a condition in a form.
 fn write_condition(
     alloc: Global,
-    form: Form,
+    form: Format,
     name: &str,
     condition: Condition<'_>,
     line: &mut Vec<u8>,
@@ -218,12 +218,12 @@ fn write_condition(
 }
 
 // Returns true if each condition is an object.
-fn is_json(form: Form) -> bool
+fn is_json(form: Format) -> bool
     ensures { result ≡ is_json form }
 {
     match form {
-        Form::Text | Form::Colour => false,
-        Form::Json => true,
+        Format::Text | Format::Colour => false,
+        Format::Json => true,
     }
 }
 

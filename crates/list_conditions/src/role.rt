@@ -3,7 +3,7 @@
 ghost use Rattle.std.specs.Prelude.{◌≡◌};
 ghost use Rattle.list_conditions.specs.Role.{is_met, role_word, shown_for};
 
-use audit_text::Form;
+use audit_text::Format;
 use krl_audit::{Counts, Shown};
 
 /// The condition that a list must meet for the keys of a file.
@@ -32,22 +32,22 @@ impl Role {
 
     /// The lines that are printed: keys that do not meet the condition, and lines that are not
     /// read.
-    pub(crate) fn shown(self, form: Form) -> Shown
+    pub(crate) fn shown(self, form: Format) -> Shown
         ensures shown { result ≡ shown_for self form }
-        ensures form { result.form ≡ form }
+        ensures form { result.format ≡ form }
     {
         match self {
             Role::Keep => Shown {
                 revoked: true,
                 unread: true,
                 fine: false,
-                form,
+                format: form,
             },
             Role::Canary => Shown {
                 revoked: false,
                 unread: true,
                 fine: true,
-                form,
+                format: form,
             },
         }
     }

@@ -3,7 +3,7 @@
 
 mod in_place;
 mod leftovers;
-mod list_place;
+mod list_target;
 mod locked_list;
 mod locking;
 mod names;
@@ -11,4 +11,4 @@ mod replacing;
 mod rights;
 mod waiting;
 
-pub use list_place::{ListPlace, OldReader};
+pub use list_target::{ListTarget, OldReader};

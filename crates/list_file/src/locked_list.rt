@@ -26,7 +26,7 @@ pub enum MadeOf {
 
 /// Where a list is written.
 #[derive(Drop)]
-pub enum Target {
+pub enum FileTarget {
     /// Over an existing list.
     List(OldList),
     /// At this path, where no file exists.
@@ -35,17 +35,17 @@ pub enum Target {
     Stream(File),
 }
 
-impl Target {
+impl FileTarget {
     // Whether there is an old list.
     pub(crate) fn is_list(&self) -> bool {
-        matches!(self, Target::List(_))
+        matches!(self, FileTarget::List(_))
     }
 
     // Whether the old list was changed since it was opened, or since it is read again.
     pub(crate) fn is_stale(&self) -> bool {
         match self {
-            Target::List(old) => old.is_changed(),
-            Target::Free(_) | Target::Stream(_) => false,
+            FileTarget::List(old) => old.is_changed(),
+            FileTarget::Free(_) | FileTarget::Stream(_) => false,
         }
     }
 }
@@ -138,7 +138,7 @@ impl OldList {
 #[derive(Drop)]
 pub struct Locked {
     /// The target.
-    pub target: Target,
+    pub target: FileTarget,
     // None if a list is written in place, since it is locked itself, and for a stream.
     pub(crate) lock: Option<Lock>,
 }
@@ -167,7 +167,7 @@ pub fn lock_target(
     let list = match (named(rt, name, made_of)?, made_of) {
         (Opened::Stream(file), MadeOf::Lines | MadeOf::Stream) => {
             return Ok(Some(Locked {
-                target: Target::Stream(file),
+                target: FileTarget::Stream(file),
                 lock: None,
             }));
         }
@@ -214,16 +214,16 @@ fn beside_lock(
     path: String,
     made_of: MadeOf,
     waiting: &mut Waiting,
-) -> Result<Option<Target>, Cause> {
+) -> Result<Option<FileTarget>, Cause> {
     match named(rt, name, made_of)? {
         Opened::List(file, found) if leads_to_path(rt, name, path.as_str(), Some(&found))? => {
             if made_of == MadeOf::List {
                 lock_from_writers(rt, &file, waiting)?;
             }
-            Ok(Some(Target::List(OldList::new(file, found, path))))
+            Ok(Some(FileTarget::List(OldList::new(file, found, path))))
         }
         Opened::Nothing if leads_to_path(rt, name, path.as_str(), None)? => {
-            Ok(Some(Target::Free(path)))
+            Ok(Some(FileTarget::Free(path)))
         }
         _ => Ok(None),
     }
@@ -236,7 +236,7 @@ fn in_place(
     path: String,
     made_of: MadeOf,
     waiting: &mut Waiting,
-) -> Result<Option<Target>, Cause> {
+) -> Result<Option<FileTarget>, Cause> {
     match named(rt, name, made_of)? {
         Opened::List(file, _) => {
             lock_list(rt, &file, waiting)?;
@@ -244,7 +244,7 @@ fn in_place(
                 return Err(Cause::File(FileFault::Open));
             };
             if leads_to_path(rt, name, path.as_str(), Some(&found))? {
-                Ok(Some(Target::List(OldList::new(file, found, path))))
+                Ok(Some(FileTarget::List(OldList::new(file, found, path))))
             } else {
                 Ok(None)
             }

@@ -4,7 +4,7 @@
 ghost use Rattle.std.specs.Prelude.{◌≡◌, ℕ, IfOk, Ok, length};
 
 use crate::in_place::{send_all, write_in_place};
-use crate::locked_list::{Locked, OldList, PutList, Target, is_at, is_same, unopened};
+use crate::locked_list::{FileTarget, Locked, OldList, PutList, is_at, is_same, unopened};
 use crate::locking::lock_new;
 use crate::names::{beside, new_name};
 use crate::rights::{first_mode, keep_rights};
@@ -71,7 +71,7 @@ pub fn write_list(
         Put::Over(put) => Some(put),
     };
     match &mut locked.target {
-        Target::List(old) => match old.follow(rt, put) {
+        FileTarget::List(old) => match old.follow(rt, put) {
             Ok(true) => Ok(Written::Changed),
             Ok(false) => Ok(Written::Elsewhere),
             Err(error) => Err(unopened(&error)),
@@ -90,7 +90,7 @@ fn put_list<'a>(
     ensures all { (count : ℕ) → result ≡ Ok (Put.Whole count) → count ≡ length text.now }
 {
     match &locked.target {
-        Target::List(list) => {
+        FileTarget::List(list) => {
             let path = list.path.as_str();
             let old = Some(list);
             let destination = Destination { name, path, old };
@@ -99,12 +99,12 @@ fn put_list<'a>(
                 None => overwrite(rt, destination, list, text),
             }
         }
-        Target::Free(path) => {
+        FileTarget::Free(path) => {
             let path = path.as_str();
             let old = None;
             replace(rt, Destination { name, path, old }, text)
         }
-        Target::Stream(file) => match send_all(file, text) {
+        FileTarget::Stream(file) => match send_all(file, text) {
             Ok(count) => Ok(Put::Whole(count)),
             Err(count) => Err(Cause::Output { count }),
         },

@@ -1,7 +1,7 @@
 -- The list under a name through several calls.
 use Rattle.std.proofs.Common.{◌≡◌, ℕ, ◌⊎◌, List, Option, inl, inr}
 use Rattle.run_faults.specs.declared.cause.Cause.{Cause}
-use Rattle.list_making.specs.Place.{IsCut, IsKept}
+use Rattle.list_making.specs.Target.{IsCut, IsKept}
 use Rattle.list_making.specs.Making.{IsUntouched}
 
 pub kept_then : {P : Type 0} → (holds : P → Option (List ℕ) → Type 0) → (overtaken : P → Type 0) → (first second third : P)

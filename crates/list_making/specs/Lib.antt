@@ -1,3 +1,3 @@
 pub mod Version
-pub mod Place
+pub mod Target
 pub mod Making

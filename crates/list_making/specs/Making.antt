@@ -1,7 +1,7 @@
 -- A list that is made over what is under its name, and put there.
 use Rattle.std.specs.Prelude.{◌≡◌, ℕ, ◌⊎◌, Bool, true, List, Option, Some}
 use Rattle.run_faults.specs.declared.cause.Cause.{Cause}
-use Rattle.list_making.specs.Place.{IsCut, IsKept, Old}
+use Rattle.list_making.specs.Target.{IsCut, IsKept, Old}
 
 -- The bytes were made over the list that they follow, where that is read, and are under the name
 -- now in its stead.

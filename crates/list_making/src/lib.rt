@@ -2,11 +2,11 @@
 #![tactic(auto)]
 
 mod making;
-mod place;
 mod reading;
+mod target;
 mod version;
 
 pub use making::{Made, Maker, make_at};
-pub use place::{Place, Put};
 pub use reading::{buffered, read_rest};
+pub use target::{Put, Target};
 pub use version::next_version;

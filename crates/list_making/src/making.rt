@@ -4,10 +4,10 @@ ghost use Rattle.std.specs.Prelude.{◌≡◌, ℕ, Bool, List, IfErr, IfOk, IfS
 ghost use Rattle.std.specs.Prelude.{option_map};
 ghost use Rattle.std.specs.Option.{ForSome};
 ghost use Rattle.run_faults.specs.declared.cause.Cause.{Cause as CauseOf};
-ghost use Rattle.list_making.specs.Place.{IsKept, Old};
+ghost use Rattle.list_making.specs.Target.{IsKept, Old};
 ghost use Rattle.list_making.specs.Making.{IsPut, IsUntouched, WhyUnput};
 
-use crate::place::{Place, Put};
+use crate::target::{Put, Target};
 use byte_streams::Source;
 use run_faults::Cause;
 use std::alloc::Global;
@@ -67,7 +67,7 @@ pub trait Maker {
 
 /// Makes a list over what is under its name, and puts it there. It is made again where another
 /// program changed what is there meanwhile.
-pub fn make_at<P: Place, M: Maker>(
+pub fn make_at<P: Target, M: Maker>(
     alloc: Global,
     maker: &M,
     place: &mut P,
@@ -89,7 +89,7 @@ pub fn make_at<P: Place, M: Maker>(
 
 // Makes the list once, and puts it there. Returns none if another program changed meanwhile what is
 // there: a fault of a list that was changed while it was read is no fault of the list.
-fn make_once<P: Place, M: Maker>(
+fn make_once<P: Target, M: Maker>(
     alloc: Global,
     maker: &M,
     place: &mut P,

@@ -1,4 +1,4 @@
--- The rules of arguments, by their forms.
+-- The rules of arguments, by their syntax.
 use Rattle.std.specs.Prelude.{ℕ, true, List, [], ◌∷◌, Some, slice_index}
 use Rattle.clap.specs.Lexer.{usize_max}
 use Rattle.clap.specs.Simple.{App, new_rule, with_rule}
@@ -6,8 +6,8 @@ use Rattle.clap.specs.Walk.{Rule}
 use Rattle.clap.specs.declared.builder.action.ArgAction.TheVariants.{Append, Set, SetTrue}
 use Rattle.clap.specs.declared.builder.action.ArgAction.TheVariants.{Version as AskVersion}
 use Rattle.option_table.specs.declared.argument.Argument.{Argument}
-use Rattle.option_table.specs.declared.argument.Form.{Form}
-use Rattle.option_table.specs.declared.argument.Form.TheVariants as forms
+use Rattle.option_table.specs.declared.argument.Syntax.{Syntax}
+use Rattle.option_table.specs.declared.argument.Syntax.TheVariants as syntaxes
 
 -- the letter of an option, as a text of one letter
 abbrev pub letter_of : List ℕ → ℕ
@@ -68,21 +68,21 @@ some_words_rule id = record (new_rule id) {
 abbrev pub version_rule : List ℕ → List ℕ → Rule
 version_rule id name = record (new_rule id) { long = Some name; action = Some AskVersion }
 
--- the rule of an argument, by its form
-abbrev pub form_rule : List ℕ → Form → Rule
-form_rule id (forms.Letter letter) = letter_rule id letter
-form_rule id (forms.LetterValue letter name) = letter_value_rule id letter
-form_rule id (forms.Needed letter name) = needed_rule id letter
-form_rule id forms.Long = long_rule id
-form_rule id (forms.LongValue name) = long_value_rule id
-form_rule id (forms.LongValues name) = long_values_rule id
-form_rule id (forms.Word name) = word_rule id
-form_rule id (forms.Words name) = words_rule id
-form_rule id (forms.SomeWords name) = some_words_rule id
-form_rule id (forms.Version name) = version_rule id name.now
+-- the rule of an argument, by its syntax
+abbrev pub syntax_rule : List ℕ → Syntax → Rule
+syntax_rule id (syntaxes.Letter letter) = letter_rule id letter
+syntax_rule id (syntaxes.LetterValue letter name) = letter_value_rule id letter
+syntax_rule id (syntaxes.Needed letter name) = needed_rule id letter
+syntax_rule id syntaxes.Long = long_rule id
+syntax_rule id (syntaxes.LongValue name) = long_value_rule id
+syntax_rule id (syntaxes.LongValues name) = long_values_rule id
+syntax_rule id (syntaxes.Word name) = word_rule id
+syntax_rule id (syntaxes.Words name) = words_rule id
+syntax_rule id (syntaxes.SomeWords name) = some_words_rule id
+syntax_rule id (syntaxes.Version name) = version_rule id name.now
 
 abbrev pub rule_by : Argument → Rule
-rule_by argument = form_rule argument.id.now argument.form
+rule_by argument = syntax_rule argument.id.now argument.syntax
 
 abbrev pub with_rules : App → List Rule → App
 with_rules app [] = app

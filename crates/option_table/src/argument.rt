@@ -15,14 +15,14 @@ pub struct Argument {
     /// The name of its values, and of a long option.
     pub id: &'static str,
     /// How it is given.
-    pub form: Form,
+    pub syntax: Syntax,
     /// A line about it.
     pub help: &'static str,
 }
 
-/// The form of an argument. A value or a word has a name.
+/// The syntax of an argument. A value or a word has a name.
 #[derive(Clone, Copy)]
-pub enum Form {
+pub enum Syntax {
     /// By a letter.
     Letter(char),
     /// By a letter, with a value.
@@ -63,38 +63,38 @@ pub fn with_arguments<'a>(
     Ok(made)
 }
 
-// The argument in the form of the library.
+// The argument as the library has it.
 fn argument_of<'a>(alloc: Global, argument: &Argument) -> Arg<'a>
     ensures rule { rule_of result ≡ rule_by argument.now }
     ensures local { result.global ≡ false }
 {
     let arg = Arg::new(alloc, argument.id).help(argument.help);
-    match argument.form {
-        Form::Letter(letter) => arg.short(letter).action(ArgAction::SetTrue),
-        Form::LetterValue(letter, name) => {
+    match argument.syntax {
+        Syntax::Letter(letter) => arg.short(letter).action(ArgAction::SetTrue),
+        Syntax::LetterValue(letter, name) => {
             arg.short(letter).value_name(name).action(ArgAction::Set)
         }
-        Form::Needed(letter, name) => arg
+        Syntax::Needed(letter, name) => arg
             .short(letter)
             .value_name(name)
             .required(true)
             .action(ArgAction::Set),
-        Form::Long => arg.long(argument.id).action(ArgAction::SetTrue),
-        Form::LongValue(name) => arg
+        Syntax::Long => arg.long(argument.id).action(ArgAction::SetTrue),
+        Syntax::LongValue(name) => arg
             .long(argument.id)
             .value_name(name)
             .action(ArgAction::Set),
-        Form::LongValues(name) => arg
+        Syntax::LongValues(name) => arg
             .long(argument.id)
             .value_name(name)
             .action(ArgAction::Append),
-        Form::Word(name) => arg.value_name(name).required(true).action(ArgAction::Set),
-        Form::Words(name) => arg.value_name(name).num_args(0..).action(ArgAction::Append),
-        Form::SomeWords(name) => arg
+        Syntax::Word(name) => arg.value_name(name).required(true).action(ArgAction::Set),
+        Syntax::Words(name) => arg.value_name(name).num_args(0..).action(ArgAction::Append),
+        Syntax::SomeWords(name) => arg
             .value_name(name)
             .num_args(1..)
             .required(true)
             .action(ArgAction::Append),
-        Form::Version(name) => arg.long(name).action(ArgAction::Version),
+        Syntax::Version(name) => arg.long(name).action(ArgAction::Version),
     }
 }

@@ -6,7 +6,7 @@ mod fault;
 mod shown;
 mod value;
 
-pub use argument::{Argument, Form, with_arguments};
+pub use argument::{Argument, Syntax, with_arguments};
 pub use fault::{CommandFault, fault_of};
 pub use shown::shown_words;
 pub use value::{is_set, value_of, values_of};

@@ -3,7 +3,7 @@
 ghost use Rattle.std.specs.Prelude.{◌≡◌, true};
 
 use byte_streams::Lent;
-use list_making::{Place, Put};
+use list_making::{Put, Target};
 use run_faults::Cause;
 use ssh_wire::Bytes;
 use std::alloc::Global;
@@ -35,7 +35,7 @@ impl<'a> Shelf<'a> {
     }
 }
 
-impl<'a> Place for Shelf<'a> {
+impl<'a> Target for Shelf<'a> {
     ghost use Rattle.std.specs.Prelude.{◌≡◌, option_map, true};
     ghost use Rattle.text_entries_tests.specs.Shelf.{known};
 

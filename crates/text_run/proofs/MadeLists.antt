@@ -3,7 +3,7 @@ use Rattle.std.proofs.Common.{◌≡◌, ◌≢◌, ℕ, Bool, ◌||◌, true, f
 use Rattle.krl_entries.specs.Revocations.{Revocations, nothing}
 use Rattle.krl_types.specs.Entry.{Entry}
 use Rattle.krl_types.specs.declared.krl_fault.KrlFault.{KrlFault}
-use Rattle.list_making.specs.Place.{Old}
+use Rattle.list_making.specs.Target.{Old}
 use Rattle.text_run.specs.Base.{IsReadOver, Krl, base_in, empty, new_base, takes_contents, unknown}
 use Rattle.text_run.specs.Fault.{MakeFault}
 use Rattle.text_run.specs.Making.{AddsTexts, HoldsMore, texts_entries}

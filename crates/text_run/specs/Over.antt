@@ -15,7 +15,7 @@ use Rattle.krl_types.specs.Entry.{Entry}
 use Rattle.krl_types.specs.Subject.{Subject}
 use Rattle.krl_writer.specs.KrlText.{IsKrlText}
 use Rattle.list_making.specs.Making.{WhyUnput}
-use Rattle.list_making.specs.Place.{Old}
+use Rattle.list_making.specs.Target.{Old}
 use Rattle.list_making.specs.Version.{version_of}
 use Rattle.run_faults.specs.declared.cause.Cause.{Cause}
 use Rattle.run_faults.specs.declared.cause.Cause.TheVariants as causes

@@ -8,7 +8,7 @@ ghost use Rattle.text_run.specs.Over.{MakesOver, WhyUnmade, fault_of};
 use crate::inputs::Inputs;
 use crate::listed::{Facts, read_texts};
 use crate::make_fault::MakeFault;
-use list_making::{Made, Place, make_at};
+use list_making::{Made, Target, make_at};
 use std::alloc::Global;
 
 /// Makes a list that names exactly what the lines of the texts name, and what the list under its
@@ -18,7 +18,7 @@ use std::alloc::Global;
 /// The first fault stops the run: those of the texts and lines in order; that a text has no entry,
 /// and that none has one, unless that is allowed; then those of what is under the name, of the
 /// version and of the list.
-pub fn text_run<'a, P: Place>(
+pub fn text_run<'a, P: Target>(
     alloc: Global,
     inputs: &'a Inputs<'a>,
     place: &mut P,

@@ -1,7 +1,7 @@
 //! Audits of a tree in memory by a plain list of one key.
 
 use crate::tests::shelf::{Item, Paper, Shelf};
-use audit_run::{Audited, Given, Options, Order, audit_run, push_summary};
+use audit_run::{Audited, Options, Order, Sources, audit_run, push_summary};
 use byte_streams::{FromRead, ToWrite};
 use ssh_wire::Bytes;
 use std::alloc::Global;
@@ -71,7 +71,7 @@ pub fn check(
     };
     let tree = Shelf { items };
     let input = FromRead::new(Giver::new(GITHUB_LINE, 7));
-    let given = Given {
+    let given = Sources {
         tree: &tree,
         names,
         input,

@@ -6,7 +6,7 @@ ghost use Rattle.audit_run.specs.Fact.{Fact};
 use crate::tests::audits::LOUD;
 use crate::tests::shelf::Paper;
 use audit_lines::Refusal;
-use audit_run::{Audited, Found, Given, Identity, Kind, Opened, Order, Tree, audit_run};
+use audit_run::{Audited, FileKind, Found, Identity, Opened, Order, Sources, Tree, audit_run};
 use byte_streams::{FromRead, ToWrite};
 use ssh_wire::Bytes;
 use std::alloc::{AllocError, Global};
@@ -30,9 +30,9 @@ impl<'a> Tree for Well<'a> {
 
     fn look(&self, path: &str, _followed: bool) -> Result<Found, Refusal> {
         let kind = if path.ends_with(".pub") {
-            Kind::File
+            FileKind::File
         } else {
-            Kind::Directory
+            FileKind::Directory
         };
         Ok(Found {
             kind,
@@ -125,7 +125,7 @@ fn audited_in(alloc: Global, depth: usize) -> (u8, u64) {
         last: b"k.pub\0",
     };
     let input = FromRead::new(Giver::new(b"", 1));
-    let given = Given {
+    let given = Sources {
         tree: &tree,
         names,
         input,

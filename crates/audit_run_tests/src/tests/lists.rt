@@ -2,7 +2,7 @@
 
 use crate::tests::audits::LOUD;
 use crate::tests::shelf::{Item, Node, Paper, Shelf};
-use audit_run::{Audited, Given, Order, audit_run};
+use audit_run::{Audited, Order, Sources, audit_run};
 use byte_streams::{FromRead, Lent, ToWrite};
 use krl_openssh::Incomparable;
 use ssh_wire::Bytes;
@@ -43,7 +43,7 @@ fn end_of(rt: &impl Abort, alloc: Global, list: Vec<u8>) -> End {
     };
     let names: Option<FromRead<Giver<'static>>> = None;
     let tree = Shelf { items: ITEMS };
-    let given = Given {
+    let given = Sources {
         tree: &tree,
         names,
         input: Lent::new(b""),

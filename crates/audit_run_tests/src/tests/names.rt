@@ -2,7 +2,7 @@
 
 use crate::tests::audits::{Asked, Case, LOUD, REVOKED, check};
 use crate::tests::shelf::{Item, Node, Paper, Shelf};
-use audit_run::{Audited, Given, Order, audit_run};
+use audit_run::{Audited, Order, Sources, audit_run};
 use byte_streams::{FromRead, Lent, ToWrite};
 use run_faults::{Cause, FileFault};
 use ssh_wire::Bytes;
@@ -112,7 +112,7 @@ fn names_that_cannot_be_read_to_their_end(rt: HostRuntime) -> Result<(), Fail> {
     };
     let mut names = Giver::new(b"a\0b", 3);
     names.then = Then::Fails;
-    let given = Given {
+    let given = Sources {
         tree: &Shelf { items: ITEMS },
         names: Some(FromRead::new(names)),
         input: Lent::new(b""),

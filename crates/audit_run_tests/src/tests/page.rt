@@ -3,8 +3,8 @@
 ghost use Rattle.std.specs.Prelude.{◌≡◌, false};
 
 use crate::tests::shelf::{Item, Node, Paper, Shelf};
-use audit_run::{Audited, Given, Order, Screen, Tree, audit_run, is_audited, is_sought};
-use audit_text::Form;
+use audit_run::{Audited, Order, Screen, Sources, Tree, audit_run, is_audited, is_sought};
+use audit_text::Format;
 use byte_streams::{Lent, ToWrite};
 use krl_audit::Shown;
 use ssh_wire::Bytes;
@@ -15,7 +15,7 @@ const NOTHING: Shown = Shown {
     revoked: false,
     unread: false,
     fine: false,
-    form: Form::Text,
+    format: Format::Text,
 };
 
 /// Whether each of these paths of a tree can be read and none of its keys is revoked. Prints
@@ -39,7 +39,7 @@ fn is_clean<T: Tree, W: Screen>(
     };
     let names: Option<Lent<'_>> = None;
     let input = Lent::new(b"");
-    let given = Given { tree, names, input };
+    let given = Sources { tree, names, input };
     match audit_run(alloc, &order, list, given, out) {
         Audited::Ended { done, .. } => done.status == 0,
         Audited::Incomparable(_) | Audited::Refused(_) => false,

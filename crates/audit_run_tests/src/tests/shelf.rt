@@ -4,7 +4,7 @@ ghost use Rattle.std.specs.Prelude.{◌≡◌, false};
 ghost use Rattle.audit_run.specs.Fact.{Fact};
 
 use audit_lines::Refusal;
-use audit_run::{Found, Identity, Kind, Opened, Screen, Summary, Tree};
+use audit_run::{FileKind, Found, Identity, Opened, Screen, Summary, Tree};
 use byte_streams::{Failed, FromRead, Sink, ToWrite};
 use std::alloc::AllocError;
 use test_fixtures::{Giver, Taker, Then};
@@ -86,11 +86,11 @@ impl<'a> Tree for Shelf<'a> {
             self.at(path)
         };
         let kind = match node {
-            Node::File(..) | Node::Unopened(_) | Node::Swapped | Node::Unread(..) => Kind::File,
-            Node::Directory(_) | Node::Broken(_) | Node::Closed(_) => Kind::Directory,
-            Node::Link(_) => Kind::Link,
-            Node::Null => Kind::Null,
-            Node::Special(_) => Kind::Other,
+            Node::File(..) | Node::Unopened(_) | Node::Swapped | Node::Unread(..) => FileKind::File,
+            Node::Directory(_) | Node::Broken(_) | Node::Closed(_) => FileKind::Directory,
+            Node::Link(_) => FileKind::Link,
+            Node::Null => FileKind::Null,
+            Node::Special(_) => FileKind::Other,
             Node::Hidden(refusal) => return Err(refusal),
         };
         Ok(Found {

@@ -2,7 +2,7 @@
 
 use crate::tests::keys::{ALICE, AUTHORITY, BOB};
 use audit_lines::Refusal;
-use audit_text::Form;
+use audit_text::Format;
 use byte_streams::{Sink, ToWrite};
 use key_text::{read_line, sha1_of, sha256_of};
 use krl_audit::{Auditor, Counts, Judge, Shown};
@@ -19,7 +19,7 @@ pub const FINDINGS: Shown = Shown {
     revoked: true,
     unread: true,
     fine: false,
-    form: Form::Text,
+    format: Format::Text,
 };
 
 /// All keys are printed.
@@ -27,7 +27,7 @@ pub const ALL: Shown = Shown {
     revoked: true,
     unread: true,
     fine: true,
-    form: Form::Text,
+    format: Format::Text,
 };
 
 /// All keys are printed, as objects.
@@ -35,7 +35,7 @@ pub const OBJECTS: Shown = Shown {
     revoked: true,
     unread: true,
     fine: true,
-    form: Form::Json,
+    format: Format::Json,
 };
 
 /// Nothing is printed.
@@ -43,7 +43,7 @@ pub const NOTHING: Shown = Shown {
     revoked: false,
     unread: false,
     fine: false,
-    form: Form::Text,
+    format: Format::Text,
 };
 
 /// The blob of the key of a line.

@@ -6,7 +6,7 @@ ghost use Rattle.json_lines.specs.Field.{json_line, number_field, object_of, tex
 use crate::tests::keys::ALICE;
 use crate::tests::made::alice_and_bob;
 use audit_lines::{Fronts, Outcome, Refusal, Why, read_outcomes};
-use audit_text::{Form, Location, say_unread};
+use audit_text::{Format, Location, say_unread};
 use byte_streams::{Sink, ToWrite};
 use json_lines::{Text, object};
 use krl_audit::{Auditor, Counts, Judge, Shown};
@@ -27,7 +27,7 @@ fn audit_one<W: Sink>(
         revoked: true,
         unread: true,
         fine: false,
-        form: Form::Text,
+        format: Format::Text,
     };
     let judge = Judge {
         list,
@@ -80,7 +80,7 @@ fn denied_line(alloc: Global, name: &str, line: &mut Vec<u8>) -> Result<(), Allo
     let location = Location { name, number: 0 };
     say_unread(
         alloc,
-        Form::Text,
+        Format::Text,
         location,
         Why::File(Refusal::Denied),
         line,

@@ -2,14 +2,14 @@
 //! `program_version`.
 
 ghost use Rattle.std.specs.Prelude.{◌≡◌, option_map};
-ghost use Rattle.krl_job.specs.Given.{given_by};
+ghost use Rattle.krl_job.specs.CommandLine.{given_by};
 ghost use Rattle.krl_job.specs.Job.{job_of};
 
 use clap::Command;
 use krl_arguments::{Task, task_of};
-use krl_job::{Given, Mode, job_of};
+use krl_job::{CommandLine, Mode, job_of};
 use krl_words::command_of;
-use option_table::{Argument, CommandFault, Form, is_set, with_arguments};
+use option_table::{Argument, CommandFault, Syntax, is_set, with_arguments};
 use program_version::VERSION;
 use std::alloc::{AllocError, Global};
 
@@ -29,7 +29,7 @@ fn version_line(alloc: Global, name: &str) -> Result<String, AllocError> {
 }
 
 /// The mode of the job that options ask for, if they ask for one.
-fn mode_given(given: Given) -> Option<Mode>
+fn mode_given(given: CommandLine) -> Option<Mode>
     ensures { result ≡ option_map (λ asked. asked.mode) (job_of (given_by given.entry)) }
 {
     let job = job_of(given)?;
@@ -38,7 +38,7 @@ fn mode_given(given: Given) -> Option<Mode>
 
 const VERBOSE: [Argument; 1] = [Argument {
     id: "verbose",
-    form: Form::Letter('v'),
+    syntax: Syntax::Letter('v'),
     help: "Say more",
 }];
 
@@ -88,7 +88,7 @@ fn a_program_has_a_version(rt: HostRuntime) {
 
 #[test]
 fn options_have_a_mode(rt: HostRuntime) {
-    let given = Given {
+    let given = CommandLine {
         list: true,
         certificates: false,
         make: false,

@@ -1,7 +1,7 @@
 //! Each condition both ways, and how a check ends.
 
 use audit_lines::Refusal;
-use audit_text::Form;
+use audit_text::Format;
 use byte_streams::{FromRead, Sink, ToWrite};
 use krl_core::read_krl;
 use krl_entries::Revocations;
@@ -51,7 +51,7 @@ fn check_format<W: Sink>(
 }
 
 // The output and the status of checks of a list that revokes the published key.
-fn said(rt: &impl Abort, alloc: Global, form: Form, asked: &[Asked<'_>]) -> (Vec<u8>, u8) {
+fn said(rt: &impl Abort, alloc: Global, form: Format, asked: &[Asked<'_>]) -> (Vec<u8>, u8) {
     let mut list: Revocations<Held> = Revocations::new(alloc);
     list.add_key(GITHUB).expect(rt, "there is memory");
     let mut taker = Taker::whole(alloc);
@@ -63,7 +63,7 @@ fn said_into<W: Sink>(
     rt: &impl Abort,
     alloc: Global,
     list: &Revocations<Held>,
-    form: Form,
+    form: Format,
     asked: &[Asked<'_>],
     out: &mut W,
 ) -> u8 {
@@ -362,7 +362,7 @@ const ENDS: [&[u8]; 2] = [
 #[test]
 fn each_object(rt: HostRuntime) {
     for (i, (asked, wanted)) in OBJECTS.iter().enumerate() {
-        let (text, status) = said(&rt, rt.alloc(), Form::Json, &[*asked]);
+        let (text, status) = said(&rt, rt.alloc(), Format::Json, &[*asked]);
         let end = ENDS[usize::from(status != 0)];
         assert!(rt;
             text.starts_with(*wanted) && text.ends_with(end),
@@ -383,7 +383,7 @@ pub const SERIAL_ZERO: &[u8] = b"SSHKRL\n\0\0\0\0\x01\0\0\0\0\0\0\0\x01\0\0\0\0\
 #[test]
 fn each_condition(rt: HostRuntime) {
     for (i, (asked, wanted, status)) in CHECKS.iter().enumerate() {
-        let (text, got) = said(&rt, rt.alloc(), Form::Text, &[*asked]);
+        let (text, got) = said(&rt, rt.alloc(), Format::Text, &[*asked]);
         assert_eq!(rt; text.as_slice(), *wanted, "check {i}");
         assert_eq!(rt; got, *status, "check {i}");
     }
@@ -430,7 +430,7 @@ const ROWS: [(&[Asked<'static>], &[u8], u8); 4] = [
 #[test]
 fn many_conditions(rt: HostRuntime) {
     for (i, (asked, wanted, status)) in ROWS.iter().enumerate() {
-        let (text, got) = said(&rt, rt.alloc(), Form::Text, *asked);
+        let (text, got) = said(&rt, rt.alloc(), Format::Text, *asked);
         assert!(rt; text.ends_with(*wanted), "row {i}");
         assert!(rt; text.is_empty() == wanted.is_empty(), "row {i}");
         assert_eq!(rt; got, *status, "row {i}");
@@ -446,6 +446,6 @@ fn nobody_is_revoked(rt: HostRuntime) {
         Asked::That(Condition::Empty(names_nobody(&list))),
         Asked::That(Condition::Version(1, 1)),
     ];
-    assert!(rt; said_into(&rt, rt.alloc(), &list, Form::Text, &asked, &mut out) == 1);
+    assert!(rt; said_into(&rt, rt.alloc(), &list, Format::Text, &asked, &mut out) == 1);
     assert!(rt; taker.taken.as_slice() == b"empty: r.krl: it revokes nobody\n".as_slice());
 }

@@ -4,7 +4,7 @@ ghost use Rattle.std.specs.Prelude.{◌≡◌, false};
 
 use crate::tests::runs::{SEVEN, Shelf};
 use any_list::read_list;
-use audit_text::Form;
+use audit_text::Format;
 use byte_streams::{FromRead, Sink, ToWrite};
 use check_run::{Host, check_run};
 use krl_arguments::Check;
@@ -62,7 +62,7 @@ fn the_callers_of_the_pages(rt: HostRuntime) {
     let mut buffer = Vec::new(rt.alloc());
     let mut out = ToWrite::new(&mut taker);
     let printer = Printer::new(&mut buffer, &mut out);
-    let mut checker = Checker::new(rt.alloc(), &list, Form::Text, printer);
+    let mut checker = Checker::new(rt.alloc(), &list, Format::Text, printer);
     let status = status_of(&mut checker, &bytes, OTHER_LINE, GITHUB_LINE);
     assert!(rt; status.expect(&rt, "there is memory") == 0);
     assert!(rt; version_of(rt.alloc(), &HEADER) == Some(1));

@@ -3,7 +3,7 @@
 use crate::tests::answered::{answered, ran_out};
 use crate::tests::buffer::Buffer;
 use audit_lines::{Fronts, Outcome, read_outcomes};
-use audit_text::Form;
+use audit_text::Format;
 use byte_streams::{Sink, ToWrite};
 use krl_audit::{Auditor, Counts, FileCounts, Judge, ListFacts, Shown};
 use krl_core::Revocations;
@@ -73,7 +73,7 @@ fn said_as_objects<W: Sink>(
         revoked: true,
         unread: true,
         fine: false,
-        form: Form::Json,
+        format: Format::Json,
     };
     let mut auditor = Auditor {
         judge: Judge {
@@ -141,7 +141,7 @@ fn audited<W: Sink>(
         revoked: true,
         unread: true,
         fine: false,
-        form: Form::Text,
+        format: Format::Text,
     };
     let mut auditor = Auditor {
         judge: Judge {

@@ -12,8 +12,8 @@ use krl_make::{AuthorityOption, Wanted, make_run};
 use krl_runs::query_run;
 use krl_spec::{SpecFault, Under, read_spec};
 use krl_system::open_list;
-use list_file::ListPlace;
-use list_making::{Made, Place, Put, make_at};
+use list_file::ListTarget;
+use list_making::{Made, Put, Target, make_at};
 use option_table::CommandFault;
 use program_edge::{Lines, stop};
 use run_faults::{Cause, FileFault, Named, RunFault, fault_text, keys_of};
@@ -63,7 +63,7 @@ fn is_there(rt: &HostRuntime, name: &str) -> bool {
 
 /// Puts a list under a name, once no other update holds the list that is there.
 fn put(rt: &HostRuntime, name: &str, text: &[u8]) -> Result<Put, Cause> {
-    let mut place = ListPlace::new(rt, "ssh-keygen", name);
+    let mut place = ListTarget::new(rt, "ssh-keygen", name);
     let _ = place.hold(false)?;
     let put = place.put(text);
     place.release();
@@ -124,7 +124,7 @@ impl Lines for Idle {
 
 /// Makes a list over what is under its name, and puts it there.
 fn made_at<'a>(rt: &HostRuntime, wanted: &Wanted<'a>) -> Result<Made<()>, RunFault<'a>> {
-    let mut place = ListPlace::new(rt, "ssh-keygen", wanted.name);
+    let mut place = ListTarget::new(rt, "ssh-keygen", wanted.name);
     let made = make_at(rt.alloc(), wanted, &mut place);
     place.release();
     made

@@ -18,7 +18,7 @@ loop-name-init g c = record {
   checks = record {
     told = [];
     after_is = told_none _;
-    are = λ entries means. rw (named_none c.args.role) (no_file c.args.checker.now.auditor.judge.shown.form (reasons_of entries) _ _ _);
+    are = λ entries means. rw (named_none c.args.role) (no_file c.args.checker.now.auditor.judge.shown.format (reasons_of entries) _ _ _);
   };
   list = refl;
   form = refl;
@@ -28,7 +28,7 @@ pub returns-in_err-check_file-clause-checks : goal.returns-in_err-check_file-cla
 returns-in_err-check_file-clause-checks g c =
     let p = err_from_is_err_and c.from_residual.result c.from_residual.ensures.1 in
     let told = c.loop-name.invariant.checks in
-    let form = c.args.checker.now.auditor.judge.shown.form in
+    let form = c.args.checker.now.auditor.judge.shown.format in
     let role = c.args.role in
     let names = c.args.names.now in
     let i = c.loop-name.name-index in
@@ -48,7 +48,7 @@ returns-in_err-check_file-clause-checks g c =
 pub loop-name-preserved : goal.loop-name-preserved
 loop-name-preserved g c =
     let told = c.loop-name.invariant.checks in
-    let form = c.args.checker.now.auditor.judge.shown.form in
+    let form = c.args.checker.now.auditor.judge.shown.format in
     let role = c.args.role in
     let names = c.args.names.now in
     let i = c.loop-name.name-index in

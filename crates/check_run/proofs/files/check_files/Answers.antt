@@ -9,7 +9,7 @@ use Rattle.check_run.proofs.files.check_files.Goals as goal
 
 pub returns-in_err-check_each-clause-checks : goal.returns-in_err-check_each-clause-checks
 returns-in_err-check_each-clause-checks g c =
-    let form = c.args.checker.now.auditor.judge.shown.form in
+    let form = c.args.checker.now.auditor.judge.shown.format in
     let p = err_from_is_err_and c.from_residual.result c.from_residual.ensures.1 in
     let kept = rw c.as_slice.ensures.value at c.in_err-check_each.ensures.checks in
     rw (p.1, p.2) (record {
@@ -20,7 +20,7 @@ returns-in_err-check_each-clause-checks g c =
 
 pub returns-clause-checks : goal.returns-clause-checks
 returns-clause-checks g c =
-    let form = c.args.checker.now.auditor.judge.shown.form in
+    let form = c.args.checker.now.auditor.judge.shown.format in
     let first = rw c.as_slice.ensures.value at c.in_ok-check_each.ensures.checks in
     let second = rw (c.in_ok-check_each.ensures.list, c.in_ok-check_each.ensures.form, c.as_slice-2.ensures.value) at c.check_each-2.ensures.checks in
     record {

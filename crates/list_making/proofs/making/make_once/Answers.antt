@@ -17,5 +17,5 @@ returns-in-Err-put-clause-why g c = unheld c.in-Err-put.cause c.fault-in-Err-put
 
 pub returns-in-Err-put-clause-kept : goal.returns-in-Err-put-clause-kept
 returns-in-Err-put-clause-kept g c =
-    put_failed g.P.Place.holds g.P.Place.overtaken (g.M.Maker.fault_of c.args.maker.now) c.args.place.now c.is_changed.new.self c.put.new.self _ c.in-Err-put.cause
-    (kept_then g.P.Place.holds g.P.Place.overtaken c.args.place.now c.hold.new.self c.is_changed.new.self c.in-Ok.ensures.kept c.is_changed.ensures.kept) c.in-Err-put.ensures.failed c.fault-in-Err-put.ensures
+    put_failed g.P.Target.holds g.P.Target.overtaken (g.M.Maker.fault_of c.args.maker.now) c.args.place.now c.is_changed.new.self c.put.new.self _ c.in-Err-put.cause
+    (kept_then g.P.Target.holds g.P.Target.overtaken c.args.place.now c.hold.new.self c.is_changed.new.self c.in-Ok.ensures.kept c.is_changed.ensures.kept) c.in-Err-put.ensures.failed c.fault-in-Err-put.ensures

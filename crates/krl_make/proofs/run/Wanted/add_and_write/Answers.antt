@@ -2,7 +2,7 @@
 use Rattle.std.proofs.Common.{inl, inr}
 use Rattle.std.proofs.lemmas.Result.{err_from_is_err_and}
 use Rattle.krl_make.proofs.MadeLists.{made_written}
-use Rattle.krl_make.specs.Making.{made_of}
+use Rattle.krl_make.specs.Making.{parts_of}
 use Rattle.krl_make.proofs.run.Wanted.add_and_write.Goals as goal
 
 pub returns-in_err-add_files : goal.returns-in_err-add_files
@@ -13,4 +13,4 @@ returns-in_err-add_files c =
 pub returns : goal.returns
 returns c =
     let added = c.in_ok-add_files.ensures in
-    inl (added.0, (added.1.0, made_written _ c.args.self.now.name.now (made_of c.args.header.now c.args.held added.0) _ _ added.1.1 c.write_list.ensures))
+    inl (added.0, (added.1.0, made_written _ c.args.self.now.name.now (parts_of c.args.header.now c.args.held added.0) _ _ added.1.1 c.write_list.ensures))

@@ -6,7 +6,7 @@ ghost use Rattle.audit_run.specs.Names.{is_null_kind};
 
 /// The kind of file that a path leads to.
 #[derive(Clone, Copy, PartialEq, Eq)]
-pub enum Kind {
+pub enum FileKind {
     /// A directory.
     Directory,
     /// A regular file.
@@ -19,14 +19,14 @@ pub enum Kind {
     Other,
 }
 
-impl Kind {
+impl FileKind {
     /// Whether it is a directory.
     pub(crate) fn is_directory(self) -> bool
         ensures { result ≡ is_directory_kind self }
     {
         match self {
-            Kind::Directory => true,
-            Kind::File | Kind::Link | Kind::Null | Kind::Other => false,
+            FileKind::Directory => true,
+            FileKind::File | FileKind::Link | FileKind::Null | FileKind::Other => false,
         }
     }
 
@@ -35,8 +35,8 @@ impl Kind {
         ensures { result ≡ is_file_kind self }
     {
         match self {
-            Kind::File => true,
-            Kind::Directory | Kind::Link | Kind::Null | Kind::Other => false,
+            FileKind::File => true,
+            FileKind::Directory | FileKind::Link | FileKind::Null | FileKind::Other => false,
         }
     }
 
@@ -45,8 +45,8 @@ impl Kind {
         ensures { result ≡ is_null_kind self }
     {
         match self {
-            Kind::Null => true,
-            Kind::Directory | Kind::File | Kind::Link | Kind::Other => false,
+            FileKind::Null => true,
+            FileKind::Directory | FileKind::File | FileKind::Link | FileKind::Other => false,
         }
     }
 
@@ -55,8 +55,8 @@ impl Kind {
         ensures { result ≡ is_link_kind self }
     {
         match self {
-            Kind::Link => true,
-            Kind::Directory | Kind::File | Kind::Null | Kind::Other => false,
+            FileKind::Link => true,
+            FileKind::Directory | FileKind::File | FileKind::Null | FileKind::Other => false,
         }
     }
 }
@@ -65,7 +65,7 @@ impl Kind {
 #[derive(Clone, Copy)]
 pub struct Found {
     /// Its kind.
-    pub kind: Kind,
+    pub kind: FileKind,
     /// Its owner, by number.
     pub owner: u32,
     /// The device that it is on.

@@ -3,7 +3,7 @@
 /// A parsed command line: which of the options without a value are given, the values of the others,
 /// the files, and whether a file is named between two uses of `-s`.
 #[derive(Drop)]
-pub struct Given<'a> {
+pub struct CommandLine<'a> {
     /// Whether `-l` is given.
     pub list: bool,
     /// Whether `-L` is given.

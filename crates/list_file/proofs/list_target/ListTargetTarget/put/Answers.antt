@@ -1,7 +1,7 @@
 -- Nothing is claimed about what is under the name.
 use Rattle.std.proofs.Common.{inl}
 use Rattle.std.proofs.lemmas.Result.{err_from_is_err_and}
-use Rattle.list_file.proofs.list_place.ListPlacePlace.put.Goals as goal
+use Rattle.list_file.proofs.list_target.ListTargetTarget.put.Goals as goal
 
 pub returns-in_err-self-clause-failed : goal.returns-in_err-self-clause-failed
 returns-in_err-self-clause-failed c =

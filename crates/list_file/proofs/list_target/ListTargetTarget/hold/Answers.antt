@@ -1,6 +1,6 @@
 -- Nothing is claimed about what is under the name.
 use Rattle.std.proofs.Common.{inl}
-use Rattle.list_file.proofs.list_place.ListPlacePlace.hold.Goals as goal
+use Rattle.list_file.proofs.list_target.ListTargetTarget.hold.Goals as goal
 
 pub returns-in_err-reader_of-clause-kept : goal.returns-in_err-reader_of-clause-kept
 returns-in_err-reader_of-clause-kept c = record { still = inl (λ content held. tt); later = λ was. tt }

@@ -1,10 +1,10 @@
 -- The options on a parsed command line (ssh-keygen(1), SYNOPSIS).
 use Rattle.std.specs.Prelude.{ℕ, Bool, List, Option, map, option_map}
-use Rattle.krl_job.specs.declared.given.Given.{Given as GivenOf}
+use Rattle.krl_job.specs.declared.command_line.CommandLine.{CommandLine as CommandLineOf}
 
 -- A parsed command line: which of the options without a value are given, the values of the others,
 -- the files, and whether a file is named between two uses of -s.
-pub record Given : Type 0 where
+pub record CommandLine : Type 0 where
   pub list : Bool
   pub certificates : Bool
   pub make : Bool
@@ -18,7 +18,7 @@ pub record Given : Type 0 where
   pub is_divided : Bool
 
 -- the same, as the program stores it
-abbrev pub given_by : GivenOf → Given
+abbrev pub given_by : CommandLineOf → CommandLine
 given_by given = record {
   list = given.list;
   certificates = given.certificates;

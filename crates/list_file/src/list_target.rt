@@ -1,14 +1,14 @@
-//! The name of a list in the file system, as a place where lists are put.
+//! The name of a list in the file system, as a target for lists.
 
 ghost use Rattle.std.specs.Prelude.{◌≡◌, ℕ, IfOk, None, Ok, Some, false, true};
 ghost use Rattle.std.specs.Option.{ForSome};
 ghost use Rattle.list_file.specs.declared.locked_list.Locked.{Locked as LockedOf};
 
-use crate::locked_list::{Locked, MadeOf, Target, lock_target, release, unopened};
+use crate::locked_list::{FileTarget, Locked, MadeOf, lock_target, release, unopened};
 use crate::replacing::{Written, write_list};
 use crate::waiting::Waiting;
 use byte_streams::{Failed, FromBuffer, Source};
-use list_making::{Place, Put, buffered};
+use list_making::{Put, Target, buffered};
 use run_faults::{Cause, FileFault};
 use std::fs::{self, File};
 
@@ -51,7 +51,7 @@ impl Source for OldReader {
 
 /// The name of a list. Nothing is claimed about what is under it.
 #[derive(Drop)]
-pub struct ListPlace<'a> {
+pub struct ListTarget<'a> {
     rt: &'a HostRuntime,
     name: &'a str,
     waiting: Waiting<'a>,
@@ -64,12 +64,12 @@ pub struct ListPlace<'a> {
     locked: Option<Locked>,
 }
 
-impl<'a> ListPlace<'a> {
+impl<'a> ListTarget<'a> {
     /// The name of a list, for a program that is named where it waits for others.
-    pub fn new(rt: &'a HostRuntime, program: &'static str, name: &'a str) -> ListPlace<'a>
+    pub fn new(rt: &'a HostRuntime, program: &'static str, name: &'a str) -> ListTarget<'a>
         ensures { result.locked ≡ None }
     {
-        ListPlace {
+        ListTarget {
             rt,
             name,
             waiting: Waiting::new(program, name),
@@ -135,11 +135,11 @@ impl<'a> ListPlace<'a> {
     {
         match &self.locked {
             Some(locked) => match &locked.target {
-                Target::List(old) => match old.file.try_clone() {
+                FileTarget::List(old) => match old.file.try_clone() {
                     Ok(file) => Ok(Some(reader_of(self.rt, file)?)),
                     Err(error) => Err(unopened(&error)),
                 },
-                Target::Free(_) | Target::Stream(_) => Ok(None),
+                FileTarget::Free(_) | FileTarget::Stream(_) => Ok(None),
             },
             None => Ok(None),
         }
@@ -149,8 +149,8 @@ impl<'a> ListPlace<'a> {
     fn follow(&mut self) -> bool {
         match &mut self.locked {
             Some(locked) => match &mut locked.target {
-                Target::List(old) => old.follow(self.rt, None).unwrap_or(false),
-                Target::Free(_) | Target::Stream(_) => false,
+                FileTarget::List(old) => old.follow(self.rt, None).unwrap_or(false),
+                FileTarget::Free(_) | FileTarget::Stream(_) => false,
             },
             None => false,
         }
@@ -173,7 +173,7 @@ impl<'a> ListPlace<'a> {
     }
 }
 
-impl<'a> Place for ListPlace<'a> {
+impl<'a> Target for ListTarget<'a> {
     type List = OldReader;
 
     ghost holds = { λ _ _. Unit {0} };

@@ -1,9 +1,9 @@
-//! The place of a list: a name that other programs may change too.
+//! The target of a list: a name that other programs may change too.
 
 ghost use Rattle.std.specs.Prelude.{◌≡◌, ◌⊎◌, ℕ, List, IfErr, IfOk, Ok, Option, Some, false};
 ghost use Rattle.std.specs.Prelude.{length, option_map, true};
 ghost use Rattle.std.specs.Option.{ForSome};
-ghost use Rattle.list_making.specs.Place.{IsCut, IsKept, Old};
+ghost use Rattle.list_making.specs.Target.{IsCut, IsKept, Old};
 
 use byte_streams::Source;
 use run_faults::Cause;
@@ -18,7 +18,7 @@ pub enum Put {
 }
 
 /// A name, and the list under it.
-pub trait Place {
+pub trait Target {
     /// A reader of the list that a new one follows.
     type List: Source + Drop;
 
