@@ -15,12 +15,13 @@ use Rattle.audit_lines.specs.declared.why.Refusal.{Refusal}
 use Rattle.audit_lines.specs.declared.why.Refusal.TheVariants as refusals
 use Rattle.audit_run.specs.Below.{HasName, IsBelow, IsFileBelow, IsSelected, IsSteady, IsVisitOf, LeadsToFile, SomeUnread, SomeVisit}
 use Rattle.audit_run.specs.Below.{by_front, by_name, deeper, itself, linked, regular}
-use Rattle.audit_run.specs.Entries.{IsBehind, IsFileBy, IsFound, IsLooked, IsOpened, IsOpenedIf, IsPrivateBy, IsPrivateFile, IsPrivateIf}
-use Rattle.audit_run.specs.Entries.{IsKept, IsRegularBy, below, excluded, here, kept, is_expected, no_text, not_selected, other as passed_file, private, read, same as seen_before}
-use Rattle.audit_run.specs.Names.{is_directory}
-use Rattle.audit_run.specs.Entries.{unread}
-use Rattle.audit_run.specs.Fact.{Elsewhere, Excludes, Fact, Leads, OpenFile}
-use Rattle.audit_run.specs.Names.{AreWanted, IsWanted, MayBeDirectory, behind, dots, excluded_name, is_directory_kind, is_dots, is_link_kind, is_never}
+use Rattle.audit_run.specs.Entries.{IsEntry, IsOpened, IsPrivateFile, IsTarget, VisitsTarget, is_always, is_expected}
+use Rattle.audit_run.specs.Entries.{behind as behind_link, below, excluded, here, irregular}
+use Rattle.audit_run.specs.Entries.{itself as not_linked, link_to_directory, no_text, not_opened}
+use Rattle.audit_run.specs.Entries.{not_regular, not_selected, null_device, other as passed_file, private, private_only, read}
+use Rattle.audit_run.specs.Entries.{regular as whole, same as seen_before, unread, unseen}
+use Rattle.audit_run.specs.Fact.{Elsewhere, Excludes, Fact, Leads, OpenFile, Opens}
+use Rattle.audit_run.specs.Names.{AreWanted, IsWanted, MayBeDirectory, behind, dots, excluded_name, is_directory, is_directory_kind, is_dots, is_irregular, is_link, is_link_kind, is_never}
 use Rattle.audit_run.specs.Names.{left_out, looked_at, no_name, not_looked_at, selected, taken}
 use Rattle.audit_run.specs.Names.{no_text as no_text_name, not_selected as not_selected_name}
 use Rattle.audit_run.specs.Reading.{front_of}
@@ -64,16 +65,6 @@ opened_visit : (Knows : Fact → Type 0) (path : List ℕ) (held : OpenFile) (vi
 opened_visit Knows path held visits (read is) = one_visit visits path _ is.visits_are refl
 opened_visit Knows path held visits (seen_before told is) = one_visit visits path _ is refl
 
-opened_if_visit : (Knows : Fact → Type 0) (path : List ℕ) (held : OpenFile) (is_file : Bool) (visits : List Visit)
-    → IsOpenedIf is_file Knows path held.identity held.bytes visits → SomeVisit path visits
-opened_if_visit Knows path held true visits is = opened_visit Knows path held visits is
-opened_if_visit Knows path held false visits is = one_visit visits path _ is refl
-
-regular_visit : (Knows : Fact → Type 0) (path : List ℕ) (opened : Result OpenFile Refusal) (visits : List Visit)
-    → IsRegularBy Knows path opened visits → SomeVisit path visits
-regular_visit Knows path (Err refusal) visits is = one_visit visits path _ is refl
-regular_visit Knows path (Ok held) visits is = opened_if_visit Knows path held held.is_file visits is
-
 not_both : (b : Bool) → b ≡ true → b ≡ false → ⊥
 not_both true holds fails = cc
 not_both false holds fails = cc
@@ -93,60 +84,65 @@ private_file_visit Knows path held bytes visits known begins (passed_file front 
     absurd (not_both (begins_container (front_of bytes)) begins (begins_known bytes held.bytes false known front))
 private_file_visit Knows path held bytes visits known begins (unread refusal fails is) = one_visit visits path _ is refl
 
-private_if_visit : (Knows : Fact → Type 0) (path : List ℕ) (held : OpenFile) (is_file : Bool) (bytes : List ℕ) (visits : List Visit)
-    → held.bytes ≡ Some bytes → begins_container (front_of bytes) ≡ true
-    → IsPrivateIf is_file Knows path held.identity held.bytes visits → SomeVisit path visits
-private_if_visit Knows path held true bytes visits known begins is = private_file_visit Knows path held bytes visits known begins is
-private_if_visit Knows path held false bytes visits known begins is = one_visit visits path _ is refl
+private_visit : (Knows : Fact → Type 0) (path : List ℕ) (selection : Selection) (file found : Found) (held : OpenFile) (visits : List Visit)
+    → IsSteady Knows → found ≡ file → Knows (Opens path (Some found) (Ok held)) → is_always selection ≡ false
+    → IsSelected Knows path file selection → IsPrivateFile Knows path held.identity held.bytes visits → SomeVisit path visits
+private_visit Knows path _ file found held visits steady same opens only by_name is = absurd (cc)
+private_visit Knows path _ file found held visits steady same opens only (by_front other bytes opened known begins) is =
+    let there : Knows (Opens path (Some file) (Ok held)) = subst (λ (f : Found). Knows (Opens path (Some f) (Ok held))) same opens in
+    let both : Ok held ≡ Ok other = steady.opens path (Some file) (Ok held) (Ok other) there opened in
+    let it : held ≡ other = cc in
+    private_file_visit Knows path held bytes visits (ap (λ (o : OpenFile). o.bytes) it ∙ known) begins is
 
-private_visit : (Knows : Fact → Type 0) (path : List ℕ) (held : OpenFile) (bytes : List ℕ) (opened : Result OpenFile Refusal)
-    (visits : List Visit) → opened ≡ Ok held → held.bytes ≡ Some bytes → begins_container (front_of bytes) ≡ true
-    → IsPrivateBy Knows path opened visits → SomeVisit path visits
-private_visit Knows path held bytes opened visits is known begins leads =
-    let so : IsPrivateBy Knows path (Ok held) visits = subst (λ (o : Result OpenFile Refusal). IsPrivateBy Knows path o visits) is leads in
-    private_if_visit Knows path held held.is_file bytes visits known begins so
+target_visit : (Knows : Fact → Type 0) (path : List ℕ) (selection : Selection) (expected : Bool) (file : Found)
+    (target : Result Found Refusal) (visits : List Visit) → IsSteady Knows → target ≡ Ok file → file.kind ≡ kinds.File
+    → IsSelected Knows path file selection → VisitsTarget Knows path (is_always selection) expected target visits → SomeVisit path visits
+target_visit Knows path selection expected file target visits steady is_file kind selects (unseen refusal so is) =
+    one_visit visits path _ is refl
+target_visit Knows path selection expected file target visits steady is_file kind selects (not_opened found refusal so kind_is opens is) =
+    one_visit visits path _ is refl
+target_visit Knows path selection expected file target visits steady is_file kind selects (not_regular found held so kind_is opens no_file is) =
+    one_visit visits path _ is refl
+target_visit Knows path selection expected file target visits steady is_file kind selects (whole found held so kind_is opens still by is) =
+    opened_visit Knows path held visits is
+target_visit Knows path selection expected file target visits steady is_file kind selects
+    (private_only found held so kind_is opens still only is) =
+    let same : found ≡ file = cc in
+    private_visit Knows path selection file found held visits steady same opens only selects is
+target_visit Knows path selection expected file target visits steady is_file kind selects (null_device found so kind_is is) =
+    let same : found ≡ file = cc in
+    let bad : kinds.Null ≡ kinds.File = sym kind_is ∙ ap (λ (f : Found). f.kind) same ∙ kind in
+    absurd (cc)
+target_visit Knows path selection expected file target visits steady is_file kind selects (irregular found so kind_is is) =
+    let same : found ≡ file = cc in
+    let bad : is_irregular found.kind ≡ false =
+    ap (λ (f : Found). is_irregular f.kind) same ∙ ap (λ (k : FileKind). is_irregular k) kind in
+    absurd (not_both (is_irregular found.kind) kind_is bad)
 
-file_visit : (Knows : Fact → Type 0) (path : List ℕ) (selection : Selection) (file : Found) (visits : List Visit) → IsSteady Knows
-    → IsSelected Knows path file selection → IsFileBy selection Knows path file visits → SomeVisit path visits
-file_visit Knows path _ file visits steady by_name leads = regular_visit Knows path leads.opened visits leads.leads
-file_visit Knows path _ file visits steady (by_front held bytes opens known begins) leads =
-    private_visit Knows path held bytes leads.opened visits (steady.opens path (Some file) leads.opened (Ok held) leads.opens opens) known
-    begins leads.leads
+link_at : (Knows : Fact → Type 0) (path : List ℕ) (looked : Result Found Refusal) (found : Found) (kind : FileKind) → IsSteady Knows
+    → Knows (Leads path false looked) → Knows (Leads path false (Ok found)) → found.kind ≡ kind → is_link looked ≡ is_link_kind kind
+link_at Knows path looked found kind steady looks leads is =
+    ap (λ (l : Result Found Refusal). is_link l) (steady.leads path false looked (Ok found) looks leads)
+    ∙ ap (λ (k : FileKind). is_link_kind k) is
 
-found_visit : (Knows : Fact → Type 0) (path : List ℕ) (selection : Selection) (expected : Bool) (kind : FileKind) (file : Found)
-    (visits : List Visit) → IsSteady Knows → kind ≡ kinds.File → IsSelected Knows path file selection
-    → IsFound kind Knows path selection expected file visits → SomeVisit path visits
-found_visit Knows path selection expected kind file visits steady is selects leads =
-    let so : IsFileBy selection Knows path file visits =
-    subst (λ (k : FileKind). IsFound k Knows path selection expected file visits) is leads in
-    file_visit Knows path selection file visits steady selects so
-
-behind_visit : (Knows : Fact → Type 0) (path : List ℕ) (selection : Selection) (expected : Bool) (looked : Result Found Refusal)
-    (file : Found) (visits : List Visit) → IsSteady Knows → looked ≡ Ok file → file.kind ≡ kinds.File
-    → IsSelected Knows path file selection → IsBehind Knows path selection expected looked visits → SomeVisit path visits
-behind_visit Knows path selection expected looked file visits steady is kind selects leads =
-    let so : IsBehind Knows path selection expected (Ok file) visits =
-    subst (λ (l : Result Found Refusal). IsBehind Knows path selection expected l visits) is leads in
-    let found : IsFound file.kind Knows path selection expected file visits = rw kind (rw kind at so) in
-    found_visit Knows path selection expected file.kind file visits steady kind selects found
-
-looked_visit : (Knows : Fact → Type 0) (path : List ℕ) (selection : Selection) (expected : Bool) (looked : Result Found Refusal)
-    (file : Found) (visits : List Visit) → IsSteady Knows → Knows (Leads path false looked) → LeadsToFile Knows path file
-    → file.kind ≡ kinds.File → IsSelected Knows path file selection → IsLooked Knows path selection expected looked visits
-    → SomeVisit path visits
-looked_visit Knows path selection expected looked file visits steady looks (regular found) kind selects leads =
-    let is = steady.leads path false looked (Ok file) looks found in
-    let so : IsLooked Knows path selection expected (Ok file) visits =
-    subst (λ (l : Result Found Refusal). IsLooked Knows path selection expected l visits) is leads in
-    let there : IsFound file.kind Knows path selection expected file visits = rw kind (rw kind at so) in
-    found_visit Knows path selection expected file.kind file visits steady kind selects there
-looked_visit Knows path selection expected looked file visits steady looks (linked link found kind_is followed) kind selects leads =
-    let is = steady.leads path false looked (Ok link) looks found in
-    let so : IsLooked Knows path selection expected (Ok link) visits =
-    subst (λ (l : Result Found Refusal). IsLooked Knows path selection expected l visits) is leads in
-    let there = rw kind_is at so in
-    behind_visit Knows path selection expected there.behind file visits steady
-    (steady.leads path true there.behind (Ok file) there.leads followed) kind selects there.is
+target_is : (Knows : Fact → Type 0) (path : List ℕ) (looked target : Result Found Refusal) (file : Found) → IsSteady Knows
+    → Knows (Leads path false looked) → LeadsToFile Knows path file → file.kind ≡ kinds.File → IsTarget Knows path looked target
+    → target ≡ Ok file
+target_is Knows path looked target file steady looks (regular found) kind (not_linked no_link is) =
+    is ∙ steady.leads path false looked (Ok file) looks found
+target_is Knows path looked target file steady looks (regular found) kind (behind_link link leads no_directory) =
+    absurd (not_both (is_link looked) link (link_at Knows path looked file kinds.File steady looks found kind))
+target_is Knows path looked target file steady looks (regular found) kind (link_to_directory other link leads is_dir is) =
+    absurd (not_both (is_link looked) link (link_at Knows path looked file kinds.File steady looks found kind))
+target_is Knows path looked target file steady looks (linked link found kind_is followed) kind (not_linked no_link is) =
+    absurd (not_both (is_link looked) (link_at Knows path looked link kinds.Link steady looks found kind_is) no_link)
+target_is Knows path looked target file steady looks (linked link found kind_is followed) kind (behind_link is_there leads no_directory) =
+    steady.leads path true target (Ok file) leads followed
+target_is Knows path looked target file steady looks (linked link found kind_is followed) kind (link_to_directory other is_there leads is_dir is) =
+    let bad : is_directory other ≡ false =
+    ap (λ (l : Result Found Refusal). is_directory l) (steady.leads path true other (Ok file) leads followed)
+    ∙ ap (λ (k : FileKind). is_directory_kind k) kind in
+    absurd (not_both (is_directory other) is_dir bad)
 
 -- ---- a name that is wanted is gone to
 
@@ -268,14 +264,16 @@ below_had Knows every path visits all levels had steady stays (elsewhere leaves 
 below_had Knows every path visits all levels had steady stays (entered_below stays_too enters) part grows =
     level_had Knows every false path visits all levels had enters part grows
 
-kept_down : (Knows : Fact → Type 0) (every : Bool) (path name : List ℕ) (found : Found) (visits : List Visit) → IsSteady Knows
-    → Knows (Leads (path_in path name) false (Ok found)) → found.kind ≡ kinds.Directory → IsUtf8 name
-    → IsKept Knows every path name false visits → ⊥
-kept_down Knows every path name found visits steady leads kind text (no_text bad down is) = bad text
-kept_down Knows every path name found visits steady leads kind text (not_selected utf8 never down is) = cc
-kept_down Knows every path name found visits steady leads kind text (below found_too utf8 never looked dir down is) = cc
-kept_down Knows every path name found visits steady leads kind text (here found_too utf8 never looked dir down is) =
-    let it = steady.leads (path_in path name) false found_too (Ok found) looked leads in
+entry_down : (Knows : Fact → Type 0) (every : Bool) (path name : List ℕ) (found : Found) (visits : List Visit) → IsSteady Knows
+    → Knows (Leads (path_in path name) false (Ok found)) → found.kind ≡ kinds.Directory → IsUtf8 name → Knows (Excludes name false)
+    → IsEntry Knows every path name false visits → ⊥
+entry_down Knows every path name found visits steady leads kind text keeps (excluded leaves down is) =
+    not_at_once Knows name steady leaves keeps
+entry_down Knows every path name found visits steady leads kind text keeps (no_text kept bad down is) = bad text
+entry_down Knows every path name found visits steady leads kind text keeps (not_selected kept utf8 never down is) = cc
+entry_down Knows every path name found visits steady leads kind text keeps (below found_too kept utf8 never looked dir down is) = cc
+entry_down Knows every path name found visits steady leads kind text keeps (here looked target kept utf8 never looks dir leads_to down is) =
+    let it = steady.leads (path_in path name) false looked (Ok found) looks leads in
     let so : is_directory (Ok found) ≡ false = subst (λ (o : Result Found Refusal). is_directory o ≡ false) it dir in
     not_both (is_directory_kind found.kind) (ap (λ (k : FileKind). is_directory_kind k) kind) so
 
@@ -286,10 +284,8 @@ went_down : (Knows : Fact → Type 0) (every : Bool) (had : List Level) (all : L
     → WasEntered Knows every false (path_in level.path name.items) had ⊎ SomeUnread all
 went_down Knows every had all level name found steady leads kind text keeps stays (gone_down some deep is enters part grows) =
     below_had Knows every (path_in level.path name.items) some all deep had steady stays enters part grows
-went_down Knows every had all level name found steady leads kind text keeps stays (gone some (excluded leaves down is) part) =
-    absurd (not_at_once Knows name.items steady leaves keeps)
-went_down Knows every had all level name found steady leads kind text keeps stays (gone some (kept there is) part) =
-    absurd (kept_down Knows level.every level.path name.items found some steady leads kind text is)
+went_down Knows every had all level name found steady leads kind text keeps stays (gone some is part) =
+    absurd (entry_down Knows level.every level.path name.items found some steady leads kind text keeps is)
 
 -- each directory below was entered
 pub below_entered : (Knows : Fact → Type 0) (every : Bool) (top : List ℕ) (had start : List Level) (all first : List Visit)
@@ -336,41 +332,42 @@ leads_here Knows path file looked steady looks (linked link found kind_is follow
 visit_of_more : (path : List ℕ) (some all : List Visit) → IsPartOf some all → SomeVisit path some → SomeVisit path all
 visit_of_more path some all part visit = (visit.0, (part visit.0 visit.1.0, visit.1.1))
 
-kept_here : (Knows : Fact → Type 0) (every : Bool) (path name : List ℕ) (file : Found) (visits : List Visit)
+entry_visit : (Knows : Fact → Type 0) (every : Bool) (path name : List ℕ) (file : Found) (visits : List Visit)
     → IsSteady Knows → LeadsToFile Knows (path_in path name) file → file.kind ≡ kinds.File → IsUtf8 name
-    → IsSelected Knows (path_in path name) file (selection_of every name)
-    → IsKept Knows every path name false visits → SomeVisit (path_in path name) visits
-kept_here Knows every path name file visits steady leads kind text selects (no_text bad down is) = absurd (bad text)
-kept_here Knows every path name file visits steady leads kind text selects (not_selected utf8 never down is) = absurd (cc)
-kept_here Knows every path name file visits steady leads kind text selects (below found_too utf8 never looked dir down is) = absurd (cc)
-kept_here Knows every path name file visits steady leads kind text selects (here looked utf8 never looks dir down is) =
-    looked_visit Knows (path_in path name) (selection_of every name) (is_expected path name) looked file
-    visits steady looks leads kind selects is
+    → IsSelected Knows (path_in path name) file (selection_of every name) → Knows (Excludes name false)
+    → IsEntry Knows every path name false visits → SomeVisit (path_in path name) visits
+entry_visit Knows every path name file visits steady leads kind text selects keeps (excluded leaves down is) =
+    absurd (not_at_once Knows name steady leaves keeps)
+entry_visit Knows every path name file visits steady leads kind text selects keeps (no_text kept bad down is) = absurd (bad text)
+entry_visit Knows every path name file visits steady leads kind text selects keeps (not_selected kept utf8 never down is) = absurd (cc)
+entry_visit Knows every path name file visits steady leads kind text selects keeps (below found kept utf8 never looked dir down is) =
+    absurd (cc)
+entry_visit Knows every path name file visits steady leads kind text selects keeps
+    (here looked target kept utf8 never looks dir leads_to down is) =
+    target_visit Knows (path_in path name) (selection_of every name) (is_expected path name) file target visits steady
+    (target_is Knows (path_in path name) looked target file steady looks leads kind leads_to) kind selects is
 
 not_down : (Knows : Fact → Type 0) (every : Bool) (path name : List ℕ) (file : Found) (visits : List Visit)
     → IsSteady Knows → LeadsToFile Knows (path_in path name) file → file.kind ≡ kinds.File → IsUtf8 name
     → IsSelected Knows (path_in path name) file (selection_of every name)
-    → IsKept Knows every path name true visits → ⊥
-not_down Knows every path name file visits steady leads kind text selects (no_text bad down is) = bad text
-not_down Knows every path name file visits steady leads kind text selects (not_selected utf8 never down is) =
+    → IsEntry Knows every path name true visits → ⊥
+not_down Knows every path name file visits steady leads kind text selects (excluded leaves down is) = cc
+not_down Knows every path name file visits steady leads kind text selects (no_text kept bad down is) = bad text
+not_down Knows every path name file visits steady leads kind text selects (not_selected kept utf8 never down is) =
     not_both (is_never (selection_of every name)) never (not_never Knows (path_in path name) file (selection_of every name) selects)
-not_down Knows every path name file visits steady leads kind text selects (below looked utf8 never looks dir down is) =
+not_down Knows every path name file visits steady leads kind text selects (below looked kept utf8 never looks dir down is) =
     not_both (is_directory looked) dir (leads_here Knows (path_in path name) file looked steady looks leads kind)
-not_down Knows every path name file visits steady leads kind text selects (here looked utf8 never looks dir down is) = cc
+not_down Knows every path name file visits steady leads kind text selects (here looked target kept utf8 never looks dir leads_to down is) =
+    cc
 
 file_gone : (Knows : Fact → Type 0) (every : Bool) (had : List Level) (all : List Visit) (level : Level) (name : Vec ℕ) (file : Found)
     → IsSteady Knows → LeadsToFile Knows (path_in level.path name.items) file → file.kind ≡ kinds.File → IsUtf8 name.items
     → IsSelected Knows (path_in level.path name.items) file (selection_of level.every name.items) → Knows (Excludes name.items false)
     → IsGoneTo Knows every had all level name → SomeVisit (path_in level.path name.items) all
-file_gone Knows every had all level name file steady leads kind text selects keeps (gone some (excluded leaves down is) part) =
-    absurd (not_at_once Knows name.items steady leaves keeps)
-file_gone Knows every had all level name file steady leads kind text selects keeps (gone some (kept there is) part) =
+file_gone Knows every had all level name file steady leads kind text selects keeps (gone some is part) =
     visit_of_more (path_in level.path name.items) some all part
-    (kept_here Knows level.every level.path name.items file some steady leads kind text selects is)
-file_gone Knows every had all level name file steady leads kind text selects keeps
-    (gone_down some deep (excluded leaves down is) enters part grows) = absurd (cc)
-file_gone Knows every had all level name file steady leads kind text selects keeps
-    (gone_down some deep (kept there is) enters part grows) =
+    (entry_visit Knows level.every level.path name.items file some steady leads kind text selects keeps is)
+file_gone Knows every had all level name file steady leads kind text selects keeps (gone_down some deep is enters part grows) =
     absurd (not_down Knows level.every level.path name.items file [] steady leads kind text selects is)
 
 gone_more : (Knows : Fact → Type 0) (every : Bool) (had : List Level) (some all : List Visit) (level : Level) (name : Vec ℕ)

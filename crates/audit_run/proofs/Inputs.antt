@@ -33,18 +33,18 @@ long_front name full is long =
     ∙ sym (take-append-le 4096 (take 4097 full) (drop 4097 full) fits)
     ∙ ap (λ (n : List ℕ). take 4096 n) (take-append-drop 4097 full)
 
-empty : (name : List ℕ) → length name ≤ 0 → name ≡ []
+empty : (name : List ℕ) → length name ≡ 0 → name ≡ []
 empty [] is = refl
 empty (byte ∷ name) is = absurd (omega (arith, is))
 
 -- the last name, of which this front is kept
-pub some_front : (name last : List ℕ) → name ≡ take 4097 last → 0 < length name → names_to last ≡ last ∷ []
+some_front : (name last : List ℕ) → name ≡ take 4097 last → (length name ≡ 0 → ⊥) → names_to last ≡ last ∷ []
 some_front name [] is some =
     let size : length name ≡ 0 = ap (λ (n : List ℕ). length n) (is ∙ take_all 4097 [] (omega arith)) in
-    absurd (omega (arith, size, some))
+    absurd (some size)
 some_front name (byte ∷ last) is some = refl
 
-pub no_front : (name last : List ℕ) → name ≡ take 4097 last → length name ≤ 0 → names_to last ≡ []
+no_front : (name last : List ℕ) → name ≡ take 4097 last → length name ≡ 0 → names_to last ≡ []
 no_front name last is none_there =
     let fits : length name ≤ 4096 = omega (arith, none_there) in
     let same = whole_name 4096 name last is fits in
@@ -119,7 +119,7 @@ on_all Knows every false begun now names last visits gives end is =
     × (Each (IsOnList Knows every) false (names_after [] first) visits ⊎ Each (IsOnList Knows every) false (names_of bytes) visits)))
     gives.comes.consumed end (gives.came, [], (sym (append-nil gives.came), inr (rw all is)))
 
-pub took_all : (Knows : Fact → Type 0) (every : Bool) (begun mid now : Unread) (last : List ℕ) (more : List Visit)
+took_all : (Knows : Fact → Type 0) (every : Bool) (begun mid now : Unread) (last : List ℕ) (more : List Visit)
     (result : Result Bool Stop) (old then new : State) → HasListed Knows every true begun mid [] None old then → Gives mid now [] last
     → IsAtEnd now.left → Each (IsOnList Knows every) (is_whole result) (names_to last) more → AuditsBy more (result_err result) then new
     → Took (λ result. IsOnNames Knows every (is_whole result) begun.left) result old new
@@ -131,6 +131,25 @@ took_all Knows every begun mid now last more result old then new was gives end i
       is = on_all Knows every (is_whole result) begun now was.names last (was.visits ++ more) all end both;
       audits = by_then was.visits more (result_err result) old then new was.audits audits;
     }
+
+-- no last name came
+pub took_none : (Knows : Fact → Type 0) (every : Bool) (begun mid now : Unread) (name last : List ℕ) (old then : State)
+    → HasListed Knows every true begun mid [] None old then → Gives mid now [] last → IsAtEnd now.left → name ≡ take 4097 last
+    → length name ≡ 0 → Took (λ result. IsOnNames Knows every (is_whole result) begun.left) (Ok true) old then
+took_none Knows every begun mid now name last old then was gives end is nothing =
+    took_all Knows every begun mid now last [] (Ok true) old then then was gives end
+    (subst (λ (n : List (List ℕ)). Each (IsOnList Knows every) true n []) (sym (no_front name last is nothing)) none)
+    (nothing_met then).audits
+
+-- the last name came, without a zero byte
+pub took_last : (Knows : Fact → Type 0) (every : Bool) (begun mid now : Unread) (name last : List ℕ) (more : List Visit)
+    (result : Result Bool Stop) (old then new : State) → HasListed Knows every true begun mid [] None old then → Gives mid now [] last
+    → IsAtEnd now.left → name ≡ take 4097 last → (length name ≡ 0 → ⊥) → IsOnList Knows every (is_whole result) last more
+    → AuditsBy more (result_err result) then new → Took (λ result. IsOnNames Knows every (is_whole result) begun.left) result old new
+took_last Knows every begun mid now name last more result old then new was gives end is some goes audits =
+    took_all Knows every begun mid now last more result old then new was gives end
+    (subst (λ (n : List (List ℕ)). Each (IsOnList Knows every) (is_whole result) n more) (sym (some_front name last is some))
+    (each_one (IsOnList Knows every) (is_whole result) last more goes)) audits
 
 -- as many bytes came as are read
 pub broken_listed : (Knows : Fact → Type 0) (every : Bool) (begun mid now : Unread) (front : List ℕ) (old then : State)
@@ -157,10 +176,6 @@ goes_went result Is Also old new nothing goes was = record {
   is = went_is result Is Also was.visits nothing goes was.is;
   audits = was.meets.audits;
 }
-
-pub met_went : (result : Result (Unit {0}) Stop) (visits : List Visit) (Also : Bool → List Visit → Type 0) (old new : State)
-    → Also (is_ok result) visits → Meets visits (result_err result) old new → Went {A = Unit {0}} Also result old new
-met_went result visits Also old new is meets = record { visits = visits; is = is; audits = meets.audits }
 
 pub went_as : (result : Result (Unit {0}) Stop) (Is Also : Bool → List Visit → Type 0) (old new : State)
     → ((whole : Bool) (v : List Visit) → Is whole v → Also whole v) → Went {A = Unit {0}} Is result old new

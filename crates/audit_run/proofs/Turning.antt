@@ -5,8 +5,7 @@ use Rattle.std.specs.Prelude.{is_some}
 use Rattle.std.proofs.lemmas.List.{map-append}
 use Rattle.std.specs.Global.{Vec}
 use Rattle.audit_run.specs.Paths.{path_in}
-use Rattle.audit_lines.specs.declared.why.Refusal.TheVariants as refusals
-use Rattle.audit_run.specs.Entries.{IsEntry, IsKept, below, excluded, here, kept, no_text, not_selected}
+use Rattle.audit_run.specs.Entries.{IsEntry, below, excluded, here, no_text, not_selected}
 use Rattle.audit_run.specs.Fact.{Fact}
 use Rattle.audit_run.specs.Visits.{AuditsBy, Begun, Meets, State, Visit}
 use Rattle.audit_run.specs.Walk.{IsDirectory, IsEntered, IsEnteredBelow, Level, MayTurn, Turn, Turns, goes, goes_down, leaves}
@@ -19,17 +18,13 @@ use Rattle.audit_run.proofs.Auditing.{meets_then, nothing_begun}
 
 -- ---- one step
 
-kept_nothing : (Knows : Fact → Type 0) (every : Bool) (directory name : List ℕ) (visits : List Visit)
-    → IsKept Knows every directory name true visits → visits ≡ []
-kept_nothing Knows every directory name visits (no_text bad down is) = absurd (cc)
-kept_nothing Knows every directory name visits (not_selected utf8 never down is) = is
-kept_nothing Knows every directory name visits (below found utf8 never leads dir down is) = is
-kept_nothing Knows every directory name visits (here found utf8 never leads dir down is) = absurd (cc)
-
 pub down_nothing : (Knows : Fact → Type 0) (every : Bool) (directory name : List ℕ) (visits : List Visit)
     → IsEntry Knows every directory name true visits → visits ≡ []
 down_nothing Knows every directory name visits (excluded out down is) = absurd (cc)
-down_nothing Knows every directory name visits (kept keeps is) = kept_nothing Knows every directory name visits is
+down_nothing Knows every directory name visits (no_text keeps bad down is) = absurd (cc)
+down_nothing Knows every directory name visits (not_selected keeps utf8 never down is) = is
+down_nothing Knows every directory name visits (below found keeps utf8 never leads dir down is) = is
+down_nothing Knows every directory name visits (here looked target keeps utf8 never looks dir leads down is) = absurd (cc)
 
 -- a name of the last directory was gone to, at most
 pub entry_turn : (Knows : Fact → Type 0) (every : Bool) (levels now : List Level) (last : Level) (left : List (Vec ℕ)) (name : Vec ℕ)

@@ -1,4 +1,4 @@
--- Where a path leads, by the facts that a tree states about it.
+-- The target of a path, and what is met there, by the facts that a tree states about it.
 use Rattle.std.specs.Prelude.{◌≡◌, ℕ, Bool, true, false, List, [], ◌∷◌}
 use Rattle.std.specs.Prelude.{Option, Some, None, IfSome, Result, Ok, Err}
 use Rattle.std.specs.Str.{IsUtf8}
@@ -14,10 +14,9 @@ use Rattle.audit_lines.specs.declared.front.Fronts.TheVariants as fronts
 use Rattle.audit_lines.specs.declared.why.Refusal.{Refusal}
 use Rattle.audit_lines.specs.declared.why.Refusal.TheVariants as refusals
 use Rattle.audit_run.specs.Fact.{Excludes, Fact, Fails, Leads, OpenFile, Opens}
-use Rattle.audit_run.specs.Names.{is_directory, is_directory_kind, is_link_kind, is_never}
+use Rattle.audit_run.specs.Names.{is_directory, is_irregular, is_link, is_never}
 use Rattle.audit_run.specs.Reading.{IsContent, front_of}
 use Rattle.audit_run.specs.Visits.{Audited, Same, Skipped, Visit, refused}
-use Rattle.audit_run.specs.declared.file_kind.FileKind.{FileKind}
 use Rattle.audit_run.specs.declared.file_kind.FileKind.TheVariants as kinds
 use Rattle.audit_run.specs.declared.file_kind.Found.{Found}
 use Rattle.audit_run.specs.declared.file_kind.Identity.{Identity}
@@ -65,25 +64,7 @@ pub data IsOpened (Knows : Fact → Type 0) (path : List ℕ) (identity : Identi
   same : (told : Bool) → visits ≡ Same told (key_of path identity) path ∷ []
       → IsOpened Knows path identity bytes visits
 
--- one that is no regular file once it is open is not read
-abbrev pub IsOpenedIf : Bool → (Fact → Type 0) → List ℕ → Identity → Option (List ℕ)
-    → List Visit → Type 0
-IsOpenedIf true Knows path identity bytes visits = IsOpened Knows path identity bytes visits
-IsOpenedIf false Knows path identity bytes visits = visits ≡ refused path refusals.Irregular
-
-abbrev pub IsRegularBy : (Fact → Type 0) → List ℕ → Result OpenFile Refusal → List Visit → Type 0
-IsRegularBy Knows path (Err refusal) visits = visits ≡ refused path refusal
-IsRegularBy Knows path (Ok held) visits =
-    IsOpenedIf held.is_file Knows path held.identity held.bytes visits
-
--- a path that led to a regular file when it was looked at
-pub record IsRegular (Knows : Fact → Type 0) (path : List ℕ) (found : Found)
-    (visits : List Visit) : Type 0 where
-  pub opened : Result OpenFile Refusal
-  pub opens : Knows (Opens path (Some found) opened)
-  pub leads : IsRegularBy Knows path opened visits
-
--- By its first bytes: a file that does not begin as a private key file is passed over.
+-- An open file that is read only if it begins as a private key file, and is skipped otherwise.
 pub data IsPrivateFile (Knows : Fact → Type 0) (path : List ℕ) (identity : Identity)
     (bytes : Option (List ℕ)) (visits : List Visit) : Type 0 where
   private : IfSome bytes (λ all. begins_container (front_of all) ≡ true)
@@ -94,123 +75,91 @@ pub data IsPrivateFile (Knows : Fact → Type 0) (path : List ℕ) (identity : I
   unread : (refusal : Refusal) → Knows (Fails path refusal) → visits ≡ refused path refusal
       → IsPrivateFile Knows path identity bytes visits
 
-abbrev pub IsPrivateIf : Bool → (Fact → Type 0) → List ℕ → Identity → Option (List ℕ)
-    → List Visit → Type 0
-IsPrivateIf true Knows path identity bytes visits =
-    IsPrivateFile Knows path identity bytes visits
-IsPrivateIf false Knows path identity bytes visits = visits ≡ refused path refusals.Irregular
+-- ---- what a path leads to
 
-abbrev pub IsPrivateBy : (Fact → Type 0) → List ℕ → Result OpenFile Refusal → List Visit → Type 0
-IsPrivateBy Knows path (Err refusal) visits = visits ≡ refused path refusal
-IsPrivateBy Knows path (Ok held) visits =
-    IsPrivateIf held.is_file Knows path held.identity held.bytes visits
+-- The target of a path that was looked at: what was found there, or what is behind a link. A link
+-- to a directory is not followed.
+pub data IsTarget (Knows : Fact → Type 0) (path : List ℕ) (looked target : Result Found Refusal)
+    : Type 0 where
+  itself : is_link looked ≡ false → target ≡ looked → IsTarget Knows path looked target
+  behind : is_link looked ≡ true → Knows (Leads path true target) → is_directory target ≡ false
+      → IsTarget Knows path looked target
+  link_to_directory : (found : Result Found Refusal) → is_link looked ≡ true
+      → Knows (Leads path true found) → is_directory found ≡ true
+      → target ≡ Err refusals.DirectoryLink → IsTarget Knows path looked target
 
--- the same for one that is audited if it begins as a private key file
-pub record IsPrivate (Knows : Fact → Type 0) (path : List ℕ) (found : Found)
-    (visits : List Visit) : Type 0 where
-  pub opened : Result OpenFile Refusal
-  pub opens : Knows (Opens path (Some found) opened)
-  pub leads : IsPrivateBy Knows path opened visits
+-- this content is audited, or the name is skipped
+abbrev pub audited_if : Bool → List ℕ → Result (List ℕ) Refusal → List Visit
+audited_if true path content = Audited None path content ∷ []
+audited_if false path content = Skipped skips.ByName 1 ∷ []
 
--- ---- a name that is found in a directory
+-- A path leads to these visits, by its target, which is no directory. A file there is read by its
+-- name, or only if it begins as a private key file; and a file is expected there or not.
+pub data VisitsTarget (Knows : Fact → Type 0) (path : List ℕ) (by_name expected : Bool)
+    (target : Result Found Refusal) (visits : List Visit) : Type 0 where
+  -- it cannot be looked at, or is a link to a directory
+  unseen : (refusal : Refusal) → target ≡ Err refusal → visits ≡ refused path refusal
+      → VisitsTarget Knows path by_name expected target visits
+  -- a regular file that cannot be opened
+  not_opened : (found : Found) (refusal : Refusal) → target ≡ Ok found → found.kind ≡ kinds.File
+      → Knows (Opens path (Some found) (Err refusal)) → visits ≡ refused path refusal
+      → VisitsTarget Knows path by_name expected target visits
+  -- one that is no regular file any more once it is open
+  not_regular : (found : Found) (held : OpenFile) → target ≡ Ok found → found.kind ≡ kinds.File
+      → Knows (Opens path (Some found) (Ok held)) → held.is_file ≡ false
+      → visits ≡ refused path refusals.Irregular
+      → VisitsTarget Knows path by_name expected target visits
+  -- a regular file that is read by its name
+  regular : (found : Found) (held : OpenFile) → target ≡ Ok found → found.kind ≡ kinds.File
+      → Knows (Opens path (Some found) (Ok held)) → held.is_file ≡ true → by_name ≡ true
+      → IsOpened Knows path held.identity held.bytes visits
+      → VisitsTarget Knows path by_name expected target visits
+  -- one that is read only if it begins as a private key file
+  private_only : (found : Found) (held : OpenFile) → target ≡ Ok found → found.kind ≡ kinds.File
+      → Knows (Opens path (Some found) (Ok held)) → held.is_file ≡ true → by_name ≡ false
+      → IsPrivateFile Knows path held.identity held.bytes visits
+      → VisitsTarget Knows path by_name expected target visits
+  -- the null device, which is an empty file
+  null_device : (found : Found) → target ≡ Ok found → found.kind ≡ kinds.Null
+      → visits ≡ audited_if by_name path (Ok [])
+      → VisitsTarget Knows path by_name expected target visits
+  -- a pipe, a socket or another device
+  irregular : (found : Found) → target ≡ Ok found → is_irregular found.kind ≡ true
+      → visits ≡ audited_if expected path (Err refusals.Irregular)
+      → VisitsTarget Knows path by_name expected target visits
 
--- whether sshd or ssh reads a file of this name in this directory
+-- ---- a name of a directory
+
+-- whether a file is read by its name, whatever it has
 abbrev pub is_always : Selection → Bool
 is_always selections.Always = true
 is_always selections.IfPrivate = false
 is_always selections.Never = false
 
+-- whether sshd or ssh reads a file of this name in this directory
 abbrev pub is_expected : (directory name : List ℕ) → Bool
 is_expected directory name = is_always (selection_of (reads_every directory) name)
 
--- a regular file, by its name
-abbrev pub IsFileBy : Selection → (Fact → Type 0) → List ℕ → Found → List Visit → Type 0
-IsFileBy selections.Always Knows path found visits = IsRegular Knows path found visits
-IsFileBy selections.IfPrivate Knows path found visits = IsPrivate Knows path found visits
-IsFileBy selections.Never Knows path found visits = IsPrivate Knows path found visits
-
--- what is no regular file is not opened
-abbrev pub irregular : (expected : Bool) → List ℕ → List Visit
-irregular true path = refused path refusals.Irregular
-irregular false path = Skipped skips.ByName 1 ∷ []
-
--- The null device is an empty file. One that is read only as a private key file is skipped.
-abbrev pub empty_file : Selection → List ℕ → List Visit
-empty_file selections.Always path = Audited None path (Ok []) ∷ []
-empty_file selections.IfPrivate path = Skipped skips.ByName 1 ∷ []
-empty_file selections.Never path = Skipped skips.ByName 1 ∷ []
-
--- A file that was found, or to which a link leads that was found. It is no directory.
-abbrev pub IsFound : FileKind → (Fact → Type 0) → (path : List ℕ) → Selection → (expected : Bool)
-    → Found → List Visit → Type 0
-IsFound kinds.File Knows path selection expected found visits =
-    IsFileBy selection Knows path found visits
-IsFound kinds.Directory Knows path selection expected found visits =
-    visits ≡ irregular expected path
-IsFound kinds.Link Knows path selection expected found visits = visits ≡ irregular expected path
-IsFound kinds.Null Knows path selection expected found visits =
-    visits ≡ empty_file selection path
-IsFound kinds.Other Knows path selection expected found visits = visits ≡ irregular expected path
-
--- A link to a directory is not followed.
-abbrev pub IsBehindIf : (directory : Bool) → (Fact → Type 0) → (path : List ℕ) → Selection
-    → (expected : Bool) → Found → List Visit → Type 0
-IsBehindIf true Knows path selection expected found visits =
-    visits ≡ refused path refusals.DirectoryLink
-IsBehindIf false Knows path selection expected found visits =
-    IsFound found.kind Knows path selection expected found visits
-
-abbrev pub IsBehind : (Fact → Type 0) → (path : List ℕ) → Selection → (expected : Bool)
-    → Result Found Refusal → List Visit → Type 0
-IsBehind Knows path selection expected (Err refusal) visits = visits ≡ refused path refusal
-IsBehind Knows path selection expected (Ok found) visits =
-    IsBehindIf (is_directory_kind found.kind) Knows path selection expected found visits
-
-pub record IsLink (Knows : Fact → Type 0) (path : List ℕ) (selection : Selection)
-    (expected : Bool) (visits : List Visit) : Type 0 where
-  pub behind : Result Found Refusal
-  pub leads : Knows (Leads path true behind)
-  pub is : IsBehind Knows path selection expected behind visits
-
-abbrev pub IsLookedIf : (link : Bool) → (Fact → Type 0) → (path : List ℕ) → Selection
-    → (expected : Bool) → Found → List Visit → Type 0
-IsLookedIf true Knows path selection expected found visits =
-    IsLink Knows path selection expected visits
-IsLookedIf false Knows path selection expected found visits =
-    IsFound found.kind Knows path selection expected found visits
-
--- what is there, or why it cannot be looked at
-abbrev pub IsLooked : (Fact → Type 0) → (path : List ℕ) → Selection → (expected : Bool)
-    → Result Found Refusal → List Visit → Type 0
-IsLooked Knows path selection expected (Err refusal) visits = visits ≡ refused path refusal
-IsLooked Knows path selection expected (Ok found) visits =
-    IsLookedIf (is_link_kind found.kind) Knows path selection expected found visits
-
--- A name that an audit goes to, of a directory of which every file is read or not, leads to this:
--- to a directory that is entered, or not.
-pub data IsKept (Knows : Fact → Type 0) (every : Bool) (directory name : List ℕ) (down : Bool)
-    (visits : List Visit) : Type 0 where
-  no_text : (IsUtf8 name → ⊥) → down ≡ false
-      → visits ≡ refused (visible_bytes false (path_in directory name)) refusals.Open
-      → IsKept Knows every directory name down visits
-  not_selected : IsUtf8 name → is_never (selection_of every name) ≡ true → down ≡ true
-      → visits ≡ [] → IsKept Knows every directory name down visits
-  below : (found : Result Found Refusal) → IsUtf8 name
-      → is_never (selection_of every name) ≡ false
-      → Knows (Leads (path_in directory name) false found) → is_directory found ≡ true
-      → down ≡ true → visits ≡ [] → IsKept Knows every directory name down visits
-  here : (found : Result Found Refusal) → IsUtf8 name
-      → is_never (selection_of every name) ≡ false
-      → Knows (Leads (path_in directory name) false found) → is_directory found ≡ false
-      → down ≡ false
-      → IsLooked Knows (path_in directory name) (selection_of every name)
-      (is_expected directory name) found visits
-      → IsKept Knows every directory name down visits
-
--- The same of a name that the command excludes or not. One that it excludes is counted.
+-- A name of a directory, of which every file is read or not, leads to this: to a directory that is
+-- entered, or not. A name that the command excludes is counted.
 pub data IsEntry (Knows : Fact → Type 0) (every : Bool) (directory name : List ℕ) (down : Bool)
     (visits : List Visit) : Type 0 where
   excluded : Knows (Excludes name true) → down ≡ false → visits ≡ Skipped skips.Excluded 1 ∷ []
       → IsEntry Knows every directory name down visits
-  kept : Knows (Excludes name false) → IsKept Knows every directory name down visits
+  no_text : Knows (Excludes name false) → (IsUtf8 name → ⊥) → down ≡ false
+      → visits ≡ refused (visible_bytes false (path_in directory name)) refusals.Open
+      → IsEntry Knows every directory name down visits
+  not_selected : Knows (Excludes name false) → IsUtf8 name
+      → is_never (selection_of every name) ≡ true → down ≡ true → visits ≡ []
+      → IsEntry Knows every directory name down visits
+  below : (found : Result Found Refusal) → Knows (Excludes name false) → IsUtf8 name
+      → is_never (selection_of every name) ≡ false
+      → Knows (Leads (path_in directory name) false found) → is_directory found ≡ true
+      → down ≡ true → visits ≡ [] → IsEntry Knows every directory name down visits
+  here : (looked target : Result Found Refusal) → Knows (Excludes name false) → IsUtf8 name
+      → is_never (selection_of every name) ≡ false
+      → Knows (Leads (path_in directory name) false looked) → is_directory looked ≡ false
+      → IsTarget Knows (path_in directory name) looked target → down ≡ false
+      → VisitsTarget Knows (path_in directory name) (is_always (selection_of every name))
+      (is_expected directory name) target visits
       → IsEntry Knows every directory name down visits

@@ -7,40 +7,26 @@ use Rattle.std.specs.Str.{IsUtf8, bytes_eq}
 use Rattle.line_pieces.specs.Visible.{visible_bytes}
 use Rattle.audit_lines.specs.declared.why.Refusal.{Refusal}
 use Rattle.audit_lines.specs.declared.why.Refusal.TheVariants as refusals
-use Rattle.audit_run.specs.Entries.{FailsAt, IsOpened, IsRead, IsRegular}
+use Rattle.audit_run.specs.Entries.{FailsAt, IsOpened, IsRead, VisitsTarget}
 use Rattle.audit_run.specs.Fact.{Fact, Leads, OpenFile, Opens}
-use Rattle.audit_run.specs.Names.{is_directory, is_file_kind, is_null_kind}
+use Rattle.audit_run.specs.Names.{is_directory}
 use Rattle.audit_run.specs.Reading.{InputFails}
 use Rattle.audit_run.specs.Visits.{Audited, Visit, refused}
 use Rattle.audit_run.specs.Walk.{IsDirectory}
 use Rattle.audit_run.specs.ZeroEnded.{most_bytes, names_after, rest_after}
-use Rattle.audit_run.specs.declared.file_kind.FileKind.{FileKind}
 use Rattle.audit_run.specs.declared.file_kind.Found.{Found}
-use Rattle.audit_run.specs.declared.file_kind.Identity.{Identity}
 
 -- ---- one name
 
-abbrev pub is_file : Result Found Refusal → Bool
-is_file (Ok found) = is_file_kind found.kind
-is_file (Err refusal) = false
-
--- what is no regular file is read too, and has no key
-abbrev pub IsWaitingIf : Bool → (Fact → Type 0) → List ℕ → Identity → Option (List ℕ)
-    → List Visit → Type 0
-IsWaitingIf true Knows path identity bytes visits = IsOpened Knows path identity bytes visits
-IsWaitingIf false Knows path identity bytes visits =
-    IsRead (FailsAt Knows path) path bytes None visits
-
-abbrev pub IsWaitingBy : (Fact → Type 0) → List ℕ → Result OpenFile Refusal → List Visit → Type 0
-IsWaitingBy Knows path (Err refusal) visits = visits ≡ refused path refusal
-IsWaitingBy Knows path (Ok held) visits =
-    IsWaitingIf held.is_file Knows path held.identity held.bytes visits
-
--- A path that the command names and that is no directory is opened and read, also if it is a pipe.
-pub record IsWaiting (Knows : Fact → Type 0) (path : List ℕ) (visits : List Visit) : Type 0 where
-  pub opened : Result OpenFile Refusal
-  pub opens : Knows (Opens path None opened)
-  pub leads : IsWaitingBy Knows path opened visits
+-- A path that the command names and that is no directory is opened and read, also if it is a pipe,
+-- which has no key.
+pub data IsWaiting (Knows : Fact → Type 0) (path : List ℕ) (visits : List Visit) : Type 0 where
+  not_opened : (refusal : Refusal) → Knows (Opens path None (Err refusal))
+      → visits ≡ refused path refusal → IsWaiting Knows path visits
+  regular : (held : OpenFile) → Knows (Opens path None (Ok held)) → held.is_file ≡ true
+      → IsOpened Knows path held.identity held.bytes visits → IsWaiting Knows path visits
+  not_regular : (held : OpenFile) → Knows (Opens path None (Ok held)) → held.is_file ≡ false
+      → IsRead (FailsAt Knows path) path held.bytes None visits → IsWaiting Knows path visits
 
 -- ---- standard input
 
@@ -79,16 +65,6 @@ pub data IsNamed (Knows : Fact → Type 0) (Failed : Type 0) (every whole : Bool
 abbrev pub most_name : ℕ
 most_name = 4096
 
--- Only directories and regular files are read. The null device is an empty file.
-abbrev pub other_at : FileKind → List ℕ → List Visit
-other_at kind path =
-    if is_null_kind kind then Audited None path (Ok []) ∷ [] else refused path refusals.Irregular
-
--- what a name that is no directory and no file leads to
-abbrev pub irregular_at : List ℕ → Result Found Refusal → List Visit
-irregular_at path (Ok found) = other_at found.kind path
-irregular_at path (Err refusal) = refused path refusal
-
 -- A name of a list of names leads to this. No pipe is waited for.
 pub data IsOnList (Knows : Fact → Type 0) (every whole : Bool) (name : List ℕ)
     (visits : List Visit) : Type 0 where
@@ -101,12 +77,9 @@ pub data IsOnList (Knows : Fact → Type 0) (every whole : Bool) (name : List �
   directory : (found : Result Found Refusal) → length name ≤ most_name → IsUtf8 name
       → Knows (Leads name true found) → is_directory found ≡ true
       → IsDirectory Knows every whole name visits → IsOnList Knows every whole name visits
-  file : (found : Found) → length name ≤ most_name → IsUtf8 name
-      → Knows (Leads name true (Ok found)) → is_file_kind found.kind ≡ true
-      → IsRegular Knows name found visits → IsOnList Knows every whole name visits
-  neither : (found : Result Found Refusal) → length name ≤ most_name → IsUtf8 name
-      → Knows (Leads name true found) → is_directory found ≡ false → is_file found ≡ false
-      → visits ≡ irregular_at name found → IsOnList Knows every whole name visits
+  here : (target : Result Found Refusal) → length name ≤ most_name → IsUtf8 name
+      → Knows (Leads name true target) → is_directory target ≡ false
+      → VisitsTarget Knows name true true target visits → IsOnList Knows every whole name visits
   before_name : whole ≡ false → visits ≡ [] → IsOnList Knows every whole name visits
 
 -- ---- one after another

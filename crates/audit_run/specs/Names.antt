@@ -35,23 +35,21 @@ is_link_kind kinds.Link = true
 is_link_kind kinds.Null = false
 is_link_kind kinds.Other = false
 
-abbrev pub is_file_kind : FileKind → Bool
-is_file_kind kinds.Directory = false
-is_file_kind kinds.File = true
-is_file_kind kinds.Link = false
-is_file_kind kinds.Null = false
-is_file_kind kinds.Other = false
-
-abbrev pub is_null_kind : FileKind → Bool
-is_null_kind kinds.Directory = false
-is_null_kind kinds.File = false
-is_null_kind kinds.Link = false
-is_null_kind kinds.Null = true
-is_null_kind kinds.Other = false
+-- neither a regular file nor the null device
+abbrev pub is_irregular : FileKind → Bool
+is_irregular kinds.Directory = true
+is_irregular kinds.File = false
+is_irregular kinds.Link = true
+is_irregular kinds.Null = false
+is_irregular kinds.Other = true
 
 abbrev pub is_directory : Result Found Refusal → Bool
 is_directory (Ok found) = is_directory_kind found.kind
 is_directory (Err refusal) = false
+
+abbrev pub is_link : Result Found Refusal → Bool
+is_link (Ok found) = is_link_kind found.kind
+is_link (Err refusal) = false
 
 -- ---- one name
 

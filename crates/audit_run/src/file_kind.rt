@@ -1,8 +1,7 @@
 //! The file that a path leads to.
 
 ghost use Rattle.std.specs.Prelude.{◌≡◌};
-ghost use Rattle.audit_run.specs.Names.{is_directory_kind, is_file_kind, is_link_kind};
-ghost use Rattle.audit_run.specs.Names.{is_null_kind};
+ghost use Rattle.audit_run.specs.Names.{is_directory_kind, is_link_kind};
 
 /// The kind of file that a path leads to.
 #[derive(Clone, Copy, PartialEq, Eq)]
@@ -27,26 +26,6 @@ impl FileKind {
         match self {
             FileKind::Directory => true,
             FileKind::File | FileKind::Link | FileKind::Null | FileKind::Other => false,
-        }
-    }
-
-    /// Whether it is a regular file.
-    pub(crate) fn is_file(self) -> bool
-        ensures { result ≡ is_file_kind self }
-    {
-        match self {
-            FileKind::File => true,
-            FileKind::Directory | FileKind::Link | FileKind::Null | FileKind::Other => false,
-        }
-    }
-
-    /// Whether it is the null device.
-    pub(crate) fn is_null(self) -> bool
-        ensures { result ≡ is_null_kind self }
-    {
-        match self {
-            FileKind::Null => true,
-            FileKind::Directory | FileKind::File | FileKind::Link | FileKind::Other => false,
         }
     }
 

@@ -2,16 +2,14 @@
 
 ghost use Rattle.std.specs.Prelude.{◌≡◌, ◌+◌, ◌<◌, ◌≤◌, ℕ, List, false, length, nat_lt, take};
 ghost use Rattle.std.specs.Prelude.{IfSome, Ok, Some};
-ghost use Rattle.std.specs.Result.{result_err};
 ghost use Rattle.line_pieces.specs.Visible.{visible_bytes};
-ghost use Rattle.audit_run.specs.Named.{AreNamed, Each, IsBroken, IsInput, IsNamed, IsOnList};
-ghost use Rattle.audit_run.specs.Named.{IsOnNames, IsWaiting, IsWaitingIf, input_after};
-ghost use Rattle.audit_run.specs.Named.{is_file, irregular_at, most_name, names_to, other_at};
+ghost use Rattle.audit_run.specs.Named.{AreNamed, IsBroken, IsInput, IsNamed, IsOnList};
+ghost use Rattle.audit_run.specs.Named.{IsOnNames, IsWaiting, input_after, most_name};
 ghost use Rattle.audit_run.specs.Reading.{SomeFailed, left_in};
-ghost use Rattle.audit_run.specs.Visits.{Goes, Meets, Took, Went, is_whole, refused};
+ghost use Rattle.audit_run.specs.Visits.{Goes, Took, Went, is_whole, refused};
 
-use crate::entries::{audit_opened, audit_read, audit_regular, is_directory};
-use crate::file_kind::{FileKind, Opened};
+use crate::entries::{Entry, audit_opened, audit_read, audit_target, is_directory};
+use crate::file_kind::Opened;
 use crate::reading::{Came, Reading, content_of, read_input};
 use crate::round::{Round, Screen};
 use crate::stop::Stop;
@@ -90,7 +88,8 @@ fn audit_input<I: Source + Drop, W: Screen>(
     done
 }
 
-// Audits what the command names and is no directory, or says why it cannot.
+// Audits what the command names and is no directory, or says why it cannot. A regular file is
+// audited once.
 fn audit_waiting<T: Tree, W: Screen>(
     tree: &T,
     round: &mut Round<'_, '_, W>,
@@ -98,24 +97,10 @@ fn audit_waiting<T: Tree, W: Screen>(
 ) -> Result<(), Stop>
     ensures { Goes result (λ _. IsWaiting (T.states tree.now) path.now) round.old round.new }
 {
-    let opened = tree.open(path, None)?;
-    match opened {
-        Ok(opened) => audit_open(tree, round, path, opened),
-        Err(refusal) => round.audit(None, path, Err(refusal)),
-    }
-}
-
-// Audits what is open and was named. A regular file is audited once.
-fn audit_open<T: Tree, W: Screen>(
-    tree: &T,
-    round: &mut Round<'_, '_, W>,
-    path: &str,
-    opened: Opened<T::File>,
-) -> Result<(), Stop>
-    requires { T.File.has_failed opened.file ≡ false }
-    ensures { Goes result (λ _. IsWaitingIf opened.is_file (T.states tree.now) path.now
-        opened.identity (T.File.left opened.file)) round.old round.new }
-{
+    let opened = match tree.open(path, None)? {
+        Ok(opened) => opened,
+        Err(refusal) => return round.audit(None, path, Err(refusal)),
+    };
     let Opened {
         is_file,
         identity,
@@ -151,31 +136,15 @@ pub(crate) fn audit_listed<T: Tree, N: Source + Drop, W: Screen>(
     'names: loop {
         match reader.next(NAME_LIMIT, &mut name)? {
             Ok(()) => audit_one_listed(tree, round, every, name.as_slice())?,
+            Err(Came::All) if name.is_empty() => return Ok(true),
+            // The last name lacks its zero byte.
             Err(Came::All) => {
-                end_listed(tree, round, every, name.as_slice())?;
+                audit_one_listed(tree, round, every, name.as_slice())?;
                 return Ok(true);
             }
             Err(Came::More) => return Ok(false),
             Err(Came::Failed) => return Ok(false),
         }
-    }
-}
-
-// Audits the last name, if it lacks its zero byte.
-fn end_listed<T: Tree, W: Screen>(
-    tree: &T,
-    round: &mut Round<'_, '_, W>,
-    every: bool,
-    name: &[u8],
-) -> Result<(), Stop>
-    ensures { (front : List ℕ) → name.now ≡ take (most_name + 1) front
-        → Went (λ whole. Each (IsOnList (T.states tree.now) every) whole (names_to front))
-        result round.old round.new }
-{
-    if is_begun(name) {
-        audit_one_listed(tree, round, every, name)
-    } else {
-        Ok(())
     }
 }
 
@@ -214,33 +183,12 @@ fn audit_text<T: Tree, W: Screen>(
     if is_directory(found) {
         return audit_directory(tree, round, every, path);
     }
-    match found {
-        Ok(found) if found.kind.is_file() => audit_regular(tree, round, path, found),
-        Ok(found) => audit_other(round, path, found.kind),
-        Err(refusal) => round.audit(None, path, Err(refusal)),
-    }
-}
-
-// Audits the null device as an empty file, or says that this is no regular file.
-fn audit_other<W: Screen>(
-    round: &mut Round<'_, '_, W>,
-    path: &str,
-    kind: FileKind,
-) -> Result<(), Stop>
-    ensures { Meets (other_at kind path.now) (result_err result) round.old round.new }
-{
-    if kind.is_null() {
-        round.audit(None, path, Ok(b""))
-    } else {
-        round.audit(None, path, Err(Refusal::Irregular))
-    }
-}
-
-// Whether a name has a byte.
-fn is_begun(name: &[u8]) -> bool
-    ensures { result ≡ nat_lt 0 (length name.now) }
-{
-    !name.is_empty()
+    let entry = Entry {
+        path,
+        by_name: true,
+        expected: true,
+    };
+    audit_target(tree, round, entry, found)
 }
 
 // Whether a name is longer than that of a file.
