@@ -24,6 +24,7 @@ made in_a "$(under "$A" 20 0000000000000007)" "$(under "$A" 23 "$(words bob)")"
 made in_b "$(under "$B" 20 0000000000000007)" "$(under "$B" 23 "$(words bob 'a b#')")"
 made in_both "$(under "$A" 20 0000000000000007)" "$(under "$A" 23 "$(words bob)")" \
   "$(under "$B" 20 0000000000000008)"
+made quoted "$(under "$A" 20 0000000000000007)" "$(under "$A" 23 "$(words '"bob"' 'a, b' "'")")"
 made key "$(section "$G")"
 made sha1 "03$(string "$(string "$(repeat 20 ab)")")"
 made sha256 "05$(string "$(string "$(bytes "$G" | sha256sum | cut -c1-64)")")"
@@ -52,6 +53,13 @@ $a
 - serial: 7
 - id: bob
 " in_a.krl in_b.krl
+changes 'key IDs that no id: line gives' "$a
++ id-hex: 22626f6222
++ id: '
++ id-hex: 612c2062
+$a
+- id: bob
+" in_a.krl quoted.krl
 changes 'a CA that only one list has' "$b"$'\n+ serial: 8\n' in_a.krl in_both.krl
 changes 'a CA whose numbers are the same' "$b"$'\n- serial: 8\n' in_both.krl in_a.krl
 changes 'a key, and its SHA-256' "+ hash: $f

@@ -1,5 +1,6 @@
-# krl make: each word of a text, each refusal by file and line, the version, and lists that are shown,
-# made and shown again, beside what OpenSSH's ssh-keygen says of them.
+# krl make: each word of a text, each refusal by file and line, which CA counts, also after a merge by
+# git, the version, and lists that are shown, made and shown again, beside what OpenSSH's ssh-keygen
+# says of them.
 
 keygen=$program
 program=$krl
@@ -7,6 +8,7 @@ export SOURCE_DATE_EPOCH=0
 f=$(fingerprint "$G")
 g=$(line ssh-ed25519 "$G")
 a=$(line ssh-ed25519 "$A")
+b=$(line ssh-ed25519 "$B")
 all='0000000000000000'
 
 # makes NAME TEXT SAID DIGITS..: the text makes a list of version 1 with these sections, and this is
@@ -26,6 +28,7 @@ five=0100000015${all}20000000080000000000000005
 makes 'a serial number' 'ca: all\nserial: 5\n' '1 CA, 1 serial number' $five
 makes 'a range, blanks, a comment and upper case' '\t CA:all \r\nSeRiAl: 5 - 0x5 # 6\r\n# c\n\n' \
   '1 CA, 1 serial number' $five
+makes 'a hexadecimal number with zeros' 'ca: all\nserial: 0X0005' '1 CA, 1 serial number' $five
 makes 'two serial numbers' 'ca: all\nserial: 2-3' '1 CA, 2 serial numbers' \
   010000001a${all}220000000d 0000000000000002 0000000103
 makes 'a key ID' 'ca: all\nid: a # b' '1 CA, 1 key ID' 0100000012${all}230000000500000001 61
@@ -65,6 +68,28 @@ makes 'a certificate, under its own CA' "ca: all\n$certificate\n" '1 CA, 1 seria
 makes 'a certificate behind a blank' "\t$certificate ca: all" '1 CA, 1 serial number' \
   "01$(string "${of_a}20000000080000000000000007")"
 
+# names NAME TEXT LINE..: the text makes a list that is shown in these lines.
+names() {
+  printf "$2" >text
+  rm -f made.krl
+  run make -q -f made.krl text
+  judge "$1" "$(
+    differs 'exit status' 0 "$got_status"
+    differs 'standard error' '' "$got_error"
+    differs names "$(printf '%s\n' "${@:3}")" "$(contents made.krl)"
+  )"
+}
+names 'hexadecimal numbers' 'ca: all\nserial: 0x10-0x20\nserial: 0X064\nserial: 200-0x00CA' \
+  'ca: all' 'serial: 16-32' 'serial: 100' 'serial: 200-202'
+for id in '"' "'" '"bob' 'bob"' "'bob" "bob'" "\"bob'" "'bob\"" "'a' b" 'a "b"' "it's" 'a,b' ',b' \
+  'a ,b' 'a,' ',' '",'; do
+  names "the key ID $id" "ca: all\nid: $id\n" 'ca: all' "id: $id"
+done
+names 'a comma before a blank and a comment' 'ca: all\nid: a, # b\n' 'ca: all' 'id: a,'
+names 'key IDs between quotes, and with a comma and a blank, in digits' \
+  'ca: all\nid-hex: 22626f6222\nid-hex: 27626f6227\nid-hex: 612c2062\n' \
+  'ca: all' 'id-hex: 22626f6222' 'id-hex: 27626f6227' 'id-hex: 612c2062'
+
 # refuses NAME LINE WORDS FAULT TEXT: the text is refused at its line, and the list stays.
 refuses() {
   printf "$5" >text
@@ -77,16 +102,20 @@ refuses() {
     differs 'the list' old "$(cat made.krl)"
   )"
 }
-refuses 'a serial number before any CA' 1 'no ca: line stands before it' \
-  'text 1 Spec, spec 4 NoAuthority' 'serial: 5\nca: all\n'
-refuses 'a key ID before any CA' 2 'no ca: line stands before it' \
-  'text 1 Spec, spec 4 NoAuthority' '\nid: a\n'
-refuses 'a key ID in digits before any CA' 1 'no ca: line stands before it' \
-  'text 1 Spec, spec 4 NoAuthority' 'id-hex: 61\n'
+no_ca='no ca: line counts here: none is before it, or a key or a hash is between '
+no_ca+='[text 1 Spec, spec 4 NoAuthority]'
+# lacks_ca NAME LINE TEXT: a serial number or a key ID of the text lacks the line of its CA.
+lacks_ca() {
+  refuses "$1" "$2" "${no_ca% \[*}" 'text 1 Spec, spec 4 NoAuthority' "$3"
+}
+lacks_ca 'a serial number before any CA' 1 'serial: 5\nca: all\n'
+lacks_ca 'a key ID before any CA' 2 '\nid: a\n'
+lacks_ca 'a key ID in digits before any CA' 1 'id-hex: 61\n'
+lacks_ca 'hexadecimal digits before any CA' 1 'serial: 1f3\n'
 refuses 'a key ID with a #' 2 \
   'a # with no blank before it would cut the key ID short: use id-hex:' \
   'text 6 CutId' 'ca: all\nid: eve#1\n'
-for id in 'a\rid: b' 'a\tb' '\ra' 'a\033' 'a\177 # c' '\000'; do
+for id in 'a\rid: b' 'a\tb' '\ra' 'a\033' 'a\177 # c' '\000' 'a,\tb' '"a\tb"'; do
   refuses "the key ID $id" 2 \
     'a key ID has a control character, such as a tab or a carriage return: use id-hex:' \
     'text 8 ControlInId' "ca: all\nid: $id\n"
@@ -101,6 +130,19 @@ refuses 'a certificate of a zero byte' 2 'OpenSSH takes no key ID with a zero by
 for id in "$a" "$certificate" 'ssh-rsa of bob'; do
   refuses "the key ID ${id:0:30}" 2 'a key stands where a key ID belongs: use key:, or id-hex: for a '\
 'key ID that begins so' 'text 10 KeyAsId' "ca: all\nid: $id\n"
+done
+# names_nobody ID WORDS FAULT: the key ID is refused, under a CA and without one.
+names_nobody() {
+  refuses "the key ID $1" 2 "$2" "$3" "ca: all\nid: $1\n"
+  refuses "the key ID $1, without a CA" 1 "$2" "$3" "id: $1\n"
+}
+for id in '"bob"' "'bob'" '""' "''" '"bob" # c' '" bob "' '"a" b "c"' '"a", "b"' "'it''s'"; do
+  names_nobody "$id" 'a key ID stands without quotes: use id-hex: for one that has them' \
+    'text 12 QuotedId'
+done
+for id in 'a, b' ', b' 'alice,  bob' 'Doe, John # c' '"a", b' "\"a\", 'b'"; do
+  names_nobody "$id" 'a line has one key ID: use id-hex: for one that has a comma and a blank' \
+    'text 13 SeveralIds'
 done
 refuses 'odd digits' 2 'no pairs of hexadecimal digits' 'text 5 Hex' 'ca: all\nid-hex: 656\n'
 refuses 'digits that are none' 2 'no pairs of hexadecimal digits' 'text 5 Hex' \
@@ -197,12 +239,29 @@ done
 mkdir folder
 expect 'a folder for a text' 255 '' $'krl: folder: it is a directory [krl 13 Read]\n' \
   make -f made.krl folder
-refuses 'serial number 0' 2 'serial number 0 names no certificate' 'text 1 Spec, spec 2 Zero' \
-  'ca: all\nserial: 0\n'
+for number in 0 0-5 0x0 0X00; do
+  refuses "the serial number $number" 2 'serial number 0 names no certificate' \
+    'text 1 Spec, spec 2 Zero' "ca: all\nserial: $number\n"
+done
 refuses 'a range that ends early' 2 'a range of serial numbers ends below its first one' \
   'text 1 Spec, spec 3 Reversed' 'ca: all\nserial: 2-1\n'
-refuses 'a serial number that is none' 2 'a serial number is a number below 2^64' \
-  'text 1 Spec, spec 1 Number' 'ca: all\nserial: 18446744073709551616\n'
+for number in 18446744073709551616 0x10000000000000000 '' x 0x 0xg 0x-5 5-0x 5x 1f3g '1f 3' -5 +5 \
+  5- 5-6-7 1,000; do
+  refuses "the serial number '$number'" 2 'a serial number is a number below 2^64' \
+    'text 1 Spec, spec 1 Number' "ca: all\nserial: $number\n"
+done
+for number in 1f3 1F3 f dead 0a 1-1f 1f-500 '1f - 500' '1 - 1f' 0x10-1F 1f-0x20 '1f3 # c'; do
+  refuses "the serial number $number" 2 'hexadecimal digits need 0x before them' \
+    'text 1 Spec, spec 1 Number' "ca: all\nserial: $number\n"
+done
+for number in 00 01 010 08 000000000000000000000000000005 010-020 01-5 1-010 '1 - 010' '1-\t010' \
+  1-00 1-08 0x1-010 01-0x5 00x5 '010 # c'; do
+  for before in 'ca: all\n' '# c\n'; do
+    refuses "the serial number $number behind ${before%?n}" 2 \
+      'a serial number has a leading zero: OpenSSH would read octal digits' \
+      'text 11 LeadingZero' "${before}serial: $number\n"
+  done
+done
 
 # Texts without an entry, and texts that are not read. The list stays.
 printf '# nobody\nca: all\n' >none
@@ -241,8 +300,7 @@ for text in nothing blank /dev/null; do
     make -f made.krl text $text
 done
 expect 'the first of two' 255 '' "krl: nothing: $no_entry"$'\n' make -f made.krl nothing text blank
-expect 'a wrong line behind a text without an entry' 255 '' \
-  $'krl: wrong: line 1: no ca: line stands before it [text 1 Spec, spec 4 NoAuthority]\n' \
+expect 'a wrong line behind a text without an entry' 255 '' "krl: wrong: line 1: $no_ca"$'\n' \
   make -f made.krl nothing wrong
 for given in '' '# c' 'ca: all' $'\n \n'; do
   run make -f made.krl text - <<<"$given"
@@ -398,10 +456,92 @@ serial: 5
 run make -q -f made.krl - <<<'ca: all
 serial: 5'
 judge 'standard input' "$(differs 'exit status' 0 "$got_status"; differs version 8 "$(version)")"
-printf 'serial: 6\n' >second
-expect 'a text does not fall under the CA of the one before it' 255 '' \
-  $'krl: second: line 1: no ca: line stands before it [text 1 Spec, spec 4 NoAuthority]\n' \
-  make -f made.krl text second
+
+# Which CA counts: that of the last ca: line, if no key, hash or certificate is between.
+sha1="hash: SHA1:$(bytes "$(repeat 20 ab)" | base64 | tr -d =)"
+for end in "$g" "key: $g" 'key-blob: AQ==' "sha1: $g" "sha256: $g" "hash: $f" "$sha1" \
+  "$certificate" "\t$g ca: all # c"; do
+  for entry in 'serial: 5' 'id: a' 'id-hex: 61'; do
+    lacks_ca "$entry behind ${end:0:30}" 4 "ca: all\nid: b\n$end\n$entry\n"
+  done
+  lacks_ca "comments between ${end:0:30} and a key ID" 5 "ca: all\n$end\n\n# ca: all\nid: a\n"
+  lacks_ca "a serial number behind ${end:0:30} at the beginning" 2 "$end\nserial: 5\n"
+  printf "ca: all\n$end\nca: $b\nid: own\n" >text
+  rm made.krl
+  run make -q -f made.krl text
+  judge "a ca: line behind ${end:0:30}" "$(
+    differs 'standard error' '' "$got_error"
+    differs 'lines of all CAs' '' "$(contents made.krl | grep '^ca: all')"
+    differs 'lines of the CA' "ca: $b"$'\nid: own' "$(contents made.krl | grep -A1 -xF "ca: $b")"
+  )"
+done
+lacks_ca 'the second key ID behind a key' 6 "ca: all\n$g\nca: all\nid: a\n$a\nid: b\n"
+names 'empty lines and comments among the entries of a CA' \
+  "ca: all\n\n# c\nserial: 5\n \t\r\n#\n# $g\nid: a\n\r\n#key: $g\nid-hex: 22\n" \
+  'ca: all' 'serial: 5' 'id: "' 'id: a'
+names 'entries of CAs around keys' \
+  "$g\nca: all\nserial: 5\nca: $a\nserial: 6\nkey: $a\nca: all\nid: b\nsha256: $g\n" \
+  'ca: all' 'serial: 5' 'id: b' "ca: $a" 'serial: 6' "key: $a" "key: $g" "hash: $f"
+names 'a ca: line that a key follows' "ca: all\n$g\n" "key: $g"
+
+# Each of several texts begins without a CA, however the one before it ends.
+printf 'ca: all\nserial: 5\nkey: %s\n' "$g" >keyed
+printf 'ca: %s\nserial: 6\n' "$a" >first
+printf '\n# c\nserial: 7\n' >second
+echo old >made.krl
+for texts in 'first second' 'keyed second' 'keyed first second' 'second first' 'first - second'; do
+  # shellcheck disable=SC2086
+  run make -f made.krl --replace $texts < <(printf 'ca: all\nid: a\n')
+  judge "a text without a CA among $texts" "$(
+    differs 'exit status' 255 "$got_status"
+    differs 'standard error' "krl: second: line 3: $no_ca"$'\n' "$got_error"
+    differs 'the list' old "$(cat made.krl)"
+  )"
+done
+sed '1s/^/ca: all/' second >third
+for texts in 'first keyed third' 'third keyed first'; do
+  # shellcheck disable=SC2086
+  run make -q -f made.krl --replace $texts
+  judge "texts of two CAs: $texts" "$(
+    differs 'standard error' '' "$got_error"
+    differs names "$(printf '%s\n' 'ca: all' 'serial: 5' 'serial: 7' "ca: $a" 'serial: 6' "key: $g")" \
+      "$(contents made.krl)"
+  )"
+done
+
+# Texts to which two branches append, merged by git line by line: the list of the merged text names
+# what both texts name, or there is none.
+need git git || judge 'git is there' '  install git'
+# merges NAME STATUS BASE OURS THEIRS: where the status is a star, it may be either.
+merges() {
+  local name=$1 status=$2
+  printf "$3" >base && printf "$3$4" >ours && printf "$3$5" >theirs
+  git merge-file -p --union ours base theirs >merged
+  rm -f made.krl both.krl
+  run make -q -f both.krl ours theirs
+  differs 'what is said of both' '' "$got_error" >both
+  run make -q -f made.krl merged
+  judge "two branches: $name" "$(
+    cat both
+    [ "$status" = '*' ] || differs 'exit status' "$status" "$got_status"
+    if [ "$got_status" = 0 ]; then
+      differs names "$(contents both.krl)" "$(contents made.krl)"
+    else
+      differs 'standard error' "krl: merged: line N: $no_ca" \
+        "$(sed 's/line [0-9]*:/line N:/' "$scratch/error")"
+      [ ! -e made.krl ] || echo '  the list is made'
+    fi
+  )"
+}
+alice="ca: $a\nid: alice\nkey: $g\n"
+merges 'one locks a person out, and the other adds a serial number' 255 'ca: all\nserial: 5\n' \
+  "$alice" 'serial: 77\n'
+merges 'the other way round' 0 'ca: all\nserial: 5\n' 'serial: 77\n' "$alice"
+merges 'each adds a CA' 0 'ca: all\nserial: 5\n' "ca: $a\nserial: 6\n" "ca: $b\nserial: 7\n"
+merges 'both lock a person out' '*' 'ca: all\nserial: 5\n' "$alice" "ca: $a\nid: bob\nkey: $b\n"
+merges 'both append behind a key' 0 "$alice" "sha256: $a\n" "ca: $a\nserial: 6\n"
+merges 'both append behind a key to one CA' '*' "$alice" "ca: $b\nserial: 6\nsha1: $a\n" \
+  "ca: $b\nserial: 7\n"
 
 # Wrong words.
 for words in '' '-f made.krl -z x text' '-f made.krl -z -1 text' '-f a -f b text' '-k -f made.krl' \
@@ -436,7 +576,7 @@ list 'a list without sections'
 list 'the last serial number' 010000001d${all}21000000100000000000000001ffffffffffffffff
 list 'a bitmap' 010000001a${all}220000000d00000000000000010000000155
 for digits in 616161 '' 20 2061 6120 610962 610a62 6523 7f c3a9 0d 2d2d 7373682d727361 \
-  7373682d7273612041; do
+  7373682d7273612041 22 27 2222 2727 22626f6222 27626f6227 22626f6227 612c2062 2c20 612c62; do
   list "the key ID of the bytes '$digits'" \
     "01$(string "${all}23$(string "$(string $digits)")")"
 done
@@ -457,6 +597,15 @@ RANDOM=2611
 for name in key-one key-two ca-one ca-two; do
   "$openssh" -q -t ed25519 -N '' -C "of $name" -f $name
 done
+# Key IDs that no id: line gives, and others that look nearly so.
+printf 'id: %s\n' '"bob"' "'bob'" 'a, b' '"' "'a' b" 'CN=bob,OU=ops' >spec
+"$openssh" -q -k -f theirs.krl -s ca-one.pub spec 2>"$scratch/error"
+judge 'key IDs with quotes and commas in a list of OpenSSH' "$(
+  differs lines "$(printf '%s\n' "ca: $(cut -d ' ' -f 1,2 ca-one.pub)" 'id: "' \
+    'id-hex: 22626f6222' "id: 'a' b" 'id-hex: 27626f6227' 'id: CN=bob,OU=ops' \
+    'id-hex: 612c2062')" "$(contents theirs.krl)"
+)"
+again 'its text' theirs.krl
 lines_of() {
   local i lo
   for ((i = 0; i < $1; i++)); do

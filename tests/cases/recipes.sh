@@ -443,6 +443,15 @@ judge 'a person is locked out by two CAs' "$(try_recipe "$out")"
 has 'the key ID is revoked under both, and the key' revoked.krl "$user" 'id: alice' 'serial: 99' \
   "$host" 'id: alice' "key: $(cut -d ' ' -f 1,2 alice.pub)"
 judge 'no comment of a key that was handed in is in the text' "$(grep -n until revoked.txt)"
+cp revoked.txt appended && echo 'serial: 77' >>appended
+judge 'a serial number that somebody appends then is refused' "$(
+  cp revoked.krl in-force
+  got=$("$krl" make -f revoked.krl appended 2>&1)
+  differs status 255 $?
+  grep -q "^krl: appended: line $(wc -l <appended): no ca: line counts here: " <<<"$got" ||
+    echo "  $got"
+  cmp in-force revoked.krl 2>&1
+)"
 judge 'a key ID with a backslash and quotes' "$(
   steps=$(recipe "$out" | sed "s/id='alice'/id='CORP\\\\alice \"x\"'/")
   bash -c "$(in_room "$steps")" 2>&1

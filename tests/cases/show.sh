@@ -39,6 +39,12 @@ ids 'a key ID with a zero byte' 'id-hex: 610062' 610062
 ids 'a key ID that begins as a key' 'id-hex: 7373682d7273612041' "$(text 'ssh-rsa A')"
 ids 'a key ID that is a type of keys' 'id: ssh-rsa' "$(text ssh-rsa)"
 ids 'a key ID that begins nearly so' 'id: ssh-rsa: A' "$(text 'ssh-rsa: A')"
+for id in '"bob"' "'bob'" '""' "''" '"a" b "c"' 'a, b' ', b' '"a", b'; do
+  ids "the key ID $id" "id-hex: $(text "$id")" "$(text "$id")"
+done
+for id in '"' "'" '"bob' "bob'" "\"bob'" "'a' b" 'a,b' 'a,' 'a ,b'; do
+  ids "the key ID $id" "id: $id" "$(text "$id")"
+done
 shows 'a CA' "ca: $(line ssh-ed25519 "$A") # $(fingerprint "$A")"$'\nserial: 7\n' \
   01 00000048 "$(string "$A")" 00000000 20 00000008 0000000000000007
 shows 'a CA of one byte' $'ca-blob: eA==\nid: a\n' \

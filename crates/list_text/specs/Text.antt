@@ -18,7 +18,7 @@ use Rattle.cert_listing.specs.Time.{instant_text}
 use Rattle.line_pieces.specs.Visible.{visible}
 use Rattle.krl_entries.specs.Revocations.{Revocations}
 use Rattle.krl_format.specs.declared.header.Header.{Header}
-use Rattle.text_entries.specs.Values.{looks_like_key}
+use Rattle.text_entries.specs.Values.{is_quoted, looks_like_key, looks_like_several}
 use Rattle.list_text.specs.Facts.{Fact, ListFact, HeldFact, facts_of}
 use Rattle.krl_entries.specs.Facts.{AuthorityFact, SerialsFact, ItemFact}
 use Rattle.krl_types.specs.declared.item_kind.ItemKind.TheVariants as kinds
@@ -61,12 +61,17 @@ abbrev pub has_blank_end : List ℕ → Bool
 has_blank_end id =
     starts_with nat_eq id (codes " ") || ends_with nat_eq id (codes " ")
 
--- A line can have the key ID as it is: it is not empty, neither end is a blank, it does not begin
--- as a key, and each byte is one of a text.
+-- A reader of texts would take the key ID for something else: a key, or an ID between quotes, or
+-- several.
+abbrev pub looks_otherwise : List ℕ → Bool
+looks_otherwise id = looks_like_key id || (is_quoted id || looks_like_several id)
+
+-- A line can have the key ID as it is: it is not empty, neither end is a blank, it looks like
+-- nothing else, and each byte is one of a text.
 abbrev pub is_text : List ℕ → Bool
 is_text id =
     not (length id == 0) && (not (has_blank_end id)
-    && (not (looks_like_key id) && list_all is_text_byte id))
+    && (not (looks_otherwise id) && list_all is_text_byte id))
 
 abbrev pub id_line : List ℕ → List ℕ
 id_line id =

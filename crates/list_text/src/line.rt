@@ -7,8 +7,8 @@ ghost use Rattle.list_text.specs.Facts.{fact_of};
 ghost use Rattle.list_text.specs.Text.{authority_line, fact_line, hash_line, hash_text, id_line};
 ghost use Rattle.list_text.specs.Text.{comment_part, has_blank_end, is_text, is_text_byte};
 ghost use Rattle.list_text.specs.Changes.{change_line, mark_of};
-ghost use Rattle.list_text.specs.Text.{header_line, list_line, named_line, serials_line};
-ghost use Rattle.list_text.specs.Text.{unnamed_line};
+ghost use Rattle.list_text.specs.Text.{header_line, list_line, looks_otherwise, named_line};
+ghost use Rattle.list_text.specs.Text.{serials_line, unnamed_line};
 
 use crate::fact::Fact;
 use crate::side::Side;
@@ -22,7 +22,7 @@ use line_pieces::{Printed, Visible, Words, pieces, put};
 use serial_set::Span;
 use ssh_key::read_key;
 use std::alloc::{AllocError, Global};
-use text_entries::looks_like_key;
+use text_entries::{is_quoted, looks_like_key, looks_like_several};
 
 /// Appends the line of a change: the mark of its side, or blanks before an authority, and the line
 /// of the fact.
@@ -190,7 +190,14 @@ fn push_id(alloc: Global, id: &[u8], line: &mut Vec<u8>) -> Result<(), AllocErro
 fn is_text(id: &[u8]) -> bool
     ensures { result ≡ is_text id.now }
 {
-    !id.is_empty() && !has_blank_end(id) && !looks_like_key(id) && are_text_bytes(id)
+    !id.is_empty() && !has_blank_end(id) && !looks_otherwise(id) && are_text_bytes(id)
+}
+
+// Whether a reader of texts would take a key ID for a key, for one between quotes, or for several.
+fn looks_otherwise(id: &[u8]) -> bool
+    ensures { result ≡ looks_otherwise id.now }
+{
+    looks_like_key(id) || is_quoted(id) || looks_like_several(id)
 }
 
 // Whether a line can have each byte as it is, and none is a `#`.

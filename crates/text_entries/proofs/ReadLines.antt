@@ -9,7 +9,7 @@ use Rattle.krl_entries.specs.Changes.{MeansMore}
 use Rattle.krl_entries.specs.Revocations.{Revocations, held}
 use Rattle.text_entries.specs.Lines.{LineEntries, before_later, fault_at, lines_from, lines_of}
 use Rattle.text_entries.specs.Reading.{IsDone, LacksMemory, LacksMemoryAt, ReadsText, ReportsLine, StopsAt, TakesLine}
-use Rattle.text_entries.specs.Says.{Blank, Current, Names, Saying, line_says}
+use Rattle.text_entries.specs.Says.{Blank, Current, Names, Saying, Under, line_says}
 use Rattle.text_entries.specs.declared.text_cause.TextCause.{TextCause}
 use Rattle.text_entries.specs.declared.text_cause.TextCause.TheVariants as causes
 
@@ -25,7 +25,8 @@ later_line : (number : ℕ) (current : Option (List ℕ)) (says : Result Saying 
     ≡ with_entries (before_later number current says front).entries (back (before_later number current says front).current)
 later_line number current (Ok Blank) front all back none step = step current none
 later_line number current (Ok (Current authority)) front all back none step = step (Some authority) none
-later_line number current (Ok (Names entry)) front all back none step = rw (step current none) refl
+later_line number current (Ok (Under entry)) front all back none step = rw (step current none) refl
+later_line number current (Ok (Names entry)) front all back none step = rw (step None none) refl
 later_line number current (Err cause) front all back none step = absurd (cc)
 
 -- If the first lines have no fault, the entries are theirs, followed by those of the rest.
@@ -103,11 +104,17 @@ done_adds current after number line mid new (Current authority) says (same, held
   adds = λ entries means. rw (append-nil entries, held_same) means;
   few = let least : held new ≡ held mid = ap held held_same in omega arith;
 }
-done_adds current after number line mid new (Names entry) says (same, adds, few) = record {
+done_adds current after number line mid new (Under entry) says (same, adds) = record {
   named = entry ∷ [];
   is = rw (says, same) refl;
-  adds = adds;
-  few = few;
+  adds = adds.0;
+  few = adds.1;
+}
+done_adds current after number line mid new (Names entry) says (same, adds) = record {
+  named = entry ∷ [];
+  is = rw (says, same) refl;
+  adds = adds.0;
+  few = adds.1;
 }
 
 pub line_read : (lines : List (List ℕ)) (passed : ℕ) (line : List ℕ) (rest : List (List ℕ)) (current after : Option (List ℕ)) (old mid new : Revocations)

@@ -16,8 +16,8 @@ use Rattle.krl_spec.specs.Entries.{bare_entry, names_entry}
 use Rattle.krl_types.specs.Subject.{CertNames, Subject}
 use Rattle.ssh_cert.specs.SubjectReading.{subject_of}
 use Rattle.ssh_cert.specs.declared.subject_fault.SubjectFault.{SubjectFault}
-use Rattle.text_entries.specs.Reading.{IsDone, LacksMemory, ReportsLine}
-use Rattle.text_entries.specs.Says.{Names, Saying, bare_says, entry_says, has_zero_id, key_line_says, names_says}
+use Rattle.text_entries.specs.Reading.{LacksMemory, ReportsLine, TakesEntry, TakesLine}
+use Rattle.text_entries.specs.Says.{Names, Under, bare_key_entry, has_zero_id, key_line_says, names_says, spec_entry, under_says, whole_entry}
 use Rattle.text_entries.specs.TextCause.{MayLackMemory, Reports}
 use Rattle.text_entries.specs.Values.{authority_key_in, begins_with_key, has_zero, unless_certified}
 use Rattle.text_entries.specs.declared.text_cause.TextCause.{TextCause}
@@ -72,67 +72,106 @@ subject_stops text line cause read is = rw (in_fault_then specs.Key (line_in tex
 -- ---- entries
 
 -- an entry as in a specification file
-pub entry_done : (read : Result Entry SpecCause) (current : Option (List ℕ)) (old new : Revocations) → AddsEntry {A = Unit {0}} read (Ok tt) old new
-    → (saying : Saying) × (entry_says read ≡ Ok saying) × IsDone saying current current old new
-entry_done read current old new (entry, is, adds, few) = (Names entry, ap entry_says is, (refl, adds, few))
+pub entry_added : (read : Result Entry SpecCause) (old new : Revocations) → AddsEntry {A = Unit {0}} read (Ok tt) old new
+    → TakesEntry {A = Unit {0}} (spec_entry read) (Ok tt) old new
+entry_added read old new (entry, is, adds, few) = (entry, ap spec_entry is, (adds, few))
 
 -- an entry of bytes that a line gives
-pub names_one : (read : Result (List ℕ) TextCause) (value : List ℕ) (entry : List ℕ → Entry) (current : Option (List ℕ)) (old new : Revocations)
+pub bytes_added : (read : Result (List ℕ) TextCause) (value : List ℕ) (entry : List ℕ → Entry) (old new : Revocations)
     → read ≡ Ok value → MeansMore old new (entry value ∷ []) → held new ≡ held old
-    → (saying : Saying) × ((read >>= λ v. Ok (Names (entry v))) ≡ Ok saying) × IsDone saying current current old new
-names_one read value entry current old new is means same = (Names (entry value), rw is refl, (refl, means, omega (arith, same)))
+    → TakesEntry {A = Unit {0}} (read >>= λ v. Ok (entry v)) (Ok tt) old new
+bytes_added read value entry old new is means same = (entry value, rw is refl, (means, omega (arith, same)))
 
 -- an entry that is no key ID with a zero byte
-pub named : (entry : Entry) (current : Option (List ℕ)) (old new : Revocations) → has_zero_id entry ≡ false
+pub whole_added : (entry : Entry) (old new : Revocations) → has_zero_id entry ≡ false
     → MeansMore old new (entry ∷ []) → held new ≤ held old + 1
-    → (saying : Saying) × (names_says entry ≡ Ok saying) × IsDone saying current current old new
-named entry current old new whole means few = (Names entry, rw whole refl, (refl, means, few))
+    → TakesEntry {A = Unit {0}} (whole_entry entry) (Ok tt) old new
+whole_added entry old new whole means few = (entry, rw whole refl, (means, few))
 
 -- a key ID that a line gives by its bytes
-pub id_one : (read : Result (List ℕ) TextCause) (authority id : List ℕ) (old new : Revocations) → read ≡ Ok id → has_zero id ≡ false
+pub id_added : (read : Result (List ℕ) TextCause) (authority id : List ℕ) (old new : Revocations) → read ≡ Ok id → has_zero id ≡ false
     → MeansMore old new (IdEntry authority id ∷ []) → held new ≡ held old
-    → (saying : Saying) × ((read >>= λ i. names_says (IdEntry authority i)) ≡ Ok saying) × IsDone saying (Some authority) (Some authority) old new
-id_one read authority id old new is whole means same =
-    (Names (IdEntry authority id), rw (is, whole) refl, (refl, means, omega (arith, same)))
+    → TakesEntry {A = Unit {0}} (read >>= λ i. whole_entry (IdEntry authority i)) (Ok tt) old new
+id_added read authority id old new is whole means same =
+    (IdEntry authority id, rw (is, whole) refl, (means, omega (arith, same)))
+
+-- ---- the lines of entries
+
+names_lacks : (read : Result Entry TextCause) → MayLackMemory read → LacksMemory (names_says read)
+names_lacks (Ok entry) may = tt
+names_lacks (Err cause) may = may
+
+names_reports : (cause : TextCause) (read : Result Entry TextCause) → Reports cause read → ReportsLine cause (names_says read)
+names_reports (Spec specs.NoMemory) read is = names_lacks read is
+names_reports cause read is = rw is refl
+
+-- No authority is current after the entry of a line was added.
+pub names_line : (read : Result Entry TextCause) (current : Option (List ℕ)) (old new : Revocations)
+    → TakesEntry {A = Unit {0}} read (Ok tt) old new → TakesLine {A = Unit {0}} (names_says read) (Ok tt) current None old new
+names_line read current old new (entry, is, held) = (Names entry, ap names_says is, (refl, held))
+
+pub names_stops : (read : Result Entry TextCause) (current : Option (List ℕ)) (cause : TextCause) (old new : Revocations)
+    → TakesEntry {A = Unit {0}} read (Err cause) old new → TakesLine {A = Unit {0}} (names_says read) (Err cause) current current old new
+names_stops read current cause old new (is, same) = (names_reports cause read is, refl, same)
+
+under_lacks : (read : Result Entry TextCause) → MayLackMemory read → LacksMemory (under_says read)
+under_lacks (Ok entry) may = tt
+under_lacks (Err cause) may = may
+
+under_reports : (cause : TextCause) (read : Result Entry TextCause) → Reports cause read → ReportsLine cause (under_says read)
+under_reports (Spec specs.NoMemory) read is = under_lacks read is
+under_reports cause read is = rw is refl
+
+-- The current authority stays after its entry was added.
+pub under_line : (read : Result Entry TextCause) (result : Result (Unit {0}) TextCause) (current : Option (List ℕ)) (old new : Revocations)
+    → TakesEntry read result old new → TakesLine (under_says read) result current current old new
+under_line read (Ok done) current old new (entry, is, held) = (Under entry, ap under_says is, (refl, held))
+under_line read (Err cause) current old new (is, same) = (under_reports cause read is, refl, same)
 
 -- ---- key lines
 
-abbrev bare_of : Result Subject KeyCause → Result Saying TextCause
-bare_of read = bare_says (in_fault specs.Key read >>= λ (asked : Subject). Ok (names_entry asked.plain asked.cert))
+abbrev bare_of : Result Subject KeyCause → Result Entry TextCause
+bare_of read = spec_entry (in_fault specs.Key read >>= λ (asked : Subject). Ok (names_entry asked.plain asked.cert)) >>= whole_entry
 
-named_lacks : (entry : Entry) → LacksMemory (names_says entry)
-named_lacks entry = elim (cases_Bool (has_zero_id entry)) [
+whole_may : (entry : Entry) → MayLackMemory (whole_entry entry)
+whole_may entry = elim (cases_Bool (has_zero_id entry)) [
   | inl zero ↦ rw zero tt
   | inr whole ↦ rw whole tt
 ]
 
-asked_lacks : (read : Result Subject SubjectFault) → LacksMemory (bare_of (in_fault keys.Subject read))
-asked_lacks (Ok asked) = named_lacks (names_entry asked.plain asked.cert)
-asked_lacks (Err fault) = tt
+asked_may : (read : Result Subject SubjectFault) → MayLackMemory (bare_of (in_fault keys.Subject read))
+asked_may (Ok asked) = whole_may (names_entry asked.plain asked.cert)
+asked_may (Err fault) = tt
 
-bare_lacks : (read : Result KeyLine KeyCause) → MayLackSpec (in_fault specs.Key read) → LacksMemory (bare_of (read >>= asked_in))
-bare_lacks (Ok line) may = asked_lacks (subject_of line.blob)
-bare_lacks (Err cause) may = may
+bare_may : (read : Result KeyLine KeyCause) → MayLackSpec (in_fault specs.Key read) → MayLackMemory (bare_of (read >>= asked_in))
+bare_may (Ok line) may = asked_may (subject_of line.blob)
+bare_may (Err cause) may = may
 
--- what content that begins with a key says
-pub bare_is : (content : List ℕ) → false ≡ (length content == 0) → begins_with_key content ≡ true
-    → key_line_says content ≡ bare_says (bare_entry content)
-bare_is [] some begins = absurd (false≢true some)
-bare_is (byte ∷ bytes) some begins = rw begins refl
+-- what content that begins with a key names
+abbrev whole_bare : List ℕ → Result Entry TextCause
+whole_bare text = spec_entry (bare_entry text) >>= whole_entry
+
+pub bare_is : (content : List ℕ) → begins_with_key content ≡ true → bare_key_entry content ≡ whole_bare content
+bare_is content begins = rw begins refl
 
 pub bare_read : (text : List ℕ) (line : KeyLine) (asked : Subject) → in_fault specs.Key (line_in text) ≡ Ok line
-    → in_fault specs.Key (asked_in line) ≡ Ok asked → bare_says (bare_entry text) ≡ names_says (names_entry asked.plain asked.cert)
+    → in_fault specs.Key (asked_in line) ≡ Ok asked → whole_bare text ≡ whole_entry (names_entry asked.plain asked.cert)
 unfolding subject_in
 bare_read text line asked read is = rw (in_fault_then specs.Key (line_in text) asked_in, read, is) refl
 
 pub bare_line_stops : (text : List ℕ) (cause : SpecCause) → ReportsSpec cause (in_fault specs.Key (line_in text))
-    → ReportsLine (Spec cause) (bare_says (bare_entry text))
+    → Reports (Spec cause) (whole_bare text)
 unfolding subject_in
-bare_line_stops text specs.NoMemory is = bare_lacks (line_in text) is
+bare_line_stops text specs.NoMemory is = bare_may (line_in text) is
 bare_line_stops text cause is = rw (in_fault_then specs.Key (line_in text) asked_in, is) refl
 
 pub bare_subject_stops : (text : List ℕ) (line : KeyLine) (cause : SpecCause) → in_fault specs.Key (line_in text) ≡ Ok line
-    → ReportsSpec cause (in_fault specs.Key (asked_in line)) → ReportsLine (Spec cause) (bare_says (bare_entry text))
+    → ReportsSpec cause (in_fault specs.Key (asked_in line)) → Reports (Spec cause) (whole_bare text)
 unfolding subject_in
-bare_subject_stops text line specs.NoMemory read is = rw (in_fault_then specs.Key (line_in text) asked_in, read) (asked_lacks (subject_of line.blob))
+bare_subject_stops text line specs.NoMemory read is = rw (in_fault_then specs.Key (line_in text) asked_in, read) (asked_may (subject_of line.blob))
 bare_subject_stops text line cause read is = rw (in_fault_then specs.Key (line_in text) asked_in, read, is) refl
+
+-- content that is not empty
+pub key_line_is : (content : List ℕ) → false ≡ (length content == 0) → key_line_says content ≡ names_says (bare_key_entry content)
+key_line_is [] some = absurd (false≢true some)
+key_line_is (byte ∷ bytes) some = refl

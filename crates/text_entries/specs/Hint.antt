@@ -7,11 +7,11 @@ use Rattle.keyed_lines.specs.declared.key_cause.KeyCause.TheVariants as keys
 use Rattle.krl_spec.specs.Blanks.{bare_line}
 use Rattle.run_faults.specs.declared.spec_cause.SpecCause.TheVariants as specs
 use Rattle.text_entries.specs.Misspelt.{misspelt_in, numbered_line}
-use Rattle.text_entries.specs.Values.{has_blank}
+use Rattle.text_entries.specs.Values.{has_blank, lacks_prefix}
 use Rattle.text_entries.specs.Word.{Order, order_in}
 use Rattle.text_entries.specs.declared.hint.Hint.{Hint}
 use Rattle.text_entries.specs.declared.hint.Hint.TheVariants.{Misspelt, Fingerprint, KeyFile}
-use Rattle.text_entries.specs.declared.hint.Hint.TheVariants.{ByteOrderMark}
+use Rattle.text_entries.specs.declared.hint.Hint.TheVariants.{ByteOrderMark, Hexadecimal}
 use Rattle.text_entries.specs.declared.text_cause.TextCause.{TextCause}
 use Rattle.text_entries.specs.declared.text_cause.TextCause.TheVariants as causes
 
@@ -53,6 +53,15 @@ given_hint content (Some order) =
 abbrev pub key_hint : (content : List ℕ) → Option Hint
 key_hint content = given_hint content (order_in content)
 
+-- ---- a line whose serial number is none
+
+abbrev pub digits_hint : Option Order → Option Hint
+digits_hint None = None
+digits_hint (Some order) = if lacks_prefix order.given then Some Hexadecimal else None
+
+abbrev pub number_hint : (content : List ℕ) → Option Hint
+number_hint content = digits_hint (order_in content)
+
 -- ---- any line
 
 abbrev pub line_hint : TextCause → ℕ → Option (List ℕ) → Option Hint
@@ -60,6 +69,7 @@ line_hint cause number None = None
 line_hint causes.UnknownWord number (Some line) = word_hint (bare_line line) number
 line_hint (causes.Spec (specs.Key (keys.Line lines.NoKey))) number (Some line) =
     key_hint (bare_line line)
+line_hint (causes.Spec specs.Number) number (Some line) = number_hint (bare_line line)
 line_hint cause number (Some line) = None
 
 -- what the line of a text that has this fault may be meant as

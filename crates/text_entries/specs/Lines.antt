@@ -3,7 +3,7 @@ use Rattle.std.specs.Prelude.{ℕ, ◌+◌, List, [], ◌∷◌, Option, Some, N
 use Rattle.std.specs.List.{slice_split}
 use Rattle.key_text.specs.Lines.{is_newline}
 use Rattle.krl_types.specs.Entry.{Entry}
-use Rattle.text_entries.specs.Says.{Blank, Current, Names, Saying, line_says}
+use Rattle.text_entries.specs.Says.{Blank, Current, Names, Saying, Under, line_says}
 use Rattle.text_entries.specs.declared.text_cause.TextCause.{TextCause}
 use Rattle.text_entries.specs.declared.text_fault.TextFault.{TextFault}
 
@@ -22,8 +22,10 @@ abbrev pub before_later : ℕ → Option (List ℕ) → Result Saying TextCause
     → (Option (List ℕ) → LineEntries) → LineEntries
 before_later number current (Ok Blank) later = later current
 before_later number current (Ok (Current authority)) later = later (Some authority)
-before_later number current (Ok (Names entry)) later =
+before_later number current (Ok (Under entry)) later =
     record (later current) { entries = entry ∷ (later current).entries }
+before_later number current (Ok (Names entry)) later =
+    record (later None) { entries = entry ∷ (later None).entries }
 before_later number current (Err cause) later =
     record { entries = []; fault = Some (fault_at number cause); current = current }
 

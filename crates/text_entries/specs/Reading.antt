@@ -4,24 +4,36 @@ use Rattle.std.specs.Prelude.{Result, Ok, Err}
 use Rattle.std.specs.List.{slice_split}
 use Rattle.key_text.specs.Lines.{is_newline}
 use Rattle.run_faults.specs.declared.spec_cause.SpecCause.TheVariants as specs
+use Rattle.krl_types.specs.Entry.{Entry}
 use Rattle.krl_entries.specs.Changes.{MeansMore}
 use Rattle.krl_entries.specs.Revocations.{Revocations, held}
 use Rattle.text_entries.specs.Lines.{fault_at, lines_from, lines_of}
-use Rattle.text_entries.specs.Says.{Blank, Current, Names, Saying, line_says}
-use Rattle.text_entries.specs.TextCause.{MayLackMemory}
+use Rattle.text_entries.specs.Says.{Blank, Current, Names, Saying, Under, line_says}
+use Rattle.text_entries.specs.TextCause.{MayLackMemory, Reports}
 use Rattle.text_entries.specs.declared.text_cause.TextCause.{TextCause}
 use Rattle.text_entries.specs.declared.text_cause.TextCause.TheVariants as causes
 use Rattle.text_entries.specs.declared.text_fault.TextFault.{TextFault}
 
+-- ---- an entry
+
+-- The entry is held, which makes at most one more interval.
+abbrev pub IsHeld : Entry → (old new : Revocations) → Type 0
+IsHeld entry old new = MeansMore old new (entry ∷ []) × (held new ≤ held old + 1)
+
+-- The entry of a line was added; or its fault is reported, and nothing changed.
+abbrev pub TakesEntry : {A : Type 0} → Result Entry TextCause → Result A TextCause
+    → (old new : Revocations) → Type 0
+TakesEntry read (Ok done) old new = (entry : Entry) × (read ≡ Ok entry) × IsHeld entry old new
+TakesEntry read (Err cause) old new = Reports cause read × (new ≡ old)
+
 -- ---- a line
 
--- A line was obeyed: its authority is current, or its entry is held, which makes at most one more
--- interval.
+-- A line was obeyed: its authority is current, or its entry is held.
 abbrev pub IsDone : Saying → (before after : Option (List ℕ)) → (old new : Revocations) → Type 0
 IsDone Blank before after old new = (after ≡ before) × (new ≡ old)
 IsDone (Current authority) before after old new = (after ≡ Some authority) × (new ≡ old)
-IsDone (Names entry) before after old new =
-    (after ≡ before) × MeansMore old new (entry ∷ []) × (held new ≤ held old + 1)
+IsDone (Under entry) before after old new = (after ≡ before) × IsHeld entry old new
+IsDone (Names entry) before after old new = (after ≡ None) × IsHeld entry old new
 
 -- An allocation may fail before a line is obeyed. A line that says nothing needs none.
 abbrev pub LacksMemory : Result Saying TextCause → Type 0

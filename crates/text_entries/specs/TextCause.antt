@@ -8,6 +8,8 @@ use Rattle.text_entries.specs.declared.text_cause.TextCause.TheVariants.{Spec, C
 use Rattle.text_entries.specs.declared.text_cause.TextCause.TheVariants.{Base64, Hex, CutId}
 use Rattle.text_entries.specs.declared.text_cause.TextCause.TheVariants.{UnknownWord, ControlInId}
 use Rattle.text_entries.specs.declared.text_cause.TextCause.TheVariants.{ZeroInId, KeyAsId}
+use Rattle.text_entries.specs.declared.text_cause.TextCause.TheVariants.{LeadingZero, QuotedId}
+use Rattle.text_entries.specs.declared.text_cause.TextCause.TheVariants.{SeveralIds}
 
 abbrev pub text_cause_number : TextCause → ℕ
 text_cause_number (Spec cause) = 1
@@ -20,6 +22,9 @@ text_cause_number UnknownWord = 7
 text_cause_number ControlInId = 8
 text_cause_number ZeroInId = 9
 text_cause_number KeyAsId = 10
+text_cause_number LeadingZero = 11
+text_cause_number QuotedId = 12
+text_cause_number SeveralIds = 13
 
 abbrev pub text_cause_text : TextCause → List ℕ
 text_cause_text (Spec cause) = codes "text 1 Spec, " ++ spec_cause_text cause
@@ -32,6 +37,9 @@ text_cause_text UnknownWord = codes "text 7 UnknownWord"
 text_cause_text ControlInId = codes "text 8 ControlInId"
 text_cause_text ZeroInId = codes "text 9 ZeroInId"
 text_cause_text KeyAsId = codes "text 10 KeyAsId"
+text_cause_text LeadingZero = codes "text 11 LeadingZero"
+text_cause_text QuotedId = codes "text 12 QuotedId"
+text_cause_text SeveralIds = codes "text 13 SeveralIds"
 
 -- an allocation failed
 abbrev pub no_memory : TextCause
@@ -49,6 +57,9 @@ MayHide UnknownWord = ⊥
 MayHide ControlInId = ⊥
 MayHide ZeroInId = ⊤
 MayHide KeyAsId = ⊥
+MayHide LeadingZero = ⊥
+MayHide QuotedId = ⊥
+MayHide SeveralIds = ⊥
 
 -- An allocation may fail before this is found.
 abbrev pub MayLackMemory : {A : Type 0} → Result A TextCause → Type 0

@@ -1,16 +1,18 @@
 -- The values of the words of the text of a list, and what cuts one short.
-use Rattle.std.specs.Prelude.{ℕ, Bool, ◌-◌, ◌==◌, ◌&&◌, ◌||◌, not, nat_eq, nat_lt, List, [], ◌∷◌}
-use Rattle.std.specs.Prelude.{length, slice_index, codes, Option, Some, None, Result, Ok, Err}
+use Rattle.std.specs.Prelude.{ℕ, Bool, false, ◌+◌, ◌-◌, ◌==◌, ◌&&◌, ◌||◌, not, nat_eq, nat_lt, List}
+use Rattle.std.specs.Prelude.{[], ◌∷◌, length, slice_index, codes, Option, Some, None, Result, Ok, Err}
 use Rattle.std.specs.Prelude.{if◌then◌else◌, drop, take}
-use Rattle.std.specs.List.{list_any, position_or_len, starts_with}
+use Rattle.std.specs.Char.{is_ascii_alphabetic, is_ascii_digit, is_ascii_hexdigit}
+use Rattle.std.specs.List.{before_first, ends_with, list_all, list_any, position_or_len}
+use Rattle.std.specs.List.{starts_with}
 use Rattle.base64.specs.Engines.{standard, standard_no_pad}
 use Rattle.base64.specs.GeneralPurpose.{decode_of}
 use Rattle.base64.specs.declared.decode.DecodeError.{DecodeError}
 use Rattle.hex.specs.Hex.{decode_of as hex_decode_of}
 use Rattle.hex.specs.declared.error.FromHexError.{FromHexError}
-use Rattle.ssh_wire.specs.Ascii.{delete, space}
+use Rattle.ssh_wire.specs.Ascii.{delete, digit_zero, space}
 use Rattle.ssh_wire.specs.Reading.{◌>>=◌, in_fault}
-use Rattle.key_text.specs.Blanks.{first_word, is_blank}
+use Rattle.key_text.specs.Blanks.{after_blanks, before_ending, first_word, is_blank}
 use Rattle.key_text.specs.TypeName.{is_type_name}
 use Rattle.key_text.specs.declared.line_fault.LineFault.TheVariants as lines
 use Rattle.key_text.specs.declared.fingerprint_fault.FingerprintFault.TheVariants as fingerprints
@@ -19,6 +21,7 @@ use Rattle.keyed_lines.specs.declared.key_cause.KeyCause.TheVariants as keys
 use Rattle.run_faults.specs.declared.spec_cause.SpecCause.TheVariants as specs
 use Rattle.krl_types.specs.Subject.{CertNames}
 use Rattle.krl_spec.specs.Blanks.{is_hash}
+use Rattle.krl_spec.specs.Number.{is_hyphen}
 use Rattle.text_entries.specs.declared.text_cause.TextCause.{TextCause}
 use Rattle.text_entries.specs.declared.text_cause.TextCause.TheVariants as causes
 
@@ -100,6 +103,34 @@ sized (Ok bytes) =
 unfoldable pub sha1_in : List ℕ → Result (List ℕ) TextCause
 sha1_in text = sized (decode_of standard_no_pad (drop 5 text))
 
+-- ---- serial numbers
+
+-- The number begins with 0 and has more digits.
+abbrev pub begins_with_zero : List ℕ → Bool
+begins_with_zero (first ∷ second ∷ digits) =
+    first == digit_zero && is_ascii_digit second
+begins_with_zero text = false
+
+-- The number has a leading zero, or one of two around a hyphen has.
+unfoldable pub has_leading_zero : List ℕ → Bool
+has_leading_zero text =
+    if nat_lt (position_or_len is_hyphen text) (length text)
+    then begins_with_zero text
+    || begins_with_zero (after_blanks (drop (position_or_len is_hyphen text + 1) text))
+    else begins_with_zero text
+
+-- Its digits are hexadecimal, and 0x is not before them.
+abbrev pub is_bare_hex : List ℕ → Bool
+is_bare_hex text = list_all is_ascii_hexdigit text && list_any is_ascii_alphabetic text
+
+-- The number lacks its 0x, or one of two around a hyphen does.
+unfoldable pub lacks_prefix : List ℕ → Bool
+lacks_prefix text =
+    if nat_lt (position_or_len is_hyphen text) (length text)
+    then is_bare_hex (before_ending (before_first is_hyphen text))
+    || is_bare_hex (after_blanks (drop (position_or_len is_hyphen text + 1) text))
+    else is_bare_hex text
+
 -- ---- key IDs
 
 -- A `#` in the line, and no blank before it: what is before it would be taken for the whole key ID.
@@ -126,3 +157,17 @@ is_zero byte = byte == 0
 
 abbrev pub has_zero : List ℕ → Bool
 has_zero text = list_any is_zero text
+
+abbrev pub is_between : (mark : List ℕ) → List ℕ → Bool
+is_between mark id =
+    nat_lt 1 (length id) && (starts_with nat_eq id mark && ends_with nat_eq id mark)
+
+-- It begins and ends with the same quote.
+abbrev pub is_quoted : List ℕ → Bool
+is_quoted id = is_between (codes "\"") id || is_between (codes "'") id
+
+-- A comma and a blank look as if two key IDs were meant.
+unfoldable pub looks_like_several : List ℕ → Bool
+looks_like_several [] = false
+looks_like_several (byte ∷ bytes) =
+    starts_with nat_eq (byte ∷ bytes) (codes ", ") || looks_like_several bytes

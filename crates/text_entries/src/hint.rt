@@ -2,15 +2,15 @@
 
 ghost use Rattle.std.specs.Prelude.{◌≡◌};
 ghost use Rattle.text_entries.specs.Hint.{has_word, hint_at, is_file_name, is_print, key_hint};
-ghost use Rattle.text_entries.specs.Hint.{word_hint};
+ghost use Rattle.text_entries.specs.Hint.{number_hint, word_hint};
 ghost use Rattle.text_entries.specs.Misspelt.{numbered_line};
 
 use crate::misspelt::{Misspelt, misspelt_in, numbered_line};
 use crate::text_cause::TextCause;
 use crate::text_fault::TextFault;
-use crate::values::{NO_KEY, has_blank};
+use crate::values::{NO_KEY, has_blank, lacks_prefix};
 use crate::word::order_in;
-use krl_spec::bare_line;
+use krl_spec::{SpecCause, bare_line};
 
 // The byte order mark of UTF-8, which some editors write at the beginning of a file.
 const MARK: &[u8] = b"\xef\xbb\xbf";
@@ -26,13 +26,16 @@ pub enum Hint<'a> {
     KeyFile,
     /// The text begins with a byte order mark.
     ByteOrderMark,
+    /// A serial number has hexadecimal digits, and lacks the `0x` before them.
+    Hexadecimal,
 }
 
 /// The form that the line of a text with this fault may be meant in.
 ///
 /// A line that begins neither with a word and a colon nor with the type name of a key may have a
 /// misspelt word, and the first line may begin with a byte order mark. A line whose word needs a
-/// key that is not there may be a fingerprint, or have the name of the key's file.
+/// key that is not there may be a fingerprint, or have the name of the key's file. A serial number
+/// that is none may lack its `0x`.
 #[tactic(auto, unfolding(crate::specs::Hint::hint_at))]
 pub fn hint_at(text: &[u8], fault: TextFault) -> Option<Hint<'_>>
     ensures { result ≡ hint_at text.now fault.line fault.cause }
@@ -42,6 +45,8 @@ pub fn hint_at(text: &[u8], fault: TextFault) -> Option<Hint<'_>>
         word_hint(content, fault.line)
     } else if fault.cause == NO_KEY {
         key_hint(content)
+    } else if fault.cause == TextCause::Spec(SpecCause::Number) {
+        number_hint(content)
     } else {
         None
     }
@@ -77,6 +82,17 @@ fn key_hint(content: &[u8]) -> Option<Hint<'static>>
     }
     if is_file_name(order.given) {
         return Some(Hint::KeyFile);
+    }
+    None
+}
+
+// The form that the content of a line whose serial number is none may be meant in.
+fn number_hint(content: &[u8]) -> Option<Hint<'static>>
+    ensures { result ≡ number_hint content.now }
+{
+    let order = order_in(content)?;
+    if lacks_prefix(order.given) {
+        return Some(Hint::Hexadecimal);
     }
     None
 }

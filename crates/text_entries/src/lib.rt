@@ -18,4 +18,4 @@ pub use one_off::one_off_where_spelled;
 pub use reading::read_text;
 pub use text_cause::TextCause;
 pub use text_fault::TextFault;
-pub use values::looks_like_key;
+pub use values::{is_quoted, looks_like_key, looks_like_several};

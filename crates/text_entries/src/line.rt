@@ -1,28 +1,33 @@
 //! Doing what a line of the text of a list says.
 
-ghost use Rattle.std.specs.Prelude.{◌≡◌, ℕ, List, Option, true};
-ghost use Rattle.krl_spec.specs.Entries.{bare_entry, names_entry, order_entry};
-ghost use Rattle.text_entries.specs.Reading.{TakesLine};
-ghost use Rattle.text_entries.specs.Says.{bare_says, entry_says, has_zero_id, id_hex_says};
-ghost use Rattle.text_entries.specs.Says.{key_blob_says, key_line_says, keyed_says, line_says};
-ghost use Rattle.text_entries.specs.Says.{names_says, sha1_says, word_says};
+ghost use Rattle.std.specs.Prelude.{◌≡◌, ℕ, List, None, Result, true};
+ghost use Rattle.krl_entries.specs.Revocations.{Revocations as RevocationsOf};
+ghost use Rattle.krl_spec.specs.Entries.{names_entry, order_entry};
+ghost use Rattle.krl_types.specs.Entry.{Entry as EntryOf};
+ghost use Rattle.text_entries.specs.Reading.{TakesEntry, TakesLine};
+ghost use Rattle.text_entries.specs.Says.{bare_key_entry, has_zero_id, hash_entry, id_entry};
+ghost use Rattle.text_entries.specs.Says.{id_hex_entry, key_blob_entry, keyed_entry, line_says};
+ghost use Rattle.text_entries.specs.Says.{names_says, serial_entry, sha1_entry, spec_entry};
+ghost use Rattle.text_entries.specs.Says.{whole_entry, word_says};
 ghost use Rattle.text_entries.specs.Values.{is_sha1};
+ghost use Rattle.text_entries.specs.declared.text_cause.TextCause.{TextCause as TextCauseOf};
 
 use crate::authority::{read_authority, read_authority_blob, under};
 use crate::text_cause::TextCause;
 use crate::values::{
-    NO_KEY, begins_with_key, has_control, has_zero, is_cut, is_sha1, looks_like_key, read_blob,
-    read_bytes, read_sha1,
+    NO_KEY, begins_with_key, has_control, has_leading_zero, has_zero, is_cut, is_quoted, is_sha1,
+    looks_like_key, looks_like_several, read_blob, read_bytes, read_sha1,
 };
 use crate::word::{Order, Word, order_in};
 use krl_entries::Revocations;
-use krl_spec::{Directive, SpecCause, add_order, add_subject, ask, bare_line, key_line};
+use krl_spec::{Directive, SpecCause, Under, add_order, add_subject, ask, bare_line, key_line};
 use serial_set::Spans;
 use ssh_cert::Subject;
 use ssh_wire::Bytes;
 use std::alloc::Global;
 
-/// Does what a line says: its authority is current from now on, or its entry is held.
+/// Does what a line says: its authority is current from now on, or its entry is held. After a key,
+/// a hash or a certificate no authority is current.
 #[tactic(auto, unfolding(crate::specs::Says::line_says))]
 pub fn take_line<S: Spans>(
     alloc: Global,
@@ -36,7 +41,8 @@ pub fn take_line<S: Spans>(
     let content = bare_line(line);
     match order_in(content) {
         Some(order) => take_order(alloc, revocations, current, line, order),
-        None => take_key_line(alloc, revocations, content),
+        None if content.is_empty() => Ok(()),
+        None => end_authority(current, add_bare_key(alloc, revocations, content)),
     }
 }
 
@@ -52,57 +58,63 @@ fn take_order<S: Spans>(
         (word_says current.old line.now order.entry.word order.entry.given.now) result
         current.old current.new revocations.old revocations.new }
 {
+    let given = order.given;
     match order.word {
         Word::Authority => {
-            *current = Some(read_authority(alloc, order.given)?);
+            *current = Some(read_authority(alloc, given)?);
             Ok(())
         }
         Word::AuthorityBlob => {
-            *current = Some(read_authority_blob(alloc, order.given)?);
+            *current = Some(read_authority_blob(alloc, given)?);
             Ok(())
         }
-        Word::Id if is_cut(line) => Err(TextCause::CutId),
-        Word::Id if has_control(order.given) => Err(TextCause::ControlInId),
-        Word::Id if looks_like_key(order.given) => Err(TextCause::KeyAsId),
-        Word::IdHex => take_id_hex(alloc, revocations, current, order.given),
-        Word::KeyBlob => take_key_blob(alloc, revocations, order.given),
-        Word::Hash if is_sha1(order.given) => take_sha1(alloc, revocations, order.given),
-        Word::Serial => take_directive(alloc, revocations, current, Directive::Serial, order.given),
-        Word::Id => take_directive(alloc, revocations, current, Directive::Id, order.given),
-        Word::Key => take_keyed(alloc, revocations, current, Directive::Key, order.given),
-        Word::Sha1 => take_keyed(alloc, revocations, current, Directive::Sha1, order.given),
-        Word::Sha256 => take_keyed(alloc, revocations, current, Directive::Sha256, order.given),
-        Word::Hash => take_directive(alloc, revocations, current, Directive::Hash, order.given),
+        Word::Serial => add_serial(alloc, revocations, current, given),
+        Word::Id => add_id(alloc, revocations, current, line, given),
+        Word::IdHex => add_id_hex(alloc, revocations, current, given),
+        Word::Key => end_authority(
+            current,
+            add_keyed(alloc, revocations, Directive::Key, given),
+        ),
+        Word::KeyBlob => end_authority(current, add_key_blob(alloc, revocations, given)),
+        Word::Sha1 => end_authority(
+            current,
+            add_keyed(alloc, revocations, Directive::Sha1, given),
+        ),
+        Word::Sha256 => {
+            end_authority(
+                current,
+                add_keyed(alloc, revocations, Directive::Sha256, given),
+            )
+        }
+        Word::Hash => end_authority(current, add_hash(alloc, revocations, given)),
     }
 }
 
-// Adds the entry of a directive of specification files whose value is a key line.
-fn take_keyed<S: Spans>(
-    alloc: Global,
-    revocations: &mut Revocations<S>,
-    current: &Option<Bytes>,
-    directive: Directive,
-    given: &[u8],
-) -> Result<(), TextCause>
-    ensures { TakesLine (keyed_says current.now directive given.now) result
-        current.now current.now revocations.old revocations.new }
+// No authority is current after an entry that was added.
+fn end_authority(current: &mut Option<Bytes>, added: Result<(), TextCause>) -> Result<(), TextCause>
+    ensures { (read : Result EntryOf TextCauseOf) (old new : RevocationsOf)
+        → TakesEntry read added old new
+        → TakesLine (names_says read) result current.old current.new old new }
 {
-    if !begins_with_key(given) {
-        return Err(NO_KEY);
+    match added {
+        Ok(()) => {
+            *current = None;
+            Ok(())
+        }
+        Err(cause) => Err(cause),
     }
-    take_directive(alloc, revocations, current, directive, given)
 }
 
 // Adds the entry of a directive of specification files.
-fn take_directive<S: Spans>(
+fn add_directive<S: Spans>(
     alloc: Global,
     revocations: &mut Revocations<S>,
     current: &Option<Bytes>,
     directive: Directive,
     given: &[u8],
 ) -> Result<(), TextCause>
-    ensures { TakesLine (entry_says (order_entry current.now directive given.now)) result
-        current.now current.now revocations.old revocations.new }
+    ensures { TakesEntry (spec_entry (order_entry current.now directive given.now)) result
+        revocations.old revocations.new }
 {
     match add_order(alloc, revocations, under(current), directive, given) {
         Ok(()) => Ok(()),
@@ -110,51 +122,157 @@ fn take_directive<S: Spans>(
     }
 }
 
-// Adds the entry of content without a word.
-fn take_key_line<S: Spans>(
+// Adds serial numbers.
+fn add_serial<S: Spans>(
+    alloc: Global,
+    revocations: &mut Revocations<S>,
+    current: &Option<Bytes>,
+    given: &[u8],
+) -> Result<(), TextCause>
+    ensures { TakesEntry (serial_entry current.now given.now) result
+        revocations.old revocations.new }
+{
+    if has_leading_zero(given) {
+        return Err(TextCause::LeadingZero);
+    }
+    add_directive(alloc, revocations, current, Directive::Serial, given)
+}
+
+// Adds a key ID as it is.
+fn add_id<S: Spans>(
+    alloc: Global,
+    revocations: &mut Revocations<S>,
+    current: &Option<Bytes>,
+    line: &[u8],
+    given: &[u8],
+) -> Result<(), TextCause>
+    ensures { TakesEntry (id_entry current.now line.now given.now) result
+        revocations.old revocations.new }
+{
+    if is_cut(line) {
+        return Err(TextCause::CutId);
+    }
+    if has_control(given) {
+        return Err(TextCause::ControlInId);
+    }
+    if looks_like_key(given) {
+        return Err(TextCause::KeyAsId);
+    }
+    if is_quoted(given) {
+        return Err(TextCause::QuotedId);
+    }
+    if looks_like_several(given) {
+        return Err(TextCause::SeveralIds);
+    }
+    add_directive(alloc, revocations, current, Directive::Id, given)
+}
+
+// Adds a key ID that is given by its bytes.
+fn add_id_hex<S: Spans>(
+    alloc: Global,
+    revocations: &mut Revocations<S>,
+    current: &Option<Bytes>,
+    given: &[u8],
+) -> Result<(), TextCause>
+    ensures { TakesEntry (id_hex_entry current.now given.now) result
+        revocations.old revocations.new }
+{
+    let Some(authority) = current else {
+        return Err(TextCause::Spec(SpecCause::NoAuthority));
+    };
+    let id = read_bytes(alloc, given)?;
+    if has_zero(id.as_slice()) {
+        return Err(TextCause::ZeroInId);
+    }
+    revocations.add_id(authority.as_slice(), id.as_slice())?;
+    Ok(())
+}
+
+// Adds a key or its hash, if nothing is before the key.
+fn add_keyed<S: Spans>(
+    alloc: Global,
+    revocations: &mut Revocations<S>,
+    directive: Directive,
+    given: &[u8],
+) -> Result<(), TextCause>
+    ensures { TakesEntry (keyed_entry directive given.now) result
+        revocations.old revocations.new }
+{
+    if !begins_with_key(given) {
+        return Err(NO_KEY);
+    }
+    add_directive(alloc, revocations, &None, directive, given)
+}
+
+// Adds a key that is given by its bytes.
+fn add_key_blob<S: Spans>(
+    alloc: Global,
+    revocations: &mut Revocations<S>,
+    given: &[u8],
+) -> Result<(), TextCause>
+    ensures { TakesEntry (key_blob_entry given.now) result revocations.old revocations.new }
+{
+    let blob = read_blob(alloc, given)?;
+    revocations.add_key(blob.as_slice())?;
+    Ok(())
+}
+
+// Adds a key that is given by its hash.
+fn add_hash<S: Spans>(
+    alloc: Global,
+    revocations: &mut Revocations<S>,
+    given: &[u8],
+) -> Result<(), TextCause>
+    ensures { TakesEntry (hash_entry given.now) result revocations.old revocations.new }
+{
+    if is_sha1(given) {
+        return add_sha1(alloc, revocations, given);
+    }
+    add_directive(alloc, revocations, &None, Directive::Hash, given)
+}
+
+// Adds a key that is given by its SHA-1.
+fn add_sha1<S: Spans>(
+    alloc: Global,
+    revocations: &mut Revocations<S>,
+    given: &[u8],
+) -> Result<(), TextCause>
+    requires { is_sha1 given.now ≡ true }
+    ensures { TakesEntry (sha1_entry given.now) result revocations.old revocations.new }
+{
+    let hash = read_sha1(alloc, given)?;
+    revocations.add_sha1(&hash)?;
+    Ok(())
+}
+
+// Adds the entry of a key line.
+fn add_bare_key<S: Spans>(
     alloc: Global,
     revocations: &mut Revocations<S>,
     content: &[u8],
 ) -> Result<(), TextCause>
-    ensures { (current : Option (List ℕ)) → TakesLine (key_line_says content.now) result
-        current current revocations.old revocations.new }
+    ensures { TakesEntry (bare_key_entry content.now) result revocations.old revocations.new }
 {
-    if content.is_empty() {
-        return Ok(());
-    }
     if !begins_with_key(content) {
         return Err(TextCause::UnknownWord);
     }
-    take_bare(alloc, revocations, content)
-}
-
-// Adds the entry of a key line.
-fn take_bare<S: Spans>(
-    alloc: Global,
-    revocations: &mut Revocations<S>,
-    text: &[u8],
-) -> Result<(), TextCause>
-    ensures { (current : Option (List ℕ)) → TakesLine (bare_says (bare_entry text.now)) result
-        current current revocations.old revocations.new }
-{
-    let line = match key_line(alloc, text) {
+    let line = match key_line(alloc, content) {
         Ok(line) => line,
         Err(cause) => return Err(TextCause::Spec(cause)),
     };
     match ask(alloc, line.blob.as_slice()) {
-        Ok(asked) => take_subject(revocations, &asked),
+        Ok(asked) => add_asked(revocations, &asked),
         Err(cause) => Err(TextCause::Spec(cause)),
     }
 }
 
 // Adds the entry of a plain key or of a certificate.
-fn take_subject<S: Spans>(
+fn add_asked<S: Spans>(
     revocations: &mut Revocations<S>,
     asked: &Subject<'_>,
 ) -> Result<(), TextCause>
-    ensures { (current : Option (List ℕ)) → TakesLine
-        (names_says (names_entry asked.now.plain asked.now.cert)) result
-        current current revocations.old revocations.new }
+    ensures { TakesEntry (whole_entry (names_entry asked.now.plain asked.now.cert)) result
+        revocations.old revocations.new }
 {
     if has_zero_id(asked) {
         return Err(TextCause::ZeroInId);
@@ -171,54 +289,4 @@ fn has_zero_id(asked: &Subject<'_>) -> bool
         Some(names) if names.serial == 0 => has_zero(names.key_id),
         _ => false,
     }
-}
-
-// Adds a key ID that is given by its bytes.
-fn take_id_hex<S: Spans>(
-    alloc: Global,
-    revocations: &mut Revocations<S>,
-    current: &Option<Bytes>,
-    given: &[u8],
-) -> Result<(), TextCause>
-    ensures { TakesLine (id_hex_says current.now given.now) result
-        current.now current.now revocations.old revocations.new }
-{
-    let Some(authority) = current else {
-        return Err(TextCause::Spec(SpecCause::NoAuthority));
-    };
-    let id = read_bytes(alloc, given)?;
-    if has_zero(id.as_slice()) {
-        return Err(TextCause::ZeroInId);
-    }
-    revocations.add_id(authority.as_slice(), id.as_slice())?;
-    Ok(())
-}
-
-// Adds a key that is given by its bytes.
-fn take_key_blob<S: Spans>(
-    alloc: Global,
-    revocations: &mut Revocations<S>,
-    given: &[u8],
-) -> Result<(), TextCause>
-    ensures { (current : Option (List ℕ)) → TakesLine (key_blob_says given.now) result
-        current current revocations.old revocations.new }
-{
-    let blob = read_blob(alloc, given)?;
-    revocations.add_key(blob.as_slice())?;
-    Ok(())
-}
-
-// Adds a key that is given by its SHA-1.
-fn take_sha1<S: Spans>(
-    alloc: Global,
-    revocations: &mut Revocations<S>,
-    given: &[u8],
-) -> Result<(), TextCause>
-    requires { is_sha1 given.now ≡ true }
-    ensures { (current : Option (List ℕ)) → TakesLine (sha1_says given.now) result
-        current current revocations.old revocations.new }
-{
-    let hash = read_sha1(alloc, given)?;
-    revocations.add_sha1(&hash)?;
-    Ok(())
 }

@@ -32,10 +32,16 @@ pub enum TextCause {
     ZeroInId,
     /// A key ID begins with the type name of a key and a blank, and is not given by its bytes.
     KeyAsId,
+    /// A serial number begins with 0 and has more digits.
+    LeadingZero,
+    /// A key ID is between quotes, and is not given by its bytes.
+    QuotedId,
+    /// A key ID has a comma and a blank, and is not given by its bytes.
+    SeveralIds,
 }
 
 impl TextCause {
-    /// The fault's number, 1 to 10 in the order of the variants.
+    /// The fault's number, 1 to 13 in the order of the variants.
     pub fn number(self) -> u8
         ensures { result ≡ text_cause_number self }
     {
@@ -50,6 +56,9 @@ impl TextCause {
             TextCause::ControlInId => 8,
             TextCause::ZeroInId => 9,
             TextCause::KeyAsId => 10,
+            TextCause::LeadingZero => 11,
+            TextCause::QuotedId => 12,
+            TextCause::SeveralIds => 13,
         }
     }
 }
@@ -69,6 +78,9 @@ impl fmt::Display for TextCause {
             TextCause::ControlInId => f.write_str("text 8 ControlInId"),
             TextCause::ZeroInId => f.write_str("text 9 ZeroInId"),
             TextCause::KeyAsId => f.write_str("text 10 KeyAsId"),
+            TextCause::LeadingZero => f.write_str("text 11 LeadingZero"),
+            TextCause::QuotedId => f.write_str("text 12 QuotedId"),
+            TextCause::SeveralIds => f.write_str("text 13 SeveralIds"),
         }
     }
 }

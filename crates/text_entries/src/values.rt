@@ -1,19 +1,23 @@
 //! The bytes that lines of the text of a list give.
 
 ghost use Rattle.std.specs.Prelude.{◌≡◌, Ok, true};
+ghost use Rattle.std.specs.Char.{is_ascii_alphabetic, is_ascii_hexdigit};
+ghost use Rattle.std.specs.List.{list_all, list_any};
 ghost use Rattle.ssh_wire.specs.Reading.{Answers};
 ghost use Rattle.text_entries.specs.TextCause.{Reports};
 ghost use Rattle.run_faults.specs.declared.spec_cause.SpecCause.TheVariants.{Fingerprint};
-ghost use Rattle.text_entries.specs.Values.{begins_with_key, blob_in, bytes_in, has_blank};
-ghost use Rattle.text_entries.specs.Values.{has_control, has_zero, is_control, is_cut, is_sha1};
-ghost use Rattle.text_entries.specs.Values.{looks_like_key, sha1_in, sized};
+ghost use Rattle.text_entries.specs.Values.{begins_with_key, begins_with_zero};
+ghost use Rattle.text_entries.specs.Values.{blob_in, bytes_in, has_blank, has_control};
+ghost use Rattle.text_entries.specs.Values.{has_leading_zero, has_zero, is_bare_hex, is_between};
+ghost use Rattle.text_entries.specs.Values.{is_control, is_cut, is_quoted, is_sha1, lacks_prefix};
+ghost use Rattle.text_entries.specs.Values.{looks_like_key, looks_like_several, sha1_in, sized};
 ghost use Rattle.text_entries.specs.declared.text_cause.TextCause.TheVariants.{Spec};
 
 use crate::text_cause::TextCause;
 use base64::DecodeAllocError;
 use base64::engine::general_purpose::{STANDARD, STANDARD_NO_PAD};
 use hex::FromHexError;
-use key_text::{FingerprintFault, LineFault, is_blank, key_part};
+use key_text::{FingerprintFault, LineFault, after_blanks, before_ending, is_blank, key_part};
 use keyed_lines::KeyCause;
 use krl_spec::position_of;
 use run_faults::SpecCause;
@@ -97,6 +101,62 @@ fn no_sha1(fault: FingerprintFault) -> TextCause
     TextCause::Spec(SpecCause::Fingerprint(fault))
 }
 
+/// Whether a serial number, or one of two around a hyphen, begins with 0 and has more digits.
+#[tactic(auto, unfolding(crate::specs::Values::has_leading_zero))]
+pub fn has_leading_zero(text: &[u8]) -> bool
+    ensures { result ≡ has_leading_zero text.now }
+{
+    let hyphen = position_of(text, b'-');
+    if hyphen == text.len() {
+        return begins_with_zero(text);
+    }
+    begins_with_zero(text) || begins_with_zero(after_blanks(&text[hyphen + 1..]))
+}
+
+// Whether the number begins with 0 and has more digits.
+fn begins_with_zero(text: &[u8]) -> bool
+    ensures { result ≡ begins_with_zero text.now }
+{
+    match text {
+        [first, second, ..] => *first == b'0' && second.is_ascii_digit(),
+        _ => false,
+    }
+}
+
+/// Whether a serial number, or one of two around a hyphen, is given by hexadecimal digits without
+/// `0x` before them.
+#[tactic(auto, unfolding(crate::specs::Values::lacks_prefix))]
+pub fn lacks_prefix(text: &[u8]) -> bool
+    ensures { result ≡ lacks_prefix text.now }
+{
+    let hyphen = position_of(text, b'-');
+    if hyphen == text.len() {
+        return is_bare_hex(text);
+    }
+    is_bare_hex(before_ending(&text[..hyphen])) || is_bare_hex(after_blanks(&text[hyphen + 1..]))
+}
+
+// Whether the digits are hexadecimal, and `0x` is not before them.
+fn is_bare_hex(text: &[u8]) -> bool
+    ensures { result ≡ is_bare_hex text.now }
+{
+    are_hex_digits(text) && has_letter(text)
+}
+
+// Whether each byte is a hexadecimal digit.
+fn are_hex_digits(text: &[u8]) -> bool
+    ensures { result ≡ list_all is_ascii_hexdigit text.now }
+{
+    text.iter().all(|byte| byte.is_ascii_hexdigit())
+}
+
+// Whether the text has a letter of ASCII.
+fn has_letter(text: &[u8]) -> bool
+    ensures { result ≡ list_any is_ascii_alphabetic text.now }
+{
+    text.iter().any(|byte| byte.is_ascii_alphabetic())
+}
+
 /// Whether a `#` with no blank before it cuts the key ID of a line short.
 #[tactic(auto, unfolding(crate::specs::Values::is_cut))]
 pub fn is_cut(line: &[u8]) -> bool
@@ -139,4 +199,33 @@ pub fn has_zero(id: &[u8]) -> bool
     ensures { result ≡ has_zero id.now }
 {
     id.iter().any(|byte| *byte == 0)
+}
+
+/// Whether a key ID begins and ends with the same quote.
+pub fn is_quoted(id: &[u8]) -> bool
+    ensures { result ≡ is_quoted id.now }
+{
+    is_between(b"\"", id) || is_between(b"'", id)
+}
+
+// Whether a key ID begins and ends with a mark of one byte.
+fn is_between(mark: &[u8], id: &[u8]) -> bool
+    ensures { result ≡ is_between mark.now id.now }
+{
+    id.len() > 1 && id.starts_with(mark) && id.ends_with(mark)
+}
+
+/// Whether a key ID has a comma and a blank, as if several were meant.
+#[tactic(auto, unfolding(crate::specs::Values::looks_like_several))]
+pub fn looks_like_several(id: &[u8]) -> bool
+    ensures { result ≡ looks_like_several id.now }
+{
+    let mut rest = id;
+    'bytes: while let [_, after @ ..] = rest {
+        if rest.starts_with(b", ") {
+            return true;
+        }
+        rest = after;
+    }
+    false
 }

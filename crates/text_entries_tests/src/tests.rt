@@ -1,6 +1,9 @@
 //! The lines of texts, lists that are made of them, and the callers of the pages.
 
+mod current;
+mod ids;
 mod lines;
 mod page;
 mod places;
 mod runs;
+mod serials;

@@ -31,6 +31,9 @@ entries_of (HeldFact (ItemFact kind authority bytes)) = item_entry kind authorit
 -- the authority that is current after a fact
 abbrev pub after : Option (List ℕ) → Fact → Option (List ℕ)
 after current (HeldFact (AuthorityFact authority)) = Some authority
+after current (HeldFact (ItemFact kinds.Key authority blob)) = None
+after current (HeldFact (ItemFact kinds.Sha1 authority hash)) = None
+after current (HeldFact (ItemFact kinds.Sha256 authority hash)) = None
 after current fact = current
 
 pub fact_reads : (current : Option (List ℕ)) (fact : Fact) → FitsUnder current fact
@@ -73,8 +76,14 @@ fact_first number current (ListFact name header) later entries has = has
 fact_first number current (HeldFact (AuthorityFact authority)) later entries has = has
 fact_first number current (HeldFact (SerialsFact authority span)) later entries has =
     record { are = ap (λ (es : List Entry). RangeEntry authority span.lo span.hi ∷ es) has.are; faultless = has.faultless }
-fact_first number current (HeldFact (ItemFact kind authority bytes)) later entries has =
-    record { are = ap (λ (es : List Entry). item_entry kind authority bytes ∷ es) has.are; faultless = has.faultless }
+fact_first number current (HeldFact (ItemFact kinds.Id authority id)) later entries has =
+    record { are = ap (λ (es : List Entry). item_entry kinds.Id authority id ∷ es) has.are; faultless = has.faultless }
+fact_first number current (HeldFact (ItemFact kinds.Key authority blob)) later entries has =
+    record { are = ap (λ (es : List Entry). item_entry kinds.Key authority blob ∷ es) has.are; faultless = has.faultless }
+fact_first number current (HeldFact (ItemFact kinds.Sha1 authority hash)) later entries has =
+    record { are = ap (λ (es : List Entry). item_entry kinds.Sha1 authority hash ∷ es) has.are; faultless = has.faultless }
+fact_first number current (HeldFact (ItemFact kinds.Sha256 authority hash)) later entries has =
+    record { are = ap (λ (es : List Entry). item_entry kinds.Sha256 authority hash ∷ es) has.are; faultless = has.faultless }
 
 -- the lines of a text of one line and of what follows
 abbrev rest_of : Option (List ℕ) → ℕ → List ℕ → LineEntries

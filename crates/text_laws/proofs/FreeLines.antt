@@ -3,11 +3,8 @@ use Rattle.std.proofs.Common.{◌≡◌, ◌≢◌, ℕ, List, Option, Some, Non
 use Rattle.std.proofs.lemmas.Bool.{cases_Bool}
 use Rattle.run_faults.specs.declared.spec_cause.SpecCause.TheVariants as specs
 use Rattle.krl_spec.specs.Blanks.{bare_line}
-use Rattle.krl_spec.specs.Entries.{order_entry}
-use Rattle.krl_spec.specs.declared.directive.Directive.{Directive}
-use Rattle.krl_spec.specs.declared.directive.Directive.TheVariants as directives
-use Rattle.text_entries.specs.Says.{entry_says, line_says, order_says, word_says}
-use Rattle.text_entries.specs.Values.{has_control, is_cut, looks_like_key}
+use Rattle.text_entries.specs.Says.{id_entry, line_says, order_says, serial_entry, under_says, word_says}
+use Rattle.text_entries.specs.Values.{has_control, has_leading_zero, is_cut, is_quoted, looks_like_key, looks_like_several}
 use Rattle.text_entries.specs.Word.{Order, order_in}
 use Rattle.text_entries.specs.declared.text_cause.TextCause.{TextCause}
 use Rattle.text_entries.specs.declared.text_cause.TextCause.TheVariants as causes
@@ -17,26 +14,36 @@ use Rattle.text_entries.specs.declared.word.Word.TheVariants.{Serial, Id, IdHex}
 abbrev pub no_authority : TextCause
 no_authority = causes.Spec specs.NoAuthority
 
-entry_free : (authority given : List ℕ) (directive : Directive)
-    → entry_says (order_entry None directive given) ≢ Err no_authority
-    → entry_says (order_entry (Some authority) directive given) ≡ entry_says (order_entry None directive given)
-entry_free authority given directives.Serial lacks = absurd (lacks refl)
-entry_free authority given directives.Id lacks = absurd (lacks refl)
-entry_free authority given directive lacks = refl
+serial_free : (authority given : List ℕ) → under_says (serial_entry None given) ≢ Err no_authority
+    → under_says (serial_entry (Some authority) given) ≡ under_says (serial_entry None given)
+serial_free authority given lacks = elim (cases_Bool (has_leading_zero given)) [
+  | inl zero ↦ rw zero refl
+  | inr other ↦ absurd (lacks (rw other refl))
+]
 
-word_free : (authority line given : List ℕ) (word : Word) → word_says None line word given ≢ Err no_authority
-    → word_says (Some authority) line word given ≡ word_says None line word given
-word_free authority line given Serial lacks = entry_free authority given directives.Serial lacks
-word_free authority line given Id lacks = elim (cases_Bool (is_cut line)) [
+id_free : (authority line given : List ℕ) → under_says (id_entry None line given) ≢ Err no_authority
+    → under_says (id_entry (Some authority) line given) ≡ under_says (id_entry None line given)
+id_free authority line given lacks = elim (cases_Bool (is_cut line)) [
   | inl cut ↦ rw cut refl
   | inr whole ↦ elim (cases_Bool (has_control given)) [
     | inl control ↦ rw (whole, control) refl
     | inr clean ↦ elim (cases_Bool (looks_like_key given)) [
       | inl key ↦ rw (whole, clean, key) refl
-      | inr other ↦ rw (whole, clean, other) (entry_free authority given directives.Id (rw (whole, clean, other) at lacks))
+      | inr other ↦ elim (cases_Bool (is_quoted given)) [
+        | inl quoted ↦ rw (whole, clean, other, quoted) refl
+        | inr bare ↦ elim (cases_Bool (looks_like_several given)) [
+          | inl several ↦ rw (whole, clean, other, bare, several) refl
+          | inr one ↦ absurd (lacks (rw (whole, clean, other, bare, one) refl))
+        ]
+      ]
     ]
   ]
 ]
+
+word_free : (authority line given : List ℕ) (word : Word) → word_says None line word given ≢ Err no_authority
+    → word_says (Some authority) line word given ≡ word_says None line word given
+word_free authority line given Serial lacks = serial_free authority given lacks
+word_free authority line given Id lacks = id_free authority line given lacks
 word_free authority line given IdHex lacks = absurd (lacks refl)
 word_free authority line given word lacks = refl
 

@@ -31,7 +31,7 @@ use Rattle.list_text.specs.Text.{text_of}
 use Rattle.text_entries.specs.Lines.{lines_of}
 use Rattle.text_laws.specs.FactLines.{AreSerials as AreSpanSerials, FitsUnder, HasNoZero}
 use Rattle.text_laws.specs.ReadBack.{CanBeShown, IsReadAs, IsReadInto, IsStored, Shown, StopsWith, entries_of_lists, facts_about, text_of_lists}
-use Rattle.text_laws.proofs.FactLines.{AllFit, all_entries, entries_of, facts_read}
+use Rattle.text_laws.proofs.FactLines.{AllFit, after, all_entries, entries_of, facts_read}
 
 -- ---- the entries of facts
 
@@ -98,17 +98,26 @@ spans_fit authority least (span ∷ spans) more runs serials fit =
     let order : AreSpanSerials span = record { some = first.0; rises = runs.1; fits = last.1 } in
     ((refl, order), spans_fit authority (span.hi + 2) spans more runs.2 (λ s covers. serials s (inr covers)) fit)
 
--- key IDs, keys or hashes that fit by two properties
-items_fit : (current : Option (List ℕ)) (kind : ItemKind) (authority : List ℕ) (P Q : List ℕ → Type 0) (texts : List (List ℕ)) (more : List Fact)
-    → ((text : List ℕ) → P text → Q text → FitsUnder current (HeldFact (ItemFact kind authority text))) → All P texts → All Q texts
-    → AllFit current more → AllFit current (map HeldFact (map (ItemFact kind authority) texts) ++ more)
-items_fit current kind authority P Q [] more fits first second fit = fit
-items_fit current kind authority P Q (text ∷ texts) more fits first second fit =
-    (fits text (All-head P text texts first) (All-head Q text texts second), items_fit current kind authority P Q texts more fits (All-tail P text texts first) (All-tail Q text texts second) fit)
+-- key IDs under the current authority
+ids_fit : (authority : List ℕ) (ids : List (List ℕ)) (more : List Fact) → All IsBytes ids → All HasNoZero ids
+    → AllFit (Some authority) more → AllFit (Some authority) (map HeldFact (map (ItemFact kinds.Id authority) ids) ++ more)
+ids_fit authority [] more bytes whole fit = fit
+ids_fit authority (id ∷ ids) more bytes whole fit =
+    ((refl, All-head IsBytes id ids bytes, All-head HasNoZero id ids whole), ids_fit authority ids more (All-tail IsBytes id ids bytes) (All-tail HasNoZero id ids whole) fit)
 
 -- facts that fit under any authority
 abbrev FitAnywhere : List Fact → Type 0
 FitAnywhere facts = (current : Option (List ℕ)) → AllFit current facts
+
+-- keys or hashes that fit by two properties, under any authority
+items_fit : (kind : ItemKind) (P Q : List ℕ → Type 0) (texts : List (List ℕ)) (more : List Fact)
+    → ((current : Option (List ℕ)) (text : List ℕ) → P text → Q text → FitsUnder current (HeldFact (ItemFact kind [] text))) → All P texts → All Q texts
+    → FitAnywhere more → FitAnywhere (map HeldFact (map (ItemFact kind []) texts) ++ more)
+items_fit kind P Q [] more fits first second fit = fit
+items_fit kind P Q (text ∷ texts) more fits first second fit = λ current. (
+  fits current text (All-head P text texts first) (All-head Q text texts second),
+  items_fit kind P Q texts more fits (All-tail P text texts first) (All-tail Q text texts second) fit (after current (HeldFact (ItemFact kind [] text))),
+)
 
 section_fits : (section : Section) (more : List Fact) → IsOrderlySection section → IsBytes section.authority
     → All IsBytes section.ids → All HasNoZero section.ids
@@ -119,7 +128,7 @@ section_fits section more listed authority ids whole fit current =
     let texts : List Held = map (ItemFact kinds.Id section.authority) section.ids in
     let later : AllFit (Some section.authority) (map HeldFact spans ++ (map HeldFact texts ++ more)) =
     spans_fit section.authority 0 section.spans (map HeldFact texts ++ more) listed.runs listed.serials
-    (items_fit (Some section.authority) kinds.Id section.authority IsBytes HasNoZero section.ids more (λ text bytes none. (refl, bytes, none)) ids whole (fit (Some section.authority))) in
+    (ids_fit section.authority section.ids more ids whole (fit (Some section.authority))) in
     (authority, subst (AllFit (Some section.authority)) (sym (held_parts spans texts more)) later)
 
 abbrev HasBytes : Section → Type 0
@@ -162,9 +171,9 @@ held_fit_before r more stored fit =
     let parts = held_parts sections (keys ++ (sha1s ++ sha256s)) more ∙ ap (λ (facts : List Fact). map HeldFact sections ++ facts) others in
     subst FitAnywhere (sym parts)
     (sections_fit r.sections (map HeldFact keys ++ (map HeldFact sha1s ++ (map HeldFact sha256s ++ more))) stored.orderly.listed stored.authorities stored.ids stored.whole_ids
-    (λ current. items_fit current kinds.Key [] IsBytes IsBytes r.keys (map HeldFact sha1s ++ (map HeldFact sha256s ++ more)) (λ text bytes also. bytes) stored.keys stored.keys
-    (items_fit current kinds.Sha1 [] IsBytes Is20 r.sha1s (map HeldFact sha256s ++ more) (λ text bytes size. (bytes, size)) stored.sha1s stored.orderly.sha1_size
-    (items_fit current kinds.Sha256 [] IsBytes Is32 r.sha256s more (λ text bytes size. (bytes, size)) stored.sha256s stored.orderly.sha256_size (fit current)))))
+    (items_fit kinds.Key IsBytes IsBytes r.keys (map HeldFact sha1s ++ (map HeldFact sha256s ++ more)) (λ current text bytes also. bytes) stored.keys stored.keys
+    (items_fit kinds.Sha1 IsBytes Is20 r.sha1s (map HeldFact sha256s ++ more) (λ current text bytes size. (bytes, size)) stored.sha1s stored.orderly.sha1_size
+    (items_fit kinds.Sha256 IsBytes Is32 r.sha256s more (λ current text bytes size. (bytes, size)) stored.sha256s stored.orderly.sha256_size fit))))
 
 none_fit : FitAnywhere []
 none_fit current = tt

@@ -1,6 +1,6 @@
 -- Lines of key IDs.
 use Rattle.std.proofs.lemmas.Grind.{common_steps}
-use Rattle.std.proofs.Common.{◌≡◌, ◌≢◌, ℕ, ◌==◌, ◌&&◌, nat_eq, Bool, true, false, not, List, [], ◌∷◌, ◌++◌, length, codes, Contains, Some, Ok, refl, sym, ap, subst, ◌∙◌, arith, inl, inr}
+use Rattle.std.proofs.Common.{◌≡◌, ◌≢◌, ℕ, ◌==◌, ◌&&◌, ◌||◌, nat_eq, Bool, true, false, not, List, [], ◌∷◌, ◌++◌, length, codes, Contains, Some, Ok, refl, sym, ap, subst, ◌∙◌, arith, inl, inr}
 use Rattle.std.specs.List.{AllPass, ends_with, list_all, prefix_len, starts_with, suffix_len}
 use Rattle.std.proofs.lemmas.Bool.{and_parts, cases_Bool, eqb-true, not-true, or_cases, or_parts}
 use Rattle.std.proofs.lemmas.Bool.Decides.{Decides-eqb}
@@ -18,9 +18,9 @@ use Rattle.krl_spec.specs.Blanks.{is_hash}
 use Rattle.krl_spec.specs.Entries.{order_entry}
 use Rattle.krl_spec.specs.declared.directive.Directive.TheVariants as directives
 use Rattle.krl_spec.proofs.LongestParts.{no_cut}
-use Rattle.list_text.specs.Text.{has_blank_end, id_line, is_text, is_text_byte}
-use Rattle.text_entries.specs.Says.{Names}
-use Rattle.text_entries.specs.Values.{looks_like_key, bytes_in, has_control, has_zero, is_control, is_cut}
+use Rattle.list_text.specs.Text.{has_blank_end, id_line, is_text, is_text_byte, looks_otherwise}
+use Rattle.text_entries.specs.Says.{Under}
+use Rattle.text_entries.specs.Values.{bytes_in, has_control, has_zero, is_control, is_cut, is_quoted, looks_like_key, looks_like_several}
 use Rattle.text_entries.specs.Word.{word_named}
 use Rattle.text_entries.specs.declared.word.Word.TheVariants as words
 use Rattle.text_laws.proofs.Contents.{IsName, IsValue, line_no_hash, line_of, nothing_left, solid_value}
@@ -60,19 +60,25 @@ record IsText (id : List ℕ) : Type 0 where
   no_start : starts_with nat_eq id (codes " ") ≡ false
   no_end : ends_with nat_eq id (codes " ") ≡ false
   no_key : looks_like_key id ≡ false
+  no_quotes : is_quoted id ≡ false
+  is_one : looks_like_several id ≡ false
   each : AllPass is_text_byte id
 
 text_is : (id : List ℕ) → is_text id ≡ true → IsText id
 text_is id is =
-    let parts = and_parts (not (length id == 0)) (not (has_blank_end id) && (not (looks_like_key id) && list_all is_text_byte id)) is in
-    let others = and_parts (not (has_blank_end id)) (not (looks_like_key id) && list_all is_text_byte id) parts.1 in
-    let last = and_parts (not (looks_like_key id)) (list_all is_text_byte id) others.1 in
+    let parts = and_parts (not (length id == 0)) (not (has_blank_end id) && (not (looks_otherwise id) && list_all is_text_byte id)) is in
+    let others = and_parts (not (has_blank_end id)) (not (looks_otherwise id) && list_all is_text_byte id) parts.1 in
+    let last = and_parts (not (looks_otherwise id)) (list_all is_text_byte id) others.1 in
+    let none = or_parts (looks_like_key id) (is_quoted id || looks_like_several id) (not-true (looks_otherwise id) last.0) in
+    let neither = or_parts (is_quoted id) (looks_like_several id) none.1 in
     let blanks = or_parts (starts_with nat_eq id (codes " ")) (ends_with nat_eq id (codes " ")) (not-true (has_blank_end id) others.0) in
     record {
       some = λ none. let empty : not (length id == 0) ≡ false = rw none refl in cc;
       no_start = blanks.0;
       no_end = blanks.1;
-      no_key = not-true (looks_like_key id) last.0;
+      no_key = none.0;
+      no_quotes = neither.0;
+      is_one = neither.1;
       each = AllPass-from_list_all is_text_byte id last.1;
     }
 
@@ -114,13 +120,13 @@ id_entry authority [] some = absurd (some refl)
 id_entry authority (byte ∷ id) some = refl
 
 plain_read : (authority id : List ℕ) → IsText id
-    → Reads (Some authority) (codes "id: " ++ (id ++ codes "\n")) (Names (IdEntry authority id))
+    → Reads (Some authority) (codes "id: " ++ (id ++ codes "\n")) (Under (IdEntry authority id))
 plain_read authority id is =
     let kept = text_value id is in
     let line : List ℕ = line_of (codes "id") id [] in
     let uncut : is_cut line ≡ false = whole line (line_no_hash (codes "id") id id_name kept) in
-    line_reads (Some authority) (codes "id") id [] (codes "id: " ++ (id ++ codes "\n")) (Names (IdEntry authority id)) id_name kept nothing_left (plain_text (codes "id") id)
-    (word_line_says (Some authority) (codes "id") id [] words.Id id_name kept nothing_left id_word ∙ rw (uncut, uncontrolled id is, is.no_key, id_entry authority id is.some) refl)
+    line_reads (Some authority) (codes "id") id [] (codes "id: " ++ (id ++ codes "\n")) (Under (IdEntry authority id)) id_name kept nothing_left (plain_text (codes "id") id)
+    (word_line_says (Some authority) (codes "id") id [] words.Id id_name kept nothing_left id_word ∙ rw (uncut, uncontrolled id is, is.no_key, is.no_quotes, is.is_one, id_entry authority id is.some) refl)
 
 -- ---- a key ID by its bytes
 
@@ -136,17 +142,17 @@ unfolding bytes_in
 bytes_again id bytes = rw (decode_of-encode_lower id bytes) refl
 
 hex_read : (authority id : List ℕ) → IsBytes id → has_zero id ≡ false
-    → Reads (Some authority) (codes "id-hex: " ++ (encode_lower id ++ codes "\n")) (Names (IdEntry authority id))
+    → Reads (Some authority) (codes "id-hex: " ++ (encode_lower id ++ codes "\n")) (Under (IdEntry authority id))
 hex_read authority id bytes whole =
     let kept = solid_value (encode_lower id) (hex_solid id) in
-    line_reads (Some authority) (codes "id-hex") (encode_lower id) [] (codes "id-hex: " ++ (encode_lower id ++ codes "\n")) (Names (IdEntry authority id)) hex_name kept nothing_left
+    line_reads (Some authority) (codes "id-hex") (encode_lower id) [] (codes "id-hex: " ++ (encode_lower id ++ codes "\n")) (Under (IdEntry authority id)) hex_name kept nothing_left
     (plain_text (codes "id-hex") (encode_lower id))
     (word_line_says (Some authority) (codes "id-hex") (encode_lower id) [] words.IdHex hex_name kept nothing_left hex_word ∙ rw (bytes_again id bytes, whole) refl)
 
 -- ---- any key ID
 
 pub id_reads : (authority id : List ℕ) → IsBytes id → has_zero id ≡ false
-    → Reads (Some authority) (id_line id) (Names (IdEntry authority id))
+    → Reads (Some authority) (id_line id) (Under (IdEntry authority id))
 id_reads authority id bytes whole = elim (cases_Bool (is_text id)) [
   | inl text ↦ rw text (plain_read authority id (text_is id text))
   | inr other ↦ rw other (hex_read authority id bytes whole)

@@ -9,7 +9,7 @@ use Rattle.krl_types.specs.Entry.{Entry}
 use Rattle.krl_spec.specs.Blanks.{after_endings, bare_line}
 use Rattle.key_text.specs.Blanks.{before_ending}
 use Rattle.text_entries.specs.Lines.{LineEntries, before_later, fault_at, lines_from, lines_of}
-use Rattle.text_entries.specs.Says.{Blank, Current, Names, Saying, line_says}
+use Rattle.text_entries.specs.Says.{Blank, Current, Names, Saying, Under, line_says}
 use Rattle.text_entries.specs.Word.{order_in}
 use Rattle.text_entries.specs.declared.text_cause.TextCause.{TextCause}
 use Rattle.text_entries.specs.declared.text_fault.TextFault.{TextFault}
@@ -27,7 +27,8 @@ later_same : (number : ℕ) (current : Option (List ℕ)) (says : Result Saying 
     → before_later number current says one ≡ before_later number current says other
 later_same number current (Ok Blank) one other same = same current
 later_same number current (Ok (Current authority)) one other same = same (Some authority)
-later_same number current (Ok (Names entry)) one other same = rw (same current) refl
+later_same number current (Ok (Under entry)) one other same = rw (same current) refl
+later_same number current (Ok (Names entry)) one other same = rw (same None) refl
 later_same number current (Err cause) one other same = refl
 
 -- an empty line says nothing
@@ -50,7 +51,8 @@ later_stops : (number : ℕ) (current : Option (List ℕ)) (says : Result Saying
     → before_later number current says all ≡ before_later number current says front
 later_stops number current (Ok Blank) front all fault is step = step current is
 later_stops number current (Ok (Current authority)) front all fault is step = step (Some authority) is
-later_stops number current (Ok (Names entry)) front all fault is step = rw (step current is) refl
+later_stops number current (Ok (Under entry)) front all fault is step = rw (step current is) refl
+later_stops number current (Ok (Names entry)) front all fault is step = rw (step None is) refl
 later_stops number current (Err cause) front all fault is step = refl
 
 -- If the first lines have a fault, no later line is read.
@@ -72,7 +74,8 @@ later_moved : (count number : ℕ) (current : Option (List ℕ)) (says : Result 
     → before_later (count + number) current says one ≡ moved count (before_later number current says other)
 later_moved count number current (Ok Blank) one other same = same current
 later_moved count number current (Ok (Current authority)) one other same = same (Some authority)
-later_moved count number current (Ok (Names entry)) one other same = rw (same current) refl
+later_moved count number current (Ok (Under entry)) one other same = rw (same current) refl
+later_moved count number current (Ok (Names entry)) one other same = rw (same None) refl
 later_moved count number current (Err cause) one other same = refl
 
 lines_moved : (count number : ℕ) (current : Option (List ℕ)) (lines : List (List ℕ))
@@ -98,7 +101,8 @@ later_free : (number : ℕ) (current : Option (List ℕ)) (says : Result Saying 
     → SaysSame (before_later number current says later) (before_later number None says later)
 later_free number current (Ok Blank) later lacks step = step lacks
 later_free number current (Ok (Current authority)) later lacks step = (refl, refl)
-later_free number current (Ok (Names entry)) later lacks step = let same = step lacks in (ap (λ (entries : List Entry). entry ∷ entries) same.0, same.1)
+later_free number current (Ok (Names entry)) later lacks step = (refl, refl)
+later_free number current (Ok (Under entry)) later lacks step = let same = step lacks in (ap (λ (entries : List Entry). entry ∷ entries) same.0, same.1)
 later_free number current (Err cause) later lacks step = (refl, refl)
 
 step_free : (number : ℕ) (current : Option (List ℕ)) (line : List ℕ) (later : Later) (says : Result Saying TextCause)

@@ -107,3 +107,14 @@ digits_solid (c ∷ digits) all = All-cons IsSolid c digits (digit_solid c all.0
 
 pub decimal_solid : (n : ℕ) → n < 2 ^ 64 → AllPass is_solid (decimal n)
 decimal_solid n small = digits_solid (decimal n) (decimal_is_IsNumeral n small).0.1
+
+digit_no_hyphen : (c : ℕ) → digit_value c < 10 → not (c == 45) ≡ true
+digit_no_hyphen c digit = grind (arith, common_steps, cases_Bool, eqb-true)
+
+digits_no_hyphen : (digits : List ℕ) → AllDigits 10 digits → AllPass (λ byte. not (byte == 45)) digits
+digits_no_hyphen [] all = All-nil (λ (byte : ℕ). not (byte == 45) ≡ true)
+digits_no_hyphen (c ∷ digits) all =
+    All-cons (λ (byte : ℕ). not (byte == 45) ≡ true) c digits (digit_no_hyphen c all.0) (digits_no_hyphen digits all.1)
+
+pub decimal_no_hyphen : (n : ℕ) → n < 2 ^ 64 → AllPass (λ byte. not (byte == 45)) (decimal n)
+decimal_no_hyphen n small = digits_no_hyphen (decimal n) (decimal_is_IsNumeral n small).0.1

@@ -5,6 +5,7 @@ use Rattle.std.specs.Str.{bytes_eq, str_to_ascii_lowercase}
 use Rattle.std.proofs.lemmas.Bool.{cases_Bool}
 use Rattle.std.proofs.lemmas.Slice.Eq.{bytes_eq-Decides}
 use Rattle.key_text.specs.Blanks.{after_blanks}
+use Rattle.ssh_wire.specs.Reading.{◌>>=◌}
 use Rattle.krl_types.specs.Entry.{Entry}
 use Rattle.run_faults.specs.declared.spec_cause.SpecCause.{SpecCause}
 use Rattle.krl_spec.specs.Blanks.{bare_line}
@@ -12,11 +13,11 @@ use Rattle.krl_spec.specs.Directive.{directive_named, directives as all_directiv
 use Rattle.krl_spec.specs.Entries.{bare_entry, counted_entry, line_entry, order_entry}
 use Rattle.krl_spec.specs.declared.directive.Directive.{Directive}
 use Rattle.krl_spec.specs.declared.directive.Directive.TheVariants as directives
-use Rattle.text_entries.specs.Says.{bare_says, entry_says, key_line_says, line_says, word_says}
+use Rattle.text_entries.specs.Says.{key_line_says, line_says, names_says, spec_entry, whole_entry, word_says}
 use Rattle.text_entries.specs.Word.{name_of, order, order_in, word_named, words as all_words}
 use Rattle.text_entries.specs.declared.word.Word.{Word}
 use Rattle.text_entries.specs.declared.word.Word.TheVariants as words
-use Rattle.text_laws.specs.SpecLines.{IsBareAlike, IsReadAlike, IsWhole, spec_says}
+use Rattle.text_laws.specs.SpecLines.{IsBareAlike, IsReadAlike, IsWhole, bare_says, spec_says}
 
 -- ---- the name
 
@@ -91,17 +92,10 @@ none_is content is = elim (cases_Bool (nat_lt (position_or_len is_colon content)
 
 -- ---- the line
 
-some_entry : (current : Option (List ℕ)) (content given : List ℕ) (directive : Directive)
-    → spec_order_in content ≡ Some (spec_order given directive)
-    → counted_entry current content ≡ Some (order_entry current directive given)
-unfolding spec_order_in
-some_entry current [] given directive is = absurd cc
-some_entry current (byte ∷ content) given directive is = rw is refl
-
 alike : (current : Option (List ℕ)) (line given : List ℕ) (directive : Directive) → IsReadAlike line directive given
-    → word_says current line (word_of directive) given ≡ entry_says (order_entry current directive given)
-alike current line given directives.Serial is = refl
-alike current line given directives.Id is = rw (is.0, is.1, is.2) refl
+    → word_says current line (word_of directive) given ≡ spec_says directive (order_entry current directive given)
+alike current line given directives.Serial is = rw is refl
+alike current line given directives.Id is = rw (is.0, is.1, is.2, is.3, is.4) refl
 alike current line given directives.Key is = rw is refl
 alike current line given directives.Sha1 is = rw is refl
 alike current line given directives.Sha256 is = rw is refl
@@ -109,21 +103,22 @@ alike current line given directives.Hash is = rw is refl
 
 pub directive_says : (current : Option (List ℕ)) (line given : List ℕ) (directive : Directive)
     → spec_order_in (bare_line line) ≡ Some (spec_order given directive) → IsReadAlike line directive given
-    → line_says current line ≡ spec_says (line_entry current line)
-unfolding line_says line_entry
+    → line_says current line ≡ spec_says directive (order_entry current directive given)
+unfolding line_says
 directive_says current line given directive found is =
-    rw (order_is (bare_line line) given directive found, some_entry current (bare_line line) given directive found) (alike current line given directive is)
+    rw (order_is (bare_line line) given directive found) (alike current line given directive is)
 
-whole_says : (read : Result Entry SpecCause) → IsWhole read → bare_says read ≡ entry_says read
+whole_says : (read : Result Entry SpecCause) → IsWhole read → (spec_entry read >>= whole_entry) ≡ spec_entry read
 whole_says (Ok entry) whole = rw whole refl
 whole_says (Err cause) whole = refl
 
 content_says : (current : Option (List ℕ)) (content : List ℕ) → spec_order_in content ≡ None → IsBareAlike content
-    → key_line_says content ≡ spec_says (counted_entry current content)
+    → key_line_says content ≡ bare_says (counted_entry current content)
 content_says current [] none alike = refl
-content_says current (byte ∷ content) none alike = rw (alike.0, none) (whole_says (bare_entry (byte ∷ content)) alike.1)
+content_says current (byte ∷ content) none alike =
+    rw (alike.0, none) (ap names_says (whole_says (bare_entry (byte ∷ content)) alike.1))
 
 pub key_says : (current : Option (List ℕ)) (line : List ℕ) → order_in (bare_line line) ≡ None
-    → IsBareAlike (bare_line line) → line_says current line ≡ spec_says (line_entry current line)
+    → IsBareAlike (bare_line line) → line_says current line ≡ bare_says (line_entry current line)
 unfolding line_says line_entry
 key_says current line none alike = rw none (content_says current (bare_line line) (none_is (bare_line line) none) alike)

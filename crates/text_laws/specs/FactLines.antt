@@ -11,14 +11,15 @@ use Rattle.krl_types.specs.Entry.{RangeEntry}
 use Rattle.krl_types.specs.Item.{item_entry}
 use Rattle.krl_types.specs.declared.item_kind.ItemKind.TheVariants as kinds
 use Rattle.list_text.specs.Facts.{Fact, HeldFact, ListFact}
-use Rattle.text_entries.specs.Says.{Blank, Current, Names, Saying, line_says}
+use Rattle.text_entries.specs.Says.{Blank, Current, Names, Saying, Under, line_says}
 use Rattle.text_entries.specs.Values.{has_zero}
 
 -- what the line of a fact says
 abbrev pub fact_says : Fact → Saying
 fact_says (ListFact name header) = Blank
 fact_says (HeldFact (AuthorityFact authority)) = Current authority
-fact_says (HeldFact (SerialsFact authority span)) = Names (RangeEntry authority span.lo span.hi)
+fact_says (HeldFact (SerialsFact authority span)) = Under (RangeEntry authority span.lo span.hi)
+fact_says (HeldFact (ItemFact kinds.Id authority id)) = Under (item_entry kinds.Id authority id)
 fact_says (HeldFact (ItemFact kind authority bytes)) = Names (item_entry kind authority bytes)
 
 -- The numbers of a header are below 2^64.

@@ -6,7 +6,7 @@ ghost use Rattle.std.specs.Borrow.{Bor};
 ghost use Rattle.std.specs.Io.KnownBytes.{Appends};
 ghost use Rattle.krl_spec.specs.Blanks.{bare_line};
 ghost use Rattle.krl_spec.specs.Directive.{order as spec_order, order_in as spec_order_in};
-ghost use Rattle.krl_spec.specs.Entries.{line_entry};
+ghost use Rattle.krl_spec.specs.Entries.{line_entry, order_entry};
 ghost use Rattle.krl_spec.specs.declared.directive.Directive.{Directive};
 ghost use Rattle.text_entries.specs.Lines.{lines_of};
 ghost use Rattle.text_entries.specs.declared.text_fault.TextFault.{TextFault};
@@ -25,7 +25,7 @@ ghost use Rattle.ssh_wire.specs.Wire.{IsBytes};
 ghost use Rattle.text_laws.specs.ReadBack.{CanBeShown, HasNoZeroIds, IsReadAs};
 ghost use Rattle.text_laws.specs.ReadBack.{IsReadInto, IsStored, Shown};
 ghost use Rattle.text_laws.specs.ReadBack.{StopsWith, entries_of_lists, text_of_lists};
-ghost use Rattle.text_laws.specs.SpecLines.{IsBareAlike, IsReadAlike, spec_says};
+ghost use Rattle.text_laws.specs.SpecLines.{IsBareAlike, IsReadAlike, bare_says, spec_says};
 ghost use Rattle.text_laws.specs.Joined.{AreWholeLines, LacksNoAuthority, later_by, lines_in};
 ghost use Rattle.krl_writer.specs.KrlText.{IsKrlText};
 ghost use Rattle.list_text.specs.declared.form.Form.TheVariants.{Text as AsText};
@@ -54,18 +54,19 @@ pub fn texts_join()
         → (lines_of front).fault ≡ Some fault → lines_of (front ++ back) ≡ lines_of front }
 {}
 
-/// A line of a specification file says the same in a text: one with a directive, but for a key ID
-/// that is cut short, has a control character or begins as a key, a SHA-1 and a key with anything
-/// before it; and one without a word of texts that is empty or begins with the type name of a key,
-/// but for a certificate that is named by a key ID with a zero byte.
+/// A line of a specification file names the same in a text, under the same authority: one with a
+/// directive, but for a serial number with a leading zero, a key ID that is cut short, has a control
+/// character, begins as a key, is between quotes or looks like several, a SHA-1 and a key with
+/// anything before it; and one without a word of texts that is empty or begins with the type name of
+/// a key, but for a certificate that is named by a key ID with a zero byte.
 pub fn spec_lines_say_the_same()
     ensures directives { (current : Option (List ℕ)) (line given : List ℕ) (directive : Directive)
         → spec_order_in (bare_line line) ≡ Some (spec_order given directive)
         → IsReadAlike line directive given
-        → line_says current line ≡ spec_says (line_entry current line) }
+        → line_says current line ≡ spec_says directive (order_entry current directive given) }
     ensures keys { (current : Option (List ℕ)) (line : List ℕ)
         → order_in (bare_line line) ≡ None → IsBareAlike (bare_line line)
-        → line_says current line ≡ spec_says (line_entry current line) }
+        → line_says current line ≡ bare_says (line_entry current line) }
 {}
 
 /// The text of a fact is one line, and reading it gives the fact: the authority, or the entry under

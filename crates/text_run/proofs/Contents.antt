@@ -7,16 +7,12 @@ use Rattle.std.proofs.lemmas.Slice.Eq.{bytes_eq-Decides}
 use Rattle.key_text.specs.Lines.{is_newline}
 use Rattle.krl_spec.specs.Blanks.{bare_line, is_hash}
 use Rattle.krl_spec.specs.Directive.{is_colon}
-use Rattle.krl_spec.specs.Entries.{bare_entry}
-use Rattle.krl_types.specs.Entry.{Entry, IdEntry, KeyEntry, Sha1Entry}
-use Rattle.ssh_wire.specs.Reading.{◌>>=◌}
-use Rattle.run_faults.specs.declared.spec_cause.SpecCause.{SpecCause}
+use Rattle.krl_types.specs.Entry.{Entry}
 use Rattle.text_entries.specs.Lines.{LineEntries, before_later, lines_from, lines_of}
-use Rattle.text_entries.specs.Says.{Blank as SaysNothing, Current, Names, Saying, bare_says, current_says, entry_says, has_zero_id, key_line_says, line_says, names_says, order_says, sha1_says, word_says}
-use Rattle.text_entries.specs.Values.{authority_blob_in, authority_in, begins_with_key, blob_in, bytes_in, has_control, has_zero, is_cut, is_sha1, looks_like_key, sha1_in}
+use Rattle.text_entries.specs.Says.{Blank as SaysNothing, Current, Names, Saying, Under, current_says, key_line_says, line_says, names_says, order_says, under_says, word_says}
+use Rattle.text_entries.specs.Values.{authority_blob_in, authority_in}
 use Rattle.text_entries.specs.Word.{Order, is_named, name_of, order_in, word_named, words}
 use Rattle.text_entries.specs.declared.text_cause.TextCause.{TextCause}
-use Rattle.text_entries.specs.declared.text_cause.TextCause.TheVariants as causes
 use Rattle.text_entries.specs.declared.word.Word.{Word}
 use Rattle.text_entries.specs.declared.word.Word.TheVariants as words_of
 use Rattle.text_run.specs.Content.{HasNote, IsNote, content_of, is_authority, line_content, lines_content, more, names_authority, unless_bare}
@@ -93,77 +89,46 @@ order_tells content = elim (cases_Bool (nat_lt (position_or_len is_colon content
 
 -- ---- a line
 
-entry_named : (read : Result Entry SpecCause) (saying : Saying) → entry_says read ≡ Ok saying → (entry : Entry) × (saying ≡ Names entry)
-entry_named (Ok entry) saying is = (entry, cc is)
-entry_named (Err cause) saying is = absurd (cc is)
+-- a line names an entry
+abbrev IsEntry : Saying → Type 0
+IsEntry (Under entry) = Unit {0}
+IsEntry (Names entry) = Unit {0}
+IsEntry saying = ⊥
+
+under_entry : (read : Result Entry TextCause) (saying : Saying) → under_says read ≡ Ok saying → IsEntry saying
+under_entry (Ok entry) saying is = let same : Under entry ≡ saying = cc is in subst IsEntry same tt
+under_entry (Err cause) saying is = absurd (cc is)
+
+named_entry : (read : Result Entry TextCause) (saying : Saying) → names_says read ≡ Ok saying → IsEntry saying
+named_entry (Ok entry) saying is = let same : Names entry ≡ saying = cc is in subst IsEntry same tt
+named_entry (Err cause) saying is = absurd (cc is)
 
 -- The meaning of a line fits its content. A line that says nothing may have a comment.
 abbrev Fits : (line content : List ℕ) → Saying → Type 0
 Fits line content SaysNothing = content ≡ []
 Fits line content (Current authority) =
     (unless_bare (list_any is_hash line) content ≡ Notes) × ((other : Option (List ℕ)) → line_says other line ≡ Ok (Current authority))
+Fits line content (Under entry) = unless_bare (list_any is_hash line) content ≡ Entries
 Fits line content (Names entry) = unless_bare (list_any is_hash line) content ≡ Entries
 
--- a line names an entry
-abbrev IsEntry : Saying → Type 0
-IsEntry saying = (entry : Entry) × (saying ≡ Names entry)
-
-if_entry : (test : Bool) (read : Result Entry SpecCause) (cause : TextCause) (saying : Saying) → (if test then entry_says read else Err cause) ≡ Ok saying → IsEntry saying
-if_entry true read cause saying is = entry_named read saying is
-if_entry false read cause saying is = absurd (cc is)
-
--- a key ID as it is
-plain_id_entry : (cut control key : Bool) (read : Result Entry SpecCause) (saying : Saying)
-    → (if cut then Err causes.CutId else if control then Err causes.ControlInId else if key then Err causes.KeyAsId else entry_says read) ≡ Ok saying → IsEntry saying
-plain_id_entry true control key read saying is = absurd (cc is)
-plain_id_entry false true key read saying is = absurd (cc is)
-plain_id_entry false false true read saying is = absurd (cc is)
-plain_id_entry false false false read saying is = entry_named read saying is
-
--- an entry, unless it is a key ID with a zero byte
-unless_zero : (test : Bool) (entry : Entry) (saying : Saying) → (if test then Err causes.ZeroInId else Ok (Names entry)) ≡ Ok saying → IsEntry saying
-unless_zero true entry saying is = absurd (cc is)
-unless_zero false entry saying is = (entry, cc is)
-
-id_hex_entry : (authority : List ℕ) (read : Result (List ℕ) TextCause) (saying : Saying) → (read >>= (λ id. names_says (IdEntry authority id))) ≡ Ok saying → IsEntry saying
-id_hex_entry authority (Ok id) saying is = unless_zero (has_zero id) (IdEntry authority id) saying is
-id_hex_entry authority (Err cause) saying is = absurd (cc is)
-
-bare_named : (read : Result Entry SpecCause) (saying : Saying) → bare_says read ≡ Ok saying → IsEntry saying
-bare_named (Ok entry) saying is = unless_zero (has_zero_id entry) entry saying is
-bare_named (Err cause) saying is = absurd (cc is)
-
-if_bare : (test : Bool) (read : Result Entry SpecCause) (cause : TextCause) (saying : Saying) → (if test then bare_says read else Err cause) ≡ Ok saying → IsEntry saying
-if_bare true read cause saying is = bare_named read saying is
-if_bare false read cause saying is = absurd (cc is)
-
--- an entry that is made of what is read
-abbrev made_entry : {X : Type 0} → (X → Entry) → Result X TextCause → Result Saying TextCause
-made_entry make read = do
-  value ← read
-  Ok (Names (make value))
-
-made_named : {X : Type 0} (make : X → Entry) (read : Result X TextCause) (saying : Saying) → made_entry make read ≡ Ok saying → IsEntry saying
-made_named make (Ok value) saying is = (make value, cc is)
-made_named make (Err cause) saying is = absurd (cc is)
-
-hashed_entry : (test : Bool) (given : List ℕ) (read : Result Entry SpecCause) (saying : Saying) → (if test then sha1_says given else entry_says read) ≡ Ok saying → IsEntry saying
-hashed_entry true given read saying is = made_named Sha1Entry (sha1_in given) saying is
-hashed_entry false given read saying is = entry_named read saying is
+entry_fits : (line content : List ℕ) (saying : Saying) → IsEntry saying → unless_bare (list_any is_hash line) content ≡ Entries → Fits line content saying
+entry_fits line content SaysNothing is entries = absurd is
+entry_fits line content (Current authority) is entries = absurd is
+entry_fits line content (Under entry) is entries = entries
+entry_fits line content (Names entry) is entries = entries
 
 -- what the line of a word says that names no authority
 word_named_entry : (current : Option (List ℕ)) (line given : List ℕ) (word : Word) (saying : Saying) → (IsOfAuthority word → ⊥) → word_says current line word given ≡ Ok saying → IsEntry saying
 word_named_entry current line given words_of.Authority saying other is = absurd (other tt)
 word_named_entry current line given words_of.AuthorityBlob saying other is = absurd (other tt)
-word_named_entry current line given words_of.Serial saying other is = entry_named _ saying is
-word_named_entry current line given words_of.Id saying other is = plain_id_entry (is_cut line) (has_control given) (looks_like_key given) _ saying is
-word_named_entry None line given words_of.IdHex saying other is = absurd (cc is)
-word_named_entry (Some authority) line given words_of.IdHex saying other is = id_hex_entry authority (bytes_in given) saying is
-word_named_entry current line given words_of.Key saying other is = if_entry (begins_with_key given) _ _ saying is
-word_named_entry current line given words_of.KeyBlob saying other is = made_named KeyEntry (blob_in given) saying is
-word_named_entry current line given words_of.Sha1 saying other is = if_entry (begins_with_key given) _ _ saying is
-word_named_entry current line given words_of.Sha256 saying other is = if_entry (begins_with_key given) _ _ saying is
-word_named_entry current line given words_of.Hash saying other is = hashed_entry (is_sha1 given) given _ saying is
+word_named_entry current line given words_of.Serial saying other is = under_entry _ saying is
+word_named_entry current line given words_of.Id saying other is = under_entry _ saying is
+word_named_entry current line given words_of.IdHex saying other is = under_entry _ saying is
+word_named_entry current line given words_of.Key saying other is = named_entry _ saying is
+word_named_entry current line given words_of.KeyBlob saying other is = named_entry _ saying is
+word_named_entry current line given words_of.Sha1 saying other is = named_entry _ saying is
+word_named_entry current line given words_of.Sha256 saying other is = named_entry _ saying is
+word_named_entry current line given words_of.Hash saying other is = named_entry _ saying is
 
 -- a line makes an authority current, whatever one is
 abbrev IsCurrent : (Option (List ℕ) → Result Saying TextCause) → Saying → Type 0
@@ -207,7 +172,7 @@ order_fits current line content order saying found says is =
           rw it.1 (content_noted (list_any is_hash line) content (tells.1 of), λ other. says other ∙ it.2 other)
       | inr other ↦
           let it = word_named_entry current line order.given order.word saying other is in
-          rw it.1 (content_entered (list_any is_hash line) content order found (elim (cases_Bool (names_authority content)) [
+          entry_fits line content saying it (content_entered (list_any is_hash line) content order found (elim (cases_Bool (names_authority content)) [
             | inl names ↦ absurd (other (tells.0 names))
             | inr none ↦ none
           ]))
@@ -216,9 +181,9 @@ order_fits current line content order saying found says is =
 key_line_fits : (line content : List ℕ) (saying : Saying) → order_in content ≡ None → key_line_says content ≡ Ok saying → Fits line content saying
 key_line_fits line [] saying none is = let same : saying ≡ SaysNothing = cc (sym is) in rw same refl
 key_line_fits line (byte ∷ bytes) saying none is =
-    let it = if_bare (begins_with_key (byte ∷ bytes)) (bare_entry (byte ∷ bytes)) causes.UnknownWord saying is in
+    let it = named_entry _ saying is in
     let other = subst (λ (o : Option Order). Tells o (names_authority (byte ∷ bytes))) none (order_tells (byte ∷ bytes)) in
-    rw it.1 (rw other refl)
+    entry_fits line (byte ∷ bytes) saying it (rw other refl)
 
 line_fits : (current : Option (List ℕ)) (line : List ℕ) (saying : Saying) → line_says current line ≡ Ok saying → Fits line (bare_line line) saying
 unfolding line_says
@@ -269,6 +234,9 @@ line_said number current line rest later said (Ok (Current authority)) is none =
       λ entries. below.0 (more_entries (line_content line) rest (λ entry. cc (sym entry ∙ fits.0)) entries),
       λ some. more_later (line_content line) rest (below.1 some),
     )
+line_said number current line rest later said (Ok (Under entry)) is none =
+    let fits = line_fits current line (Under entry) is in
+    (λ entries empty. cc empty, λ some. rw fits refl)
 line_said number current line rest later said (Ok (Names entry)) is none =
     let fits = line_fits current line (Names entry) is in
     (λ entries empty. cc empty, λ some. rw fits refl)
@@ -321,6 +289,10 @@ line_noted number current line lines later rest is (Ok SaysNothing) says none =
 line_noted number current line lines later rest is (Ok (Current authority)) says none =
     let fits = line_fits current line (Current authority) says in
     first_or_later line lines is (λ notes. inr (authority, fits.1)) (rest (Some authority) none)
+line_noted number current line lines later rest is (Ok (Under entry)) says none =
+    let fits = line_fits current line (Under entry) says in
+    let whole : more (line_content line) (lines_content lines) ≡ Entries = rw fits refl in
+    absurd (cc (sym is ∙ whole))
 line_noted number current line lines later rest is (Ok (Names entry)) says none =
     let fits = line_fits current line (Names entry) says in
     let whole : more (line_content line) (lines_content lines) ≡ Entries = rw fits refl in

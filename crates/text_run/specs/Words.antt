@@ -23,7 +23,8 @@ abbrev pub spec_words : SpecCause → List ℕ
 spec_words specs.Number = codes "a serial number is a number below 2^64"
 spec_words specs.Zero = codes "serial number 0 names no certificate"
 spec_words specs.Reversed = codes "a range of serial numbers ends below its first one"
-spec_words specs.NoAuthority = codes "no ca: line stands before it"
+spec_words specs.NoAuthority =
+    codes "no ca: line counts here: none is before it, or a key or a hash is between"
 spec_words specs.EmptyId = codes "a key ID is empty"
 spec_words (specs.Key cause) = cause_words (runs.Key cause)
 spec_words (specs.Fingerprint fault) = codes "the hash is cut, padded or misspelt"
@@ -46,6 +47,11 @@ text_words texts.ControlInId =
 text_words texts.ZeroInId = codes "OpenSSH takes no key ID with a zero byte: use serial:"
 text_words texts.KeyAsId =
     codes "a key stands where a key ID belongs: use key:, or id-hex: for a key ID that begins so"
+text_words texts.LeadingZero =
+    codes "a serial number has a leading zero: OpenSSH would read octal digits"
+text_words texts.QuotedId = codes "a key ID stands without quotes: use id-hex: for one that has them"
+text_words texts.SeveralIds =
+    codes "a line has one key ID: use id-hex: for one that has a comma and a blank"
 
 abbrev pub make_words : MakeCause → List ℕ
 make_words (Run cause) = cause_words cause
@@ -67,6 +73,7 @@ hint_words (hints.Misspelt misspelt) = meant_words misspelt
 hint_words hints.Fingerprint = codes "a fingerprint needs \"hash:\" before it"
 hint_words hints.KeyFile = codes "the key itself stands here, not its file"
 hint_words hints.ByteOrderMark = codes "the file begins with a byte order mark"
+hint_words hints.Hexadecimal = codes "hexadecimal digits need 0x before them"
 
 -- why no list is made, or what the line may be meant as
 abbrev pub why_words : Option Hint → MakeCause → List ℕ

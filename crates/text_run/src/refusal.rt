@@ -21,6 +21,16 @@ return: use id-hex:";
 const KEY_AS_ID: &[u8] = b"a key stands where a key ID belongs: use key:, or id-hex: for a key ID \
 that begins so";
 
+const LEADING_ZERO: &[u8] = b"a serial number has a leading zero: OpenSSH would read octal digits";
+
+const QUOTED_ID: &[u8] = b"a key ID stands without quotes: use id-hex: for one that has them";
+
+const SEVERAL_IDS: &[u8] = b"a line has one key ID: use id-hex: for one that has a comma and a \
+blank";
+
+const NO_AUTHORITY: &[u8] = b"no ca: line counts here: none is before it, or a key or a hash is \
+between";
+
 // The number of a line, if there is one.
 #[derive(Clone, Copy)]
 struct Line(Option<u64>);
@@ -68,6 +78,7 @@ fn hint_words(alloc: Global, hint: &Hint<'_>) -> Result<Vec<u8>, AllocError>
         Hint::Fingerprint => Vec::from_slice(alloc, b"a fingerprint needs \"hash:\" before it"),
         Hint::KeyFile => Vec::from_slice(alloc, b"the key itself stands here, not its file"),
         Hint::ByteOrderMark => Vec::from_slice(alloc, b"the file begins with a byte order mark"),
+        Hint::Hexadecimal => Vec::from_slice(alloc, b"hexadecimal digits need 0x before them"),
     }
 }
 
@@ -109,6 +120,9 @@ fn text_words(cause: TextCause) -> &'static [u8]
         TextCause::ControlInId => CONTROL_IN_ID,
         TextCause::ZeroInId => b"OpenSSH takes no key ID with a zero byte: use serial:",
         TextCause::KeyAsId => KEY_AS_ID,
+        TextCause::LeadingZero => LEADING_ZERO,
+        TextCause::QuotedId => QUOTED_ID,
+        TextCause::SeveralIds => SEVERAL_IDS,
     }
 }
 
@@ -120,7 +134,7 @@ fn spec_words(cause: SpecCause) -> &'static [u8]
         SpecCause::Number => b"a serial number is a number below 2^64",
         SpecCause::Zero => b"serial number 0 names no certificate",
         SpecCause::Reversed => b"a range of serial numbers ends below its first one",
-        SpecCause::NoAuthority => b"no ca: line stands before it",
+        SpecCause::NoAuthority => NO_AUTHORITY,
         SpecCause::EmptyId => b"a key ID is empty",
         SpecCause::Key(cause) => cause_words(Cause::Key(cause)),
         SpecCause::Fingerprint(_) => b"the hash is cut, padded or misspelt",

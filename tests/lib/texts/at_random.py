@@ -1,26 +1,17 @@
-"""Lists at random, with every kind of name, section and subsection, and texts at random as people
-write them. Both come with what they name."""
+"""Lists at random, with every kind of name, section and subsection, and what they name."""
 
 import hashlib
 import struct
 
-from files import AUTHORITY, CERT, SEVENTH, certificate
-from texts.keys import FIELDS, blob, key
-from texts.named import (
-    CERTIFICATES,
-    MAGIC,
-    Named,
-    coded,
-    fingerprint,
-    line_of,
-    of_blob,
-    unpadded,
-)
+from files import AUTHORITY, SEVENTH
+from texts.keys import blob
+from texts.named import MAGIC, Named
 from wire import HIGHEST, bitmap, section, serials, span, string, strings
 
 # Key IDs that a line has as they are, and others.
 WORDS = [b"bob", b"alice@example.org", b"a b  c", b"ca: all", b"serial: 5", b"0", b"\\x23", b"all"]
 WORDS += [b"ssh-rsa", b"ssh-rsa: a", b"ssh-ed25519-cert-v01@openssh.com"]
+WORDS += [b'"', b"'", b'"bob', b"bob'", b"'a' b", b"\"a'", b"CN=bob,OU=ops", b"a,", b",b", b"a ,b"]
 AWKWARD = [
     b"",
     b" ",
@@ -35,6 +26,16 @@ AWKWARD = [
     b"a\0b",
     b"ssh-rsa AAAA",
     b"ssh-ed25519-cert-v01@openssh.com of bob",
+    b'"bob"',
+    b"'bob'",
+    b'""',
+    b"''",
+    b'"a" b "c"',
+    b"a, b",
+    b", b",
+    b"Doe, John",
+    b'"a", "b"',
+    b"'a', b",
     "Zo\u00eb".encode(),
     "\u009f".encode(),
     b"Zo\xeb",
@@ -179,186 +180,3 @@ def some_list(pool):
     if pool.source.random() < pool.signed:
         content += section(4, AUTHORITY) + string(b"signature")
     return content, facts, named
-
-
-# ---- texts
-
-
-def cased(source, word):
-    return "".join(source.choice([it.lower(), it.upper()]) for it in word)
-
-
-def numeral(source, number):
-    return source.choice(["%d", "%d", "%d", "0x%x", "0X%X", "0%o"]) % number
-
-
-def as_written(source, line):
-    """A line as people write it. What it names is the same."""
-    word, colon, value = line.partition(": ")
-    if colon and " " not in word:
-        if source.random() < 0.3:
-            word = cased(source, word)
-        line = word + ":" + source.choice([" ", " ", "", "\t "]) + value
-    line = source.choice(["", "", " ", "\t\r "]) + line
-    return line + source.choice(["", "", " ", "\r", " # until 2027-01-01", "\t# a # b", " #"])
-
-
-def authority_line(source, authority):
-    """The line of an authority, by its bytes or as it is in a .pub file."""
-    if not authority:
-        return "ca: all"
-    if source.random() < 0.3:
-        return "ca-blob: " + coded(authority)
-    return of_blob("ca", authority).partition(" # ")[0]
-
-
-def a_serial(pool, named, authority):
-    least = max(pool.serial(), 1)
-    most = min(HIGHEST, least + pool.source.choice([0, 0, 1, 100, HIGHEST]))
-    named.add_serials(authority, least, most)
-    if least == most and pool.source.random() < 0.8:
-        return "serial: " + numeral(pool.source, least)
-    hyphen = pool.source.choice(["-", " - ", "\t-"])
-    return "serial: " + hyphen.join(numeral(pool.source, it) for it in (least, most))
-
-
-def an_id(pool, named, authority):
-    text = pool.source.choice([it for it in pool.ids if b"\0" not in it])
-    named.add_id(authority, text)
-    if text in WORDS:
-        return "id: " + text.decode()
-    digits = text.hex()
-    return "id-hex: " + pool.source.choice([digits, digits.upper()])
-
-
-def a_key(pool, named):
-    """A key by its line, alone or with its word, by its bytes, or by a hash."""
-    it = key(pool.source) if pool.source.random() < 0.5 else pool.source.choice(pool.blobs)
-    line = line_of(("key", it)).partition(" # ")[0]
-    if not line.startswith("key: "):
-        named.keys.add(it)
-        return line
-    line = line[5:] + pool.source.choice(["", " me@home", " a: b"])
-    word = pool.source.choice(["", "key: ", "key-blob: ", "sha1: ", "sha256: ", "hash: "])
-    if word == "sha1: ":
-        named.sha1s.add(hashlib.sha1(it).digest())
-    elif word in ("sha256: ", "hash: "):
-        named.sha256s.add(hashlib.sha256(it).digest())
-    else:
-        named.keys.add(it)
-    if word == "key-blob: ":
-        return word + coded(it)
-    return word + (fingerprint(it) if word == "hash: " else line)
-
-
-def a_sha1(pool, named):
-    digest = pool.hash_of(hashlib.sha1)
-    named.sha1s.add(digest)
-    return "hash: SHA1:" + unpadded(digest)
-
-
-def a_certificate(pool, named):
-    """It counts under its own authority. A key ID that it counts by may have any byte but zero."""
-    serial = pool.source.choice([0, 7, HIGHEST])
-    text = pool.source.choice([it for it in pool.ids if serial or b"\0" not in it])
-    if serial:
-        named.add_serials(AUTHORITY, serial, serial)
-    else:
-        named.add_id(AUTHORITY, text)
-    return "%s %s of a" % (CERT, coded(certificate(serial, text)))
-
-
-BESIDE = [a_key, a_key, a_sha1, a_certificate]
-
-
-def some_text(pool):
-    """The lines of a text, and what they name."""
-    source, named, lines, authority = pool.source, Named(), [], None
-    pool.begin()
-    for _ in range(source.randrange(25)):
-        sort = source.randrange(10)
-        if sort < 2:
-            authority = pool.authority()
-            line = authority_line(source, authority)
-        elif sort < 6 and authority is not None:
-            line = source.choice([a_serial, an_id])(pool, named, authority)
-        elif sort < 9:
-            line = source.choice(BESIDE)(pool, named)
-        else:
-            lines.append(source.choice(["", "# ca: all", " \t\r", "#"]))
-            continue
-        lines.append(as_written(source, line))
-    return lines, named
-
-
-# What a misspelt line and other files of keys have before a key.
-BEFORE_A_KEY = [
-    "ca ",
-    "ca : ",
-    "ca= ",
-    "ca; ",
-    "SERIAL ",
-    "user ",
-    '"ca" ',
-    "no-pty ",
-    'command="a: b" ',
-    "@revoked * ",
-    "host.example ",
-]
-OF_AUTHORITY = of_blob("key", AUTHORITY).partition(" # ")[0][5:]
-
-# A line that is refused, wherever it is, and one that is refused before the first authority.
-WRONG = [
-    "serial: 0",
-    "serial: 9-7",
-    "serial: 18446744073709551616",
-    "serial: -5",
-    "id:",
-    "id: eve#1",
-    "id: a\tb",
-    "id: a\rid: b",
-    "id: \x1b",
-    "id: a\x7f",
-    "id: \0",
-    *("id: %s of bob" % it.decode() for it in [*FIELDS, *sorted(CERTIFICATES)]),
-    "id-hex: 00",
-    "id-hex: 6100",
-    "id-hex: 610062",
-    "%s %s" % (CERT, coded(certificate(0, b"a\0b"))),
-    "id-hex: 656",
-    "id-hex: 0x65",
-    "ca:",
-    "ca: everyone",
-    "ca: ALL",
-    "ca-blob:",
-    "ca-blob: eA",
-    "ca: %s %s" % (CERT, coded(SEVENTH)),
-    "key-blob: AQ",
-    "key: AQ==",
-    "hash: SHA1:AQ",
-    "hash: MD5:AQ",
-    "hash: SHA256:" + "A" * 27,
-    "sha1: SHA1:" + "A" * 27,
-    "serials: 5",
-    "+ serial: 5",
-    "- ca: all",
-    *(it + OF_AUTHORITY for it in BEFORE_A_KEY),
-    *("key: " + it + OF_AUTHORITY for it in BEFORE_A_KEY),
-    "ca: all " + OF_AUTHORITY,
-]
-ALONE = ["serial: 5", "id: bob", "id-hex: 61"]
-
-
-def wrong_text(pool, turn):
-    """The lines of a text with a wrong one, and its number. The wrong ones take turns."""
-    lines, _ = some_text(pool)
-    at = pool.source.randrange(len(lines) + 1)
-    wrong = WRONG[turn % len(WRONG)]
-    if not any("ca" in it.lower() for it in lines[:at]) and pool.source.random() < 0.2:
-        wrong = pool.source.choice(ALONE)
-    elif wrong.startswith(("serial:", "id")):
-        # It is refused for itself, and not because no authority precedes it.
-        lines.insert(0, "ca: all")
-        at += 1
-    lines.insert(at, wrong)
-    return lines, at + 1

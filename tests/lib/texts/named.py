@@ -243,9 +243,18 @@ def begins_as_key(text):
     return bool(rest) and (word in FIELDS or word in CERTIFICATES)
 
 
+def is_quoted(text):
+    return len(text) > 1 and any(text[0] == text[-1] == it for it in b"\"'")
+
+
+def looks_otherwise(text):
+    """Whether it would be taken for a key, for a key ID between quotes, or for several."""
+    return begins_as_key(text) or is_quoted(text) or b", " in text
+
+
 def of_id(text):
     plain = all(0x20 <= it < 0x7F and it != 0x23 for it in text)
-    if plain and text and text == text.strip(b" ") and not begins_as_key(text):
+    if plain and text and text == text.strip(b" ") and not looks_otherwise(text):
         return "id: " + text.decode()
     return "id-hex: " + text.hex()
 

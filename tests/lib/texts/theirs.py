@@ -11,7 +11,7 @@ from texts.keys import key
 
 OPENSSH = os.environ.get("OPENSSH", "ssh-keygen")
 AUTHORITIES = {"ca-one": "ed25519", "ca-two": "ecdsa", "ca-three": "ed25519"}
-IDS = [b"bob", b"a b  c", b" bob", "Zo\u00eb".encode(), b"eve#1"]
+IDS = [b"bob", b"a b  c", b" bob", "Zo\u00eb".encode(), b"eve#1", b'"bob"', b"a, b", b"'"]
 # The serial numbers of certificates are 1, 2 and so on, up to this one.
 SERIALS = 6
 

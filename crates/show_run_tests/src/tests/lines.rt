@@ -2,16 +2,18 @@
 
 use krl_entries::Fact as Held;
 use krl_types::ItemKind;
-use list_text::{Counts, Fact, Form};
+use list_text::{Counts, Fact, Form, Side};
 use serial_set::Span;
+use std::alloc::Global;
+use std::process::Abort;
 use test_fixtures::{GITHUB, GITHUB_LINE, GITHUB_PRINT, joined};
 
 // Key IDs, and their lines.
 const IDS: [(&[u8], &[u8]); 17] = [
     (b"bob", b"id: bob\n"),
     (
-        b"eve@example.com, desk 2: \"x\"",
-        b"id: eve@example.com, desk 2: \"x\"\n",
+        b"eve@example.com,desk 2: \"x\"",
+        b"id: eve@example.com,desk 2: \"x\"\n",
     ),
     (b"!", b"id: !\n"),
     (b"~", b"id: ~\n"),
@@ -30,14 +32,56 @@ const IDS: [(&[u8], &[u8]); 17] = [
     (b"\0", b"id-hex: 00\n"),
 ];
 
+// Key IDs that a reader of texts would take for others, and some that are almost so.
+const LIKE_OTHERS: [(&[u8], &[u8]); 22] = [
+    (b"\"x\"", b"id-hex: 227822\n"),
+    (b"'x'", b"id-hex: 277827\n"),
+    (b"\"\"", b"id-hex: 2222\n"),
+    (b"''", b"id-hex: 2727\n"),
+    (b"\"", b"id: \"\n"),
+    (b"'", b"id: '\n"),
+    (b"'x\"", b"id: 'x\"\n"),
+    (b"\"x'", b"id: \"x'\n"),
+    (b"\"x\" y", b"id: \"x\" y\n"),
+    (b"x \"y\"", b"id: x \"y\"\n"),
+    (b"a, b", b"id-hex: 612c2062\n"),
+    (b", b", b"id-hex: 2c2062\n"),
+    (b"a, \"b\"", b"id-hex: 612c20226222\n"),
+    (
+        b"eve@example.com, desk 2: \"x\"",
+        b"id-hex: 657665406578616d706c652e636f6d2c206465736b20323a20227822\n",
+    ),
+    (b"a,b", b"id: a,b\n"),
+    (b"a ,b", b"id: a ,b\n"),
+    (b"a,", b"id: a,\n"),
+    (b",", b"id: ,\n"),
+    (b", ", b"id-hex: 2c20\n"),
+    (b"ssh-rsa A", b"id-hex: 7373682d7273612041\n"),
+    (b"ssh-rsa", b"id: ssh-rsa\n"),
+    (b"ssh-rsa,A", b"id: ssh-rsa,A\n"),
+];
+
+// The lines of key IDs, as text and as a change.
+fn all_spell(rt: &impl Abort, alloc: Global, rows: &[(&[u8], &[u8])]) {
+    let mut line = Vec::new(alloc);
+    for (i, (id, text)) in rows.iter().enumerate() {
+        let fact = Fact::Held(Held::Item(ItemKind::Id, b"", id));
+        let made = Form::Text.write_fact(alloc, fact, &mut line);
+        assert!(rt; made.is_ok() && line.as_slice() == *text, "in row {i}");
+        let change = joined(alloc, &[b"+ ", text]).expect(rt, "there is memory");
+        let made = Form::Change(Side::Added).write_fact(alloc, fact, &mut line);
+        assert!(rt; made.is_ok() && line == change, "in row {i} as a change");
+    }
+}
+
 #[test]
 fn key_ids(rt: HostRuntime) {
-    let mut line = Vec::new(rt.alloc());
-    for (i, (id, text)) in IDS.iter().enumerate() {
-        let fact = Fact::Held(Held::Item(ItemKind::Id, b"", id));
-        let made = Form::Text.write_fact(rt.alloc(), fact, &mut line);
-        assert!(rt; made.is_ok() && line.as_slice() == *text, "in row {i}");
-    }
+    all_spell(&rt, rt.alloc(), &IDS);
+}
+
+#[test]
+fn key_ids_like_others(rt: HostRuntime) {
+    all_spell(&rt, rt.alloc(), &LIKE_OTHERS);
 }
 
 // Facts, and their lines as text and as JSON.

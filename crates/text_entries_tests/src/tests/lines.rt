@@ -12,8 +12,8 @@ use test_fixtures::{
 };
 use text_entries::{TextFault, read_text};
 
-// The list of version 1 that names what a text names, or the fault of the text.
-fn made(rt: &impl Abort, alloc: Global, text: &[u8]) -> Result<Vec<u8>, TextFault> {
+/// The list of version 1 that names what a text names, or the fault of the text.
+pub fn made(rt: &impl Abort, alloc: Global, text: &[u8]) -> Result<Vec<u8>, TextFault> {
     let mut held: Revocations<Held> = Revocations::new(alloc);
     read_text(alloc, &mut held, text)?;
     let header = Header {
@@ -191,8 +191,8 @@ const REFUSED: [(&[&[u8]], u64, &str); 42] = [
     (&[b"garbage"], 1, "text 7 UnknownWord"),
 ];
 
-// Whether a text has its first fault at this line, and the fault prints so.
-fn has_fault(rt: &impl Abort, alloc: Global, parts: &[&[u8]], line: u64, cause: &str) -> bool {
+/// Whether a text has its first fault at this line, and the fault prints so.
+pub fn has_fault(rt: &impl Abort, alloc: Global, parts: &[&[u8]], line: u64, cause: &str) -> bool {
     let text = joined(alloc, parts).expect(rt, "there is memory");
     match made(rt, alloc, &text) {
         Ok(_) => false,

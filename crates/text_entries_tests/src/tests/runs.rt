@@ -60,7 +60,7 @@ fn of_two_texts(rt: HostRuntime) {
 }
 
 // The parts of texts, and the line about their fault.
-const REFUSED: [(&[Option<&[&[u8]]>], &[u8]); 5] = [
+const REFUSED: [(&[Option<&[&[u8]]>], &[u8]); 6] = [
     (
         &[Some(&[b"ca: all\n\n"])],
         b"krl: r.krl: no text has an entry, and the list would revoke nobody [make 1 Empty]\n",
@@ -77,7 +77,17 @@ const REFUSED: [(&[Option<&[&[u8]]>], &[u8]); 5] = [
     // No authority is current in the second text.
     (
         &[Some(&[b"ca: all\nid: a\n"]), Some(&[b"id: b\n"])],
-        b"krl: t: line 1: no ca: line stands before it [text 1 Spec, spec 4 NoAuthority]\n",
+        b"krl: t: line 1: no ca: line counts here: none is before it, or a key or a hash is between \
+[text 1 Spec, spec 4 NoAuthority]\n",
+    ),
+    // Nor is one in the second text after a key of its own.
+    (
+        &[
+            Some(&[b"ca: all\nid: a\n"]),
+            Some(&[b"ca: all\n\nkey-blob: AQ==\nserial: 5\n"]),
+        ],
+        b"krl: t: line 4: no ca: line counts here: none is before it, or a key or a hash is between \
+[text 1 Spec, spec 4 NoAuthority]\n",
     ),
     (
         &[Some(&[b"ca: all\nid: a\n"]), None],
@@ -228,6 +238,54 @@ const MEANT: [(&[u8], &[u8], &[u8]); 15] = [
     (b"ca: all\n\xef\xbb\xbf ca: all", b"2", UNKNOWN_WORD),
 ];
 
+// The same for serial numbers, for key IDs that may be others, and for a CA that is not current.
+const SLIPS: [(&[u8], &[u8], &[u8]); 22] = [
+    (b"ca: all\nserial: 010", b"2", LEADING_ZERO),
+    (b"ca: all\n\nserial: 1 - 010 # c", b"3", LEADING_ZERO),
+    (b"ca: all\nserial: 1f3", b"2", HEXADECIMAL),
+    (b"ca: all\nSERIAL:\tE # c\r", b"2", HEXADECIMAL),
+    (b"ca: all\nserial: 1f - 2f", b"2", HEXADECIMAL),
+    (b"ca: all\nserial: 1f\t-32", b"2", HEXADECIMAL),
+    (b"ca: all\nserial: 0x1f-2e", b"2", HEXADECIMAL),
+    (b"ca: all\nserial: 0f", b"2", HEXADECIMAL),
+    (b"ca: all\nserial: 0x", b"2", NUMBER),
+    (b"ca: all\nserial: 0x1g", b"2", NUMBER),
+    (b"ca: all\nserial: 1g", b"2", NUMBER),
+    (b"ca: all\nserial: 1f 3", b"2", NUMBER),
+    (b"ca: all\nserial:", b"2", NUMBER),
+    (b"ca: all\nserial: -", b"2", NUMBER),
+    (b"ca: all\nserial: 99999999999999999999", b"2", NUMBER),
+    (b"ca: all\nserial: 1-99999999999999999999", b"2", NUMBER),
+    (b"ca: all\nserial: 0", b"2", ZERO_SERIAL),
+    (b"ca: all\nid: \"bob\"", b"2", QUOTED),
+    (b"ca: all\nid: a, b", b"2", SEVERAL),
+    (b"serial: 1f3", b"1", NO_CA),
+    (b"ca: all\nkey-blob: AQ==\nid: a", b"3", NO_CA),
+    (
+        b"ca: all\nserial: 5\nkey-blob: AQ==\n\nid-hex: 6",
+        b"5",
+        NO_CA,
+    ),
+];
+
+const LEADING_ZERO: &[u8] =
+    b"a serial number has a leading zero: OpenSSH would read octal digits [text 11 LeadingZero]";
+
+const HEXADECIMAL: &[u8] = b"hexadecimal digits need 0x before them [text 1 Spec, spec 1 Number]";
+
+const NUMBER: &[u8] = b"a serial number is a number below 2^64 [text 1 Spec, spec 1 Number]";
+
+const ZERO_SERIAL: &[u8] = b"serial number 0 names no certificate [text 1 Spec, spec 2 Zero]";
+
+const QUOTED: &[u8] =
+    b"a key ID stands without quotes: use id-hex: for one that has them [text 12 QuotedId]";
+
+const SEVERAL: &[u8] = b"a line has one key ID: use id-hex: for one that has a comma and a blank \
+[text 13 SeveralIds]";
+
+const NO_CA: &[u8] = b"no ca: line counts here: none is before it, or a key or a hash is between \
+[text 1 Spec, spec 4 NoAuthority]";
+
 const NO_HASH: &[u8] =
     b"a fingerprint needs \"hash:\" before it [text 1 Spec, spec 6 Key, line 1 NoKey]";
 
@@ -276,14 +334,23 @@ fn misspelt_words(rt: HostRuntime) {
     }
 }
 
+// The line about the fault of each text, by the number of its line and what is said.
+fn each_says(rt: &impl Abort, alloc: Global, rows: &[(&[u8], &[u8], &[u8])]) {
+    for (i, (text, line, said)) in rows.iter().enumerate() {
+        let parts: [&[u8]; 5] = [b"krl: t: line ", line, b": ", said, b"\n"];
+        let wanted = joined(alloc, &parts).expect(rt, "there is memory");
+        assert!(rt; said_of(rt, alloc, text) == wanted, "in row {i}");
+    }
+}
+
 #[test]
 fn what_lines_may_be_meant_as(rt: HostRuntime) {
-    let alloc = rt.alloc();
-    for (i, (text, line, said)) in MEANT.iter().enumerate() {
-        let parts: [&[u8]; 5] = [b"krl: t: line ", line, b": ", said, b"\n"];
-        let wanted = joined(alloc, &parts).expect(&rt, "there is memory");
-        assert!(rt; said_of(&rt, alloc, text) == wanted, "in row {i}");
-    }
+    each_says(&rt, rt.alloc(), &MEANT);
+}
+
+#[test]
+fn slips_of_values(rt: HostRuntime) {
+    each_says(&rt, rt.alloc(), &SLIPS);
 }
 
 // The line about the one fault of each of these texts.

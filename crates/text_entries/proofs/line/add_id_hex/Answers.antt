@@ -1,10 +1,10 @@
 -- The key ID is added under the current authority.
 use Rattle.std.proofs.Common.{sym}
-use Rattle.text_entries.proofs.Said.{id_one}
-use Rattle.text_entries.proofs.line.take_id_hex.Goals as goal
+use Rattle.text_entries.proofs.Said.{id_added}
+use Rattle.text_entries.proofs.line.add_id_hex.Goals as goal
 
 pub returns : goal.returns
 returns g c =
     let whole = sym (rw c.as_slice.ensures at c.if-has_zero.ensures) in
     let means = rw (c.as_slice-2.ensures, c.as_slice-3.ensures) at c.in_ok-add_id.ensures.means in
-    rw c.in-Some.is (id_one _ c.in-Some.authority c.in_ok-id.id _ _ c.in_ok-id.ensures whole means c.in_ok-add_id.ensures.held)
+    rw c.in-Some.is (id_added _ c.in-Some.authority c.in_ok-id.id _ _ c.in_ok-id.ensures whole means c.in_ok-add_id.ensures.held)

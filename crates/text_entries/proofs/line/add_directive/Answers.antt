@@ -1,8 +1,8 @@
 -- The entry is added under the current authority.
-use Rattle.text_entries.proofs.Said.{entry_done}
-use Rattle.text_entries.proofs.line.take_directive.Goals as goal
+use Rattle.text_entries.proofs.Said.{entry_added}
+use Rattle.text_entries.proofs.line.add_directive.Goals as goal
 
 pub returns-in-Ok : goal.returns-in-Ok
 returns-in-Ok g c =
     let adds = rw c.under.ensures at c.in-Ok.ensures.adds in
-    entry_done _ c.args.current.now _ _ adds
+    entry_added _ _ _ adds
