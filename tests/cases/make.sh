@@ -407,6 +407,29 @@ judge 'the list after versions that do not rise' "$(asks 0 cmp before.krl made.k
 expect 'a lower version that replaces a list' 0 '' '' make -q --replace -z 3 -f made.krl text
 judge 'the lower version' "$(differs version 3 "$(version)")"
 
+# What only the list before names is counted, if that is read.
+printf 'ca: all\nserial: 4-6\nid: a\nkey: %s\nhash: SHA256:%s\n' "$g" \
+  AAAAAAAAAAAAAAAAAAAAAAAAAAAAAAAAAAAAAAAAAAA >more
+printf 'ca: all\nid: a\n' >one-id
+printf 'ca: all\nid: b\n' >other-id
+says_lost() {
+  run make -q --replace -f made.krl "$2"
+  expect "$1" 0 '' "krl make: made.krl: version $4"$'\n' make "${@:5}" -f made.krl "$3"
+}
+says_lost 'a list that names less' more text \
+  '2: 1 CA, 1 serial number; 2 serial numbers, 1 key ID, 1 key, 1 hashed key are no longer revoked'
+says_lost 'a list that names more' text more \
+  '2: 1 CA, 3 serial numbers, 1 key ID, 1 key, 1 hashed key'
+says_lost 'a list that names one other key ID' one-id other-id \
+  '2: 1 CA, 1 key ID; 1 key ID is no longer revoked'
+says_lost 'an update by other entries' more text \
+  '2: 1 CA, 3 serial numbers, 1 key ID, 1 key, 1 hashed key' -u
+says_lost 'a list that replaces one unread' more text '1: 1 CA, 1 serial number' --replace
+says_lost 'an empty list over one' text none '2: nothing; 1 serial number is no longer revoked' \
+  --allow-empty
+run make -q --replace -f made.krl more
+expect 'nothing is said of it with -q' 0 '' '' make -q -f made.krl text
+
 # -u keeps what the list names, and its comment.
 SOURCE_DATE_EPOCH=86400 run make -q --replace -f made.krl -z 6 --comment 'of May' text
 printf 'ca: all\nserial: 7\n' >leavers
@@ -517,15 +540,15 @@ merges() {
   local name=$1 status=$2
   printf "$3" >base && printf "$3$4" >ours && printf "$3$5" >theirs
   git merge-file -p --union ours base theirs >merged
-  rm -f made.krl both.krl
-  run make -q -f both.krl ours theirs
+  rm -f made.krl branches.krl
+  run make -q -f branches.krl ours theirs
   differs 'what is said of both' '' "$got_error" >both
   run make -q -f made.krl merged
   judge "two branches: $name" "$(
     cat both
     [ "$status" = '*' ] || differs 'exit status' "$status" "$got_status"
     if [ "$got_status" = 0 ]; then
-      differs names "$(contents both.krl)" "$(contents made.krl)"
+      differs names "$(contents branches.krl)" "$(contents made.krl)"
     else
       differs 'standard error' "krl: merged: line N: $no_ca" \
         "$(sed 's/line [0-9]*:/line N:/' "$scratch/error")"

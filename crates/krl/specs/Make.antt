@@ -44,4 +44,5 @@ pub record IsMade (task : Make) : Type 0 where
   pub bytes : List ℕ
   pub version : ℕ
   pub contents : Revocations
-  pub makes : MakesOver inputs old bytes version contents
+  pub lost : Revocations
+  pub makes : MakesOver inputs old bytes version contents lost

@@ -84,7 +84,7 @@ fn texts_of<'a>(rt: &HostRuntime, names: &[&'a str]) -> Result<Vec<Text<'a>>, Ma
 // Says which list was made, unless nothing is to be said.
 fn say_made(rt: &HostRuntime, task: &Make, facts: &Facts) {
     if !task.quiet
-        && let Ok(line) = made_line(rt.alloc(), task.list, facts.version, &facts.revocations)
+        && let Ok(line) = made_line(rt.alloc(), task.list, facts)
     {
         print_line(rt, line.as_slice());
     }

@@ -3,6 +3,7 @@
 mod current;
 mod ids;
 mod lines;
+mod lost;
 mod page;
 mod places;
 mod runs;

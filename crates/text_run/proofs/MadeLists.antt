@@ -36,7 +36,7 @@ held_of Version given (Some before) base is (inl (unknown some over)) = absurd (
 held_of Version given (Some before) base is (inr taken) = go taken.read taken.outcome_is
   where
     go : (read : Result Krl KrlFault) → Ok base ≡ base_in Version read → base.revocations ≡ nothing
-    go (Ok krl) over = let same : base ≡ record new_base { version = Some krl.header.version } = cc over in ap (λ (b : Base). b.revocations) same
+    go (Ok krl) over = let same : base ≡ record new_base { version = Some krl.header.version; before = krl.contents } = cc over in ap (λ (b : Base). b.revocations) same
     go (Err fault) over = absurd (cc over)
 
 -- what is held of the texts, or of the old list and the texts, has the texts' entries beside what was taken over
@@ -54,7 +54,7 @@ merged_adds inputs listed old base (Some merged) held over (is, adds) = (λ none
     no_contents false false is none = cc is
 
 pub makes_over : (inputs : Inputs) (listed : Revocations) (old : Old) (bytes : List ℕ) (merged : Merged) → IsHeld inputs listed → IsMadeOver inputs listed old bytes merged
-    → MakesOver inputs old bytes merged.version (unwrap_or merged.revocations listed)
+    → MakesOver inputs old bytes merged.version (unwrap_or merged.revocations listed) merged.lost
 makes_over inputs listed old bytes merged held made =
     let adds = merged_adds inputs listed old made.base merged.revocations held made.over made.is_merged in
     record {
@@ -69,5 +69,6 @@ makes_over inputs listed old bytes merged held made =
         written = made.written;
         within = made.within;
       };
+      loses = made.loses;
       each = held.enough.each;
     }

@@ -31,11 +31,11 @@ taken_from Contents given text base is over = go over.read over.is_read over.out
     go (Ok krl) read same = (krl, read.read text refl, cc same)
     go (Err fault) read same = absurd (cc same)
 
-pub update_kept : (inputs : Inputs) (text bytes : List ℕ) (header : Header) (sections : List SpelledSection) (version : ℕ) (contents : Revocations)
+pub update_kept : (inputs : Inputs) (text bytes : List ℕ) (header : Header) (sections : List SpelledSection) (version : ℕ) (contents lost : Revocations)
     → takes_contents inputs.over ≡ true → version < 2 ^ 64 → inputs.date < 2 ^ 64 → Spells text header sections
-    → MakesOver inputs (Some (Some text)) bytes version contents
+    → MakesOver inputs (Some (Some text)) bytes version contents lost
     → (made : Header) × (entries : List Entry) × (texts_entries inputs.texts.now ≡ Ok entries) × RevokesSame made bytes (entries_of sections ++ entries)
-update_kept inputs text bytes header sections version contents is fits_version fits_date spelled over =
+update_kept inputs text bytes header sections version contents lost is fits_version fits_date spelled over =
     let taken = taken_from inputs.over inputs.version text over.base is over.over in
     let list = taken.1.list in
     let one = (spelled_once text header taken.0.header sections list.sections spelled list.spelled).1 in

@@ -31,14 +31,20 @@ takes_contents Contents = true
 
 -- the base of a list that follows no other
 abbrev pub new_base : Base
-new_base = record { version = None; comment = []; revocations = nothing }
+new_base = record { version = None; comment = []; revocations = nothing; before = nothing }
 
 -- what the new list has of one with this header and these contents
 abbrev pub base_of : Over → Header → Revocations → Base
-base_of Nothing header contents = record new_base { version = Some header.version }
-base_of Version header contents = record new_base { version = Some header.version }
-base_of Contents header contents =
-    record { version = Some header.version; comment = header.comment; revocations = contents }
+base_of Nothing header contents =
+    record new_base { version = Some header.version; before = contents }
+base_of Version header contents =
+    record new_base { version = Some header.version; before = contents }
+base_of Contents header contents = record {
+  version = Some header.version;
+  comment = header.comment;
+  revocations = contents;
+  before = nothing;
+}
 
 -- what reading the old list gives
 pub record Krl : Type 0 where

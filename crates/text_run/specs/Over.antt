@@ -14,6 +14,7 @@ use Rattle.krl_format.specs.declared.header.Header.{Header}
 use Rattle.krl_types.specs.Entry.{Entry}
 use Rattle.krl_types.specs.Subject.{Subject}
 use Rattle.krl_writer.specs.KrlText.{IsKrlText}
+use Rattle.list_diff.specs.Without.{HoldsWithout}
 use Rattle.list_making.specs.Making.{WhyUnput}
 use Rattle.list_making.specs.Target.{Old}
 use Rattle.list_making.specs.Version.{version_of}
@@ -113,6 +114,7 @@ pub record IsMadeOver (inputs : Inputs) (listed : Revocations) (old : Old) (byte
   pub over : IsReadOver inputs.over inputs.version old (Ok base)
   pub has_version : version_over inputs.version base.version ≡ Ok merged.version
   pub is_merged : IsMerged inputs base.revocations merged.revocations
+  pub loses : HoldsWithout (unwrap_or merged.revocations listed) base.before merged.lost
   pub written : IsKrlText (wanted_of inputs base merged.version).header
       (unwrap_or merged.revocations listed) bytes
   pub within : length bytes ≤ limit
@@ -139,14 +141,16 @@ pub data Refuses (inputs : Inputs) (listed : Revocations) (old : Old) (fault : M
       (unwrap_or merged listed) (Err fault)
       → Refuses inputs listed old fault
 
--- The bytes and what they name are the list of the texts, with what it has of the old list.
+-- The bytes and what they name are the list of the texts, with what it has of the old list. What
+-- that names beside is lost.
 pub record MakesOver (inputs : Inputs) (old : Old) (bytes : List ℕ) (version : ℕ)
-    (contents : Revocations) : Type 0 where
+    (contents lost : Revocations) : Type 0 where
   pub base : Base
   pub over : IsReadOver inputs.over inputs.version old (Ok base)
   pub has_version : version_over inputs.version base.version ≡ Ok version
   pub makes : Makes (wanted_of inputs base version) base.revocations inputs.texts.now bytes
       contents
+  pub loses : HoldsWithout contents base.before lost
   pub each : inputs.allow_empty ≡ false → find is_mute inputs.texts.now ≡ None
 
 -- Why no list is made and put: the texts are refused; or the list of what they name is not made

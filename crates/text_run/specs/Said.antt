@@ -1,6 +1,6 @@
 -- The line about a list that was made (krl(1), KRL MAKE).
-use Rattle.std.specs.Prelude.{ℕ, ◌==◌, false, nat_lt, List, [], ◌++◌, codes, decimal, drop, length}
-use Rattle.std.specs.Prelude.{if◌then◌else◌}
+use Rattle.std.specs.Prelude.{ℕ, ◌+◌, ◌==◌, false, nat_lt, List, [], ◌++◌, codes, decimal, drop}
+use Rattle.std.specs.Prelude.{if◌then◌else◌, length}
 use Rattle.line_pieces.specs.Amount.{amount_text}
 use Rattle.line_pieces.specs.Visible.{visible}
 use Rattle.list_text.specs.declared.counts.Counts.{Counts}
@@ -21,8 +21,19 @@ amounts counts =
 abbrev pub words : List ℕ → List ℕ
 words amounts = if nat_lt (length amounts) 2 then codes "nothing" else drop 2 amounts
 
-abbrev pub made_line : List ℕ → ℕ → Counts → List ℕ
-made_line name version counts =
+-- the numbers of serial numbers, key IDs, keys and hashes
+abbrev pub names_in : Counts → ℕ
+names_in counts = counts.serials + (counts.ids + (counts.keys + counts.hashes))
+
+-- that what only the list before has is no longer revoked, if there is any
+abbrev pub lost_part : Counts → List ℕ
+lost_part lost =
+    if names_in lost == 0 then []
+    else codes "; " ++ (words (amounts (record lost { authorities = 0 }))
+    ++ ((if names_in lost == 1 then codes " is" else codes " are") ++ codes " no longer revoked"))
+
+abbrev pub made_line : List ℕ → ℕ → (named lost : Counts) → List ℕ
+made_line name version named lost =
     codes "krl make: " ++ (visible false name
     ++ (codes ": version " ++ (decimal version
-    ++ (codes ": " ++ (words (amounts counts) ++ codes "\n")))))
+    ++ (codes ": " ++ (words (amounts named) ++ (lost_part lost ++ codes "\n"))))))

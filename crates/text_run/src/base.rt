@@ -23,6 +23,8 @@ pub(crate) struct Base {
     pub(crate) comment: Bytes,
     /// The revocations of the old list, if the new list has them too.
     pub(crate) revocations: Revocations<Held>,
+    /// The revocations of the old list, if the new list does not take them over.
+    pub(crate) before: Revocations<Held>,
 }
 
 /// The part of the old list that the new one takes over, which is read to its end. An empty file is
@@ -74,9 +76,11 @@ fn base_of(alloc: Global, over: Over, header: Header, revocations: Revocations<H
             version,
             comment: header.comment,
             revocations,
+            before: Revocations::new(alloc),
         },
         Over::Nothing | Over::Version => Base {
             version,
+            before: revocations,
             ..new_base(alloc)
         },
     }
@@ -90,5 +94,6 @@ fn new_base(alloc: Global) -> Base
         version: None,
         comment: Bytes::from_vec(Vec::new(alloc)),
         revocations: Revocations::new(alloc),
+        before: Revocations::new(alloc),
     }
 }

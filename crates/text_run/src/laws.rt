@@ -21,10 +21,10 @@ ghost use Rattle.text_run.specs.declared.inputs.Inputs.{Inputs};
 /// what the entries of the old list and those of the texts revoke.
 pub fn update_keeps_the_old_list()
     ensures { (inputs : Inputs) (text bytes : List ℕ) (header : Header)
-        (sections : List SpelledSection) (version : ℕ) (contents : Revocations)
+        (sections : List SpelledSection) (version : ℕ) (contents lost : Revocations)
         → takes_contents inputs.over ≡ true → version < 2 ^ 64 → inputs.date < 2 ^ 64
         → Spells text header sections
-        → MakesOver inputs (Some (Some text)) bytes version contents
+        → MakesOver inputs (Some (Some text)) bytes version contents lost
         → (made : Header) × (entries : List Entry)
         × (texts_entries inputs.texts.now ≡ Ok entries)
         × RevokesSame made bytes (entries_of sections ++ entries) }

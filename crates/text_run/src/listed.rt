@@ -13,6 +13,7 @@ use crate::make_fault::{MakeCause, MakeFault};
 use byte_streams::Source;
 use krl_core::{Header, Revocations};
 use krl_writer::{TextFault, krl_text};
+use list_diff::difference;
 use list_making::{Made, Maker, next_version};
 use run_faults::Cause;
 use span_sets::Held;
@@ -27,8 +28,10 @@ const FIRST: u64 = 1;
 pub struct Facts {
     /// Its version.
     pub version: u64,
-    /// The counts of what it names.
+    /// The revocations that it has.
     pub revocations: Revocations<Held>,
+    /// The revocations that only the list before it has.
+    pub lost: Revocations<Held>,
 }
 
 /// The outcome of making texts into a list: the version, and what is held of the old list and the
@@ -39,6 +42,8 @@ pub struct Merged {
     pub version: u64,
     /// The revocations of the old list and of the texts.
     pub revocations: Option<Revocations<Held>>,
+    /// The revocations that only the old list has.
+    pub lost: Revocations<Held>,
 }
 
 /// The revocations that the texts of a list name.
@@ -210,11 +215,16 @@ impl<'a> Maker for Listed<'a> {
             Err(fault) => return Err(fault),
         };
         let held = held_of(&revocations, &self.revocations);
+        let lost = match difference(alloc, held, &base.before) {
+            Ok(lost) => lost,
+            Err(_) => return Err(self.fault(Cause::NoMemory)),
+        };
         match self.write(alloc, version, base.comment, held) {
             Ok(bytes) => {
                 let facts = Merged {
                     version,
                     revocations,
+                    lost,
                 };
                 Ok(Made { bytes, facts })
             }

@@ -25,7 +25,7 @@ pub fn text_run<'a, P: Target>(
 ) -> Result<Made<Facts>, MakeFault<'a>>
     ensures made { IfOk result (λ made. IsPut P.holds P.replaced (is_read inputs.now.over)
         (λ old. MakesOver inputs.now old made.bytes.items made.facts.version
-        made.facts.revocations) made.bytes.items place.new) }
+        made.facts.revocations made.facts.lost) made.bytes.items place.new) }
     ensures unmade { IfErr result (WhyUnmade P.base inputs.now place.new) }
     ensures kept { IfErr result (IsUntouched P.holds P.overtaken (fault_of inputs.now) place.old
         place.new) }
@@ -39,6 +39,7 @@ pub fn text_run<'a, P: Target>(
             let facts = Facts {
                 version: facts.version,
                 revocations: facts.revocations.unwrap_or(list.revocations),
+                lost: facts.lost,
             };
             Ok(Made { bytes, facts })
         }

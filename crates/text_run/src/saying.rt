@@ -1,15 +1,14 @@
 //! The line about a list that was made (krl(1), KRL MAKE).
 
-ghost use Rattle.std.specs.Prelude.{◌≡◌, IfOk};
+ghost use Rattle.std.specs.Prelude.{◌≡◌, ◌==◌, ◌+◌, ◌<◌, ◌^◌, IfOk};
 ghost use Rattle.text_run.specs.Making.{counts_of};
-ghost use Rattle.text_run.specs.Said.{amounts, made_line, words};
+ghost use Rattle.text_run.specs.Said.{amounts, lost_part, made_line, names_in, words};
 
 use crate::counting::count;
+use crate::listed::Facts;
 use itoa::Buffer;
-use krl_core::Revocations;
 use line_pieces::{Printed, Visible, Words, put};
 use list_text::Counts;
-use span_sets::Held;
 use std::alloc::{AllocError, Global};
 
 // A number of up to 128 bits.
@@ -45,22 +44,61 @@ impl Printed for Part {
     }
 }
 
-/// The line that says which list was made: its name, its version, and how many authorities, serial
-/// numbers, key IDs, keys and hashes it names.
-pub fn made_line(
-    alloc: Global,
-    name: &str,
-    version: u64,
-    revocations: &Revocations<Held>,
-) -> Result<Vec<u8>, AllocError>
-    ensures { IfOk result (λ line. line.items
-        ≡ made_line name.now version (counts_of revocations.now)) }
+/// The line that says which list was made: its name, its version, how many authorities, serial
+/// numbers, key IDs, keys and hashes it names, and how many that only the list before it names.
+pub fn made_line(alloc: Global, name: &str, facts: &Facts) -> Result<Vec<u8>, AllocError>
+    ensures { IfOk result (λ line. line.items ≡ made_line name.now facts.now.version
+        (counts_of facts.now.revocations) (counts_of facts.now.lost)) }
 {
-    let amounts = amounts(alloc, &count(revocations))?;
+    let amounts = amounts(alloc, &count(&facts.revocations))?;
+    let lost = lost_part(alloc, &count(&facts.lost))?;
     let mut line = Vec::new(alloc);
-    put!(&mut line; b"krl make: ", Visible(name.as_bytes(), false), b": version ", version, b": ",
-        Words(words(&amounts)), b"\n")?;
+    put!(&mut line; b"krl make: ", Visible(name.as_bytes(), false), b": version ", facts.version,
+        b": ", Words(words(&amounts)), Words(&lost), b"\n")?;
     Ok(line)
+}
+
+// That names are no longer revoked, if there are any.
+fn lost_part(alloc: Global, lost: &Counts) -> Result<Vec<u8>, AllocError>
+    ensures { IfOk result (λ text. text.items ≡ lost_part lost.now) }
+{
+    let mut text = Vec::new(alloc);
+    if is_none(lost) {
+        return Ok(text);
+    }
+    let verb: &[u8] = if is_one(lost) { b" is" } else { b" are" };
+    let unnamed = Counts {
+        authorities: 0,
+        ..*lost
+    };
+    let amounts = amounts(alloc, &unnamed)?;
+    put!(&mut text; b"; ", Words(words(&amounts)), Words(verb), b" no longer revoked")?;
+    Ok(text)
+}
+
+// Whether nothing is named.
+fn is_none(counts: &Counts) -> bool
+    ensures { result ≡ (names_in counts.now == 0) }
+{
+    counts.serials == 0 && other_names(counts) == 0
+}
+
+// Whether one serial number, key ID, key or hash is named.
+fn is_one(counts: &Counts) -> bool
+    ensures { result ≡ (names_in counts.now == 1) }
+{
+    if counts.serials > 1 {
+        return false;
+    }
+    counts.serials + other_names(counts) == 1
+}
+
+// How many key IDs, keys and hashes are named.
+fn other_names(counts: &Counts) -> u128
+    ensures value { result ≡ counts.now.ids + (counts.now.keys + counts.now.hashes) }
+    ensures small { result < 2 ^ 66 }
+{
+    counts.ids as u128 + (counts.keys as u128 + counts.hashes as u128)
 }
 
 // How much there is of each kind, each after a comma.

@@ -390,11 +390,20 @@ def objects_of_changes(old, new):
 NOUNS = ["CA", "serial number", "key ID", "key", "hashed key"]
 
 
-def said(name, version, named):
-    """The line about a list that was made."""
-    amounts = [
+def amounts(counts):
+    """How many there are of each kind."""
+    return ", ".join(
         "%d %s%s" % (count, noun, "" if count == 1 else "s")
-        for count, noun in zip(named.counts(), NOUNS)
+        for count, noun in zip(counts, NOUNS)
         if count
-    ]
-    return "krl make: %s: version %d: %s" % (name, version, ", ".join(amounts) or "nothing")
+    )
+
+
+def said(name, version, named, lost=None):
+    """The line about a list that was made, where only the list before it names what is lost."""
+    line = "krl make: %s: version %d: %s" % (name, version, amounts(named.counts()) or "nothing")
+    counts = lost.counts()[1:] if lost else [0]
+    if any(counts):
+        verb = "is" if sum(counts) == 1 else "are"
+        line += "; %s %s no longer revoked" % (amounts([0, *counts]), verb)
+    return line

@@ -1,16 +1,18 @@
 //! Lists that are made of texts, and the lines about them.
 
 use byte_streams::Lent;
+use krl_core::Revocations;
 use list_making::Maker;
 use run_faults::{Cause, FileFault};
+use span_sets::Held;
 use ssh_wire::Bytes;
 use std::alloc::Global;
 use std::process::Abort;
 use test_fixtures::{FIVE, GITHUB_LINE, HEADER, KEY_SECTION, joined};
-use text_run::{Inputs, MakeFault, Over, Text, fault_line, made_line, read_texts};
+use text_run::{Facts, Inputs, MakeFault, Over, Text, fault_line, made_line, read_texts};
 
-// A text of these parts, by the name `t`; without parts it cannot be opened.
-fn text(rt: &impl Abort, alloc: Global, parts: Option<&[&[u8]]>) -> Text<'static> {
+/// A text of these parts, by the name `t`; without parts it cannot be opened.
+pub fn text(rt: &impl Abort, alloc: Global, parts: Option<&[&[u8]]>) -> Text<'static> {
     let content = match parts {
         Some(parts) => Ok(Bytes::from_vec(joined(alloc, parts).expect(rt, "there is memory"))),
         None => Err(Cause::File(FileFault::Open)),
@@ -22,8 +24,8 @@ fn text(rt: &impl Abort, alloc: Global, parts: Option<&[&[u8]]>) -> Text<'static
     }
 }
 
-// The list `r.krl` that is made of these texts.
-fn inputs<'a>(texts: &'a [Text<'a>], allow_empty: bool) -> Inputs<'a> {
+/// The list `r.krl` that is made of these texts.
+pub fn inputs<'a>(texts: &'a [Text<'a>], allow_empty: bool) -> Inputs<'a> {
     Inputs {
         name: "r.krl",
         over: Over::Version,
@@ -40,6 +42,21 @@ fn said(rt: &impl Abort, alloc: Global, fault: &MakeFault<'_>) -> Vec<u8> {
     fault_line(alloc, fault).expect(rt, "there is memory")
 }
 
+/// The line about the list `r.krl` with these revocations, over one that had the others too.
+pub fn said_made(
+    rt: &impl Abort,
+    alloc: Global,
+    revocations: Revocations<Held>,
+    lost: Revocations<Held>,
+) -> Vec<u8> {
+    let facts = Facts {
+        version: 1,
+        revocations,
+        lost,
+    };
+    made_line(alloc, "r.krl", &facts).expect(rt, "there is memory")
+}
+
 #[test]
 fn of_two_texts(rt: HostRuntime) {
     let alloc = rt.alloc();
@@ -54,7 +71,7 @@ fn of_two_texts(rt: HostRuntime) {
         .expect(&rt, "there is memory");
     let bytes = joined(alloc, &[&HEADER, FIVE, KEY_SECTION]).expect(&rt, "there is memory");
     assert!(rt; made.bytes == bytes);
-    let line = made_line(alloc, "r.krl", 1, &list.revocations).expect(&rt, "there is memory");
+    let line = said_made(&rt, alloc, list.revocations, Revocations::new(alloc));
     let text: &[u8] = b"krl make: r.krl: version 1: 1 CA, 1 serial number, 1 key\n";
     assert!(rt; line.as_slice() == text);
 }
@@ -383,6 +400,6 @@ fn an_empty_list(rt: HostRuntime) {
         .make(alloc, None::<Lent>)
         .expect(&rt, "there is memory");
     assert!(rt; made.bytes.as_slice() == HEADER.as_slice());
-    let line = made_line(alloc, "r.krl", 1, &list.revocations).expect(&rt, "there is memory");
+    let line = said_made(&rt, alloc, list.revocations, Revocations::new(alloc));
     assert!(rt; line.as_slice() == b"krl make: r.krl: version 1: nothing\n".as_slice());
 }

@@ -1,5 +1,5 @@
 -- The list is made over the old one, or not.
-use Rattle.std.proofs.Common.{◌∙◌, sym}
+use Rattle.std.proofs.Common.{◌∙◌, inl, sym}
 use Rattle.text_run.specs.Over.{unmerged, unread, unwritten, without_version}
 use Rattle.text_run.proofs.listed.ListedMaker.make.Goals as goal
 
@@ -21,9 +21,14 @@ returns-in-Ok-write-clause-made g c =
       over = c.in-Ok.ensures.read;
       has_version = sym c.version_over.ensures.value ∙ c.in-Ok-version_over.is;
       is_merged = c.in-Ok-merge.ensures.merged;
+      loses = rw c.held_of-held.ensures at c.in-Ok-difference.ensures.holds;
       written = written.0;
       within = written.1;
     }
+
+pub returns-in-Err-difference-clause-refused : goal.returns-in-Err-difference-clause-refused
+returns-in-Err-difference-clause-refused g c =
+    unwritten c.in-Ok.base c.in-Ok-version_over.version c.in-Ok-merge.merged c.in-Ok.ensures.read (sym c.version_over.ensures.value ∙ c.in-Ok-version_over.is) c.in-Ok-merge.ensures.merged (inl c.fault-in-Err-difference.ensures)
 
 pub returns-clause-refused : goal.returns-clause-refused
 returns-clause-refused g c =
