@@ -21,7 +21,7 @@ _krl() {
   elif [ "${COMP_WORDS[1]}" = diff ]; then
     offered=$(compgen -W '--json --help --version' -- "$word")
   elif [ "${COMP_WORDS[1]}" = make ]; then
-    offered=$(compgen -W '-f -q -u -z --comment --replace --allow-empty --help
+    offered=$(compgen -W '-f -n -q -u -z --comment --replace --allow-empty --help
       --version' -- "$word")
   else
     offered=$(compgen -W '-a -f -q -x --all --canary --exclude --json --files0-from --help

@@ -72,7 +72,7 @@ offers_krl 'a list to check' two.krl check --keep one.pub t
 offers_krl 'the options of a shown list' --help,--json,--no-name,--version show -
 offers_krl 'a list to show' two.krl show t
 offers_krl 'the options of a list that is made' \
-  --allow-empty,--comment,--help,--replace,--version,-f,-q,-u,-z make -
+  --allow-empty,--comment,--help,--replace,--version,-f,-n,-q,-u,-z make -
 offers_krl 'texts to make a list of' "$every" make -f two.krl ''
 cd ..
 

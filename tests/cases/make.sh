@@ -430,6 +430,42 @@ says_lost 'an empty list over one' text none '2: nothing; 1 serial number is no 
 run make -q --replace -f made.krl more
 expect 'nothing is said of it with -q' 0 '' '' make -q -f made.krl text
 
+# With -n nothing is made, and the lines of krl diff say what would change.
+run make -q --replace -f made.krl more
+cp made.krl before.krl
+expect 'what a list would change' 0 "  ca: all
+- serial: 4
+- serial: 6
+- id: a
+- key: $g # $f
+- hash: SHA256:AAAAAAAAAAAAAAAAAAAAAAAAAAAAAAAAAAAAAAAAAAA
+" $'krl make: made.krl: version 2: 1 CA, 1 serial number; 2 serial numbers, 1 key ID, 1 key, 1 hashed '\
+$'key are no longer revoked\n' make -n -f made.krl text
+expect 'the same without the line about the list' 0 "$got_output" '' make -nq -f made.krl text
+expect 'a list that changes nothing' 0 '' \
+  $'krl make: made.krl: version 2: 1 CA, 3 serial numbers, 1 key ID, 1 key, 1 hashed key\n' \
+  make -n -f made.krl more
+expect 'an update that would add' 0 $'  ca: all\n+ id: b\n' '' make -nqu -f made.krl other-id
+expect 'with -n and --replace all is new' 0 $'  ca: all\n+ serial: 5\n' '' \
+  make -nq --replace -f made.krl text
+judge 'the list after -n' "$(asks 0 cmp before.krl made.krl)"
+rm -f missing.krl
+expect 'a list that would be the first' 0 $'  ca: all\n+ serial: 5\n' \
+  $'krl make: missing.krl: version 1: 1 CA, 1 serial number\n' make -n -f missing.krl text
+judge 'no list is made with -n' "$([ ! -e missing.krl ] || ls -l missing.krl)"
+: >nothing.krl
+expect 'an empty file and a version' 0 $'  ca: all\n+ serial: 5\n' '' make -nq -z 4 -f nothing.krl text
+run make -f nothing.krl text
+expect 'an empty file without one' 255 '' "$got_error" make -nq -f nothing.krl text
+printf 'ca: all\nid-hex: 0\n' >wrong
+expect '-n with a wrong text' 255 '' $'krl: wrong: line 2: no pairs of hexadecimal digits [text 5 Hex]\n' \
+  make -n -f made.krl wrong
+expect '-n with a version that does not rise' 255 '' \
+  $'krl: made.krl: the list there has this version or a later one [make 3 OldVersion]\n' \
+  make -n -z 1 -f made.krl text
+expect '-n and -u without a list' 255 '' \
+  $'krl: missing.krl: No such file or directory [file 1 Open]\n' make -nu -f missing.krl text
+
 # -u keeps what the list names, and its comment.
 SOURCE_DATE_EPOCH=86400 run make -q --replace -f made.krl -z 6 --comment 'of May' text
 printf 'ca: all\nserial: 7\n' >leavers

@@ -32,6 +32,15 @@ pub record IsAsked (task : Make) (date : ℕ) (texts : List Text) (inputs : Inpu
   pub allow_empty : inputs.allow_empty ≡ task.allow_empty
   pub texts_are : inputs.texts.now ≡ texts
 
+-- A list was made of the texts, over an old one or none.
+pub record IsListOver (inputs : Inputs) : Type 0 where
+  pub old : Old
+  pub bytes : List ℕ
+  pub version : ℕ
+  pub contents : Revocations
+  pub lost : Revocations
+  pub makes : MakesOver inputs old bytes version contents lost
+
 -- The list of the task was made: of texts with the names that it gives, over what was under its
 -- name.
 pub record IsMade (task : Make) : Type 0 where
@@ -40,9 +49,4 @@ pub record IsMade (task : Make) : Type 0 where
   pub named : map name_of texts ≡ map now_of task.files.items
   pub inputs : Inputs
   pub asked : IsAsked task date texts inputs
-  pub old : Old
-  pub bytes : List ℕ
-  pub version : ℕ
-  pub contents : Revocations
-  pub lost : Revocations
-  pub makes : MakesOver inputs old bytes version contents lost
+  pub list : IsListOver inputs

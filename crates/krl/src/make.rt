@@ -1,20 +1,29 @@
 //! `krl make`: a list that is made of texts and put under its name.
 
 ghost use Rattle.std.specs.Prelude.{◌≡◌, ◌⊎◌, IfOk, map};
-ghost use Rattle.krl.specs.Make.{IsAsked, IsMade, name_of, now_of, over_of};
+ghost use Rattle.krl.specs.Make.{IsAsked, IsListOver, IsMade, name_of, now_of, over_of};
 ghost use Rattle.text_run.specs.Fault.{whole_fault};
 ghost use Rattle.text_run.specs.declared.make_fault.MakeCause.TheVariants.{Run};
 
+use crate::Krl;
 use crate::ending::fail_to_make;
-use crate::loading::text_of;
+use crate::loading::{open, text_of};
+use any_list::Lists;
+use audit_lines::Refusal;
+use byte_streams::{Lent, ToWrite};
 use krl_arguments::Make;
-use krl_system::date;
+use krl_system::{date, read_list};
 use list_file::ListTarget;
-use program_edge::print_line;
-use run_faults::Cause;
-use text_run::{Facts, Inputs, MakeCause, MakeFault, Over, Text, made_line, text_run};
+use list_making::Made;
+use program_edge::{end, print_line};
+use run_faults::{Cause, FileFault};
+use run_output::FAILED;
+use show_run::{Comparison, diff_run};
+use ssh_wire::Bytes;
+use std::alloc::Global;
+use text_run::{Facts, Inputs, MakeCause, MakeFault, Over, Text, list_over, made_line, text_run};
 
-/// Makes the list of the task. Returns the exit status.
+/// Makes the list of the task, or prints what making it would change. Returns the exit status.
 pub fn make<'a>(rt: &'a HostRuntime, task: &Make<'a>) -> u8
     ensures { (result ≡ 255) ⊎ ((result ≡ 0) × IsMade task.now) }
 {
@@ -27,6 +36,9 @@ pub fn make<'a>(rt: &'a HostRuntime, task: &Make<'a>) -> u8
         Err(cause) => return fail_to_make(rt, &fault_of(task.list, cause)),
     };
     let inputs = inputs_of(&*task, date, texts.as_slice());
+    if task.dry_run {
+        return foresee(rt, task, &inputs);
+    }
     let mut place = ListTarget::new(rt, crate::NAME, task.list);
     let made = text_run(rt.alloc(), &inputs, &mut place);
     place.release();
@@ -36,6 +48,110 @@ pub fn make<'a>(rt: &'a HostRuntime, task: &Make<'a>) -> u8
             0
         }
         Err(fault) => fail_to_make(rt, &fault),
+    }
+}
+
+// Prints what making a list would change, and makes nothing.
+fn foresee<'i>(rt: &HostRuntime, task: &Make, inputs: &'i Inputs<'i>) -> u8
+    ensures { (result ≡ 255) ⊎ ((result ≡ 0) × IsListOver inputs.now) }
+{
+    let old = match old_of(rt, task) {
+        Ok(old) => old,
+        Err(cause) => return fail_to_make(rt, &fault_of(task.list, cause)),
+    };
+    let reader = match &old {
+        Some(bytes) => Some(Lent::new(bytes.as_slice())),
+        None => None,
+    };
+    let Made { bytes, facts } = match list_over(rt.alloc(), inputs, reader) {
+        Ok(made) => made,
+        Err(fault) => return fail_to_make(rt, &fault),
+    };
+    let Some(nothing) = empty_list(rt.alloc()) else {
+        return fail_to_make(rt, &fault_of(task.list, Cause::NoMemory));
+    };
+    say_made(rt, task, &facts);
+    say_changes(
+        rt,
+        task.list,
+        old.unwrap_or(nothing),
+        Bytes::from_vec(bytes),
+    )
+}
+
+// The bytes of the list that is there, if it is to be read and there is one. An empty file is none
+// where the version is given.
+fn old_of(rt: &HostRuntime, task: &Make) -> Result<Option<Bytes>, Cause> {
+    if task.replace {
+        return Ok(None);
+    }
+    match open(rt, task.list) {
+        Ok(file) => {
+            let bytes = read_list(rt.alloc(), file)?;
+            let is_none = bytes.as_slice().is_empty() && task.version.is_some();
+            Ok(if is_none { None } else { Some(bytes) })
+        }
+        Err(Refusal::Missing) => Ok(None),
+        Err(_) => Err(Cause::File(FileFault::Open)),
+    }
+}
+
+// Prints what the new list names and the old one does not, and the other way round.
+fn say_changes(rt: &HostRuntime, list: &str, old: Bytes, new: Bytes) -> u8
+    ensures { (result ≡ 255) ⊎ (result ≡ 0) }
+{
+    let mut sides = Sides {
+        old: Some(old),
+        new: Some(new),
+    };
+    let comparison = Comparison {
+        old: list,
+        new: list,
+        json: false,
+    };
+    let mut out = ToWrite::new(rt.stdout());
+    let done = diff_run(rt.alloc(), &mut sides, comparison, &mut out);
+    match end(rt, &Krl, &done) {
+        FAILED => FAILED,
+        _ => 0,
+    }
+}
+
+// The bytes of a list that revokes nobody. None if an allocation fails.
+fn empty_list(alloc: Global) -> Option<Bytes> {
+    let inputs = Inputs {
+        name: "",
+        over: Over::Nothing,
+        version: None,
+        date: 0,
+        comment: None,
+        allow_empty: true,
+        texts: &[],
+    };
+    match list_over(alloc, &inputs, None::<Lent>) {
+        Ok(Made { bytes, .. }) => Some(Bytes::from_vec(bytes)),
+        Err(_) => None,
+    }
+}
+
+// The bytes of two lists: the old one is read first.
+#[derive(Drop)]
+struct Sides {
+    old: Option<Bytes>,
+    new: Option<Bytes>,
+}
+
+impl Lists for Sides {
+    ghost use Rattle.std.specs.Prelude.{None};
+
+    ghost told = { λ _. None };
+
+    fn read(&mut self, _alloc: Global, _name: &str) -> Result<Bytes, Cause> {
+        let side = match self.old.take() {
+            Some(old) => Some(old),
+            None => self.new.take(),
+        };
+        side.ok_or(Cause::File(FileFault::Open))
     }
 }
 

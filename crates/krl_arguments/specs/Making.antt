@@ -9,13 +9,14 @@ use Rattle.krl_arguments.specs.declared.misuse.Misuse.{Misuse}
 use Rattle.krl_arguments.specs.declared.misuse.Misuse.TheVariants as misuses
 use Rattle.krl_arguments.specs.declared.task.Make.{Make as MakeOf}
 
--- a list that is made: its name, its version and comment if they are given, whether -q, -u,
+-- a list that is made: its name, its version and comment if they are given, whether -q, -n, -u,
 -- --replace and --allow-empty are given, and the texts
 pub record Make : Type 0 where
   pub list : List ℕ
   pub version : Option ℕ
   pub comment : Option (List ℕ)
   pub quiet : Bool
+  pub dry_run : Bool
   pub update : Bool
   pub replace : Bool
   pub allow_empty : Bool
@@ -27,6 +28,7 @@ make_with rows list = record {
   version = number_at (codes "version") rows;
   comment = first_of (codes "comment") rows;
   quiet = is_set (codes "quiet") rows;
+  dry_run = is_set (codes "dry-run") rows;
   update = is_set (codes "update") rows;
   replace = is_set (codes "replace") rows;
   allow_empty = is_set (codes "allow-empty") rows;
@@ -59,6 +61,7 @@ make_by make = record {
   version = make.version;
   comment = option_map (λ text. text.now) make.comment;
   quiet = make.quiet;
+  dry_run = make.dry_run;
   update = make.update;
   replace = make.replace;
   allow_empty = make.allow_empty;

@@ -27,7 +27,7 @@ audit_usage =
 
 abbrev pub make_usage : List ℕ
 make_usage =
-    codes "make -f <krl> [-z <number>] [--comment <text>] [-qu] [--replace] [--allow-empty]"
+    codes "make -f <krl> [-z <number>] [--comment <text>] [-nqu] [--replace] [--allow-empty]"
     ++ codes " [file]..."
 
 abbrev pub text_of_misuse : Misuse → List ℕ

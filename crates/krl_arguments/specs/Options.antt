@@ -41,13 +41,14 @@ abbrev pub show_rules : List Rule
 show_rules =
     long_rule (codes "json") ∷ long_rule (codes "no-name") ∷ some_words_rule (codes "lists") ∷ []
 
--- krl make: -f, -z, --comment, -q, -u, --replace, --allow-empty, and the texts
+-- krl make: -f, -z, --comment, -q, -n, -u, --replace, --allow-empty, and the texts
 abbrev pub make_rules : List Rule
 make_rules =
     needed_rule (codes "list") 102
     ∷ letter_value_rule (codes "version") 122
     ∷ long_value_rule (codes "comment")
     ∷ letter_rule (codes "quiet") 113
+    ∷ letter_rule (codes "dry-run") 110
     ∷ letter_rule (codes "update") 117
     ∷ long_rule (codes "replace")
     ∷ long_rule (codes "allow-empty")

@@ -43,6 +43,7 @@ fn make_with<'a>(
         version: number_at(found, "version"),
         comment: value_of(found, "comment"),
         quiet: is_set(found, "quiet"),
+        dry_run: is_set(found, "dry-run"),
         update: is_set(found, "update"),
         replace: is_set(found, "replace"),
         allow_empty: is_set(found, "allow-empty"),

@@ -97,7 +97,7 @@ For more information, try '--help'.
 
 const WRONG_VERSION: &str = "error: -z takes a number below 2^64
 
-Usage: krl make -f <krl> [-z <number>] [--comment <text>] [-qu] [--replace] [--allow-empty] \
+Usage: krl make -f <krl> [-z <number>] [--comment <text>] [-nqu] [--replace] [--allow-empty] \
 [file]...
 
 For more information, try '--help'.
@@ -105,7 +105,7 @@ For more information, try '--help'.
 
 const INPUT_REPLACED: &str = "error: -f takes a file, and - is standard input
 
-Usage: krl make -f <krl> [-z <number>] [--comment <text>] [-qu] [--replace] [--allow-empty] \
+Usage: krl make -f <krl> [-z <number>] [--comment <text>] [-nqu] [--replace] [--allow-empty] \
 [file]...
 
 For more information, try '--help'.
@@ -113,7 +113,7 @@ For more information, try '--help'.
 
 const UPDATE_REPLACES: &str = "error: -u does not go with --replace
 
-Usage: krl make -f <krl> [-z <number>] [--comment <text>] [-qu] [--replace] [--allow-empty] \
+Usage: krl make -f <krl> [-z <number>] [--comment <text>] [-nqu] [--replace] [--allow-empty] \
 [file]...
 
 For more information, try '--help'.

@@ -144,7 +144,7 @@ const SHOW: [Argument; 3] = [
     },
 ];
 
-const MAKE: [Argument; 8] = [
+const MAKE: [Argument; 9] = [
     Argument {
         id: "list",
         syntax: Syntax::Needed('f', "krl"),
@@ -164,6 +164,11 @@ const MAKE: [Argument; 8] = [
         id: "quiet",
         syntax: Syntax::Letter('q'),
         help: "Do not say what was made",
+    },
+    Argument {
+        id: "dry-run",
+        syntax: Syntax::Letter('n'),
+        help: "Make nothing, and print what would change",
     },
     Argument {
         id: "update",

@@ -87,6 +87,8 @@ pub struct Make<'a> {
     pub comment: Option<&'a str>,
     /// True if nothing is said about the list that was made, by `-q`.
     pub quiet: bool,
+    /// True if nothing is made, and what would change is printed, by `-n`.
+    pub dry_run: bool,
     /// True if it names what the list names that it replaces, too, by `-u`.
     pub update: bool,
     /// True if the list that it replaces is not read, by `--replace`.

@@ -19,6 +19,6 @@ pub use inputs::{Inputs, Over};
 pub use listed::{Facts, Listed, Merged, read_texts};
 pub use make_fault::{MakeCause, MakeFault};
 pub use refusal::fault_line;
-pub use run::text_run;
+pub use run::{list_over, text_run};
 pub use saying::made_line;
 pub use text::Text;

@@ -1,15 +1,55 @@
 //! Making a list of texts under a name, as one run.
 
-ghost use Rattle.std.specs.Prelude.{◌≡◌, IfErr, IfOk};
+ghost use Rattle.std.specs.Prelude.{◌≡◌, IfErr, IfOk, false, option_map, unwrap_or};
+ghost use Rattle.std.specs.Option.{ForSome};
 ghost use Rattle.list_making.specs.Making.{IsPut, IsUntouched};
 ghost use Rattle.text_run.specs.Base.{is_read};
 ghost use Rattle.text_run.specs.Over.{MakesOver, WhyUnmade, fault_of};
 
 use crate::inputs::Inputs;
-use crate::listed::{Facts, read_texts};
+use crate::listed::{Facts, Merged, read_texts};
 use crate::make_fault::MakeFault;
-use list_making::{Made, Target, make_at};
+use byte_streams::Source;
+use krl_core::Revocations;
+use list_making::{Made, Maker, Target, make_at};
+use span_sets::Held;
 use std::alloc::Global;
+
+/// The list that the texts make over what a reader gives, or without an old list.
+pub fn list_over<'a, R: Source + Drop>(
+    alloc: Global,
+    inputs: &'a Inputs<'a>,
+    old: Option<R>,
+) -> Result<Made<Facts>, MakeFault<'a>>
+    requires { ForSome old (λ reader. R.has_failed reader ≡ false) }
+    ensures { IfOk result (λ made. MakesOver inputs.now (option_map R.left old) made.bytes.items
+        made.facts.version made.facts.revocations made.facts.lost) }
+{
+    let list = match read_texts(alloc, inputs) {
+        Ok(list) => list,
+        Err(fault) => return Err(fault),
+    };
+    match list.make(alloc, old) {
+        Ok(made) => Ok(with_texts(made, list.revocations)),
+        Err(fault) => Err(fault),
+    }
+}
+
+// The list with what it has of the old list, or of the texts alone.
+fn with_texts(made: Made<Merged>, listed: Revocations<Held>) -> Made<Facts>
+    ensures bytes { result.bytes ≡ made.bytes }
+    ensures version { result.facts.version ≡ made.facts.version }
+    ensures revocations { result.facts.revocations ≡ unwrap_or made.facts.revocations listed }
+    ensures lost { result.facts.lost ≡ made.facts.lost }
+{
+    let Made { bytes, facts } = made;
+    let facts = Facts {
+        version: facts.version,
+        revocations: facts.revocations.unwrap_or(listed),
+        lost: facts.lost,
+    };
+    Made { bytes, facts }
+}
 
 /// Makes a list that names exactly what the lines of the texts name, and what the list under its
 /// name names if that is wanted, and puts it there. The texts are read first, and once, however
@@ -35,14 +75,7 @@ pub fn text_run<'a, P: Target>(
         Err(fault) => return Err(fault),
     };
     match make_at(alloc, &list, place) {
-        Ok(Made { bytes, facts }) => {
-            let facts = Facts {
-                version: facts.version,
-                revocations: facts.revocations.unwrap_or(list.revocations),
-                lost: facts.lost,
-            };
-            Ok(Made { bytes, facts })
-        }
+        Ok(made) => Ok(with_texts(made, list.revocations)),
         Err(fault) => Err(fault),
     }
 }

@@ -191,6 +191,9 @@ fn makes(rt: HostRuntime) -> Result<(), Fail> {
     let make = make_by(rt.alloc(), &["krl", "make", "-f", "k"])?;
     assert!(rt; make.version.is_none() && make.comment.is_none() && make.files.is_empty());
     assert!(rt; !make.quiet && !make.allow_empty && !make.update && !make.replace);
+    assert!(rt; !make.dry_run);
+    let make = make_by(rt.alloc(), &["krl", "make", "-nf", "k"])?;
+    assert!(rt; make.dry_run && !make.quiet && !make.update && !make.replace);
     let make = make_by(rt.alloc(), &["krl", "make", "-uf", "k"])?;
     assert!(rt; make.update && !make.replace && !make.quiet);
     let make = make_by(rt.alloc(), &["krl", "make", "--replace", "-f", "./-", "-"])?;

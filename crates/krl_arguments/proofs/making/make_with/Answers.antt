@@ -4,4 +4,4 @@ use Rattle.krl_arguments.proofs.making.make_with.Goals as goal
 
 pub returns : goal.returns
 returns c =
-    rw (c.number_at.ensures, c.value_of.ensures, c.is_set.ensures, c.is_set-2.ensures, c.is_set-3.ensures, c.is_set-4.ensures, c.in_ok-files.ensures) refl
+    rw (c.number_at.ensures, c.value_of.ensures, c.is_set.ensures, c.is_set-2.ensures, c.is_set-3.ensures, c.is_set-4.ensures, c.is_set-5.ensures, c.in_ok-files.ensures) refl

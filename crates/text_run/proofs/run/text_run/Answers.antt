@@ -12,8 +12,9 @@ returns-in-Ok-make_at-clause-made g c =
     record {
       old = put.old;
       over = put.over;
-      makes = rw c.unwrap_or.ensures (makes_over c.args.inputs.now c.in-Ok.list.revocations put.old _ _ c.in-Ok.ensures.read put.makes);
-      held = put.held;
+      makes = rw (c.with_texts.ensures.bytes, c.with_texts.ensures.version, c.with_texts.ensures.revocations, c.with_texts.ensures.lost)
+          (makes_over c.args.inputs.now c.in-Ok.list.revocations put.old _ _ c.in-Ok.ensures.read put.makes);
+      held = rw c.with_texts.ensures.bytes put.held;
     }
 
 pub returns-clause-unmade : goal.returns-clause-unmade
