@@ -25,9 +25,10 @@ cat "$room/ca-a.pub" "$room/ca-b.pub" >"$room/authorities"
 echo "$ecdsa_sk" >"$room/ecdsa-sk.pub"
 echo "$ed25519_sk" >"$room/ed25519-sk.pub"
 cat "$room"/{one,two,rsa,ecdsa-sk,ed25519-sk}.pub >"$room/allowed"
+# This may take longer than the sshd lasts.
+"$top/library/build" || judge 'libkrl is built' '  it is not'
 configure "TrustedUserCAKeys $room/authorities" "RevokedKeys $room/revoked"
 serve
-"$top/library/build" || judge 'libkrl is built' '  it is not'
 
 # accepts NAME: whether sshd would accept a signature of this key.
 accepts() {
