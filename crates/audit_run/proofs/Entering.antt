@@ -1,4 +1,4 @@
--- What a name of a directory leads to.
+-- A name of a directory, and where it leads.
 use Rattle.std.proofs.Common.{◌≡◌, ℕ, Bool, false, List, Option, None, Result, Err, refl, inl, inr}
 use Rattle.std.specs.Str.{IsUtf8}
 use Rattle.audit_run.specs.Selection.{selection_of}

@@ -6,6 +6,7 @@ ghost use Rattle.show_run.specs.ChangeLines.{change_items, last_items, side_coun
 ghost use Rattle.show_run.specs.ChangeLines.{side_items};
 
 use crate::changes::Changes;
+use crate::printing::MEMORY;
 use crate::walk::show_held;
 use byte_streams::Sink;
 use krl_core::Revocations;
@@ -13,9 +14,6 @@ use list_text::{Counts, Form, Side, write_changes};
 use run_faults::RunFault;
 use run_output::Run;
 use span_sets::Held;
-
-// The name in the fault of a line for which there is no memory.
-const MEMORY: &str = "memory";
 
 /// Prints what was added, then what was removed, and as JSON a last line.
 pub(crate) fn print_each<'a, W: Sink>(

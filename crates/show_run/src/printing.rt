@@ -11,8 +11,8 @@ use list_text::{Counts, Fact, Form};
 use run_faults::RunFault;
 use run_output::Run;
 
-// The name in the fault of a line for which there is no memory.
-const MEMORY: &str = "memory";
+/// The name in the fault of a line for which there is no memory.
+pub(crate) const MEMORY: &str = "memory";
 
 /// Shows a fact, and counts it. Each call has the code of its own kind of fact alone.
 #[inline(always)]
