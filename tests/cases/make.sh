@@ -1,6 +1,6 @@
-# krl make: each word of a text, each refusal by file and line, which CA counts, also after a merge by
-# git, the version, and lists that are shown, made and shown again, beside what OpenSSH's ssh-keygen
-# says of them.
+# krl make: each word of a text, each refusal by file and line, which CA counts, names of CAs, both
+# also after a merge by git, the version, and lists that are shown, made and shown again, beside what
+# OpenSSH's ssh-keygen says of them.
 
 keygen=$program
 program=$krl
@@ -137,7 +137,7 @@ names_nobody() {
   refuses "the key ID $1, without a CA" 1 "$2" "$3" "id: $1\n"
 }
 for id in '"bob"' "'bob'" '""' "''" '"bob" # c' '" bob "' '"a" b "c"' '"a", "b"' "'it''s'"; do
-  names_nobody "$id" 'a key ID stands without quotes: use id-hex: for one that has them' \
+  names_nobody "$id" 'a key ID has no quotes around it: use id-hex: for one that has them' \
     'text 12 QuotedId'
 done
 for id in 'a, b' ', b' 'alice,  bob' 'Doe, John # c' '"a", b' "\"a\", 'b'"; do
@@ -170,7 +170,8 @@ meant 'a word without its colon' serial serial 'serial 5'
 meant 'a blank before the colon' ID id 'ID : bob'
 unknown() {
   refuses "$1" 2 "a line begins with ca:, ca-blob:, serial:, id:, id-hex:, key:, key-blob:, sha1:, \
-sha256: or hash:, or with the type of a key, and nothing may be before it, such as options" \
+sha256: or hash:, with @NAME, or with the type of a key, and nothing may be before it, such as \
+options" \
     'text 7 UnknownWord' "ca: all\n$2\n"
 }
 meant 'a word with two letters exchanged' serail serial 'serail: 5'
@@ -200,8 +201,6 @@ unknown 'an option before a key' "no-pty $a"
 unknown 'the option of a CA before its key' "cert-authority $a"
 unknown 'options with a colon before a key' "restrict,command=\"a: b\" $a"
 unknown 'an option that sets a variable' "environment=\"A=b:c\" $a"
-unknown 'the marker of a CA before its key' "@cert-authority * $a"
-unknown 'the marker of a revoked key' "@revoked * $a"
 unknown 'the name of a host before its key' "host.example $a"
 between() {
   refuses "$1" 2 'no key type stands there' 'text 1 Spec, spec 6 Key, line 1 NoKey' "ca: all\n$2\n"
@@ -232,7 +231,7 @@ for print in "$f" SHA1:aaaa; do
 done
 refuses 'a fingerprint and a comment' 1 'no key type stands there' \
   'text 1 Spec, spec 6 Key, line 1 NoKey' "$f of alice\n"
-for text in 'ca: all' '# c' ''; do
+for text in 'ca: all' "@users: $a" '# c' ''; do
   refuses "a byte order mark before '$text'" 1 'the file begins with a byte order mark' \
     'text 7 UnknownWord' "\\357\\273\\277$text\n"
 done
@@ -302,7 +301,7 @@ done
 expect 'the first of two' 255 '' "krl: nothing: $no_entry"$'\n' make -f made.krl nothing text blank
 expect 'a wrong line behind a text without an entry' 255 '' "krl: wrong: line 1: $no_ca"$'\n' \
   make -f made.krl nothing wrong
-for given in '' '# c' 'ca: all' $'\n \n'; do
+for given in '' '# c' 'ca: all' "@users: $a" $'\n \n'; do
   run make -f made.krl text - <<<"$given"
   judge "${given@Q} as standard input" "$(
     differs 'exit status' 255 "$got_status"
@@ -568,6 +567,248 @@ for texts in 'first keyed third' 'third keyed first'; do
   )"
 done
 
+# The names of CAs, which entries may have before them.
+names 'entries behind the names of their CAs' \
+  "@users: $a\n@hosts:$b of b\n@users serial: 1-3\n@hosts id: h\n@users id-hex: 22\n@all serial: 0x10\n" \
+  'ca: all' 'serial: 16' "ca: $a" 'serial: 1-3' 'id: "' "ca: $b" 'id: h'
+names 'blanks, carriage returns, comments and upper case around names' \
+  " \t@users: \t $a of a # @users: $b\r\n\r @users \t SeRiAl:1 # 2\r\n\t@all\tID: \t a b\t\r\n" \
+  'ca: all' 'id: a b' "ca: $a" 'serial: 1'
+makes 'an entry of all CAs' '@all serial: 5\n' '1 CA, 1 serial number' $five
+for name in a 0 - _ . .. -_.09azAZ ALL alle serial ca "$(repeat 64 x)"; do
+  names "the name $name" "@$name: $a\n@$name serial: 1\n" "ca: $a" 'serial: 1'
+done
+names 'names in another case' "@users: $a\n@Users: $b\n@users serial: 1\n@Users serial: 2\n" \
+  "ca: $a" 'serial: 1' "ca: $b" 'serial: 2'
+names 'two names of one CA' "@users: $a\n@u: $a\n@users serial: 1\n@u serial: 3\n" \
+  "ca: $a" 'serial: 1' 'serial: 3'
+names 'a CA that is named again, with another comment behind its key' \
+  "@users: $a\n@users serial: 1\n@users:\t$a of users # c\n@users serial: 3\n" \
+  "ca: $a" 'serial: 1' 'serial: 3'
+names 'names between a ca: line and its entries' \
+  "@users: $a\nca: $b\n@users serial: 1\nserial: 2\n@all id: c\n@users: $a\nid: d\n" \
+  'ca: all' 'id: c' "ca: $a" 'serial: 1' "ca: $b" 'serial: 2' 'id: d'
+for end in "$g" "key: $g" "sha256: $g" "$certificate"; do
+  printf "@hosts: $b\nca: all\n$end\n@hosts serial: 1\n@all id: c\n" >text
+  rm -f made.krl
+  run make -q -f made.krl text
+  judge "names behind ${end:0:30}, where no CA counts" "$(
+    differs 'standard error' '' "$got_error"
+    differs 'lines of all CAs' $'ca: all\nid: c' "$(contents made.krl | head -n 2)"
+    differs 'lines of the CA' "ca: $b"$'\nserial: 1' "$(contents made.krl | grep -A1 -xF "ca: $b")"
+  )"
+  lacks_ca "a serial number behind ${end:0:30} and a name" 5 \
+    "@hosts: $b\nca: all\n$end\n@hosts serial: 1\nserial: 2\n"
+done
+lacks_ca 'a serial number behind the name of a CA' 2 "@users: $a\nserial: 5\n"
+lacks_ca 'a key ID behind an entry of all CAs' 2 '@all serial: 5\nid: a\n'
+# A list does not show whether its text has names.
+printf "ca: all\nserial: 3\nca: $a\nserial: 1-2\nid: a\n$g\nca: $b\nid: c\n" >under
+printf "@users: $a\n@hosts: $b\n@hosts id: c\n@users id: a\nkey: $g\n@users serial: 2\n" >named
+printf '@all serial: 3\n@users serial: 1\n' >>named
+run make -q --replace -f under.krl under
+run make -q --replace -f made.krl named
+judge 'a list of lines with names, and one of ca: lines' "$(
+  differs 'standard error' '' "$got_error"
+  asks 0 cmp under.krl made.krl
+)"
+
+# Lines that give names.
+bad_name='a name behind @ has 1 to 64 letters, digits, -, _ and ., and is not all'
+for name in '' all "$(repeat 65 x)" a@b @a a/b a+b 'a;' 'a,b' '"a"' "a'" 'a\\b' 'a\rb' 'a\033' \
+  'a\000' 'zo\303\253' '\377' '*'; do
+  refuses "the name '${name:0:20}'" 2 "$bad_name" 'text 14 BadName' "# c\n@$name: $a\n"
+done
+refuses 'a bad name before no key' 1 "$bad_name" 'text 14 BadName' '@a/b: everyone\n'
+other_key() {
+  refuses "$1" "$2" "the name \"users\" has another key: text, line $3" 'text 15 OtherKey' "$4"
+}
+other_key 'a name with another key' 3 1 "@users: $a\n# c\n@users: $b\n"
+other_key 'a name with another key behind the same one again' 5 2 \
+  "\n@users: $a\n@users: $a c\n@users serial: 5\n@users: $b\n"
+no_key='text 1 Spec, spec 6 Key, line 1 NoKey'
+for given in '' all ALL everyone "$f" @users 'two words.pub' "no-pty $a" "cert-authority $a" \
+  "restrict,command=\"a: b\" $a" "* $a" "@cert-authority * $a" "ca: $a" ": $a" 'serial: 5'; do
+  refuses "'${given:0:30}' behind the name of a CA" 2 'no key type stands there' "$no_key" \
+    "@users: $a\n@users: $given\n"
+done
+for given in ca.pub /etc/ssh/ca.pub '~/ca' ./ca ../ca; do
+  refuses "the file $given behind the name of a CA" 1 'the key itself stands here, not its file' \
+    "$no_key" "@users: $given # c\n"
+done
+refuses 'the certificate of a CA behind its name' 1 \
+  'a CA is given by its key, and not by a certificate' 'text 2 Certificate' "@users: $certificate\n"
+refuses 'a word behind @ and a number' 1 'no key type stands there' "$no_key" '@serial: 5\n'
+refuses 'a name behind ca:' 2 'no key type stands there' "$no_key" "@users: $a\nca: @users\n"
+
+# Names that no line before gives.
+no_name() {
+  refuses "$1" "$2" "no CA is named \"$3\" above$4" 'text 16 UnknownName' "$5"
+}
+no_name 'a name that no line gives' 3 nobody '' "@users: $a\nca: all\n@nobody serial: 5\n"
+no_name 'the name of all CAs in upper case' 1 ALL '' '@ALL serial: 5\n'
+no_name 'nearly the name of all CAs' 1 al '' '@al id: a\n'
+no_name 'a name of 64 bytes' 1 "$(repeat 64 x)" '' "@$(repeat 64 x) id: a\n@$(repeat 65 x): $a\n"
+# Names that no CA can have are neither shown nor meant.
+no_such() {
+  refuses "$1" 1 'no CA has this name above' 'text 16 UnknownName' "$2"
+}
+no_such 'no name' '@ serial: 5\n'
+no_such 'no name, which a line tries to give' "@ serial: 5\n@: $a\n"
+no_such 'a name that is too long' "@$(repeat 65 x) id-hex: 61\n"
+no_such 'a name that is very long' "@$(repeat 20000 x) id: a\n@$(repeat 20001 x): $a\n"
+no_name 'nearly the name of all CAs, which a line tries to give' 1 al '' "@al id: a\n@all: $a\n"
+no_name 'nearly no name' 1 a '' "@a id: a\n@: $a\n"
+no_name 'exactly this name, given later, before another one' 2 ca-25 \
+  ': did you mean "ca-25" (text, line 3)?' "@ca-24: $a\n@ca-25 id: a\n@ca-25: $b\n"
+for name in user userss usars uesrs Users USERS UESRS @users users+; do
+  no_name "the name $name instead of users" 3 $name ': did you mean "users" (text, line 2)?' \
+    "# c\n@users: $a\n@$name serial: 5\n"
+done
+for name in usrse usersss us use nobody; do
+  no_name "the name $name, which is far from users" 2 $name '' "@users: $a\n@$name serial: 5\n"
+done
+no_name 'the first of the names that may be meant' 4 user ': did you mean "use" (text, line 2)?' \
+  "@nobody: $a\n@use: $a\n@users: $b\n@user serial: 5\n@User: $b\n"
+no_name 'a name that is given later' 1 users ': did you mean "users" (text, line 2)?' \
+  "@users serial: 5\n@users: $a\n"
+no_name 'a name with a quote and a backslash' 1 'u\"\\s' '' '@u"\\s serial: 5\n'
+no_name 'a name that a terminal obeys' 2 'users\x1b' ': did you mean "users" (text, line 1)?' \
+  "@users: $a\n@users\\033 serial: 5\n"
+no_name 'a name with a carriage return' 2 'users\x0d' ': did you mean "users" (text, line 1)?' \
+  "@users: $a\n@users\r serial: 5\n"
+no_name 'a name that is not ASCII' 1 $'zo\303\253' '' '@zo\303\253 serial: 5\n'
+no_name 'a name that is not UTF-8' 1 'zo\xeb' '' '@zo\353 serial: 5\n'
+for entry in 'serial: 0' 'serial: 010' 'serial: 12ab' 'id:' 'id: "a"' 'id: eve#1' 'id-hex: 6'; do
+  no_name "an unknown name before $entry" 1 nobody '' "@nobody $entry\n"
+done
+
+# What is behind a name, unless a colon follows at once.
+behind() {
+  refuses "$1" 2 'behind @NAME comes a colon and a key, or serial:, id: or id-hex:' \
+    'text 17 MarkedWord' "@users: $a\n$2\n"
+}
+for it in @users '@users # c' '@users \t\r' '@users#: c' @ '@ # c' @all @nobody; do
+  behind "nothing behind '$it'" "$it"
+done
+behind 'a key behind a name and a blank' "@users $a"
+behind 'a blank before the colon' "@users : $a"
+behind 'a tab before the colon' "@users\t:$a"
+behind 'a blank before a name' "@ users: $a"
+behind 'a blank before a name and an entry' '@ users serial: 5'
+for it in "=$a" "= $a" " = $a" '=serial: 5' ' =serial: 5' '= serial: 5'; do
+  behind "an equals sign behind a name: '${it:0:20}'" "@users$it"
+done
+for it in 'ca: all' "ca: $b" 'ca-blob: eA==' "key: $g" "KEY: $g" 'key-blob: AQ==' "sha1: $g" \
+  "sha256: $g" "hash: $f" "$certificate" '@users serial: 5' 'users: 5' ': 5' '5' '- serial: 5'; do
+  behind "${it:0:30} behind a name" "@users $it"
+done
+behind 'another word behind an unknown name' "@nobody key: $g"
+behind 'another word behind a bad name' '@a/b ca: all'
+behind 'the marker of a CA before its key' "@cert-authority *.example.com $a"
+behind 'the same with a port' "@cert-authority [host.example]:2222 $a"
+behind 'the marker of a revoked key' "@revoked * $a"
+meant_behind() {
+  refuses "$1" 2 "\"$2\" is no word of a text: did you mean \"$3:\"?" 'text 17 MarkedWord' \
+    "@users: $a\n$4\n"
+}
+meant_behind 'a word with a letter less behind a name' seral serial '@users seral: 1'
+meant_behind 'two letters exchanged, in upper case' SERAIL serial '@users\tSERAIL : 1'
+meant_behind 'a word without its colon behind a name' id id '@users id bob'
+meant_behind 'a blank before the colon of a word behind a name' serial serial '@all serial : 5'
+meant_behind 'an equals sign instead of the colon behind a name' serial serial '@users serial=5'
+meant_behind 'another byte in a word behind a name' id_hex id-hex '@users id_hex: 61'
+meant_behind 'a word with a byte that a terminal obeys, behind a name' 'id\x1b' id '@users id\033: a'
+meant_behind 'a misspelt word behind an unknown name' seral serial '@nobody seral: 1'
+# Entries that are wrong behind a name as without one.
+while IFS='|' read -r entry words fault <&3; do
+  for name in users all; do
+    refuses "$entry behind @$name" 2 "$words" "$fault" "@users: $a\n@$name $entry\n"
+  done
+done 3<<'ROWS'
+serial:|a serial number is a number below 2^64|text 1 Spec, spec 1 Number
+serial: 12ab|hexadecimal digits need 0x before them|text 1 Spec, spec 1 Number
+serial: 0|serial number 0 names no certificate|text 1 Spec, spec 2 Zero
+serial: 2-1|a range of serial numbers ends below its first one|text 1 Spec, spec 3 Reversed
+serial: 010|a serial number has a leading zero: OpenSSH would read octal digits|text 11 LeadingZero
+id: # c|a key ID is empty|text 1 Spec, spec 5 EmptyId
+id: eve#1|a # with no blank before it would cut the key ID short: use id-hex:|text 6 CutId
+id: a\tb|a key ID has a control character, such as a tab or a carriage return: use id-hex:|text 8 ControlInId
+id: ssh-rsa of bob|a key stands where a key ID belongs: use key:, or id-hex: for a key ID that begins so|text 10 KeyAsId
+id: "bob"|a key ID has no quotes around it: use id-hex: for one that has them|text 12 QuotedId
+id: a, b|a line has one key ID: use id-hex: for one that has a comma and a blank|text 13 SeveralIds
+id-hex: 656|no pairs of hexadecimal digits|text 5 Hex
+id-hex: 00|OpenSSH takes no key ID with a zero byte: use serial:|text 9 ZeroInId
+ROWS
+
+# Names count on in the texts that follow.
+printf '# c\n@users: %s\n' "$a" >gives
+printf '@users: %s of users\n@users id: a\n' "$a" >gives-again
+printf '@users: %s\n' "$b" >gives-other
+printf 'ca: all\nid: c\n@users serial: 5\n' >uses
+cp gives $'gives\e'
+for texts in 'gives uses' 'gives-again gives uses' 'gives none uses' '- uses' 'gives -'; do
+  given=gives-again
+  [ "$texts" != 'gives -' ] || given=uses
+  # shellcheck disable=SC2086
+  run make -q --replace -f made.krl $texts <$given
+  judge "a name over texts: $texts" "$(
+    differs 'standard error' '' "$got_error"
+    differs 'lines of all CAs' $'ca: all\nid: c' "$(contents made.krl | head -n 2)"
+    differs 'lines of the CA' "ca: $a"$'\nserial: 5' "$(contents made.krl | sed '1,2d; /^id: /d')"
+  )"
+done
+# refuses_texts FAULT TEXT..: the fault of the first text that has one. The list stays.
+refuses_texts() {
+  cp made.krl before.krl
+  expect "the fault of the texts ${*@Q}" 255 '' "krl: $1"$'\n' make -f made.krl "${@:2}"
+  judge "the list after the texts ${*@Q}" "$(asks 0 cmp before.krl made.krl)"
+}
+unknown_name='uses: line 3: no CA is named "users" above'
+refuses_texts "$unknown_name [text 16 UnknownName]" uses
+refuses_texts "$unknown_name [text 16 UnknownName]" uses missing
+for text in gives $'gives\e' -; do
+  refuses_texts "$unknown_name: did you mean \"users\" (${text/$'\e'/\\x1b}, line 2)? [text 16 \
+UnknownName]" uses $text gives-again <gives
+done
+refuses_texts 'gives-other: line 1: the name "users" has another key: gives, line 2 [text 15 OtherKey]' \
+  gives gives-again uses gives-other
+refuses_texts 'gives: line 2: the name "users" has another key: gives-other, line 1 [text 15 OtherKey]' \
+  gives-other gives
+refuses_texts "second: line 3: $no_ca" gives second uses
+# No name is kept in a list.
+refuses_texts "$unknown_name [text 16 UnknownName]" -u uses
+run make -q --replace -f made.krl gives uses
+cp made.krl before.krl
+expect 'what texts with names would change' 0 "  ca: $a # $(fingerprint "$A")
++ id: a
+  ca: all
+- id: c
+  ca: $a # $(fingerprint "$A")
+- serial: 5
+" $'krl make: made.krl: version 2: 1 CA, 1 key ID; 1 serial number, 1 key ID are no longer revoked\n' \
+  make -n -f made.krl gives gives-again
+expect 'an update by texts with names that would add' 0 "  ca: $a # $(fingerprint "$A")
++ id: a
+" '' make -nqu -f made.krl gives-again
+expect 'what a text with an unknown name would change' 255 '' \
+  "krl: $unknown_name [text 16 UnknownName]"$'\n' make -n -f made.krl uses
+judge 'the list after names and -n' "$(asks 0 cmp before.krl made.krl)"
+
+# A text that only gives names has no entry, as one with ca: lines alone.
+rm -f made.krl
+expect 'a text that only gives a name' 255 '' \
+  $'krl: made.krl: no text has an entry, and the list would revoke nobody [make 1 Empty]\n' \
+  make -f made.krl gives
+judge 'no list is made of it' "$([ ! -e made.krl ] || ls -l made.krl)"
+expect 'texts that only give names beside one with an entry' 0 '' \
+  $'krl make: made.krl: version 1: 1 CA, 1 key ID\n' make -f made.krl gives gives-again gives
+expect 'a text that only gives a name, which is allowed' 0 '' \
+  $'krl make: made.krl: version 1: nothing\n' make -f made.krl --allow-empty --replace gives
+expect 'an entry of all CAs through a pipe' 0 '' \
+  $'krl make: made.krl: version 2: 1 CA, 1 serial number\n' \
+  make -f made.krl - < <(echo '@all serial: 5')
+
 # Texts to which two branches append, merged by git line by line: the list of the merged text names
 # what both texts name, or there is none.
 need git git || judge 'git is there' '  install git'
@@ -601,6 +842,16 @@ merges 'both lock a person out' '*' 'ca: all\nserial: 5\n' "$alice" "ca: $a\nid:
 merges 'both append behind a key' 0 "$alice" "sha256: $a\n" "ca: $a\nserial: 6\n"
 merges 'both append behind a key to one CA' '*' "$alice" "ca: $b\nserial: 6\nsha1: $a\n" \
   "ca: $b\nserial: 7\n"
+merges 'one locks a person out, and the other adds a serial number, by names' 0 \
+  "@users: $a\nca: all\nserial: 5\n" "@users id: alice\nkey: $g\n" '@all serial: 77\n'
+merges 'the same the other way round' 0 \
+  "@users: $a\nca: all\nserial: 5\n" '@all serial: 77\n' "@users id: alice\nkey: $g\n"
+merges 'each names a CA' 0 'ca: all\nserial: 5\n' "@users: $a\n@users serial: 6\n" \
+  "@hosts: $b\n@hosts serial: 7\n@hosts id: b\n"
+merges 'both name the same CA' 0 "key: $g\n" "@users: $a\n@users serial: 6\n@users id: a\n" \
+  "@users: $a of users\n@users serial: 7\n@users id: a\n"
+merges 'one adds entries of a ca: line, and the other by a name' 0 \
+  "@users: $a\nca: all\nserial: 5\n" "ca: $b\nid: b\n" '@users serial: 6\n'
 
 # Wrong words.
 for words in '' '-f made.krl -z x text' '-f made.krl -z -1 text' '-f a -f b text' '-k -f made.krl' \

@@ -18,7 +18,7 @@ use run_output::FAILED;
 use std::alloc::{AllocError, Global};
 use std::fs;
 use text_entries::has_word_at;
-use text_run::{MakeCause, MakeFault, fault_line as make_fault_line};
+use text_run::{MakeCause, MakeFault, Text, fault_line as make_fault_line};
 
 // Why no audit is made by a list whose authorities or key IDs OpenSSH compares otherwise.
 const OTHER_AUTHORITY: &[u8] = b"a certificate authority in it is no key in its one spelling, and \
@@ -75,14 +75,14 @@ fn words_of(why: Incomparable) -> &'static [u8] {
     }
 }
 
-/// Ends a run that made no list, and says why.
-pub fn fail_to_make(rt: &HostRuntime, fault: &MakeFault<'_>) -> u8
+/// Ends a run that made no list of these texts, and says why.
+pub fn fail_to_make<'a>(rt: &HostRuntime, fault: &MakeFault<'_>, texts: &'a [Text<'a>]) -> u8
     ensures { result ≡ 255 }
 {
     if let MakeCause::Run(cause) = fault.cause {
         return stop(rt, &Krl, &RunFault::whole(fault.name, cause));
     }
-    if let Ok(line) = make_fault_line(rt.alloc(), fault) {
+    if let Ok(line) = make_fault_line(rt.alloc(), fault, texts) {
         print_line(rt, line.as_slice());
     }
     FAILED

@@ -29,11 +29,11 @@ pub fn make<'a>(rt: &'a HostRuntime, task: &Make<'a>) -> u8
 {
     let texts = match texts_of(rt, task.files.as_slice()) {
         Ok(texts) => texts,
-        Err(fault) => return fail_to_make(rt, &fault),
+        Err(fault) => return fail_to_make(rt, &fault, &[]),
     };
     let date = match date(rt) {
         Ok(date) => date,
-        Err(cause) => return fail_to_make(rt, &fault_of(task.list, cause)),
+        Err(cause) => return fail_to_make(rt, &fault_of(task.list, cause), &[]),
     };
     let inputs = inputs_of(&*task, date, texts.as_slice());
     if task.dry_run {
@@ -47,7 +47,7 @@ pub fn make<'a>(rt: &'a HostRuntime, task: &Make<'a>) -> u8
             say_made(rt, task, &made.facts);
             0
         }
-        Err(fault) => fail_to_make(rt, &fault),
+        Err(fault) => fail_to_make(rt, &fault, inputs.texts),
     }
 }
 
@@ -57,7 +57,7 @@ fn foresee<'i>(rt: &HostRuntime, task: &Make, inputs: &'i Inputs<'i>) -> u8
 {
     let old = match old_of(rt, task) {
         Ok(old) => old,
-        Err(cause) => return fail_to_make(rt, &fault_of(task.list, cause)),
+        Err(cause) => return fail_to_make(rt, &fault_of(task.list, cause), &[]),
     };
     let reader = match &old {
         Some(bytes) => Some(Lent::new(bytes.as_slice())),
@@ -65,10 +65,10 @@ fn foresee<'i>(rt: &HostRuntime, task: &Make, inputs: &'i Inputs<'i>) -> u8
     };
     let Made { bytes, facts } = match list_over(rt.alloc(), inputs, reader) {
         Ok(made) => made,
-        Err(fault) => return fail_to_make(rt, &fault),
+        Err(fault) => return fail_to_make(rt, &fault, inputs.texts),
     };
     let Some(nothing) = empty_list(rt.alloc()) else {
-        return fail_to_make(rt, &fault_of(task.list, Cause::NoMemory));
+        return fail_to_make(rt, &fault_of(task.list, Cause::NoMemory), &[]);
     };
     say_made(rt, task, &facts);
     say_changes(

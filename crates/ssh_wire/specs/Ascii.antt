@@ -22,8 +22,14 @@ quote = 34
 abbrev pub number_sign : ℕ
 number_sign = 35
 
+abbrev pub comma : ℕ
+comma = 44
+
 abbrev pub hyphen : ℕ
 hyphen = 45
+
+abbrev pub dot : ℕ
+dot = 46
 
 abbrev pub slash : ℕ
 slash = 47
@@ -37,6 +43,9 @@ colon = 58
 abbrev pub equals_sign : ℕ
 equals_sign = 61
 
+abbrev pub at_sign : ℕ
+at_sign = 64
+
 abbrev pub upper_x : ℕ
 upper_x = 88
 
@@ -45,6 +54,9 @@ left_bracket = 91
 
 abbrev pub backslash : ℕ
 backslash = 92
+
+abbrev pub underscore : ℕ
+underscore = 95
 
 abbrev pub lower_x : ℕ
 lower_x = 120

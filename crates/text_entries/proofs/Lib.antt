@@ -1,4 +1,5 @@
 pub mod ReadLines
 pub mod Said
 pub mod KeyLines
+pub mod NamedKeys
 pub mod OneOff

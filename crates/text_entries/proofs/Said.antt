@@ -16,10 +16,12 @@ use Rattle.krl_spec.specs.Entries.{bare_entry, names_entry}
 use Rattle.krl_types.specs.Subject.{CertNames, Subject}
 use Rattle.ssh_cert.specs.SubjectReading.{subject_of}
 use Rattle.ssh_cert.specs.declared.subject_fault.SubjectFault.{SubjectFault}
-use Rattle.text_entries.specs.Reading.{LacksMemory, ReportsLine, TakesEntry, TakesLine}
-use Rattle.text_entries.specs.Says.{Names, Under, bare_key_entry, has_zero_id, key_line_says, names_says, spec_entry, under_says, whole_entry}
+use Rattle.text_entries.specs.AuthorityNames.{NamedKeys}
+use Rattle.text_entries.specs.Reading.{DeclaresName, LacksMemory, ReportsLine, TakesEntry, TakesLine}
+use Rattle.text_entries.specs.Says.{Declares, Names, Under, bare_key_entry, has_zero_id, key_line_says, name_says, names_says, spec_entry, under_says, whole_entry}
 use Rattle.text_entries.specs.TextCause.{MayLackMemory, Reports}
 use Rattle.text_entries.specs.Values.{authority_key_in, begins_with_key, has_zero, unless_certified}
+use Rattle.text_entries.specs.declared.standing.Standing.{Standing}
 use Rattle.text_entries.specs.declared.text_cause.TextCause.{TextCause}
 use Rattle.text_entries.specs.declared.text_cause.TextCause.TheVariants.{Spec}
 
@@ -106,13 +108,14 @@ names_reports (Spec specs.NoMemory) read is = names_lacks read is
 names_reports cause read is = rw is refl
 
 -- No authority is current after the entry of a line was added.
-pub names_line : (read : Result Entry TextCause) (current : Option (List ℕ)) (old new : Revocations)
-    → TakesEntry {A = Unit {0}} read (Ok tt) old new → TakesLine {A = Unit {0}} (names_says read) (Ok tt) current None old new
-names_line read current old new (entry, is, held) = (Names entry, ap names_says is, (refl, held))
+pub names_line : (read : Result Entry TextCause) (standing : Standing) (old new : Revocations)
+    → TakesEntry {A = Unit {0}} read (Ok tt) old new
+    → TakesLine {A = Unit {0}} (names_says read) (Ok tt) standing (record standing { current = None }) old new
+names_line read standing old new (entry, is, held) = (Names entry, ap names_says is, (refl, held))
 
-pub names_stops : (read : Result Entry TextCause) (current : Option (List ℕ)) (cause : TextCause) (old new : Revocations)
-    → TakesEntry {A = Unit {0}} read (Err cause) old new → TakesLine {A = Unit {0}} (names_says read) (Err cause) current current old new
-names_stops read current cause old new (is, same) = (names_reports cause read is, refl, same)
+pub names_stops : (read : Result Entry TextCause) (standing : Standing) (cause : TextCause) (old new : Revocations)
+    → TakesEntry {A = Unit {0}} read (Err cause) old new → TakesLine {A = Unit {0}} (names_says read) (Err cause) standing standing old new
+names_stops read standing cause old new (is, same) = (names_reports cause read is, refl, same)
 
 under_lacks : (read : Result Entry TextCause) → MayLackMemory read → LacksMemory (under_says read)
 under_lacks (Ok entry) may = tt
@@ -122,11 +125,28 @@ under_reports : (cause : TextCause) (read : Result Entry TextCause) → Reports 
 under_reports (Spec specs.NoMemory) read is = under_lacks read is
 under_reports cause read is = rw is refl
 
--- The current authority stays after its entry was added.
-pub under_line : (read : Result Entry TextCause) (result : Result (Unit {0}) TextCause) (current : Option (List ℕ)) (old new : Revocations)
-    → TakesEntry read result old new → TakesLine (under_says read) result current current old new
-under_line read (Ok done) current old new (entry, is, held) = (Under entry, ap under_says is, (refl, held))
-under_line read (Err cause) current old new (is, same) = (under_reports cause read is, refl, same)
+-- An entry that is added under an authority changes nothing of what stands.
+pub under_line : (read : Result Entry TextCause) (result : Result (Unit {0}) TextCause) (standing : Standing) (old new : Revocations)
+    → TakesEntry read result old new → TakesLine (under_says read) result standing standing old new
+under_line read (Ok done) standing old new (entry, is, held) = (Under entry, ap under_says is, (refl, held))
+under_line read (Err cause) standing old new (is, same) = (under_reports cause read is, refl, same)
+
+-- ---- names
+
+name_lacks : (name : List ℕ) (read : Result (List ℕ) TextCause) → MayLackMemory read → LacksMemory (name_says name read)
+name_lacks name (Ok key) may = tt
+name_lacks name (Err cause) may = may
+
+name_reports : (name : List ℕ) (cause : TextCause) (read : Result (List ℕ) TextCause) → Reports cause read → ReportsLine cause (name_says name read)
+name_reports name (Spec specs.NoMemory) read is = name_lacks name read is
+name_reports name cause read is = rw is refl
+
+-- An authority has a name after a line that gives it one.
+pub name_line : (name : List ℕ) (read : Result (List ℕ) TextCause) (result : Result (Unit {0}) TextCause) (standing : Standing) (names : NamedKeys)
+    (r : Revocations) → DeclaresName name read result standing.names names
+    → TakesLine (name_says name read) result standing (record standing { names = names }) r r
+name_line name read (Ok done) standing names r (key, is, has) = (Declares name key, ap (name_says name) is, (rw has refl, refl))
+name_line name read (Err cause) standing names r (is, same) = (name_reports name cause read is, rw same refl, refl)
 
 -- ---- key lines
 

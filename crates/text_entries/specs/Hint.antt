@@ -6,12 +6,14 @@ use Rattle.key_text.specs.declared.line_fault.LineFault.TheVariants as lines
 use Rattle.keyed_lines.specs.declared.key_cause.KeyCause.TheVariants as keys
 use Rattle.krl_spec.specs.Blanks.{bare_line}
 use Rattle.run_faults.specs.declared.spec_cause.SpecCause.TheVariants as specs
+use Rattle.key_text.specs.Blanks.{after_blanks}
+use Rattle.text_entries.specs.Mark.{Mark, mark_in, value_in}
 use Rattle.text_entries.specs.Misspelt.{misspelt_in, numbered_line}
 use Rattle.text_entries.specs.Values.{has_blank, lacks_prefix}
 use Rattle.text_entries.specs.Word.{Order, order_in}
 use Rattle.text_entries.specs.declared.hint.Hint.{Hint}
 use Rattle.text_entries.specs.declared.hint.Hint.TheVariants.{Misspelt, Fingerprint, KeyFile}
-use Rattle.text_entries.specs.declared.hint.Hint.TheVariants.{ByteOrderMark, Hexadecimal}
+use Rattle.text_entries.specs.declared.hint.Hint.TheVariants.{ByteOrderMark, Hexadecimal, Name}
 use Rattle.text_entries.specs.declared.text_cause.TextCause.{TextCause}
 use Rattle.text_entries.specs.declared.text_cause.TextCause.TheVariants as causes
 
@@ -42,25 +44,44 @@ is_file_name text =
     && (ends_with nat_eq text (codes ".pub") || (starts_with nat_eq text (codes "/")
     || (starts_with nat_eq text (codes "~") || starts_with nat_eq text (codes "."))))
 
-abbrev pub given_hint : (content : List ℕ) → Option Order → Option Hint
+abbrev pub given_hint : (content : List ℕ) → (given : Option (List ℕ)) → Option Hint
 given_hint content None = None
-given_hint content (Some order) =
+given_hint content (Some given) =
     if is_print content then Some Fingerprint
-    else if is_file_name order.given then Some KeyFile
+    else if is_file_name given then Some KeyFile
     else None
 
 -- A fingerprint without its word begins as `sha1:` and `sha256:` do, which need a key.
 abbrev pub key_hint : (content : List ℕ) → Option Hint
-key_hint content = given_hint content (order_in content)
+key_hint content = given_hint content (value_in content)
 
 -- ---- a line whose serial number is none
 
-abbrev pub digits_hint : Option Order → Option Hint
+abbrev pub digits_hint : (given : Option (List ℕ)) → Option Hint
 digits_hint None = None
-digits_hint (Some order) = if lacks_prefix order.given then Some Hexadecimal else None
+digits_hint (Some given) = if lacks_prefix given then Some Hexadecimal else None
 
 abbrev pub number_hint : (content : List ℕ) → Option Hint
-number_hint content = digits_hint (order_in content)
+number_hint content = digits_hint (value_in content)
+
+-- ---- a line that begins with the name of an authority
+
+-- Behind the name there may be a misspelt word, if there is no right one.
+abbrev pub marked_hint : Option Mark → Option Hint
+marked_hint None = None
+marked_hint (Some mark) =
+    if is_some (order_in (after_blanks mark.rest)) then None
+    else option_map Misspelt (misspelt_in (after_blanks mark.rest))
+
+abbrev pub behind_hint : (content : List ℕ) → Option Hint
+behind_hint content = marked_hint (mark_in content)
+
+abbrev pub mark_name : Option Mark → Option Hint
+mark_name None = None
+mark_name (Some mark) = Some (Name mark.name)
+
+abbrev pub name_hint : (content : List ℕ) → Option Hint
+name_hint content = mark_name (mark_in content)
 
 -- ---- any line
 
@@ -70,13 +91,16 @@ line_hint causes.UnknownWord number (Some line) = word_hint (bare_line line) num
 line_hint (causes.Spec (specs.Key (keys.Line lines.NoKey))) number (Some line) =
     key_hint (bare_line line)
 line_hint (causes.Spec specs.Number) number (Some line) = number_hint (bare_line line)
+line_hint causes.MarkedWord number (Some line) = behind_hint (bare_line line)
+line_hint causes.OtherKey number (Some line) = name_hint (bare_line line)
+line_hint causes.UnknownName number (Some line) = name_hint (bare_line line)
 line_hint cause number (Some line) = None
 
 -- what the line of a text that has this fault may be meant as
 unfoldable pub hint_at : List ℕ → ℕ → TextCause → Option Hint
 hint_at text number cause = line_hint cause number (numbered_line text number)
 
--- The line begins with a word of texts and a colon.
+-- The line has a value behind a word of texts, or behind the name of an authority.
 abbrev pub has_word : (line : Option (List ℕ)) → Bool
 has_word None = false
-has_word (Some line) = is_some (order_in (bare_line line))
+has_word (Some line) = is_some (value_in (bare_line line))

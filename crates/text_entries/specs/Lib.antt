@@ -1,6 +1,8 @@
 pub mod TextCause
 pub mod Word
 pub mod Values
+pub mod AuthorityNames
+pub mod Mark
 pub mod Says
 pub mod Lines
 pub mod Reading

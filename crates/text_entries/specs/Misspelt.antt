@@ -1,19 +1,22 @@
 -- The misspelt word of a line, and what was meant.
 use Rattle.std.specs.Prelude.{ℕ, ◌-◌, ◌==◌, ◌||◌, Bool, List, Option, option_map, slice_get}
 use Rattle.std.specs.List.{before_first, find, slice_split}
-use Rattle.std.specs.Str.{str_to_ascii_lowercase}
+use Rattle.std.specs.Str.{str_eq_ignore_ascii_case, str_to_ascii_lowercase}
 use Rattle.ssh_wire.specs.Ascii.{colon, equals_sign}
 use Rattle.key_text.specs.Blanks.{is_blank}
 use Rattle.key_text.specs.Lines.{is_newline}
 use Rattle.text_entries.specs.OneOff.{is_one_off}
-use Rattle.text_entries.specs.Word.{is_named, name_of, words}
+use Rattle.text_entries.specs.Word.{name_of, words}
 use Rattle.text_entries.specs.declared.word.Word.{Word}
 
--- It is the same or one slip off, where letters in upper and lower case count the same.
+-- They are the same or differ in one slip, where letters in upper and lower case count the same.
+abbrev pub is_close : (given meant : List ℕ) → Bool
+is_close given meant =
+    str_eq_ignore_ascii_case given meant
+    || is_one_off (str_to_ascii_lowercase given) (str_to_ascii_lowercase meant)
+
 abbrev pub is_meant : Word → List ℕ → Bool
-is_meant word name =
-    is_named word name
-    || is_one_off (str_to_ascii_lowercase name) (str_to_ascii_lowercase (name_of word))
+is_meant word name = is_close name (name_of word)
 
 -- the first word that is the same or one slip off
 unfoldable pub meant : List ℕ → Option Word

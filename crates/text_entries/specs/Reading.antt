@@ -7,9 +7,11 @@ use Rattle.run_faults.specs.declared.spec_cause.SpecCause.TheVariants as specs
 use Rattle.krl_types.specs.Entry.{Entry}
 use Rattle.krl_entries.specs.Changes.{MeansMore}
 use Rattle.krl_entries.specs.Revocations.{Revocations, held}
-use Rattle.text_entries.specs.Lines.{fault_at, lines_from, lines_of}
-use Rattle.text_entries.specs.Says.{Blank, Current, Names, Saying, Under, line_says}
+use Rattle.text_entries.specs.AuthorityNames.{NamedKeys, with_name}
+use Rattle.text_entries.specs.Lines.{beginning, fault_at, lines_from, lines_with}
+use Rattle.text_entries.specs.Says.{Blank, Saying, entry_said, line_says, standing_after}
 use Rattle.text_entries.specs.TextCause.{MayLackMemory, Reports}
+use Rattle.text_entries.specs.declared.standing.Standing.{Standing}
 use Rattle.text_entries.specs.declared.text_cause.TextCause.{TextCause}
 use Rattle.text_entries.specs.declared.text_cause.TextCause.TheVariants as causes
 use Rattle.text_entries.specs.declared.text_fault.TextFault.{TextFault}
@@ -26,14 +28,26 @@ abbrev pub TakesEntry : {A : Type 0} → Result Entry TextCause → Result A Tex
 TakesEntry read (Ok done) old new = (entry : Entry) × (read ≡ Ok entry) × IsHeld entry old new
 TakesEntry read (Err cause) old new = Reports cause read × (new ≡ old)
 
+-- ---- a name
+
+-- The key of a line has the name that the line gives; or its fault is reported, and nothing
+-- changed.
+abbrev pub DeclaresName : {A : Type 0} → (name : List ℕ) → Result (List ℕ) TextCause
+    → Result A TextCause → (old new : NamedKeys) → Type 0
+DeclaresName name read (Ok done) old new =
+    (key : List ℕ) × (read ≡ Ok key) × (new ≡ with_name old name key)
+DeclaresName name read (Err cause) old new = Reports cause read × (new ≡ old)
+
 -- ---- a line
 
--- A line was obeyed: its authority is current, or its entry is held.
-abbrev pub IsDone : Saying → (before after : Option (List ℕ)) → (old new : Revocations) → Type 0
-IsDone Blank before after old new = (after ≡ before) × (new ≡ old)
-IsDone (Current authority) before after old new = (after ≡ Some authority) × (new ≡ old)
-IsDone (Under entry) before after old new = (after ≡ before) × IsHeld entry old new
-IsDone (Names entry) before after old new = (after ≡ None) × IsHeld entry old new
+abbrev pub IsAdded : Option Entry → (old new : Revocations) → Type 0
+IsAdded None old new = new ≡ old
+IsAdded (Some entry) old new = IsHeld entry old new
+
+-- A line was obeyed: what it says counts, and its entry is held.
+abbrev pub IsDone : Saying → (before after : Standing) → (old new : Revocations) → Type 0
+IsDone saying before after old new =
+    (after ≡ standing_after saying before) × IsAdded (entry_said saying) old new
 
 -- An allocation may fail before a line is obeyed. A line that says nothing needs none.
 abbrev pub LacksMemory : Result Saying TextCause → Type 0
@@ -47,7 +61,7 @@ ReportsLine cause says = says ≡ Err cause
 
 -- The line was obeyed; or its fault is reported, and nothing changed.
 abbrev pub TakesLine : {A : Type 0} → Result Saying TextCause → Result A TextCause
-    → (before after : Option (List ℕ)) → (old new : Revocations) → Type 0
+    → (before after : Standing) → (old new : Revocations) → Type 0
 TakesLine says (Ok done) before after old new =
     (saying : Saying) × (says ≡ Ok saying) × IsDone saying before after old new
 TakesLine says (Err cause) before after old new =
@@ -57,27 +71,31 @@ TakesLine says (Err cause) before after old new =
 
 -- An allocation failed at a line, before a fault of it that needs none: those before it have no
 -- fault, and their entries were added.
-pub record LacksMemoryAt (lines : List (List ℕ)) (number : ℕ) (old new : Revocations) : Type 0 where
+pub record LacksMemoryAt (names : NamedKeys) (lines : List (List ℕ)) (number : ℕ)
+    (old new : Revocations) : Type 0 where
   pub before : List (List ℕ)
   pub line : List ℕ
   pub after : List (List ℕ)
   pub parts : lines ≡ before ++ line ∷ after
   pub counted : length before + 1 ≡ number
-  pub faultless : (lines_from None 1 before).fault ≡ None
-  pub lacks : LacksMemory (line_says (lines_from None 1 before).current line)
-  pub adds : MeansMore old new (lines_from None 1 before).entries
+  pub faultless : (lines_from (beginning names) 1 before).fault ≡ None
+  pub lacks : LacksMemory (line_says (lines_from (beginning names) 1 before).standing line)
+  pub adds : MeansMore old new (lines_from (beginning names) 1 before).entries
 
 -- The entries up to the first fault were added, and the fault is reported.
-abbrev pub StopsAt : List ℕ → ℕ → TextCause → Revocations → Revocations → Type 0
-StopsAt text number (causes.Spec specs.NoMemory) old new =
-    LacksMemoryAt (slice_split is_newline text) number old new
-StopsAt text number cause old new =
-    ((lines_of text).fault ≡ Some (fault_at number cause))
-    × MeansMore old new (lines_of text).entries
+abbrev pub StopsAt : NamedKeys → List ℕ → ℕ → TextCause → Revocations → Revocations → Type 0
+StopsAt names text number (causes.Spec specs.NoMemory) old new =
+    LacksMemoryAt names (slice_split is_newline text) number old new
+StopsAt names text number cause old new =
+    ((lines_with names text).fault ≡ Some (fault_at number cause))
+    × MeansMore old new (lines_with names text).entries
 
--- All entries of the lines were added, and no line has a fault; or reading stopped at a line.
-abbrev pub ReadsText : {A : Type 0} → List ℕ → Result A TextFault → Revocations → Revocations
-    → Type 0
-ReadsText text (Ok done) old new =
-    ((lines_of text).fault ≡ None) × MeansMore old new (lines_of text).entries
-ReadsText text (Err fault) old new = StopsAt text fault.line fault.cause old new
+-- All entries of the lines were added, no line has a fault, and these names are known after them;
+-- or reading stopped at a line.
+abbrev pub ReadsText : NamedKeys → List ℕ → Result NamedKeys TextFault → Revocations
+    → Revocations → Type 0
+ReadsText names text (Ok after) old new =
+    ((lines_with names text).fault ≡ None)
+    × (after ≡ (lines_with names text).standing.names)
+    × MeansMore old new (lines_with names text).entries
+ReadsText names text (Err fault) old new = StopsAt names text fault.line fault.cause old new

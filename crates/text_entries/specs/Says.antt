@@ -9,11 +9,16 @@ use Rattle.krl_spec.specs.Blanks.{bare_line}
 use Rattle.krl_spec.specs.Entries.{bare_entry, order_entry}
 use Rattle.krl_spec.specs.declared.directive.Directive.{Directive}
 use Rattle.krl_spec.specs.declared.directive.Directive.TheVariants as directives
-use Rattle.text_entries.specs.Values.{authority_blob_in, authority_in, begins_with_key, blob_in}
-use Rattle.text_entries.specs.Values.{bytes_in, has_control, has_leading_zero, has_zero, is_cut}
-use Rattle.text_entries.specs.Values.{is_quoted, is_sha1, looks_like_key, looks_like_several}
-use Rattle.text_entries.specs.Values.{no_key, sha1_in}
+use Rattle.key_text.specs.Blanks.{after_blanks}
+use Rattle.text_entries.specs.AuthorityNames.{NamedKeys, authority_named, can_have, is_name}
+use Rattle.text_entries.specs.AuthorityNames.{with_name}
+use Rattle.text_entries.specs.Mark.{Mark, given_behind, mark_in}
+use Rattle.text_entries.specs.Values.{authority_blob_in, authority_in, bare_authority_in}
+use Rattle.text_entries.specs.Values.{begins_with_key, blob_in, bytes_in, has_control}
+use Rattle.text_entries.specs.Values.{has_leading_zero, has_zero, is_cut, is_quoted, is_sha1}
+use Rattle.text_entries.specs.Values.{looks_like_key, looks_like_several, no_key, sha1_in}
 use Rattle.text_entries.specs.Word.{Order, order_in}
+use Rattle.text_entries.specs.declared.standing.Standing.{Standing}
 use Rattle.text_entries.specs.declared.text_cause.TextCause.{TextCause}
 use Rattle.text_entries.specs.declared.text_cause.TextCause.TheVariants as causes
 use Rattle.text_entries.specs.declared.word.Word.{Word}
@@ -26,10 +31,26 @@ pub data Saying : Type 0 where
   Blank : Saying
   -- the authority of the lines that follow, by its bytes; no bytes mean all authorities
   Current : (authority : List ℕ) → Saying
-  -- an entry under the current authority
+  -- the name of an authority, and its bytes
+  Declares : (name key : List ℕ) → Saying
+  -- an entry under the current authority, or under one that has a name
   Under : Entry → Saying
   -- A key, a hash or a certificate. No authority is current for the lines that follow.
   Names : Entry → Saying
+
+-- what stands after a line that says this
+abbrev pub standing_after : Saying → Standing → Standing
+standing_after Blank standing = standing
+standing_after (Current authority) standing = record standing { current = Some authority }
+standing_after (Declares name key) standing =
+    record standing { names = with_name standing.names name key }
+standing_after (Under entry) standing = standing
+standing_after (Names entry) standing = record standing { current = None }
+
+abbrev pub entry_said : Saying → Option Entry
+entry_said (Under entry) = Some entry
+entry_said (Names entry) = Some entry
+entry_said saying = None
 
 abbrev pub under_says : Result Entry TextCause → Result Saying TextCause
 under_says (Ok entry) = Ok (Under entry)
@@ -124,15 +145,58 @@ word_says current line Sha1 given = names_says (keyed_entry directives.Sha1 give
 word_says current line Sha256 given = names_says (keyed_entry directives.Sha256 given)
 word_says current line Hash given = names_says (hash_entry given)
 
+-- ---- what lines with marks say
+
+-- the key, unless another one has the name
+abbrev pub unless_other : NamedKeys → (name key : List ℕ) → Result (List ℕ) TextCause
+unless_other names name key = if can_have names name key then Ok key else Err causes.OtherKey
+
+-- the key that gets a name
+abbrev pub declares : NamedKeys → (name given : List ℕ) → Result (List ℕ) TextCause
+declares names name given =
+    if is_name name then bare_authority_in given >>= unless_other names name
+    else Err causes.BadName
+
+abbrev pub name_says : (name : List ℕ) → Result (List ℕ) TextCause → Result Saying TextCause
+name_says name (Ok key) = Ok (Declares name key)
+name_says name (Err cause) = Err cause
+
+-- the entry of a certificate with this word, under an authority that was looked up by its name
+abbrev pub named_entry : Result (List ℕ) TextCause → List ℕ → Word → List ℕ
+    → Result Entry TextCause
+named_entry named line Serial given = named >>= λ authority. serial_entry (Some authority) given
+named_entry named line Id given = named >>= λ authority. id_entry (Some authority) line given
+named_entry named line IdHex given = named >>= λ authority. id_hex_entry (Some authority) given
+named_entry named line word given = Err causes.MarkedWord
+
+abbrev pub marked_entry : NamedKeys → (line name : List ℕ) → Option Order → Result Entry TextCause
+marked_entry names line name None = Err causes.MarkedWord
+marked_entry names line name (Some order) =
+    named_entry (authority_named names name) line order.word order.given
+
+abbrev pub mark_with : NamedKeys → (line name rest : List ℕ) → (given : Option (List ℕ))
+    → Result Saying TextCause
+mark_with names line name rest (Some given) = name_says name (declares names name given)
+mark_with names line name rest None =
+    under_says (marked_entry names line name (order_in (after_blanks rest)))
+
+abbrev pub mark_says : NamedKeys → (line name rest : List ℕ) → Result Saying TextCause
+mark_says names line name rest = mark_with names line name rest (given_behind rest)
+
+-- ---- what any line says
+
 abbrev pub key_line_says : List ℕ → Result Saying TextCause
 key_line_says [] = Ok Blank
 key_line_says (byte ∷ bytes) = names_says (bare_key_entry (byte ∷ bytes))
 
-abbrev pub order_says : Option (List ℕ) → List ℕ → Option Order → Result Saying TextCause
-order_says current line None = key_line_says (bare_line line)
-order_says current line (Some order) = word_says current line order.word order.given
+abbrev pub content_says : Standing → List ℕ → Option Mark → Result Saying TextCause
+content_says standing line None = key_line_says (bare_line line)
+content_says standing line (Some mark) = mark_says standing.names line mark.name mark.rest
 
--- The meaning of a line. The current authority is None if no line before it gives one that still
--- counts.
-unfoldable pub line_says : Option (List ℕ) → List ℕ → Result Saying TextCause
-line_says current line = order_says current line (order_in (bare_line line))
+abbrev pub order_says : Standing → List ℕ → Option Order → Result Saying TextCause
+order_says standing line None = content_says standing line (mark_in (bare_line line))
+order_says standing line (Some order) = word_says standing.current line order.word order.given
+
+-- The meaning of a line. No authority is current if no line before it gives one that still counts.
+unfoldable pub line_says : Standing → List ℕ → Result Saying TextCause
+line_says standing line = order_says standing line (order_in (bare_line line))

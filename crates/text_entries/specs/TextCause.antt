@@ -9,7 +9,9 @@ use Rattle.text_entries.specs.declared.text_cause.TextCause.TheVariants.{Base64,
 use Rattle.text_entries.specs.declared.text_cause.TextCause.TheVariants.{UnknownWord, ControlInId}
 use Rattle.text_entries.specs.declared.text_cause.TextCause.TheVariants.{ZeroInId, KeyAsId}
 use Rattle.text_entries.specs.declared.text_cause.TextCause.TheVariants.{LeadingZero, QuotedId}
-use Rattle.text_entries.specs.declared.text_cause.TextCause.TheVariants.{SeveralIds}
+use Rattle.text_entries.specs.declared.text_cause.TextCause.TheVariants.{SeveralIds, BadName}
+use Rattle.text_entries.specs.declared.text_cause.TextCause.TheVariants.{OtherKey, UnknownName}
+use Rattle.text_entries.specs.declared.text_cause.TextCause.TheVariants.{MarkedWord}
 
 abbrev pub text_cause_number : TextCause → ℕ
 text_cause_number (Spec cause) = 1
@@ -25,6 +27,10 @@ text_cause_number KeyAsId = 10
 text_cause_number LeadingZero = 11
 text_cause_number QuotedId = 12
 text_cause_number SeveralIds = 13
+text_cause_number BadName = 14
+text_cause_number OtherKey = 15
+text_cause_number UnknownName = 16
+text_cause_number MarkedWord = 17
 
 abbrev pub text_cause_text : TextCause → List ℕ
 text_cause_text (Spec cause) = codes "text 1 Spec, " ++ spec_cause_text cause
@@ -40,6 +46,10 @@ text_cause_text KeyAsId = codes "text 10 KeyAsId"
 text_cause_text LeadingZero = codes "text 11 LeadingZero"
 text_cause_text QuotedId = codes "text 12 QuotedId"
 text_cause_text SeveralIds = codes "text 13 SeveralIds"
+text_cause_text BadName = codes "text 14 BadName"
+text_cause_text OtherKey = codes "text 15 OtherKey"
+text_cause_text UnknownName = codes "text 16 UnknownName"
+text_cause_text MarkedWord = codes "text 17 MarkedWord"
 
 -- an allocation failed
 abbrev pub no_memory : TextCause
@@ -60,6 +70,10 @@ MayHide KeyAsId = ⊥
 MayHide LeadingZero = ⊥
 MayHide QuotedId = ⊥
 MayHide SeveralIds = ⊥
+MayHide BadName = ⊥
+MayHide OtherKey = ⊤
+MayHide UnknownName = ⊥
+MayHide MarkedWord = ⊥
 
 -- An allocation may fail before this is found.
 abbrev pub MayLackMemory : {A : Type 0} → Result A TextCause → Type 0

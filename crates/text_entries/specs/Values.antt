@@ -10,7 +10,7 @@ use Rattle.base64.specs.GeneralPurpose.{decode_of}
 use Rattle.base64.specs.declared.decode.DecodeError.{DecodeError}
 use Rattle.hex.specs.Hex.{decode_of as hex_decode_of}
 use Rattle.hex.specs.declared.error.FromHexError.{FromHexError}
-use Rattle.ssh_wire.specs.Ascii.{delete, digit_zero, space}
+use Rattle.ssh_wire.specs.Ascii.{comma, delete, digit_zero, space}
 use Rattle.ssh_wire.specs.Reading.{◌>>=◌, in_fault}
 use Rattle.key_text.specs.Blanks.{after_blanks, before_ending, first_word, is_blank}
 use Rattle.key_text.specs.TypeName.{is_type_name}
@@ -69,11 +69,13 @@ authority_key_in text = do
 abbrev pub is_all : List ℕ → Bool
 is_all text = starts_with nat_eq text (codes "all") && (length text == 3)
 
--- all authorities, which are no bytes, or one by a key line with nothing before the key
+-- one by a key line with nothing before the key
+abbrev pub bare_authority_in : List ℕ → Result (List ℕ) TextCause
+bare_authority_in text = if begins_with_key text then authority_key_in text else Err no_key
+
+-- all authorities, which are no bytes, or one
 unfoldable pub authority_in : List ℕ → Result (List ℕ) TextCause
-authority_in text =
-    if is_all text then Ok []
-    else if begins_with_key text then authority_key_in text else Err no_key
+authority_in text = if is_all text then Ok [] else bare_authority_in text
 
 abbrev pub some_bytes : List ℕ → Result (List ℕ) TextCause
 some_bytes [] = Err causes.NoBytes
@@ -170,4 +172,4 @@ is_quoted id = is_between (codes "\"") id || is_between (codes "'") id
 unfoldable pub looks_like_several : List ℕ → Bool
 looks_like_several [] = false
 looks_like_several (byte ∷ bytes) =
-    starts_with nat_eq (byte ∷ bytes) (codes ", ") || looks_like_several bytes
+    byte == comma && starts_with nat_eq bytes (codes " ") || looks_like_several bytes

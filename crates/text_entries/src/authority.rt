@@ -1,11 +1,11 @@
 //! The certificate authority that is current.
 
-ghost use Rattle.std.specs.Prelude.{◌≡◌};
+ghost use Rattle.std.specs.Prelude.{◌≡◌, MatchOption, None, Some};
 ghost use Rattle.ssh_wire.specs.Reading.{Answers};
 ghost use Rattle.krl_spec.specs.Under.{authority_under};
 ghost use Rattle.text_entries.specs.TextCause.{Reports};
 ghost use Rattle.text_entries.specs.Values.{authority_blob_in, authority_in, authority_key_in};
-ghost use Rattle.text_entries.specs.Values.{is_all, unless_certified};
+ghost use Rattle.text_entries.specs.Values.{bare_authority_in, is_all, unless_certified};
 
 use crate::text_cause::TextCause;
 use crate::values::{NO_KEY, begins_with_key, read_blob};
@@ -14,7 +14,7 @@ use ssh_cert::Subject;
 use ssh_wire::Bytes;
 use std::alloc::Global;
 
-/// The current authority of a specification file.
+/// The authority that is current, as entries name it.
 pub fn under(current: &Option<Bytes>) -> Under<'_>
     ensures { authority_under result ≡ current.now }
 {
@@ -24,8 +24,19 @@ pub fn under(current: &Option<Bytes>) -> Under<'_>
     }
 }
 
-/// The authority that a line gives: all of them, or one by its key line, with nothing before the
-/// key.
+/// The bytes of the authority of an entry, of which all authorities have none.
+pub fn bytes_of(under: Under<'_>) -> Option<&[u8]>
+    ensures { MatchOption result (authority_under under.entry ≡ None)
+        (λ bytes. authority_under under.entry ≡ Some bytes.now) }
+{
+    match under {
+        Under::NotGiven => None,
+        Under::All => Some(b""),
+        Under::Of(bytes) => Some(bytes),
+    }
+}
+
+/// The authority that a line gives: all of them, or one by its key line.
 #[tactic(auto, unfolding(crate::specs::Values::authority_in))]
 pub fn read_authority(alloc: Global, text: &[u8]) -> Result<Bytes, TextCause>
     ensures { Answers Reports (λ bytes. bytes) result (authority_in text.now) }
@@ -33,22 +44,29 @@ pub fn read_authority(alloc: Global, text: &[u8]) -> Result<Bytes, TextCause>
     if is_all(text) {
         return Ok(Bytes::from_vec(Vec::new(alloc)));
     }
-    if !begins_with_key(text) {
-        return Err(NO_KEY);
-    }
     read_key(alloc, text)
 }
 
-// Whether the text names all authorities.
-fn is_all(text: &[u8]) -> bool
+/// Whether the text names all authorities.
+pub fn is_all(text: &[u8]) -> bool
     ensures { result ≡ is_all text.now }
 {
     text.starts_with(b"all") && text.len() == 3
 }
 
+/// The blob of a key line of a plain key, with nothing before the key.
+pub fn read_key(alloc: Global, text: &[u8]) -> Result<Bytes, TextCause>
+    ensures { Answers Reports (λ bytes. bytes) result (bare_authority_in text.now) }
+{
+    if !begins_with_key(text) {
+        return Err(NO_KEY);
+    }
+    read_line(alloc, text)
+}
+
 // The blob of a key line of a plain key.
 #[tactic(auto, unfolding(crate::specs::Values::authority_key_in))]
-fn read_key(alloc: Global, text: &[u8]) -> Result<Bytes, TextCause>
+fn read_line(alloc: Global, text: &[u8]) -> Result<Bytes, TextCause>
     ensures { Answers Reports (λ bytes. bytes) result (authority_key_in text.now) }
 {
     let line = match key_line(alloc, text) {

@@ -1,16 +1,19 @@
 //! The form that a line with a fault may be meant in.
 
 ghost use Rattle.std.specs.Prelude.{◌≡◌};
-ghost use Rattle.text_entries.specs.Hint.{has_word, hint_at, is_file_name, is_print, key_hint};
-ghost use Rattle.text_entries.specs.Hint.{number_hint, word_hint};
+ghost use Rattle.text_entries.specs.Hint.{behind_hint, has_word, hint_at, is_file_name, is_print};
+ghost use Rattle.text_entries.specs.Hint.{key_hint, name_hint, number_hint, word_hint};
 ghost use Rattle.text_entries.specs.Misspelt.{numbered_line};
 
+use crate::mark::{mark_in, value_in};
 use crate::misspelt::{Misspelt, misspelt_in, numbered_line};
 use crate::text_cause::TextCause;
 use crate::text_fault::TextFault;
 use crate::values::{NO_KEY, has_blank, lacks_prefix};
 use crate::word::order_in;
+use key_text::after_blanks;
 use krl_spec::{SpecCause, bare_line};
+use std::marker::Model;
 
 // The byte order mark of UTF-8, which some editors write at the beginning of a file.
 const MARK: &[u8] = b"\xef\xbb\xbf";
@@ -28,14 +31,32 @@ pub enum Hint<'a> {
     ByteOrderMark,
     /// A serial number has hexadecimal digits, and lacks the `0x` before them.
     Hexadecimal,
+    /// Another line may give the name of an authority that it has.
+    Name(LineName<'a>),
+}
+
+/// The name of an authority that a line begins with.
+#[derive(Debug, Drop)]
+pub struct LineName<'a> {
+    /// The name.
+    pub name: &'a [u8],
+}
+
+impl<'a> Model for LineName<'a> {
+    ghost use Rattle.std.specs.Prelude.{ℕ, List};
+
+    ghost Value = { List ℕ };
+
+    ghost view = { λ line. line.name.now };
 }
 
 /// The form that the line of a text with this fault may be meant in.
 ///
 /// A line that begins neither with a word and a colon nor with the type name of a key may have a
-/// misspelt word, and the first line may begin with a byte order mark. A line whose word needs a
-/// key that is not there may be a fingerprint, or have the name of the key's file. A serial number
-/// that is none may lack its `0x`.
+/// misspelt word, and the first line may begin with a byte order mark; so may a line behind the
+/// name of an authority. A line that needs a key which is not there may be a fingerprint, or have
+/// the name of the key's file. A serial number that is none may lack its `0x`. A name that is
+/// unknown or that of another key may be given by another line.
 #[tactic(auto, unfolding(crate::specs::Hint::hint_at))]
 pub fn hint_at(text: &[u8], fault: TextFault) -> Option<Hint<'_>>
     ensures { result ≡ hint_at text.now fault.line fault.cause }
@@ -47,17 +68,22 @@ pub fn hint_at(text: &[u8], fault: TextFault) -> Option<Hint<'_>>
         key_hint(content)
     } else if fault.cause == TextCause::Spec(SpecCause::Number) {
         number_hint(content)
+    } else if fault.cause == TextCause::MarkedWord {
+        behind_hint(content)
+    } else if fault.cause == TextCause::OtherKey || fault.cause == TextCause::UnknownName {
+        name_hint(content)
     } else {
         None
     }
 }
 
-/// Whether the line with this number, counted from 1, begins with a word of texts and a colon.
+/// Whether the line with this number, counted from 1, begins with a word of texts and a colon, or
+/// with the name of an authority before a colon or such a word.
 pub fn has_word_at(text: &[u8], number: u64) -> bool
     ensures { result ≡ has_word (numbered_line text.now number) }
 {
     match numbered_line(text, number) {
-        Some(line) => order_in(bare_line(line)).is_some(),
+        Some(line) => value_in(bare_line(line)).is_some(),
         None => false,
     }
 }
@@ -76,11 +102,11 @@ fn word_hint(content: &[u8], number: u64) -> Option<Hint<'_>>
 fn key_hint(content: &[u8]) -> Option<Hint<'static>>
     ensures { result ≡ key_hint content.now }
 {
-    let order = order_in(content)?;
+    let given = value_in(content)?;
     if is_print(content) {
         return Some(Hint::Fingerprint);
     }
-    if is_file_name(order.given) {
+    if is_file_name(given) {
         return Some(Hint::KeyFile);
     }
     None
@@ -90,11 +116,31 @@ fn key_hint(content: &[u8]) -> Option<Hint<'static>>
 fn number_hint(content: &[u8]) -> Option<Hint<'static>>
     ensures { result ≡ number_hint content.now }
 {
-    let order = order_in(content)?;
-    if lacks_prefix(order.given) {
+    let given = value_in(content)?;
+    if lacks_prefix(given) {
         return Some(Hint::Hexadecimal);
     }
     None
+}
+
+// The form that content may be meant in which has no word behind the name of an authority.
+fn behind_hint(content: &[u8]) -> Option<Hint<'_>>
+    ensures { result ≡ behind_hint content.now }
+{
+    let mark = mark_in(content)?;
+    let behind = after_blanks(mark.rest);
+    if order_in(behind).is_some() {
+        return None;
+    }
+    Some(Hint::Misspelt(misspelt_in(behind)?))
+}
+
+// The name of an authority that content begins with.
+fn name_hint(content: &[u8]) -> Option<Hint<'_>>
+    ensures { result ≡ name_hint content.now }
+{
+    let mark = mark_in(content)?;
+    Some(Hint::Name(LineName { name: mark.name }))
 }
 
 // Whether the text is one word that begins as a fingerprint.

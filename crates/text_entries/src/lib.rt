@@ -2,20 +2,26 @@
 #![tactic(auto)]
 
 mod authority;
+mod authority_names;
 mod hint;
 mod line;
+mod mark;
 mod misspelt;
 mod one_off;
 mod reading;
+mod standing;
 mod text_cause;
 mod text_fault;
 mod values;
 mod word;
 
-pub use hint::{Hint, has_word_at, hint_at};
-pub use misspelt::Misspelt;
+pub use authority_names::AuthorityNames;
+pub use hint::{Hint, LineName, has_word_at, hint_at};
+pub use mark::name_given;
+pub use misspelt::{Misspelt, is_close};
 pub use one_off::one_off_where_spelled;
 pub use reading::read_text;
+pub use standing::Standing;
 pub use text_cause::TextCause;
 pub use text_fault::TextFault;
 pub use values::{is_quoted, looks_like_key, looks_like_several};

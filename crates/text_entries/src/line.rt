@@ -1,48 +1,58 @@
 //! Doing what a line of the text of a list says.
 
-ghost use Rattle.std.specs.Prelude.{◌≡◌, ℕ, List, None, Result, true};
+ghost use Rattle.std.specs.Prelude.{◌≡◌, List, Result, true, ℕ};
+ghost use Rattle.key_text.specs.Blanks.{after_blanks};
 ghost use Rattle.krl_entries.specs.Revocations.{Revocations as RevocationsOf};
 ghost use Rattle.krl_spec.specs.Entries.{names_entry, order_entry};
+ghost use Rattle.krl_spec.specs.Under.{authority_under};
 ghost use Rattle.krl_types.specs.Entry.{Entry as EntryOf};
-ghost use Rattle.text_entries.specs.Reading.{TakesEntry, TakesLine};
-ghost use Rattle.text_entries.specs.Says.{bare_key_entry, has_zero_id, hash_entry, id_entry};
-ghost use Rattle.text_entries.specs.Says.{id_hex_entry, key_blob_entry, keyed_entry, line_says};
-ghost use Rattle.text_entries.specs.Says.{names_says, serial_entry, sha1_entry, spec_entry};
-ghost use Rattle.text_entries.specs.Says.{whole_entry, word_says};
+ghost use Rattle.text_entries.specs.Reading.{DeclaresName, TakesEntry, TakesLine};
+ghost use Rattle.text_entries.specs.Says.{bare_key_entry, declares, has_zero_id, hash_entry};
+ghost use Rattle.text_entries.specs.Says.{id_entry, id_hex_entry, key_blob_entry, keyed_entry};
+ghost use Rattle.text_entries.specs.Says.{line_says, mark_says, marked_entry, names_says};
+ghost use Rattle.text_entries.specs.Says.{serial_entry, sha1_entry, spec_entry, whole_entry};
+ghost use Rattle.text_entries.specs.Says.{word_says};
 ghost use Rattle.text_entries.specs.Values.{is_sha1};
+ghost use Rattle.text_entries.specs.Word.{order_in};
 ghost use Rattle.text_entries.specs.declared.text_cause.TextCause.{TextCause as TextCauseOf};
 
-use crate::authority::{read_authority, read_authority_blob, under};
+use crate::authority::{bytes_of, read_authority, read_authority_blob, read_key, under};
+use crate::authority_names::{AuthorityNames, is_name};
+use crate::mark::{Mark, mark_in};
+use crate::standing::Standing;
 use crate::text_cause::TextCause;
 use crate::values::{
     NO_KEY, begins_with_key, has_control, has_leading_zero, has_zero, is_cut, is_quoted, is_sha1,
     looks_like_key, looks_like_several, read_blob, read_bytes, read_sha1,
 };
 use crate::word::{Order, Word, order_in};
+use key_text::after_blanks;
 use krl_entries::Revocations;
 use krl_spec::{Directive, SpecCause, Under, add_order, add_subject, ask, bare_line, key_line};
 use serial_set::Spans;
 use ssh_cert::Subject;
-use ssh_wire::Bytes;
 use std::alloc::Global;
 
-/// Does what a line says: its authority is current from now on, or its entry is held. After a key,
-/// a hash or a certificate no authority is current.
+/// Does what a line says: its authority is current or has a name from now on, or its entry is held.
+/// After a key, a hash or a certificate no authority is current.
 #[tactic(auto, unfolding(crate::specs::Says::line_says))]
 pub fn take_line<S: Spans>(
     alloc: Global,
     revocations: &mut Revocations<S>,
-    current: &mut Option<Bytes>,
+    standing: &mut Standing,
     line: &[u8],
 ) -> Result<(), TextCause>
-    ensures { TakesLine (line_says current.old line.now) result current.old current.new
+    ensures { TakesLine (line_says standing.old line.now) result standing.old standing.new
         revocations.old revocations.new }
 {
     let content = bare_line(line);
-    match order_in(content) {
-        Some(order) => take_order(alloc, revocations, current, line, order),
+    if let Some(order) = order_in(content) {
+        return take_order(alloc, revocations, standing, line, order);
+    }
+    match mark_in(content) {
+        Some(mark) => take_mark(alloc, revocations, standing, line, mark),
         None if content.is_empty() => Ok(()),
-        None => end_authority(current, add_bare_key(alloc, revocations, content)),
+        None => end_authority(standing, add_bare_key(alloc, revocations, content)),
     }
 }
 
@@ -50,55 +60,117 @@ pub fn take_line<S: Spans>(
 fn take_order<S: Spans>(
     alloc: Global,
     revocations: &mut Revocations<S>,
-    current: &mut Option<Bytes>,
+    standing: &mut Standing,
     line: &[u8],
     order: Order<'_>,
 ) -> Result<(), TextCause>
     ensures { TakesLine
-        (word_says current.old line.now order.entry.word order.entry.given.now) result
-        current.old current.new revocations.old revocations.new }
+        (word_says standing.old.current line.now order.entry.word order.entry.given.now) result
+        standing.old standing.new revocations.old revocations.new }
 {
     let given = order.given;
     match order.word {
         Word::Authority => {
-            *current = Some(read_authority(alloc, given)?);
+            standing.current = Some(read_authority(alloc, given)?);
             Ok(())
         }
         Word::AuthorityBlob => {
-            *current = Some(read_authority_blob(alloc, given)?);
+            standing.current = Some(read_authority_blob(alloc, given)?);
             Ok(())
         }
-        Word::Serial => add_serial(alloc, revocations, current, given),
-        Word::Id => add_id(alloc, revocations, current, line, given),
-        Word::IdHex => add_id_hex(alloc, revocations, current, given),
+        Word::Serial => add_serial(alloc, revocations, under(&standing.current), given),
+        Word::Id => add_id(alloc, revocations, under(&standing.current), line, given),
+        Word::IdHex => add_id_hex(alloc, revocations, under(&standing.current), given),
         Word::Key => end_authority(
-            current,
+            standing,
             add_keyed(alloc, revocations, Directive::Key, given),
         ),
-        Word::KeyBlob => end_authority(current, add_key_blob(alloc, revocations, given)),
+        Word::KeyBlob => end_authority(standing, add_key_blob(alloc, revocations, given)),
         Word::Sha1 => end_authority(
-            current,
+            standing,
             add_keyed(alloc, revocations, Directive::Sha1, given),
         ),
         Word::Sha256 => {
             end_authority(
-                current,
+                standing,
                 add_keyed(alloc, revocations, Directive::Sha256, given),
             )
         }
-        Word::Hash => end_authority(current, add_hash(alloc, revocations, given)),
+        Word::Hash => end_authority(standing, add_hash(alloc, revocations, given)),
+    }
+}
+
+// Does what a line with this mark says.
+fn take_mark<S: Spans>(
+    alloc: Global,
+    revocations: &mut Revocations<S>,
+    standing: &mut Standing,
+    line: &[u8],
+    mark: Mark<'_>,
+) -> Result<(), TextCause>
+    ensures { TakesLine
+        (mark_says standing.old.names line.now mark.entry.name.now mark.entry.rest.now) result
+        standing.old standing.new revocations.old revocations.new }
+{
+    match mark.given() {
+        Some(given) => declare(alloc, &mut standing.names, mark.name, given),
+        None => add_marked(alloc, revocations, &standing.names, line, mark),
+    }
+}
+
+// Gives a name to an authority.
+fn declare(
+    alloc: Global,
+    names: &mut AuthorityNames,
+    name: &[u8],
+    given: &[u8],
+) -> Result<(), TextCause>
+    ensures { DeclaresName name.now (declares names.old name.now given.now) result
+        names.old names.new }
+{
+    if !is_name(name) {
+        return Err(TextCause::BadName);
+    }
+    let key = read_key(alloc, given)?;
+    if !names.can_have(name, key.as_slice()) {
+        return Err(TextCause::OtherKey);
+    }
+    names.add(name, key)?;
+    Ok(())
+}
+
+// Adds the entry of a certificate, under the authority that has this name.
+fn add_marked<S: Spans>(
+    alloc: Global,
+    revocations: &mut Revocations<S>,
+    names: &AuthorityNames,
+    line: &[u8],
+    mark: Mark<'_>,
+) -> Result<(), TextCause>
+    ensures { TakesEntry (marked_entry names.now line.now mark.entry.name.now
+        (order_in (after_blanks mark.entry.rest.now))) result revocations.old revocations.new }
+{
+    let Some(order) = order_in(after_blanks(mark.rest)) else {
+        return Err(TextCause::MarkedWord);
+    };
+    let given = order.given;
+    match order.word {
+        Word::Serial => add_serial(alloc, revocations, names.authority(mark.name)?, given),
+        Word::Id => add_id(alloc, revocations, names.authority(mark.name)?, line, given),
+        Word::IdHex => add_id_hex(alloc, revocations, names.authority(mark.name)?, given),
+        _ => Err(TextCause::MarkedWord),
     }
 }
 
 // No authority is current after an entry that was added.
-fn end_authority(current: &mut Option<Bytes>, added: Result<(), TextCause>) -> Result<(), TextCause>
+fn end_authority(standing: &mut Standing, added: Result<(), TextCause>) -> Result<(), TextCause>
     ensures { (read : Result EntryOf TextCauseOf) (old new : RevocationsOf)
         → TakesEntry read added old new
-        → TakesLine (names_says read) result current.old current.new old new }
+        → TakesLine (names_says read) result standing.old standing.new old new }
 {
     match added {
         Ok(()) => {
-            *current = None;
+            standing.current = None;
             Ok(())
         }
         Err(cause) => Err(cause),
@@ -109,14 +181,15 @@ fn end_authority(current: &mut Option<Bytes>, added: Result<(), TextCause>) -> R
 fn add_directive<S: Spans>(
     alloc: Global,
     revocations: &mut Revocations<S>,
-    current: &Option<Bytes>,
+    under: Under<'_>,
     directive: Directive,
     given: &[u8],
 ) -> Result<(), TextCause>
-    ensures { TakesEntry (spec_entry (order_entry current.now directive given.now)) result
+    ensures { TakesEntry
+        (spec_entry (order_entry (authority_under under.entry) directive given.now)) result
         revocations.old revocations.new }
 {
-    match add_order(alloc, revocations, under(current), directive, given) {
+    match add_order(alloc, revocations, under, directive, given) {
         Ok(()) => Ok(()),
         Err(cause) => Err(TextCause::Spec(cause)),
     }
@@ -126,27 +199,27 @@ fn add_directive<S: Spans>(
 fn add_serial<S: Spans>(
     alloc: Global,
     revocations: &mut Revocations<S>,
-    current: &Option<Bytes>,
+    under: Under<'_>,
     given: &[u8],
 ) -> Result<(), TextCause>
-    ensures { TakesEntry (serial_entry current.now given.now) result
+    ensures { TakesEntry (serial_entry (authority_under under.entry) given.now) result
         revocations.old revocations.new }
 {
     if has_leading_zero(given) {
         return Err(TextCause::LeadingZero);
     }
-    add_directive(alloc, revocations, current, Directive::Serial, given)
+    add_directive(alloc, revocations, under, Directive::Serial, given)
 }
 
 // Adds a key ID as it is.
 fn add_id<S: Spans>(
     alloc: Global,
     revocations: &mut Revocations<S>,
-    current: &Option<Bytes>,
+    under: Under<'_>,
     line: &[u8],
     given: &[u8],
 ) -> Result<(), TextCause>
-    ensures { TakesEntry (id_entry current.now line.now given.now) result
+    ensures { TakesEntry (id_entry (authority_under under.entry) line.now given.now) result
         revocations.old revocations.new }
 {
     if is_cut(line) {
@@ -164,27 +237,27 @@ fn add_id<S: Spans>(
     if looks_like_several(given) {
         return Err(TextCause::SeveralIds);
     }
-    add_directive(alloc, revocations, current, Directive::Id, given)
+    add_directive(alloc, revocations, under, Directive::Id, given)
 }
 
 // Adds a key ID that is given by its bytes.
 fn add_id_hex<S: Spans>(
     alloc: Global,
     revocations: &mut Revocations<S>,
-    current: &Option<Bytes>,
+    under: Under<'_>,
     given: &[u8],
 ) -> Result<(), TextCause>
-    ensures { TakesEntry (id_hex_entry current.now given.now) result
+    ensures { TakesEntry (id_hex_entry (authority_under under.entry) given.now) result
         revocations.old revocations.new }
 {
-    let Some(authority) = current else {
+    let Some(authority) = bytes_of(under) else {
         return Err(TextCause::Spec(SpecCause::NoAuthority));
     };
     let id = read_bytes(alloc, given)?;
     if has_zero(id.as_slice()) {
         return Err(TextCause::ZeroInId);
     }
-    revocations.add_id(authority.as_slice(), id.as_slice())?;
+    revocations.add_id(authority, id.as_slice())?;
     Ok(())
 }
 
@@ -201,7 +274,7 @@ fn add_keyed<S: Spans>(
     if !begins_with_key(given) {
         return Err(NO_KEY);
     }
-    add_directive(alloc, revocations, &None, directive, given)
+    add_directive(alloc, revocations, Under::NotGiven, directive, given)
 }
 
 // Adds a key that is given by its bytes.
@@ -228,7 +301,7 @@ fn add_hash<S: Spans>(
     if is_sha1(given) {
         return add_sha1(alloc, revocations, given);
     }
-    add_directive(alloc, revocations, &None, Directive::Hash, given)
+    add_directive(alloc, revocations, Under::NotGiven, Directive::Hash, given)
 }
 
 // Adds a key that is given by its SHA-1.

@@ -2,8 +2,9 @@
 
 ghost use Rattle.std.specs.Prelude.{◌≡◌, MatchOption, None, Some};
 ghost use Rattle.std.specs.List.{before_first};
-ghost use Rattle.text_entries.specs.Misspelt.{is_word_end, misspelt_in, numbered_line};
+ghost use Rattle.text_entries.specs.Misspelt.{is_close, is_word_end, misspelt_in, numbered_line};
 
+use crate::one_off::is_one_off;
 use crate::word::Word;
 use key_text::{is_blank, split_line};
 use std::marker::Model;
@@ -58,7 +59,7 @@ pub(crate) fn misspelt_in(line: &[u8]) -> Option<Misspelt<'_>>
 }
 
 // The part of a line before its first byte that ends a word.
-fn before_word_end(line: &[u8]) -> &[u8]
+pub(crate) fn before_word_end(line: &[u8]) -> &[u8]
     ensures { result.now ≡ before_first is_word_end line.now }
 {
     for (at, byte) in line.iter().enumerate() {
@@ -67,6 +68,14 @@ fn before_word_end(line: &[u8]) -> &[u8]
         }
     }
     line
+}
+
+/// Whether two spellings are the same or differ in one slip. Letters in upper and lower case count
+/// the same.
+pub fn is_close(given: &[u8], meant: &[u8]) -> bool
+    ensures { result ≡ is_close given.now meant.now }
+{
+    given.eq_ignore_ascii_case(meant) || is_one_off(given, meant)
 }
 
 // Whether a word ends before this byte: a colon, an equals sign or a blank.

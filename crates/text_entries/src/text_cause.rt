@@ -38,10 +38,18 @@ pub enum TextCause {
     QuotedId,
     /// A key ID has a comma and a blank, and is not given by its bytes.
     SeveralIds,
+    /// The name that a certificate authority is given is none.
+    BadName,
+    /// The name that a certificate authority is given has another key.
+    OtherKey,
+    /// No line before it names a certificate authority by this name.
+    UnknownName,
+    /// Neither a colon nor the word of an entry of certificates is behind the name of an authority.
+    MarkedWord,
 }
 
 impl TextCause {
-    /// The fault's number, 1 to 13 in the order of the variants.
+    /// The fault's number, 1 to 17 in the order of the variants.
     pub fn number(self) -> u8
         ensures { result ≡ text_cause_number self }
     {
@@ -59,6 +67,10 @@ impl TextCause {
             TextCause::LeadingZero => 11,
             TextCause::QuotedId => 12,
             TextCause::SeveralIds => 13,
+            TextCause::BadName => 14,
+            TextCause::OtherKey => 15,
+            TextCause::UnknownName => 16,
+            TextCause::MarkedWord => 17,
         }
     }
 }
@@ -81,6 +93,10 @@ impl fmt::Display for TextCause {
             TextCause::LeadingZero => f.write_str("text 11 LeadingZero"),
             TextCause::QuotedId => f.write_str("text 12 QuotedId"),
             TextCause::SeveralIds => f.write_str("text 13 SeveralIds"),
+            TextCause::BadName => f.write_str("text 14 BadName"),
+            TextCause::OtherKey => f.write_str("text 15 OtherKey"),
+            TextCause::UnknownName => f.write_str("text 16 UnknownName"),
+            TextCause::MarkedWord => f.write_str("text 17 MarkedWord"),
         }
     }
 }

@@ -221,8 +221,8 @@ pub fn looks_like_several(id: &[u8]) -> bool
     ensures { result ≡ looks_like_several id.now }
 {
     let mut rest = id;
-    'bytes: while let [_, after @ ..] = rest {
-        if rest.starts_with(b", ") {
+    'bytes: while let [byte, after @ ..] = rest {
+        if *byte == b',' && after.starts_with(b" ") {
             return true;
         }
         rest = after;

@@ -4,7 +4,7 @@ ghost use Rattle.std.specs.Prelude.{◌≡◌, MatchOption, None, Some};
 ghost use Rattle.text_entries.specs.Misspelt.{is_meant, meant};
 ghost use Rattle.text_entries.specs.Word.{is_named, name_of, order, order_in, word_named};
 
-use crate::one_off::is_one_off;
+use crate::misspelt::is_close;
 use key_text::after_blanks;
 use krl_spec::position_of;
 
@@ -94,7 +94,7 @@ impl Word {
     fn is_meant(self, name: &[u8]) -> bool
         ensures { result ≡ is_meant self name.now }
     {
-        self.is_named(name) || is_one_off(name, self.name().as_bytes())
+        is_close(name, self.name().as_bytes())
     }
 }
 

@@ -4,6 +4,7 @@ mod current;
 mod ids;
 mod lines;
 mod lost;
+mod names;
 mod page;
 mod places;
 mod runs;

@@ -15,8 +15,10 @@ use Rattle.krl_format.specs.declared.header.Header.{Header}
 use Rattle.krl_spec.specs.Blanks.{after_endings, bare_line}
 use Rattle.list_text.specs.Text.{comment_part, list_line}
 use Rattle.ssh_cert.specs.Escape.{hex_digit, numbered}
+use Rattle.text_entries.specs.Mark.{mark_in}
 use Rattle.text_entries.specs.Says.{Blank, line_says}
 use Rattle.text_entries.specs.Word.{order_in}
+use Rattle.text_entries.specs.declared.standing.Standing.{Standing}
 use Rattle.text_laws.specs.FactLines.{HasNumbers}
 use Rattle.text_laws.proofs.LineReads.{Reads}
 use Rattle.text_laws.proofs.SolidBytes.{HasNoFeed, IsSolid, decimal_solid, hex_symbol, kept_no_feed, solid_kept}
@@ -133,24 +135,24 @@ comment_in_line comment = elim (cases_Bool (length comment == 0)) [
 
 -- ---- the line
 
-comment_says : (current : Option (List ℕ)) (comment : List ℕ) → line_says current (35 ∷ comment) ≡ Ok Blank
-unfolding line_says bare_line after_endings before_ending order_in
-comment_says current comment = refl
+comment_says : (standing : Standing) (comment : List ℕ) → line_says standing (35 ∷ comment) ≡ Ok Blank
+unfolding line_says bare_line after_endings before_ending order_in mark_in
+comment_says standing comment = refl
 
-comment_reads : (current : Option (List ℕ)) (comment text : List ℕ) → IsInLine comment
-    → text ≡ 35 ∷ (comment ++ 10 ∷ []) → Reads current text Blank
-comment_reads current comment text no_feed ended =
-    record { line = 35 ∷ comment; ended = ended; no_feed = All-cons HasNoFeed 35 comment refl no_feed.each; says = comment_says current comment }
+comment_reads : (standing : Standing) (comment text : List ℕ) → IsInLine comment
+    → text ≡ 35 ∷ (comment ++ 10 ∷ []) → Reads standing text Blank
+comment_reads standing comment text no_feed ended =
+    record { line = 35 ∷ comment; ended = ended; no_feed = All-cons HasNoFeed 35 comment refl no_feed.each; says = comment_says standing comment }
 
-pub list_reads : (current : Option (List ℕ)) (name : List ℕ) (header : Option Header) → HasNumbers header
-    → Reads current (list_line name header) Blank
-list_reads current name None fits =
+pub list_reads : (standing : Standing) (name : List ℕ) (header : Option Header) → HasNumbers header
+    → Reads standing (list_line name header) Blank
+list_reads standing name None fits =
     let comment : List ℕ = 32 ∷ (visible false name ++ codes ": a plain list") in
-    comment_reads current comment (list_line name None) (before refl (joined (visible_in_line name) (literal_in_line (codes ": a plain list") refl))) (simp append_assoc)
-list_reads current name (Some header) fits =
+    comment_reads standing comment (list_line name None) (before refl (joined (visible_in_line name) (literal_in_line (codes ": a plain list") refl))) (simp append_assoc)
+list_reads standing name (Some header) fits =
     let comment : List ℕ =
     32 ∷ (visible false name ++ (codes ": version " ++ (decimal header.version ++ (codes ", " ++ (instant_text header.date ++ comment_part header.comment))))) in
     let date = joined (instant_in_line header.date fits.1) (comment_in_line header.comment) in
     let version = joined (decimal_in_line header.version fits.0) (joined (literal_in_line (codes ", ") refl) date) in
-    comment_reads current comment (list_line name (Some header)) (before refl (joined (visible_in_line name) (joined (literal_in_line (codes ": version ") refl) version)))
+    comment_reads standing comment (list_line name (Some header)) (before refl (joined (visible_in_line name) (joined (literal_in_line (codes ": version ") refl) version)))
     (simp append_assoc)

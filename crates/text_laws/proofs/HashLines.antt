@@ -16,6 +16,7 @@ use Rattle.list_text.specs.Text.{hash_line}
 use Rattle.text_entries.specs.Says.{Names}
 use Rattle.text_entries.specs.Values.{sha1_in}
 use Rattle.text_entries.specs.Word.{word_named}
+use Rattle.text_entries.specs.declared.standing.Standing.{Standing}
 use Rattle.text_entries.specs.declared.word.Word.TheVariants as words
 use Rattle.text_laws.proofs.Contents.{IsName, IsValue, nothing_left, solid_value}
 use Rattle.text_laws.proofs.LineReads.{Reads, line_reads, literal_name, plain_text}
@@ -45,19 +46,19 @@ sha256_value : (hash : List ℕ) → IsValue (codes "SHA256:" ++ unpadded hash)
 sha256_value hash =
     solid_value (codes "SHA256:" ++ unpadded hash) (All-append IsSolid (codes "SHA256:") (unpadded hash) (AllPass-from_list_all is_solid (codes "SHA256:") refl) (unpadded_solid hash))
 
-pub sha1_reads : (current : Option (List ℕ)) (hash : List ℕ) → IsBytes hash → length hash ≡ 20
-    → Reads current (hash_line (codes "SHA1:") hash) (Names (Sha1Entry hash))
-sha1_reads current hash bytes size =
+pub sha1_reads : (standing : Standing) (hash : List ℕ) → IsBytes hash → length hash ≡ 20
+    → Reads standing (hash_line (codes "SHA1:") hash) (Names (Sha1Entry hash))
+sha1_reads standing hash bytes size =
     let value : List ℕ = codes "SHA1:" ++ unpadded hash in
     let kept = sha1_value hash in
-    line_reads current (codes "hash") value [] (hash_line (codes "SHA1:") hash) (Names (Sha1Entry hash)) hash_name kept nothing_left (plain_text (codes "hash") value)
-    (word_line_says current (codes "hash") value [] words.Hash hash_name kept nothing_left hash_word ∙ rw (sha1_again hash bytes size) refl)
+    line_reads standing (codes "hash") value [] (hash_line (codes "SHA1:") hash) (Names (Sha1Entry hash)) hash_name kept nothing_left (plain_text (codes "hash") value)
+    (word_line_says standing (codes "hash") value [] words.Hash hash_name kept nothing_left hash_word ∙ rw (sha1_again hash bytes size) refl)
 
-pub sha256_reads : (current : Option (List ℕ)) (hash : List ℕ) → IsBytes hash → length hash ≡ 32
-    → Reads current (hash_line (codes "SHA256:") hash) (Names (Sha256Entry hash))
-sha256_reads current hash bytes size =
+pub sha256_reads : (standing : Standing) (hash : List ℕ) → IsBytes hash → length hash ≡ 32
+    → Reads standing (hash_line (codes "SHA256:") hash) (Names (Sha256Entry hash))
+sha256_reads standing hash bytes size =
     let value : List ℕ = codes "SHA256:" ++ unpadded hash in
     let kept = sha256_value hash in
-    let entry : order_entry current directives.Hash value ≡ Ok (Sha256Entry hash) = rw (sha256_again hash bytes size) refl in
-    line_reads current (codes "hash") value [] (hash_line (codes "SHA256:") hash) (Names (Sha256Entry hash)) hash_name kept nothing_left (plain_text (codes "hash") value)
-    (word_line_says current (codes "hash") value [] words.Hash hash_name kept nothing_left hash_word ∙ rw entry refl)
+    let entry : order_entry standing.current directives.Hash value ≡ Ok (Sha256Entry hash) = rw (sha256_again hash bytes size) refl in
+    line_reads standing (codes "hash") value [] (hash_line (codes "SHA256:") hash) (Names (Sha256Entry hash)) hash_name kept nothing_left (plain_text (codes "hash") value)
+    (word_line_says standing (codes "hash") value [] words.Hash hash_name kept nothing_left hash_word ∙ rw entry refl)

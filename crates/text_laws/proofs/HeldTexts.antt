@@ -28,7 +28,7 @@ use Rattle.std.proofs.Math.Logic.Iff as Iff
 use Rattle.krl_entries.specs.Facts.{Fact as Held, ItemFact, SerialsFact, facts_of, section_facts}
 use Rattle.list_text.specs.Facts.{Fact, HeldFact}
 use Rattle.list_text.specs.Text.{text_of}
-use Rattle.text_entries.specs.Lines.{lines_of}
+use Rattle.text_entries.specs.Lines.{beginning, lines_of, lines_with}
 use Rattle.text_laws.specs.FactLines.{AreSerials as AreSpanSerials, FitsUnder, HasNoZero}
 use Rattle.text_laws.specs.ReadBack.{CanBeShown, IsReadAs, IsReadInto, IsStored, Shown, StopsWith, entries_of_lists, facts_about, text_of_lists}
 use Rattle.text_laws.proofs.FactLines.{AllFit, after, all_entries, entries_of, facts_read}
@@ -184,20 +184,20 @@ held_fit r stored = subst FitAnywhere (append-nil (map HeldFact (facts_of r))) (
 -- ---- what is held
 
 pub read_back : (r : Revocations) → IsStored r → IsReadAs (text_of r) (entries_in r)
-unfolding lines_of
+unfolding lines_with
 read_back r stored =
-    let read = facts_read 1 None (map HeldFact (facts_of r)) (held_fit r stored None) in
+    let read = facts_read 1 (beginning []) (map HeldFact (facts_of r)) (held_fit r stored None) in
     (read.faultless, read.are ∙ held_named r)
 
 pub means_back : (r : Revocations) → IsStored r → Means r (lines_of (text_of r)).entries
 means_back r stored = subst (Means r) (sym (read_back r stored).1) (means_itself r stored.orderly)
 
 pub same_back : (r held : Revocations) → IsStored r → IsReadInto (text_of r) nothing held → held ≡ r
-same_back r held stored into = sym (one_meaning r held (lines_of (text_of r)).entries (means_back r stored) (into.1 [] nothing_meant))
+same_back r held stored into = sym (one_meaning r held (lines_of (text_of r)).entries (means_back r stored) (into.1.2 [] nothing_meant))
 
 -- If reading a text without a fault stops, an allocation failed.
 only_memory : (text : List ℕ) (number : ℕ) (cause : TextCause) (old new : Revocations) → (lines_of text).fault ≡ None
-    → StopsAt text number cause old new → cause ≡ no_memory
+    → StopsAt [] text number cause old new → cause ≡ no_memory
 only_memory text number (causes.Spec specs.NoMemory) old new faultless stops = refl
 only_memory text number cause old new faultless stops = absurd (let is = stops.0 in cc)
 
@@ -220,9 +220,9 @@ lists_named (list ∷ lists) =
 
 pub lists_read_back : (lists : List Shown) → All CanBeShown lists
     → IsReadAs (text_of_lists lists) (entries_of_lists lists)
-unfolding lines_of
+unfolding lines_with
 lists_read_back lists shown =
-    let read = facts_read 1 None (flat_map facts_about lists) (lists_fit lists shown None) in
+    let read = facts_read 1 (beginning []) (flat_map facts_about lists) (lists_fit lists shown None) in
     (read.faultless, read.are ∙ lists_named lists)
 
 -- One list: its entries and those of its text name the same.

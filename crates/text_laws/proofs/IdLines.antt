@@ -22,6 +22,7 @@ use Rattle.list_text.specs.Text.{has_blank_end, id_line, is_text, is_text_byte, 
 use Rattle.text_entries.specs.Says.{Under}
 use Rattle.text_entries.specs.Values.{bytes_in, has_control, has_zero, is_control, is_cut, is_quoted, looks_like_key, looks_like_several}
 use Rattle.text_entries.specs.Word.{word_named}
+use Rattle.text_entries.specs.declared.standing.Standing.{Standing}
 use Rattle.text_entries.specs.declared.word.Word.TheVariants as words
 use Rattle.text_laws.proofs.Contents.{IsName, IsValue, line_no_hash, line_of, nothing_left, solid_value}
 use Rattle.text_laws.proofs.LineReads.{Reads, line_reads, literal_name, plain_text}
@@ -119,14 +120,14 @@ id_entry : (authority id : List ℕ) → id ≢ []
 id_entry authority [] some = absurd (some refl)
 id_entry authority (byte ∷ id) some = refl
 
-plain_read : (authority id : List ℕ) → IsText id
-    → Reads (Some authority) (codes "id: " ++ (id ++ codes "\n")) (Under (IdEntry authority id))
-plain_read authority id is =
+plain_read : (standing : Standing) (authority id : List ℕ) → standing.current ≡ Some authority → IsText id
+    → Reads standing (codes "id: " ++ (id ++ codes "\n")) (Under (IdEntry authority id))
+plain_read standing authority id under is =
     let kept = text_value id is in
     let line : List ℕ = line_of (codes "id") id [] in
     let uncut : is_cut line ≡ false = whole line (line_no_hash (codes "id") id id_name kept) in
-    line_reads (Some authority) (codes "id") id [] (codes "id: " ++ (id ++ codes "\n")) (Under (IdEntry authority id)) id_name kept nothing_left (plain_text (codes "id") id)
-    (word_line_says (Some authority) (codes "id") id [] words.Id id_name kept nothing_left id_word ∙ rw (uncut, uncontrolled id is, is.no_key, is.no_quotes, is.is_one, id_entry authority id is.some) refl)
+    line_reads standing (codes "id") id [] (codes "id: " ++ (id ++ codes "\n")) (Under (IdEntry authority id)) id_name kept nothing_left (plain_text (codes "id") id)
+    (word_line_says standing (codes "id") id [] words.Id id_name kept nothing_left id_word ∙ rw (under, uncut, uncontrolled id is, is.no_key, is.no_quotes, is.is_one, id_entry authority id is.some) refl)
 
 -- ---- a key ID by its bytes
 
@@ -141,19 +142,19 @@ bytes_again : (id : List ℕ) → IsBytes id → bytes_in (encode_lower id) ≡ 
 unfolding bytes_in
 bytes_again id bytes = rw (decode_of-encode_lower id bytes) refl
 
-hex_read : (authority id : List ℕ) → IsBytes id → has_zero id ≡ false
-    → Reads (Some authority) (codes "id-hex: " ++ (encode_lower id ++ codes "\n")) (Under (IdEntry authority id))
-hex_read authority id bytes whole =
+hex_read : (standing : Standing) (authority id : List ℕ) → standing.current ≡ Some authority → IsBytes id → has_zero id ≡ false
+    → Reads standing (codes "id-hex: " ++ (encode_lower id ++ codes "\n")) (Under (IdEntry authority id))
+hex_read standing authority id under bytes whole =
     let kept = solid_value (encode_lower id) (hex_solid id) in
-    line_reads (Some authority) (codes "id-hex") (encode_lower id) [] (codes "id-hex: " ++ (encode_lower id ++ codes "\n")) (Under (IdEntry authority id)) hex_name kept nothing_left
+    line_reads standing (codes "id-hex") (encode_lower id) [] (codes "id-hex: " ++ (encode_lower id ++ codes "\n")) (Under (IdEntry authority id)) hex_name kept nothing_left
     (plain_text (codes "id-hex") (encode_lower id))
-    (word_line_says (Some authority) (codes "id-hex") (encode_lower id) [] words.IdHex hex_name kept nothing_left hex_word ∙ rw (bytes_again id bytes, whole) refl)
+    (word_line_says standing (codes "id-hex") (encode_lower id) [] words.IdHex hex_name kept nothing_left hex_word ∙ rw (under, bytes_again id bytes, whole) refl)
 
 -- ---- any key ID
 
-pub id_reads : (authority id : List ℕ) → IsBytes id → has_zero id ≡ false
-    → Reads (Some authority) (id_line id) (Under (IdEntry authority id))
-id_reads authority id bytes whole = elim (cases_Bool (is_text id)) [
-  | inl text ↦ rw text (plain_read authority id (text_is id text))
-  | inr other ↦ rw other (hex_read authority id bytes whole)
+pub id_reads : (standing : Standing) (authority id : List ℕ) → standing.current ≡ Some authority → IsBytes id → has_zero id ≡ false
+    → Reads standing (id_line id) (Under (IdEntry authority id))
+id_reads standing authority id under bytes whole = elim (cases_Bool (is_text id)) [
+  | inl text ↦ rw text (plain_read standing authority id under (text_is id text))
+  | inr other ↦ rw other (hex_read standing authority id under bytes whole)
 ]

@@ -17,3 +17,4 @@ mod ShownLists
 mod MadeLists
 mod Printed
 mod SpecLines
+mod AnyOrder

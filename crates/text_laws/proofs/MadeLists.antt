@@ -11,11 +11,13 @@ use Rattle.krl_writer.specs.KrlText.{IsKrlText}
 use Rattle.text_laws.specs.MadeLists.{IsMergedOf, only_text_of}
 use Rattle.text_laws.specs.ReadBack.{CanBeShown, IsReadAs, Shown, entries_of_lists, text_of_lists}
 use Rattle.text_laws.proofs.HeldTexts.{lists_read_back}
-use Rattle.text_run.specs.Making.{Makes, Wanted, text_entries, texts_entries}
+use Rattle.text_entries.specs.Lines.{lines_of}
+use Rattle.text_run.specs.Making.{Makes, Wanted, text_from, texts_entries}
 
 text_read : (is_file : Bool) (name bytes : List ℕ) (entries : List Entry) → IsReadAs bytes entries
-    → text_entries (record { name = name; is_file = is_file; content = Ok bytes }) ≡ Ok entries
-unfolding text_entries
+    → text_from [] (record { name = name; is_file = is_file; content = Ok bytes })
+    ≡ Ok (record { entries = entries; names = (lines_of bytes).standing.names })
+unfolding text_from
 text_read is_file name bytes entries read = rw (read.0, read.1) refl
 
 pub entries_made : (lists : List Shown) (wanted : Wanted) (is_file : Bool) (name bytes : List ℕ) (contents : Revocations) → All CanBeShown lists

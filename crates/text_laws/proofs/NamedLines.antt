@@ -24,6 +24,7 @@ use Rattle.list_text.specs.Text.{authority_line, key_line, named_line}
 use Rattle.text_entries.specs.Says.{Current, Names}
 use Rattle.text_entries.specs.Values.{authority_blob_in, authority_in, authority_key_in, blob_in, is_all, some_bytes}
 use Rattle.text_entries.specs.Word.{word_named}
+use Rattle.text_entries.specs.declared.standing.Standing.{Standing}
 use Rattle.text_entries.specs.declared.word.Word.TheVariants as words
 use Rattle.text_laws.proofs.Contents.{IsName, IsRest, comment_left, nothing_left, solid_value}
 use Rattle.text_laws.proofs.KeyValues.{begins_named, key_is_value, key_subject, key_value}
@@ -64,12 +65,12 @@ blob_word : word_named (codes "ca-blob") ≡ Some words.AuthorityBlob
 unfolding word_named
 blob_word = refl
 
-all_read : (current : Option (List ℕ)) → Reads current (codes "ca: all\n") (Current [])
+all_read : (standing : Standing) → Reads standing (codes "ca: all\n") (Current [])
 unfolding authority_in
-all_read current =
+all_read standing =
     let kept = solid_value (codes "all") (AllPass-from_list_all is_solid (codes "all") refl) in
-    line_reads current (codes "ca") (codes "all") [] (codes "ca: all\n") (Current []) ca_name kept nothing_left refl
-    (word_line_says current (codes "ca") (codes "all") [] words.Authority ca_name kept nothing_left ca_word)
+    line_reads standing (codes "ca") (codes "all") [] (codes "ca: all\n") (Current []) ca_name kept nothing_left refl
+    (word_line_says standing (codes "ca") (codes "all") [] words.Authority ca_name kept nothing_left ca_word)
 
 -- no type name is `all`
 not_all : (kind : Kind) (rest : List ℕ) → is_all (type_name kind ++ 32 ∷ rest) ≡ false
@@ -97,28 +98,28 @@ authority_blob_again : (blob : List ℕ) → IsBytes blob → blob ≢ []
 unfolding authority_blob_in
 authority_blob_again blob bytes some = rw (blob_again blob bytes) (some_again blob some)
 
-named_authority : (current : Option (List ℕ)) (blob : List ℕ) → IsBytes blob → blob ≢ []
+named_authority : (standing : Standing) (blob : List ℕ) → IsBytes blob → blob ≢ []
     → (read : Result PublicKey KeyFault) → key_at blob ≡ read
-    → Reads current (named_line (codes "ca") blob read) (Current blob)
-named_authority current blob bytes some (Ok key) read =
+    → Reads standing (named_line (codes "ca") blob read) (Current blob)
+named_authority standing blob bytes some (Ok key) read =
     let kept = key_is_value blob key bytes read in
     let rest : List ℕ = 32 ∷ 35 ∷ 32 ∷ fingerprint_text Sha256 blob in
     let value : List ℕ = key_value blob key bytes read in
-    line_reads current (codes "ca") value rest (named_line (codes "ca") blob (Ok key)) (Current blob) ca_name kept (print_left blob)
+    line_reads standing (codes "ca") value rest (named_line (codes "ca") blob (Ok key)) (Current blob) ca_name kept (print_left blob)
     (comment_text (codes "ca") (type_name key.kind) (encode_of standard blob) (fingerprint_text Sha256 blob))
-    (word_line_says current (codes "ca") value rest words.Authority ca_name kept (print_left blob) ca_word ∙ rw (authority_again blob key bytes read) refl)
-named_authority current blob bytes some (Err fault) read =
+    (word_line_says standing (codes "ca") value rest words.Authority ca_name kept (print_left blob) ca_word ∙ rw (authority_again blob key bytes read) refl)
+named_authority standing blob bytes some (Err fault) read =
     let value : List ℕ = encode_of standard blob in
     let kept = solid_value value (base64_solid blob) in
-    line_reads current (codes "ca-blob") value [] (named_line (codes "ca") blob (Err fault)) (Current blob) blob_name kept nothing_left (plain_text (codes "ca-blob") value)
-    (word_line_says current (codes "ca-blob") value [] words.AuthorityBlob blob_name kept nothing_left blob_word ∙ rw (authority_blob_again blob bytes some) refl)
+    line_reads standing (codes "ca-blob") value [] (named_line (codes "ca") blob (Err fault)) (Current blob) blob_name kept nothing_left (plain_text (codes "ca-blob") value)
+    (word_line_says standing (codes "ca-blob") value [] words.AuthorityBlob blob_name kept nothing_left blob_word ∙ rw (authority_blob_again blob bytes some) refl)
 
-pub authority_reads : (current : Option (List ℕ)) (authority : List ℕ) → IsBytes authority
-    → Reads current (authority_line authority) (Current authority)
-authority_reads current [] bytes = all_read current
-authority_reads current (byte ∷ authority) bytes =
+pub authority_reads : (standing : Standing) (authority : List ℕ) → IsBytes authority
+    → Reads standing (authority_line authority) (Current authority)
+authority_reads standing [] bytes = all_read standing
+authority_reads standing (byte ∷ authority) bytes =
     let some : (length (byte ∷ authority) == 0) ≡ false = ne_eqb (length (byte ∷ authority)) 0 (λ none. absurd (omega (arith, none))) in
-    rw some (named_authority current (byte ∷ authority) bytes (λ none. absurd cc) (key_at (byte ∷ authority)) refl)
+    rw some (named_authority standing (byte ∷ authority) bytes (λ none. absurd cc) (key_at (byte ∷ authority)) refl)
 
 -- ---- keys
 
@@ -141,23 +142,23 @@ plain_again : (blob : List ℕ) (key : PublicKey) (bytes : IsBytes blob) (read :
 unfolding plain_in
 plain_again blob key bytes read = rw (key_subject blob key bytes read) refl
 
-named_key : (current : Option (List ℕ)) (blob : List ℕ) → IsBytes blob → (read : Result PublicKey KeyFault)
+named_key : (standing : Standing) (blob : List ℕ) → IsBytes blob → (read : Result PublicKey KeyFault)
     → key_at blob ≡ read
-    → Reads current (named_line (codes "key") blob read) (Names (KeyEntry blob))
-named_key current blob bytes (Ok key) read =
+    → Reads standing (named_line (codes "key") blob read) (Names (KeyEntry blob))
+named_key standing blob bytes (Ok key) read =
     let kept = key_is_value blob key bytes read in
     let rest : List ℕ = 32 ∷ 35 ∷ 32 ∷ fingerprint_text Sha256 blob in
     let value : List ℕ = key_value blob key bytes read in
-    let entry : order_entry current directives.Key value ≡ Ok (KeyEntry blob) = rw (plain_again blob key bytes read) refl in
-    line_reads current (codes "key") value rest (named_line (codes "key") blob (Ok key)) (Names (KeyEntry blob)) key_name kept (print_left blob)
+    let entry : order_entry standing.current directives.Key value ≡ Ok (KeyEntry blob) = rw (plain_again blob key bytes read) refl in
+    line_reads standing (codes "key") value rest (named_line (codes "key") blob (Ok key)) (Names (KeyEntry blob)) key_name kept (print_left blob)
     (comment_text (codes "key") (type_name key.kind) (encode_of standard blob) (fingerprint_text Sha256 blob))
-    (word_line_says current (codes "key") value rest words.Key key_name kept (print_left blob) key_word ∙ rw (begins_named key.kind (encode_of standard blob), entry) refl)
-named_key current blob bytes (Err fault) read =
+    (word_line_says standing (codes "key") value rest words.Key key_name kept (print_left blob) key_word ∙ rw (begins_named key.kind (encode_of standard blob), entry) refl)
+named_key standing blob bytes (Err fault) read =
     let value : List ℕ = encode_of standard blob in
     let kept = solid_value value (base64_solid blob) in
-    line_reads current (codes "key-blob") value [] (named_line (codes "key") blob (Err fault)) (Names (KeyEntry blob)) key_blob_name kept nothing_left (plain_text (codes "key-blob") value)
-    (word_line_says current (codes "key-blob") value [] words.KeyBlob key_blob_name kept nothing_left key_blob_word ∙ rw (blob_again blob bytes) refl)
+    line_reads standing (codes "key-blob") value [] (named_line (codes "key") blob (Err fault)) (Names (KeyEntry blob)) key_blob_name kept nothing_left (plain_text (codes "key-blob") value)
+    (word_line_says standing (codes "key-blob") value [] words.KeyBlob key_blob_name kept nothing_left key_blob_word ∙ rw (blob_again blob bytes) refl)
 
-pub key_reads : (current : Option (List ℕ)) (blob : List ℕ) → IsBytes blob
-    → Reads current (key_line blob) (Names (KeyEntry blob))
-key_reads current blob bytes = named_key current blob bytes (key_at blob) refl
+pub key_reads : (standing : Standing) (blob : List ℕ) → IsBytes blob
+    → Reads standing (key_line blob) (Names (KeyEntry blob))
+key_reads standing blob bytes = named_key standing blob bytes (key_at blob) refl

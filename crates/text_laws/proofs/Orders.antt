@@ -7,6 +7,7 @@ use Rattle.krl_spec.specs.Directive.{is_colon}
 use Rattle.krl_spec.proofs.LongestParts.{cut_again, front_gone}
 use Rattle.text_entries.specs.Says.{line_says, word_says}
 use Rattle.text_entries.specs.Word.{order, order_in, word_named}
+use Rattle.text_entries.specs.declared.standing.Standing.{Standing}
 use Rattle.text_entries.specs.declared.word.Word.{Word}
 use Rattle.text_laws.proofs.Contents.{IsName, IsRest, IsValue, content_is, line_of, no_blank}
 
@@ -25,12 +26,12 @@ order_is name gap value clean blanks starts =
 -- ---- the line
 
 -- a line with a word
-pub word_line_says : (current : Option (List ℕ)) (name value rest : List ℕ) (word : Word) → IsName name
+pub word_line_says : (standing : Standing) (name value rest : List ℕ) (word : Word) → IsName name
     → IsValue value → IsRest rest
     → word_named name ≡ Some word
-    → line_says current (line_of name value rest) ≡ word_says current (line_of name value rest) word value
+    → line_says standing (line_of name value rest) ≡ word_says standing.current (line_of name value rest) word value
 unfolding line_says
-word_line_says current name value rest word is kept left named =
+word_line_says standing name value rest word is kept left named =
     let content = content_is name value rest is kept left in
     let found : order_in (bare_line (line_of name value rest)) ≡ Some (order value word) =
     ap order_in content.is ∙ order_is name content.gap value is.no_colon content.blanks (no_blank value kept.starts) ∙ ap (option_map (order value)) named in

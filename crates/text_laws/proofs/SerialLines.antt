@@ -17,6 +17,7 @@ use Rattle.list_text.specs.Text.{serials_line}
 use Rattle.text_entries.specs.Says.{Under}
 use Rattle.text_entries.specs.Values.{begins_with_zero, has_leading_zero}
 use Rattle.text_entries.specs.Word.{word_named}
+use Rattle.text_entries.specs.declared.standing.Standing.{Standing}
 use Rattle.text_entries.specs.declared.word.Word.TheVariants as words
 use Rattle.text_laws.specs.FactLines.{AreSerials}
 use Rattle.text_laws.proofs.Contents.{IsName, no_blank, nothing_left, solid_value}
@@ -81,25 +82,25 @@ serial_word : word_named (codes "serial") ≡ Some words.Serial
 unfolding word_named
 serial_word = refl
 
-serial_reads : (authority value text : List ℕ) (lo hi : ℕ) → AllPass is_solid value → AreBounds value lo hi
+serial_reads : (standing : Standing) (authority value text : List ℕ) (lo hi : ℕ) → standing.current ≡ Some authority → AllPass is_solid value → AreBounds value lo hi
     → has_leading_zero value ≡ false → AreSerials (span_of lo hi)
     → text ≡ codes "serial" ++ 58 ∷ 32 ∷ (value ++ 10 ∷ [])
-    → Reads (Some authority) text (Under (RangeEntry authority lo hi))
-serial_reads authority value text lo hi solid are leading order spelled =
+    → Reads standing text (Under (RangeEntry authority lo hi))
+serial_reads standing authority value text lo hi under solid are leading order spelled =
     let kept = solid_value value solid in
     let entry : order_entry (Some authority) directives.Serial value ≡ Ok (RangeEntry authority lo hi) = rw (serials_are value lo hi are order) refl in
-    line_reads (Some authority) (codes "serial") value [] text (Under (RangeEntry authority lo hi)) serial_name kept nothing_left (spelled ∙ plain_text (codes "serial") value)
-    (word_line_says (Some authority) (codes "serial") value [] words.Serial serial_name kept nothing_left serial_word ∙ rw (leading, entry) refl)
+    line_reads standing (codes "serial") value [] text (Under (RangeEntry authority lo hi)) serial_name kept nothing_left (spelled ∙ plain_text (codes "serial") value)
+    (word_line_says standing (codes "serial") value [] words.Serial serial_name kept nothing_left serial_word ∙ rw (under, leading, entry) refl)
 
 one_solid : (n hi : ℕ) → AreSerials (span_of n hi) → AllPass is_solid (decimal n)
 one_solid n hi order = decimal_solid n (omega (arith, order.rises, order.fits))
 
-pub serials_read : (authority : List ℕ) (span : Span) → AreSerials span
-    → Reads (Some authority) (serials_line span) (Under (RangeEntry authority span.lo span.hi))
-serials_read authority span order = elim (cases_Bool (span.lo == span.hi)) [
+pub serials_read : (standing : Standing) (authority : List ℕ) (span : Span) → standing.current ≡ Some authority → AreSerials span
+    → Reads standing (serials_line span) (Under (RangeEntry authority span.lo span.hi))
+serials_read standing authority span under order = elim (cases_Bool (span.lo == span.hi)) [
   | inl one ↦
       let same = eqb-true span.lo span.hi one in
-      serial_reads authority (decimal span.lo) (serials_line span) span.lo span.hi (one_solid span.lo span.hi order)
+      serial_reads standing authority (decimal span.lo) (serials_line span) span.lo span.hi under (one_solid span.lo span.hi order)
       (one_number (number_is span.lo order.some (omega (arith, order.rises, order.fits))) same)
       (one_leads span.lo order.some (omega (arith, order.rises, order.fits))) order (rw one refl)
   | inr two ↦
@@ -109,7 +110,7 @@ serials_read authority span order = elim (cases_Bool (span.lo == span.hi)) [
       let solid = All-append IsSolid (decimal span.lo) (45 ∷ decimal span.hi) (one_solid span.lo span.hi order)
       (All-cons IsSolid 45 (decimal span.hi) refl (decimal_solid span.hi order.fits)) in
       let none = All-nil (λ (byte : ℕ). is_blank byte ≡ true) in
-      serial_reads authority value (serials_line span) span.lo span.hi solid
+      serial_reads standing authority value (serials_line span) span.lo span.hi under solid
       (two_numbers (decimal span.lo) [] [] (decimal span.hi) refl none none first last) (two_lead span.lo span.hi order) order
       (rw two (ap (λ (xs : List ℕ). codes "serial: " ++ xs) (sym (append_assoc (decimal span.lo) (45 ∷ decimal span.hi) (10 ∷ [])))))
 ]

@@ -1,10 +1,13 @@
 -- Lines of specification files say the same in texts.
-use Rattle.std.proofs.Common.{◌≡◌, ℕ, ◌+◌, nat_lt, Bool, true, List, [], ◌∷◌, length, drop, Option, Some, None, Result, Ok, Err, option_map, refl, sym, ap, subst, inl, inr}
+use Rattle.std.proofs.Common.{◌≡◌, ℕ, ◌+◌, ◌==◌, ◌∙◌, nat_lt, not, Bool, true, false, List, [], ◌∷◌, length, drop, Option, Some, None, Result, Ok, Err, option_map, refl, sym, ap, subst, inl, inr}
 use Rattle.std.specs.List.{before_first, find, position_or_len}
 use Rattle.std.specs.Str.{bytes_eq, str_to_ascii_lowercase}
-use Rattle.std.proofs.lemmas.Bool.{cases_Bool}
+use Rattle.std.proofs.lemmas.Bool.{cases_Bool, false≢true}
+use Rattle.std.proofs.lemmas.Bool.Decides.{Decides-eqb}
+use Rattle.std.proofs.lemmas.List.Sums.{take_while-cons}
 use Rattle.std.proofs.lemmas.Slice.Eq.{bytes_eq-Decides}
-use Rattle.key_text.specs.Blanks.{after_blanks}
+use Rattle.key_text.specs.Blanks.{after_blanks, first_word, is_blank}
+use Rattle.key_text.specs.TypeName.{certificate_names, is_type_name, plain_names, type_names}
 use Rattle.ssh_wire.specs.Reading.{◌>>=◌}
 use Rattle.krl_types.specs.Entry.{Entry}
 use Rattle.run_faults.specs.declared.spec_cause.SpecCause.{SpecCause}
@@ -14,7 +17,10 @@ use Rattle.krl_spec.specs.Entries.{bare_entry, counted_entry, line_entry, order_
 use Rattle.krl_spec.specs.declared.directive.Directive.{Directive}
 use Rattle.krl_spec.specs.declared.directive.Directive.TheVariants as directives
 use Rattle.text_entries.specs.Says.{key_line_says, line_says, names_says, spec_entry, whole_entry, word_says}
+use Rattle.text_entries.specs.Mark.{mark_in}
+use Rattle.text_entries.specs.Values.{begins_with_key}
 use Rattle.text_entries.specs.Word.{name_of, order, order_in, word_named, words as all_words}
+use Rattle.text_entries.specs.declared.standing.Standing.{Standing}
 use Rattle.text_entries.specs.declared.word.Word.{Word}
 use Rattle.text_entries.specs.declared.word.Word.TheVariants as words
 use Rattle.text_laws.specs.SpecLines.{IsBareAlike, IsReadAlike, IsWhole, bare_says, spec_says}
@@ -101,24 +107,45 @@ alike current line given directives.Sha1 is = rw is refl
 alike current line given directives.Sha256 is = rw is refl
 alike current line given directives.Hash is = rw is refl
 
-pub directive_says : (current : Option (List ℕ)) (line given : List ℕ) (directive : Directive)
+pub directive_says : (standing : Standing) (line given : List ℕ) (directive : Directive)
     → spec_order_in (bare_line line) ≡ Some (spec_order given directive) → IsReadAlike line directive given
-    → line_says current line ≡ spec_says directive (order_entry current directive given)
+    → line_says standing line ≡ spec_says directive (order_entry standing.current directive given)
 unfolding line_says
-directive_says current line given directive found is =
-    rw (order_is (bare_line line) given directive found) (alike current line given directive is)
+directive_says standing line given directive found is =
+    rw (order_is (bare_line line) given directive found) (alike standing.current line given directive is)
 
 whole_says : (read : Result Entry SpecCause) → IsWhole read → (spec_entry read >>= whole_entry) ≡ spec_entry read
 whole_says (Ok entry) whole = rw whole refl
 whole_says (Err cause) whole = refl
 
-content_says : (current : Option (List ℕ)) (content : List ℕ) → spec_order_in content ≡ None → IsBareAlike content
+bare_content_says : (current : Option (List ℕ)) (content : List ℕ) → spec_order_in content ≡ None → IsBareAlike content
     → key_line_says content ≡ bare_says (counted_entry current content)
-content_says current [] none alike = refl
-content_says current (byte ∷ content) none alike =
+bare_content_says current [] none alike = refl
+bare_content_says current (byte ∷ content) none alike =
     rw (alike.0, none) (ap names_says (whole_says (bare_entry (byte ∷ content)) alike.1))
 
-pub key_says : (current : Option (List ℕ)) (line : List ℕ) → order_in (bare_line line) ≡ None
-    → IsBareAlike (bare_line line) → line_says current line ≡ bare_says (line_entry current line)
+-- content that begins with the type name of a key has no mark
+no_type : (word : List ℕ) → is_type_name (64 ∷ word) ≡ false
+unfolding is_type_name type_names plain_names certificate_names
+no_type word = refl
+
+no_key : (content : List ℕ) → begins_with_key (64 ∷ content) ≡ false
+unfolding first_word
+no_key content = ap is_type_name (take_while-cons (λ byte. not (is_blank byte)) 64 content) ∙ no_type (first_word content)
+
+unmarked : (content : List ℕ) → IsBareAlike content → mark_in content ≡ None
+unfolding mark_in
+unmarked [] alike = refl
+unmarked (byte ∷ content) alike = elim (cases_Bool (byte == 64)) [
+  | inl at ↦
+      let same : byte ≡ 64 = (Decides-eqb byte 64).0 at in
+      let begins : begins_with_key (byte ∷ content) ≡ false = rw same (no_key content) in
+      absurd (false≢true (sym begins ∙ alike.0))
+  | inr other ↦ rw other refl
+]
+
+pub key_says : (standing : Standing) (line : List ℕ) → order_in (bare_line line) ≡ None
+    → IsBareAlike (bare_line line) → line_says standing line ≡ bare_says (line_entry standing.current line)
 unfolding line_says line_entry
-key_says current line none alike = rw none (content_says current (bare_line line) (none_is (bare_line line) none) alike)
+key_says standing line none alike =
+    rw (none, unmarked (bare_line line) alike) (bare_content_says standing.current (bare_line line) (none_is (bare_line line) none) alike)

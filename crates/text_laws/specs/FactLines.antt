@@ -13,6 +13,7 @@ use Rattle.krl_types.specs.declared.item_kind.ItemKind.TheVariants as kinds
 use Rattle.list_text.specs.Facts.{Fact, HeldFact, ListFact}
 use Rattle.text_entries.specs.Says.{Blank, Current, Names, Saying, Under, line_says}
 use Rattle.text_entries.specs.Values.{has_zero}
+use Rattle.text_entries.specs.declared.standing.Standing.{Standing}
 
 -- what the line of a fact says
 abbrev pub fact_says : Fact → Saying
@@ -54,7 +55,7 @@ FitsUnder current (HeldFact (ItemFact kinds.Sha256 authority hash)) =
     IsBytes hash × (length hash ≡ 32)
 
 -- The text is one line with its line feed, and the line says this.
-pub record IsLineOf (current : Option (List ℕ)) (text : List ℕ) (saying : Saying) : Type 0 where
+pub record IsLineOf (standing : Standing) (text : List ℕ) (saying : Saying) : Type 0 where
   pub line : List ℕ
   pub split : slice_split is_newline text ≡ line ∷ [] ∷ []
-  pub says : line_says current line ≡ Ok saying
+  pub says : line_says standing line ≡ Ok saying

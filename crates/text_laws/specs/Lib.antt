@@ -4,3 +4,4 @@ pub mod ReadBack
 pub mod MadeLists
 pub mod Printed
 pub mod SpecLines
+pub mod AnyOrder

@@ -1,5 +1,5 @@
 -- Texts that are read as what they were printed from.
-use Rattle.std.specs.Prelude.{◌≡◌, ℕ, List, ◌∷◌, map, All, Option, None, Ok, Err}
+use Rattle.std.specs.Prelude.{◌≡◌, ℕ, List, [], ◌∷◌, map, All, Option, None, Ok, Err}
 use Rattle.std.specs.List.{concat, flat_map}
 use Rattle.ssh_wire.specs.Wire.{IsBytes}
 use Rattle.krl_entries.specs.Canonical.{entries_in}
@@ -8,6 +8,7 @@ use Rattle.krl_format.specs.declared.header.Header.{Header}
 use Rattle.krl_types.specs.Entry.{Entry}
 use Rattle.list_text.specs.Facts.{Fact, ListFact, facts_of}
 use Rattle.list_text.specs.Text.{fact_line}
+use Rattle.text_entries.specs.AuthorityNames.{NamedKeys}
 use Rattle.text_entries.specs.Lines.{lines_of}
 use Rattle.text_entries.specs.Reading.{ReadsText}
 use Rattle.text_entries.specs.declared.text_fault.TextFault.{TextFault}
@@ -34,11 +35,11 @@ IsReadAs text entries = ((lines_of text).fault ≡ None) × ((lines_of text).ent
 
 -- The text is read, and changes what is held from the old to the new.
 abbrev pub IsReadInto : List ℕ → (old new : Revocations) → Type 0
-IsReadInto text old new = ReadsText {A = Unit {0}} text (Ok tt) old new
+IsReadInto text old new = (names : NamedKeys) × ReadsText [] text (Ok names) old new
 
 -- Reading the text stops with the fault.
 abbrev pub StopsWith : List ℕ → TextFault → (old new : Revocations) → Type 0
-StopsWith text fault old new = ReadsText {A = Unit {0}} text (Err fault) old new
+StopsWith text fault old new = ReadsText [] text (Err fault) old new
 
 -- ---- lists that are shown
 

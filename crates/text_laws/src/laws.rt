@@ -1,14 +1,18 @@
 //! Laws of the texts of lists. Each function does nothing: its contract is the law.
 
-ghost use Rattle.std.specs.Prelude.{◌≡◌, ℕ, Bool, List, [], ◌∷◌, ◌++◌, map, All, Option, None};
-ghost use Rattle.std.specs.Prelude.{Some, true};
+ghost use Rattle.std.specs.Prelude.{◌≡◌, ℕ, Bool, List, [], ◌∷◌, ◌++◌, map, All, IsPermutation};
+ghost use Rattle.std.specs.Prelude.{Option, None, Some, true};
 ghost use Rattle.std.specs.Borrow.{Bor};
 ghost use Rattle.std.specs.Io.KnownBytes.{Appends};
+ghost use Rattle.std.specs.List.{slice_split};
+ghost use Rattle.key_text.specs.Lines.{is_newline};
 ghost use Rattle.krl_spec.specs.Blanks.{bare_line};
 ghost use Rattle.krl_spec.specs.Directive.{order as spec_order, order_in as spec_order_in};
 ghost use Rattle.krl_spec.specs.Entries.{line_entry, order_entry};
 ghost use Rattle.krl_spec.specs.declared.directive.Directive.{Directive};
-ghost use Rattle.text_entries.specs.Lines.{lines_of};
+ghost use Rattle.text_entries.specs.AuthorityNames.{NamedKeys};
+ghost use Rattle.text_entries.specs.Lines.{lines_of, lines_with};
+ghost use Rattle.text_entries.specs.declared.standing.Standing.{Standing};
 ghost use Rattle.text_entries.specs.declared.text_fault.TextFault.{TextFault};
 ghost use Rattle.krl_entries.specs.Canonical.{entries_in};
 ghost use Rattle.krl_entries.specs.Revocations.{Means, Revocations, nothing};
@@ -17,6 +21,7 @@ ghost use Rattle.list_text.specs.Text.{fact_line, text_of};
 ghost use Rattle.text_entries.specs.Says.{line_says};
 ghost use Rattle.text_entries.specs.TextCause.{no_memory};
 ghost use Rattle.text_entries.specs.Word.{order_in};
+ghost use Rattle.text_laws.specs.AnyOrder.{IsFree};
 ghost use Rattle.text_laws.specs.FactLines.{FitsUnder, IsLineOf, fact_says};
 ghost use Rattle.krl_types.specs.Entry.{Entry};
 ghost use Rattle.krl_types.specs.Naming.{NamesSame};
@@ -27,6 +32,7 @@ ghost use Rattle.text_laws.specs.ReadBack.{IsReadInto, IsStored, Shown};
 ghost use Rattle.text_laws.specs.ReadBack.{StopsWith, entries_of_lists, text_of_lists};
 ghost use Rattle.text_laws.specs.SpecLines.{IsBareAlike, IsReadAlike, bare_says, spec_says};
 ghost use Rattle.text_laws.specs.Joined.{AreWholeLines, LacksNoAuthority, later_by, lines_in};
+ghost use Rattle.text_laws.specs.Joined.{names_after};
 ghost use Rattle.krl_writer.specs.KrlText.{IsKrlText};
 ghost use Rattle.list_text.specs.declared.form.Form.TheVariants.{Text as AsText};
 ghost use Rattle.run_faults.specs.RunFault.{RunFault as RunFaultOf};
@@ -41,39 +47,59 @@ ghost use Rattle.text_run.specs.Making.{Makes, Wanted as WantedOf};
 use plain_list::laws::line_read_as_spelled;
 
 /// The entries of a text and then another are those of both, whatever authority is current between
-/// them, and a fault of the second is at its line of the whole. A text that is read without a fault
-/// lacks no authority. Nothing is read after a fault of the first.
+/// them, and a fault of the second is at its line of the whole. The second knows the names that the
+/// first gives to authorities. A text that is read without a fault lacks no authority. Nothing is
+/// read after a fault of the first.
 pub fn texts_join()
-    ensures entries { (front back : List ℕ) → AreWholeLines front → (lines_of front).fault ≡ None
-        → LacksNoAuthority back
-        → (lines_of (front ++ back)).entries ≡ (lines_of front).entries ++ (lines_of back).entries }
-    ensures fault { (front back : List ℕ) → AreWholeLines front → (lines_of front).fault ≡ None
-        → LacksNoAuthority back
-        → (lines_of (front ++ back)).fault ≡ later_by (lines_in front) (lines_of back).fault }
-    ensures stops { (front back : List ℕ) (fault : TextFault) → AreWholeLines front
-        → (lines_of front).fault ≡ Some fault → lines_of (front ++ back) ≡ lines_of front }
+    ensures entries { (names : NamedKeys) (front back : List ℕ) → AreWholeLines front
+        → (lines_with names front).fault ≡ None
+        → LacksNoAuthority (names_after names front) back
+        → (lines_with names (front ++ back)).entries
+        ≡ (lines_with names front).entries ++ (lines_with (names_after names front) back).entries }
+    ensures fault { (names : NamedKeys) (front back : List ℕ) → AreWholeLines front
+        → (lines_with names front).fault ≡ None
+        → LacksNoAuthority (names_after names front) back
+        → (lines_with names (front ++ back)).fault
+        ≡ later_by (lines_in front) (lines_with (names_after names front) back).fault }
+    ensures stops { (names : NamedKeys) (front back : List ℕ) (fault : TextFault)
+        → AreWholeLines front → (lines_with names front).fault ≡ Some fault
+        → lines_with names (front ++ back) ≡ lines_with names front }
+{}
+
+/// Lines that have the names of their authorities, or need none, name the same in any order below
+/// the lines that give these names.
+pub fn lines_stand_in_any_order()
+    ensures faultless { (names : NamedKeys) (text other : List ℕ)
+        → IsPermutation (slice_split is_newline text) (slice_split is_newline other)
+        → All (IsFree names) (slice_split is_newline text)
+        → ((lines_with names text).fault ≡ None) × ((lines_with names other).fault ≡ None) }
+    ensures same { (names : NamedKeys) (text other : List ℕ)
+        → IsPermutation (slice_split is_newline text) (slice_split is_newline other)
+        → All (IsFree names) (slice_split is_newline text)
+        → NamesSame (lines_with names text).entries (lines_with names other).entries }
 {}
 
 /// A line of a specification file names the same in a text, under the same authority: one with a
-/// directive, but for a serial number with a leading zero, a key ID that is cut short, has a control
-/// character, begins as a key, is between quotes or looks like several, a SHA-1 and a key with
-/// anything before it; and one without a word of texts that is empty or begins with the type name of
-/// a key, but for a certificate that is named by a key ID with a zero byte.
+/// directive, but for a serial number with a leading zero, a key ID that is cut short, has a
+/// control character, begins as a key, is between quotes or looks like several, a SHA-1 and a key
+/// with anything before it; and one without a word of texts that is empty or begins with the type
+/// name of a key, but for a certificate that is named by a key ID with a zero byte.
 pub fn spec_lines_say_the_same()
-    ensures directives { (current : Option (List ℕ)) (line given : List ℕ) (directive : Directive)
+    ensures directives { (standing : Standing) (line given : List ℕ) (directive : Directive)
         → spec_order_in (bare_line line) ≡ Some (spec_order given directive)
         → IsReadAlike line directive given
-        → line_says current line ≡ spec_says directive (order_entry current directive given) }
-    ensures keys { (current : Option (List ℕ)) (line : List ℕ)
+        → line_says standing line
+        ≡ spec_says directive (order_entry standing.current directive given) }
+    ensures keys { (standing : Standing) (line : List ℕ)
         → order_in (bare_line line) ≡ None → IsBareAlike (bare_line line)
-        → line_says current line ≡ bare_says (line_entry current line) }
+        → line_says standing line ≡ bare_says (line_entry standing.current line) }
 {}
 
 /// The text of a fact is one line, and reading it gives the fact: the authority, or the entry under
 /// the current authority, or nothing for the comment about a list.
 pub fn fact_reads_back()
-    ensures { (current : Option (List ℕ)) (fact : Fact) → FitsUnder current fact
-        → IsLineOf current (fact_line fact) (fact_says fact) }
+    ensures { (standing : Standing) (fact : Fact) → FitsUnder standing.current fact
+        → IsLineOf standing (fact_line fact) (fact_says fact) }
 {}
 
 /// The text of what is held is read as its entries, in their order: one for each interval of serial

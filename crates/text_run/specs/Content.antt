@@ -1,6 +1,6 @@
 -- The kinds of lines that a text has (krl(1), THE TEXT OF A LIST).
 use Rattle.std.specs.Prelude.{◌≡◌, ◌⊎◌, ℕ, Bool, true, false, ◌&&◌, ◌||◌, not, nat_lt}
-use Rattle.std.specs.Prelude.{if◌then◌else◌, List, [], ◌∷◌, ◌++◌, length, codes, Option}
+use Rattle.std.specs.Prelude.{if◌then◌else◌, List, [], ◌∷◌, ◌++◌, length, codes, Some, is_some}
 use Rattle.std.specs.Prelude.{Result, Ok, Err}
 use Rattle.std.specs.List.{before_first, list_any, position_or_len, slice_split}
 use Rattle.std.specs.Str.{str_eq_ignore_ascii_case}
@@ -8,7 +8,9 @@ use Rattle.key_text.specs.Lines.{is_newline}
 use Rattle.krl_spec.specs.Blanks.{bare_line, is_hash}
 use Rattle.krl_spec.specs.Directive.{is_colon}
 use Rattle.run_faults.specs.declared.cause.Cause.{Cause}
+use Rattle.text_entries.specs.Mark.{mark_in, name_given, name_of_mark}
 use Rattle.text_entries.specs.Says.{Current, line_says}
+use Rattle.text_entries.specs.declared.standing.Standing.{Standing}
 use Rattle.text_run.specs.Making.{Text}
 use Rattle.text_run.specs.declared.content.Content.{Content}
 use Rattle.text_run.specs.declared.content.Content.TheVariants.{Blank, Notes, Entries}
@@ -21,10 +23,15 @@ is_authority word =
     str_eq_ignore_ascii_case word (codes "ca") || str_eq_ignore_ascii_case word (codes "ca-blob")
 
 -- the content begins with the word of an authority
-abbrev pub names_authority : List ℕ → Bool
-names_authority content =
+abbrev pub has_authority_word : List ℕ → Bool
+has_authority_word content =
     nat_lt (position_or_len is_colon content) (length content)
     && is_authority (before_first is_colon content)
+
+-- the content says which authority is current, or gives one a name
+abbrev pub names_authority : List ℕ → Bool
+names_authority content =
+    has_authority_word content || is_some (name_of_mark (mark_in content))
 
 abbrev pub unless_bare : (has_comment : Bool) → (content : List ℕ) → Content
 unless_bare has_comment [] = if has_comment then Notes else Blank
@@ -70,12 +77,16 @@ is_mute text = is_mute_in text.is_file text.content
 
 -- ---- beside the entries of a text
 
--- A line has a comment, or it says which authority is current.
+-- A line says which authority is current, or gives one a name.
+abbrev pub NamesAuthority : List ℕ → Type 0
+NamesAuthority line =
+    ((authority : List ℕ)
+    × ((standing : Standing) → line_says standing line ≡ Ok (Current authority)))
+    ⊎ ((name : List ℕ) × (name_given line ≡ Some name))
+
+-- A line has a comment, or it names an authority.
 abbrev pub IsNote : List ℕ → Type 0
-IsNote line =
-    (list_any is_hash line ≡ true)
-    ⊎ ((authority : List ℕ)
-    × ((current : Option (List ℕ)) → line_says current line ≡ Ok (Current authority)))
+IsNote line = (list_any is_hash line ≡ true) ⊎ NamesAuthority line
 
 pub record HasNote (lines : List (List ℕ)) : Type 0 where
   pub before : List (List ℕ)

@@ -13,7 +13,8 @@ use Rattle.krl_writer.specs.KrlText.{IsKrlText}
 use Rattle.list_text.specs.Counts.{counted_all, nothing_counted}
 use Rattle.list_text.specs.Facts.{facts_of}
 use Rattle.list_text.specs.declared.counts.Counts.{Counts}
-use Rattle.text_entries.specs.Lines.{lines_of}
+use Rattle.text_entries.specs.AuthorityNames.{NamedKeys}
+use Rattle.text_entries.specs.Lines.{LineEntries, lines_with}
 use Rattle.text_entries.specs.declared.text_fault.TextFault.{TextFault}
 use Rattle.text_run.specs.Fault.{MakeFault, line_fault, whole_fault}
 use Rattle.text_run.specs.declared.make_fault.MakeCause.{MakeCause}
@@ -27,35 +28,54 @@ pub record Text : Type 0 where
   pub is_file : Bool
   pub content : Result (List ℕ) Cause
 
-abbrev pub unless_fault : List ℕ → List ℕ → List Entry → Option TextFault
-    → Result (List Entry) MakeFault
-unless_fault name bytes entries None = Ok entries
-unless_fault name bytes entries (Some fault) =
+-- the entries that are read, and the names of authorities that are known then
+pub record NamedEntries : Type 0 where
+  pub entries : List Entry
+  pub names : NamedKeys
+
+abbrev pub unless_fault : (name bytes : List ℕ) → LineEntries → Option TextFault
+    → Result NamedEntries MakeFault
+unless_fault name bytes lines None =
+    Ok (record { entries = lines.entries; names = lines.standing.names })
+unless_fault name bytes lines (Some fault) =
     Err (line_fault name bytes fault.line fault.cause)
 
--- the entries of the bytes of a text with this name, or its first fault
-abbrev pub entries_in : List ℕ → List ℕ → Result (List Entry) MakeFault
-entries_in name bytes = unless_fault name bytes (lines_of bytes).entries (lines_of bytes).fault
+-- what the bytes of a text with this name give where these names are known, or its first fault
+abbrev pub bytes_from : NamedKeys → (name bytes : List ℕ) → Result NamedEntries MakeFault
+bytes_from names name bytes =
+    unless_fault name bytes (lines_with names bytes) (lines_with names bytes).fault
 
 abbrev pub unread : List ℕ → Cause → MakeFault
 unread name cause = whole_fault name (Run cause)
 
-unfoldable pub text_entries : Text → Result (List Entry) MakeFault
-text_entries text = do
+unfoldable pub text_from : NamedKeys → Text → Result NamedEntries MakeFault
+text_from names text = do
   bytes ← in_fault (unread text.name) text.content
-  entries_in text.name bytes
+  bytes_from names text.name bytes
 
-abbrev pub then_entries : Result (List Entry) MakeFault → Result (List Entry) MakeFault
-    → Result (List Entry) MakeFault
-then_entries first second = do
-  entries ← first
-  later ← second
-  Ok (entries ++ later)
+-- what is read, and then what is read where the names of that are known
+abbrev pub then_from : Result NamedEntries MakeFault → (NamedKeys → Result NamedEntries MakeFault)
+    → Result NamedEntries MakeFault
+then_from first later = do
+  read ← first
+  more ← later read.names
+  Ok (record more { entries = read.entries ++ more.entries })
 
--- the entries of all texts, or the first fault; in each text no authority is current at first
+-- what texts give, or the first fault
+abbrev pub texts_from : NamedKeys → List Text → Result NamedEntries MakeFault
+texts_from names [] = Ok (record { entries = []; names = names })
+texts_from names (text ∷ texts) =
+    then_from (text_from names text) (λ after. texts_from after texts)
+
+abbrev pub only_entries : Result NamedEntries MakeFault → Result (List Entry) MakeFault
+only_entries read = do
+  given ← read
+  Ok given.entries
+
+-- The entries of all texts, or the first fault. A name that a text gives to an authority is known
+-- in all later ones, and in each text no authority is current at first.
 abbrev pub texts_entries : List Text → Result (List Entry) MakeFault
-texts_entries [] = Ok []
-texts_entries (text ∷ texts) = then_entries (text_entries text) (texts_entries texts)
+texts_entries texts = only_entries (texts_from [] texts)
 
 -- ---- adding them
 
@@ -82,21 +102,21 @@ pub record HoldsMore (old new : Revocations) (entries : List Entry) : Type 0 whe
   pub means : MeansMore old new entries
   pub held_is : held new ≤ held old + length entries
 
-abbrev pub AddsEntries : {A : Type 0} → (Lacks : List ℕ → Type 0)
-    → Result (List Entry) MakeFault → Result A MakeFault → (old new : Revocations) → Type 0
-AddsEntries Lacks read (Ok done) old new =
-    (entries : List Entry) × (read ≡ Ok entries) × HoldsMore old new entries
-AddsEntries Lacks read (Err fault) old new = IsMakeFault Lacks fault.cause read fault
-
 -- the entries of a text with this name
-abbrev pub AddsText : {A : Type 0} → (name : List ℕ) → Result (List Entry) MakeFault
-    → Result A MakeFault → (old new : Revocations) → Type 0
-AddsText name = AddsEntries (λ other. other ≡ name)
+abbrev pub AddsText : (name : List ℕ) → Result NamedEntries MakeFault → Result NamedKeys MakeFault
+    → (old new : Revocations) → Type 0
+AddsText name read (Ok names) old new =
+    (given : NamedEntries) × (read ≡ Ok given) × (names ≡ given.names)
+    × HoldsMore old new given.entries
+AddsText name read (Err fault) old new = IsMakeFault (λ other. other ≡ name) fault.cause read fault
 
 -- the entries of all texts
 abbrev pub AddsTexts : {A : Type 0} → List Text → Result A MakeFault → (old new : Revocations)
     → Type 0
-AddsTexts texts = AddsEntries (LacksMemoryAt texts) (texts_entries texts)
+AddsTexts texts (Ok done) old new =
+    (entries : List Entry) × (texts_entries texts ≡ Ok entries) × HoldsMore old new entries
+AddsTexts texts (Err fault) old new =
+    IsMakeFault (LacksMemoryAt texts) fault.cause (texts_entries texts) fault
 
 -- ---- the list
 

@@ -3,11 +3,13 @@
 ghost use Rattle.std.specs.Prelude.{◌≡◌, MatchOption, None, Some};
 ghost use Rattle.std.specs.List.{find, list_any};
 ghost use Rattle.krl_spec.specs.Blanks.{is_hash};
-ghost use Rattle.text_run.specs.Content.{content_of, is_mute, line_content, more, names_authority};
+ghost use Rattle.text_run.specs.Content.{content_of, has_authority_word, is_mute, line_content};
+ghost use Rattle.text_run.specs.Content.{more};
 
 use crate::text::Text;
 use key_text::split_line;
 use krl_spec::{bare_line, position_of};
+use text_entries::name_given;
 
 /// The kinds of lines that there are.
 #[derive(Clone, Copy)]
@@ -92,7 +94,7 @@ fn line_content(line: &[u8]) -> Content
         } else {
             Content::Blank
         }
-    } else if names_authority(content) {
+    } else if has_authority_word(content) || name_given(line).is_some() {
         Content::Notes
     } else {
         Content::Entries
@@ -107,8 +109,8 @@ fn has_hash(line: &[u8]) -> bool
 }
 
 // Whether content begins with the word of an authority.
-fn names_authority(content: &[u8]) -> bool
-    ensures { result ≡ names_authority content.now }
+fn has_authority_word(content: &[u8]) -> bool
+    ensures { result ≡ has_authority_word content.now }
 {
     let colon = position_of(content, b':');
     if colon == content.len() {

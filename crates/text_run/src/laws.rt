@@ -9,7 +9,8 @@ ghost use Rattle.krl_format.specs.Entries.{entries_of};
 ghost use Rattle.krl_format.specs.Krl.{SpelledSection, Spells};
 ghost use Rattle.krl_format.specs.declared.header.Header.{Header};
 ghost use Rattle.krl_types.specs.Entry.{Entry};
-ghost use Rattle.text_entries.specs.Lines.{lines_of};
+ghost use Rattle.text_entries.specs.AuthorityNames.{NamedKeys};
+ghost use Rattle.text_entries.specs.Lines.{lines_with};
 ghost use Rattle.text_run.specs.Base.{takes_contents};
 ghost use Rattle.text_run.specs.Content.{HasNote, content_of};
 ghost use Rattle.text_run.specs.Making.{texts_entries};
@@ -33,9 +34,9 @@ pub fn update_keeps_the_old_list()
 /// A text without a fault has an entry exactly where its lines say one. If it has none, it has a
 /// comment or names an authority exactly where its lines say so.
 pub fn content_is_what_lines_say()
-    ensures entries { (text : List ℕ) → (lines_of text).fault ≡ None
-        → (content_of text ≡ Entries) ↔ ((lines_of text).entries ≢ []) }
-    ensures notes { (text : List ℕ) → (lines_of text).fault ≡ None
-        → (lines_of text).entries ≡ []
+    ensures entries { (names : NamedKeys) (text : List ℕ) → (lines_with names text).fault ≡ None
+        → (content_of text ≡ Entries) ↔ ((lines_with names text).entries ≢ []) }
+    ensures notes { (names : NamedKeys) (text : List ℕ) → (lines_with names text).fault ≡ None
+        → (lines_with names text).entries ≡ []
         → (content_of text ≡ Notes) ↔ HasNote (slice_split is_newline text) }
 {}

@@ -10,6 +10,7 @@ mod inputs;
 pub mod laws;
 mod listed;
 mod make_fault;
+mod naming;
 mod refusal;
 mod run;
 mod saying;

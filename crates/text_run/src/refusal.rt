@@ -2,18 +2,20 @@
 
 ghost use Rattle.std.specs.Prelude.{◌≡◌, IfOk};
 ghost use Rattle.run_faults.specs.RunFault.{line_part};
-ghost use Rattle.text_run.specs.Words.{fault_line, hint_words, make_words, meant_words, spec_words};
-ghost use Rattle.text_run.specs.Words.{text_words, why_words};
+ghost use Rattle.text_run.specs.Words.{fault_line, hint_words, make_words, meant_words};
+ghost use Rattle.text_run.specs.Words.{other_words, spec_words, text_words, unknown_words, why_words};
 
 use crate::make_fault::{MakeCause, MakeFault};
+use crate::naming::{can_be_meant, naming_in, naming_meant};
+use crate::text::Text;
 use line_pieces::{Printed, Visible, Words, put};
 use run_faults::{Cause, SpecCause, cause_words};
 use std::alloc::{AllocError, Global};
 use text_entries::{Hint, Misspelt, TextCause};
 
 const UNKNOWN_WORD: &[u8] = b"a line begins with ca:, ca-blob:, serial:, id:, id-hex:, key:, \
-key-blob:, sha1:, sha256: or hash:, or with the type of a key, and nothing may be before it, such \
-as options";
+key-blob:, sha1:, sha256: or hash:, with @NAME, or with the type of a key, and nothing may be \
+before it, such as options";
 
 const CONTROL_IN_ID: &[u8] = b"a key ID has a control character, such as a tab or a carriage \
 return: use id-hex:";
@@ -23,10 +25,18 @@ that begins so";
 
 const LEADING_ZERO: &[u8] = b"a serial number has a leading zero: OpenSSH would read octal digits";
 
-const QUOTED_ID: &[u8] = b"a key ID stands without quotes: use id-hex: for one that has them";
+const QUOTED_ID: &[u8] = b"a key ID has no quotes around it: use id-hex: for one that has them";
 
 const SEVERAL_IDS: &[u8] = b"a line has one key ID: use id-hex: for one that has a comma and a \
 blank";
+
+const BAD_NAME: &[u8] = b"a name behind @ has 1 to 64 letters, digits, -, _ and ., and is not all";
+
+const OTHER_KEY: &[u8] = b"the name has another key";
+
+const UNKNOWN_NAME: &[u8] = b"no CA has this name above";
+
+const MARKED_WORD: &[u8] = b"behind @NAME comes a colon and a key, or serial:, id: or id-hex:";
 
 const NO_AUTHORITY: &[u8] = b"no ca: line counts here: none is before it, or a key or a hash is \
 between";
@@ -47,12 +57,16 @@ impl Printed for Line {
 }
 
 /// The line about a fault: the name of the text or of the list, the number of the line, and why no
-/// list is made, in words and by its number.
-pub fn fault_line(alloc: Global, fault: &MakeFault<'_>) -> Result<Vec<u8>, AllocError>
-    ensures { IfOk result (λ text. text.items ≡ fault_line fault.now) }
+/// list is made, in words and by its number. The words may name a line of the texts.
+pub fn fault_line<'a>(
+    alloc: Global,
+    fault: &MakeFault<'_>,
+    texts: &'a [Text<'a>],
+) -> Result<Vec<u8>, AllocError>
+    ensures { IfOk result (λ text. text.items ≡ fault_line texts.now fault.now) }
 {
     let cause = fault.cause.to_string(alloc)?;
-    let why = why_words(alloc, fault)?;
+    let why = why_words(alloc, fault, texts)?;
     let mut text = Vec::new(alloc);
     put!(&mut text; b"krl: ", Visible(fault.name.as_bytes(), false), b": ", Line(fault.line),
         Words(&why), b" [", Words(cause.as_bytes()), b"]\n")?;
@@ -60,18 +74,28 @@ pub fn fault_line(alloc: Global, fault: &MakeFault<'_>) -> Result<Vec<u8>, Alloc
 }
 
 // Why no list is made, or what the line may be meant as.
-fn why_words(alloc: Global, fault: &MakeFault<'_>) -> Result<Vec<u8>, AllocError>
-    ensures { IfOk result (λ text. text.items ≡ why_words fault.now.hint fault.now.cause) }
+fn why_words<'a>(
+    alloc: Global,
+    fault: &MakeFault<'_>,
+    texts: &'a [Text<'a>],
+) -> Result<Vec<u8>, AllocError>
+    ensures { IfOk result
+        (λ text. text.items ≡ why_words texts.now fault.now.hint fault.now.cause) }
 {
     match &fault.hint {
         None => Vec::from_slice(alloc, make_words(fault.cause)),
-        Some(hint) => hint_words(alloc, hint),
+        Some(hint) => hint_words(alloc, fault.cause, hint, texts),
     }
 }
 
 // The words for the form that a line may be meant in.
-fn hint_words(alloc: Global, hint: &Hint<'_>) -> Result<Vec<u8>, AllocError>
-    ensures { IfOk result (λ text. text.items ≡ hint_words hint.now) }
+fn hint_words<'a>(
+    alloc: Global,
+    cause: MakeCause,
+    hint: &Hint<'_>,
+    texts: &'a [Text<'a>],
+) -> Result<Vec<u8>, AllocError>
+    ensures { IfOk result (λ text. text.items ≡ hint_words cause texts.now hint.now) }
 {
     match hint {
         Hint::Misspelt(misspelt) => meant_words(alloc, misspelt),
@@ -79,7 +103,49 @@ fn hint_words(alloc: Global, hint: &Hint<'_>) -> Result<Vec<u8>, AllocError>
         Hint::KeyFile => Vec::from_slice(alloc, b"the key itself stands here, not its file"),
         Hint::ByteOrderMark => Vec::from_slice(alloc, b"the file begins with a byte order mark"),
         Hint::Hexadecimal => Vec::from_slice(alloc, b"hexadecimal digits need 0x before them"),
+        Hint::Name(line) => {
+            if cause == MakeCause::Line(TextCause::OtherKey) {
+                other_words(alloc, line.name, texts)
+            } else {
+                unknown_words(alloc, line.name, texts)
+            }
+        }
     }
+}
+
+// The line that gives a name to another key.
+fn other_words<'a>(alloc: Global, name: &[u8], texts: &'a [Text<'a>]) -> Result<Vec<u8>, AllocError>
+    ensures { IfOk result (λ text. text.items ≡ other_words texts.now name.now) }
+{
+    let Some(found) = naming_in(texts, name, true) else {
+        return Vec::from_slice(alloc, OTHER_KEY);
+    };
+    let mut text = Vec::new(alloc);
+    put!(&mut text; b"the name \"", Visible(name, true), b"\" has another key: ",
+        Visible(found.text.as_bytes(), false), b", line ", found.line)?;
+    Ok(text)
+}
+
+// A name that no CA has, and the same or one that is close to it in another line.
+fn unknown_words<'a>(
+    alloc: Global,
+    name: &[u8],
+    texts: &'a [Text<'a>],
+) -> Result<Vec<u8>, AllocError>
+    ensures { IfOk result (λ text. text.items ≡ unknown_words texts.now name.now) }
+{
+    if !can_be_meant(name) {
+        return Vec::from_slice(alloc, UNKNOWN_NAME);
+    }
+    let mut text = Vec::new(alloc);
+    let Some(found) = naming_meant(texts, name) else {
+        put!(&mut text; b"no CA is named \"", Visible(name, true), b"\" above")?;
+        return Ok(text);
+    };
+    put!(&mut text; b"no CA is named \"", Visible(name, true), b"\" above",
+        b": did you mean \"", Visible(found.name, true), b"\" (",
+        Visible(found.text.as_bytes(), false), b", line ", found.line, b")?")?;
+    Ok(text)
 }
 
 // A misspelt word, and the one that was meant, with its colon.
@@ -123,6 +189,10 @@ fn text_words(cause: TextCause) -> &'static [u8]
         TextCause::LeadingZero => LEADING_ZERO,
         TextCause::QuotedId => QUOTED_ID,
         TextCause::SeveralIds => SEVERAL_IDS,
+        TextCause::BadName => BAD_NAME,
+        TextCause::OtherKey => OTHER_KEY,
+        TextCause::UnknownName => UNKNOWN_NAME,
+        TextCause::MarkedWord => MARKED_WORD,
     }
 }
 

@@ -4,7 +4,7 @@ import hashlib
 import struct
 
 from files import AUTHORITY, SEVENTH
-from texts.keys import blob
+from texts.keys import blob, is_key
 from texts.named import MAGIC, Named
 from wire import HIGHEST, bitmap, section, serials, span, string, strings
 
@@ -50,6 +50,7 @@ class Pool:
     def __init__(self, source):
         self.source = source
         self.blobs = [blob(source, SEVENTH) for _ in range(300)]
+        self.keys = [it for it in self.blobs if is_key(it)]
         self.authorities = self.blobs
         self.ids = WORDS + AWKWARD + [source.randbytes(source.randrange(1, 9)) for _ in range(60)]
         self.ids += [b"user-%d" % at for at in range(60)]

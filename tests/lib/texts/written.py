@@ -1,33 +1,65 @@
 """Texts at random, as people write them, and a reader of them (krl(1), THE TEXT OF A LIST) that
-shares nothing with the program. It knows of each line what it says, and finds out what all of them
-name, or which line is refused and why."""
+shares nothing with the program. It knows of each line what it says, and finds out what all texts of
+a command name, or which line is refused and why."""
 
 import hashlib
 
-from files import AUTHORITY, CERT, SEVENTH, certificate
+from files import AUTHORITY, CERT, certificate
+from texts import faults
 from texts.at_random import WORDS
-from texts.keys import FIELDS, key
-from texts.named import CERTIFICATES, Named, coded, fingerprint, line_of, of_blob, unpadded
+from texts.keys import is_key, key
+from texts.named import Named, coded, fingerprint, line_of, of_blob, unpadded, visible
 from wire import HIGHEST
 
-SPEC = "text 1 Spec, spec "
-NO_AUTHORITY = SPEC + "4 NoAuthority"
-NO_KEY = SPEC + "6 Key, line 1 NoKey"
+# The names of authorities: some are nearly the same, and some look like something else.
+NEARLY = ["user-ca", "User-CA", "usr-ca", "user-cb", "users-ca", "suer-ca", "user_ca", "USER-C"]
+OTHERS = ["hosts", "a", "b", "A.1", "-", "_", "...", "ALL", "al", "0", "serial", "id", "ca", "key"]
+OTHERS += ["cert-authority", "revoked", "x" * 64, "y" * 63]
+# What may be before a line.
+FRONTS = ["", "", " ", "\t\r "]
 
 
 # ---- what lines say
 
 
 class Reading:
-    """What a text names, up to the first line that is refused: its number and its fault."""
+    """What the texts of a command name, up to the first line that is refused: the index of its
+    text, its number and the words about it. A text is the name of its file and its lines."""
 
-    def __init__(self, lines):
-        self.named, self.current, self.refused = Named(), None, None
-        for number, line in enumerate(lines, 1):
-            fault = line.say(self)
-            if fault is not None:
-                self.refused = number, fault
-                return
+    def __init__(self, *texts):
+        self.texts = texts
+        self.named, self.names, self.refused = Named(), {}, None
+        for at, (file, lines) in enumerate(texts):
+            self.current = None
+            for number, line in enumerate(lines, 1):
+                self.place = place(file, number)
+                fault = line.say(self)
+                if fault is not None:
+                    self.refused = at, number, self.words(line, fault)
+                    return
+
+    def words(self, line, fault):
+        if fault == faults.OTHER_KEY:
+            return faults.other_key(line.name, self.names[line.name][1])
+        if fault == faults.UNKNOWN_NAME:
+            return faults.unknown_name(line.name, self.nearest(line.name))
+        return faults.words(fault, line.written)
+
+    def nearest(self, name):
+        """This name, or otherwise the first one that is nearly the same, and its place. It may be
+        given later."""
+        given = [
+            (line.name, place(file, number))
+            for file, lines in self.texts
+            for number, line in enumerate(lines, 1)
+            if isinstance(line, Naming) and faults.can_be_meant(line.name)
+        ]
+        near = [it for it in given if faults.is_near(name, it[0])]
+        return next((it for it in near if it[0] == name), near[0] if near else None)
+
+
+def place(file, number):
+    return "%s, line %d" % (visible(file.encode()), number)
 
 
 class Line:
@@ -51,6 +83,18 @@ class OfAuthority(Line):
         reading.current = self.authority
 
 
+class Naming(Line):
+    """The name of an authority from here on, in all texts that follow."""
+
+    def __init__(self, written, name, authority):
+        super().__init__(written)
+        self.name, self.authority = name, authority
+
+    def say(self, reading):
+        authority, _ = reading.names.setdefault(self.name, (self.authority, reading.place))
+        return None if authority == self.authority else faults.OTHER_KEY
+
+
 class Under(Line):
     """Serial numbers or a key ID, which the function adds under an authority."""
 
@@ -60,9 +104,29 @@ class Under(Line):
 
     def say(self, reading):
         if reading.current is None:
-            return NO_AUTHORITY
+            return faults.NO_AUTHORITY
         self.add(reading.named, reading.current)
         return None
+
+
+class Marked(Line):
+    """A line of serial numbers or of a key ID behind the name of their authority. The one that is
+    current stays so."""
+
+    def __init__(self, written, name, line):
+        super().__init__(written)
+        self.name, self.line = name, line
+
+    def say(self, reading):
+        authority = b""
+        if self.name != "all":
+            if self.name not in reading.names:
+                return faults.UNKNOWN_NAME
+            authority, _ = reading.names[self.name]
+        current, reading.current = reading.current, authority
+        fault = self.line.say(reading)
+        reading.current = current
+        return fault
 
 
 class Alone(Line):
@@ -85,7 +149,7 @@ class Wrong(Line):
         self.fault, self.needs = fault, needs
 
     def say(self, reading):
-        return NO_AUTHORITY if self.needs and reading.current is None else self.fault
+        return faults.NO_AUTHORITY if self.needs and reading.current is None else self.fault
 
 
 # ---- right lines
@@ -104,22 +168,38 @@ def as_written(source, line):
     """A line as people write it. What it says is the same."""
     word, colon, value = line.partition(": ")
     if colon and " " not in word:
-        if source.random() < 0.3:
+        if word[0] != "@" and source.random() < 0.3:
             word = cased(source, word)
         line = word + ":" + source.choice([" ", " ", "", "\t "]) + value
-    line = source.choice(["", "", " ", "\t\r "]) + line
+    line = source.choice(FRONTS) + line
     return line + source.choice(["", "", " ", "\r", " # until 2027-01-01", "\t# a # b", " #"])
 
 
 def an_authority(pool):
+    return of_authority(pool, pool.authority())
+
+
+def of_authority(pool, authority):
     """Given by its bytes, or as it is in a .pub file."""
-    authority = pool.authority()
     line = "ca: all"
     if authority and pool.source.random() < 0.3:
         line = "ca-blob: " + coded(authority)
     elif authority:
         line = of_blob("ca", authority).partition(" # ")[0]
     return OfAuthority(as_written(pool.source, line), authority)
+
+
+def naming(pool, name, authority):
+    """The line that gives an authority this name. The comment of its key says nothing."""
+    line = of_blob("@" + name, authority).partition(" # ")[0]
+    line += pool.source.choice(["", "", " me@home", " a: b", " @user-ca: c"])
+    return Naming(as_written(pool.source, line), name, authority)
+
+
+def marked(pool, name, line):
+    """A line behind the name of its authority."""
+    mark = pool.source.choice(FRONTS) + "@" + name + pool.source.choice([" ", " ", "\t", " \t "])
+    return Marked(mark + line.written.lstrip(" \t\r"), name, line)
 
 
 def a_serial(pool):
@@ -190,12 +270,33 @@ ENTRIES = [a_serial, an_id]
 BESIDE = [a_key, a_key, a_sha1, a_certificate]
 
 
+def begin(pool):
+    """A text has names for a few authorities, some of which other lines have too."""
+    pool.begin()
+    source = pool.source
+    keys = [it for it in pool.current if is_key(it)] + source.sample(pool.keys, 2)
+    names = source.sample(NEARLY, 2) + source.sample(OTHERS, 2)
+    pool.names = {it: source.choice(keys) for it in names}
+    pool.given = ["all"]
+
+
+def a_naming(pool):
+    name = pool.source.choice(list(pool.names))
+    pool.given.append(name)
+    return naming(pool, name, pool.names[name])
+
+
+def a_marked(pool):
+    """An entry with one of the names that were given."""
+    return marked(pool, pool.source.choice(pool.given), pool.source.choice(ENTRIES)(pool))
+
+
 def right_text(pool):
     """The lines of a text in which each serial number and key ID has an authority."""
     lines, is_current = [], False
-    pool.begin()
+    begin(pool)
     for _ in range(pool.source.randrange(25)):
-        sort = pool.source.randrange(10)
+        sort = pool.source.randrange(14)
         some = [a_comment]
         if sort < 3:
             some, is_current = [an_authority], True
@@ -203,132 +304,83 @@ def right_text(pool):
             some = ENTRIES
         elif sort < 9:
             some, is_current = BESIDE, False
+        elif sort < 11:
+            some = [a_naming]
+        elif sort < 13:
+            some = [a_marked]
         lines.append(pool.source.choice(some)(pool))
     return lines
 
 
+def any_naming(pool):
+    """Now and then it has the key of another authority."""
+    name = pool.source.choice(list(pool.names))
+    authority = pool.source.choice(pool.keys) if pool.source.random() < 0.1 else pool.names[name]
+    return naming(pool, name, authority)
+
+
+def any_marked(pool):
+    """The name may be given later, or never."""
+    name = pool.source.choice([*pool.names, "all"])
+    return marked(pool, name, pool.source.choice(ENTRIES)(pool))
+
+
 def any_text(pool):
-    """Lines in any order, as those of several people that were appended or merged."""
-    pool.begin()
-    some = [an_authority, an_authority, *ENTRIES, *ENTRIES, pool.source.choice(BESIDE), a_comment]
-    lines = [pool.source.choice(some)(pool) for _ in range(pool.source.randrange(10))]
-    return [an_authority(pool), *lines] if pool.source.random() < 0.8 else lines
+    """Lines in any order, as those of several people that were appended or merged. Half of the
+    texts have names, most of which are given at the beginning."""
+    begin(pool)
+    source = pool.source
+    some = [an_authority, an_authority, *ENTRIES, *ENTRIES, source.choice(BESIDE), a_comment]
+    lines = [an_authority(pool)] if source.random() < 0.8 else []
+    if source.random() < 0.5:
+        some += [any_naming] * 3 + [any_marked] * 10
+        lines += [naming(pool, *it) for it in pool.names.items() if source.random() < 0.8]
+    return lines + [source.choice(some)(pool) for _ in range(source.randrange(10))]
 
 
-# ---- wrong lines
-
-# What a misspelt line and other files of keys have before a key.
-BEFORE_A_KEY = [
-    "ca ",
-    "ca : ",
-    "ca= ",
-    "ca; ",
-    "SERIAL ",
-    "user ",
-    '"ca" ',
-    "no-pty ",
-    'command="a: b" ',
-    "@revoked * ",
-    "host.example ",
-]
-OF_AUTHORITY = of_blob("key", AUTHORITY).partition(" # ")[0][5:]
-# Lines by their fault where an authority is current.
-WHERE_CURRENT = {
-    SPEC + "1 Number": [
-        "serial:",
-        "serial: x",
-        "serial: -5",
-        "serial: +5",
-        "serial: 5-",
-        "serial: 5-6-7",
-        "serial: 1,000",
-        "serial: 18446744073709551616",
-        "serial: 0x10000000000000000",
-        "serial: 0x",
-        "serial: 0xg",
-        "serial: 5-0x",
-        "serial: 1f3",
-        "serial: 0a",
-        "serial: 1-1f",
-    ],
-    SPEC + "2 Zero": ["serial: 0", "serial: 0-5", "serial: 0x0", "serial: 0x00"],
-    SPEC + "3 Reversed": ["serial: 9-7", "serial: 0x10-15"],
-    SPEC + "5 EmptyId": ["id:", "id: # bob"],
-    "text 5 Hex": ["id-hex: 656", "id-hex: 0x65"],
-    "text 9 ZeroInId": ["id-hex: 00", "id-hex: 6100", "id-hex: 610062"],
-}
-# And those that have their fault anywhere.
-ANYWHERE = {
-    SPEC + "7 Fingerprint, fingerprint 1 Prefix": ["hash: MD5:AQ"],
-    SPEC + "7 Fingerprint, fingerprint 3 Length": ["hash: SHA1:AQ", "hash: SHA256:" + "A" * 27],
-    SPEC + "6 Key, line 3 WordDiffers": ["key: ssh-rsa " + coded(AUTHORITY)],
-    NO_KEY: [
-        "ca:",
-        "ca: everyone",
-        "ca: ALL",
-        "ca: all " + OF_AUTHORITY,
-        "key: AQ==",
-        "sha1: SHA1:" + "A" * 27,
-        *("key: " + it + OF_AUTHORITY for it in BEFORE_A_KEY),
-    ],
-    "text 2 Certificate": ["ca: %s %s" % (CERT, coded(SEVENTH))],
-    "text 3 NoBytes": ["ca-blob:"],
-    "text 4 Base64": ["ca-blob: eA", "key-blob: AQ"],
-    "text 6 CutId": ["id: eve#1", 'id: "eve#1"'],
-    "text 7 UnknownWord": [
-        "serials: 5",
-        "+ serial: 5",
-        "- ca: all",
-        *(it + OF_AUTHORITY for it in BEFORE_A_KEY),
-    ],
-    "text 8 ControlInId": [
-        "id: a\tb",
-        "id: a,\tb",
-        "id: a\rid: b",
-        "id: \x1b",
-        "id: a\x7f",
-        "id: \0",
-        'id: "a\tb"',
-    ],
-    "text 9 ZeroInId": ["%s %s" % (CERT, coded(certificate(0, b"a\0b")))],
-    "text 10 KeyAsId": [
-        "id: %s of bob" % it.decode() for it in [*FIELDS, *sorted(CERTIFICATES)]
-    ],
-    "text 11 LeadingZero": [
-        "serial: 00",
-        "serial: 01",
-        "serial: 010",
-        "serial: 08",
-        "serial: 000000000000000000001",
-        "serial: 0100-0199",
-        "serial: 01-5",
-        "serial: 1-05",
-        "serial: 1 - 05",
-        "serial: 1-\t00",
-        "serial: 0x1-0777",
-        "serial: 00x10",
-    ],
-    "text 12 QuotedId": [
-        'id: "bob"',
-        "id: 'bob'",
-        'id: ""',
-        "id: ''",
-        'id: " bob "',
-        "id: 'it''s'",
-        'id: "a" "b"',
-        'id: "a", "b"',
-        "id:'bob' # bob",
-    ],
-    "text 13 SeveralIds": ["id: a, b", "id: , b", "id: alice,  bob", "id: \"a\", 'b'", "ID:Doe, J"],
-}
-WRONG = [Wrong(line, fault, True) for fault, lines in WHERE_CURRENT.items() for line in lines]
-WRONG += [Wrong(line, fault, False) for fault, lines in ANYWHERE.items() for line in lines]
+# ---- texts that name the same
 
 
-def wrong_text(pool, turn):
-    """The lines of a text with a wrong one. The wrong ones take turns."""
-    lines = right_text(pool)
-    at = pool.source.randrange(len(lines) + 1)
-    wrong = WRONG[turn % len(WRONG)]
-    before = [OfAuthority("ca: all", b"")] if pool.source.random() < 0.9 else []
-    return [*lines[:at], *before, wrong, *lines[at:]]
+def in_three_forms(pool):
+    """Texts that name the same: with a line of its authority before an entry, with its name in the
+    same line, and the latter in any order behind the names. A text is in one piece or in two."""
+    begin(pool)
+    source = pool.source
+    names = [naming(pool, *it) for it in pool.names.items()]
+    under, alone, current = [], [], None
+    for _ in range(source.randrange(20)):
+        if source.random() < 0.2:
+            line, current = source.choice(BESIDE)(pool), None
+            under.append(line)
+            alone.append(line)
+            continue
+        name, entry = source.choice([*pool.names, "all"]), source.choice(ENTRIES)(pool)
+        authority = pool.names.get(name, b"")
+        if authority != current or source.random() < 0.2:
+            under.append(of_authority(pool, authority))
+        under.append(entry)
+        alone.append(marked(pool, name, entry))
+        current = authority
+    shuffled = source.sample(names, len(names)) + source.sample(alone, len(alone))
+    cut = source.randrange(len(shuffled) + 1)
+    return [under], [names + alone], [shuffled[:cut], shuffled[cut:]]
+
+
+def branches(pool):
+    """A text, and what two people append to it: lines that need no other one but that of a name,
+    which each of them gives where the text does not. Some lines are the same."""
+    source, base = pool.source, right_text(pool)
+    names = {it: naming(pool, it, authority) for it, authority in pool.names.items()}
+    entries = [any_marked(pool) for _ in range(source.randrange(1, 12))]
+    entries += [source.choice([*BESIDE, a_comment])(pool) for _ in range(source.randrange(4))]
+    sides = []
+    for _ in range(2):
+        lines, given = [], set(pool.given)
+        for it in source.sample(entries, source.randrange(len(entries) + 1)):
+            if isinstance(it, Marked) and it.name not in given:
+                same = source.random() < 0.7
+                lines.append(names[it.name] if same else naming(pool, it.name, pool.names[it.name]))
+                given.add(it.name)
+            lines.append(it)
+        sides.append(lines)
+    return base, sides

@@ -7,13 +7,16 @@ use krl_spec::SpecCause;
 use span_sets::Held;
 use std::alloc::AllocError;
 use test_fixtures::{GITHUB_LINE, GITHUB_PRINT, OTHER_LINE, joined};
-use text_entries::{TextCause, read_text};
+use text_entries::{AuthorityNames, TextCause, read_text};
 
-// Nine lines, of which each but the first two names one more entry.
-const LINES: [&[u8]; 12] = [
+// Ten lines, of which each but the first three names one more entry.
+const LINES: [&[u8]; 15] = [
     b"ca: ",
     OTHER_LINE,
+    b"\n@other: ",
+    OTHER_LINE,
     b"\nca-blob: c3No\n",
+    b"@other id: b\n",
     b"serial: 20-30\n",
     b"id: a\n",
     b"id-hex: 6123\n",
@@ -31,12 +34,13 @@ fn a_text(rt: HostRuntime) {
         return;
     };
     let mut held: Revocations<Held> = Revocations::new(rt.alloc());
-    match read_text(rt.alloc(), &mut held, &text) {
-        Ok(()) => assert!(rt; size(&held) == 7),
+    let names = AuthorityNames::new(rt.alloc());
+    match read_text(rt.alloc(), &mut held, names, &text) {
+        Ok(_) => assert!(rt; size(&held) == 8),
         Err(fault) => {
             assert!(rt; fault.cause == TextCause::Spec(SpecCause::NoMemory));
-            // Those of the lines before are held: the first two have no entry.
-            let before = fault.line.saturating_sub(3);
+            // Those of the lines before are held: the first three have no entry.
+            let before = fault.line.saturating_sub(4);
             assert!(rt; size(&held) == before as u128);
             ran_out(&rt);
         }

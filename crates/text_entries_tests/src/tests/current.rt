@@ -9,7 +9,7 @@ use std::process::Abort;
 use test_fixtures::{
     CERT_LINE, FIVE, GITHUB_LINE, GITHUB_PRINT, HEADER, ID_A, KEY_SECTION, OTHER_LINE, joined,
 };
-use text_entries::{TextCause, TextFault, read_text};
+use text_entries::{AuthorityNames, TextCause, TextFault, read_text};
 
 const NO_AUTHORITY: &str = "text 1 Spec, spec 4 NoAuthority";
 
@@ -169,16 +169,17 @@ fn lines_that_lack_an_authority(rt: HostRuntime) {
     }
 }
 
-// The number of intervals that are held after two texts, and the fault of the second one.
-fn after_both(
+/// The number of intervals that are held after two texts, and the fault of the second one.
+pub fn after_both(
     rt: &impl Abort,
     alloc: Global,
     first: &[u8],
     second: &[u8],
 ) -> (u128, Option<TextFault>) {
     let mut held: Revocations<Held> = Revocations::new(alloc);
-    read_text(alloc, &mut held, first).expect(rt, "the first text is right");
-    let fault = read_text(alloc, &mut held, second).err();
+    let none = AuthorityNames::new(alloc);
+    let names = read_text(alloc, &mut held, none, first).expect(rt, "the first text is right");
+    let fault = read_text(alloc, &mut held, names, second).err();
     (held.held(), fault)
 }
 

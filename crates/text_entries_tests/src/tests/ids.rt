@@ -9,7 +9,7 @@ use ssh_wire::Bytes;
 use std::alloc::Global;
 use std::process::Abort;
 use test_fixtures::joined;
-use text_entries::read_text;
+use text_entries::{AuthorityNames, read_text};
 
 const QUOTED: &str = "text 12 QuotedId";
 
@@ -55,7 +55,7 @@ fn before_any_authority(rt: HostRuntime) {
     assert!(rt; has_fault(&rt, rt.alloc(), &[b"id: a, b"], 1, SEVERAL));
 }
 
-// What is held: one key ID of all authorities.
+// One key ID of all authorities is held.
 fn one_id(rt: &impl Abort, alloc: Global, id: &[u8]) -> Revocations<Held> {
     let mut held: Revocations<Held> = Revocations::new(alloc);
     held.add_id(b"", id).expect(rt, "there is memory");
@@ -167,6 +167,7 @@ fn joined_texts_are_read_back(rt: HostRuntime) {
     one.add_id(b"", b"'x'").expect(&rt, "there is memory");
     one.add_key(b"\x02").expect(&rt, "there is memory");
     let mut held: Revocations<Held> = Revocations::new(alloc);
-    assert!(rt; read_text(alloc, &mut held, &text).is_ok());
+    let names = AuthorityNames::new(alloc);
+    assert!(rt; read_text(alloc, &mut held, names, &text).is_ok());
     assert!(rt; list_of(&rt, alloc, &held) == list_of(&rt, alloc, &one));
 }

@@ -10,12 +10,12 @@ use test_fixtures::{
     CERT_LINE, FIVE, GITHUB_LINE, GITHUB_PRINT, HEADER, ID_A, KEY_SECTION, OTHER_LINE,
     SHA256_SECTION, joined,
 };
-use text_entries::{TextFault, read_text};
+use text_entries::{AuthorityNames, TextFault, read_text};
 
 /// The list of version 1 that names what a text names, or the fault of the text.
 pub fn made(rt: &impl Abort, alloc: Global, text: &[u8]) -> Result<Vec<u8>, TextFault> {
     let mut held: Revocations<Held> = Revocations::new(alloc);
-    read_text(alloc, &mut held, text)?;
+    read_text(alloc, &mut held, AuthorityNames::new(alloc), text)?;
     let header = Header {
         version: 1,
         date: 0,
@@ -215,7 +215,7 @@ fn first_faults(rt: HostRuntime) {
 
 // Words that other files of keys may have before a key, or that a misspelt line of a text has. If
 // they were taken for options, the key of a CA would be revoked.
-const BEFORE_A_KEY: [&[u8]; 24] = [
+const BEFORE_A_KEY: [&[u8]; 22] = [
     b"ca ",
     b"ca : ",
     b"ca= ",
@@ -238,8 +238,6 @@ const BEFORE_A_KEY: [&[u8]; 24] = [
     b"environment=\"A=b:c\" ",
     b"\"\" ",
     b"host.example ",
-    b"@cert-authority * ",
-    b"@revoked * ",
 ];
 
 #[test]
@@ -274,6 +272,7 @@ fn nothing_between_a_word_and_its_key(rt: HostRuntime) {
 fn up_to_a_fault(rt: HostRuntime) {
     let mut held: Revocations<Held> = Revocations::new(rt.alloc());
     let text = b"ca: all\nserial: 5\nserial: 7-\nserial: 9";
-    let read = read_text(rt.alloc(), &mut held, text);
+    let names = AuthorityNames::new(rt.alloc());
+    let read = read_text(rt.alloc(), &mut held, names, text);
     assert!(rt; read.is_err() && held.authorities() == 1 && held.held() == 1);
 }

@@ -37,9 +37,14 @@ pub fn inputs<'a>(texts: &'a [Text<'a>], allow_empty: bool) -> Inputs<'a> {
     }
 }
 
-// The line about a fault.
-fn said(rt: &impl Abort, alloc: Global, fault: &MakeFault<'_>) -> Vec<u8> {
-    fault_line(alloc, fault).expect(rt, "there is memory")
+/// The line about a fault of these texts.
+pub fn said<'a>(
+    rt: &impl Abort,
+    alloc: Global,
+    fault: &MakeFault<'_>,
+    texts: &'a [Text<'a>],
+) -> Vec<u8> {
+    fault_line(alloc, fault, texts).expect(rt, "there is memory")
 }
 
 /// The line about the list `r.krl` with these revocations, over one that had the others too.
@@ -94,8 +99,8 @@ const REFUSED: [(&[Option<&[&[u8]]>], &[u8]); 6] = [
     // No authority is current in the second text.
     (
         &[Some(&[b"ca: all\nid: a\n"]), Some(&[b"id: b\n"])],
-        b"krl: t: line 1: no ca: line counts here: none is before it, or a key or a hash is between \
-[text 1 Spec, spec 4 NoAuthority]\n",
+        b"krl: t: line 1: no ca: line counts here: none is before it, or a key or a hash is \
+between [text 1 Spec, spec 4 NoAuthority]\n",
     ),
     // Nor is one in the second text after a key of its own.
     (
@@ -103,8 +108,8 @@ const REFUSED: [(&[Option<&[&[u8]]>], &[u8]); 6] = [
             Some(&[b"ca: all\nid: a\n"]),
             Some(&[b"ca: all\n\nkey-blob: AQ==\nserial: 5\n"]),
         ],
-        b"krl: t: line 4: no ca: line counts here: none is before it, or a key or a hash is between \
-[text 1 Spec, spec 4 NoAuthority]\n",
+        b"krl: t: line 4: no ca: line counts here: none is before it, or a key or a hash is \
+between [text 1 Spec, spec 4 NoAuthority]\n",
     ),
     (
         &[Some(&[b"ca: all\nid: a\n"]), None],
@@ -126,7 +131,10 @@ fn faults(rt: HostRuntime) {
         let fault = read_texts(alloc, &inputs)
             .err()
             .expect(&rt, "there is a fault");
-        assert!(rt; said(&rt, alloc, &fault).as_slice() == *line, "in row {i}");
+        assert!(rt;
+            said(&rt, alloc, &fault, inputs.texts).as_slice() == *line,
+            "in row {i}"
+        );
     }
 }
 
@@ -153,7 +161,7 @@ fn said_beside(rt: &impl Abort, alloc: Global, bytes: &[u8], is_file: bool) -> V
     let inputs = inputs(&texts, false);
     let fault = read_texts(alloc, &inputs).err();
     if let Some(fault) = &fault {
-        return said(rt, alloc, fault);
+        return said(rt, alloc, fault, inputs.texts);
     }
     Vec::new(alloc)
 }
@@ -295,7 +303,7 @@ const NUMBER: &[u8] = b"a serial number is a number below 2^64 [text 1 Spec, spe
 const ZERO_SERIAL: &[u8] = b"serial number 0 names no certificate [text 1 Spec, spec 2 Zero]";
 
 const QUOTED: &[u8] =
-    b"a key ID stands without quotes: use id-hex: for one that has them [text 12 QuotedId]";
+    b"a key ID has no quotes around it: use id-hex: for one that has them [text 12 QuotedId]";
 
 const SEVERAL: &[u8] = b"a line has one key ID: use id-hex: for one that has a comma and a blank \
 [text 13 SeveralIds]";
@@ -320,8 +328,8 @@ const KEY: &[u8] = b"a key stands where a key ID belongs: use key:, or id-hex: f
 begins so [text 10 KeyAsId]";
 
 const UNKNOWN_WORD: &[u8] = b"a line begins with ca:, ca-blob:, serial:, id:, id-hex:, key:, \
-key-blob:, sha1:, sha256: or hash:, or with the type of a key, and nothing may be before it, such \
-as options [text 7 UnknownWord]";
+key-blob:, sha1:, sha256: or hash:, with @NAME, or with the type of a key, and nothing may be \
+before it, such as options [text 7 UnknownWord]";
 
 // The line about the fault of one text.
 fn said_of(rt: &impl Abort, alloc: Global, bytes: &[u8]) -> Vec<u8> {
@@ -330,7 +338,7 @@ fn said_of(rt: &impl Abort, alloc: Global, bytes: &[u8]) -> Vec<u8> {
     let fault = read_texts(alloc, &inputs)
         .err()
         .expect(rt, "there is a fault");
-    said(rt, alloc, &fault)
+    said(rt, alloc, &fault, &texts)
 }
 
 #[test]

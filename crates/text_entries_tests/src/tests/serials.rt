@@ -53,7 +53,7 @@ const REFUSED_RANGES: [(&[u8], &str); 18] = [
     (b"0 - 0", ZERO),
     (b"0-", NUMBER),
     (b"-0", NUMBER),
-    // What follows the second hyphen is no number of the line.
+    // Behind the second hyphen no number counts.
     (b"1-2-03", NUMBER),
 ];
 

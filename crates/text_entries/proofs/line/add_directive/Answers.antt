@@ -4,5 +4,4 @@ use Rattle.text_entries.proofs.line.add_directive.Goals as goal
 
 pub returns-in-Ok : goal.returns-in-Ok
 returns-in-Ok g c =
-    let adds = rw c.under.ensures at c.in-Ok.ensures.adds in
-    entry_added _ _ _ adds
+    entry_added _ _ _ c.in-Ok.ensures.adds

@@ -1,7 +1,7 @@
 -- The line, its blob and its kind are read, or the first fault is reported.
 use Rattle.key_text.specs.LineReading.{content_of}
 use Rattle.text_entries.proofs.Said.{key_read, line_stops, subject_stops}
-use Rattle.text_entries.proofs.authority.read_key.Goals as goal
+use Rattle.text_entries.proofs.authority.read_line.Goals as goal
 
 pub returns-in-Err : goal.returns-in-Err
 returns-in-Err c = line_stops c.args.text.now c.in-Err.cause c.in-Err.ensures.read

@@ -1,0 +1,139 @@
+"""The words on standard error for the faults of texts, and for what their lines may be meant as
+(docs/FAULTS.md, and krl(1), KRL MAKE)."""
+
+import re
+
+from texts.named import visible
+
+SPEC = "text 1 Spec, spec "
+NUMBER = SPEC + "1 Number"
+NO_AUTHORITY = SPEC + "4 NoAuthority"
+NO_KEY = SPEC + "6 Key, line 1 NoKey"
+UNKNOWN_WORD = "text 7 UnknownWord"
+BAD_NAME = "text 14 BadName"
+OTHER_KEY = "text 15 OtherKey"
+UNKNOWN_NAME = "text 16 UnknownName"
+MARKED_WORD = "text 17 MarkedWord"
+
+# The words that a line can begin with, in the order in which one is thought to be meant.
+BEGINNINGS = ["serial", "id", "hash", "key", "ca", "ca-blob", "id-hex", "key-blob", "sha1"]
+BEGINNINGS += ["sha256"]
+WORDS = {
+    NUMBER: "a serial number is a number below 2^64",
+    SPEC + "2 Zero": "serial number 0 names no certificate",
+    SPEC + "3 Reversed": "a range of serial numbers ends below its first one",
+    NO_AUTHORITY: "no ca: line counts here: none is before it, or a key or a hash is between",
+    SPEC + "5 EmptyId": "a key ID is empty",
+    NO_KEY: "no key type stands there",
+    SPEC + "6 Key, line 3 WordDiffers": "the key is of another type",
+    SPEC + "7 Fingerprint, fingerprint 1 Prefix": "the hash is cut, padded or misspelt",
+    SPEC + "7 Fingerprint, fingerprint 3 Length": "the hash is cut, padded or misspelt",
+    "text 2 Certificate": "a CA is given by its key, and not by a certificate",
+    "text 3 NoBytes": "a CA has bytes",
+    "text 4 Base64": "no whole base64 with padding",
+    "text 5 Hex": "no pairs of hexadecimal digits",
+    "text 6 CutId": "a # with no blank before it would cut the key ID short: use id-hex:",
+    UNKNOWN_WORD: "a line begins with ca:, ca-blob:, serial:, id:, id-hex:, key:, key-blob:, "
+    "sha1:, sha256: or hash:, with @NAME, or with the type of a key, and nothing may be before it, "
+    "such as options",
+    "text 8 ControlInId": "a key ID has a control character, such as a tab or a carriage return: "
+    "use id-hex:",
+    "text 9 ZeroInId": "OpenSSH takes no key ID with a zero byte: use serial:",
+    "text 10 KeyAsId": "a key stands where a key ID belongs: use key:, or id-hex: for a key ID "
+    "that begins so",
+    "text 11 LeadingZero": "a serial number has a leading zero: OpenSSH would read octal digits",
+    "text 12 QuotedId": "a key ID has no quotes around it: use id-hex: for one that has them",
+    "text 13 SeveralIds": "a line has one key ID: use id-hex: for one that has a comma and a blank",
+    BAD_NAME: "a name behind @ has 1 to 64 letters, digits, -, _ and ., and is not all",
+    MARKED_WORD: "behind @NAME comes a colon and a key, or serial:, id: or id-hex:",
+}
+
+
+def words(fault, line):
+    """What is said of a line with this fault. OTHER_KEY and UNKNOWN_NAME depend on other lines."""
+    hint = HINTS.get(fault, lambda content: None)(line.partition("#")[0].strip(" \t\r"))
+    return "%s [%s]" % (hint or WORDS[fault], fault)
+
+
+def other_key(name, place):
+    return 'the name "%s" has another key: %s [%s]' % (quoted(name), place, OTHER_KEY)
+
+
+def can_be_meant(name):
+    """Whether a name may be that of one authority."""
+    return 0 < len(name.encode()) <= 64 and name != "all"
+
+
+def unknown_name(name, near):
+    """The near name and its place are none where no line names such an authority."""
+    if not can_be_meant(name):
+        return "no CA has this name above [%s]" % UNKNOWN_NAME
+    hint = ': did you mean "%s" (%s)?' % (quoted(near[0]), near[1]) if near else ""
+    return 'no CA is named "%s" above%s [%s]' % (quoted(name), hint, UNKNOWN_NAME)
+
+
+def quoted(text):
+    return "".join("\\" + it if it in '"\\' else visible(it.encode()) for it in text)
+
+
+# ---- what a line may be meant as
+
+
+def is_slip(given, meant):
+    """Whether one has a byte more, or another one, or two neighbouring ones are exchanged."""
+    if len(given) < len(meant):
+        return is_slip(meant, given)
+    if len(given) > len(meant):
+        return any(given[:at] + given[at + 1 :] == meant for at in range(len(given)))
+    differ = [at for at, pair in enumerate(zip(given, meant)) if pair[0] != pair[1]]
+    if len(differ) == 2:
+        one, other = differ
+        return other == one + 1 and given[one : other + 1] == meant[one : other + 1][::-1]
+    return len(differ) == 1
+
+
+def is_near(given, meant):
+    """Whether they are the same, or one slip off. Letters in either case count the same."""
+    given, meant = given.encode().lower(), meant.encode().lower()
+    return given == meant or is_slip(given, meant)
+
+
+def misspelt(content):
+    """The word that content begins with, if it is nearly one of texts."""
+    given = re.match("[^:= \t]*", content)[0]
+    meant = next((it for it in BEGINNINGS if is_near(given, it)), None)
+    return meant and '"%s" is no word of a text: did you mean "%s:"?' % (quoted(given), meant)
+
+
+def misspelt_behind(content):
+    """The same behind a name. A word of texts with its colon is not misspelt there."""
+    entry = re.sub("^@[^:= \t]*[ \t]*", "", content)
+    word, colon, _ = entry.partition(":")
+    return None if colon and word.lower() in BEGINNINGS else misspelt(entry)
+
+
+def value_in(content):
+    return content.partition(":")[2].lstrip(" \t")
+
+
+def without_prefix(content):
+    numbers = [it.strip(" \t\r") for it in value_in(content).split("-", 1)]
+    bare = [it for it in numbers if re.fullmatch("[0-9A-Fa-f]+", it) and re.search("[A-Fa-f]", it)]
+    return "hexadecimal digits need 0x before them" if bare else None
+
+
+def instead_of_key(content):
+    value = value_in(content)
+    if re.fullmatch("SHA(1|256):[^ \t]*", content):
+        return 'a fingerprint needs "hash:" before it'
+    if re.fullmatch(r"[^ \t]*\.pub|[/~.][^ \t]*", value):
+        return "the key itself stands here, not its file"
+    return None
+
+
+HINTS = {
+    NUMBER: without_prefix,
+    NO_KEY: instead_of_key,
+    UNKNOWN_WORD: misspelt,
+    MARKED_WORD: misspelt_behind,
+}
