@@ -194,18 +194,21 @@ keeps_later() {
 }
 
 anew='krl make -f revoked.krl -z' shown='krl show revoked.krl >'
-out=$'last=$(tail -c 1 revoked.txt)\n  [ -z "$last" ] || echo >>revoked.txt\n  id='
+out=$'last=$(tail -c 1 revoked.txt)\n  [ -z "$last" ] || echo >>revoked.txt\n  echo \'@user-ca'
 lines_under user-ca.pub 'id: alice' host-ca.pub 'serial: 9' >revoked.txt
 follows 'a list under two authorities' "$anew" 0 '*'
 cp revoked.krl "$room/revoked.krl"
 lets_in 'the key, and another certificate of it, of a person whose key ID is revoked' user other
 # The last line has no end, and is under another authority.
-lines_under user-ca.pub 'id: nobody' host-ca.pub 'serial: 99' | head -c -1 >revoked.txt
+{
+  sed 's/^/@user-ca: /' user-ca.pub
+  lines_under user-ca.pub 'id: nobody' host-ca.pub 'serial: 99'
+} | head -c -1 >revoked.txt
 cp "$room/user.pub" alice.pub
 cp "$room/alice.pub" alice-cert.pub
 follows 'a person is locked out' "$out" 0 ''
 judge 'the line before those of this person is as it was' "$(differs lines \
-  "serial: 99"$'\n'"ca: $(cut -d ' ' -f 1,2 user-ca.pub)" "$(sed -n 4,5p revoked.txt)")"
+  $'serial: 99\n@user-ca id: alice' "$(sed -n 5,6p revoked.txt)")"
 follows 'the list is made anew' "$anew" 0 '*' again
 cp revoked.krl "$room/revoked.krl"
 refuses 'the key, and all certificates of it, of a person who is locked out' user alice other

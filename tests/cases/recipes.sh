@@ -138,6 +138,8 @@ serial: 7
 serial: 8 # until tomorrow
 # until 2001-02-03
 serial: 9 # until '"$(date +%F)"', and lost' host-ca.pub 'id: host' >revoked.txt
+sed 's/^/@host: /; s/$/ # until 2001-02-03/' host-ca.pub >>revoked.txt
+printf '@host serial: 13 # until 2001-02-03\n@host\t id: over # until 2001-02-03\n' >>revoked.txt
 follows 'entries that expire' 'awk -v today' 0 '*'
 has 'what is over is left out' revoked.krl "$user" 'serial: 6-9' "$host" 'id: host'
 cp revoked.krl kept.krl
@@ -359,36 +361,38 @@ follows 'a line that cannot be read' "$line" 255 '*' again
 # ---- the lines of a command
 
 cp revoked.krl in-force
-lines_under host-ca.pub 'serial: 7' >revoked.txt
-printf '#!/bin/sh\necho serial: 5\nexit 1\n' >tools/leavers && chmod +x tools/leavers
-leave="awk '/^[^#]/ { n++; print \"ca: \" \$1, \$2 } END { exit n != 1 }' user-ca.pub"
+{ sed 's/^/@user-ca: /' user-ca.pub && lines_under host-ca.pub 'serial: 7'; } >revoked.txt
+printf '#!/bin/sh\necho @user-ca serial: 5\nexit 1\n' >tools/leavers && chmod +x tools/leavers
+leave='leavers >"$text"'
 follows 'a command that fails' "$leave" 1 ''
 stays 'the list stays' revoked.krl
-printf '#!/bin/sh\necho serial: 7\n' >tools/leavers
+printf '#!/bin/sh\necho @user-ca serial: 7\n' >tools/leavers
 follows 'a command that ends well' "$leave" 0 '*' again
 has 'its lines are under the CA' revoked.krl "$user" 'serial: 7' "$host" 'serial: 7'
-printf '#!/bin/sh\necho serial: 8\n' >tools/leavers
-head -c -1 its.pub >user-ca.pub
-follows 'a CA whose file has no line end' "$leave" 0 '*' again
-has 'the lines are under this CA' revoked.krl "$user" 'serial: 8' "$host" 'serial: 7'
+# The last line of the text has no end, nor has that of the command.
+head -c -1 revoked.txt >kept && mv kept revoked.txt
+printf '#!/bin/sh\ncat alice.pub && printf "@user-ca serial: 8"\n' >tools/leavers
+follows 'a command that prints a key first' "$leave" 0 '*' again
+has 'the lines behind a key are under the CA' revoked.krl "$user" 'serial: 8' "$host" 'serial: 7' \
+  "key: $(cut -d ' ' -f 1,2 alice.pub)"
 cp revoked.krl in-force
 printf '#!/bin/sh\necho serial: 9\n' >tools/leavers
-cat its.pub host-ca.pub >user-ca.pub
-follows 'a file of two CAs' "$leave" 1 '' again
-echo '# ours' >user-ca.pub
-follows 'a file without a CA' "$leave" 1 '' again
-cp its.pub user-ca.pub
+follows 'a command that prints no CA' "$leave" 255 '*' again
+printf '#!/bin/sh\necho @usr-ca serial: 9\n' >tools/leavers
+follows 'a command that prints another name' "$leave" 255 '*' again
+printf '#!/bin/sh\nsed "s/^/@user-ca: /" host-ca.pub && echo @user-ca serial: 9\n' >tools/leavers
+follows 'a command that gives the name to another CA' "$leave" 255 '*' again
 printf '#!/bin/sh\n' >tools/leavers
-follows 'a command that prints nothing' "$leave" 1 '' again
+follows 'a command that prints nothing' "$leave" 255 '*' again
 stays 'the list stays, too' revoked.krl
 
 # ---- two runs at the same time
 
 # input_has NUMBER: the files that these recipes read have this serial number.
 input_has() {
-  lines_under user-ca.pub "serial: $1" >revoked.txt
+  { sed 's/^/@user-ca: /' user-ca.pub && lines_under user-ca.pub "serial: $1"; } >revoked.txt
   "$krl" make -q --replace -f hosts.krl revoked.txt
-  echo "serial: $1" >leavers.txt
+  echo "@user-ca serial: $1" >leavers.txt
 }
 # overtakes NAME BEGINNING LIST PROGRAM COMMAND: two runs of the recipe overlap. The program, which
 # calls the command, reads older input in the first run, and then waits until the second run has
@@ -433,15 +437,16 @@ overtakes 'the lines of a command' "$leave" revoked.krl leavers 'cat leavers.txt
 # ---- a person is locked out
 
 # What readme.sh does with a real sshd, by files that others could have written.
-out=$'last=$(tail -c 1 revoked.txt)\n  [ -z "$last" ] || echo >>revoked.txt\n  id='
-{ echo '# of both' && cat its.pub && echo && head -c -1 host-ca.pub; } >user-ca.pub
+out=$'last=$(tail -c 1 revoked.txt)\n  [ -z "$last" ] || echo >>revoked.txt\n  echo \'@user-ca'
 head -c -1 of-alice.pub >kept && mv kept alice.pub
 sed 's/ [^ ]*$/ a b # until 2001-02-03\r/' user-5.pub >alice-cert.pub
-printf 'serial: 99' | cat <(sed 's/^/ca: /' its.pub) - >revoked.txt
-judge 'a person is locked out by two CAs' "$(try_recipe "$out")"
+{
+  sed 's/^/@user-ca: /' its.pub && sed 's/^/ca: /' host-ca.pub && printf 'serial: 99'
+} >revoked.txt
+judge 'a person is locked out' "$(try_recipe "$out")"
 "$krl" make -q -f revoked.krl revoked.txt
-has 'the key ID is revoked under both, and the key' revoked.krl "$user" 'id: alice' 'serial: 99' \
-  "$host" 'id: alice' "key: $(cut -d ' ' -f 1,2 alice.pub)"
+has 'the key ID is revoked under the CA of the name, and the key' revoked.krl "$user" 'id: alice' \
+  "$host" 'serial: 99' "key: $(cut -d ' ' -f 1,2 alice.pub)"
 judge 'no comment of a key that was handed in is in the text' "$(grep -n until revoked.txt)"
 cp revoked.txt appended && echo 'serial: 77' >>appended
 judge 'a serial number that somebody appends then is refused' "$(
@@ -453,20 +458,18 @@ judge 'a serial number that somebody appends then is refused' "$(
   cmp in-force revoked.krl 2>&1
 )"
 judge 'a key ID with a backslash and quotes' "$(
-  steps=$(recipe "$out" | sed "s/id='alice'/id='CORP\\\\alice \"x\"'/")
+  steps=$(recipe "$out" | sed 's/id: alice/id: CORP\\alice "x"/')
   bash -c "$(in_room "$steps")" 2>&1
-  differs lines 2 "$(grep -cxF 'id: CORP\alice "x"' revoked.txt)"
+  differs lines 1 "$(grep -cxF '@user-ca id: CORP\alice "x"' revoked.txt)"
 )"
 mv revoked.txt before
 judge 'nobody is locked out without the text, and none is begun' \
   "$(is_refused "$out"; ls revoked.txt 2>/dev/null)"
 mv before revoked.txt
 cp revoked.txt before
-for name in user-ca alice; do
-  cp $name.pub whole.pub && : >$name.pub && : >alice-cert.pub
-  judge "an empty $name.pub locks nobody out, and says so" "$(is_refused "$out")"
-  mv whole.pub $name.pub
-done
+cp alice.pub whole.pub && : >alice.pub && : >alice-cert.pub
+judge 'an empty alice.pub locks nobody out, and says so' "$(is_refused "$out")"
+mv whole.pub alice.pub
 judge 'the text has only what was there before' \
   "$(head -c "$(stat -c %s before)" revoked.txt | cmp - before 2>&1)"
 
