@@ -1,6 +1,7 @@
 """Lists as texts: shown, made and compared, beside the commands that print and make the same
 lists."""
 
+import random
 import subprocess
 
 import lists
@@ -10,6 +11,14 @@ from measure import AUDIT, OURS, build_audit, instructions, least_in_turn, own
 LIST = 4 << 20
 # Bytes of each of two lists that are compared.
 COMPARED = 31 << 19
+# Lines of each text with names, what they have, and how many names they have.
+NAMED = 100000
+NAMED_LINES = {
+    "random serials": specs.random_serials,
+    "ranges": specs.ranges,
+    "key IDs": specs.ids,
+}
+NAMES = (1, 50)
 # Shapes whose entries differ if the sizes do, and those whose entries then are nearly the same.
 PAIRS = ("random serials", "ranges", "key IDs", "many authorities", "explicit keys")
 
@@ -54,6 +63,29 @@ def made():
         row(name, *least_in_turn(commands, 31), "%12.2f" % (make / other))
 
 
+def named():
+    """The text has a name before each entry. The other one has the same entries in the same order,
+    those of each authority below one line of it."""
+    head("krl make, a name before each entry", "ca: lines", "instructions")
+    commands = [[AUDIT, *"make -q --replace -f made.krl".split(), it] for it in ("text", "other")]
+    for count in NAMES:
+        keys = [specs.key_line(at) for at in range(count)]
+        for name, lines in NAMED_LINES.items():
+            source = random.Random(count)
+            entries = [(source.randrange(count), it) for it in lines(NAMED, source)]
+            entries.sort(key=lambda it: it[0])
+            with open("text", "w") as out:
+                out.writelines("@ca-%d: %s" % it for it in enumerate(keys))
+                out.writelines("@ca-%d %s" % it for it in entries)
+            with open("other", "w") as out:
+                for at, key in enumerate(keys):
+                    out.write("ca: " + key)
+                    out.writelines(line for of, line in entries if of == at)
+            make, other = map(instructions, commands)
+            what = "%d %s, %d name%s" % (NAMED, name, count, "s"[: count - 1])
+            row(what, *least_in_turn(commands, 31), "%12.2f" % (make / other))
+
+
 def compared():
     """Two lists, beside both of them printed."""
     if subprocess.run([AUDIT, "help", "diff"], capture_output=True).returncode != 0:
@@ -73,4 +105,5 @@ def texts():
     build_audit()
     shown()
     made()
+    named()
     compared()
